@@ -1,0 +1,27 @@
+-- Frame error control fields that are known from outside, so that a wrong definition doesn't check.
+use Rattle.std.proofs.Common.{◌≡◌, [], ◌∷◌, codes, replicate, refl}
+use Rattle.sl_fields.specs.Fecf.{fecf_of}
+
+pub record AreVectors : Type 0 where
+  pub empty : fecf_of [] ≡ 0xFFFF
+  pub two_zeros : fecf_of (0 ∷ 0 ∷ []) ≡ 0x1D0F
+  pub three_zeros : fecf_of (0 ∷ 0 ∷ 0 ∷ []) ≡ 0xCC9C
+  pub four_octets : fecf_of (0xAB ∷ 0xCD ∷ 0xEF ∷ 0x01 ∷ []) ≡ 0x04A2
+  pub digits : fecf_of (codes "123456789") ≡ 0x29B1
+  pub unlock : fecf_of (0x30 ∷ 0x01 ∷ 0x00 ∷ 0x07 ∷ 0x00 ∷ 0x00 ∷ []) ≡ 0x0E5D
+  pub frame :
+      fecf_of (0x00 ∷ 0x10 ∷ 0x00 ∷ 0x00 ∷ 0x18 ∷ 0x00
+      ∷ 0x00 ∷ 0x01 ∷ 0xC0 ∷ 0x00 ∷ 0x00 ∷ 0x03 ∷ 0xAA ∷ 0xBB ∷ 0xCC ∷ 0xDD
+      ∷ 0x07 ∷ 0xFF ∷ 0xC0 ∷ 0x00 ∷ 0x00 ∷ 0x09 ∷ replicate 10 0) ≡ 0x5E0C
+
+pub vectors : AreVectors
+unfolding fecf_of
+vectors = record {
+  empty = refl;
+  two_zeros = refl;
+  three_zeros = refl;
+  four_octets = refl;
+  digits = refl;
+  unlock = refl;
+  frame = refl;
+}

@@ -1,0 +1,51 @@
+-- The Communications Link Control Word (CLCW), CCSDS 232.0-B: four octets.
+use Rattle.std.specs.Prelude.{ℕ, ◌^◌, ◌<◌, Bool, List}
+use Rattle.sl_fields.specs.Field.{field, flag}
+
+-- the fields of the word, in their order
+pub record ClcwFields : Type 0 where
+  pub word : ℕ
+  pub version : ℕ
+  pub status : ℕ
+  pub cop : ℕ
+  pub vc : ℕ
+  pub spare : ℕ
+  pub no_rf : Bool
+  pub no_lock : Bool
+  pub lockout : Bool
+  pub wait : Bool
+  pub retransmit : Bool
+  pub farm_b : ℕ
+  pub spare_end : Bool
+  pub report : ℕ
+
+-- each field is within the range of its bits
+pub record FitsClcw (w : ClcwFields) : Type 0 where
+  pub word : w.word < 2 ^ 1
+  pub version : w.version < 2 ^ 2
+  pub status : w.status < 2 ^ 3
+  pub cop : w.cop < 2 ^ 2
+  pub vc : w.vc < 2 ^ 6
+  pub spare : w.spare < 2 ^ 2
+  pub farm_b : w.farm_b < 2 ^ 2
+  pub report : w.report < 2 ^ 8
+
+-- the word that four octets are
+abbrev pub clcw_word : List ℕ → ClcwFields
+clcw_word octets =
+    record {
+      word = field 4 0 1 octets;
+      version = field 4 1 2 octets;
+      status = field 4 3 3 octets;
+      cop = field 4 6 2 octets;
+      vc = field 4 8 6 octets;
+      spare = field 4 14 2 octets;
+      no_rf = flag 4 16 octets;
+      no_lock = flag 4 17 octets;
+      lockout = flag 4 18 octets;
+      wait = flag 4 19 octets;
+      retransmit = flag 4 20 octets;
+      farm_b = field 4 21 2 octets;
+      spare_end = flag 4 23 octets;
+      report = field 4 24 8 octets;
+    }

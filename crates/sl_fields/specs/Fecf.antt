@@ -1,0 +1,54 @@
+-- The frame error control field, CCSDS 132.0-B and 232.0-B: the remainder of a division of bit lists.
+use Rattle.std.specs.Prelude.{ℕ, zero, suc, ◌+◌, ◌-◌, ◌*◌, ◌/◌, ◌%◌, ◌^◌, ◌==◌, Bool, true, false, not, cond, List, [], ◌∷◌, ◌++◌, length, take, drop, map, flat_map, replicate}
+use Rattle.sl_fields.specs.Field.{bit_of}
+
+-- an octet's bits, the most significant first
+abbrev pub octet_bits : ℕ → List Bool
+octet_bits octet =
+    (octet / 128 % 2 == 1) ∷ (octet / 64 % 2 == 1) ∷ (octet / 32 % 2 == 1) ∷ (octet / 16 % 2 == 1)
+    ∷ (octet / 8 % 2 == 1) ∷ (octet / 4 % 2 == 1) ∷ (octet / 2 % 2 == 1) ∷ (octet % 2 == 1) ∷ []
+
+abbrev pub bits_of : List ℕ → List Bool
+bits_of octets = flat_map octet_bits octets
+
+-- the number that the bits are in base 2, the first one the most significant
+abbrev pub bits_number : List Bool → ℕ
+bits_number [] = 0
+bits_number (b ∷ bits) = bit_of b * 2 ^ length bits + bits_number bits
+
+-- the sum without carries of two bits
+abbrev pub plus_bit : Bool → Bool → Bool
+plus_bit false b = b
+plus_bit true b = not b
+
+-- the bits with those of a word added without carries, from the front on
+abbrev pub plus_word : List Bool → List Bool → List Bool
+plus_word [] bits = bits
+plus_word (w ∷ word) [] = []
+plus_word (w ∷ word) (b ∷ bits) = plus_bit w b ∷ plus_word word bits
+
+-- the generator, x^16 + x^12 + x^5 + 1, as the word 1 0001 0000 0010 0001
+abbrev pub generator : List Bool
+generator =
+    true ∷ false ∷ false ∷ false ∷ true ∷ false ∷ false ∷ false ∷ false ∷ false ∷ false ∷ true ∷ false ∷ false ∷ false ∷ false
+    ∷ true ∷ []
+
+-- Long division without carries, by as many steps as the quotient has bits: where the first bit is 1
+-- the generator is subtracted from there on, which clears it, and the next bit is then the first.
+abbrev pub divided : ℕ → List Bool → List Bool
+divided zero bits = bits
+divided (suc steps) [] = []
+divided (suc steps) (b ∷ bits) = divided steps (drop 1 (cond b (plus_word generator (b ∷ bits)) (b ∷ bits)))
+
+-- the sixteen bits of the remainder by the generator
+abbrev pub remainder : List Bool → List Bool
+remainder bits = divided (length bits - 16) bits
+
+-- the first sixteen bits inverted, as a register preset to all ones does
+abbrev pub preset : List Bool → List Bool
+preset bits = map not (take 16 bits) ++ drop 16 bits
+
+-- The frame error control field of the octets before it: their bits and sixteen zeros, the first
+-- sixteen of these bits inverted, and the remainder of it all. This covers every message, none included.
+unfoldable pub fecf_of : List ℕ → ℕ
+fecf_of octets = bits_number (remainder (preset (bits_of octets ++ replicate 16 false)))

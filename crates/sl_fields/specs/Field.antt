@@ -1,0 +1,41 @@
+-- Fields of a header. The bits of a header are numbered from 0, the most significant bit of its first
+-- octet, and a field is an unsigned number with its most significant bit first (CCSDS 133.0-B, 132.0-B
+-- and 232.0-B).
+use Rattle.std.specs.Prelude.{ℕ, ◌+◌, ◌-◌, ◌*◌, ◌/◌, ◌%◌, ◌^◌, ◌<◌, ◌==◌, Bool, true, false, List, [], ◌∷◌, length, All}
+use Rattle.std.specs.List.{AllByRecursion}
+
+-- each is an octet
+abbrev pub IsOctets : List ℕ → Type 0
+IsOctets octets = All (λ octet. octet < 256) octets
+
+-- the octets' number in base 256, the first octet the most significant
+abbrev pub number_of : List ℕ → ℕ
+number_of [] = 0
+number_of (octet ∷ octets) = octet * 256 ^ length octets + number_of octets
+
+-- the field of this many bits at this bit of a header of so many octets
+abbrev pub field : ℕ → ℕ → ℕ → List ℕ → ℕ
+field octets bit width header = number_of header / 2 ^ (8 * octets - bit - width) % 2 ^ width
+
+-- a field of one bit, as a flag
+abbrev pub flag : ℕ → ℕ → List ℕ → Bool
+flag octets bit header = field octets bit 1 header == 1
+
+-- a flag as a field of one bit
+abbrev pub bit_of : Bool → ℕ
+bit_of false = 0
+bit_of true = 1
+
+-- the bits that fields, each given as its width and its value, take together
+abbrev pub width_of : List (ℕ × ℕ) → ℕ
+width_of [] = 0
+width_of (f ∷ fields) = f.0 + width_of fields
+
+-- the number in which the fields stand one after another, the first one on top
+abbrev pub packed : List (ℕ × ℕ) → ℕ
+packed [] = 0
+packed (f ∷ fields) = f.1 * 2 ^ width_of fields + packed fields
+
+-- each value fits the bits of its field
+abbrev pub FitWidths : List (ℕ × ℕ) → Type 0
+FitWidths = AllByRecursion (λ f. f.1 < 2 ^ f.0)

@@ -1,0 +1,44 @@
+-- The primary header of a TM transfer frame, CCSDS 132.0-B: six octets.
+use Rattle.std.specs.Prelude.{ℕ, ◌^◌, ◌<◌, Bool, List}
+use Rattle.sl_fields.specs.Field.{field, flag}
+
+-- the fields of the header, in their order
+pub record TmFields : Type 0 where
+  pub version : ℕ
+  pub spacecraft : ℕ
+  pub vc : ℕ
+  pub control : Bool
+  pub mc : ℕ
+  pub vcc : ℕ
+  pub secondary : Bool
+  pub sync : Bool
+  pub order : Bool
+  pub segment : ℕ
+  pub first : ℕ
+
+-- each field is within the range of its bits
+pub record FitsTmHeader (h : TmFields) : Type 0 where
+  pub version : h.version < 2 ^ 2
+  pub spacecraft : h.spacecraft < 2 ^ 10
+  pub vc : h.vc < 2 ^ 3
+  pub mc : h.mc < 2 ^ 8
+  pub vcc : h.vcc < 2 ^ 8
+  pub segment : h.segment < 2 ^ 2
+  pub first : h.first < 2 ^ 11
+
+-- the header that six octets are
+abbrev pub tm_header : List ℕ → TmFields
+tm_header octets =
+    record {
+      version = field 6 0 2 octets;
+      spacecraft = field 6 2 10 octets;
+      vc = field 6 12 3 octets;
+      control = flag 6 15 octets;
+      mc = field 6 16 8 octets;
+      vcc = field 6 24 8 octets;
+      secondary = flag 6 32 octets;
+      sync = flag 6 33 octets;
+      order = flag 6 34 octets;
+      segment = field 6 35 2 octets;
+      first = field 6 37 11 octets;
+    }

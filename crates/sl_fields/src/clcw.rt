@@ -1,0 +1,256 @@
+//! The Communications Link Control Word.
+ghost use Rattle.std.specs.Prelude.{◌≡◌, ℕ, ◌^◌, ◌<◌, List, length, SomeIff};
+ghost use Rattle.sl_fields.specs.Field.{IsOctets};
+ghost use Rattle.sl_fields.specs.Clcw.{ClcwFields, clcw_word, FitsClcw};
+
+use crate::bits::{field, flag, pack};
+use byteorder::{BigEndian, ByteOrder};
+use std::marker::Model;
+
+/// The Communications Link Control Word (CLCW) of CCSDS 232.0-B, four octets.
+#[derive(Clone, Copy, Debug, PartialEq, Eq)]
+pub struct Clcw {
+    word: u8,
+    version: u8,
+    status: u8,
+    cop: u8,
+    vc: u8,
+    spare: u8,
+    no_rf: bool,
+    no_lock: bool,
+    lockout: bool,
+    wait: bool,
+    retransmit: bool,
+    farm_b: u8,
+    spare_end: bool,
+    report: u8,
+}
+
+impl Model for Clcw {
+    ghost use Rattle.sl_fields.specs.Clcw.{ClcwFields};
+
+    ghost Value = { ClcwFields };
+
+    ghost use Rattle.sl_fields.specs.ClcwModel.{fields_of, inside_of, IsClcw};
+
+    ghost view = { fields_of };
+
+    ghost invariant = { IsClcw };
+
+    ghost inverse = { inside_of };
+}
+
+impl Clcw {
+    /// The word with these fields, `None` exactly where one is out of the range of its bits: `word` 0
+    /// or 1, `version`, `cop`, `spare` and `farm_b` 0 to 3, `status` 0 to 7, `vc` 0 to 63.
+    pub fn new(
+        word: u8,
+        version: u8,
+        status: u8,
+        cop: u8,
+        vc: u8,
+        spare: u8,
+        no_rf: bool,
+        no_lock: bool,
+        lockout: bool,
+        wait: bool,
+        retransmit: bool,
+        farm_b: u8,
+        spare_end: bool,
+        report: u8,
+    ) -> Option<Clcw>
+        ensures { let fields : ClcwFields = record {
+          word = word;
+          version = version;
+          status = status;
+          cop = cop;
+          vc = vc;
+          spare = spare;
+          no_rf = no_rf;
+          no_lock = no_lock;
+          lockout = lockout;
+          wait = wait;
+          retransmit = retransmit;
+          farm_b = farm_b;
+          spare_end = spare_end;
+          report = report;
+        } in SomeIff result (FitsClcw fields) fields }
+    {
+        let kind_fits = word < 2 && version < 4 && status < 8 && cop < 4;
+        if !kind_fits || vc >= 64 || spare >= 4 || farm_b >= 4 {
+            return None;
+        }
+        Some(Clcw {
+            word,
+            version,
+            status,
+            cop,
+            vc,
+            spare,
+            no_rf,
+            no_lock,
+            lockout,
+            wait,
+            retransmit,
+            farm_b,
+            spare_end,
+            report,
+        })
+    }
+
+    /// The word that the octets are.
+    pub fn read(octets: &[u8; 4]) -> Clcw
+        ensures { result ≡ clcw_word octets.now }
+    {
+        let number = u64::from(BigEndian::read_u32(octets));
+        Clcw {
+            word: field(number, 31, 1) as u8,
+            version: field(number, 29, 2) as u8,
+            status: field(number, 26, 3) as u8,
+            cop: field(number, 24, 2) as u8,
+            vc: field(number, 18, 6) as u8,
+            spare: field(number, 16, 2) as u8,
+            no_rf: flag(number, 15),
+            no_lock: flag(number, 14),
+            lockout: flag(number, 13),
+            wait: flag(number, 12),
+            retransmit: flag(number, 11),
+            farm_b: field(number, 9, 2) as u8,
+            spare_end: flag(number, 8),
+            report: field(number, 0, 8) as u8,
+        }
+    }
+
+    /// Control word type, 0 for a CLCW.
+    pub fn word(&self) -> u8
+        ensures value { result ≡ self.now.word }
+        ensures fits { result < 2 ^ 1 }
+    {
+        self.word
+    }
+
+    /// CLCW version number, 0 to 3.
+    pub fn version(&self) -> u8
+        ensures value { result ≡ self.now.version }
+        ensures fits { result < 2 ^ 2 }
+    {
+        self.version
+    }
+
+    /// Status field, 0 to 7.
+    pub fn status(&self) -> u8
+        ensures value { result ≡ self.now.status }
+        ensures fits { result < 2 ^ 3 }
+    {
+        self.status
+    }
+
+    /// COP in effect, 0 to 3.
+    pub fn cop(&self) -> u8
+        ensures value { result ≡ self.now.cop }
+        ensures fits { result < 2 ^ 2 }
+    {
+        self.cop
+    }
+
+    /// Virtual channel identification, 0 to 63.
+    pub fn vc(&self) -> u8
+        ensures value { result ≡ self.now.vc }
+        ensures fits { result < 2 ^ 6 }
+    {
+        self.vc
+    }
+
+    /// Reserved spare, 0 to 3.
+    pub fn spare(&self) -> u8
+        ensures value { result ≡ self.now.spare }
+        ensures fits { result < 2 ^ 2 }
+    {
+        self.spare
+    }
+
+    /// No RF Available flag.
+    pub fn no_rf(&self) -> bool
+        ensures { result ≡ self.now.no_rf }
+    {
+        self.no_rf
+    }
+
+    /// No Bit Lock flag.
+    pub fn no_lock(&self) -> bool
+        ensures { result ≡ self.now.no_lock }
+    {
+        self.no_lock
+    }
+
+    /// Lockout flag.
+    pub fn lockout(&self) -> bool
+        ensures { result ≡ self.now.lockout }
+    {
+        self.lockout
+    }
+
+    /// Wait flag.
+    pub fn wait(&self) -> bool
+        ensures { result ≡ self.now.wait }
+    {
+        self.wait
+    }
+
+    /// Retransmit flag.
+    pub fn retransmit(&self) -> bool
+        ensures { result ≡ self.now.retransmit }
+    {
+        self.retransmit
+    }
+
+    /// FARM-B counter, 0 to 3.
+    pub fn farm_b(&self) -> u8
+        ensures value { result ≡ self.now.farm_b }
+        ensures fits { result < 2 ^ 2 }
+    {
+        self.farm_b
+    }
+
+    /// Reserved spare, one bit.
+    pub fn spare_end(&self) -> bool
+        ensures { result ≡ self.now.spare_end }
+    {
+        self.spare_end
+    }
+
+    /// Report value: the next frame sequence number expected, N(R).
+    pub fn report(&self) -> u8
+        ensures { result ≡ self.now.report }
+    {
+        self.report
+    }
+
+    /// The four octets of the word.
+    pub fn write(&self) -> [u8; 4]
+        // They read as this word,
+        ensures reads_back { clcw_word result ≡ self.now }
+        // and no others do.
+        ensures only { (octets : List ℕ) → length octets ≡ 4 → IsOctets octets → clcw_word octets ≡ self.now → octets ≡ result }
+    {
+        let number = pack(&[
+            (1, self.word as u64),
+            (2, self.version as u64),
+            (3, self.status as u64),
+            (2, self.cop as u64),
+            (6, self.vc as u64),
+            (2, self.spare as u64),
+            (1, self.no_rf as u64),
+            (1, self.no_lock as u64),
+            (1, self.lockout as u64),
+            (1, self.wait as u64),
+            (1, self.retransmit as u64),
+            (2, self.farm_b as u64),
+            (1, self.spare_end as u64),
+            (8, self.report as u64),
+        ]);
+        let mut octets = [0; 4];
+        BigEndian::write_uint(&mut octets, number, 4);
+        octets
+    }
+}

@@ -1,0 +1,15 @@
+//! The headers of CCSDS telemetry and telecommand links, each as its fields and as its octets.
+//!
+//! A header is its fields and nothing else: all bits are fields, those without a meaning included, so
+//! what [`write`](TmHeader::write) gives for what [`read`](TmHeader::read) took are the same octets.
+#![tactic(auto)]
+
+mod bits;
+mod clcw;
+mod tm_header;
+
+pub use clcw::Clcw;
+pub use tm_header::TmHeader;
+
+#[cfg(test)]
+mod tests;

@@ -1,0 +1,165 @@
+//! Headers of known octets: the fields were worked out by hand from the tables of bits.
+use crate::{Clcw, TmHeader};
+use std::test::Fail;
+
+#[test]
+fn tm_headers_of_known_octets(rt: HostRuntime) -> Result<(), Fail> {
+    for (
+        octets,
+        (version, spacecraft, vc, control),
+        (mc, vcc),
+        (secondary, sync, order, segment, first),
+    ) in [
+        (
+            [0x00, 0x10, 0x4D, 0xC8, 0x18, 0x00],
+            (0, 1, 0, false),
+            (77, 200),
+            (false, false, false, 3, 0),
+        ),
+        (
+            [0x00, 0x16, 0x05, 0x06, 0xFF, 0xFE],
+            (0, 1, 3, false),
+            (5, 6),
+            (true, true, true, 3, 2046),
+        ),
+        (
+            [0x6A, 0x9B, 0x01, 0xFE, 0x5D, 0x34],
+            (1, 681, 5, true),
+            (1, 254),
+            (false, true, false, 3, 1332),
+        ),
+        (
+            [0x95, 0x64, 0xFE, 0x01, 0x8A, 0xCB],
+            (2, 342, 2, false),
+            (254, 1),
+            (true, false, false, 1, 715),
+        ),
+        (
+            [0xFF, 0xFF, 0xFF, 0xFF, 0xFF, 0xFF],
+            (3, 1023, 7, true),
+            (255, 255),
+            (true, true, true, 3, 2047),
+        ),
+    ] {
+        let header = TmHeader::read(&octets);
+        assert_eq!(rt; header.version(), version, "at {octets:?}");
+        assert_eq!(rt; header.spacecraft(), spacecraft, "at {octets:?}");
+        assert_eq!(rt; header.vc(), vc, "at {octets:?}");
+        assert_eq!(rt; header.control(), control, "at {octets:?}");
+        assert_eq!(rt; header.mc(), mc, "at {octets:?}");
+        assert_eq!(rt; header.vcc(), vcc, "at {octets:?}");
+        assert_eq!(rt; header.secondary(), secondary, "at {octets:?}");
+        assert_eq!(rt; header.sync(), sync, "at {octets:?}");
+        assert_eq!(rt; header.order(), order, "at {octets:?}");
+        assert_eq!(rt; header.segment(), segment, "at {octets:?}");
+        assert_eq!(rt; header.first(), first, "at {octets:?}");
+        assert_eq!(rt; header.write(), octets);
+        let made = TmHeader::new(
+            version, spacecraft, vc, control, mc, vcc, secondary, sync, order, segment, first,
+        )
+        .ok_or("no header")?;
+        assert_eq!(rt; made, header);
+        assert_eq!(rt; made.write(), octets);
+    }
+    Ok(())
+}
+
+#[test]
+fn no_tm_header_of_a_field_beyond_its_bits(rt: HostRuntime) {
+    for (version, spacecraft, vc, segment, first) in [
+        (4, 0, 0, 0, 0),
+        (0, 1024, 0, 0, 0),
+        (0, 0, 8, 0, 0),
+        (0, 0, 0, 4, 0),
+        (0, 0, 0, 0, 2048),
+    ] {
+        let made = TmHeader::new(
+            version, spacecraft, vc, false, 0, 0, false, false, false, segment, first,
+        );
+        assert_eq!(rt; made, None);
+    }
+}
+
+#[test]
+fn clcws_of_known_octets(rt: HostRuntime) -> Result<(), Fail> {
+    for (
+        octets,
+        (word, version, status, cop),
+        (vc, spare),
+        (no_rf, no_lock, lockout, wait, retransmit, farm_b, spare_end),
+        report,
+    ) in [
+        (
+            [0x01, 0x00, 0x28, 0x05],
+            (0, 0, 0, 1),
+            (0, 0),
+            (false, false, true, false, true, 0, false),
+            5,
+        ),
+        (
+            [0x5B, 0xA6, 0x94, 0xC3],
+            (0, 2, 6, 3),
+            (41, 2),
+            (true, false, false, true, false, 2, false),
+            195,
+        ),
+        (
+            [0xB4, 0x59, 0xE2, 0x3C],
+            (1, 1, 5, 0),
+            (22, 1),
+            (true, true, true, false, false, 1, false),
+            60,
+        ),
+        (
+            [0xFF, 0xFF, 0xFF, 0xFF],
+            (1, 3, 7, 3),
+            (63, 3),
+            (true, true, true, true, true, 3, true),
+            255,
+        ),
+    ] {
+        let clcw = Clcw::read(&octets);
+        assert_eq!(rt; clcw.word(), word, "at {octets:?}");
+        assert_eq!(rt; clcw.version(), version, "at {octets:?}");
+        assert_eq!(rt; clcw.status(), status, "at {octets:?}");
+        assert_eq!(rt; clcw.cop(), cop, "at {octets:?}");
+        assert_eq!(rt; clcw.vc(), vc, "at {octets:?}");
+        assert_eq!(rt; clcw.spare(), spare, "at {octets:?}");
+        assert_eq!(rt; clcw.no_rf(), no_rf, "at {octets:?}");
+        assert_eq!(rt; clcw.no_lock(), no_lock, "at {octets:?}");
+        assert_eq!(rt; clcw.lockout(), lockout, "at {octets:?}");
+        assert_eq!(rt; clcw.wait(), wait, "at {octets:?}");
+        assert_eq!(rt; clcw.retransmit(), retransmit, "at {octets:?}");
+        assert_eq!(rt; clcw.farm_b(), farm_b, "at {octets:?}");
+        assert_eq!(rt; clcw.spare_end(), spare_end, "at {octets:?}");
+        assert_eq!(rt; clcw.report(), report, "at {octets:?}");
+        assert_eq!(rt; clcw.write(), octets);
+        let made = Clcw::new(
+            word, version, status, cop, vc, spare, no_rf, no_lock, lockout, wait, retransmit,
+            farm_b, spare_end, report,
+        )
+        .ok_or("no word")?;
+        assert_eq!(rt; made, clcw);
+        assert_eq!(rt; made.write(), octets);
+    }
+    Ok(())
+}
+
+#[test]
+fn no_clcw_of_a_field_beyond_its_bits(rt: HostRuntime) {
+    for (word, version, status, cop, vc, spare, farm_b) in [
+        (2, 0, 0, 0, 0, 0, 0),
+        (0, 4, 0, 0, 0, 0, 0),
+        (0, 0, 8, 0, 0, 0, 0),
+        (0, 0, 0, 4, 0, 0, 0),
+        (0, 0, 0, 0, 64, 0, 0),
+        (0, 0, 0, 0, 0, 4, 0),
+        (0, 0, 0, 0, 0, 0, 4),
+    ] {
+        let made = Clcw::new(
+            word, version, status, cop, vc, spare, false, false, false, false, false, farm_b,
+            false, 0,
+        );
+        assert_eq!(rt; made, None);
+    }
+}

@@ -1,0 +1,216 @@
+//! The primary header of a TM transfer frame.
+ghost use Rattle.std.specs.Prelude.{◌≡◌, ℕ, ◌^◌, ◌<◌, List, length, SomeIff};
+ghost use Rattle.sl_fields.specs.Field.{IsOctets};
+ghost use Rattle.sl_fields.specs.TmHeader.{TmFields, tm_header, FitsTmHeader};
+
+use crate::bits::{field, flag, pack};
+use byteorder::{BigEndian, ByteOrder};
+use std::marker::Model;
+
+/// The TM transfer frame primary header of CCSDS 132.0-B, six octets.
+#[derive(Clone, Copy, Debug, PartialEq, Eq)]
+pub struct TmHeader {
+    version: u8,
+    spacecraft: u16,
+    vc: u8,
+    control: bool,
+    mc: u8,
+    vcc: u8,
+    secondary: bool,
+    sync: bool,
+    order: bool,
+    segment: u8,
+    first: u16,
+}
+
+impl Model for TmHeader {
+    ghost use Rattle.sl_fields.specs.TmHeader.{TmFields};
+
+    ghost Value = { TmFields };
+
+    ghost use Rattle.sl_fields.specs.TmHeaderModel.{fields_of, inside_of, IsTmHeader};
+
+    ghost view = { fields_of };
+
+    ghost invariant = { IsTmHeader };
+
+    ghost inverse = { inside_of };
+}
+
+impl TmHeader {
+    /// The header with these fields, `None` exactly where one is out of the range of its bits:
+    /// `version` 0 to 3, `spacecraft` 0 to 1023, `vc` 0 to 7, `segment` 0 to 3, `first` 0 to 2047.
+    pub fn new(
+        version: u8,
+        spacecraft: u16,
+        vc: u8,
+        control: bool,
+        mc: u8,
+        vcc: u8,
+        secondary: bool,
+        sync: bool,
+        order: bool,
+        segment: u8,
+        first: u16,
+    ) -> Option<TmHeader>
+        ensures { let fields : TmFields = record {
+          version = version;
+          spacecraft = spacecraft;
+          vc = vc;
+          control = control;
+          mc = mc;
+          vcc = vcc;
+          secondary = secondary;
+          sync = sync;
+          order = order;
+          segment = segment;
+          first = first;
+        } in SomeIff result (FitsTmHeader fields) fields }
+    {
+        let fits = version < 4 && spacecraft < 1024 && vc < 8 && segment < 4 && first < 2048;
+        if !fits {
+            return None;
+        }
+        Some(TmHeader {
+            version,
+            spacecraft,
+            vc,
+            control,
+            mc,
+            vcc,
+            secondary,
+            sync,
+            order,
+            segment,
+            first,
+        })
+    }
+
+    /// The header that the octets are.
+    pub fn read(octets: &[u8; 6]) -> TmHeader
+        ensures { result ≡ tm_header octets.now }
+    {
+        let number = BigEndian::read_u48(octets);
+        TmHeader {
+            version: field(number, 46, 2) as u8,
+            spacecraft: field(number, 36, 10) as u16,
+            vc: field(number, 33, 3) as u8,
+            control: flag(number, 32),
+            mc: field(number, 24, 8) as u8,
+            vcc: field(number, 16, 8) as u8,
+            secondary: flag(number, 15),
+            sync: flag(number, 14),
+            order: flag(number, 13),
+            segment: field(number, 11, 2) as u8,
+            first: field(number, 0, 11) as u16,
+        }
+    }
+
+    /// Transfer frame version number, 0 for a TM transfer frame.
+    pub fn version(&self) -> u8
+        ensures value { result ≡ self.now.version }
+        ensures fits { result < 2 ^ 2 }
+    {
+        self.version
+    }
+
+    /// Spacecraft identifier, 0 to 1023.
+    pub fn spacecraft(&self) -> u16
+        ensures value { result ≡ self.now.spacecraft }
+        ensures fits { result < 2 ^ 10 }
+    {
+        self.spacecraft
+    }
+
+    /// Virtual channel identifier, 0 to 7.
+    pub fn vc(&self) -> u8
+        ensures value { result ≡ self.now.vc }
+        ensures fits { result < 2 ^ 3 }
+    {
+        self.vc
+    }
+
+    /// Operational control field flag: the frame has an operational control field.
+    pub fn control(&self) -> bool
+        ensures { result ≡ self.now.control }
+    {
+        self.control
+    }
+
+    /// Master channel frame count.
+    pub fn mc(&self) -> u8
+        ensures { result ≡ self.now.mc }
+    {
+        self.mc
+    }
+
+    /// Virtual channel frame count.
+    pub fn vcc(&self) -> u8
+        ensures { result ≡ self.now.vcc }
+    {
+        self.vcc
+    }
+
+    /// Transfer frame secondary header flag.
+    pub fn secondary(&self) -> bool
+        ensures { result ≡ self.now.secondary }
+    {
+        self.secondary
+    }
+
+    /// Synchronisation flag.
+    pub fn sync(&self) -> bool
+        ensures { result ≡ self.now.sync }
+    {
+        self.sync
+    }
+
+    /// Packet order flag.
+    pub fn order(&self) -> bool
+        ensures { result ≡ self.now.order }
+    {
+        self.order
+    }
+
+    /// Segment length identifier, 0 to 3.
+    pub fn segment(&self) -> u8
+        ensures value { result ≡ self.now.segment }
+        ensures fits { result < 2 ^ 2 }
+    {
+        self.segment
+    }
+
+    /// First header pointer, 0 to 2047: the octet of the data field at which the first packet starts,
+    /// 2046 for only idle data, 2047 for no packet start.
+    pub fn first(&self) -> u16
+        ensures value { result ≡ self.now.first }
+        ensures fits { result < 2 ^ 11 }
+    {
+        self.first
+    }
+
+    /// The six octets of the header.
+    pub fn write(&self) -> [u8; 6]
+        // They read as this header,
+        ensures reads_back { tm_header result ≡ self.now }
+        // and no others do.
+        ensures only { (octets : List ℕ) → length octets ≡ 6 → IsOctets octets → tm_header octets ≡ self.now → octets ≡ result }
+    {
+        let number = pack(&[
+            (2, self.version as u64),
+            (10, self.spacecraft as u64),
+            (3, self.vc as u64),
+            (1, self.control as u64),
+            (8, self.mc as u64),
+            (8, self.vcc as u64),
+            (1, self.secondary as u64),
+            (1, self.sync as u64),
+            (1, self.order as u64),
+            (2, self.segment as u64),
+            (11, self.first as u64),
+        ]);
+        let mut octets = [0; 6];
+        BigEndian::write_uint(&mut octets, number, 6);
+        octets
+    }
+}

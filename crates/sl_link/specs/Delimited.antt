@@ -1,0 +1,37 @@
+-- A recording of TM frames: frames of the managed length end to end, and a remainder shorter than one.
+use Rattle.std.specs.Prelude.{◌≡◌, ℕ, zero, suc, ◌*◌, ◌/◌, ◌<◌, List, [], ◌∷◌, ◌++◌, length, take, drop}
+use Rattle.std.specs.List.{AllByRecursion}
+
+-- lists, one after another
+abbrev pub joined : List (List ℕ) → List ℕ
+joined [] = []
+joined (frame ∷ frames) = frame ++ joined frames
+
+pub record IsDelimited (len : ℕ) (recording : List ℕ) (frames : List (List ℕ)) (remainder : List ℕ) : Type 0 where
+  pub end_to_end : recording ≡ joined frames ++ remainder
+  pub whole : AllByRecursion (λ frame. length frame ≡ len) frames
+  pub short : length remainder < len
+
+-- so many frames from the front on
+abbrev pub frames_from : ℕ → ℕ → List ℕ → List (List ℕ)
+frames_from len zero recording = []
+frames_from len (suc count) recording = take len recording ∷ frames_from len count (drop len recording)
+
+-- the frames of a recording, as many as it has room for, and what is left
+abbrev pub frames_of : ℕ → List ℕ → List (List ℕ)
+frames_of len recording = frames_from len (length recording / len) recording
+
+abbrev pub remainder_of : ℕ → List ℕ → List ℕ
+remainder_of len recording = drop (length recording / len * len) recording
+
+-- ---- what these two functions are
+
+-- every recording is delimited into its frames and its remainder
+abbrev pub EachIsDelimited : Type 0
+EachIsDelimited = (len : ℕ) (recording : List ℕ) → 0 < len → IsDelimited len recording (frames_of len recording) (remainder_of len recording)
+
+-- and into no others
+abbrev pub IsDelimitedOnce : Type 0
+IsDelimitedOnce =
+    (len : ℕ) (recording : List ℕ) (frames : List (List ℕ)) (remainder : List ℕ) → 0 < len → IsDelimited len recording frames remainder
+    → (frames_of len recording ≡ frames) × (remainder_of len recording ≡ remainder)

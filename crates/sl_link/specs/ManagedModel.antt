@@ -1,0 +1,33 @@
+-- A `Managed` is its parameters, none of which is refused.
+use Rattle.std.specs.Prelude.{◌≡◌, Ok}
+use Rattle.sl_link.specs.Managed.{Parameters, managed_of}
+use Rattle.sl_link.specs.declared.managed.Managed.TheInside.{Inside}
+
+abbrev pub parameters_of : Inside → Parameters
+parameters_of m =
+    record {
+      spacecraft = m.spacecraft;
+      tm_length = m.tm_length;
+      tm_fecf = m.tm_fecf;
+      tc_max = m.tc_max;
+      tc_fecf = m.tc_fecf;
+      window = m.window;
+      vr = m.vr;
+      max_octets = m.max_octets;
+    }
+
+abbrev pub IsManaged : Inside → Type 0
+IsManaged m = managed_of (parameters_of m) ≡ Ok (parameters_of m)
+
+abbrev pub inside_of : Parameters → Inside
+inside_of p =
+    record {
+      spacecraft = p.spacecraft;
+      tm_length = p.tm_length;
+      tm_fecf = p.tm_fecf;
+      tc_max = p.tc_max;
+      tc_fecf = p.tc_fecf;
+      window = p.window;
+      vr = p.vr;
+      max_octets = p.max_octets;
+    }

@@ -1,0 +1,101 @@
+-- The listing of a TM recording's frames, a line for each, and then its remainder.
+use Rattle.std.specs.Prelude.{ℕ, ◌+◌, ◌-◌, ◌==◌, if◌then◌else◌, List, [], ◌∷◌, ◌++◌, length, codes, decimal, Option, None, Some, Result, Ok, Err, is_err}
+use Rattle.hex.specs.Hex.{encode_lower}
+use Rattle.sl_fields.specs.Field.{flag, bit_of}
+use Rattle.sl_fields.specs.Clcw.{ClcwFields, clcw_word}
+use Rattle.sl_link.specs.declared.tm_frame.TmSkip.{TmSkip}
+use Rattle.sl_link.specs.declared.tm_frame.TmSkip.TheVariants.{Fecf, Version, Spacecraft}
+use Rattle.sl_link.specs.TmFrame.{TmFormat, TmView, DataField, Packets, Idle, Opaque, tm_frame}
+use Rattle.sl_link.specs.Delimited.{frames_of, remainder_of}
+use Rattle.sl_link.specs.Managed.{Parameters, tm_format}
+use Rattle.sl_link.specs.Totals.{Counts}
+
+-- why a frame is skipped
+abbrev pub skip_word : TmSkip → List ℕ
+skip_word Fecf = codes "fecf"
+skip_word Version = codes "version"
+skip_word Spacecraft = codes "spacecraft"
+
+-- what a frame carries
+abbrev pub field_text : DataField → List ℕ
+field_text (Packets (Some first) octets) = codes "first " ++ decimal first
+field_text (Packets None octets) = codes "none"
+field_text Idle = codes "idle"
+field_text Opaque = codes "opaque"
+
+-- a CLCW, in hexadecimal and by its own fields
+abbrev pub clcw_fields_text : ClcwFields → List ℕ
+clcw_fields_text w =
+    codes " vc " ++ decimal w.vc
+    ++ codes " lockout " ++ decimal (bit_of w.lockout)
+    ++ codes " wait " ++ decimal (bit_of w.wait)
+    ++ codes " retransmit " ++ decimal (bit_of w.retransmit)
+    ++ codes " farmb " ++ decimal w.farm_b
+    ++ codes " vr " ++ decimal w.report
+
+-- an operational control field: the first bit tells a CLCW, which is 0, from another report
+abbrev pub word_text : List ℕ → List ℕ
+word_text word =
+    if flag 4 0 word then codes " ocf " ++ encode_lower word
+    else codes " clcw " ++ encode_lower word ++ clcw_fields_text (clcw_word word)
+
+abbrev pub control_text : Option (List ℕ) → List ℕ
+control_text None = []
+control_text (Some word) = word_text word
+
+-- the virtual channel and the frame counts
+abbrev pub counts_text : TmView → List ℕ
+counts_text view =
+    codes " frame vc " ++ decimal view.vc
+    ++ codes " mc " ++ decimal view.mc_count
+    ++ codes " vcc " ++ decimal view.vc_count
+
+-- the line of a frame that is read, after its offset
+abbrev pub view_text : TmView → List ℕ
+view_text view = counts_text view ++ codes " " ++ field_text view.field ++ control_text view.control
+
+-- the line of a frame, after its offset
+abbrev pub frame_text : Result TmView TmSkip → List ℕ
+frame_text (Ok view) = view_text view
+frame_text (Err reason) = codes " skip " ++ skip_word reason
+
+-- a line: the octets before the thing, and what it says of it
+abbrev pub line_at : ℕ → List ℕ → List ℕ
+line_at offset text = decimal offset ++ text ++ codes "\n"
+
+-- the lines of frames that lie end to end from an offset on
+abbrev pub frame_lines : TmFormat → ℕ → ℕ → List (List ℕ) → List ℕ
+frame_lines format spacecraft offset [] = []
+frame_lines format spacecraft offset (frame ∷ frames) =
+    line_at offset (frame_text (tm_frame format spacecraft frame))
+    ++ frame_lines format spacecraft (offset + length frame) frames
+
+-- the line of a remainder of so many octets, where there is one
+abbrev pub remainder_line : ℕ → ℕ → List ℕ
+remainder_line offset octets = if octets == 0 then [] else line_at offset (codes " rest " ++ decimal octets)
+
+-- the listing of a recording
+abbrev pub show_tm_text : Parameters → List ℕ → List ℕ
+show_tm_text p recording =
+    let rest : ℕ = length (remainder_of p.tm_length recording) in
+    frame_lines (tm_format p) p.spacecraft 0 (frames_of p.tm_length recording)
+    ++ remainder_line (length recording - rest) rest
+
+-- how many frames are skipped
+abbrev pub skipped_of : TmFormat → ℕ → List (List ℕ) → ℕ
+skipped_of format spacecraft [] = 0
+skipped_of format spacecraft (frame ∷ frames) =
+    (if is_err (tm_frame format spacecraft frame) then 1 else 0) + skipped_of format spacecraft frames
+
+-- what is counted
+abbrev pub show_tm_counts : Parameters → List ℕ → Counts
+show_tm_counts p recording =
+    record {
+      octets = length recording;
+      frames = length (frames_of p.tm_length recording);
+      skipped = skipped_of (tm_format p) p.spacecraft (frames_of p.tm_length recording);
+      rest = length (remainder_of p.tm_length recording);
+      packets = 0;
+      idle = 0;
+      anomalies = 0;
+    }

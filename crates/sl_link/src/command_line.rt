@@ -1,0 +1,168 @@
+//! The command line.
+ghost use Rattle.std.specs.Prelude.{◌≡◌, false};
+ghost use Rattle.sl_link.specs.Managed.{managed_of};
+ghost use Rattle.sl_link.specs.CommandLine.{asked};
+
+use crate::managed::{Managed, ManagedFault};
+use clap::builder::ValueParser;
+use clap::error::ErrorKind;
+use clap::{Arg, ArgMatches, Command, Error, value_parser};
+use std::alloc::{AllocError, Global};
+
+/// What is done with a recording.
+#[derive(Clone, Copy, Debug, PartialEq, Eq)]
+pub(crate) enum Verb {
+    /// Its frames are listed.
+    Show,
+}
+
+/// Which frames a recording has.
+#[derive(Clone, Copy, Debug, PartialEq, Eq)]
+pub(crate) enum Kind {
+    /// TM transfer frames.
+    Tm,
+}
+
+/// What the options say of the link.
+#[derive(Clone, Copy, Debug, PartialEq, Eq)]
+pub(crate) struct Options {
+    pub(crate) spacecraft: u16,
+    pub(crate) tm_length: u16,
+    pub(crate) max_octets: u64,
+}
+
+/// What a command line asks for.
+#[derive(Clone, Copy, Debug, PartialEq, Eq)]
+pub(crate) struct Request {
+    pub(crate) verb: Verb,
+    pub(crate) kind: Kind,
+    pub(crate) options: Options,
+}
+
+const KIND: &str = "kind";
+
+const SPACECRAFT: &str = "scid";
+
+const TM_LENGTH: &str = "tm-length";
+
+const LIMIT: &str = "limit";
+
+// The kinds that `show` takes.
+static SHOWN: [&str; 1] = ["tm"];
+
+/// What the words ask for, of which the first is the program's name. Else why they are refused, or the
+/// help that they ask for.
+pub(crate) fn parse(alloc: Global, words: &[String]) -> Result<Request, Error> {
+    let mut command = sllink(alloc)?;
+    let matches = command.try_get_matches_from_mut(words)?;
+    match request_of(&matches) {
+        Some(request) => Ok(request),
+        None => Err(command.error(ErrorKind::MissingRequiredArgument, "a word is missing")?),
+    }
+}
+
+fn sllink<'a>(alloc: Global) -> Result<Command<'a>, AllocError> {
+    let show = verb_command(alloc, "show", "List the frames of a recording", &SHOWN)?;
+    Command::new(alloc, "sllink")
+        .about("Read recordings of a spacecraft's link")
+        .subcommand_required(true)
+        .subcommand(show)
+}
+
+// A verb, with the kinds of recording that it takes and the options of the link.
+fn verb_command<'a>(
+    alloc: Global,
+    name: &'a str,
+    about: &'a str,
+    kinds: &'a [&'a str],
+) -> Result<Command<'a>, AllocError> {
+    let kind = Arg::new(alloc, KIND)
+        .value_name("KIND")
+        .help("Transfer frames of the recording")
+        .value_parser(kinds)
+        .required(true);
+    with_options(alloc, Command::new(alloc, name).about(about).arg(kind)?)
+}
+
+fn with_options<'a>(alloc: Global, verb: Command<'a>) -> Result<Command<'a>, AllocError> {
+    let spacecraft = number(alloc, SPACECRAFT, "ID", value_parser!(u16))
+        .help("Spacecraft identifier")
+        .required(true);
+    let tm_length = number(alloc, TM_LENGTH, "OCTETS", value_parser!(u16))
+        .help("TM transfer frame length")
+        .default_value("1115");
+    let limit = number(alloc, LIMIT, "OCTETS", value_parser!(u64))
+        .help("Most octets that are read")
+        .default_value("1073741824");
+    verb.arg(spacecraft)?.arg(tm_length)?.arg(limit)
+}
+
+// An option that takes a number.
+fn number<'a>(alloc: Global, name: &'a str, unit: &'a str, range: ValueParser<'a>) -> Arg<'a> {
+    Arg::new(alloc, name)
+        .long(name)
+        .value_name(unit)
+        .value_parser(range)
+}
+
+// What the words ask for. It is `None` where a required word is missing, which the parse has refused.
+fn request_of(matches: &ArgMatches<'_>) -> Option<Request> {
+    let (verb, matches) = matches.subcommand()?;
+    Some(Request {
+        verb: verb_of(verb)?,
+        kind: kind_of(matches.get_str(KIND)?)?,
+        options: options_of(matches)?,
+    })
+}
+
+fn verb_of(word: &str) -> Option<Verb> {
+    match word {
+        "show" => Some(Verb::Show),
+        _ => None,
+    }
+}
+
+fn kind_of(word: &str) -> Option<Kind> {
+    match word {
+        "tm" => Some(Kind::Tm),
+        _ => None,
+    }
+}
+
+fn options_of(matches: &ArgMatches<'_>) -> Option<Options> {
+    Some(Options {
+        spacecraft: matches.get_one(SPACECRAFT)?,
+        tm_length: matches.get_one(TM_LENGTH)?,
+        max_octets: matches.get_one(LIMIT)?,
+    })
+}
+
+// The managed parameters that have no option.
+
+const TM_FECF: bool = false;
+
+const TC_LENGTH: u16 = 1024;
+
+const TC_FECF: bool = false;
+
+const WINDOW: u8 = 10;
+
+const VR: u8 = 0;
+
+impl Options {
+    /// The managed parameters of the link, or the first of them that is refused.
+    pub(crate) fn managed(&self) -> Result<Managed, ManagedFault>
+        ensures { result ≡ managed_of (asked self.now) }
+    {
+        Managed::new(
+            self.spacecraft,
+            self.tm_length,
+            TM_FECF,
+            TC_LENGTH,
+            TC_FECF,
+            WINDOW,
+            VR,
+            self.max_octets,
+        )
+    }
+}

@@ -1,0 +1,26 @@
+//! Recordings of a spacecraft's link, as a listing of their frames.
+#![tactic(auto)]
+
+mod command_line;
+mod counted;
+pub mod laws;
+mod lines;
+mod link_fault;
+mod managed;
+mod program;
+mod show;
+mod streams;
+mod tally;
+mod tm_frame;
+mod tm_lines;
+mod totals;
+
+pub use counted::Counted;
+pub use link_fault::LinkFault;
+pub use managed::{Managed, ManagedFault};
+pub use program::run;
+pub use show::show_tm;
+pub use totals::Totals;
+
+#[cfg(test)]
+mod tests;

@@ -1,0 +1,104 @@
+//! Lines of a listing, put together in a buffer before they are written.
+ghost use Rattle.std.specs.Prelude.{◌≡◌, ◌+◌, ◌≤◌, ◌<◌, [], ◌++◌, length, decimal, IsTrue};
+ghost use Rattle.hex.specs.Hex.{encode_lower};
+
+use arrayvec::ArrayVec;
+use itoa::Buffer;
+use std::marker::Model;
+
+/// Lines of a listing that are not written yet, 4096 octets at most.
+#[derive(Drop)]
+pub struct Lines {
+    text: ArrayVec<u8, 4096>,
+}
+
+impl Model for Lines {
+    ghost use Rattle.std.specs.Prelude.{ℕ, ◌≤◌, List, length};
+
+    ghost Value = { List ℕ };
+
+    ghost view = { λ l. l.text.items };
+
+    ghost invariant = { λ l. length l.text.items ≤ 4096 };
+}
+
+impl Lines {
+    /// No lines.
+    pub fn new() -> Lines
+        ensures { result ≡ [] }
+    {
+        Lines {
+            text: ArrayVec::new(),
+        }
+    }
+
+    /// Forgets the lines, which have been written.
+    pub fn clear(&mut self)
+        ensures { self.new ≡ [] }
+    {
+        self.text.clear();
+    }
+
+    /// Their octets.
+    pub fn octets(&self) -> &[u8]
+        ensures { result.now ≡ self.now }
+    {
+        self.text.as_slice()
+    }
+
+    /// There may be no room for one line more.
+    pub fn is_full(&self) -> bool
+        ensures { ¬ IsTrue result → length self.now ≤ 3840 }
+    {
+        self.text.len() > 3840
+    }
+
+    /// Adds a text, for which there is room.
+    #[inline(always)]
+    pub fn push(&mut self, text: &[u8])
+        requires { length self.old + length text.now ≤ 4096 }
+        ensures { self.new ≡ self.old ++ text.now }
+    {
+        let _ = self.text.try_extend_from_slice(text);
+    }
+
+    /// Adds a number in decimal.
+    pub fn push_number(&mut self, number: u64)
+        requires { length self.old + 20 ≤ 4096 }
+        ensures text { self.new ≡ self.old ++ decimal number }
+        ensures long { length self.new ≤ length self.old + 20 }
+    {
+        self.push(Buffer::new().format(number).as_bytes());
+    }
+
+    /// Adds a number of one octet in decimal. Most numbers of a listing are such, and this is faster.
+    #[inline(always)]
+    pub fn push_octet(&mut self, number: u8)
+        requires { length self.old + 3 ≤ 4096 }
+        ensures text { self.new ≡ self.old ++ decimal number }
+        ensures short { length self.new ≤ length self.old + 3 }
+    {
+        if number < 10 {
+            self.push(&[b'0' + number]);
+        } else if number < 100 {
+            self.push(&[b'0' + number / 10, b'0' + number % 10]);
+        } else {
+            self.push(&[
+                b'0' + number / 100,
+                b'0' + number / 10 % 10,
+                b'0' + number % 10,
+            ]);
+        }
+    }
+
+    /// Adds a word in hexadecimal.
+    pub fn push_hex(&mut self, word: &[u8; 4])
+        requires { length self.old + 8 ≤ 4096 }
+        ensures text { self.new ≡ self.old ++ encode_lower word.now }
+        ensures len { length self.new ≡ length self.old + 8 }
+    {
+        let mut digits = [0; 8];
+        let _ = hex::encode_to_slice(word, &mut digits);
+        self.push(&digits);
+    }
+}

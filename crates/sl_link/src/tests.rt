@@ -1,0 +1,5 @@
+mod faulty;
+mod outcome;
+mod parts;
+mod program;
+mod show;

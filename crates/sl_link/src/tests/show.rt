@@ -1,0 +1,143 @@
+ghost use Rattle.std.specs.Prelude.{◌≡◌, IfOk, false};
+
+use super::faulty::{FailsAfter, OneByOne};
+use super::outcome::{Outcome, text};
+use crate::{Counted, LinkFault, Managed, ManagedFault, show_tm};
+use std::io::Read;
+use std::test::Fail;
+
+const SHOW: &str = "sllink show tm --scid 1 --tm-length 32";
+
+// A packet of ten octets, and idle packets that fill up what is left of a data field.
+const FRAME: [u8; 32] = [
+    0x00, 0x10, 0x00, 0x00, 0x18, 0x00, 0x00, 0x01, 0xC0, 0x00, 0x00, 0x03, 0xAA, 0xBB, 0xCC, 0xDD,
+    0x07, 0xFF, 0xC0, 0x00, 0x00, 0x09, 0, 0, 0, 0, 0, 0, 0, 0, 0, 0,
+];
+
+// A frame with this header and these octets at its end.
+fn frame(header: [u8; 6], end: [u8; 4]) -> [u8; 32] {
+    let mut frame = FRAME;
+    frame[..6].copy_from_slice(&header);
+    frame[28..].copy_from_slice(&end);
+    frame
+}
+
+#[test]
+fn frames_are_listed(rt: HostRuntime) -> Result<(), Fail> {
+    let clcw =
+        "0 frame vc 0 mc 0 vcc 0 first 0 clcw 01002805 vc 0 lockout 1 wait 0 retransmit 1 farmb 0 vr 5\n";
+    let cases = [
+        (FRAME, "0 frame vc 0 mc 0 vcc 0 first 0\n"),
+        (frame([0x00, 0x11, 0, 0, 0x18, 0], [1, 0, 0x28, 5]), clcw),
+        (
+            frame([0x00, 0x11, 0, 0, 0x18, 0], [0x80, 0, 0, 0]),
+            "0 frame vc 0 mc 0 vcc 0 first 0 ocf 80000000\n",
+        ),
+        (
+            frame([0x00, 0x1E, 77, 200, 0x1F, 0xFF], [0; 4]),
+            "0 frame vc 7 mc 77 vcc 200 none\n",
+        ),
+        (
+            frame([0x00, 0x10, 9, 10, 0x1F, 0xFE], [0; 4]),
+            "0 frame vc 0 mc 9 vcc 10 idle\n",
+        ),
+        (
+            frame([0x00, 0x10, 0, 0, 0x9F, 0xFE], [0; 4]),
+            "0 frame vc 0 mc 0 vcc 0 opaque\n",
+        ),
+        (
+            frame([0x00, 0x20, 0, 0, 0x18, 0], [0; 4]),
+            "0 skip spacecraft\n",
+        ),
+        (
+            frame([0x40, 0x10, 0, 0, 0x18, 0], [0; 4]),
+            "0 skip version\n",
+        ),
+    ];
+    for (recording, wanted) in cases {
+        let outcome = Outcome::of(rt.alloc(), SHOW, &recording)?;
+        assert!(rt; outcome.says(0, ""));
+        assert_eq!(rt; text(outcome.output.as_slice()), wanted);
+    }
+    Ok(())
+}
+
+#[test]
+fn a_remainder_is_listed(rt: HostRuntime) -> Result<(), Fail> {
+    let mut recording = Vec::from_slice(rt.alloc(), &FRAME)?;
+    recording.extend_from_slice(&FRAME[..8])?;
+    let outcome = Outcome::of(rt.alloc(), SHOW, recording.as_slice())?;
+    let wanted = "0 frame vc 0 mc 0 vcc 0 first 0\n32 rest 8\n";
+    assert_eq!(rt; text(outcome.output.as_slice()), wanted);
+    let outcome = Outcome::of(rt.alloc(), SHOW, &[])?;
+    assert!(rt; outcome.says(0, "") && outcome.output.is_empty());
+    Ok(())
+}
+
+fn link(max_octets: u64) -> Result<Managed, ManagedFault>
+    ensures { IfOk result (λ managed. managed.tm_fecf ≡ false) }
+{
+    Managed::new(1, 32, false, 1024, false, 10, 0, max_octets)
+}
+
+#[test]
+fn totals_are_counted(rt: HostRuntime) -> Result<(), Fail> {
+    let mut recording = Vec::from_slice(rt.alloc(), &FRAME)?;
+    recording.extend_from_slice(&frame([0x40, 0x10, 0, 0, 0x18, 0], [0; 4]))?;
+    recording.extend_from_slice(&FRAME[..8])?;
+    let mut reader = Counted::new(OneByOne(recording.as_slice()));
+    let mut writer = Counted::new(Vec::new(rt.alloc()));
+    let totals = show_tm(&link(72)?, &mut reader, &mut writer)?;
+    let counted = [
+        totals.octets(),
+        totals.frames(),
+        totals.skipped(),
+        totals.rest(),
+        totals.packets(),
+        totals.idle(),
+        totals.anomalies(),
+    ];
+    assert_eq!(rt; counted, [72, 2, 1, 8, 0, 0, 0]);
+    assert_eq!(rt; (reader.faults(), writer.faults()), (0, 0));
+    Ok(())
+}
+
+// What a listing of two frames answers when its streams fail, and what is written by then.
+#[test]
+fn faults_leave_a_front_of_the_listing(rt: HostRuntime) -> Result<(), Fail> {
+    let listing = "0 frame vc 0 mc 0 vcc 0 first 0\n32 frame vc 0 mc 0 vcc 0 first 0\n";
+    let mut recording = Vec::from_slice(rt.alloc(), &FRAME)?;
+    recording.extend_from_slice(&FRAME)?;
+    for allowed in 0..64u64 {
+        let mut reader = Counted::new(FailsAfter::new(OneByOne(recording.as_slice()), allowed));
+        let mut writer = Counted::new(Vec::new(rt.alloc()));
+        let fault = show_tm(&link(100)?, &mut reader, &mut writer).err();
+        assert_eq!(rt; fault, Some(LinkFault::Read), "{allowed}");
+        assert_eq!(rt; reader.faults(), 1);
+        assert!(rt; listing.starts_with(text(writer.into_inner().as_slice())));
+        let mut reader = Counted::new(recording.as_slice());
+        let mut writer = Counted::new(FailsAfter::new(OneByOne(Vec::new(rt.alloc())), allowed));
+        let fault = show_tm(&link(100)?, &mut reader, &mut writer).err();
+        assert_eq!(rt; fault, Some(LinkFault::Write), "{allowed}");
+        assert_eq!(rt; writer.faults(), 1);
+        let written = writer.into_inner().into_inner().0;
+        assert!(rt; listing.starts_with(text(written.as_slice())));
+        assert_eq!(rt; written.len() as u64, allowed);
+    }
+    Ok(())
+}
+
+#[test]
+fn the_limit_is_kept(rt: HostRuntime) -> Result<(), Fail> {
+    for (limit, fault) in [(31, Some(LinkFault::TooLong)), (32, None), (33, None)] {
+        let mut reader = Counted::new(FRAME.as_slice());
+        let mut writer = Counted::new(Vec::new(rt.alloc()));
+        let outcome = show_tm(&link(limit)?, &mut reader, &mut writer);
+        assert_eq!(rt; outcome.err(), fault, "{limit}");
+    }
+    let mut reader = Counted::new(std::io::repeat(0));
+    let mut writer = Counted::new(Vec::new(rt.alloc()));
+    let outcome = show_tm(&link(100)?, &mut reader, &mut writer);
+    assert_eq!(rt; outcome.err(), Some(LinkFault::TooLong));
+    Ok(())
+}

@@ -1,0 +1,146 @@
+//! The lines of a TM recording's listing.
+ghost use Rattle.std.specs.Prelude.{◌≡◌, ◌+◌, ◌-◌, ◌≤◌, ◌<◌, [], ◌++◌, length, decimal, codes, Result};
+ghost use Rattle.sl_fields.specs.Field.{bit_of};
+ghost use Rattle.sl_link.specs.TmField.{data_field};
+ghost use Rattle.sl_link.specs.ShowTm.{clcw_fields_text, word_text, control_text, skip_word, field_text, counts_text, view_text, frame_text, line_at, remainder_line};
+
+use crate::lines::Lines;
+use crate::tm_frame::{TmField, TmFrame, TmSkip};
+use sl_fields::Clcw;
+
+/// Adds the line of a frame at this offset.
+pub fn frame_line(lines: &mut Lines, offset: u64, read: &Result<TmFrame, TmSkip>)
+    requires { length lines.old ≤ 3840 }
+    ensures { lines.new ≡ lines.old ++ line_at offset (frame_text read.now) }
+{
+    lines.push_number(offset);
+    match read {
+        Ok(frame) => push_view(lines, frame),
+        Err(reason) => push_skip(lines, *reason),
+    }
+    lines.push(b"\n");
+}
+
+/// Adds the line of a remainder of so many octets at this offset.
+pub fn rest_line(lines: &mut Lines, offset: u64, octets: u64)
+    requires { length lines.old ≤ 3840 }
+    ensures { lines.new ≡ lines.old ++ line_at offset (codes " rest " ++ decimal octets) }
+{
+    lines.push_number(offset);
+    lines.push(b" rest ");
+    lines.push_number(octets);
+    lines.push(b"\n");
+}
+
+fn push_skip(lines: &mut Lines, reason: TmSkip)
+    requires { length lines.old ≤ 3860 }
+    ensures text { lines.new ≡ lines.old ++ (codes " skip " ++ skip_word reason) }
+    ensures short { length lines.new ≤ length lines.old + 16 }
+{
+    lines.push(b" skip ");
+    lines.push(match reason {
+        TmSkip::Fecf => b"fecf",
+        TmSkip::Version => b"version",
+        TmSkip::Spacecraft => b"spacecraft",
+    });
+}
+
+fn push_view(lines: &mut Lines, frame: &TmFrame)
+    requires { length lines.old ≤ 3860 }
+    ensures text { lines.new ≡ lines.old ++ view_text frame.now }
+    ensures short { length lines.new ≤ length lines.old + 135 }
+{
+    push_counts(lines, frame);
+    lines.push(b" ");
+    push_field(lines, frame.field());
+    push_control(lines, frame.control());
+}
+
+fn push_counts(lines: &mut Lines, frame: &TmFrame)
+    requires { length lines.old ≤ 3860 }
+    ensures text { lines.new ≡ lines.old ++ counts_text frame.now }
+    ensures short { length lines.new ≤ length lines.old + 28 }
+{
+    lines.push(b" frame vc ");
+    lines.push_octet(frame.vc());
+    lines.push(b" mc ");
+    lines.push_octet(frame.mc_count());
+    lines.push(b" vcc ");
+    lines.push_octet(frame.vc_count());
+}
+
+fn push_field(lines: &mut Lines, field: TmField)
+    requires { length lines.old ≤ 3900 }
+    ensures text { lines.new ≡ lines.old ++ field_text (data_field field.entry) }
+    ensures short { length lines.new ≤ length lines.old + 26 }
+{
+    match field {
+        TmField::Packets {
+            first: Some(first),
+            ..
+        } => {
+            lines.push(b"first ");
+            lines.push_number(u64::from(first));
+        }
+        TmField::Packets { first: None, .. } => lines.push(b"none"),
+        TmField::Idle => lines.push(b"idle"),
+        TmField::Opaque => lines.push(b"opaque"),
+    }
+}
+
+fn push_control(lines: &mut Lines, control: Option<[u8; 4]>)
+    requires { length lines.old ≤ 3920 }
+    ensures text { lines.new ≡ lines.old ++ control_text control }
+    ensures short { length lines.new ≤ length lines.old + 80 }
+{
+    if let Some(word) = control {
+        push_word(lines, &word);
+    }
+}
+
+fn push_word(lines: &mut Lines, word: &[u8; 4])
+    requires { length lines.old ≤ 3920 }
+    ensures text { lines.new ≡ lines.old ++ word_text word.now }
+    ensures short { length lines.new ≤ length lines.old + 80 }
+{
+    let clcw = Clcw::read(word);
+    if clcw.word() == 1 {
+        lines.push(b" ocf ");
+        lines.push_hex(word);
+    } else {
+        lines.push(b" clcw ");
+        lines.push_hex(word);
+        push_clcw(lines, &clcw);
+    }
+}
+
+fn push_clcw(lines: &mut Lines, clcw: &Clcw)
+    requires { length lines.old ≤ 3934 }
+    ensures text { lines.new ≡ lines.old ++ clcw_fields_text clcw.now }
+    ensures short { length lines.new ≤ length lines.old + 60 }
+{
+    lines.push(b" vc ");
+    lines.push_octet(clcw.vc());
+    lines.push(b" lockout ");
+    push_flag(lines, clcw.lockout());
+    lines.push(b" wait ");
+    push_flag(lines, clcw.wait());
+    lines.push(b" retransmit ");
+    push_flag(lines, clcw.retransmit());
+    lines.push(b" farmb ");
+    lines.push_octet(clcw.farm_b());
+    lines.push(b" vr ");
+    lines.push_octet(clcw.report());
+}
+
+fn push_flag(lines: &mut Lines, is_set: bool)
+    requires { length lines.old ≤ 4094 }
+    ensures text { lines.new ≡ lines.old ++ decimal (bit_of is_set) }
+    ensures short { length lines.new ≡ length lines.old + 1 }
+{
+    if is_set {
+        lines.push(b"1");
+    } else {
+        lines.push(b"0");
+    }
+}

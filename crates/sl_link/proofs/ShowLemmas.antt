@@ -86,7 +86,7 @@ caused_reading remaining contents reader mid reader' writer writer' before octet
 caused_reading remaining contents reader mid reader' writer writer' before octets limit greatest buffer Memory kept left within fits cause = absurd cause
 caused_reading remaining contents reader mid reader' writer writer' before octets limit greatest buffer Write kept left within fits cause = absurd cause
 
-caused_writing : {R W : Type 0} (remaining : R → Option (List ℕ)) (contents : W → Option (List ℕ)) (reader reader' : Counted R) (writer mid writer' : Counted W) (octets : List ℕ) (greatest buffer : ℕ) (fault : LinkFault)
+pub caused_writing : {R W : Type 0} (remaining : R → Option (List ℕ)) (contents : W → Option (List ℕ)) (reader reader' : Counted R) (writer mid writer' : Counted W) (octets : List ℕ) (greatest buffer : ℕ) (fault : LinkFault)
     → fault ≡ Write → faults_of mid ≡ faults_of writer → HasFailed mid writer' → length octets ≤ greatest
     → IsCaused remaining contents reader reader' writer writer' greatest buffer octets fault
 caused_writing remaining contents reader reader' writer mid writer' octets greatest buffer fault is_write kept cause within =

@@ -3,6 +3,7 @@ pub mod Counted
 pub mod Delimited
 pub mod Managed
 pub mod ManagedModel
+pub mod Run
 pub mod ShowTm
 pub mod Status
 pub mod Streams

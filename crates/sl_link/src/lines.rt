@@ -1,5 +1,5 @@
 //! Lines of a listing, put together in a buffer before they are written.
-ghost use Rattle.std.specs.Prelude.{◌≡◌, ◌+◌, ◌≤◌, ◌<◌, [], ◌++◌, length, decimal, IsTrue};
+ghost use Rattle.std.specs.Prelude.{◌≡◌, ◌+◌, ◌≤◌, ◌<◌, [], ◌++◌, length, decimal, nat_lt};
 ghost use Rattle.hex.specs.Hex.{encode_lower};
 
 use arrayvec::ArrayVec;
@@ -48,7 +48,7 @@ impl Lines {
 
     /// There may be no room for one line more.
     pub fn is_full(&self) -> bool
-        ensures { ¬ IsTrue result → length self.now ≤ 3840 }
+        ensures { result ≡ nat_lt 3840 (length self.now) }
     {
         self.text.len() > 3840
     }

@@ -1,7 +1,11 @@
 //! The whole program.
-ghost use Rattle.std.specs.Prelude.{◌≡◌, ◌≤◌, false, OnOk, IfErr};
-ghost use Rattle.sl_link.specs.Counted.{faults_of, HasFailed};
+ghost use Rattle.std.specs.Prelude.{◌≡◌, ◌≢◌, ◌≤◌, ◌⊎◌, false, OnOk, IfOk, IfErr};
+ghost use Rattle.std.specs.Io.KnownBytes.{Keeps};
+ghost use Rattle.sl_link.specs.Counted.{stream_of, faults_of, HasFailed};
+ghost use Rattle.sl_link.specs.Run.{HasListed, HasStopped, WithSome};
+ghost use Rattle.sl_link.specs.ShowTm.{show_tm_text, show_tm_counts};
 ghost use Rattle.sl_link.specs.Status.{status};
+ghost use Rattle.sl_link.specs.Streams.{Translates, Stops};
 
 use crate::command_line::{Kind, Request, Verb, parse};
 use crate::counted::Counted;
@@ -35,8 +39,15 @@ pub fn run<R: Read, W: Write, E: Write>(
     errors: &mut E,
 ) -> u8
     ensures range { result ≤ 3 }
+    // After success a recording is listed, or nothing was read and help was asked for.
+    ensures listed { result ≡ 0 → (reader.new ≡ reader.old) ⊎ WithSome (HasListed R.remaining W.contents reader.old reader.new writer.old writer.new) }
+    // No engine meets an anomaly yet.
+    ensures no_anomaly { result ≢ 1 }
     // A refused run has read and written nothing.
     ensures refused { result ≡ 2 → (reader.new ≡ reader.old) × (writer.new ≡ writer.old) }
+    // After a fault its cause is there, or nothing was read: help couldn't be written, or there was no
+    // memory for the words.
+    ensures stopped { result ≡ 3 → (reader.new ≡ reader.old) ⊎ WithSome (HasStopped R.remaining W.contents reader.old reader.new writer.old writer.new) }
 {
     match parse(alloc, words) {
         Ok(request) => answer(&request, reader, writer, errors),
@@ -52,7 +63,10 @@ fn answer<R: Read, W: Write, E: Write>(
     errors: &mut E,
 ) -> u8
     ensures range { result ≤ 3 }
+    ensures listed { result ≡ 0 → HasListed R.remaining W.contents reader.old reader.new writer.old writer.new request.now.options }
+    ensures no_anomaly { result ≢ 1 }
     ensures refused { result ≡ 2 → (reader.new ≡ reader.old) × (writer.new ≡ writer.old) }
+    ensures stopped { result ≡ 3 → HasStopped R.remaining W.contents reader.old reader.new writer.old writer.new request.now.options }
 {
     match request.options.managed() {
         Ok(managed) => {
@@ -74,6 +88,8 @@ fn conduct<R: Read, W: Write>(
     writer: &mut Counted<W>,
 ) -> Result<Totals, LinkFault>
     requires { managed.now.tm_fecf ≡ false }
+    ensures listing { IfOk result (Translates R.remaining W.contents reader.old reader.new writer.old writer.new (show_tm_text managed.now) (show_tm_counts managed.now) managed.now.max_octets) }
+    ensures fault { IfErr result (Stops R.remaining W.contents reader.old reader.new writer.old writer.new (show_tm_text managed.now) managed.now.max_octets 0x20000) }
 {
     let totals = match (request.verb, request.kind) {
         (Verb::Show, Kind::Tm) => show_tm(managed, reader, writer)?,
@@ -83,6 +99,7 @@ fn conduct<R: Read, W: Write>(
 }
 
 fn flush<W: Write>(writer: &mut Counted<W>) -> Result<(), LinkFault>
+    ensures kept { Keeps (W.contents (stream_of writer.old)) (W.contents (stream_of writer.new)) }
     ensures ok { OnOk result (faults_of writer.new ≡ faults_of writer.old) }
     ensures fault { IfErr result (λ fault. (fault ≡ LinkFault.Write)
         × HasFailed writer.old writer.new) }
@@ -116,6 +133,7 @@ fn status_of(outcome: &Result<Totals, LinkFault>) -> u8
 // Prints help, or why the command line is refused.
 fn explain<W: Write, E: Write>(refusal: &Error, writer: &mut Counted<W>, errors: &mut E) -> u8
     ensures range { result ≤ 3 }
+    ensures no_anomaly { result ≢ 1 }
     ensures refused { result ≡ 2 → writer.new ≡ writer.old }
 {
     match refusal.kind() {

@@ -2,6 +2,7 @@ pub mod DelimitedLemmas
 pub mod LineLemmas
 pub mod ListingFacts
 pub mod ManagedLemmas
+pub mod PartLemmas
 pub mod RunLemmas
 pub mod ShowLemmas
 pub mod StreamLemmas

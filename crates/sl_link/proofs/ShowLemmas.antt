@@ -4,11 +4,13 @@ use Rattle.std.proofs.lemmas.Nat.{div-mul-add, div-add-mod', mod_below}
 use Rattle.std.specs.Prelude.{is_err}
 use Rattle.std.specs.Io.KnownBytes.{Consumes, Appends}
 use Rattle.std.proofs.KnownBytes.{Consumes-nil, Consumes-trans, Appends-nil, Appends-trans}
+use Rattle.std.specs.List.{concat}
+use Rattle.std.proofs.lemmas.List.Folds.{concat-append}
 use Rattle.sl_link.specs.declared.counted.Counted.{Counted}
 use Rattle.sl_link.specs.declared.link_fault.LinkFault.{LinkFault}
 use Rattle.sl_link.specs.declared.link_fault.LinkFault.TheVariants.{Read, TooLong, Memory, Write}
 use Rattle.sl_link.specs.Counted.{stream_of, faults_of, HasFailed}
-use Rattle.sl_link.specs.Delimited.{joined, frames_of, remainder_of}
+use Rattle.sl_link.specs.Delimited.{frames_of, remainder_of}
 use Rattle.sl_link.specs.Managed.{Parameters, tm_format}
 use Rattle.sl_link.specs.ShowTm.{frame_lines, frame_text, line_at, remainder_line, skipped_of, show_tm_text, show_tm_counts}
 use Rattle.sl_link.specs.Streams.{Reads, IsRead, Writes, StopsReading, IsReadFault, AddsText, WritesText, StopsWriting, Translates, Stops, IsCaused}
@@ -17,19 +19,19 @@ use Rattle.sl_link.specs.Totals.{Counts}
 use Rattle.sl_link.specs.Tally.{AddsFrames}
 use Rattle.sl_link.specs.declared.tally.Tally.{Tally}
 use Rattle.sl_link.proofs.StreamLemmas.{take_read}
-use Rattle.sl_link.proofs.DelimitedLemmas.{AreWhole, length-joined, joined-last, AreWhole-last, frames_of-joined, frames_of-short, remainder_of-short, frames_of-more, remainder_of-more, length-delimited, joined-append}
+use Rattle.sl_link.proofs.DelimitedLemmas.{AreWhole, length-concat, concat-last, AreWhole-last, frames_of-concat, frames_of-short, remainder_of-short, frames_of-more, remainder_of-more, length-delimited}
 
 -- ---- the listing
 
 frame_lines-append : (format : TmFormat) (spacecraft offset : ℕ) (xs ys : List (List ℕ))
-    → frame_lines format spacecraft offset (xs ++ ys) ≡ frame_lines format spacecraft offset xs ++ frame_lines format spacecraft (offset + length (joined xs)) ys
+    → frame_lines format spacecraft offset (xs ++ ys) ≡ frame_lines format spacecraft offset xs ++ frame_lines format spacecraft (offset + length (concat xs)) ys
 frame_lines-append format spacecraft offset [] ys =
     let e : offset ≡ offset + 0 = omega arith in ap (λ n. frame_lines format spacecraft n ys) e
 frame_lines-append format spacecraft offset (x ∷ xs) ys =
     let line = line_at offset (frame_text (tm_frame format spacecraft x)) in
-    let e : (offset + length x) + length (joined xs) ≡ offset + length (x ++ joined xs) = omega (arith, length-append x (joined xs)) in
+    let e : (offset + length x) + length (concat xs) ≡ offset + length (x ++ concat xs) = omega (arith, length-append x (concat xs)) in
     ap (λ l. line ++ l) (frame_lines-append format spacecraft (offset + length x) xs ys ∙ ap (λ n. frame_lines format spacecraft (offset + length x) xs ++ frame_lines format spacecraft n ys) e)
-    ∙ sym (append_assoc line (frame_lines format spacecraft (offset + length x) xs) (frame_lines format spacecraft (offset + length (x ++ joined xs)) ys))
+    ∙ sym (append_assoc line (frame_lines format spacecraft (offset + length x) xs) (frame_lines format spacecraft (offset + length (x ++ concat xs)) ys))
 
 skipped_of-append : (format : TmFormat) (spacecraft : ℕ) (xs ys : List (List ℕ)) → skipped_of format spacecraft (xs ++ ys) ≡ skipped_of format spacecraft xs + skipped_of format spacecraft ys
 skipped_of-append format spacecraft [] ys = omega arith
@@ -40,16 +42,16 @@ skipped_of-append format spacecraft (x ∷ xs) ys =
 -- what is still to come of the listing of x ++ y when the frames of x are shown
 abbrev to_come : Parameters → List ℕ → List ℕ → List ℕ
 to_come p x y =
-    frame_lines (tm_format p) p.spacecraft (length (joined (frames_of p.tm_length x))) (frames_of p.tm_length (remainder_of p.tm_length x ++ y))
+    frame_lines (tm_format p) p.spacecraft (length (concat (frames_of p.tm_length x))) (frames_of p.tm_length (remainder_of p.tm_length x ++ y))
     ++ remainder_line (length (x ++ y) - length (remainder_of p.tm_length (x ++ y))) (length (remainder_of p.tm_length (x ++ y)))
 
 -- the lines of the frames of x, and those of the frames that y completes
 lines-more : (p : Parameters) (x y : List ℕ) → 0 < p.tm_length
-    → frame_lines (tm_format p) p.spacecraft 0 (frames_of p.tm_length x) ++ frame_lines (tm_format p) p.spacecraft (length (joined (frames_of p.tm_length x))) (frames_of p.tm_length (remainder_of p.tm_length x ++ y))
+    → frame_lines (tm_format p) p.spacecraft 0 (frames_of p.tm_length x) ++ frame_lines (tm_format p) p.spacecraft (length (concat (frames_of p.tm_length x))) (frames_of p.tm_length (remainder_of p.tm_length x ++ y))
     ≡ frame_lines (tm_format p) p.spacecraft 0 (frames_of p.tm_length (x ++ y))
 lines-more p x y some =
     let more = frames_of p.tm_length (remainder_of p.tm_length x ++ y) in
-    let from_zero : length (joined (frames_of p.tm_length x)) ≡ 0 + length (joined (frames_of p.tm_length x)) = omega arith in
+    let from_zero : length (concat (frames_of p.tm_length x)) ≡ 0 + length (concat (frames_of p.tm_length x)) = omega arith in
     ap (λ n. frame_lines (tm_format p) p.spacecraft 0 (frames_of p.tm_length x) ++ frame_lines (tm_format p) p.spacecraft n more) from_zero
     ∙ sym (frame_lines-append (tm_format p) p.spacecraft 0 (frames_of p.tm_length x) more)
     ∙ ap (frame_lines (tm_format p) p.spacecraft 0) (sym (frames_of-more p.tm_length x y some))
@@ -58,7 +60,7 @@ lines-more p x y some =
 text-front : (p : Parameters) (x y : List ℕ) → 0 < p.tm_length → frame_lines (tm_format p) p.spacecraft 0 (frames_of p.tm_length x) ++ to_come p x y ≡ show_tm_text p (x ++ y)
 text-front p x y some =
     let last = remainder_line (length (x ++ y) - length (remainder_of p.tm_length (x ++ y))) (length (remainder_of p.tm_length (x ++ y))) in
-    sym (append_assoc (frame_lines (tm_format p) p.spacecraft 0 (frames_of p.tm_length x)) (frame_lines (tm_format p) p.spacecraft (length (joined (frames_of p.tm_length x))) (frames_of p.tm_length (remainder_of p.tm_length x ++ y))) last)
+    sym (append_assoc (frame_lines (tm_format p) p.spacecraft 0 (frames_of p.tm_length x)) (frame_lines (tm_format p) p.spacecraft (length (concat (frames_of p.tm_length x))) (frames_of p.tm_length (remainder_of p.tm_length x ++ y))) last)
     ∙ ap (λ l. l ++ last) (lines-more p x y some)
 
 -- counts of a listing
@@ -99,48 +101,48 @@ split_front lines written missing after line e =
     ∙ sym (append_assoc lines line after)
 
 -- the lines of one frame more
-lines-last : (p : Parameters) (offset : ℕ) (shown : List (List ℕ)) (frame : List ℕ) (octets : ℕ) → octets ≡ offset + length (joined shown)
+lines-last : (p : Parameters) (offset : ℕ) (shown : List (List ℕ)) (frame : List ℕ) (octets : ℕ) → octets ≡ offset + length (concat shown)
     → frame_lines (tm_format p) p.spacecraft offset shown ++ line_at octets (frame_text (tm_frame (tm_format p) p.spacecraft frame)) ≡ frame_lines (tm_format p) p.spacecraft offset (shown ++ frame ∷ [])
 lines-last p offset shown frame octets e =
     let text = frame_text (tm_frame (tm_format p) p.spacecraft frame) in
     ap (λ n. frame_lines (tm_format p) p.spacecraft offset shown ++ line_at n text) e
-    ∙ ap (λ l. frame_lines (tm_format p) p.spacecraft offset shown ++ l) (sym (append-nil (line_at (offset + length (joined shown)) text)))
+    ∙ ap (λ l. frame_lines (tm_format p) p.spacecraft offset shown ++ l) (sym (append-nil (line_at (offset + length (concat shown)) text)))
     ∙ sym (frame_lines-append (tm_format p) p.spacecraft offset shown (frame ∷ []))
 
 -- ---- the frames of a buffer
 
 -- The first frames are shown and counted, but for the lines that wait to be written, and the octets
--- behind them are left.
-pub record IsListing {W : Type 0} (contents : W → Option (List ℕ)) (p : Parameters) (writer writer' : Counted W) (tally tally' : Tally) (octets left waiting : List ℕ) : Type 0 where
+-- after them are left.
+pub record IsListing {W : Type 0} (contents : W → Option (List ℕ)) (p : Parameters) (writer writer' : Counted W) (tally tally' : Tally) (octets left pending : List ℕ) : Type 0 where
   pub shown : List (List ℕ)
   pub whole : AreWhole p.tm_length shown
-  pub parts : octets ≡ joined shown ++ left
+  pub parts : octets ≡ concat shown ++ left
   pub written : List ℕ
-  pub lines : written ++ waiting ≡ frame_lines (tm_format p) p.spacecraft tally.octets shown
+  pub lines : written ++ pending ≡ frame_lines (tm_format p) p.spacecraft tally.octets shown
   pub writes : Writes contents writer writer' written
   pub counted : AddsFrames (tm_format p) p.spacecraft tally tally' shown
   pub no_fault : faults_of writer' ≡ faults_of writer
 
 module _ {W : Type 0} (contents : W → Option (List ℕ)) (p : Parameters) where
   -- one frame more
-  pub listing_next : (writer mid writer' : Counted W) (tally now next : Tally) (octets left frame behind waiting waiting' : List ℕ)
-      → IsListing contents p writer mid tally now octets left waiting → left ≡ frame ++ behind → length frame ≡ p.tm_length
-      → AddsText contents mid writer' waiting waiting' (line_at now.octets (frame_text (tm_frame (tm_format p) p.spacecraft frame)))
+  pub listing_next : (writer mid writer' : Counted W) (tally now next : Tally) (octets left frame behind pending pending' : List ℕ)
+      → IsListing contents p writer mid tally now octets left pending → left ≡ frame ++ behind → length frame ≡ p.tm_length
+      → AddsText contents mid writer' pending pending' (line_at now.octets (frame_text (tm_frame (tm_format p) p.spacecraft frame)))
       → next.octets ≡ now.octets + length frame → next.frames ≡ now.frames + 1 → next.skipped ≡ now.skipped + (if is_err (tm_frame (tm_format p) p.spacecraft frame) then 1 else 0)
-      → IsListing contents p writer writer' tally next octets behind waiting'
-  listing_next writer mid writer' tally now next octets left frame behind waiting waiting' s parts e w more_octets one_more more_skipped =
+      → IsListing contents p writer writer' tally next octets behind pending'
+  listing_next writer mid writer' tally now next octets left frame behind pending pending' s parts e w more_octets one_more more_skipped =
       let line = line_at now.octets (frame_text (tm_frame (tm_format p) p.spacecraft frame)) in
       record {
         shown = s.shown ++ frame ∷ [];
         whole = AreWhole-last p.tm_length s.shown frame s.whole e;
-        parts = s.parts ∙ ap (λ l. joined s.shown ++ l) parts ∙ sym (append_assoc (joined s.shown) frame behind) ∙ ap (λ l. l ++ behind) (sym (joined-last s.shown frame));
+        parts = s.parts ∙ ap (λ l. concat s.shown ++ l) parts ∙ sym (append_assoc (concat s.shown) frame behind) ∙ ap (λ l. l ++ behind) (sym (concat-last s.shown frame));
         written = s.written ++ w.written;
         lines =
-            append_assoc s.written w.written waiting' ∙ ap (λ l. s.written ++ l) (sym w.parts) ∙ sym (append_assoc s.written waiting line)
+            append_assoc s.written w.written pending' ∙ ap (λ l. s.written ++ l) (sym w.parts) ∙ sym (append_assoc s.written pending line)
             ∙ ap (λ l. l ++ line) s.lines ∙ lines-last p tally.octets s.shown frame now.octets s.counted.octets;
         writes = Appends-trans (contents (stream_of writer)) (contents (stream_of mid)) (contents (stream_of writer')) s.written w.written s.writes w.writes;
         counted = record {
-          octets = omega (arith, s.counted.octets, ap length (joined-last s.shown frame), length-append (joined s.shown) frame);
+          octets = omega (arith, s.counted.octets, ap length (concat-last s.shown frame), length-append (concat s.shown) frame);
           frames = omega (arith, s.counted.frames, length-append s.shown (frame ∷ []));
           skipped = omega (arith, s.counted.skipped, skipped_of-append (tm_format p) p.spacecraft s.shown (frame ∷ []));
         };
@@ -148,20 +150,20 @@ module _ {W : Type 0} (contents : W → Option (List ℕ)) (p : Parameters) wher
       }
 
   -- a fault of writing what waits leaves a prefix of the lines
-  pub listing_stops : (writer mid writer' : Counted W) (tally now : Tally) (octets left waiting : List ℕ) (fault : LinkFault) → 0 < p.tm_length
-      → IsListing contents p writer mid tally now octets left waiting → StopsWriting contents mid writer' waiting fault
+  pub listing_stops : (writer mid writer' : Counted W) (tally now : Tally) (octets left pending : List ℕ) (fault : LinkFault) → 0 < p.tm_length
+      → IsListing contents p writer mid tally now octets left pending → StopsWriting contents mid writer' pending fault
       → StopsWriting contents writer writer' (frame_lines (tm_format p) p.spacecraft tally.octets (frames_of p.tm_length octets)) fault
-  listing_stops writer mid writer' tally now octets left waiting fault some s w =
-      let later = frame_lines (tm_format p) p.spacecraft (tally.octets + length (joined s.shown)) (frames_of p.tm_length left) in
+  listing_stops writer mid writer' tally now octets left pending fault some s w =
+      let later = frame_lines (tm_format p) p.spacecraft (tally.octets + length (concat s.shown)) (frames_of p.tm_length left) in
       let split : frame_lines (tm_format p) p.spacecraft tally.octets s.shown ++ later ≡ frame_lines (tm_format p) p.spacecraft tally.octets (frames_of p.tm_length octets) =
       sym (ap (λ o. frame_lines (tm_format p) p.spacecraft tally.octets (frames_of p.tm_length o)) s.parts
-      ∙ ap (frame_lines (tm_format p) p.spacecraft tally.octets) (frames_of-joined p.tm_length s.shown left some s.whole)
+      ∙ ap (frame_lines (tm_format p) p.spacecraft tally.octets) (frames_of-concat p.tm_length s.shown left some s.whole)
       ∙ frame_lines-append (tm_format p) p.spacecraft tally.octets s.shown (frames_of p.tm_length left)) in
       record {
         front = record {
           written = s.written ++ w.front.written;
           missing = w.front.missing ++ later;
-          front = split_front s.written w.front.written w.front.missing later waiting w.front.front ∙ ap (λ l. l ++ later) s.lines ∙ split;
+          front = split_front s.written w.front.written w.front.missing later pending w.front.front ∙ ap (λ l. l ++ later) s.lines ∙ split;
           writes = Appends-trans (contents (stream_of writer)) (contents (stream_of mid)) (contents (stream_of writer')) s.written w.front.written s.writes w.front.writes;
         };
         is_write = w.is_write;
@@ -169,44 +171,44 @@ module _ {W : Type 0} (contents : W → Option (List ℕ)) (p : Parameters) wher
       }
 
   -- where no whole frame is left, all are shown
-  pub all_shown : (writer writer' : Counted W) (tally tally' : Tally) (octets left waiting : List ℕ) → 0 < p.tm_length
-      → (s : IsListing contents p writer writer' tally tally' octets left waiting) → length left < p.tm_length → frames_of p.tm_length octets ≡ s.shown
-  all_shown writer writer' tally tally' octets left waiting some s short =
-      ap (frames_of p.tm_length) s.parts ∙ frames_of-joined p.tm_length s.shown left some s.whole
+  pub all_shown : (writer writer' : Counted W) (tally tally' : Tally) (octets left pending : List ℕ) → 0 < p.tm_length
+      → (s : IsListing contents p writer writer' tally tally' octets left pending) → length left < p.tm_length → frames_of p.tm_length octets ≡ s.shown
+  all_shown writer writer' tally tally' octets left pending some s short =
+      ap (frames_of p.tm_length) s.parts ∙ frames_of-concat p.tm_length s.shown left some s.whole
       ∙ ap (λ l. s.shown ++ l) (frames_of-short p.tm_length left short) ∙ append-nil s.shown
 
   -- so many octets of them
-  pub octets_shown : (writer writer' : Counted W) (tally tally' : Tally) (octets left waiting : List ℕ)
-      → IsListing contents p writer writer' tally tally' octets left waiting → length left < p.tm_length → length octets - length left ≡ length octets / p.tm_length * p.tm_length
-  octets_shown writer writer' tally tally' octets left waiting s short =
-      let size : length octets ≡ length s.shown * p.tm_length + length left = ap length s.parts ∙ length-append (joined s.shown) left ∙ ap (λ n. n + length left) (length-joined p.tm_length s.shown s.whole) in
+  pub octets_shown : (writer writer' : Counted W) (tally tally' : Tally) (octets left pending : List ℕ)
+      → IsListing contents p writer writer' tally tally' octets left pending → length left < p.tm_length → length octets - length left ≡ length octets / p.tm_length * p.tm_length
+  octets_shown writer writer' tally tally' octets left pending s short =
+      let size : length octets ≡ length s.shown * p.tm_length + length left = ap length s.parts ∙ length-append (concat s.shown) left ∙ ap (λ n. n + length left) (length-concat p.tm_length s.shown s.whole) in
       rw (size, div-mul-add (length s.shown) p.tm_length (length left) short) (omega arith)
 
-  pub octets_counted : (writer writer' : Counted W) (tally tally' : Tally) (octets left waiting : List ℕ)
-      → IsListing contents p writer writer' tally tally' octets left waiting → tally'.octets ≡ tally.octets + (length octets - length left)
-  octets_counted writer writer' tally tally' octets left waiting s = omega (arith, s.counted.octets, ap length s.parts, length-append (joined s.shown) left)
+  pub octets_counted : (writer writer' : Counted W) (tally tally' : Tally) (octets left pending : List ℕ)
+      → IsListing contents p writer writer' tally tally' octets left pending → tally'.octets ≡ tally.octets + (length octets - length left)
+  octets_counted writer writer' tally tally' octets left pending s = omega (arith, s.counted.octets, ap length s.parts, length-append (concat s.shown) left)
 
   -- their lines, once what waits is written, and their counts
-  pub lines_shown : (writer mid writer' : Counted W) (tally tally' : Tally) (octets left waiting : List ℕ) → 0 < p.tm_length
-      → IsListing contents p writer mid tally tally' octets left waiting → length left < p.tm_length → WritesText contents mid writer' waiting
+  pub lines_shown : (writer mid writer' : Counted W) (tally tally' : Tally) (octets left pending : List ℕ) → 0 < p.tm_length
+      → IsListing contents p writer mid tally tally' octets left pending → length left < p.tm_length → WritesText contents mid writer' pending
       → WritesText contents writer writer' (frame_lines (tm_format p) p.spacecraft tally.octets (frames_of p.tm_length octets))
-  lines_shown writer mid writer' tally tally' octets left waiting some s short w =
-      let all = all_shown writer mid tally tally' octets left waiting some s short in
+  lines_shown writer mid writer' tally tally' octets left pending some s short w =
+      let all = all_shown writer mid tally tally' octets left pending some s short in
       record {
         writes = subst (Appends (contents (stream_of writer)) (contents (stream_of writer'))) (s.lines ∙ ap (frame_lines (tm_format p) p.spacecraft tally.octets) (sym all))
-            (Appends-trans (contents (stream_of writer)) (contents (stream_of mid)) (contents (stream_of writer')) s.written waiting s.writes w.writes);
+            (Appends-trans (contents (stream_of writer)) (contents (stream_of mid)) (contents (stream_of writer')) s.written pending s.writes w.writes);
         no_fault = w.no_fault ∙ s.no_fault;
       }
 
-  pub counts_shown : (writer writer' : Counted W) (tally tally' : Tally) (octets left waiting : List ℕ) → 0 < p.tm_length
-      → IsListing contents p writer writer' tally tally' octets left waiting → length left < p.tm_length
+  pub counts_shown : (writer writer' : Counted W) (tally tally' : Tally) (octets left pending : List ℕ) → 0 < p.tm_length
+      → IsListing contents p writer writer' tally tally' octets left pending → length left < p.tm_length
       → AddsFrames (tm_format p) p.spacecraft tally tally' (frames_of p.tm_length octets)
-  counts_shown writer writer' tally tally' octets left waiting some s short =
-      subst (AddsFrames (tm_format p) p.spacecraft tally tally') (sym (all_shown writer writer' tally tally' octets left waiting some s short)) s.counted
+  counts_shown writer writer' tally tally' octets left pending some s short =
+      subst (AddsFrames (tm_format p) p.spacecraft tally tally') (sym (all_shown writer writer' tally tally' octets left pending some s short)) s.counted
 
   -- nothing yet
-  pub nothing_listed : (writer : Counted W) (tally : Tally) (octets waiting : List ℕ) → waiting ≡ [] → IsListing contents p writer writer tally tally octets octets waiting
-  nothing_listed writer tally octets waiting e = record {
+  pub nothing_listed : (writer : Counted W) (tally : Tally) (octets pending : List ℕ) → pending ≡ [] → IsListing contents p writer writer tally tally octets octets pending
+  nothing_listed writer tally octets pending e = record {
     shown = [];
     whole = tt;
     parts = refl;
@@ -227,7 +229,7 @@ pub record IsShown {R W : Type 0} (remaining : R → Option (List ℕ)) (content
   pub written : Writes contents writer writer' (frame_lines (tm_format p) p.spacecraft 0 (frames_of p.tm_length octets))
   pub inside : held ≤ length buffer
   pub held_are : take held buffer ≡ remainder_of p.tm_length octets
-  pub counted_octets : tally.octets ≡ length (joined (frames_of p.tm_length octets))
+  pub counted_octets : tally.octets ≡ length (concat (frames_of p.tm_length octets))
   pub counted_frames : tally.frames ≡ length (frames_of p.tm_length octets)
   pub counted_skipped : tally.skipped ≡ skipped_of (tm_format p) p.spacecraft (frames_of p.tm_length octets)
   pub short : held < p.tm_length
@@ -322,7 +324,7 @@ module _ {R W : Type 0} (remaining : R → Option (List ℕ)) (contents : W → 
         writer_kept = w.no_fault ∙ s.writer_kept;
       }
 
-  -- what stands in the buffer once more octets came behind the remainder
+  -- what stands in the buffer once more octets came after the remainder
   module _ (reader mid reader' : Counted R) (writer wmid writer' : Counted W) (tally : Tally) (buffer : List ℕ) (held n : ℕ) (part after chunk : List ℕ)
       (s : IsShown remaining contents p reader mid writer wmid tally buffer held) (fits : n ≤ length part) (came : Reads remaining mid reader' (take n part))
       (chunk_is : chunk ≡ take (held + n) (take held buffer ++ (part ++ after))) where
@@ -333,7 +335,7 @@ module _ {R W : Type 0} (remaining : R → Option (List ℕ)) (contents : W → 
         ≡ frame_lines (tm_format p) p.spacecraft 0 (frames_of p.tm_length (s.octets ++ take n part))
     lines_on =
         ap (λ k. frame_lines (tm_format p) p.spacecraft 0 (frames_of p.tm_length s.octets) ++ frame_lines (tm_format p) p.spacecraft k (frames_of p.tm_length chunk)) s.counted_octets
-        ∙ ap (λ l. frame_lines (tm_format p) p.spacecraft 0 (frames_of p.tm_length s.octets) ++ frame_lines (tm_format p) p.spacecraft (length (joined (frames_of p.tm_length s.octets))) (frames_of p.tm_length l)) chunk_parts
+        ∙ ap (λ l. frame_lines (tm_format p) p.spacecraft 0 (frames_of p.tm_length s.octets) ++ frame_lines (tm_format p) p.spacecraft (length (concat (frames_of p.tm_length s.octets))) (frames_of p.tm_length l)) chunk_parts
         ∙ lines-more p s.octets (take n part) some
 
     -- a fault of writing their lines
@@ -369,7 +371,7 @@ module _ {R W : Type 0} (remaining : R → Option (List ℕ)) (contents : W → 
               (Appends-trans (contents (stream_of writer)) (contents (stream_of wmid)) (contents (stream_of writer')) (frame_lines (tm_format p) p.spacecraft 0 (frames_of p.tm_length s.octets)) (frame_lines (tm_format p) p.spacecraft tally.octets (frames_of p.tm_length chunk)) s.written w.writes);
           inside = room;
           held_are = moved_is ∙ sym rest;
-          counted_octets = omega (arith, counts.octets, s.counted_octets, ap (λ f. length (joined f)) all, ap length (joined-append (frames_of p.tm_length s.octets) (frames_of p.tm_length chunk)), length-append (joined (frames_of p.tm_length s.octets)) (joined (frames_of p.tm_length chunk)));
+          counted_octets = omega (arith, counts.octets, s.counted_octets, ap (λ f. length (concat f)) all, ap length (concat-append (frames_of p.tm_length s.octets) (frames_of p.tm_length chunk)), length-append (concat (frames_of p.tm_length s.octets)) (concat (frames_of p.tm_length chunk)));
           counted_frames = omega (arith, counts.frames, s.counted_frames, ap length all, length-append (frames_of p.tm_length s.octets) (frames_of p.tm_length chunk));
           counted_skipped = omega (arith, counts.skipped, s.counted_skipped, ap (skipped_of (tm_format p) p.spacecraft) all, skipped_of-append (tm_format p) p.spacecraft (frames_of p.tm_length s.octets) (frames_of p.tm_length chunk));
           short = omega (arith, parts, mod_below (length chunk) p.tm_length some);

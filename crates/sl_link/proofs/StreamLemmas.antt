@@ -15,7 +15,7 @@ pub record IsWriting {W : Type 0} (contents : W → Option (List ℕ)) (old new 
   pub writes : Writes contents old new written
   pub no_fault : faults_of new ≡ faults_of old
 
--- what stands in front after n octets were read behind the first ones
+-- what stands in front after n octets were read after the first ones
 pub take_read : (at n : ℕ) (buffer part rest : List ℕ) → at ≤ length buffer → n ≤ length part → take (at + n) (take at buffer ++ (part ++ rest)) ≡ take at buffer ++ take n part
 take_read at n buffer part rest within fits =
     ap (λ k. take (k + n) (take at buffer ++ (part ++ rest))) (sym (length-take-le at buffer within))
@@ -42,21 +42,21 @@ take-moved from to xs moved ordered inside e =
     ∙ take_all (to - from) part (omega arith) ∙ sym (drop-take from (to - from) xs) ∙ ap (λ n. drop from (take n xs)) (sym same)
 
 -- nothing is written, and nothing more waits
-pub AddsText-nil : {W : Type 0} (contents : W → Option (List ℕ)) (writer : Counted W) (waiting : List ℕ) → AddsText contents writer writer waiting waiting []
-AddsText-nil contents writer waiting =
-    record { written = []; parts = append-nil waiting; writes = Appends-nil (contents (stream_of writer)); no_fault = refl }
+pub AddsText-nil : {W : Type 0} (contents : W → Option (List ℕ)) (writer : Counted W) (pending : List ℕ) → AddsText contents writer writer pending pending []
+AddsText-nil contents writer pending =
+    record { written = []; parts = append-nil pending; writes = Appends-nil (contents (stream_of writer)); no_fault = refl }
 
 -- all that waited is written
-pub AddsText-flushed : {W : Type 0} (contents : W → Option (List ℕ)) (old new : Counted W) (waiting waiting' : List ℕ) → WritesText contents old new waiting → waiting' ≡ [] → AddsText contents old new waiting waiting' []
-AddsText-flushed contents old new waiting waiting' w e =
-    record { written = waiting; parts = ap (λ l. waiting ++ l) (sym e); writes = w.writes; no_fault = w.no_fault }
+pub AddsText-flushed : {W : Type 0} (contents : W → Option (List ℕ)) (old new : Counted W) (pending pending' : List ℕ) → WritesText contents old new pending → pending' ≡ [] → AddsText contents old new pending pending' []
+AddsText-flushed contents old new pending pending' w e =
+    record { written = pending; parts = ap (λ l. pending ++ l) (sym e); writes = w.writes; no_fault = w.no_fault }
 
 -- a text more waits
-pub AddsText-more : {W : Type 0} (contents : W → Option (List ℕ)) (old new : Counted W) (waiting waiting' after text : List ℕ) → AddsText contents old new waiting waiting' [] → after ≡ waiting' ++ text → AddsText contents old new waiting after text
-AddsText-more contents old new waiting waiting' after text a e =
+pub AddsText-more : {W : Type 0} (contents : W → Option (List ℕ)) (old new : Counted W) (pending pending' after text : List ℕ) → AddsText contents old new pending pending' [] → after ≡ pending' ++ text → AddsText contents old new pending after text
+AddsText-more contents old new pending pending' after text a e =
     record {
       written = a.written;
-      parts = ap (λ l. l ++ text) (sym (append-nil waiting) ∙ a.parts) ∙ append_assoc a.written waiting' text ∙ ap (λ l. a.written ++ l) (sym e);
+      parts = ap (λ l. l ++ text) (sym (append-nil pending) ∙ a.parts) ∙ append_assoc a.written pending' text ∙ ap (λ l. a.written ++ l) (sym e);
       writes = a.writes;
       no_fault = a.no_fault;
     }

@@ -11,7 +11,7 @@ use Rattle.sl_link.specs.TmFrame.{TmFormat, TmView, DataField, header_of, class_
 abbrev pub plain : List ℕ → TmFormat
 plain x = record { len = length x; fecf = false }
 
--- the last four octets behind the header are where the operational control field lies
+-- the last four octets after the header are where the operational control field lies
 last_four : (x : List ℕ) → 10 ≤ length x → drop (length (drop 6 x) - 4) (drop 6 x) ≡ take 4 (drop (6 + (length x - 6 - 4 - 0)) x)
 last_four x long =
     let from : 6 + (length (drop 6 x) - 4) ≡ 6 + (length x - 6 - 4 - 0) = omega (arith, length-drop 6 x) in

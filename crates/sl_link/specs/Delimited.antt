@@ -1,14 +1,9 @@
 -- A recording of TM frames: frames of the managed length end to end, and a remainder shorter than one.
 use Rattle.std.specs.Prelude.{◌≡◌, ℕ, zero, suc, ◌*◌, ◌/◌, ◌<◌, List, [], ◌∷◌, ◌++◌, length, take, drop}
-use Rattle.std.specs.List.{AllByRecursion}
-
--- lists, one after another
-abbrev pub joined : List (List ℕ) → List ℕ
-joined [] = []
-joined (frame ∷ frames) = frame ++ joined frames
+use Rattle.std.specs.List.{AllByRecursion, concat}
 
 pub record IsDelimited (len : ℕ) (recording : List ℕ) (frames : List (List ℕ)) (remainder : List ℕ) : Type 0 where
-  pub end_to_end : recording ≡ joined frames ++ remainder
+  pub end_to_end : recording ≡ concat frames ++ remainder
   pub whole : AllByRecursion (λ frame. length frame ≡ len) frames
   pub short : length remainder < len
 

@@ -1,12 +1,12 @@
 -- What is counted while frames are shown.
 use Rattle.std.specs.Prelude.{◌≡◌, ℕ, ◌+◌, List, length}
+use Rattle.std.specs.List.{concat}
 use Rattle.sl_link.specs.declared.tally.Tally.{Tally}
-use Rattle.sl_link.specs.Delimited.{joined}
 use Rattle.sl_link.specs.ShowTm.{skipped_of}
 use Rattle.sl_link.specs.TmFrame.{TmFormat}
 
 -- these frames were counted
 pub record AddsFrames (format : TmFormat) (spacecraft : ℕ) (old new : Tally) (shown : List (List ℕ)) : Type 0 where
-  pub octets : new.octets ≡ old.octets + length (joined shown)
+  pub octets : new.octets ≡ old.octets + length (concat shown)
   pub frames : new.frames ≡ old.frames + length shown
   pub skipped : new.skipped ≡ old.skipped + skipped_of format spacecraft shown

@@ -1,5 +1,5 @@
 -- The TM transfer frame, CCSDS 132.0-B: its parts, why one is skipped, and what it carries.
-use Rattle.std.specs.Prelude.{◌≡◌, ℕ, ◌+◌, ◌-◌, ◌==◌, nat_lt, Bool, not, ◌&&◌, ◌||◌, if◌then◌else◌, List, ◌++◌, length, take, drop, Option, None, Some, Result, Ok, Err}
+use Rattle.std.specs.Prelude.{◌≡◌, ℕ, ◌+◌, ◌-◌, ◌≤◌, ◌==◌, nat_lt, Bool, not, ◌&&◌, ◌||◌, if◌then◌else◌, List, ◌++◌, length, take, drop, Option, None, Some, Result, Ok, Err}
 use Rattle.sl_fields.specs.Field.{number_of}
 use Rattle.sl_fields.specs.Fecf.{fecf_of}
 use Rattle.sl_fields.specs.TmHeader.{TmFields, tm_header}
@@ -124,3 +124,13 @@ read_as (Some reason) view = Err reason
 
 abbrev pub tm_frame : TmFormat → ℕ → List ℕ → Result TmView TmSkip
 tm_frame format spacecraft frame = read_as (skip_reason format spacecraft frame) (view_of format frame)
+
+-- ---- what the parts are
+
+-- octets of the format's length have these parts
+abbrev pub EachHasParts : Type 0
+EachHasParts = (format : TmFormat) (frame : List ℕ) → 12 ≤ format.len → length frame ≡ format.len → ArePartsOf format frame (parts_of format frame)
+
+-- and no others
+abbrev pub HasPartsOnce : Type 0
+HasPartsOnce = (format : TmFormat) (frame : List ℕ) (p : TmParts) → ArePartsOf format frame p → parts_of format frame ≡ p

@@ -108,7 +108,7 @@ impl<'a> TmFrame<'a> {
     }
 }
 
-// The primary header and the octets behind it.
+// The primary header and the octets after it.
 #[inline(always)]
 fn split_header(octets: &[u8]) -> (TmHeader, &[u8])
     requires { 6 ≤ length octets.now }
@@ -121,7 +121,7 @@ fn split_header(octets: &[u8]) -> (TmHeader, &[u8])
     }
 }
 
-// The data field and the operational control field of the octets behind the header.
+// The data field and the operational control field of the octets after the header.
 #[inline(always)]
 fn split_control<'a>(header: &TmHeader, behind: &'a [u8]) -> (&'a [u8], Option<[u8; 4]>)
     requires { 4 ≤ length behind.now }

@@ -53,7 +53,7 @@ impl Totals {
         self.skipped
     }
 
-    /// The octets of the remainder behind the last whole frame.
+    /// The octets of the remainder after the last whole frame.
     pub fn rest(&self) -> u64
         ensures value { result ≡ self.now.rest }
         ensures within { result ≤ self.now.octets }

@@ -2,6 +2,7 @@
 use Rattle.std.proofs.Common.{◌≡◌, true, false, [], ◌∷◌, refl}
 use Rattle.sl_fields.specs.TmHeader.{tm_header}
 use Rattle.sl_fields.specs.Clcw.{clcw_word}
+use Rattle.sl_fields.specs.PacketHeader.{packet_header}
 
 pub record AreHeaders : Type 0 where
   pub telemetry :
@@ -52,6 +53,58 @@ pub record AreHeaders : Type 0 where
         spare_end = false;
         report = 5;
       }
+  pub telemetry_packet :
+      packet_header (0x00 ∷ 0x01 ∷ 0xC0 ∷ 0x00 ∷ 0x00 ∷ 0x03 ∷ [])
+      ≡ record {
+        version = 0;
+        kind = 0;
+        secondary = false;
+        apid = 1;
+        flags = 3;
+        count = 0;
+        length = 3;
+      }
+  pub telecommand_packet :
+      packet_header (0x10 ∷ 0x01 ∷ 0xC0 ∷ 0x00 ∷ 0x00 ∷ 0x03 ∷ [])
+      ≡ record {
+        version = 0;
+        kind = 1;
+        secondary = false;
+        apid = 1;
+        flags = 3;
+        count = 0;
+        length = 3;
+      }
+  pub greatest_packet :
+      packet_header (0xFF ∷ 0xFF ∷ 0xFF ∷ 0xFF ∷ 0xFF ∷ 0xFF ∷ [])
+      ≡ record {
+        version = 7;
+        kind = 1;
+        secondary = true;
+        apid = 2047;
+        flags = 3;
+        count = 16383;
+        length = 65535;
+      }
+  pub mixed_packet :
+      packet_header (0x2B ∷ 0x05 ∷ 0x4D ∷ 0x2A ∷ 0x12 ∷ 0x34 ∷ [])
+      ≡ record {
+        version = 1;
+        kind = 0;
+        secondary = true;
+        apid = 773;
+        flags = 1;
+        count = 3370;
+        length = 4660;
+      }
 
 pub headers : AreHeaders
-headers = record { telemetry = refl; greatest = refl; control_word = refl }
+headers = record {
+  telemetry = refl;
+  greatest = refl;
+  control_word = refl;
+  telemetry_packet = refl;
+  telecommand_packet = refl;
+  greatest_packet = refl;
+  mixed_packet = refl;
+}

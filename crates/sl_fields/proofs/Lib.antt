@@ -2,6 +2,8 @@ pub mod ClcwLemmas
 pub mod FecfFacts
 pub mod Flags
 pub mod HeaderFacts
+pub mod HeaderLayout
 pub mod Octets
+pub mod PacketHeaderLemmas
 pub mod Packing
 pub mod TmHeaderLemmas

@@ -3,6 +3,7 @@
 -- and 232.0-B).
 use Rattle.std.specs.Prelude.{ℕ, ◌+◌, ◌-◌, ◌*◌, ◌/◌, ◌%◌, ◌^◌, ◌<◌, ◌==◌, Bool, true, false, List, [], ◌∷◌, length, All}
 use Rattle.std.specs.List.{AllByRecursion}
+use Rattle.byteorder.specs.Endian.{big_bytes}
 
 -- each is an octet
 abbrev pub IsOctets : List ℕ → Type 0
@@ -39,3 +40,7 @@ packed (f ∷ fields) = f.1 * 2 ^ width_of fields + packed fields
 -- each value fits the bits of its field
 abbrev pub FitWidths : List (ℕ × ℕ) → Type 0
 FitWidths = AllByRecursion (λ f. f.1 < 2 ^ f.0)
+
+-- so many octets, the most significant first, of the number in which the fields stand
+abbrev pub octets_of : ℕ → List (ℕ × ℕ) → List ℕ
+octets_of count fields = big_bytes count (packed fields)

@@ -1,6 +1,6 @@
 -- The primary header of a TM transfer frame, CCSDS 132.0-B: six octets.
-use Rattle.std.specs.Prelude.{ℕ, ◌^◌, ◌<◌, Bool, List}
-use Rattle.sl_fields.specs.Field.{field, flag}
+use Rattle.std.specs.Prelude.{ℕ, ◌^◌, ◌<◌, Bool, List, [], ◌∷◌}
+use Rattle.sl_fields.specs.Field.{bit_of, field, flag, octets_of}
 
 -- the fields of the header, in their order
 pub record TmFields : Type 0 where
@@ -42,3 +42,13 @@ tm_header octets =
       segment = field 6 35 2 octets;
       first = field 6 37 11 octets;
     }
+
+-- the fields with their widths
+abbrev pub tm_fields : TmFields → List (ℕ × ℕ)
+tm_fields h =
+    (2, h.version) ∷ (10, h.spacecraft) ∷ (3, h.vc) ∷ (1, bit_of h.control) ∷ (8, h.mc) ∷ (8, h.vcc)
+    ∷ (1, bit_of h.secondary) ∷ (1, bit_of h.sync) ∷ (1, bit_of h.order) ∷ (2, h.segment) ∷ (11, h.first) ∷ []
+
+-- the octets that are the header with these fields
+abbrev pub tm_octets : TmFields → List ℕ
+tm_octets h = octets_of 6 (tm_fields h)

@@ -1,4 +1,5 @@
-//! The headers of CCSDS telemetry and telecommand links, each as its fields and as its octets.
+//! The headers of CCSDS telemetry and telecommand links and of space packets, each as its fields and
+//! as its octets.
 //!
 //! A header is its fields and nothing else: all bits are fields, those without a meaning included, so
 //! what [`write`](TmHeader::write) gives for what [`read`](TmHeader::read) took are the same octets.
@@ -6,9 +7,11 @@
 
 mod bits;
 mod clcw;
+mod packet_header;
 mod tm_header;
 
 pub use clcw::Clcw;
+pub use packet_header::PacketHeader;
 pub use tm_header::TmHeader;
 
 #[cfg(test)]

@@ -1,5 +1,5 @@
 //! Headers of known octets: the fields were worked out by hand from the tables of bits.
-use crate::{Clcw, TmHeader};
+use crate::{Clcw, PacketHeader, TmHeader};
 use std::test::Fail;
 
 #[test]
@@ -160,6 +160,68 @@ fn no_clcw_of_a_field_beyond_its_bits(rt: HostRuntime) {
             word, version, status, cop, vc, spare, false, false, false, false, false, farm_b,
             false, 0,
         );
+        assert_eq!(rt; made, None);
+    }
+}
+
+#[test]
+fn packet_headers_of_known_octets(rt: HostRuntime) {
+    for (octets, (version, kind, secondary, apid), (flags, count), length) in [
+        (
+            [0x00, 0x01, 0xC0, 0x00, 0x00, 0x03],
+            (0, 0, false, 1),
+            (3, 0),
+            3,
+        ),
+        (
+            [0x17, 0xFF, 0xC0, 0x00, 0x00, 0x09],
+            (0, 1, false, 2047),
+            (3, 0),
+            9,
+        ),
+        (
+            [0x2B, 0x05, 0x4D, 0x2A, 0x12, 0x34],
+            (1, 0, true, 773),
+            (1, 3370),
+            4660,
+        ),
+        (
+            [0xD4, 0xFA, 0xB2, 0xD5, 0xED, 0xCB],
+            (6, 1, false, 1274),
+            (2, 13013),
+            60875,
+        ),
+        (
+            [0xFF, 0xFF, 0xFF, 0xFF, 0xFF, 0xFF],
+            (7, 1, true, 2047),
+            (3, 16383),
+            65535,
+        ),
+    ] {
+        let header = PacketHeader::read(&octets);
+        assert_eq!(rt; header.version(), version, "at {octets:?}");
+        assert_eq!(rt; header.kind(), kind, "at {octets:?}");
+        assert_eq!(rt; header.secondary(), secondary, "at {octets:?}");
+        assert_eq!(rt; header.apid(), apid, "at {octets:?}");
+        assert_eq!(rt; header.flags(), flags, "at {octets:?}");
+        assert_eq!(rt; header.count(), count, "at {octets:?}");
+        assert_eq!(rt; header.length(), length, "at {octets:?}");
+        assert_eq!(rt; header.write(), octets);
+        let made = PacketHeader::new(version, kind, secondary, apid, flags, count, length);
+        assert_eq!(rt; made, Some(header));
+    }
+}
+
+#[test]
+fn no_packet_header_of_a_field_beyond_its_bits(rt: HostRuntime) {
+    for (version, kind, apid, flags, count) in [
+        (8, 0, 0, 0, 0),
+        (0, 2, 0, 0, 0),
+        (0, 0, 2048, 0, 0),
+        (0, 0, 0, 4, 0),
+        (0, 0, 0, 0, 16384),
+    ] {
+        let made = PacketHeader::new(version, kind, false, apid, flags, count, 0);
         assert_eq!(rt; made, None);
     }
 }

@@ -1,7 +1,7 @@
 //! The primary header of a TM transfer frame.
 ghost use Rattle.std.specs.Prelude.{◌≡◌, ℕ, ◌^◌, ◌<◌, List, length, SomeIff};
 ghost use Rattle.sl_fields.specs.Field.{IsOctets};
-ghost use Rattle.sl_fields.specs.TmHeader.{TmFields, tm_header, FitsTmHeader};
+ghost use Rattle.sl_fields.specs.TmHeader.{TmFields, tm_header, FitsTmHeader, tm_octets};
 
 use crate::bits::{field, flag, pack};
 use byteorder::{BigEndian, ByteOrder};
@@ -195,6 +195,7 @@ impl TmHeader {
         ensures reads_back { tm_header result ≡ self.now }
         // and no others do.
         ensures only { (octets : List ℕ) → length octets ≡ 6 → IsOctets octets → tm_header octets ≡ self.now → octets ≡ result }
+        ensures octets { result ≡ tm_octets self.now }
     {
         let number = pack(&[
             (2, self.version as u64),

@@ -1,0 +1,164 @@
+//! The primary header of a space packet.
+ghost use Rattle.std.specs.Prelude.{◌≡◌, ℕ, ◌^◌, ◌<◌, List, length, SomeIff};
+ghost use Rattle.sl_fields.specs.Field.{IsOctets};
+ghost use Rattle.sl_fields.specs.PacketHeader.{PacketFields, packet_header, FitsPacketHeader, packet_octets};
+
+use crate::bits::{field, flag, pack};
+use byteorder::{BigEndian, ByteOrder};
+use std::marker::Model;
+
+/// The space packet primary header of CCSDS 133.0-B, six octets.
+#[derive(Clone, Copy, Debug, PartialEq, Eq)]
+pub struct PacketHeader {
+    version: u8,
+    kind: u8,
+    secondary: bool,
+    apid: u16,
+    flags: u8,
+    count: u16,
+    length: u16,
+}
+
+impl Model for PacketHeader {
+    ghost use Rattle.sl_fields.specs.PacketHeader.{PacketFields};
+
+    ghost Value = { PacketFields };
+
+    ghost use Rattle.sl_fields.specs.PacketHeaderModel.{fields_of, inside_of, IsPacketHeader};
+
+    ghost view = { fields_of };
+
+    ghost invariant = { IsPacketHeader };
+
+    ghost inverse = { inside_of };
+}
+
+impl PacketHeader {
+    /// The header with these fields, `None` exactly where one is out of the range of its bits:
+    /// `version` 0 to 7, `kind` 0 or 1, `apid` 0 to 2047, `flags` 0 to 3, `count` 0 to 16383.
+    pub fn new(
+        version: u8,
+        kind: u8,
+        secondary: bool,
+        apid: u16,
+        flags: u8,
+        count: u16,
+        length: u16,
+    ) -> Option<PacketHeader>
+        ensures { let fields : PacketFields = record {
+          version = version;
+          kind = kind;
+          secondary = secondary;
+          apid = apid;
+          flags = flags;
+          count = count;
+          length = length;
+        } in SomeIff result (FitsPacketHeader fields) fields }
+    {
+        let fits = version < 8 && kind < 2 && apid < 2048 && flags < 4 && count < 16384;
+        if !fits {
+            return None;
+        }
+        Some(PacketHeader {
+            version,
+            kind,
+            secondary,
+            apid,
+            flags,
+            count,
+            length,
+        })
+    }
+
+    /// The header that the octets are.
+    pub fn read(octets: &[u8; 6]) -> PacketHeader
+        ensures { result ≡ packet_header octets.now }
+    {
+        let number = BigEndian::read_u48(octets);
+        PacketHeader {
+            version: field(number, 45, 3) as u8,
+            kind: field(number, 44, 1) as u8,
+            secondary: flag(number, 43),
+            apid: field(number, 32, 11) as u16,
+            flags: field(number, 30, 2) as u8,
+            count: field(number, 16, 14) as u16,
+            length: field(number, 0, 16) as u16,
+        }
+    }
+
+    /// Packet version number, 0 for a space packet.
+    pub fn version(&self) -> u8
+        ensures value { result ≡ self.now.version }
+        ensures fits { result < 2 ^ 3 }
+    {
+        self.version
+    }
+
+    /// Packet type, 0 for telemetry, 1 for telecommand.
+    pub fn kind(&self) -> u8
+        ensures value { result ≡ self.now.kind }
+        ensures fits { result < 2 ^ 1 }
+    {
+        self.kind
+    }
+
+    /// Secondary header flag: the packet data field begins with a secondary header.
+    pub fn secondary(&self) -> bool
+        ensures { result ≡ self.now.secondary }
+    {
+        self.secondary
+    }
+
+    /// Application process identifier (APID), 0 to 2047: 2047 for an idle packet.
+    pub fn apid(&self) -> u16
+        ensures value { result ≡ self.now.apid }
+        ensures fits { result < 2 ^ 11 }
+    {
+        self.apid
+    }
+
+    /// Sequence flags: 1 first, 0 continuing, 2 last, 3 unsegmented.
+    pub fn flags(&self) -> u8
+        ensures value { result ≡ self.now.flags }
+        ensures fits { result < 2 ^ 2 }
+    {
+        self.flags
+    }
+
+    /// Packet sequence count or packet name, 0 to 16383.
+    pub fn count(&self) -> u16
+        ensures value { result ≡ self.now.count }
+        ensures fits { result < 2 ^ 14 }
+    {
+        self.count
+    }
+
+    /// Packet data length: the octets after the header, minus 1.
+    pub fn length(&self) -> u16
+        ensures { result ≡ self.now.length }
+    {
+        self.length
+    }
+
+    /// The six octets of the header.
+    pub fn write(&self) -> [u8; 6]
+        // They read as this header,
+        ensures reads_back { packet_header result ≡ self.now }
+        // and no others do.
+        ensures only { (octets : List ℕ) → length octets ≡ 6 → IsOctets octets → packet_header octets ≡ self.now → octets ≡ result }
+        ensures octets { result ≡ packet_octets self.now }
+    {
+        let number = pack(&[
+            (3, self.version as u64),
+            (1, self.kind as u64),
+            (1, self.secondary as u64),
+            (11, self.apid as u64),
+            (2, self.flags as u64),
+            (14, self.count as u64),
+            (16, self.length as u64),
+        ]);
+        let mut octets = [0; 6];
+        BigEndian::write_uint(&mut octets, number, 6);
+        octets
+    }
+}

@@ -6,7 +6,7 @@ use Rattle.std.proofs.lemmas.List.Elements.{All-head, All-tail, All-nil, All-con
 use Rattle.std.specs.Int.{byte_at}
 use Rattle.byteorder.specs.Endian.{big_from, big_bytes}
 use Rattle.byteorder.specs.Numbers.{big_from-cons, big_number-reads_back, length-bytes_high_first}
-use Rattle.sl_fields.specs.Field.{IsOctets, number_of}
+use Rattle.sl_fields.specs.Field.{IsOctets, number_of, octets_of, packed}
 
 -- the number as `byteorder` reads it
 pub number_of-big : (octets : List ℕ) → number_of octets ≡ big_from 0 (length octets) octets
@@ -49,3 +49,7 @@ pub octets-bytes : (k n : ℕ) → IsOctets (big_bytes k n)
 octets-bytes zero n = All-nil (λ octet. octet < 256)
 octets-bytes (suc k) n =
     All-cons (λ octet. octet < 256) (byte_at k n) (big_bytes k n) (byte_at_lt k n) (octets-bytes k n)
+
+-- fields packed into so many octets
+pub length-octets_of : (count : ℕ) (fields : List (ℕ × ℕ)) → length (octets_of count fields) ≡ count
+length-octets_of count fields = length-bytes_high_first count (packed fields)

@@ -1,0 +1,187 @@
+-- While packets are handed over.
+use Rattle.std.proofs.Common.{◌≡◌, ℕ, ◌+◌, ◌-◌, ◌≤◌, true, false, not, cond, List, [], ◌∷◌, ◌++◌, length, take, drop, Some, None, refl, sym, ◌∙◌, ap, subst, arith, length-append, length-drop, append-nil, append_assoc}
+use Rattle.std.proofs.lemmas.List.Elements.{filter-append}
+use Rattle.std.proofs.lemmas.List.{length-take-le, take_rest}
+use Rattle.sl_packet.specs.Packet.{IsPacket, is_idle_packet}
+use Rattle.sl_packet.specs.Front.{Front, Foreign, Incomplete, Whole, front, packet_at, first_packet_of}
+use Rattle.sl_packet.specs.Packets.{packets_of, rest_of, without_idle, only_idle}
+use Rattle.sl_packet.specs.Sink.{TakesAll, StopsTaking}
+use Rattle.sl_packet.specs.declared.sink.SinkFault.{SinkFault}
+use Rattle.sl_packet.proofs.PacketLemmas.{packet_least}
+use Rattle.sl_packet.proofs.FrontLemmas.{whole_is_a_packet, whole_front}
+use Rattle.sl_packet.proofs.PacketsLemmas.{packets_of-whole, rest_of-whole, packets_of-none, rest_of-none}
+
+-- what is found at the front
+pub record IsFirst (octets packet : List ℕ) : Type 0 where
+  pub is : IsPacket packet
+  pub packets : packets_of octets ≡ packet ∷ packets_of (drop (length packet) octets)
+  pub rest : rest_of octets ≡ rest_of (drop (length packet) octets)
+  pub inside : length packet ≤ length octets
+
+first_at : (f : Front) (octets packet : List ℕ) → f ≡ front octets → packet_at f octets ≡ Some packet → (len : ℕ) × (front octets ≡ Whole len) × (packet ≡ take len octets)
+first_at Foreign octets packet e h = absurd (cc)
+first_at Incomplete octets packet e h = absurd (cc)
+first_at (Whole len) octets packet e h = (len, sym e, (cc))
+
+pub is_first : (octets packet : List ℕ) → first_packet_of octets ≡ Some packet → IsFirst octets packet
+is_first octets packet h =
+    let (len, whole, same) = first_at (front octets) octets packet refl h in
+    let front_is = whole_front octets len whole in
+    let long : length packet ≡ len = ap length same ∙ length-take-le len octets front_is.inside in
+    let inside = front_is.inside in
+    record {
+      is = let P : List ℕ → Type 0 = IsPacket in subst P (sym same) (whole_is_a_packet octets len whole).0;
+      packets = packets_of-whole octets len whole ∙ ap (λ xs. xs ∷ packets_of (drop len octets)) (sym same) ∙ ap (λ n. packet ∷ packets_of (drop n octets)) (sym long);
+      rest = rest_of-whole octets len whole ∙ ap (λ n. rest_of (drop n octets)) (sym long);
+      inside = omega arith;
+    }
+
+none_at_front : (f : Front) (octets : List ℕ) → packet_at f octets ≡ None → (len : ℕ) → f ≡ Whole len → ⊥
+none_at_front Foreign octets h len e = cc
+none_at_front Incomplete octets h len e = cc
+none_at_front (Whole n) octets h len e = cc
+
+pub none_first : (octets : List ℕ) → first_packet_of octets ≡ None → packets_of octets ≡ []
+none_first octets h = packets_of-none octets (none_at_front (front octets) octets h)
+
+-- ---- what is due and what is idle
+
+without_idle-idle : (done : List (List ℕ)) (packet : List ℕ) → is_idle_packet packet ≡ true → without_idle (done ++ packet ∷ []) ≡ without_idle done
+without_idle-idle done packet h =
+    filter-append (λ p. not (is_idle_packet p)) done (packet ∷ []) ∙ ap (λ b. without_idle done ++ cond (not b) (packet ∷ []) []) h ∙ append-nil (without_idle done)
+
+without_idle-due : (done : List (List ℕ)) (packet : List ℕ) (later : List (List ℕ)) → is_idle_packet packet ≡ false → without_idle (done ++ packet ∷ later) ≡ without_idle done ++ packet ∷ without_idle later
+without_idle-due done packet later h =
+    filter-append (λ p. not (is_idle_packet p)) done (packet ∷ later) ∙ ap (λ b. without_idle done ++ cond (not b) (packet ∷ without_idle later) (without_idle later)) h
+
+only_idle-idle : (done : List (List ℕ)) (packet : List ℕ) → is_idle_packet packet ≡ true → only_idle (done ++ packet ∷ []) ≡ only_idle done ++ packet ∷ []
+only_idle-idle done packet h = filter-append is_idle_packet done (packet ∷ []) ∙ ap (λ b. only_idle done ++ cond b (packet ∷ []) []) h
+
+only_idle-due : (done : List (List ℕ)) (packet : List ℕ) → is_idle_packet packet ≡ false → only_idle (done ++ packet ∷ []) ≡ only_idle done
+only_idle-due done packet h = filter-append is_idle_packet done (packet ∷ []) ∙ ap (λ b. only_idle done ++ cond b (packet ∷ []) []) h ∙ append-nil (only_idle done)
+
+-- ---- the steps
+
+module _ {S : Type 0} (taking : S → ℕ → List ℕ → S → Type 0) where
+  pub TakesAll-push : (packets : List (List ℕ)) (old mid new : S) (channel : ℕ) (packet : List ℕ) → TakesAll taking old channel packets mid → taking mid channel packet new → TakesAll taking old channel (packets ++ packet ∷ []) new
+  TakesAll-push [] old mid new channel packet all one =
+      let P : S → Type 0 = λ s. taking s channel packet new in
+      (new, subst P all one, refl)
+  TakesAll-push (p ∷ packets) old mid new channel packet all one = (all.0, all.1, TakesAll-push packets all.0 mid new channel packet all.2 one)
+
+  -- some of the packets of the octets are handed over, and these octets are left
+  pub record HasHanded (failures : S → ℕ) (old : S) (channel : ℕ) (octets left : List ℕ) (new : S) (packets idle : ℕ) : Type 0 where
+    pub done : List (List ℕ)
+    pub in_order : packets_of octets ≡ done ++ packets_of left
+    pub rest : rest_of octets ≡ rest_of left
+    pub takes : TakesAll taking old channel (without_idle done) new
+    pub kept : failures new ≡ failures old
+    pub due_count : packets ≡ length (without_idle done)
+    pub idle_count : idle ≡ length (only_idle done)
+    pub room : packets + idle + length left ≤ length octets
+
+  -- all of them are
+  pub record HasHandedAll (old : S) (channel : ℕ) (octets left : List ℕ) (new : S) (due_count idle_count : ℕ) : Type 0 where
+    pub accepted : TakesAll taking old channel (without_idle (packets_of octets)) new
+    pub packets : due_count ≡ length (without_idle (packets_of octets))
+    pub idle : idle_count ≡ length (only_idle (packets_of octets))
+    pub rest : left ≡ rest_of octets
+
+  module _ (failures : S → ℕ) (old : S) (channel : ℕ) (octets : List ℕ) where
+    pub handed_none : HasHanded failures old channel octets octets old 0 0
+    handed_none = record {
+      done = [];
+      in_order = refl;
+      rest = refl;
+      takes = refl;
+      kept = refl;
+      due_count = refl;
+      idle_count = refl;
+      room = omega arith;
+    }
+
+    -- the octets that are left as the code takes them, with what is equal to the counts
+    pub handed_at : (left joined : List ℕ) (n : ℕ) (new last : S) (packets packets' idle idle' : ℕ) → joined ≡ left → last ≡ new → packets' ≡ packets → idle' ≡ idle → HasHanded failures old channel octets (drop n left) new packets idle → HasHanded failures old channel octets (take (length joined - n) (drop n joined)) last packets' idle'
+    handed_at left joined n new last packets packets' idle idle' same_left same_sink same_packets same_idle handed =
+        rw (same_left, same_sink, same_packets, same_idle, take_rest left n) handed
+
+    module _ (left : List ℕ) (mid : S) (packets idle : ℕ) (handed : HasHanded failures old channel octets left mid packets idle) where
+      next_in_order : (packet : List ℕ) → IsFirst left packet → packets_of octets ≡ (handed.done ++ packet ∷ []) ++ packets_of (drop (length packet) left)
+      next_in_order packet first =
+          handed.in_order ∙ ap (λ xs. handed.done ++ xs) first.packets
+          ∙ sym (append_assoc handed.done (packet ∷ []) (packets_of (drop (length packet) left)))
+
+      pub handed_idle : (packet : List ℕ) → first_packet_of left ≡ Some packet → is_idle_packet packet ≡ true → HasHanded failures old channel octets (drop (length packet) left) mid packets (idle + 1)
+      handed_idle packet h is_idle =
+          let first = is_first left packet h in
+          let inside = first.inside in
+          let least = packet_least packet first.is in
+          let room = handed.room in
+          let count = handed.idle_count in
+          let P : List (List ℕ) → Type 0 = λ due. TakesAll taking old channel due mid in
+          record {
+            done = handed.done ++ packet ∷ [];
+            in_order = next_in_order packet first;
+            rest = handed.rest ∙ first.rest;
+            takes = subst P (sym (without_idle-idle handed.done packet is_idle)) handed.takes;
+            kept = handed.kept;
+            due_count = handed.due_count ∙ ap length (sym (without_idle-idle handed.done packet is_idle));
+            idle_count = omega (arith, ap length (only_idle-idle handed.done packet is_idle), length-append (only_idle handed.done) (packet ∷ []));
+            room = omega (arith, length-drop (length packet) left);
+          }
+
+      pub handed_due : (packet : List ℕ) (new : S) → first_packet_of left ≡ Some packet → is_idle_packet packet ≡ false → taking mid channel packet new → failures new ≡ failures mid → HasHanded failures old channel octets (drop (length packet) left) new (packets + 1) idle
+      handed_due packet new h is_due took same =
+          let first = is_first left packet h in
+          let inside = first.inside in
+          let least = packet_least packet first.is in
+          let room = handed.room in
+          let count = handed.due_count in
+          let P : List (List ℕ) → Type 0 = λ due. TakesAll taking old channel due new in
+          record {
+            done = handed.done ++ packet ∷ [];
+            in_order = next_in_order packet first;
+            rest = handed.rest ∙ first.rest;
+            takes = subst P (sym (without_idle-due handed.done packet [] is_due)) (TakesAll-push (without_idle handed.done) old mid new channel packet handed.takes took);
+            kept = same ∙ handed.kept;
+            due_count = omega (arith, ap length (without_idle-due handed.done packet [] is_due), length-append (without_idle handed.done) (packet ∷ []));
+            idle_count = handed.idle_count ∙ ap length (sym (only_idle-due handed.done packet is_due));
+            room = omega (arith, length-drop (length packet) left);
+          }
+
+      -- there is room for one more in the counts
+      pub handed_room : (packet : List ℕ) → first_packet_of left ≡ Some packet → packets + idle + 7 ≤ length octets
+      handed_room packet h =
+          let first = is_first left packet h in
+          let inside = first.inside in
+          let least = packet_least packet first.is in
+          let room = handed.room in
+          omega arith
+
+      pub stops_taking : (failing : S → ℕ → List ℕ → SinkFault → S → Type 0) (packet : List ℕ) (new : S) (fault : SinkFault) → first_packet_of left ≡ Some packet → is_idle_packet packet ≡ false → failing mid channel packet fault new → StopsTaking taking failing old channel (without_idle (packets_of octets)) fault new
+      stops_taking failing packet new fault h is_due failed =
+          let first = is_first left packet h in
+          record {
+            accepted = without_idle handed.done;
+            refused = packet;
+            later = without_idle (packets_of (drop (length packet) left));
+            in_order =
+                ap without_idle (handed.in_order ∙ ap (λ xs. handed.done ++ xs) first.packets)
+                ∙ without_idle-due handed.done packet (packets_of (drop (length packet) left)) is_due;
+            before = mid;
+            takes = handed.takes;
+            fails = failed;
+          }
+
+      -- where no packet is left, all are handed over
+      pub handed_all : first_packet_of left ≡ None → HasHandedAll old channel octets left mid packets idle
+      handed_all h =
+          let none = none_at_front (front left) left h in
+          let all = handed.in_order ∙ ap (λ xs. handed.done ++ xs) (packets_of-none left none) ∙ append-nil handed.done in
+          let P : List (List ℕ) → Type 0 = λ packets. TakesAll taking old channel (without_idle packets) mid in
+          record {
+            accepted = subst P (sym all) handed.takes;
+            packets = handed.due_count ∙ ap (λ xs. length (without_idle xs)) (sym all);
+            idle = handed.idle_count ∙ ap (λ xs. length (only_idle xs)) (sym all);
+            rest = sym (handed.rest ∙ rest_of-none left none);
+          }

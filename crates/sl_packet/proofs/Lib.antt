@@ -1,0 +1,10 @@
+pub mod DeliveredLemmas
+pub mod Filling
+pub mod FrontLemmas
+pub mod HandOver
+pub mod IdlePacketLemmas
+pub mod KeptLemmas
+pub mod PacketFacts
+pub mod PacketLemmas
+pub mod PacketsLemmas
+pub mod PaddedLemmas

@@ -1,0 +1,46 @@
+-- Delivered packets: a list for each channel, and how often one was refused.
+use Rattle.std.specs.Prelude.{◌≡◌, ◌≢◌, ℕ, ◌<◌, ◌≤◌, List, [], ◌∷◌, ◌++◌, replicate, false}
+use Rattle.std.specs.List.{slice_index_or, slice_set}
+use Rattle.sl_packet.specs.Packet.{IsPacket, is_idle_packet}
+
+-- the channels, 0 to 4095
+abbrev pub channel_count : ℕ
+channel_count = 4096
+
+pub record PacketLists : Type 0 where
+  -- a list of packets for each channel
+  pub lists : List (List (List ℕ))
+  pub failures : ℕ
+
+-- the packets of a channel
+abbrev pub list_at : PacketLists → ℕ → List (List ℕ)
+list_at d channel = slice_index_or d.lists channel []
+
+-- the lists with a packet added to that of a channel
+abbrev pub with_packet : List (List (List ℕ)) → ℕ → List ℕ → List (List (List ℕ))
+with_packet lists channel packet = slice_set lists channel (slice_index_or lists channel [] ++ packet ∷ [])
+
+-- a packet was added to the list of its channel, and the others were left
+pub record AddsPacket (old : PacketLists) (channel : ℕ) (packet : List ℕ) (new : PacketLists) : Type 0 where
+  pub lists : new.lists ≡ with_packet old.lists channel packet
+  pub added : list_at new channel ≡ list_at old channel ++ packet ∷ []
+  pub others : (other : ℕ) → other ≢ channel → list_at new other ≡ list_at old other
+
+-- the lists of a store that has none yet
+unfoldable pub no_lists : List (List (List ℕ))
+no_lists = replicate channel_count []
+
+-- a packet that may be delivered
+abbrev pub IsDeliverable : List ℕ → Type 0
+IsDeliverable packet = IsPacket packet × (is_idle_packet packet ≡ false)
+
+-- no channel from one on up to another has packets
+abbrev pub HasNone : PacketLists → ℕ → ℕ → Type 0
+HasNone d from to = (channel : ℕ) → from ≤ channel → channel < to → list_at d channel ≡ []
+
+-- the least channel from one on that has packets
+pub record IsLeast (d : PacketLists) (from channel : ℕ) : Type 0 where
+  pub after : from ≤ channel
+  pub inside : channel < channel_count
+  pub some : list_at d channel ≢ []
+  pub least : HasNone d from channel

@@ -1,0 +1,42 @@
+-- The space packet, CCSDS 133.0-B: what one is, and whether it is idle.
+use Rattle.std.specs.Prelude.{◌≡◌, ℕ, ◌+◌, ◌≤◌, ◌==◌, ◌&&◌, nat_lt, Bool, List, [], ◌++◌, length, take}
+use Rattle.sl_fields.specs.Field.{IsOctets, field}
+use Rattle.sl_fields.specs.PacketHeader.{packet_header}
+
+-- the packet version number, which stands in the first octet
+abbrev pub version_of : List ℕ → ℕ
+version_of octets = field 1 0 3 (take 1 octets)
+
+-- the application process identifier, which stands in the first two octets
+abbrev pub apid_of : List ℕ → ℕ
+apid_of octets = field 2 5 11 (take 2 octets)
+
+-- the octets of a packet with this header: six of the header, and one more than the packet data length says
+abbrev pub stated_len : List ℕ → ℕ
+stated_len octets = 7 + (packet_header (take 6 octets)).length
+
+-- A space packet has version 0 and as many octets as its header states.
+pub record IsPacket (packet : List ℕ) : Type 0 where
+  pub version : version_of packet ≡ 0
+  pub len : length packet ≡ stated_len packet
+
+-- Octets, two or more, are of an idle packet where the APID is 2047. No other field decides this.
+abbrev pub is_idle_packet : List ℕ → Bool
+is_idle_packet octets = nat_lt 1 (length octets) && (apid_of octets == 2047)
+
+-- ---- laws
+
+-- no packet is a proper prefix of another
+abbrev pub PacketsArePrefixFree : Type 0
+PacketsArePrefixFree = (packet more : List ℕ) → IsPacket packet → IsPacket (packet ++ more) → more ≡ []
+
+-- at most one packet is a prefix of given octets
+abbrev pub OnePacketIsPrefix : Type 0
+OnePacketIsPrefix =
+    (p q p' q' : List ℕ) → IsPacket p → IsPacket q → p ++ p' ≡ q ++ q' → p ≡ q
+
+-- the version and the APID are fields of the primary header
+abbrev pub HeaderFieldsStandFirst : Type 0
+HeaderFieldsStandFirst =
+    (octets : List ℕ) → IsOctets octets → 6 ≤ length octets
+    → (version_of octets ≡ (packet_header (take 6 octets)).version) × (apid_of octets ≡ (packet_header (take 6 octets)).apid)

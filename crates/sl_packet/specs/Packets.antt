@@ -1,0 +1,57 @@
+-- The packets that lie end to end at the front of octets.
+use Rattle.std.specs.Prelude.{◌≡◌, ℕ, zero, suc, ◌-◌, not, List, [], ◌∷◌, ◌++◌, length, take, drop}
+use Rattle.std.specs.List.{AllByRecursion, concat, filter}
+use Rattle.sl_packet.specs.Packet.{IsPacket, is_idle_packet}
+use Rattle.sl_packet.specs.Front.{Front, Foreign, Incomplete, Whole, front}
+
+-- the packet of a front, as a list of one or of none
+abbrev pub whole_at : Front → List ℕ → List (List ℕ)
+whole_at Foreign octets = []
+whole_at Incomplete octets = []
+whole_at (Whole len) octets = take len octets ∷ []
+
+-- how many of the later octets are passed over: those of the packet, or all
+abbrev pub passed_at : Front → List ℕ → ℕ
+passed_at Foreign octets = length octets
+passed_at Incomplete octets = length octets
+passed_at (Whole len) octets = len - 1
+
+-- the packets from the front on, after so many octets that belong to the packet before
+abbrev pub packets_from : ℕ → List ℕ → List (List ℕ)
+packets_from skip [] = []
+packets_from (suc skip) (octet ∷ octets) = packets_from skip octets
+packets_from zero (octet ∷ octets) =
+    whole_at (front (octet ∷ octets)) (octet ∷ octets) ++ packets_from (passed_at (front (octet ∷ octets)) (octet ∷ octets)) octets
+
+abbrev pub packets_of : List ℕ → List (List ℕ)
+packets_of octets = packets_from 0 octets
+
+-- what is left of the octets after their packets
+abbrev pub rest_of : List ℕ → List ℕ
+rest_of octets = drop (length (concat (packets_of octets))) octets
+
+-- those that are idle
+abbrev pub only_idle : List (List ℕ) → List (List ℕ)
+only_idle packets = filter is_idle_packet packets
+
+-- those that are not
+abbrev pub without_idle : List (List ℕ) → List (List ℕ)
+without_idle packets = filter (λ packet. not (is_idle_packet packet)) packets
+
+-- ---- what they are
+
+-- the longest list of packets that lie end to end at the front of the octets, and the octets that are left
+pub record ArePacketsOf (octets : List ℕ) (packets : List (List ℕ)) (rest : List ℕ) : Type 0 where
+  pub end_to_end : octets ≡ concat packets ++ rest
+  pub each : AllByRecursion IsPacket packets
+  pub no_more : (packet more : List ℕ) → IsPacket packet → rest ≡ packet ++ more → ⊥
+
+-- these are the packets and what is left,
+abbrev pub EachHasPackets : Type 0
+EachHasPackets = (octets : List ℕ) → ArePacketsOf octets (packets_of octets) (rest_of octets)
+
+-- and no others
+abbrev pub HasPacketsOnce : Type 0
+HasPacketsOnce =
+    (octets : List ℕ) (packets : List (List ℕ)) (rest : List ℕ) → ArePacketsOf octets packets rest
+    → (packets_of octets ≡ packets) × (rest_of octets ≡ rest)

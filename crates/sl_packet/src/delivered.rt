@@ -1,0 +1,121 @@
+//! Delivered packets, kept.
+ghost use Rattle.std.specs.Prelude.{◌≡◌, ◌≤◌, ◌<◌, ◌≢◌, ◌+◌, max, ℕ, [], map, length, IfSome, IfNone, OnOk, OnErr};
+ghost use Rattle.std.specs.List.{AllByRecursion};
+ghost use Rattle.std.specs.Vec.{vec_items, vec_len};
+ghost use Rattle.sl_packet.specs.Delivered.{AddsPacket, list_at, with_packet, no_lists, HasNone, IsLeast, IsDeliverable, channel_count};
+ghost use Rattle.sl_packet.specs.KeptLists.{lists_in, with_empty_lists, IsGrown};
+
+use crate::sink::{PacketSink, SinkFault};
+use std::alloc::{AllocError, Global};
+use std::marker::Model;
+
+/// The packets that were delivered on each channel from 0 to 4095, in order. None of them is idle.
+#[derive(Debug, Drop)]
+pub struct Delivered {
+    alloc: Global,
+    lists: Vec<Vec<Vec<u8>>>,
+    failures: u64,
+}
+
+impl Model for Delivered {
+    ghost use Rattle.sl_packet.specs.Delivered.{PacketLists};
+
+    ghost Value = { PacketLists };
+
+    ghost use Rattle.sl_packet.specs.DeliveredModel.{packet_lists_of, IsDelivered};
+
+    ghost view = { packet_lists_of };
+
+    ghost invariant = { IsDelivered };
+}
+
+impl Delivered {
+    /// No packet on any channel. It takes memory only as packets come.
+    pub fn new(alloc: Global) -> Delivered
+        ensures lists { result.lists ≡ no_lists }
+        ensures failures { result.failures ≡ 0 }
+    {
+        Delivered {
+            alloc,
+            lists: Vec::new(alloc),
+            failures: 0,
+        }
+    }
+
+    /// The packets of a channel; none above 4095.
+    pub fn list(&self, channel: u16) -> &[Vec<u8>]
+        ensures packets { map vec_items result.now ≡ list_at self.now channel }
+        ensures none_above { 4095 < channel → list_at self.now channel ≡ [] }
+        ensures channels { length self.now.lists ≡ channel_count }
+        ensures deliverable { AllByRecursion IsDeliverable (list_at self.now channel) }
+    {
+        match self.lists.get(usize::from(channel)) {
+            Some(list) => list.as_slice(),
+            None => &[],
+        }
+    }
+
+    /// The least channel from this one to 4095 that has packets.
+    pub fn at_or_above(&self, channel: u16) -> Option<u16>
+        ensures some { IfSome result (λ least. IsLeast self.now channel least) }
+        ensures none { IfNone result (HasNone self.now channel channel_count) }
+    {
+        for least in channel..4096 {
+            if !self.list(least).is_empty() {
+                return Some(least);
+            }
+        }
+        None
+    }
+}
+
+impl PacketSink for Delivered {
+    ghost use Rattle.sl_packet.specs.declared.sink.SinkFault.TheVariants.{Memory};
+
+    ghost taking = { AddsPacket };
+
+    ghost failing = { λ old channel packet fault new. (fault ≡ Memory) × (new.lists ≡ old.lists) };
+
+    ghost failures = { λ delivered. delivered.failures };
+
+    fn packet(&mut self, channel: u16, p: &[u8]) -> Result<(), SinkFault> {
+        let added = add(self.alloc, &mut self.lists, usize::from(channel), p);
+        if added.is_err() {
+            self.failures = self.failures.saturating_add(1);
+            return Err(SinkFault::Memory);
+        }
+        Ok(())
+    }
+}
+
+// Adds a packet to the list of a channel.
+fn add(
+    alloc: Global,
+    lists: &mut Vec<Vec<Vec<u8>>>,
+    channel: usize,
+    packet: &[u8],
+) -> Result<(), AllocError>
+    requires channel { channel < channel_count }
+    requires fit { length (lists_in lists.old) ≤ channel_count }
+    ensures added { OnOk result (with_empty_lists (lists_in lists.new) ≡ with_packet (with_empty_lists (lists_in lists.old)) channel packet.now) }
+    ensures refused { OnErr result (with_empty_lists (lists_in lists.new) ≡ with_empty_lists (lists_in lists.old)) }
+    ensures fit { length (lists_in lists.new) ≤ channel_count }
+    ensures deliverable { AllByRecursion (AllByRecursion IsDeliverable) (lists_in lists.old) → IsDeliverable packet.now → AllByRecursion (AllByRecursion IsDeliverable) (lists_in lists.new) }
+{
+    let packet = Vec::from_slice(alloc, packet)?;
+    reach(alloc, lists, channel)?;
+    lists[channel].push(packet)?;
+    Ok(())
+}
+
+// Adds empty lists up to that of a channel.
+fn reach(alloc: Global, lists: &mut Vec<Vec<Vec<u8>>>, channel: usize) -> Result<(), AllocError>
+    ensures reached { OnOk result (channel < vec_len lists.new) }
+    ensures grown { IsGrown (lists_in lists.old) (lists_in lists.new) }
+    ensures no_further { length (lists_in lists.new) ≤ max (length (lists_in lists.old)) (channel + 1) }
+{
+    while lists.len() <= channel {
+        lists.push(Vec::new(alloc))?;
+    }
+    Ok(())
+}

@@ -1,0 +1,47 @@
+//! Idle packets.
+ghost use Rattle.std.specs.Prelude.{◌≡◌, ◌≤◌, ◌+◌, ◌++◌, OnOk, OnErr};
+ghost use Rattle.sl_fields.specs.PacketHeader.{packet_octets};
+ghost use Rattle.sl_packet.specs.IdlePacket.{idle_header, idle_packet};
+ghost use Rattle.sl_packet.specs.Packet.{is_idle_packet};
+
+use byteorder::{BigEndian, ByteOrder};
+use sl_fields::PacketHeader;
+use std::alloc::AllocError;
+
+/// The APID of idle packets.
+const IDLE: u16 = 2047;
+
+/// Whether there are two octets or more and their APID is 2047, as in an idle packet.
+pub fn is_idle(octets: &[u8]) -> bool
+    ensures { result ≡ is_idle_packet octets.now }
+{
+    match octets.first_chunk::<2>() {
+        Some(first) => BigEndian::read_u16(first) % 2048 == IDLE,
+        None => false,
+    }
+}
+
+/// Adds an idle packet of `len` octets, 7 to 65,542: telemetry, unsegmented, with count 0 and zeros as its
+/// data. It leaves `out` as it was where memory is refused.
+pub fn push_idle(out: &mut Vec<u8>, len: u32) -> Result<(), AllocError>
+    requires least { 7 ≤ len }
+    requires most { len ≤ 65542 }
+    ensures added { OnOk result (out.new.items ≡ out.old.items ++ idle_packet len) }
+    ensures unchanged { OnErr result (out.new.items ≡ out.old.items) }
+{
+    let header = idle_header((len - 7) as u16);
+    out.reserve(len as usize)?;
+    out.extend_from_slice(&header)?;
+    let end = out.len() + len as usize - 6;
+    out.resize(end, 0)
+}
+
+// The header of an idle packet with this length field.
+fn idle_header(length: u16) -> [u8; 6]
+    ensures { result ≡ packet_octets (idle_header (length + 7)) }
+{
+    match PacketHeader::new(0, 0, false, IDLE, 3, 0, length) {
+        Some(header) => header.write(),
+        None => unreachable!(),
+    }
+}

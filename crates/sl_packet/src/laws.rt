@@ -1,0 +1,36 @@
+//! What holds of the definitions alone. Each function does nothing; its clauses are the laws.
+ghost use Rattle.sl_packet.specs.Front.{WholeIsAPacket, APacketIsWhole, ForeignIsNoPacket, IncompleteMayBecomeWhole};
+ghost use Rattle.sl_packet.specs.IdlePacket.{IdlePacketsAreIdle};
+ghost use Rattle.sl_packet.specs.Packet.{PacketsArePrefixFree, OnePacketIsPrefix, HeaderFieldsStandFirst};
+ghost use Rattle.sl_packet.specs.Packets.{EachHasPackets, HasPacketsOnce};
+
+/// No packet is a proper prefix of another, so at most one packet is a prefix of given octets.
+pub fn packets_are_prefix_free()
+    ensures proper { PacketsArePrefixFree }
+    ensures one { OnePacketIsPrefix }
+{}
+
+/// The version and the APID, which are read from the first two octets, are those of the primary header.
+pub fn header_fields_stand_first()
+    ensures { HeaderFieldsStandFirst }
+{}
+
+/// What octets begin with: a packet where the front is whole, and none, whatever follows, where it is
+/// foreign. Where it is incomplete, some octets more make it a packet.
+pub fn fronts_tell_packets()
+    ensures whole { WholeIsAPacket }
+    ensures only_whole { APacketIsWhole }
+    ensures foreign { ForeignIsNoPacket }
+    ensures incomplete { IncompleteMayBecomeWhole }
+{}
+
+/// Octets begin with one longest list of packets.
+pub fn octets_have_packets()
+    ensures each { EachHasPackets }
+    ensures once { HasPacketsOnce }
+{}
+
+/// The idle packet of 7 to 65,542 octets is a packet, idle, and of that length.
+pub fn idle_packets_are_idle()
+    ensures { IdlePacketsAreIdle }
+{}

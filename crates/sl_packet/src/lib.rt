@@ -1,0 +1,20 @@
+//! Space packets of CCSDS 133.0-B: how they are found at the front of octets, where they go, and how
+//! they are kept.
+//!
+//! A packet is told by its version and its length alone. No packet is a proper prefix of another
+//! ([`laws`]), so octets begin with at most one packet. What a packet carries isn't looked at.
+#![tactic(auto)]
+
+mod delivered;
+mod idle;
+pub mod laws;
+mod packet;
+mod sink;
+
+pub use delivered::Delivered;
+pub use idle::{is_idle, push_idle};
+pub use packet::first_packet;
+pub use sink::{HandedOver, PacketSink, SinkFault, hand_over};
+
+#[cfg(test)]
+mod tests;

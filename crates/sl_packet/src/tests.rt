@@ -1,0 +1,153 @@
+//! Packets of known octets: what is expected was worked out by hand from the standard's bits.
+ghost use Rattle.std.specs.Prelude.{◌≡◌, ◌++◌};
+
+use crate::{Delivered, PacketSink, SinkFault, first_packet, hand_over, is_idle, push_idle};
+use std::test::Fail;
+
+// Telemetry of APID 1 with four octets of data.
+const PACKET: [u8; 10] = [0x00, 0x01, 0xC0, 0x00, 0x00, 0x03, 0xAA, 0xBB, 0xCC, 0xDD];
+
+// A telecommand of APID 2 with one octet of data.
+const COMMAND: [u8; 7] = [0x10, 0x02, 0xC0, 0x01, 0x00, 0x00, 0xEE];
+
+// The first packet, an idle packet with ten octets of data, the second packet, and three octets more.
+const OCTETS: [u8; 36] = [
+    0x00, 0x01, 0xC0, 0x00, 0x00, 0x03, 0xAA, 0xBB, 0xCC, 0xDD, //
+    0x07, 0xFF, 0xC0, 0x00, 0x00, 0x09, 0, 0, 0, 0, 0, 0, 0, 0, 0, 0, //
+    0x10, 0x02, 0xC0, 0x01, 0x00, 0x00, 0xEE, //
+    0x00, 0x03, 0xC0,
+];
+
+fn are(list: &[Vec<u8>], packets: &[&[u8]]) -> bool {
+    list.len() == packets.len() && list.iter().zip(packets).all(|(a, b)| a.as_slice() == *b)
+}
+
+#[test]
+fn packets_at_the_front_of_known_octets(rt: HostRuntime) {
+    let version_one = [0x20, 0x01, 0xC0, 0x00, 0x00, 0x00, 0xAA];
+    for (octets, packet) in [
+        (&PACKET[..], Some(&PACKET[..])),
+        (&OCTETS[..], Some(&PACKET[..])),
+        (&OCTETS[10..], Some(&OCTETS[10..26])),
+        (&PACKET[..9], None),
+        (&version_one[..], None),
+        (&[], None),
+    ] {
+        assert_eq!(rt; first_packet(octets), packet, "at {octets:?}");
+    }
+}
+
+#[test]
+fn the_apid_alone_makes_a_packet_idle(rt: HostRuntime) {
+    for (octets, idle) in [
+        (&[0x07, 0xFF][..], true),
+        (&[0x07][..], false),
+        (&[0x07, 0xFF, 0x00, 0x07, 0x00, 0x00, 0x01][..], true),
+        (&[0x1F, 0xFF, 0xC0, 0x00][..], true),
+        (&[0x07, 0xFE, 0xC0, 0x00][..], false),
+        (&PACKET[..], false),
+    ] {
+        assert_eq!(rt; is_idle(octets), idle, "at {octets:?}");
+    }
+}
+
+#[test]
+fn idle_packets_are_added_after_what_is_there(rt: HostRuntime) -> Result<(), Fail> {
+    let mut octets = vec![in rt.alloc(); 0xEE]?;
+    push_idle(&mut octets, 7)?;
+    assert_eq!(rt;
+        octets.as_slice(),
+        &[0xEE, 0x07, 0xFF, 0xC0, 0x00, 0x00, 0x00, 0x00][..]
+    );
+    let mut longest = Vec::new(rt.alloc());
+    push_idle(&mut longest, 65542)?;
+    assert_eq!(rt; longest.len(), 65542);
+    assert_eq!(rt;
+        longest.get(..6),
+        Some(&[0x07, 0xFF, 0xC0, 0x00, 0xFF, 0xFF][..])
+    );
+    assert_eq!(rt; first_packet(&longest), Some(&longest[..]));
+    Ok(())
+}
+
+#[test]
+fn delivered_packets_are_kept_by_channel(rt: HostRuntime) -> Result<(), Fail> {
+    let mut delivered = Delivered::new(rt.alloc());
+    assert_eq!(rt; delivered.at_or_above(0), None);
+    assert_eq!(rt; delivered.packet(3, &PACKET), Ok(()));
+    assert_eq!(rt; delivered.packet(4095, &COMMAND), Ok(()));
+    assert!(rt; are(delivered.list(3), &[&PACKET]));
+    assert!(rt; are(delivered.list(4095), &[&COMMAND]));
+    assert!(rt; are(delivered.list(0), &[]));
+    assert!(rt; are(delivered.list(5000), &[]));
+    for (channel, least) in [
+        (0, Some(3)),
+        (4, Some(4095)),
+        (4095, Some(4095)),
+        (4096, None),
+    ] {
+        assert_eq!(rt; delivered.at_or_above(channel), least, "at {channel}");
+    }
+    Ok(())
+}
+
+#[test]
+fn idle_packets_are_not_handed_over(rt: HostRuntime) -> Result<(), Fail> {
+    let mut delivered = Delivered::new(rt.alloc());
+    let handed = hand_over(&mut delivered, 5, &OCTETS)?;
+    assert_eq!(rt; (handed.packets, handed.idle), (2, 1));
+    assert_eq!(rt; handed.remainder, &[0x00, 0x03, 0xC0][..]);
+    assert!(rt; are(delivered.list(5), &[&PACKET, &COMMAND]));
+    Ok(())
+}
+
+// A sink that takes one packet and refuses all others.
+#[derive(Drop)]
+struct OnlyOne {
+    channel: u16,
+    octets: Vec<u8>,
+    refused: u64,
+}
+
+impl PacketSink for OnlyOne {
+    ghost taking = { λ old channel packet new. new.octets.items ≡ old.octets.items ++ packet };
+
+    ghost failing = { λ old channel packet fault new. new.octets.items ≡ old.octets.items };
+
+    ghost failures = { λ sink. sink.refused };
+
+    fn packet(&mut self, channel: u16, p: &[u8]) -> Result<(), SinkFault> {
+        if !self.octets.is_empty() || self.octets.extend_from_slice(p).is_err() {
+            self.refused = self.refused.saturating_add(1);
+            return Err(SinkFault::Refused);
+        }
+        self.channel = channel;
+        Ok(())
+    }
+}
+
+#[test]
+fn a_refused_packet_stops_what_is_handed_over(rt: HostRuntime) -> Result<(), Fail> {
+    let mut sink = OnlyOne {
+        channel: 0,
+        octets: Vec::new(rt.alloc()),
+        refused: 0,
+    };
+    let fault = hand_over(&mut sink, 9, &OCTETS).err();
+    assert_eq!(rt; fault, Some(SinkFault::Refused));
+    assert_eq!(rt; (sink.channel, sink.refused), (9, 1));
+    assert_eq!(rt; sink.octets.as_slice(), &PACKET[..]);
+    Ok(())
+}
+
+#[test]
+fn faults_have_texts(rt: HostRuntime) -> Result<(), Fail> {
+    for (fault, text) in [
+        (SinkFault::Memory, "memory"),
+        (SinkFault::Device, "device"),
+        (SinkFault::Refused, "refused"),
+    ] {
+        assert_eq!(rt; format!(in rt.alloc(); "{fault}")?.as_str(), text);
+    }
+    Ok(())
+}

@@ -25,7 +25,7 @@ length-concat len (f ∷ frames) h =
     length-append f (concat frames) ∙ omega (arith, h.0, length-concat len frames h.1, suc-mul (length frames) len)
 
 -- a whole frame in front is the first frame
-frames_of-first : (len : ℕ) (frame rest : List ℕ) → 0 < len → length frame ≡ len → frames_of len (frame ++ rest) ≡ frame ∷ frames_of len rest
+pub frames_of-first : (len : ℕ) (frame rest : List ℕ) → 0 < len → length frame ≡ len → frames_of len (frame ++ rest) ≡ frame ∷ frames_of len rest
 frames_of-first len frame rest some e =
     let count : length (frame ++ rest) / len ≡ suc (length rest / len) =
     ap (λ n. n / len) (length-append frame rest ∙ ap (λ n. n + length rest) e) ∙ add-div_left (length rest) some ∙ add-one (length rest / len) in
@@ -33,7 +33,7 @@ frames_of-first len frame rest some e =
     let behind : drop len (frame ++ rest) ≡ rest = ap (λ n. drop n (frame ++ rest)) (sym e) ∙ drop-append_seam frame rest in
     ap (λ n. frames_from len n (frame ++ rest)) count ∙ rw (first, behind) refl
 
-remainder_of-first : (len : ℕ) (frame rest : List ℕ) → 0 < len → length frame ≡ len → remainder_of len (frame ++ rest) ≡ remainder_of len rest
+pub remainder_of-first : (len : ℕ) (frame rest : List ℕ) → 0 < len → length frame ≡ len → remainder_of len (frame ++ rest) ≡ remainder_of len rest
 remainder_of-first len frame rest some e =
     let count : length (frame ++ rest) / len ≡ length rest / len + 1 =
     ap (λ n. n / len) (length-append frame rest ∙ ap (λ n. n + length rest) e) ∙ add-div_left (length rest) some in

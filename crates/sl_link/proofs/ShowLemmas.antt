@@ -74,7 +74,7 @@ same_counts a b c d a' b' c' d' p q r s = cc
 -- ---- causes
 
 -- a stream that had no fault before has failed since
-HasFailed-since : {T : Type 0} (old mid new : Counted T) → faults_of mid ≡ faults_of old → HasFailed mid new → HasFailed old new
+pub HasFailed-since : {T : Type 0} (old mid new : Counted T) → faults_of mid ≡ faults_of old → HasFailed mid new → HasFailed old new
 HasFailed-since old mid new e h =
     elim h as (λ _. HasFailed old new) [ inl rose ↦ inl (rw (sym e) rose) | inr top ↦ inr top ]
 

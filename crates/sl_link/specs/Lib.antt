@@ -1,8 +1,15 @@
+pub mod Channel
 pub mod CommandLine
 pub mod Counted
 pub mod Delimited
+pub mod Deliver
+pub mod Delivery
+pub mod FieldStart
 pub mod Managed
 pub mod ManagedModel
+pub mod NormalForm
+pub mod NormaliseTm
+pub mod PacketStart
 pub mod Run
 pub mod ShowTm
 pub mod Status

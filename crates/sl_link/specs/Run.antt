@@ -1,9 +1,11 @@
 -- What a run of the program has done, by its exit status.
-use Rattle.std.specs.Prelude.{◌≡◌, ℕ, List, Option, Ok}
+use Rattle.std.specs.Prelude.{◌≡◌, ℕ, IsErr, List, Option, Ok}
+use Rattle.clap.specs.Walk.{Text}
 use Rattle.sl_link.specs.declared.command_line.Options.{Options}
+use Rattle.sl_link.specs.declared.command_line.Request.{Request}
 use Rattle.sl_link.specs.declared.counted.Counted.{Counted}
 use Rattle.sl_link.specs.declared.link_fault.LinkFault.{LinkFault}
-use Rattle.sl_link.specs.CommandLine.{asked}
+use Rattle.sl_link.specs.CommandLine.{AskFor, asked}
 use Rattle.sl_link.specs.Managed.{Parameters, managed_of}
 use Rattle.sl_link.specs.ShowTm.{show_tm_text, show_tm_counts}
 use Rattle.sl_link.specs.Streams.{Translates, Stops}
@@ -25,7 +27,12 @@ module _ {R W : Type 0} (remaining : R → Option (List ℕ)) (contents : W → 
     pub fault : LinkFault
     pub cause : Stops remaining contents reader reader' writer writer' (show_tm_text managed) managed.max_octets 0x20000 fault
 
--- it is so with some options
-pub record WithSome (Done : Options → Type 0) : Type 0 where
-  pub options : Options
-  pub done : Done options
+-- the words ask for something, and with their options it is so
+pub record WithAsked (words : List Text) (Done : Options → Type 0) : Type 0 where
+  pub request : Request
+  pub asks : AskFor words request
+  pub done : Done request.options
+
+-- with these options a managed parameter is refused
+abbrev pub IsUnmanaged : Options → Type 0
+IsUnmanaged options = IsErr (managed_of (asked options))

@@ -53,6 +53,26 @@ pub record StopsReading {R : Type 0} (remaining : R → Option (List ℕ)) (old 
   pub read : Reads remaining old new octets
   pub cause : IsReadFault old new limit octets fault
 
+-- all octets were read, no more than the limit
+pub record ReadsAll {R : Type 0} (remaining : R → Option (List ℕ)) (old new : Counted R) (limit : ℕ) (octets : List ℕ) : Type 0 where
+  pub within : length octets ≤ limit
+  pub read : Reads remaining old new octets
+  pub to_end : IsRead remaining new
+  pub no_fault : faults_of new ≡ faults_of old
+
+-- the cause of a fault of reading, or of keeping what was read, is there
+abbrev pub IsReadingAllFault : {R : Type 0} → Counted R → Counted R → ℕ → ℕ → List ℕ → LinkFault → Type 0
+IsReadingAllFault old new limit buffer octets Read = HasFailed old new × (length octets ≤ limit)
+IsReadingAllFault old new limit buffer octets TooLong = (limit < length octets) × (length octets ≤ limit + buffer)
+IsReadingAllFault old new limit buffer octets Memory = length octets ≤ limit
+IsReadingAllFault old new limit buffer octets Write = ⊥
+
+-- octets were read, and then a fault came
+pub record StopsReadingAll {R : Type 0} (remaining : R → Option (List ℕ)) (old new : Counted R) (limit buffer : ℕ) (fault : LinkFault) : Type 0 where
+  pub octets : List ℕ
+  pub read : Reads remaining old new octets
+  pub cause : IsReadingAllFault old new limit buffer octets fault
+
 -- the text was written
 pub record WritesText {W : Type 0} (contents : W → Option (List ℕ)) (old new : Counted W) (text : List ℕ) : Type 0 where
   pub writes : Writes contents old new text

@@ -1,7 +1,11 @@
 //! The command line.
-ghost use Rattle.std.specs.Prelude.{◌≡◌, false};
+ghost use Rattle.std.specs.Prelude.{◌≡◌, ◌⊎◌, false, map, string_bytes, IfOk, IfErr};
+ghost use Rattle.clap.specs.Words.{app_of, found_of, kind_of, rows_of, rule_of, subcommand_rows_of};
+ghost use Rattle.clap.specs.declared.builder.Command.TheViews.{out-Command as fields_of};
 ghost use Rattle.sl_link.specs.Managed.{managed_of};
-ghost use Rattle.sl_link.specs.CommandLine.{asked};
+ghost use Rattle.sl_link.specs.CommandLine.{AskFor, IsRefusal, IsSllink, asked};
+ghost use Rattle.sl_link.specs.CommandLine.{number_rule, verb_app, with_link_options};
+ghost use Rattle.sl_link.specs.CommandLine.{kind_named, options_in, request_in, request_with, verb_named};
 
 use crate::managed::{Managed, ManagedFault};
 use clap::builder::ValueParser;
@@ -52,7 +56,12 @@ static SHOWN: [&str; 1] = ["tm"];
 
 /// What the words ask for, of which the first is the program's name. Else why they are refused, or the
 /// help that they ask for.
-pub(crate) fn parse(alloc: Global, words: &[String]) -> Result<Request, Error> {
+pub(crate) fn parse(alloc: Global, words: &[String]) -> Result<Request, Error>
+    ensures asked { IfOk result (AskFor (map string_bytes words.now)) }
+    // The kind of the error is one of the refusals, unless memory ran out.
+    ensures refused { IfErr result (λ error. (kind_of error ≡ ErrorKind.OutOfMemory)
+        ⊎ IsRefusal (kind_of error) (map string_bytes words.now)) }
+{
     let mut command = sllink(alloc)?;
     let matches = command.try_get_matches_from_mut(words)?;
     match request_of(&matches) {
@@ -61,7 +70,9 @@ pub(crate) fn parse(alloc: Global, words: &[String]) -> Result<Request, Error> {
     }
 }
 
-fn sllink<'a>(alloc: Global) -> Result<Command<'a>, AllocError> {
+fn sllink<'a>(alloc: Global) -> Result<Command<'a>, AllocError>
+    ensures { IfOk result (λ command. IsSllink (app_of command)) }
+{
     let show = verb_command(alloc, "show", "List the frames of a recording", &SHOWN)?;
     Command::new(alloc, "sllink")
         .about("Read recordings of a spacecraft's link")
@@ -75,7 +86,10 @@ fn verb_command<'a>(
     name: &'a str,
     about: &'a str,
     kinds: &'a [&'a str],
-) -> Result<Command<'a>, AllocError> {
+) -> Result<Command<'a>, AllocError>
+    ensures app { IfOk result (λ command. app_of command ≡ verb_app name.entry.now kinds.entry) }
+    ensures local { IfOk result (λ command. (fields_of command).has_globals ≡ false) }
+{
     let kind = Arg::new(alloc, KIND)
         .value_name("KIND")
         .help("Transfer frames of the recording")
@@ -84,7 +98,11 @@ fn verb_command<'a>(
     with_options(alloc, Command::new(alloc, name).about(about).arg(kind)?)
 }
 
-fn with_options<'a>(alloc: Global, verb: Command<'a>) -> Result<Command<'a>, AllocError> {
+fn with_options<'a>(alloc: Global, verb: Command<'a>) -> Result<Command<'a>, AllocError>
+    ensures app { IfOk result (λ command. app_of command ≡ with_link_options (app_of verb.entry)) }
+    ensures local { IfOk result (λ command.
+        (fields_of command).has_globals ≡ (fields_of verb.entry).has_globals) }
+{
     let spacecraft = number(alloc, SPACECRAFT, "ID", value_parser!(u16))
         .help("Spacecraft identifier")
         .required(true);
@@ -98,7 +116,10 @@ fn with_options<'a>(alloc: Global, verb: Command<'a>) -> Result<Command<'a>, All
 }
 
 // An option that takes a number.
-fn number<'a>(alloc: Global, name: &'a str, unit: &'a str, range: ValueParser<'a>) -> Arg<'a> {
+fn number<'a>(alloc: Global, name: &'a str, unit: &'a str, range: ValueParser<'a>) -> Arg<'a>
+    ensures rule { rule_of result ≡ number_rule name.entry.now range.entry }
+    ensures local { result.global ≡ false }
+{
     Arg::new(alloc, name)
         .long(name)
         .value_name(unit)
@@ -106,8 +127,16 @@ fn number<'a>(alloc: Global, name: &'a str, unit: &'a str, range: ValueParser<'a
 }
 
 // What the words ask for. It is `None` where a required word is missing, which the parse has refused.
-fn request_of(matches: &ArgMatches<'_>) -> Option<Request> {
+fn request_of(matches: &ArgMatches<'_>) -> Option<Request>
+    ensures { result ≡ request_in (subcommand_rows_of matches.now) }
+{
     let (verb, matches) = matches.subcommand()?;
+    request_with(verb, matches)
+}
+
+fn request_with(verb: &str, matches: &ArgMatches<'_>) -> Option<Request>
+    ensures { result ≡ request_with verb.now (rows_of (found_of matches.now)) }
+{
     Some(Request {
         verb: verb_of(verb)?,
         kind: kind_of(matches.get_str(KIND)?)?,
@@ -115,21 +144,27 @@ fn request_of(matches: &ArgMatches<'_>) -> Option<Request> {
     })
 }
 
-fn verb_of(word: &str) -> Option<Verb> {
+fn verb_of(word: &str) -> Option<Verb>
+    ensures { result ≡ verb_named word.now }
+{
     match word {
         "show" => Some(Verb::Show),
         _ => None,
     }
 }
 
-fn kind_of(word: &str) -> Option<Kind> {
+fn kind_of(word: &str) -> Option<Kind>
+    ensures { result ≡ kind_named word.now }
+{
     match word {
         "tm" => Some(Kind::Tm),
         _ => None,
     }
 }
 
-fn options_of(matches: &ArgMatches<'_>) -> Option<Options> {
+fn options_of(matches: &ArgMatches<'_>) -> Option<Options>
+    ensures { result ≡ options_in (rows_of (found_of matches.now)) }
+{
     Some(Options {
         spacecraft: matches.get_one(SPACECRAFT)?,
         tm_length: matches.get_one(TM_LENGTH)?,

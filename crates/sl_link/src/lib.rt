@@ -3,11 +3,15 @@
 
 mod command_line;
 mod counted;
+mod deliver;
 pub mod laws;
 mod lines;
 mod link_fault;
 mod managed;
+mod normalise;
 mod program;
+mod recording;
+mod reframe;
 mod show;
 mod streams;
 mod tally;
@@ -18,6 +22,7 @@ mod totals;
 pub use counted::Counted;
 pub use link_fault::LinkFault;
 pub use managed::{Managed, ManagedFault};
+pub use normalise::normalise_tm;
 pub use program::run;
 pub use show::show_tm;
 pub use totals::Totals;

@@ -1,8 +1,10 @@
 //! The whole program.
-ghost use Rattle.std.specs.Prelude.{◌≡◌, ◌≢◌, ◌≤◌, ◌⊎◌, false, OnOk, IfOk, IfErr};
+ghost use Rattle.std.specs.Prelude.{◌≡◌, ◌≢◌, ◌≤◌, ◌⊎◌, false, map, string_bytes, OnOk, IfOk, IfErr};
 ghost use Rattle.std.specs.Io.KnownBytes.{Keeps};
+ghost use Rattle.clap.specs.Words.{kind_of};
+ghost use Rattle.sl_link.specs.CommandLine.{AreRefused, AskForHelp};
 ghost use Rattle.sl_link.specs.Counted.{stream_of, faults_of, HasFailed};
-ghost use Rattle.sl_link.specs.Run.{HasListed, HasStopped, WithSome};
+ghost use Rattle.sl_link.specs.Run.{HasListed, HasStopped, IsUnmanaged, WithAsked};
 ghost use Rattle.sl_link.specs.ShowTm.{show_tm_text, show_tm_counts};
 ghost use Rattle.sl_link.specs.Status.{status};
 ghost use Rattle.sl_link.specs.Streams.{Translates, Stops};
@@ -39,15 +41,19 @@ pub fn run<R: Read, W: Write, E: Write>(
     errors: &mut E,
 ) -> u8
     ensures range { result ≤ 3 }
-    // After success a recording is listed, or nothing was read and help was asked for.
-    ensures listed { result ≡ 0 → (reader.new ≡ reader.old) ⊎ WithSome (HasListed R.remaining W.contents reader.old reader.new writer.old writer.new) }
+    // After success the recording is listed as the words ask, or they ask for help and nothing was read.
+    ensures listed { result ≡ 0 → (AskForHelp (map string_bytes words.now) × (reader.new ≡ reader.old))
+        ⊎ WithAsked (map string_bytes words.now) (HasListed R.remaining W.contents reader.old reader.new writer.old writer.new) }
     // No engine meets an anomaly yet.
     ensures no_anomaly { result ≢ 1 }
-    // A refused run has read and written nothing.
-    ensures refused { result ≡ 2 → (reader.new ≡ reader.old) × (writer.new ≡ writer.old) }
+    // A refused run has read and written nothing: the words are refused, or a managed parameter that they
+    // ask for is.
+    ensures refused { result ≡ 2 → (reader.new ≡ reader.old) × (writer.new ≡ writer.old)
+        × (AreRefused (map string_bytes words.now) ⊎ WithAsked (map string_bytes words.now) IsUnmanaged) }
     // After a fault its cause is there, or nothing was read: help couldn't be written, or there was no
     // memory for the words.
-    ensures stopped { result ≡ 3 → (reader.new ≡ reader.old) ⊎ WithSome (HasStopped R.remaining W.contents reader.old reader.new writer.old writer.new) }
+    ensures stopped { result ≡ 3 → (reader.new ≡ reader.old)
+        ⊎ WithAsked (map string_bytes words.now) (HasStopped R.remaining W.contents reader.old reader.new writer.old writer.new) }
 {
     match parse(alloc, words) {
         Ok(request) => answer(&request, reader, writer, errors),
@@ -65,7 +71,7 @@ fn answer<R: Read, W: Write, E: Write>(
     ensures range { result ≤ 3 }
     ensures listed { result ≡ 0 → HasListed R.remaining W.contents reader.old reader.new writer.old writer.new request.now.options }
     ensures no_anomaly { result ≢ 1 }
-    ensures refused { result ≡ 2 → (reader.new ≡ reader.old) × (writer.new ≡ writer.old) }
+    ensures refused { result ≡ 2 → (reader.new ≡ reader.old) × (writer.new ≡ writer.old) × IsUnmanaged request.now.options }
     ensures stopped { result ≡ 3 → HasStopped R.remaining W.contents reader.old reader.new writer.old writer.new request.now.options }
 {
     match request.options.managed() {
@@ -134,7 +140,9 @@ fn status_of(outcome: &Result<Totals, LinkFault>) -> u8
 fn explain<W: Write, E: Write>(refusal: &Error, writer: &mut Counted<W>, errors: &mut E) -> u8
     ensures range { result ≤ 3 }
     ensures no_anomaly { result ≢ 1 }
-    ensures refused { result ≡ 2 → writer.new ≡ writer.old }
+    ensures helped { result ≡ 0 → kind_of refusal.now ≡ ErrorKind.DisplayHelp }
+    ensures refused { result ≡ 2 → (writer.new ≡ writer.old) × (kind_of refusal.now ≢ ErrorKind.DisplayHelp)
+        × (kind_of refusal.now ≢ ErrorKind.OutOfMemory) }
 {
     match refusal.kind() {
         ErrorKind::DisplayHelp => match write_help(refusal, writer) {

@@ -1,4 +1,5 @@
 mod faulty;
+mod normalise;
 mod outcome;
 mod parts;
 mod program;

@@ -54,12 +54,12 @@ loop-taken-preserved g c =
     let came = c.in_ok-taken.ensures.came in
     let after = post_of c.loop-taken.held (length c.loop-taken.buffer - c.loop-taken.held) c.loop-taken.buffer in
     let within : c.in_ok-shown.shown ≤ c.loop-taken.held + c.in_ok-taken.taken = omega (arith, c.in_ok-shown.ensures.within, length-take-le (c.loop-taken.held + c.in_ok-taken.taken) (take c.loop-taken.held c.loop-taken.buffer ++ (c.read_some.new.buffer ++ after)) (room_for c.loop-taken.held c.in_ok-taken.taken c.loop-taken.buffer c.read_some.new.buffer after c.loop-taken.invariant.shown.inside came.inside)) in
-    let filled = take c.loop-taken.held c.loop-taken.buffer ++ (c.read_some.new.buffer ++ after) in
+    let with_filling = take c.loop-taken.held c.loop-taken.buffer ++ (c.read_some.new.buffer ++ after) in
     let room = room_for c.loop-taken.held c.in_ok-taken.taken c.loop-taken.buffer c.read_some.new.buffer after c.loop-taken.invariant.shown.inside came.inside in
     record {
-      shown = shown_next g.R.Read.remaining g.W.Write.contents c.args.managed.now some (length c.args.buffer.now) c.args.reader.now c.loop-taken.reader c.read_some.new.reader c.args.writer.now c.loop-taken.writer c.show_frames.new.writer c.loop-taken.tally c.loop-taken.buffer c.loop-taken.held c.in_ok-taken.taken c.read_some.new.buffer after (take (c.loop-taken.held + c.in_ok-taken.taken) filled) c.loop-taken.invariant.shown came.inside came.read refl
+      shown = shown_next g.R.Read.remaining g.W.Write.contents c.args.managed.now some (length c.args.buffer.now) c.args.reader.now c.loop-taken.reader c.read_some.new.reader c.args.writer.now c.loop-taken.writer c.show_frames.new.writer c.loop-taken.tally c.loop-taken.buffer c.loop-taken.held c.in_ok-taken.taken c.read_some.new.buffer after (take (c.loop-taken.held + c.in_ok-taken.taken) with_filling) c.loop-taken.invariant.shown came.inside came.read refl
           _ c.in_ok-shown.shown c.show_frames.new.tally c.copy_within.new.self left came.allowed came.no_fault c.in_ok-shown.ensures.lines c.in_ok-shown.ensures.counts c.in_ok-shown.ensures.shown
-          (length-take-le (c.loop-taken.held + c.in_ok-taken.taken) filled room) (omega (arith, c.copy_within.ensures.len)) (take-moved c.in_ok-shown.shown (c.loop-taken.held + c.in_ok-taken.taken) filled c.copy_within.new.self within room c.copy_within.ensures.after);
+          (length-take-le (c.loop-taken.held + c.in_ok-taken.taken) with_filling room) (omega (arith, c.copy_within.ensures.len)) (take-moved c.in_ok-shown.shown (c.loop-taken.held + c.in_ok-taken.taken) with_filling c.copy_within.new.self within room c.copy_within.ensures.after);
       empty = c.in_ok-shown.ensures.emptied;
     }
 

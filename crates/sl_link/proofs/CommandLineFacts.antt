@@ -1,0 +1,88 @@
+-- Command lines and what becomes of them, computed from the definitions, so that a wrong definition doesn't
+-- check.
+use Rattle.std.proofs.Common.{◌≡◌, ℕ, List, [], ◌∷◌, Option, Some, codes, refl}
+use Rattle.clap.specs.Kinds.{Kinds}
+use Rattle.clap.specs.Simple.{subcommand_of}
+use Rattle.clap.specs.Walk.{Text}
+use Rattle.clap.specs.declared.error.kind.ErrorKind.TheVariants.{ArgumentConflict, DisplayHelp, InvalidSubcommand, InvalidValue, MissingRequiredArgument, MissingSubcommand, UnknownArgument, ValueValidation}
+use Rattle.clap.proofs.OnLiterals.{clap_on_literals}
+use Rattle.sl_link.specs.CommandLine.{refusals, request_in, sllink_app}
+use Rattle.sl_link.specs.declared.command_line.Kind.TheVariants.{Tm}
+use Rattle.sl_link.specs.declared.command_line.Request.{Request}
+use Rattle.sl_link.specs.declared.command_line.Verb.TheVariants.{Show}
+
+-- why the words are refused, and what they ask for
+abbrev read : List Text → Kinds × Option Request
+read words = (refusals words, request_in (subcommand_of sllink_app words))
+
+-- nothing is refused, and the frames of this spacecraft are to be listed, with this length and this limit
+abbrev shows : ℕ → ℕ → ℕ → Kinds × Option Request
+shows scid length limit = (
+  [],
+  Some (record {
+    verb = Show;
+    kind = Tm;
+    options = record { spacecraft = scid; tm_length = length; max_octets = limit };
+  }),
+)
+
+pub record AreRead : Type 0 where
+  pub of_one_option : read (codes "sllink" ∷ codes "show" ∷ codes "tm" ∷ codes "--scid" ∷ codes "7" ∷ []) ≡ shows 7 1115 1073741824
+  pub of_all_options : read (codes "any" ∷ codes "show" ∷ codes "--limit=9" ∷ codes "--tm-length" ∷ codes "0" ∷ codes "tm" ∷ codes "--scid=65535" ∷ []) ≡ shows 65535 0 9
+  pub signed : read (codes "sllink" ∷ codes "show" ∷ codes "tm" ∷ codes "--scid" ∷ codes "+7" ∷ codes "--limit" ∷ codes "18446744073709551615" ∷ []) ≡ shows 7 1115 18446744073709551615
+
+pub record AskHelp : Type 0 where
+  pub of_all : refusals (codes "sllink" ∷ codes "--help" ∷ []) ≡ DisplayHelp ∷ []
+  pub of_a_verb : refusals (codes "sllink" ∷ codes "show" ∷ codes "-h" ∷ []) ≡ DisplayHelp ∷ []
+  pub by_a_verb : refusals (codes "sllink" ∷ codes "help" ∷ []) ≡ DisplayHelp ∷ InvalidSubcommand ∷ []
+
+pub record AreRefusedFor : Type 0 where
+  pub no_words : refusals (codes "sllink" ∷ []) ≡ MissingSubcommand ∷ []
+  pub other_verb : refusals (codes "sllink" ∷ codes "tell" ∷ codes "tm" ∷ codes "--scid" ∷ codes "1" ∷ []) ≡ UnknownArgument ∷ InvalidSubcommand ∷ []
+  pub no_kind : refusals (codes "sllink" ∷ codes "show" ∷ codes "--scid" ∷ codes "1" ∷ []) ≡ MissingRequiredArgument ∷ []
+  pub other_kind : refusals (codes "sllink" ∷ codes "show" ∷ codes "tc" ∷ codes "--scid" ∷ codes "1" ∷ []) ≡ InvalidValue ∷ []
+  pub two_kinds : refusals (codes "sllink" ∷ codes "show" ∷ codes "tm" ∷ codes "tm" ∷ codes "--scid" ∷ codes "1" ∷ []) ≡ UnknownArgument ∷ []
+  pub no_spacecraft : refusals (codes "sllink" ∷ codes "show" ∷ codes "tm" ∷ []) ≡ MissingRequiredArgument ∷ []
+  pub no_number : refusals (codes "sllink" ∷ codes "show" ∷ codes "tm" ∷ codes "--scid" ∷ []) ≡ InvalidValue ∷ []
+  pub a_word_for_a_number : refusals (codes "sllink" ∷ codes "show" ∷ codes "tm" ∷ codes "--scid" ∷ codes "one" ∷ []) ≡ ValueValidation ∷ []
+  pub over_16_bits : refusals (codes "sllink" ∷ codes "show" ∷ codes "tm" ∷ codes "--scid" ∷ codes "65536" ∷ []) ≡ ValueValidation ∷ []
+  pub below_0 : refusals (codes "sllink" ∷ codes "show" ∷ codes "tm" ∷ codes "--scid=-1" ∷ []) ≡ ValueValidation ∷ []
+  pub twice : refusals (codes "sllink" ∷ codes "show" ∷ codes "tm" ∷ codes "--scid" ∷ codes "1" ∷ codes "--scid" ∷ codes "1" ∷ []) ≡ ArgumentConflict ∷ []
+  pub over_16_bits_of_length : refusals (codes "sllink" ∷ codes "show" ∷ codes "tm" ∷ codes "--scid" ∷ codes "1" ∷ codes "--tm-length" ∷ codes "65536" ∷ []) ≡ ValueValidation ∷ []
+  pub over_64_bits : refusals (codes "sllink" ∷ codes "show" ∷ codes "tm" ∷ codes "--scid" ∷ codes "1" ∷ codes "--limit" ∷ codes "18446744073709551616" ∷ []) ≡ ValueValidation ∷ []
+  pub other_option : refusals (codes "sllink" ∷ codes "show" ∷ codes "tm" ∷ codes "--scid" ∷ codes "1" ∷ codes "--window" ∷ codes "10" ∷ []) ≡ UnknownArgument ∷ []
+
+pub are_read : AreRead
+unfolding clap_on_literals
+are_read = record {
+  of_one_option = refl;
+  of_all_options = refl;
+  signed = refl;
+}
+
+pub ask_help : AskHelp
+unfolding clap_on_literals
+ask_help = record {
+  of_all = refl;
+  of_a_verb = refl;
+  by_a_verb = refl;
+}
+
+pub are_refused : AreRefusedFor
+unfolding clap_on_literals
+are_refused = record {
+  no_words = refl;
+  other_verb = refl;
+  no_kind = refl;
+  other_kind = refl;
+  two_kinds = refl;
+  no_spacecraft = refl;
+  no_number = refl;
+  a_word_for_a_number = refl;
+  over_16_bits = refl;
+  below_0 = refl;
+  twice = refl;
+  over_16_bits_of_length = refl;
+  over_64_bits = refl;
+  other_option = refl;
+}

@@ -1,0 +1,52 @@
+-- What holds of each element of a list, and where an element stands.
+use Rattle.std.proofs.Common.{◌≡◌, ◌⊎◌, List, [], ◌∷◌, ◌++◌, inl, inr, refl, ap}
+use Rattle.std.specs.List.{AllByRecursion, flat_map}
+
+pub each-append : {X : Type 0} (P : X → Type 0) (xs ys : List X) → AllByRecursion P xs → AllByRecursion P ys → AllByRecursion P (xs ++ ys)
+each-append P [] ys left right = right
+each-append P (x ∷ xs) ys left right = (left.0, each-append P xs ys left.1 right)
+
+pub each-weaker : {X : Type 0} (P Q : X → Type 0) → ((x : X) → P x → Q x) → (xs : List X) → AllByRecursion P xs → AllByRecursion Q xs
+each-weaker P Q weaker [] each = tt
+each-weaker P Q weaker (x ∷ xs) each = (weaker x each.0, each-weaker P Q weaker xs each.1)
+
+pub each-flat_map : {X A : Type 0} (P : A → Type 0) (f : X → List A) (xs : List X) → AllByRecursion (λ x. AllByRecursion P (f x)) xs → AllByRecursion P (flat_map f xs)
+each-flat_map P f [] each = tt
+each-flat_map P f (x ∷ xs) each = each-append P (f x) (flat_map f xs) each.0 (each-flat_map P f xs each.1)
+
+-- one that stands in the list
+pub each-at : {X : Type 0} (P : X → Type 0) (earlier : List X) (x : X) (later : List X) → AllByRecursion P (earlier ++ x ∷ later) → P x
+each-at P [] x later each = each.0
+each-at P (e ∷ earlier) x later each = each-at P earlier x later each.1
+
+pub head_same : {X : Type 0} (x y : X) (xs ys : List X) → x ∷ xs ≡ y ∷ ys → x ≡ y
+head_same x y xs ys same = cc
+
+pub tail_same : {X : Type 0} (x y : X) (xs ys : List X) → x ∷ xs ≡ y ∷ ys → xs ≡ ys
+tail_same x y xs ys same = cc
+
+-- a list with an element isn't empty
+pub some_element : {X : Type 0} (earlier : List X) (x : X) (later : List X) → [] ≡ earlier ++ x ∷ later → ⊥
+some_element [] x later same = cc
+some_element (e ∷ earlier) x later same = cc
+
+-- every other list has a last element
+pub has_last : {X : Type 0} (x : X) (xs : List X) → (earlier : List X) × (last : X) × (x ∷ xs ≡ earlier ++ last ∷ [])
+has_last x [] = ([], x, refl)
+has_last x (y ∷ ys) =
+    let (earlier, last, same) = has_last y ys in
+    (x ∷ earlier, last, ap (λ l. x ∷ l) same)
+
+-- an element of a list with one more is that one, or an element of the list
+pub cases_last : {X : Type 0} (xs : List X) (last : X) (earlier : List X) (x : X) (later : List X) → xs ++ last ∷ [] ≡ earlier ++ x ∷ later
+    → ((xs ≡ earlier) × (last ≡ x)) ⊎ ((between : List X) × (xs ≡ earlier ++ x ∷ between))
+cases_last [] last [] x later same = inl (refl, head_same last x [] later same)
+cases_last [] last (e ∷ earlier) x later same = absurd (some_element earlier x later (tail_same last e [] (earlier ++ x ∷ later) same))
+cases_last (y ∷ ys) last [] x later same = inr (ys, ap (λ z. z ∷ ys) (head_same y x (ys ++ last ∷ []) later same))
+cases_last (y ∷ ys) last (e ∷ earlier) x later same =
+    cases_after (cases_last ys last earlier x later (tail_same y e (ys ++ last ∷ []) (earlier ++ x ∷ later) same)) (head_same y e (ys ++ last ∷ []) (earlier ++ x ∷ later) same)
+  where
+    cases_after : ((ys ≡ earlier) × (last ≡ x)) ⊎ ((between : List _) × (ys ≡ earlier ++ x ∷ between)) → y ≡ e
+        → ((y ∷ ys ≡ e ∷ earlier) × (last ≡ x)) ⊎ ((between : List _) × (y ∷ ys ≡ e ∷ (earlier ++ x ∷ between)))
+    cases_after (inl here) first = inl (cc (here.0, first), here.1)
+    cases_after (inr there) first = inr (there.0, cc (there.1, first))

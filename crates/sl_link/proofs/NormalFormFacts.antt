@@ -1,0 +1,198 @@
+-- Worked recordings and their normal forms, computed from the definitions, so that a wrong definition
+-- doesn't check. Frames have 32 octets, the spacecraft is 1.
+use Rattle.std.proofs.Common.{◌≡◌, ℕ, true, false, List, [], ◌∷◌, ◌++◌, replicate, refl}
+use Rattle.sl_fields.specs.Fecf.{fecf_of}
+use Rattle.sl_packet.specs.IdlePacket.{idle_packet}
+use Rattle.sl_link.specs.Managed.{Parameters}
+use Rattle.sl_link.specs.NormaliseTm.{tm_normal_form, whole_normal_form, whole_counts}
+use Rattle.sl_link.specs.Totals.{Counts}
+
+abbrev link : Parameters
+link =
+    record {
+      spacecraft = 1;
+      tm_length = 32;
+      tm_fecf = false;
+      tc_max = 1024;
+      tc_fecf = false;
+      window = 10;
+      vr = 0;
+      max_octets = 1073741824;
+    }
+
+-- a packet of ten octets, and it with an idle packet that fills a data field
+abbrev ten : List ℕ
+ten = 0x00 ∷ 0x01 ∷ 0xC0 ∷ 0x00 ∷ 0x00 ∷ 0x03 ∷ 0xAA ∷ 0xBB ∷ 0xCC ∷ 0xDD ∷ []
+
+abbrev ten_filled : List ℕ
+ten_filled = ten ++ (0x07 ∷ 0xFF ∷ 0xC0 ∷ 0x00 ∷ 0x00 ∷ 0x09 ∷ []) ++ replicate 10 0
+
+-- a packet of twenty-three octets
+abbrev twenty_three : List ℕ
+twenty_three = (0x00 ∷ 0x02 ∷ 0xC0 ∷ 0x05 ∷ 0x00 ∷ 0x10 ∷ []) ++ replicate 17 0x11
+
+-- a frame of it and the first three octets of a packet, and a data field with the other seven, a packet
+-- and an idle packet
+abbrev begun : List ℕ
+begun = (0x00 ∷ 0x10 ∷ 0x00 ∷ 0x00 ∷ 0x18 ∷ 0x00 ∷ []) ++ twenty_three ++ (0x00 ∷ 0x03 ∷ 0xC0 ∷ [])
+
+abbrev ended : List ℕ
+ended = (0x00 ∷ 0x00 ∷ 0x03 ∷ 0x01 ∷ 0x02 ∷ 0x03 ∷ 0x04 ∷ []) ++ ten ++ (0x07 ∷ 0xFF ∷ 0xC0 ∷ 0x00 ∷ 0x00 ∷ 0x02 ∷ 0x00 ∷ 0x00 ∷ 0x00 ∷ [])
+
+-- frames of virtual channel 0
+abbrev framed : ℕ → ℕ → ℕ → ℕ → List ℕ → List ℕ
+framed mc vcc high low octets = 0x00 ∷ 0x10 ∷ mc ∷ vcc ∷ high ∷ low ∷ octets
+
+abbrev one_packet : List ℕ
+one_packet = framed 0 0 0x18 0x00 ten_filled
+
+-- normal form of the packets of twenty-three and ten octets
+abbrev two_packets : List ℕ
+two_packets = framed 0 0 0x18 0x00 (twenty_three ++ (0x00 ∷ 0x01 ∷ 0xC0 ∷ [])) ++ framed 1 1 0x18 0x07 ((0x00 ∷ 0x00 ∷ 0x03 ∷ 0xAA ∷ 0xBB ∷ 0xCC ∷ 0xDD ∷ 0x07 ∷ 0xFF ∷ 0xC0 ∷ 0x00 ∷ 0x00 ∷ 0x0C ∷ []) ++ replicate 13 0)
+
+-- the packet of twenty-three octets alone, with an idle packet of twenty-nine, since three octets are none
+abbrev wide_filling : List ℕ
+wide_filling = framed 0 0 0x18 0x00 (twenty_three ++ (0x07 ∷ 0xFF ∷ 0xC0 ∷ [])) ++ framed 1 1 0x1F 0xFF ((0x00 ∷ 0x00 ∷ 0x16 ∷ []) ++ replicate 23 0)
+
+abbrev in_three_frames : List ℕ
+in_three_frames = begun ++ framed 1 1 0x1F 0xFE (replicate 26 0x55) ++ framed 2 2 0x18 0x07 ended
+
+abbrev twice : List ℕ
+twice = framed 0 0 0x18 0x00 (twenty_three ++ (0x00 ∷ 0x02 ∷ 0xC0 ∷ [])) ++ framed 1 1 0x18 0x14 ((0x05 ∷ 0x00 ∷ 0x10 ∷ []) ++ replicate 17 0x11 ++ (0x07 ∷ 0xFF ∷ 0xC0 ∷ 0x00 ∷ 0x00 ∷ 0x19 ∷ []))
+    ++ framed 2 2 0x1F 0xFF (replicate 26 0)
+
+-- a packet that fills a data field
+abbrev full_field : List ℕ
+full_field = framed 0 0 0x18 0x00 ((0x00 ∷ 0x02 ∷ 0xC0 ∷ 0x06 ∷ 0x00 ∷ 0x13 ∷ []) ++ replicate 20 0x22)
+
+abbrev two_channels : List ℕ
+two_channels = (0x00 ∷ 0x12 ∷ 0x00 ∷ 0x00 ∷ 0x18 ∷ 0x00 ∷ []) ++ ten_filled ++ ((0x00 ∷ 0x10 ∷ 0x01 ∷ 0x00 ∷ 0x18 ∷ 0x00 ∷ []) ++ ten_filled)
+
+abbrev two_channels_normal : List ℕ
+two_channels_normal = (0x00 ∷ 0x10 ∷ 0x00 ∷ 0x00 ∷ 0x18 ∷ 0x00 ∷ []) ++ ten_filled ++ ((0x00 ∷ 0x12 ∷ 0x01 ∷ 0x00 ∷ 0x18 ∷ 0x00 ∷ []) ++ ten_filled)
+
+abbrev three_copies : List ℕ
+three_copies = one_packet ++ one_packet ++ one_packet ++ (0x00 ∷ 0x10 ∷ 0x00 ∷ 0x00 ∷ [])
+
+abbrev three_copies_normal : List ℕ
+three_copies_normal = framed 0 0 0x18 0x00 (ten ++ ten ++ (0x00 ∷ 0x01 ∷ 0xC0 ∷ 0x00 ∷ 0x00 ∷ 0x03 ∷ [])) ++ framed 1 1 0x18 0x04 ((0xAA ∷ 0xBB ∷ 0xCC ∷ 0xDD ∷ 0x07 ∷ 0xFF ∷ 0xC0 ∷ 0x00 ∷ 0x00 ∷ 0x0F ∷ []) ++ replicate 16 0)
+
+abbrev HasNormalForm : List ℕ → List ℕ → Type 0
+HasNormalForm recording normal = tm_normal_form link recording ≡ normal
+
+pub record HaveNormalForms : Type 0 where
+  pub nothing : HasNormalForm [] []
+  pub plain : HasNormalForm one_packet one_packet
+  -- counts and idle packets don't matter, nor do the sequence flags of an idle packet
+  pub other_counts : HasNormalForm (framed 0x4D 0xC8 0x18 0x00 (ten ++ (0x07 ∷ 0xFF ∷ 0x00 ∷ 0x07 ∷ 0x00 ∷ 0x09 ∷ []) ++ replicate 10 0x55)) one_packet
+  pub wide : HasNormalForm wide_filling wide_filling
+  pub wide_first : HasNormalForm (framed 0 0 0x18 0x00 (twenty_three ++ (0x07 ∷ 0xFF ∷ 0xC0 ∷ []))) wide_filling
+  pub full : HasNormalForm full_field full_field
+  -- a gap breaks the packet that runs through it
+  pub gap : HasNormalForm (begun ++ framed 2 2 0x18 0x07 ended) two_packets
+  -- an idle frame doesn't
+  pub idle_frame : HasNormalForm in_three_frames (begun ++ framed 1 1 0x18 0x07 ended)
+  pub wrong_pointer : HasNormalForm (begun ++ framed 1 1 0x18 0x11 ended) wide_filling
+  pub repeated : HasNormalForm (begun ++ begun) twice
+  pub remainder : HasNormalForm three_copies three_copies_normal
+  pub opaque_frame : HasNormalForm (begun ++ framed 1 1 0x98 0x00 (replicate 26 0) ++ framed 2 2 0x18 0x07 ended) two_packets
+  pub foreign : HasNormalForm (framed 0 0 0x18 0x00 (ten ++ replicate 16 0x20)) one_packet
+  pub channels : HasNormalForm two_channels two_channels_normal
+
+pub normal_forms : HaveNormalForms
+unfolding idle_packet
+normal_forms =
+    record {
+      nothing = refl;
+      plain = refl;
+      other_counts = refl;
+      wide = refl;
+      wide_first = refl;
+      full = refl;
+      gap = refl;
+      idle_frame = refl;
+      wrong_pointer = refl;
+      repeated = refl;
+      remainder = refl;
+      opaque_frame = refl;
+      foreign = refl;
+      channels = refl;
+    }
+
+abbrev HasWholeForm : List ℕ → List ℕ → Type 0
+HasWholeForm recording normal = whole_normal_form link recording ≡ normal
+
+-- with an operational control field, and with error control, where a frame with a wrong field is skipped
+abbrev controlled : List ℕ
+controlled = (0x00 ∷ 0x11 ∷ 0x00 ∷ 0x00 ∷ 0x18 ∷ 0x00 ∷ []) ++ ten ++ (0x07 ∷ 0xFF ∷ 0xC0 ∷ 0x00 ∷ 0x00 ∷ 0x05 ∷ []) ++ replicate 6 0 ++ (0x01 ∷ 0x00 ∷ 0x28 ∷ 0x05 ∷ [])
+
+abbrev guarded : List ℕ
+guarded = one_packet ++ (0x5E ∷ 0x0C ∷ [])
+
+abbrev damaged : List ℕ
+damaged = framed 0 0 0x18 0x00 ((0x00 ∷ 0x01 ∷ 0xC0 ∷ 0x00 ∷ 0x00 ∷ 0x03 ∷ 0xAB ∷ 0xBB ∷ 0xCC ∷ 0xDD ∷ []) ++ (0x07 ∷ 0xFF ∷ 0xC0 ∷ 0x00 ∷ 0x00 ∷ 0x09 ∷ []) ++ replicate 10 0 ++ (0x5E ∷ 0x0C ∷ []))
+
+pub record HaveFieldsLeftOut : Type 0 where
+  pub control : HasNormalForm controlled one_packet
+  pub other_report : HasWholeForm controlled one_packet
+  pub error_control : tm_normal_form (record link { tm_length = 34; tm_fecf = true }) (damaged ++ guarded) ≡ guarded
+
+pub fields_left_out : HaveFieldsLeftOut
+unfolding idle_packet fecf_of
+fields_left_out =
+    record {
+      control = refl;
+      other_report = refl;
+      error_control = refl;
+    }
+
+abbrev counts : ℕ → ℕ → ℕ → ℕ → ℕ → Counts
+counts octets frames rest packets idle =
+    record {
+      octets = octets;
+      frames = frames;
+      skipped = 0;
+      rest = rest;
+      packets = packets;
+      idle = idle;
+      anomalies = 0;
+    }
+
+-- the same of the packets that lie whole in one frame: that of ten octets in two frames doesn't
+pub record HaveWholeForms : Type 0 where
+  pub plain : HasWholeForm one_packet one_packet
+  pub other_counts : HasWholeForm (framed 0x4D 0xC8 0x18 0x00 (ten ++ (0x07 ∷ 0xFF ∷ 0x00 ∷ 0x07 ∷ 0x00 ∷ 0x09 ∷ []) ++ replicate 10 0x55)) one_packet
+  pub wide : HasWholeForm wide_filling wide_filling
+  pub wide_first : HasWholeForm (framed 0 0 0x18 0x00 (twenty_three ++ (0x07 ∷ 0xFF ∷ 0xC0 ∷ []))) wide_filling
+  pub full : HasWholeForm full_field full_field
+  pub gap : HasWholeForm (begun ++ framed 2 2 0x18 0x07 ended) two_packets
+  pub wrong_pointer : HasWholeForm (begun ++ framed 1 1 0x18 0x11 ended) wide_filling
+  pub repeated : HasWholeForm (begun ++ begun) twice
+  pub remainder : HasWholeForm three_copies three_copies_normal
+  pub opaque_frame : HasWholeForm (begun ++ framed 1 1 0x98 0x00 (replicate 26 0) ++ framed 2 2 0x18 0x07 ended) two_packets
+  pub foreign : HasWholeForm (framed 0 0 0x18 0x00 (ten ++ replicate 16 0x20)) one_packet
+  pub channels : HasWholeForm two_channels two_channels_normal
+  pub idle_frame : HasWholeForm in_three_frames two_packets
+  pub idle_frame_counts : whole_counts link in_three_frames ≡ counts 96 3 0 2 1
+  pub remainder_counts : whole_counts link three_copies ≡ counts 100 3 4 3 3
+
+pub whole_forms : HaveWholeForms
+unfolding idle_packet
+whole_forms =
+    record {
+      plain = refl;
+      other_counts = refl;
+      wide = refl;
+      wide_first = refl;
+      full = refl;
+      gap = refl;
+      wrong_pointer = refl;
+      repeated = refl;
+      remainder = refl;
+      opaque_frame = refl;
+      foreign = refl;
+      channels = refl;
+      idle_frame = refl;
+      idle_frame_counts = refl;
+      remainder_counts = refl;
+    }

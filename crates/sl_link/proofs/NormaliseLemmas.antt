@@ -1,0 +1,71 @@
+-- A recording that is read whole, and a text of it that is written after that.
+use Rattle.std.proofs.Common.{◌≡◌, ℕ, List, [], Option, refl, sym, subst}
+use Rattle.std.proofs.KnownBytes.{Appends-nil}
+use Rattle.sl_link.specs.declared.counted.Counted.{Counted}
+use Rattle.sl_link.specs.declared.link_fault.LinkFault.{LinkFault}
+use Rattle.sl_link.specs.declared.link_fault.LinkFault.TheVariants.{Read, TooLong, Memory, Write}
+use Rattle.sl_link.specs.Counted.{stream_of}
+use Rattle.sl_link.specs.Streams.{ReadsAll, StopsReadingAll, IsReadingAllFault, IsCaused, WritesPrefix, WritesText, StopsWriting, Translates, Stops}
+use Rattle.sl_link.specs.Totals.{Counts}
+use Rattle.sl_link.proofs.ShowLemmas.{caused_writing}
+
+module _ {R W : Type 0} (remaining : R → Option (List ℕ)) (contents : W → Option (List ℕ)) (reader reader' : Counted R) (text : List ℕ → List ℕ) (limit buffer : ℕ) where
+  caused : (writer writer' : Counted W) (octets : List ℕ) (fault : LinkFault) → IsReadingAllFault reader reader' limit buffer octets fault → IsCaused remaining contents reader reader' writer writer' limit buffer octets fault
+  caused writer writer' octets Read cause = cause
+  caused writer writer' octets TooLong cause = cause
+  caused writer writer' octets Memory cause = cause
+  caused writer writer' octets Write cause = absurd cause
+
+  nothing_written : (writer : Counted W) (octets : List ℕ) → WritesPrefix contents writer writer (text octets)
+  nothing_written writer octets =
+      record {
+        written = [];
+        missing = text octets;
+        front = refl;
+        writes = Appends-nil (contents (stream_of writer));
+      }
+
+  -- a fault before anything was written
+  pub stops_at_reading : (writer : Counted W) (fault : LinkFault) → StopsReadingAll remaining reader reader' limit buffer fault → Stops remaining contents reader reader' writer writer text limit buffer fault
+  stops_at_reading writer fault s =
+      record {
+        octets = s.octets;
+        read = s.read;
+        written = nothing_written writer s.octets;
+        cause = caused writer writer s.octets fault s.cause;
+      }
+
+  pub stops_for_memory : (writer : Counted W) (octets : List ℕ) (fault : LinkFault) → ReadsAll remaining reader reader' limit octets → fault ≡ Memory → Stops remaining contents reader reader' writer writer text limit buffer fault
+  stops_for_memory writer octets fault r is_memory =
+      subst (λ f. Stops remaining contents reader reader' writer writer text limit buffer f) (sym is_memory) (record {
+        octets = octets;
+        read = r.read;
+        written = nothing_written writer octets;
+        cause = r.within;
+      })
+
+  -- a fault while the text is written
+  pub stops_at_writing : (writer writer' : Counted W) (octets written : List ℕ) (fault : LinkFault) → ReadsAll remaining reader reader' limit octets → written ≡ text octets
+      → StopsWriting contents writer writer' written fault → Stops remaining contents reader reader' writer writer' text limit buffer fault
+  stops_at_writing writer writer' octets written fault r same s =
+      record {
+        octets = octets;
+        read = r.read;
+        written = subst (λ t. WritesPrefix contents writer writer' t) same s.front;
+        cause = caused_writing remaining contents reader reader' writer writer writer' octets limit buffer fault s.is_write refl s.cause r.within;
+      }
+
+  -- all of it is written
+  pub translates_whole : (writer writer' : Counted W) (counts : List ℕ → Counts) (totals : Counts) (octets written : List ℕ) → ReadsAll remaining reader reader' limit octets → written ≡ text octets
+      → totals ≡ counts octets → WritesText contents writer writer' written → Translates remaining contents reader reader' writer writer' text counts limit totals
+  translates_whole writer writer' counts totals octets written r same counted w =
+      record {
+        octets = octets;
+        within = r.within;
+        read = r.read;
+        to_end = r.to_end;
+        written = let done = w.writes in rw (← same) done;
+        counted = counted;
+        reader_kept = r.no_fault;
+        writer_kept = w.no_fault;
+      }

@@ -1,0 +1,120 @@
+-- The normal form of a TM recording: the delivered packets of each virtual channel in frames that have
+-- nothing of the recording's own.
+use Rattle.std.specs.Prelude.{◌≡◌, ◌⊎◌, ℕ, ◌+◌, ◌-◌, ◌*◌, ◌/◌, ◌%◌, ◌≤◌, ◌==◌, ◌||◌, nat_lt, Bool, false, not, if◌then◌else◌, List, [], ◌∷◌, ◌++◌, length, take, drop, map, Option, None, Some, option_map}
+use Rattle.std.specs.List.{concat, find, range_with_len}
+use Rattle.sl_fields.specs.Fecf.{fecf_of}
+use Rattle.sl_fields.specs.Field.{octets_of}
+use Rattle.sl_fields.specs.TmHeader.{TmFields, tm_octets}
+use Rattle.sl_packet.specs.IdlePacket.{idle_packet}
+use Rattle.sl_link.specs.TmFrame.{TmFormat, fecf_len}
+
+-- ---- a frame
+
+-- the octets of a data field, where there is no operational control field
+abbrev pub room_of : TmFormat → ℕ
+room_of format = format.len - 6 - fecf_len format
+
+-- the first header pointer, 2047 where no packet starts in the data field
+abbrev pub pointer_value : Option ℕ → ℕ
+pointer_value None = 2047
+pointer_value (Some first) = first
+
+abbrev pub packet_frame_header : ℕ → ℕ → ℕ → ℕ → Option ℕ → TmFields
+packet_frame_header spacecraft vc mc vcc first =
+    record {
+      version = 0;
+      spacecraft = spacecraft;
+      vc = vc;
+      control = false;
+      mc = mc;
+      vcc = vcc;
+      secondary = false;
+      sync = false;
+      order = false;
+      segment = 3;
+      first = pointer_value first;
+    }
+
+-- octets, and their error control field where the format has it
+abbrev pub with_fecf : TmFormat → List ℕ → List ℕ
+with_fecf format octets = octets ++ (if format.fecf then octets_of 2 ((16, fecf_of octets) ∷ []) else [])
+
+-- a frame of packets, with its counts, its first header pointer and its data field
+abbrev pub packet_frame : TmFormat → ℕ → ℕ → ℕ → ℕ → Option ℕ → List ℕ → List ℕ
+packet_frame format spacecraft vc mc vcc first field =
+    with_fecf format (tm_octets (packet_frame_header spacecraft vc mc vcc first) ++ field)
+
+-- ---- the packets of a channel, divided into data fields
+
+-- the least number of octets, none or as many as a packet has at least, that fill octets up to a multiple
+-- of the room
+abbrev pub fill_of : ℕ → ℕ → ℕ
+fill_of room len =
+    let missing : ℕ = (room - len % room) % room in
+    if (missing == 0) || not (nat_lt missing 7) then missing else missing + room
+
+-- the idle packet of that many octets, if one is wanted
+abbrev pub filling : ℕ → ℕ → List (List ℕ)
+filling room len = if fill_of room len == 0 then [] else idle_packet (fill_of room len) ∷ []
+
+-- packets, filled up
+abbrev pub with_filling : ℕ → List (List ℕ) → List (List ℕ)
+with_filling room packets = packets ++ filling room (length (concat packets))
+
+-- the offsets at which packets that lie end to end start
+abbrev pub packet_offsets : ℕ → List (List ℕ) → List ℕ
+packet_offsets offset [] = []
+packet_offsets offset (packet ∷ packets) = offset ∷ packet_offsets (offset + length packet) packets
+
+-- the data field of a number, from 0
+abbrev pub data_field_of : ℕ → ℕ → List ℕ → List ℕ
+data_field_of room number octets = take room (drop (number * room) octets)
+
+-- an offset lies in it
+abbrev pub lies_in : ℕ → ℕ → ℕ → Bool
+lies_in room number offset = offset / room == number
+
+-- the least offset in it at which a packet starts (the offsets rise, so it is the first that lies in it)
+abbrev pub first_of : ℕ → ℕ → List ℕ → Option ℕ
+first_of room number offsets = option_map (λ offset. offset - number * room) (find (lies_in room number) offsets)
+
+-- ---- the frames
+
+-- the frame of a number, from 0, of a virtual channel with these packets, filled up, of which the first
+-- frame has this master channel frame count
+abbrev pub channel_frame : TmFormat → ℕ → ℕ → ℕ → List (List ℕ) → ℕ → List ℕ
+channel_frame format spacecraft vc mc packets number =
+    packet_frame format spacecraft vc ((mc + number) % 256) (number % 256)
+    (first_of (room_of format) number (packet_offsets 0 packets))
+    (data_field_of (room_of format) number (concat packets))
+
+abbrev pub frames_of_packets : TmFormat → ℕ → ℕ → ℕ → List (List ℕ) → List (List ℕ)
+frames_of_packets format spacecraft vc mc packets =
+    map (channel_frame format spacecraft vc mc packets) (range_with_len 0 (length (concat packets) / room_of format))
+
+abbrev pub channel_frames : TmFormat → ℕ → ℕ → ℕ → List (List ℕ) → List (List ℕ)
+channel_frames format spacecraft vc mc packets =
+    frames_of_packets format spacecraft vc mc (with_filling (room_of format) packets)
+
+-- the frames of virtual channels with these packets, from one virtual channel on, after so many frames
+abbrev pub frames_from_channel : TmFormat → ℕ → ℕ → ℕ → List (List (List ℕ)) → List (List ℕ)
+frames_from_channel format spacecraft vc mc [] = []
+frames_from_channel format spacecraft vc mc (packets ∷ lists) =
+    let frames : List (List ℕ) = channel_frames format spacecraft vc mc packets in
+    frames ++ frames_from_channel format spacecraft (vc + 1) (mc + length frames) lists
+
+-- the normal form of the packets of virtual channels 0, 1 and so on
+abbrev pub normal_form : TmFormat → ℕ → List (List (List ℕ)) → List ℕ
+normal_form format spacecraft lists = concat (frames_from_channel format spacecraft 0 0 lists)
+
+-- ---- laws
+
+-- the filling is the least that may be
+pub record IsLeastFill (room len fill : ℕ) : Type 0 where
+  pub allowed : (fill ≡ 0) ⊎ (7 ≤ fill)
+  pub fills : (len + fill) % room ≡ 0
+  pub least : (other : ℕ) → (other ≡ 0) ⊎ (7 ≤ other) → (len + other) % room ≡ 0 → fill ≤ other
+
+-- it always is
+abbrev pub EachFillIsLeast : Type 0
+EachFillIsLeast = (room len : ℕ) → 7 ≤ room → IsLeastFill room len (fill_of room len)

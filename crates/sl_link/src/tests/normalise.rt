@@ -1,0 +1,227 @@
+ghost use Rattle.std.specs.Prelude.{◌≡◌, IfOk, false};
+
+use super::faulty::{FailsAfter, OneByOne};
+use crate::{Counted, LinkFault, Managed, ManagedFault, normalise_tm};
+use std::alloc::Global;
+use std::test::Fail;
+
+// A packet of ten octets, and it with an idle packet that fills a data field.
+const TEN: &str = "0001c0000003aabbccdd";
+
+const TEN_FILLED: &str = "0001c0000003aabbccdd07ffc000000900000000000000000000";
+
+// A packet of twenty-three octets.
+const LONG: &str = "0002c00500101111111111111111111111111111111111";
+
+// The first octets of a packet, and a data field with its other octets, a packet and an idle packet.
+const BEGUN: &str = "0003c0";
+
+const ENDED: &str = "000003010203040001c0000003aabbccdd07ffc0000002000000";
+
+const ZEROS: &str = "0000000000000000000000000000000000000000000000000000";
+
+const FIVES: &str = "5555555555555555555555555555555555555555555555555555";
+
+// The header of a first frame of virtual channel 0 in which a packet starts at once.
+const FIRST: &str = "001000001800";
+
+// The normal form of the packets of twenty-three and of ten octets, and that of the first alone.
+const BOTH: [&str; 7] = [
+    FIRST,
+    LONG,
+    "0001c0",
+    "001001011807",
+    "000003aabbccdd07ffc000000c",
+    "00000000000000",
+    "000000000000",
+];
+
+const ALONE: [&str; 6] = [
+    FIRST,
+    LONG,
+    "07ffc0",
+    "001001011fff",
+    "000016",
+    "0000000000000000000000000000000000000000000000",
+];
+
+fn octets(alloc: Global, parts: &[&str]) -> Result<Vec<u8>, Fail> {
+    let mut octets = Vec::new(alloc);
+    for part in parts {
+        let part = hex::decode(alloc, part)?;
+        octets.extend_from_slice(part.as_slice())?;
+    }
+    Ok(octets)
+}
+
+#[test]
+fn normal_forms_of_recordings(rt: HostRuntime) -> Result<(), Fail> {
+    let one: &[&str] = &[FIRST, TEN_FILLED];
+    let cases: [(&[&str], &[&str]); 14] = [
+        (&[], &[]),
+        (one, one),
+        // Other counts, and an idle packet with other sequence flags and data.
+        (
+            &["00104dc81800", TEN, "07ff00070009", "55555555555555555555"],
+            one,
+        ),
+        (&ALONE, &ALONE),
+        (&[FIRST, LONG, "07ffc0"], &ALONE),
+        // A packet that ends with its data field.
+        (
+            &[
+                FIRST,
+                "0002c0060013",
+                "2222222222222222222222222222222222222222",
+            ],
+            &[
+                FIRST,
+                "0002c0060013",
+                "2222222222222222222222222222222222222222",
+            ],
+        ),
+        // A gap, a wrong pointer, an idle frame and an opaque one within a packet.
+        (&[FIRST, LONG, BEGUN, "001002021807", ENDED], &BOTH),
+        (&[FIRST, LONG, BEGUN, "001001011811", ENDED], &ALONE),
+        (
+            &[
+                FIRST,
+                LONG,
+                BEGUN,
+                "001001011ffe",
+                FIVES,
+                "001002021807",
+                ENDED,
+            ],
+            &BOTH,
+        ),
+        (
+            &[
+                FIRST,
+                LONG,
+                BEGUN,
+                "001001019800",
+                ZEROS,
+                "001002021807",
+                ENDED,
+            ],
+            &BOTH,
+        ),
+        // A frame that comes twice.
+        (
+            &[FIRST, LONG, BEGUN, FIRST, LONG, BEGUN],
+            &[
+                FIRST,
+                LONG,
+                "0002c0",
+                "001001011814",
+                "0500101111111111111111111111111111111111",
+                "07ffc0000019",
+                "001002021fff",
+                ZEROS,
+            ],
+        ),
+        // A remainder.
+        (
+            &[
+                FIRST, TEN_FILLED, FIRST, TEN_FILLED, FIRST, TEN_FILLED, "00100000",
+            ],
+            &[
+                FIRST,
+                TEN,
+                TEN,
+                "0001c0000003",
+                "001001011804",
+                "aabbccdd07ffc000000f",
+                "00000000000000000000000000000000",
+            ],
+        ),
+        // A packet start of another version.
+        (&[FIRST, TEN, "20202020202020202020202020202020"], one),
+        // Virtual channels are written in rising order.
+        (
+            &["001200001800", TEN_FILLED, "001001001800", TEN_FILLED],
+            &[FIRST, TEN_FILLED, "001201001800", TEN_FILLED],
+        ),
+    ];
+    for (parts, wanted) in cases {
+        let recording = octets(rt.alloc(), parts)?;
+        let mut reader = Counted::new(recording.as_slice());
+        let mut writer = Counted::new(Vec::new(rt.alloc()));
+        normalise_tm(rt.alloc(), &link(1000)?, &mut reader, &mut writer)?;
+        assert_eq!(rt; writer.into_inner(), octets(rt.alloc(), wanted)?);
+    }
+    Ok(())
+}
+
+fn link(max_octets: u64) -> Result<Managed, ManagedFault>
+    ensures { IfOk result (λ managed. managed.tm_fecf ≡ false) }
+{
+    Managed::new(1, 32, false, 1024, false, 10, 0, max_octets)
+}
+
+#[test]
+fn packets_are_counted(rt: HostRuntime) -> Result<(), Fail> {
+    let parts = [
+        FIRST,
+        LONG,
+        BEGUN,
+        "001001011807",
+        ENDED,
+        "005001011807",
+        ENDED,
+        "00100000",
+    ];
+    let recording = octets(rt.alloc(), &parts)?;
+    let mut reader = Counted::new(OneByOne(recording.as_slice()));
+    let mut writer = Counted::new(Vec::new(rt.alloc()));
+    let totals = normalise_tm(rt.alloc(), &link(100)?, &mut reader, &mut writer)?;
+    let counted = [
+        totals.octets(),
+        totals.frames(),
+        totals.skipped(),
+        totals.rest(),
+        totals.packets(),
+        totals.idle(),
+        totals.anomalies(),
+    ];
+    assert_eq!(rt; counted, [100, 3, 1, 4, 2, 1, 0]);
+    assert_eq!(rt; (reader.faults(), writer.faults()), (0, 0));
+    assert_eq!(rt; writer.into_inner(), octets(rt.alloc(), &BOTH)?);
+    Ok(())
+}
+
+// A fault of reading leaves nothing written, one of writing the front of the normal form.
+#[test]
+fn faults_leave_a_front_of_the_normal_form(rt: HostRuntime) -> Result<(), Fail> {
+    let alloc = rt.alloc();
+    let normal = octets(alloc, &ALONE)?;
+    for allowed in 0..64u64 {
+        let mut reader = Counted::new(FailsAfter::new(OneByOne(normal.as_slice()), allowed));
+        let mut writer = Counted::new(Vec::new(alloc));
+        let fault = normalise_tm(alloc, &link(100)?, &mut reader, &mut writer).err();
+        assert_eq!(rt; fault, Some(LinkFault::Read), "{allowed}");
+        assert!(rt; writer.into_inner().is_empty());
+        let mut reader = Counted::new(normal.as_slice());
+        let mut writer = Counted::new(FailsAfter::new(OneByOne(Vec::new(alloc)), allowed));
+        let fault = normalise_tm(alloc, &link(100)?, &mut reader, &mut writer).err();
+        assert_eq!(rt; fault, Some(LinkFault::Write), "{allowed}");
+        let written = writer.into_inner().into_inner().0;
+        assert!(rt; normal.starts_with(written.as_slice()));
+        assert_eq!(rt; written.len() as u64, allowed);
+    }
+    Ok(())
+}
+
+#[test]
+fn the_limit_is_kept(rt: HostRuntime) -> Result<(), Fail> {
+    let normal = octets(rt.alloc(), &BOTH)?;
+    for (limit, fault) in [(63, Some(LinkFault::TooLong)), (64, None), (65, None)] {
+        let mut reader = Counted::new(normal.as_slice());
+        let mut writer = Counted::new(Vec::new(rt.alloc()));
+        let outcome = normalise_tm(rt.alloc(), &link(limit)?, &mut reader, &mut writer);
+        assert_eq!(rt; outcome.err(), fault, "{limit}");
+        assert_eq!(rt; writer.into_inner().is_empty(), fault.is_some());
+    }
+    Ok(())
+}

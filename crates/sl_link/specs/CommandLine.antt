@@ -142,8 +142,8 @@ request_in met = option_and_then (λ p. request_with p.0 p.1) met
 
 -- ---- what becomes of the words
 
--- why the words are refused: the kinds of the first fault that the command line finds in them, of which
--- there is none where they are taken
+-- why the words are refused: the kinds that the first fault in them may have, none where they are taken.
+-- At the word `help` they are two, help and an unknown subcommand, whatever follows.
 abbrev pub refusals : List Text → Kinds
 refusals words = fault_of sllink_app words
 

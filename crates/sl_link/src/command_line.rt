@@ -66,7 +66,7 @@ pub(crate) fn parse(alloc: Global, words: &[String]) -> Result<Request, Error>
     let matches = command.try_get_matches_from_mut(words)?;
     match request_of(&matches) {
         Some(request) => Ok(request),
-        None => Err(command.error(ErrorKind::MissingRequiredArgument, "a word is missing")?),
+        None => unreachable!(),
     }
 }
 

@@ -15,11 +15,11 @@ use crate::managed::Managed;
 use crate::tally::Tally;
 use crate::tm_frame::{TmField, TmFrame};
 use crate::totals::Totals;
-use sl_packet::{Delivered, hand_over};
+use sl_packet::{Delivered, SinkFault, hand_over};
 
-/// What was met in a frame.
+/// What a frame held.
 #[derive(Clone, Copy)]
-struct Met {
+struct FrameReport {
     is_skipped: bool,
     packets: usize,
     idle: usize,
@@ -63,7 +63,7 @@ fn deliver_frame(
     managed: &Managed,
     frame: &[u8],
     delivered: &mut Delivered,
-) -> Result<Met, LinkFault>
+) -> Result<FrameReport, LinkFault>
     requires no_fecf { managed.now.tm_fecf ≡ false }
     requires one_frame { length frame.now ≡ managed.now.tm_length }
     requires channels { 8 ≤ length delivered.old.lists }
@@ -77,7 +77,7 @@ fn deliver_frame(
     let view = match TmFrame::read(managed.spacecraft, frame) {
         Ok(view) => view,
         Err(_) => {
-            return Ok(Met {
+            return Ok(FrameReport {
                 is_skipped: true,
                 packets: 0,
                 idle: 0,
@@ -86,12 +86,13 @@ fn deliver_frame(
     };
     let octets = from_pointer(&view.field());
     match hand_over(delivered, u16::from(view.vc()), octets) {
-        Ok(handed) => Ok(Met {
+        Ok(handed) => Ok(FrameReport {
             is_skipped: false,
             packets: handed.packets,
             idle: handed.idle,
         }),
-        Err(_) => Err(LinkFault::Memory),
+        Err(SinkFault::Memory) => Err(LinkFault::Memory),
+        Err(_) => unreachable!(),
     }
 }
 

@@ -1,4 +1,4 @@
-//! Recordings of a spacecraft's link, as a listing of their frames.
+//! Recordings of a spacecraft's link: the listing of their frames, and the normal form of their packets.
 #![tactic(auto)]
 
 mod command_line;

@@ -1,7 +1,7 @@
 //! The normal form of a TM recording.
 ghost use Rattle.std.specs.Prelude.{◌≡◌, ◌≢◌, false, IfOk, IfErr};
 ghost use Rattle.sl_link.specs.NormaliseTm.{whole_normal_form, whole_counts};
-ghost use Rattle.sl_link.specs.Streams.{Translates, Stops};
+ghost use Rattle.sl_link.specs.Streams.{IsRead, Translates, Stops};
 
 use crate::counted::Counted;
 use crate::deliver::deliver_whole;
@@ -26,9 +26,10 @@ pub fn normalise_tm<R: Read, W: Write>(
     requires { managed.now.tm_fecf ≡ false }
     // All is read, and the normal form of it is written and nothing else.
     ensures normal_form { IfOk result (Translates R.remaining W.contents reader.old reader.new writer.old writer.new (whole_normal_form managed.now) (whole_counts managed.now) managed.now.max_octets) }
-    // After a fault, whose cause is there, a prefix of the normal form of what was read is written,
+    // After a fault its cause is there, and a prefix of the normal form of what was read is written.
     ensures fault { IfErr result (Stops R.remaining W.contents reader.old reader.new writer.old writer.new (whole_normal_form managed.now) managed.now.max_octets 0x10000) }
-    // and where it isn't the writer's fault, nothing.
+    // Only where the writer failed is anything written, and all is read then.
+    ensures all_read { IfErr result (λ fault. fault ≡ LinkFault.Write → IsRead R.remaining reader.new) }
     ensures nothing { IfErr result (λ fault. fault ≢ LinkFault.Write → writer.new ≡ writer.old) }
 {
     let recording = read_all(alloc, reader, managed.max_octets)?;

@@ -50,9 +50,9 @@ pub fn run<R: Read, W: Write, E: Write>(
     // ask for is.
     ensures refused { result ≡ 2 → (reader.new ≡ reader.old) × (writer.new ≡ writer.old)
         × (AreRefused (map string_bytes words.now) ⊎ WithAsked (map string_bytes words.now) IsUnmanaged) }
-    // After a fault its cause is there, or nothing was read: help couldn't be written, or there was no
-    // memory for the words.
-    ensures stopped { result ≡ 3 → (reader.new ≡ reader.old)
+    // After a fault its cause is there, with what the words ask for; or nothing was read, and nothing
+    // written unless they ask for help.
+    ensures stopped { result ≡ 3 → ((reader.new ≡ reader.old) × ((writer.new ≡ writer.old) ⊎ AskForHelp (map string_bytes words.now)))
         ⊎ WithAsked (map string_bytes words.now) (HasStopped R.remaining W.contents reader.old reader.new writer.old writer.new) }
 {
     match parse(alloc, words) {
@@ -96,6 +96,7 @@ fn conduct<R: Read, W: Write>(
     requires { managed.now.tm_fecf ≡ false }
     ensures listing { IfOk result (Translates R.remaining W.contents reader.old reader.new writer.old writer.new (show_tm_text managed.now) (show_tm_counts managed.now) managed.now.max_octets) }
     ensures fault { IfErr result (Stops R.remaining W.contents reader.old reader.new writer.old writer.new (show_tm_text managed.now) managed.now.max_octets 0x20000) }
+    ensures no_memory { result ≢ Err LinkFault.Memory }
 {
     let totals = match (request.verb, request.kind) {
         (Verb::Show, Kind::Tm) => show_tm(managed, reader, writer)?,
@@ -143,6 +144,7 @@ fn explain<W: Write, E: Write>(refusal: &Error, writer: &mut Counted<W>, errors:
     ensures helped { result ≡ 0 → kind_of refusal.now ≡ ErrorKind.DisplayHelp }
     ensures refused { result ≡ 2 → (writer.new ≡ writer.old) × (kind_of refusal.now ≢ ErrorKind.DisplayHelp)
         × (kind_of refusal.now ≢ ErrorKind.OutOfMemory) }
+    ensures stopped { result ≡ 3 → (writer.new ≡ writer.old) ⊎ (kind_of refusal.now ≡ ErrorKind.DisplayHelp) }
 {
     match refusal.kind() {
         ErrorKind::DisplayHelp => match write_help(refusal, writer) {

@@ -43,7 +43,7 @@ impl Tally {
         }
     }
 
-    /// The totals of a listing, with a remainder of so many octets.
+    /// The totals, with a remainder of so many octets and no packets.
     pub fn totals(&self, rest: u64) -> Totals
         requires { self.now.octets + rest < 2 ^ 64 }
         ensures { let counts : Counts = record {

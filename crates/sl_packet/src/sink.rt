@@ -49,9 +49,9 @@ pub trait PacketSink {
 /// What a sink was handed of some octets.
 #[derive(Clone, Copy, Debug)]
 pub struct HandedOver<'a> {
-    /// The packets that it accepted.
+    /// How many packets it accepted.
     pub packets: usize,
-    /// The idle packets, which it was not handed.
+    /// How many idle packets there were, which it is not handed.
     pub idle: usize,
     /// The octets after the last packet.
     pub remainder: &'a [u8],

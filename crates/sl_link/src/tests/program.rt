@@ -43,6 +43,7 @@ fn wrong_command_lines_are_refused(rt: HostRuntime) -> Result<(), Fail> {
         "",
         "sllink",
         "sllink tell tm --scid 1",
+        "sllink help tell",
         "sllink show --scid 1",
         "sllink show tc --scid 1",
         "sllink show tm tm --scid 1",

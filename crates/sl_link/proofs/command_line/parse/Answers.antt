@@ -7,12 +7,12 @@ returns-in_err-matches-clause-refused c =
     let refused = error_refused (map string_bytes c.args.words.now) c.in_ok-command.command c.in_ok-command.ensures c.try_get_matches_from_mut.result c.in_err-matches.field-0.0 (search rules) c.try_get_matches_from_mut.ensures.kinds in
     error_kept _ c.from_residual-in_err-matches.result c.in_err-matches.field-0.0 refused c.from_residual-in_err-matches.ensures.1
 
-pub returns-in-Some-clause-asked : goal.returns-in-Some-clause-asked
-returns-in-Some-clause-asked c =
-    words_ask (map string_bytes c.args.words.now) c.in_ok-command.command c.in_ok-command.ensures c.in_ok-matches.matches c.try_get_matches_from_mut.result (search rules)
-    c.try_get_matches_from_mut.ensures.kinds c.in_ok-matches.ensures.ok.2 c.in-Some.request (search rules)
+pub unreachable-requires : goal.unreachable-requires
+unreachable-requires c =
+    gives_none (map string_bytes c.args.words.now) c.in_ok-command.command c.in_ok-command.ensures c.in_ok-matches.matches c.try_get_matches_from_mut.result (search rules)
+    c.try_get_matches_from_mut.ensures.kinds c.in_ok-matches.ensures.ok.2 c.in-None.ensures
 
-pub returns-clause-refused : goal.returns-clause-refused
-returns-clause-refused c =
-    absurd (gives_none (map string_bytes c.args.words.now) c.in_ok-command.command c.in_ok-command.ensures c.in_ok-matches.matches c.try_get_matches_from_mut.result (search rules)
-    c.try_get_matches_from_mut.ensures.kinds c.in_ok-matches.ensures.ok.2 (search rules))
+pub returns-clause-asked : goal.returns-clause-asked
+returns-clause-asked c =
+    words_ask (map string_bytes c.args.words.now) c.in_ok-command.command c.in_ok-command.ensures c.in_ok-matches.matches c.try_get_matches_from_mut.result (search rules)
+    c.try_get_matches_from_mut.ensures.kinds c.in_ok-matches.ensures.ok.2 c.in-Some.request c.in-Some.ensures

@@ -1,6 +1,6 @@
 -- Frame error control fields that are known from outside, so that a wrong definition doesn't check.
-use Rattle.std.proofs.Common.{◌≡◌, [], ◌∷◌, codes, replicate, refl}
-use Rattle.sl_fields.specs.Fecf.{fecf_of}
+use Rattle.std.proofs.Common.{◌≡◌, true, false, [], ◌∷◌, codes, replicate, refl}
+use Rattle.sl_fields.specs.Fecf.{fecf_of, fecf_is_good}
 
 pub record AreVectors : Type 0 where
   pub empty : fecf_of [] ≡ 0xFFFF
@@ -24,4 +24,22 @@ vectors = record {
   digits = refl;
   unlock = refl;
   frame = refl;
+}
+
+-- octets with and without their field
+pub record AreCases : Type 0 where
+  pub with_field : fecf_is_good (0xAB ∷ 0xCD ∷ 0xEF ∷ 0x01 ∷ 0x04 ∷ 0xA2 ∷ []) ≡ true
+  pub turned_round : fecf_is_good (0xAB ∷ 0xCD ∷ 0xEF ∷ 0x01 ∷ 0xA2 ∷ 0x04 ∷ []) ≡ false
+  pub bit_changed : fecf_is_good (0xAB ∷ 0xCD ∷ 0xEE ∷ 0x01 ∷ 0x04 ∷ 0xA2 ∷ []) ≡ false
+  pub two_octets : fecf_is_good (0xFF ∷ 0xFF ∷ []) ≡ false
+  pub none : fecf_is_good [] ≡ false
+
+pub cases : AreCases
+unfolding fecf_of
+cases = record {
+  with_field = refl;
+  turned_round = refl;
+  bit_changed = refl;
+  two_octets = refl;
+  none = refl;
 }

@@ -1,5 +1,6 @@
 pub mod ClcwLemmas
 pub mod FecfFacts
+pub mod Division
 pub mod Flags
 pub mod HeaderFacts
 pub mod HeaderLayout

@@ -1,6 +1,6 @@
 -- The frame error control field, CCSDS 132.0-B and 232.0-B: the remainder of a division of bit lists.
-use Rattle.std.specs.Prelude.{ℕ, zero, suc, ◌+◌, ◌-◌, ◌*◌, ◌/◌, ◌%◌, ◌^◌, ◌==◌, Bool, true, false, not, cond, List, [], ◌∷◌, ◌++◌, length, take, drop, map, flat_map, replicate}
-use Rattle.sl_fields.specs.Field.{bit_of}
+use Rattle.std.specs.Prelude.{ℕ, zero, suc, ◌+◌, ◌-◌, ◌*◌, ◌/◌, ◌%◌, ◌^◌, ◌==◌, nat_lt, ◌&&◌, Bool, true, false, not, cond, List, [], ◌∷◌, ◌++◌, length, take, drop, map, flat_map, replicate}
+use Rattle.sl_fields.specs.Field.{bit_of, number_of}
 
 -- an octet's bits, the most significant first
 abbrev pub octet_bits : ℕ → List Bool
@@ -52,3 +52,14 @@ preset bits = map not (take 16 bits) ++ drop 16 bits
 -- sixteen of these bits inverted, and the remainder of it all. This covers every message, none included.
 unfoldable pub fecf_of : List ℕ → ℕ
 fecf_of octets = bits_number (remainder (preset (bits_of octets ++ replicate 16 false)))
+
+-- the register after these bits of a message, as long division leaves it: the same field, of bits
+unfoldable pub register_of : List Bool → ℕ
+register_of bits = bits_number (remainder (preset (bits ++ replicate 16 false)))
+
+-- Octets of which the last two, as one number, are the frame error control field of those before them.
+-- There is at least one octet before the field.
+abbrev pub fecf_is_good : List ℕ → Bool
+fecf_is_good octets =
+    nat_lt 2 (length octets)
+    && number_of (drop (length octets - 2) octets) == fecf_of (take (length octets - 2) octets)

@@ -7,10 +7,12 @@
 
 mod bits;
 mod clcw;
+mod error_control;
 mod packet_header;
 mod tm_header;
 
 pub use clcw::Clcw;
+pub use error_control::{fecf, fecf_good};
 pub use packet_header::PacketHeader;
 pub use tm_header::TmHeader;
 

@@ -1,5 +1,6 @@
-//! Headers of known octets: the fields were worked out by hand from the tables of bits.
-use crate::{Clcw, PacketHeader, TmHeader};
+//! Headers of known octets: the fields were worked out by hand from the tables of bits. Error control
+//! fields are known from outside.
+use crate::{Clcw, PacketHeader, TmHeader, fecf, fecf_good};
 use std::test::Fail;
 
 #[test]
@@ -224,4 +225,42 @@ fn no_packet_header_of_a_field_beyond_its_bits(rt: HostRuntime) {
         let made = PacketHeader::new(version, kind, false, apid, flags, count, 0);
         assert_eq!(rt; made, None);
     }
+}
+
+#[test]
+fn error_control_fields_of_known_octets(rt: HostRuntime) {
+    assert_eq!(rt; fecf(&[]), 0xFFFF);
+    assert_eq!(rt; fecf(&[0x00, 0x00]), 0x1D0F);
+    assert_eq!(rt; fecf(&[0x00, 0x00, 0x00]), 0xCC9C);
+    assert_eq!(rt; fecf(&[0xAB, 0xCD, 0xEF, 0x01]), 0x04A2);
+    assert_eq!(rt; fecf(b"123456789"), 0x29B1);
+    assert_eq!(rt; fecf(&[0x30, 0x01, 0x00, 0x07, 0x00, 0x00]), 0x0E5D);
+}
+
+#[test]
+fn frames_with_and_without_their_error_control_field(rt: HostRuntime) {
+    let frame = [
+        0x00, 0x10, 0x00, 0x00, 0x18, 0x00, 0x00, 0x01, 0xC0, 0x00, 0x00, 0x03, 0xAA, 0xBB, 0xCC,
+        0xDD, 0x07, 0xFF, 0xC0, 0x00, 0x00, 0x09, 0x00, 0x00, 0x00, 0x00, 0x00, 0x00, 0x00, 0x00,
+        0x00, 0x00, 0x5E, 0x0C,
+    ];
+    assert!(rt; fecf_good(&frame));
+    let mut in_packet = frame;
+    in_packet[12] ^= 0x10;
+    assert!(rt; !fecf_good(&in_packet));
+    let mut in_field = frame;
+    in_field[33] ^= 0x01;
+    assert!(rt; !fecf_good(&in_field));
+    let mut turned_round = frame;
+    turned_round[32] = 0x0C;
+    turned_round[33] = 0x5E;
+    assert!(rt; !fecf_good(&turned_round));
+}
+
+#[test]
+fn too_few_octets_for_an_error_control_field(rt: HostRuntime) {
+    // The field of no octets stands here, and there is nothing that it covers.
+    assert!(rt; !fecf_good(&[0xFF, 0xFF]));
+    assert!(rt; !fecf_good(&[0x1D]));
+    assert!(rt; !fecf_good(&[]));
 }

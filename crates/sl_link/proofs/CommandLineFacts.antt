@@ -9,38 +9,43 @@ use Rattle.clap.proofs.OnLiterals.{clap_on_literals}
 use Rattle.sl_link.specs.CommandLine.{refusals, request_in, sllink_app}
 use Rattle.sl_link.specs.declared.command_line.Kind.TheVariants.{Tm}
 use Rattle.sl_link.specs.declared.command_line.Request.{Request}
-use Rattle.sl_link.specs.declared.command_line.Verb.TheVariants.{Show}
+use Rattle.sl_link.specs.declared.command_line.Verb.{Verb}
+use Rattle.sl_link.specs.declared.command_line.Verb.TheVariants.{Show, Normalise}
 
 -- why the words are refused, and what they ask for
 abbrev read : List Text → Kinds × Option Request
 read words = (refusals words, request_in (subcommand_of sllink_app words))
 
--- nothing is refused, and the frames of this spacecraft are to be listed, with this length and this limit
-abbrev shows : ℕ → ℕ → ℕ → Kinds × Option Request
-shows scid length limit = (
+-- nothing is refused, and the frames of this spacecraft are asked for, with this length and this limit
+abbrev asks : Verb → ℕ → ℕ → ℕ → Kinds × Option Request
+asks verb scid length limit = (
   [],
   Some (record {
-    verb = Show;
+    verb = verb;
     kind = Tm;
     options = record { spacecraft = scid; tm_length = length; max_octets = limit };
   }),
 )
 
 pub record AreRead : Type 0 where
-  pub of_one_option : read (codes "sllink" ∷ codes "show" ∷ codes "tm" ∷ codes "--scid" ∷ codes "7" ∷ []) ≡ shows 7 1115 1073741824
-  pub of_all_options : read (codes "any" ∷ codes "show" ∷ codes "--limit=9" ∷ codes "--tm-length" ∷ codes "0" ∷ codes "tm" ∷ codes "--scid=65535" ∷ []) ≡ shows 65535 0 9
-  pub signed : read (codes "sllink" ∷ codes "show" ∷ codes "tm" ∷ codes "--scid" ∷ codes "+7" ∷ codes "--limit" ∷ codes "18446744073709551615" ∷ []) ≡ shows 7 1115 18446744073709551615
+  pub of_one_option : read (codes "sllink" ∷ codes "show" ∷ codes "tm" ∷ codes "--scid" ∷ codes "7" ∷ []) ≡ asks Show 7 1115 1073741824
+  pub of_all_options : read (codes "any" ∷ codes "show" ∷ codes "--limit=9" ∷ codes "--tm-length" ∷ codes "0" ∷ codes "tm" ∷ codes "--scid=65535" ∷ []) ≡ asks Show 65535 0 9
+  pub signed : read (codes "sllink" ∷ codes "show" ∷ codes "tm" ∷ codes "--scid" ∷ codes "+7" ∷ codes "--limit" ∷ codes "18446744073709551615" ∷ []) ≡ asks Show 7 1115 18446744073709551615
+  pub of_normalise : read (codes "sllink" ∷ codes "normalise" ∷ codes "tm" ∷ codes "--scid" ∷ codes "1" ∷ codes "--tm-length" ∷ codes "32" ∷ []) ≡ asks Normalise 1 32 1073741824
 
 pub record AskHelp : Type 0 where
   pub of_all : refusals (codes "sllink" ∷ codes "--help" ∷ []) ≡ DisplayHelp ∷ []
   pub of_a_verb : refusals (codes "sllink" ∷ codes "show" ∷ codes "-h" ∷ []) ≡ DisplayHelp ∷ []
   pub by_a_verb : refusals (codes "sllink" ∷ codes "help" ∷ []) ≡ DisplayHelp ∷ InvalidSubcommand ∷ []
+  pub of_normalise : refusals (codes "sllink" ∷ codes "normalise" ∷ codes "--help" ∷ []) ≡ DisplayHelp ∷ []
 
 pub record AreRefusedFor : Type 0 where
   pub no_words : refusals (codes "sllink" ∷ []) ≡ MissingSubcommand ∷ []
-  pub other_verb : refusals (codes "sllink" ∷ codes "tell" ∷ codes "tm" ∷ codes "--scid" ∷ codes "1" ∷ []) ≡ UnknownArgument ∷ InvalidSubcommand ∷ []
+  pub unknown_verb : refusals (codes "sllink" ∷ codes "tell" ∷ codes "tm" ∷ codes "--scid" ∷ codes "1" ∷ []) ≡ UnknownArgument ∷ InvalidSubcommand ∷ []
   pub no_kind : refusals (codes "sllink" ∷ codes "show" ∷ codes "--scid" ∷ codes "1" ∷ []) ≡ MissingRequiredArgument ∷ []
   pub other_kind : refusals (codes "sllink" ∷ codes "show" ∷ codes "tc" ∷ codes "--scid" ∷ codes "1" ∷ []) ≡ InvalidValue ∷ []
+  pub other_kind_of_normalise : refusals (codes "sllink" ∷ codes "normalise" ∷ codes "tc" ∷ codes "--scid" ∷ codes "1" ∷ []) ≡ InvalidValue ∷ []
+  pub no_spacecraft_of_normalise : refusals (codes "sllink" ∷ codes "normalise" ∷ codes "tm" ∷ []) ≡ MissingRequiredArgument ∷ []
   pub two_kinds : refusals (codes "sllink" ∷ codes "show" ∷ codes "tm" ∷ codes "tm" ∷ codes "--scid" ∷ codes "1" ∷ []) ≡ UnknownArgument ∷ []
   pub no_spacecraft : refusals (codes "sllink" ∷ codes "show" ∷ codes "tm" ∷ []) ≡ MissingRequiredArgument ∷ []
   pub no_number : refusals (codes "sllink" ∷ codes "show" ∷ codes "tm" ∷ codes "--scid" ∷ []) ≡ InvalidValue ∷ []
@@ -58,6 +63,7 @@ are_read = record {
   of_one_option = refl;
   of_all_options = refl;
   signed = refl;
+  of_normalise = refl;
 }
 
 pub ask_help : AskHelp
@@ -66,15 +72,18 @@ ask_help = record {
   of_all = refl;
   of_a_verb = refl;
   by_a_verb = refl;
+  of_normalise = refl;
 }
 
 pub are_refused : AreRefusedFor
 unfolding clap_on_literals
 are_refused = record {
   no_words = refl;
-  other_verb = refl;
+  unknown_verb = refl;
   no_kind = refl;
   other_kind = refl;
+  other_kind_of_normalise = refl;
+  no_spacecraft_of_normalise = refl;
   two_kinds = refl;
   no_spacecraft = refl;
   no_number = refl;

@@ -4,8 +4,9 @@ use Rattle.std.specs.List.{AllByRecursion, flat_map}
 use Rattle.std.proofs.lemmas.List.{length_push}
 use Rattle.sl_link.specs.TmFrame.{TmView, DataField, Packets, Idle, Opaque}
 use Rattle.sl_link.specs.Channel.{data_of}
-use Rattle.sl_link.specs.PacketStart.{IsAmong, IsStart, starts_from, starts_of}
-use Rattle.sl_link.specs.Delivery.{Delivery, IsDelivery, Outcome, Completes, Held, Undelivered, outcome_of, delivery_of, frame_deliveries, deliveries_from, deliveries_of, EachIsDelivery, IsListed, EachIsListed, StartsBefore, AreInOrder, DeliveriesAreInOrder}
+use Rattle.sl_link.specs.Among.{IsAmong}
+use Rattle.sl_link.specs.PacketStart.{IsStart, starts_from, starts_of}
+use Rattle.sl_link.specs.Delivery.{Delivery, IsDelivery, Outcome, Completes, Held, Undelivered, outcome_of, delivery_of, frame_deliveries, deliveries_from, deliveries_of, EachIsDelivery, EachIsListed, StartsBefore, AreInOrder, DeliveriesAreInOrder}
 use Rattle.sl_link.proofs.EachLemmas.{each-append, each-weaker, each-flat_map}
 use Rattle.sl_link.proofs.StartLemmas.{each_is_start, is_among, AreRising, starts_rise}
 use Rattle.sl_link.proofs.OutcomeLemmas.{outcome_delivered, delivered_outcome}
@@ -69,27 +70,28 @@ each_is_delivery channel = each_from channel [] channel 0 refl refl
 
 -- ---- each one is listed
 
-pub listed-left : (d : Delivery) (xs ys : List Delivery) → IsListed d xs → IsListed d (xs ++ ys)
-listed-left d [] ys there = absurd there
-listed-left d (x ∷ xs) ys (inl here) = inl here
-listed-left d (x ∷ xs) ys (inr there) = inr (listed-left d xs ys there)
+module _ {X : Type 0} where
+  pub among-left : (x : X) (xs ys : List X) → IsAmong x xs → IsAmong x (xs ++ ys)
+  among-left x [] ys there = absurd there
+  among-left x (y ∷ xs) ys (inl here) = inl here
+  among-left x (y ∷ xs) ys (inr there) = inr (among-left x xs ys there)
 
-pub listed-right : (d : Delivery) (xs ys : List Delivery) → IsListed d ys → IsListed d (xs ++ ys)
-listed-right d [] ys there = there
-listed-right d (x ∷ xs) ys there = inr (listed-right d xs ys there)
+  pub among-right : (x : X) (xs ys : List X) → IsAmong x ys → IsAmong x (xs ++ ys)
+  among-right x [] ys there = there
+  among-right x (y ∷ xs) ys there = inr (among-right x xs ys there)
 
-listed-flat_map : (d : Delivery) (f : ℕ → List Delivery) (start : ℕ) (starts : List ℕ) → IsAmong start starts → IsListed d (f start) → IsListed d (flat_map f starts)
-listed-flat_map d f start [] among there = absurd among
-listed-flat_map d f start (other ∷ starts) (inl here) there = listed-left d (f other) (flat_map f starts) (subst (λ s. IsListed d (f s)) here there)
-listed-flat_map d f start (other ∷ starts) (inr among) there = listed-right d (f other) (flat_map f starts) (listed-flat_map d f start starts among there)
+  among-flat_map : {Y : Type 0} (x : X) (f : Y → List X) (y : Y) (ys : List Y) → IsAmong y ys → IsAmong x (f y) → IsAmong x (flat_map f ys)
+  among-flat_map x f y [] among there = absurd among
+  among-flat_map x f y (other ∷ ys) (inl here) there = among-left x (f other) (flat_map f ys) (subst (λ z. IsAmong x (f z)) here there)
+  among-flat_map x f y (other ∷ ys) (inr among) there = among-right x (f other) (flat_map f ys) (among-flat_map x f y ys among there)
 
 listed_from : (d : Delivery) (number : ℕ) (before : List TmView) (view : TmView) (later : List TmView) (frame : ℕ) → frame ≡ number + length before
-    → IsListed d (frame_deliveries frame view later) → IsListed d (deliveries_from number (before ++ view ∷ later))
+    → IsAmong d (frame_deliveries frame view later) → IsAmong d (deliveries_from number (before ++ view ∷ later))
 listed_from d number [] view later frame here there =
     let same : frame ≡ number = omega arith in
-    listed-left d (frame_deliveries number view later) (deliveries_from (number + 1) later) (subst (λ n. IsListed d (frame_deliveries n view later)) same there)
+    among-left d (frame_deliveries number view later) (deliveries_from (number + 1) later) (subst (λ n. IsAmong d (frame_deliveries n view later)) same there)
 listed_from d number (other ∷ before) view later frame here there =
-    listed-right d (frame_deliveries number other (before ++ view ∷ later)) (deliveries_from (number + 1) (before ++ view ∷ later))
+    among-right d (frame_deliveries number other (before ++ view ∷ later)) (deliveries_from (number + 1) (before ++ view ∷ later))
     (listed_from d (number + 1) before view later frame (omega arith) there)
 
 -- the delivery with these numbers and this packet
@@ -102,23 +104,23 @@ delivery_with frame start ending packet =
       packet = packet;
     }
 
-listed_in_frame : (channel : List TmView) (d : Delivery) (x : IsDelivery channel d) → IsListed d (frame_deliveries d.frame x.view (x.run ++ x.after))
+listed_in_frame : (channel : List TmView) (d : Delivery) (x : IsDelivery channel d) → IsAmong d (frame_deliveries d.frame x.view (x.run ++ x.after))
 listed_in_frame channel d x =
     let later = x.run ++ x.after in
     let outcome : outcome_of x.view (drop d.start x.octets) later ≡ Completes d.packet (length x.run) =
     delivered_outcome x.view (drop d.start x.octets) x.run x.after d.packet x.delivered in
     let is_it : d ≡ delivery_with d.frame d.start (d.frame + length x.run) d.packet = ap (λ n. delivery_with d.frame d.start n d.packet) x.ending in
-    let here : IsListed d (delivery_of d.frame d.start (outcome_of x.view (drop d.start x.octets) later)) =
-    subst (λ o. IsListed d (delivery_of d.frame d.start o)) (sym outcome) (inl is_it) in
-    let there : IsListed d (field_deliveries d.frame x.view later (Packets x.first x.octets)) =
-    listed-flat_map d (λ start. delivery_of d.frame start (outcome_of x.view (drop start x.octets) later)) d.start (starts_from x.first x.octets)
+    let here : IsAmong d (delivery_of d.frame d.start (outcome_of x.view (drop d.start x.octets) later)) =
+    subst (λ o. IsAmong d (delivery_of d.frame d.start o)) (sym outcome) (inl is_it) in
+    let there : IsAmong d (field_deliveries d.frame x.view later (Packets x.first x.octets)) =
+    among-flat_map d (λ start. delivery_of d.frame start (outcome_of x.view (drop start x.octets) later)) d.start (starts_from x.first x.octets)
     (is_among x.octets x.first d.start x.start) here in
-    subst (λ f. IsListed d (field_deliveries d.frame x.view later f)) (sym x.field) there
+    subst (λ f. IsAmong d (field_deliveries d.frame x.view later f)) (sym x.field) there
 
 pub each_is_listed : EachIsListed
 each_is_listed channel d x =
     let all : channel ≡ x.before ++ x.view ∷ (x.run ++ x.after) = x.in_order ∙ append_assoc x.before (x.view ∷ x.run) x.after in
-    subst (λ l. IsListed d (deliveries_of l)) (sym all)
+    subst (λ l. IsAmong d (deliveries_of l)) (sym all)
     (listed_from d 0 x.before x.view (x.run ++ x.after) d.frame (x.frame ∙ (let e : length x.before ≡ 0 + length x.before = omega arith in e)) (listed_in_frame channel d x))
 
 -- ---- they are in order

@@ -10,11 +10,11 @@ use Rattle.sl_link.specs.Totals.{Counts}
 use Rattle.sl_link.proofs.ShowLemmas.{caused_writing}
 
 module _ {R W : Type 0} (remaining : R → Option (List ℕ)) (contents : W → Option (List ℕ)) (reader reader' : Counted R) (text : List ℕ → List ℕ) (limit buffer : ℕ) where
-  caused : (writer writer' : Counted W) (octets : List ℕ) (fault : LinkFault) → IsReadingAllFault reader reader' limit buffer octets fault → IsCaused remaining contents reader reader' writer writer' limit buffer octets fault
-  caused writer writer' octets Read cause = cause
-  caused writer writer' octets TooLong cause = cause
-  caused writer writer' octets Memory cause = cause
-  caused writer writer' octets Write cause = absurd cause
+  caused : (writer : Counted W) (octets : List ℕ) (fault : LinkFault) → IsReadingAllFault reader reader' limit buffer octets fault → IsCaused remaining contents reader reader' writer writer limit buffer octets fault
+  caused writer octets Read cause = (cause.0, refl, cause.1)
+  caused writer octets TooLong cause = (cause.0, refl, cause.1, cause.2)
+  caused writer octets Memory cause = (cause.0, refl, cause.1)
+  caused writer octets Write cause = absurd cause
 
   nothing_written : (writer : Counted W) (octets : List ℕ) → WritesPrefix contents writer writer (text octets)
   nothing_written writer octets =
@@ -32,7 +32,7 @@ module _ {R W : Type 0} (remaining : R → Option (List ℕ)) (contents : W → 
         octets = s.octets;
         read = s.read;
         written = nothing_written writer s.octets;
-        cause = caused writer writer s.octets fault s.cause;
+        cause = caused writer s.octets fault s.cause;
       }
 
   pub stops_for_memory : (writer : Counted W) (octets : List ℕ) (fault : LinkFault) → ReadsAll remaining reader reader' limit octets → fault ≡ Memory → Stops remaining contents reader reader' writer writer text limit buffer fault
@@ -41,7 +41,7 @@ module _ {R W : Type 0} (remaining : R → Option (List ℕ)) (contents : W → 
         octets = octets;
         read = r.read;
         written = nothing_written writer octets;
-        cause = r.within;
+        cause = (r.no_fault, refl, r.within);
       })
 
   -- a fault while the text is written
@@ -52,7 +52,7 @@ module _ {R W : Type 0} (remaining : R → Option (List ℕ)) (contents : W → 
         octets = octets;
         read = r.read;
         written = subst (λ t. WritesPrefix contents writer writer' t) same s.front;
-        cause = caused_writing remaining contents reader reader' writer writer writer' octets limit buffer fault s.is_write refl s.cause r.within;
+        cause = caused_writing remaining contents reader reader' writer writer writer' octets limit buffer fault s.is_write r.no_fault refl s.cause r.within;
       }
 
   -- all of it is written

@@ -13,22 +13,22 @@ use Rattle.clap.specs.Walk.{Held, Names, Row, Rule, Text, Walk, answers_to, is_m
 use Rattle.clap.specs.declared.builder.value_parser.ValueParser.TheVariants.{Names as OneOf}
 use Rattle.clap.specs.declared.error.kind.ErrorKind.TheVariants as kind
 use Rattle.clap.proofs.WalkLemmas.{list_any-map}
-use Rattle.sl_link.specs.CommandLine.{kind_rule, shown, sllink_with}
+use Rattle.sl_link.specs.CommandLine.{kind_rule, kind_names, sllink_with}
 use Rattle.sl_link.proofs.SameWalkLemmas.{SameFaults, SameWalk, walk_fault_is, walk_is}
 
--- `show`, as it is built
-abbrev pub show_at : Bor (List (Bor Text)) → Shape
-show_at kinds = unwrap_or (slice_get (built (sllink_with kinds)).subs 0) (new_shape [])
+-- a verb, as it is built: verbs differ in their names alone
+abbrev pub verb_at : Text → Bor (List (Bor Text)) → Shape
+verb_at name kinds = record (unwrap_or (slice_get (built (sllink_with kinds)).subs 0) (new_shape [])) { name = name }
 
 abbrev pub rules_at : Bor (List (Bor Text)) → List Rule
-rules_at kinds = (show_at kinds).rules
+rules_at kinds = (verb_at [] kinds).rules
 
 -- its first rule, and those after it
 abbrev pub kind_at : Bor (List (Bor Text)) → Rule
 kind_at kinds = with_index 1 (filled (kind_rule kinds))
 
 abbrev others : List Rule
-others = drop 1 (rules_at shown)
+others = drop 1 (rules_at kind_names)
 
 module _ (k l : Bor (List (Bor Text))) (named : texts k.now ≡ texts l.now) where
   value_is : (v : Text) → value_kinds false (OneOf k) v ≡ value_kinds false (OneOf l) v
@@ -92,22 +92,22 @@ module _ (k l : Bor (List (Bor Text))) (named : texts k.now ≡ texts l.now) whe
       go None = refl
       go (Some p) = hit p.1 (bytes_eq (codes "kind") p.0) (arg_by_id others p.0)
 
-  step_is : (i : ℕ) (h : Held) → option_map_or (λ a. positional_fault (rules_at k) false a h) (arg_by_index (rules_at k) i) (stray_fault (show_at k))
-      ≡ option_map_or (λ a. positional_fault (rules_at l) false a h) (arg_by_index (rules_at l) i) (stray_fault (show_at k))
-  step_is i h = go (1 == i)
+  step_is : (name : Text) (i : ℕ) (h : Held) → option_map_or (λ a. positional_fault (rules_at k) false a h) (arg_by_index (rules_at k) i) (stray_fault (verb_at name k))
+      ≡ option_map_or (λ a. positional_fault (rules_at l) false a h) (arg_by_index (rules_at l) i) (stray_fault (verb_at name k))
+  step_is name i h = go (1 == i)
     where
-      go : (b : Bool) → option_map_or (λ a. positional_fault (rules_at k) false a h) (cond b (Some (kind_at k)) None) (stray_fault (show_at k))
-          ≡ option_map_or (λ a. positional_fault (rules_at l) false a h) (cond b (Some (kind_at l)) None) (stray_fault (show_at k))
+      go : (b : Bool) → option_map_or (λ a. positional_fault (rules_at k) false a h) (cond b (Some (kind_at k)) None) (stray_fault (verb_at name k))
+          ≡ option_map_or (λ a. positional_fault (rules_at l) false a h) (cond b (Some (kind_at l)) None) (stray_fault (verb_at name k))
       go false = refl
       go true = ap (λ (x : Kinds). cond (is_pending (kind_at k) h.pending && takes_several (kind_at k)) [] x) (settle_is h)
 
-  faults : SameFaults (show_at k) (rules_at k) (rules_at l)
-  faults = record { walks = walks; settle = settle_is; step = step_is }
+  faults : (name : Text) → SameFaults (verb_at name k) (rules_at k) (rules_at l)
+  faults name = record { walks = walks; settle = settle_is; step = step_is name }
 
   finished_is : (h : Held) → finished (rules_at k) h ≡ finished (rules_at l) h
   finished_is h = ap (λ (rs : List Row). fold with_default rs (rules_at k)) (rows_is h.pending h.rows)
 
-  -- what the level of `show` finds
+  -- what the level of a verb finds
   rows_after_is : (words : List Text) → rows_after (rules_at k) [] words ≡ rows_after (rules_at l) [] words
   rows_after_is words =
       ap (λ (w : Walk). finished (rules_at k) w.held) (walk_is (rules_at k) (rules_at l) walks [] nothing_held words)
@@ -117,33 +117,40 @@ module _ (k l : Bor (List (Bor Text))) (named : texts k.now ≡ texts l.now) whe
   unfolding defaults_fault
   defaults_is h = ap (λ (rs : List Row). defaults_fault rs (rules_at k)) (rows_is h.pending h.rows)
 
-  level_is : (words : List Text) → level_fault (show_at k) [] nothing_held words false [] ≡ level_fault (show_at l) [] nothing_held words false []
-  level_is words =
+  level_is : (name : Text) (words : List Text) → level_fault (verb_at name k) [] nothing_held words false [] ≡ level_fault (verb_at name l) [] nothing_held words false []
+  level_is name words =
       let same : walk (rules_at k) [] nothing_held words ≡ walk (rules_at l) [] nothing_held words = walk_is (rules_at k) (rules_at l) walks [] nothing_held words in
       let end = (walk (rules_at l) [] nothing_held words).held in
-      ap (λ (w : Walk). or_else (walk_fault (show_at k) [] (walk_from nothing_held) words) (or_else (settle_fault (rules_at k) false w.held)
-      (or_else (defaults_fault (settled (rules_at k) w.held).rows (rules_at k)) (check_fault (show_at k) (finished (rules_at k) w.held) false)))) same
-      ∙ ap₂ or_else (walk_fault_is (show_at k) (rules_at k) (rules_at l) faults [] (walk_from nothing_held) words)
-      (ap₂ or_else (settle_is end) (ap₂ or_else (defaults_is end) (ap (λ rs. check_fault (show_at k) rs false) (finished_is end))))
+      ap (λ (w : Walk). or_else (walk_fault (verb_at name k) [] (walk_from nothing_held) words) (or_else (settle_fault (rules_at k) false w.held)
+      (or_else (defaults_fault (settled (rules_at k) w.held).rows (rules_at k)) (check_fault (verb_at name k) (finished (rules_at k) w.held) false)))) same
+      ∙ ap₂ or_else (walk_fault_is (verb_at name k) (rules_at k) (rules_at l) (faults name) [] (walk_from nothing_held) words)
+      (ap₂ or_else (settle_is end) (ap₂ or_else (defaults_is end) (ap (λ rs. check_fault (verb_at name k) rs false) (finished_is end))))
 
   -- ---- the whole command line
 
   entered_is : (stop : Option (Text × List Text)) → entered (built (sllink_with k)) stop ≡ entered (built (sllink_with l)) stop
   entered_is None = refl
-  entered_is (Some p) = go (answers_to p.0 (codes "show", [])) (find (λ s. answers_to p.0 (label_of s)) (drop 1 (built (sllink_with k)).subs))
+  entered_is (Some p) =
+      go (answers_to p.0 (codes "show", [])) (answers_to p.0 (codes "normalise", [])) (find (λ s. answers_to p.0 (label_of s)) (drop 2 (built (sllink_with k)).subs))
     where
-      go : (b : Bool) (rest : Option Shape) → option_map (λ s. rows_at s p.1) (cond b (Some (show_at k)) rest) ≡ option_map (λ s. rows_at s p.1) (cond b (Some (show_at l)) rest)
-      go true rest = ap (λ rs. Some (codes "show", rs)) (rows_after_is p.1)
-      go false rest = refl
+      go : (b b' : Bool) (rest : Option Shape)
+          → option_map (λ s. rows_at s p.1) (cond b (Some (verb_at (codes "show") k)) (cond b' (Some (verb_at (codes "normalise") k)) rest))
+          ≡ option_map (λ s. rows_at s p.1) (cond b (Some (verb_at (codes "show") l)) (cond b' (Some (verb_at (codes "normalise") l)) rest))
+      go true b' rest = ap (λ rs. Some (codes "show", rs)) (rows_after_is p.1)
+      go false true rest = ap (λ rs. Some (codes "normalise", rs)) (rows_after_is p.1)
+      go false false rest = refl
 
   entered_fault_is : (stop : Option (Text × List Text)) → entered_fault (built (sllink_with k)) stop ≡ entered_fault (built (sllink_with l)) stop
   entered_fault_is None = refl
-  entered_fault_is (Some p) = go (answers_to p.0 (codes "show", [])) (find (λ s. answers_to p.0 (label_of s)) (drop 1 (built (sllink_with k)).subs))
+  entered_fault_is (Some p) =
+      go (answers_to p.0 (codes "show", [])) (answers_to p.0 (codes "normalise", [])) (find (λ s. answers_to p.0 (label_of s)) (drop 2 (built (sllink_with k)).subs))
     where
-      go : (b : Bool) (rest : Option Shape) → option_map_or (λ s. level_fault s [] nothing_held p.1 false []) (cond b (Some (show_at k)) rest) []
-          ≡ option_map_or (λ s. level_fault s [] nothing_held p.1 false []) (cond b (Some (show_at l)) rest) []
-      go true rest = level_is p.1
-      go false rest = refl
+      go : (b b' : Bool) (rest : Option Shape)
+          → option_map_or (λ s. level_fault s [] nothing_held p.1 false []) (cond b (Some (verb_at (codes "show") k)) (cond b' (Some (verb_at (codes "normalise") k)) rest)) []
+          ≡ option_map_or (λ s. level_fault s [] nothing_held p.1 false []) (cond b (Some (verb_at (codes "show") l)) (cond b' (Some (verb_at (codes "normalise") l)) rest)) []
+      go true b' rest = level_is (codes "show") p.1
+      go false true rest = level_is (codes "normalise") p.1
+      go false false rest = refl
 
   abbrev top : Shape
   top = (built (sllink_with k)).top

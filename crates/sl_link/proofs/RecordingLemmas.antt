@@ -1,5 +1,5 @@
 -- A recording that is read whole: what a fault leaves.
-use Rattle.std.proofs.Common.{◌≡◌, ℕ, ◌-◌, ◌≤◌, List, ◌++◌, length, Option, ap, arith, length-append, length-take-le, take}
+use Rattle.std.proofs.Common.{◌≡◌, ◌∙◌, ℕ, ◌-◌, ◌≤◌, List, ◌++◌, length, Option, ap, arith, length-append, length-take-le, take}
 use Rattle.std.proofs.KnownBytes.{Consumes-trans}
 use Rattle.sl_link.specs.declared.counted.Counted.{Counted}
 use Rattle.sl_link.specs.declared.link_fault.LinkFault.{LinkFault}
@@ -15,7 +15,7 @@ module _ {R : Type 0} (remaining : R → Option (List ℕ)) where
   caused old mid new before octets left limit buffer Read kept is_left within fits cause =
       (HasFailed-since old mid new kept cause.0, omega (arith, length-append before octets, ap length cause.1))
   caused old mid new before octets left limit buffer TooLong kept is_left within fits cause =
-      (omega (arith, length-append before octets), omega (arith, length-append before octets))
+      (cause.0 ∙ kept, omega (arith, cause.1, length-append before octets), omega (arith, length-append before octets))
   caused old mid new before octets left limit buffer Memory kept is_left within fits cause = absurd cause
   caused old mid new before octets left limit buffer Write kept is_left within fits cause = absurd cause
 
@@ -32,12 +32,12 @@ module _ {R : Type 0} (remaining : R → Option (List ℕ)) where
 
   -- no memory for what was read
   pub stops_at_memory : (old mid new : Counted R) (before buffer : List ℕ) (left limit room n : ℕ)
-      → Reads remaining old mid before → length before ≤ limit → left ≡ limit - length before
+      → Reads remaining old mid before → length before ≤ limit → faults_of mid ≡ faults_of old → left ≡ limit - length before
       → ReadsSome remaining mid new buffer left n → StopsReadingAll remaining old new limit room Memory
-  stops_at_memory old mid new before buffer left limit room n read within is_left s =
+  stops_at_memory old mid new before buffer left limit room n read within kept is_left s =
       let size = length-take-le n buffer s.inside in
       record {
         octets = before ++ take n buffer;
         read = Consumes-trans (remaining (stream_of old)) (remaining (stream_of mid)) (remaining (stream_of new)) before (take n buffer) read s.read;
-        cause = omega (arith, length-append before (take n buffer), s.allowed);
+        cause = (s.no_fault ∙ kept, omega (arith, length-append before (take n buffer), s.allowed));
       }

@@ -18,13 +18,14 @@ use Rattle.clap.specs.declared.error.kind.ErrorKind.TheVariants as kind
 use Rattle.clap.proofs.CallerReads.{signed_reads}
 use Rattle.clap.proofs.ValueTestLemmas.{accepts-Accepts}
 use Rattle.clap.proofs.WalkLemmas.{both}
-use Rattle.sl_link.specs.CommandLine.{bits_16, bits_64, kind_named, number_in, number_read, request_in, request_with, shown, sllink_app}
+use Rattle.sl_link.specs.CommandLine.{bits_16, bits_64, kind_named, number_in, number_read, request_in, request_with, kind_names, sllink_app, verb_named}
 use Rattle.sl_link.specs.declared.command_line.Kind.TheVariants.{Tm}
 use Rattle.sl_link.specs.declared.command_line.Options.{Options}
 use Rattle.sl_link.specs.declared.command_line.Request.{Request}
-use Rattle.sl_link.specs.declared.command_line.Verb.TheVariants.{Show}
+use Rattle.sl_link.specs.declared.command_line.Verb.{Verb}
+use Rattle.sl_link.specs.declared.command_line.Verb.TheVariants.{Show, Normalise}
 use Rattle.sl_link.proofs.CommandLineLemmas.{number_reads, options_are, some_request}
-use Rattle.sl_link.proofs.PlaceLemmas.{rules_at, show_at}
+use Rattle.sl_link.proofs.PlaceLemmas.{rules_at, verb_at}
 use Rattle.sl_link.proofs.WalkLemmas.{end_keeps, neither, walk_keeps}
 use Rattle.sl_link.proofs.ShowRowLemmas.{AllFit, AreWhole, Fits, IsGood, Takes, all_keep, finished_is, kind_rule, limit, never, row_for, scid, tm_length, whole}
 
@@ -65,9 +66,9 @@ or_nothing false e = e
 named_kind : (v : Text) → Takes kind_rule v → kind_named v ≡ Some Tm
 named_kind v ok = ap kind_named (sym ((bytes_eq-Decides (codes "tm") v).0 (or_nothing _ ok)))
 
-asks : (rows : List Row) → AreWhole rows → is_some (row_for kind_rule.id rows) ≡ true → is_some (row_for scid.id rows) ≡ true
-    → (request : Request) × (request_with (codes "show") rows ≡ Some request)
-asks rows w has_kind has_scid =
+asks : (word : Text) (verb : Verb) → verb_named word ≡ Some verb → (rows : List Row) → AreWhole rows → is_some (row_for kind_rule.id rows) ≡ true → is_some (row_for scid.id rows) ≡ true
+    → (request : Request) × (request_with word rows ≡ Some request)
+asks word verb named rows w has_kind has_scid =
     let k = good_row kind_rule rows w.fit.kind_fits has_kind in
     let s = good_row scid rows w.fit.scid_fits has_scid in
     let t = good_row tm_length rows w.fit.length_fits w.has_length in
@@ -81,8 +82,8 @@ asks rows w has_kind has_scid =
     let is_limit : number_in 64 (codes "limit") rows ≡ Some octets.0 = ap (option_and_then (number_read 64)) (one_text_is limit rows l.0 l.1 l.2) ∙ octets.1 in
     let options : Options = record { spacecraft = spacecraft.0; tm_length = length.0; max_octets = octets.0 } in
     let are = options_are rows (Some spacecraft.0) (Some length.0) (Some octets.0) (sym is_spacecraft) (sym is_length) (sym is_limit) in
-    let request : Request = record { verb = Show; kind = Tm; options = options } in
-    (request, sym (some_request (codes "show") rows Show k.2.value Tm options refl (sym name) (sym (named_kind k.2.value k.2.passes)) are))
+    let request : Request = record { verb = verb; kind = Tm; options = options } in
+    (request, sym (some_request word rows verb k.2.value Tm options (sym named) (sym name) (sym (named_kind k.2.value k.2.passes)) are))
 
 given_there : (a : Rule) (rows : List Row) → is_given a.id rows ≡ true → is_some (row_for a.id rows) ≡ true
 given_there a rows = go (row_for a.id rows)
@@ -91,30 +92,30 @@ given_there a rows = go (row_for a.id rows)
     go None e = never e
     go (Some r) e = refl
 
--- what `show` requires is there
-required : (rows : List Row) → check_fault (show_at shown) rows false ≡ [] → (is_given kind_rule.id rows ≡ true) × (is_given scid.id rows ≡ true)
-required rows = go (is_given kind_rule.id rows) (is_given scid.id rows)
+-- what a verb requires is there
+required : (name : Text) (rows : List Row) → check_fault (verb_at name kind_names) rows false ≡ [] → (is_given kind_rule.id rows ≡ true) × (is_given scid.id rows ≡ true)
+required name rows = go (is_given kind_rule.id rows) (is_given scid.id rows)
   where
     go : (x y : Bool) → cond (not x || (not y || false)) (kind.MissingRequiredArgument ∷ []) [] ≡ [] → (x ≡ true) × (y ≡ true)
     go true true e = (refl, refl)
     go true false e = absurd (cc)
     go false y e = absurd (cc)
 
--- where `show` finds no fault, it asks for something
-pub show_asks : (words : List Text) → level_fault (show_at shown) [] nothing_held words false [] ≡ []
-    → (request : Request) × (request_with (codes "show") (rows_after (rules_at shown) [] words) ≡ Some request)
-show_asks words e =
-    let end = (walk (rules_at shown) [] nothing_held words).held in
-    let walked_well = neither (walk_fault (show_at shown) [] (walk_from nothing_held) words) _ e in
-    let settled_well = neither (settle_fault (rules_at shown) false end) _ walked_well.1 in
-    let checked = neither (defaults_fault (settled (rules_at shown) end).rows (rules_at shown)) _ settled_well.1 in
+-- where a verb finds no fault, it asks for something
+pub verb_level_asks : (name : Text) (verb : Verb) → verb_named name ≡ Some verb → (words : List Text) → level_fault (verb_at name kind_names) [] nothing_held words false [] ≡ []
+    → (request : Request) × (request_with name (rows_after (rules_at kind_names) [] words) ≡ Some request)
+verb_level_asks name verb named words e =
+    let end = (walk (rules_at kind_names) [] nothing_held words).held in
+    let walked_well = neither (walk_fault (verb_at name kind_names) [] (walk_from nothing_held) words) _ e in
+    let settled_well = neither (settle_fault (rules_at kind_names) false end) _ walked_well.1 in
+    let checked = neither (defaults_fault (settled (rules_at kind_names) end).rows (rules_at kind_names)) _ settled_well.1 in
     let empty : AllFit [] = record { kind_fits = tt; scid_fits = tt; length_fits = tt; limit_fits = tt } in
-    let at_end : AllFit end.rows = walk_keeps (show_at shown) AllFit all_keep [] (walk_from nothing_held) words walked_well.0 empty in
-    let fit : AllFit (settled (rules_at shown) end).rows = end_keeps (show_at shown) AllFit all_keep end settled_well.0 at_end in
-    let w : AreWhole (finished (rules_at shown) end) = subst AreWhole (sym (finished_is (settled (rules_at shown) end).rows)) (whole (settled (rules_at shown) end).rows fit) in
-    let rows = finished (rules_at shown) end in
-    let given = required rows checked.1 in
-    asks rows w (given_there kind_rule rows given.0) (given_there scid rows given.1)
+    let at_end : AllFit end.rows = walk_keeps (verb_at name kind_names) AllFit (all_keep name) [] (walk_from nothing_held) words walked_well.0 empty in
+    let fit : AllFit (settled (rules_at kind_names) end).rows = end_keeps (verb_at name kind_names) AllFit (all_keep name) end settled_well.0 at_end in
+    let w : AreWhole (finished (rules_at kind_names) end) = subst AreWhole (sym (finished_is (settled (rules_at kind_names) end).rows)) (whole (settled (rules_at kind_names) end).rows fit) in
+    let rows = finished (rules_at kind_names) end in
+    let given = required name rows checked.1 in
+    asks name verb named rows w (given_there kind_rule rows given.0) (given_there scid rows given.1)
 
 -- ---- the level above it
 
@@ -216,22 +217,26 @@ verb_there false rows e = absurd (cc)
 verb_asks : (stop : Option (Text × List Text)) → NotAtHelp stop → is_some (entered (built sllink_app) stop) ≡ true → entered_fault (built sllink_app) stop ≡ []
     → (request : Request) × (request_in (entered (built sllink_app) stop) ≡ Some request)
 verb_asks None n has e = never has
-verb_asks (Some p) n has e = go (bytes_eq (codes "show") p.0 || false) (bytes_eq (codes "help") p.0) refl has e
+verb_asks (Some p) n has e = go (bytes_eq (codes "show") p.0 || false) (bytes_eq (codes "normalise") p.0 || false) (bytes_eq (codes "help") p.0) refl has e
   where
     help : Shape
-    help = unwrap_or (slice_get (built sllink_app).subs 1) (new_shape [])
+    help = unwrap_or (slice_get (built sllink_app).subs 2) (new_shape [])
 
     rest : Bool → Option Shape
     rest b = cond (b || false) (Some help) None
 
-    go : (b b' : Bool) → bytes_eq (codes "help") p.0 ≡ b' → is_some (option_map (λ s. rows_at s p.1) (cond b (Some (show_at shown)) (rest b'))) ≡ true
-        → option_map_or (λ s. level_fault s [] nothing_held p.1 false []) (cond b (Some (show_at shown)) (rest b')) [] ≡ []
-        → (request : Request) × (request_in (option_map (λ s. rows_at s p.1) (cond b (Some (show_at shown)) (rest b'))) ≡ Some request)
-    go true b' is has e = show_asks p.1 e
-    go false true is has e =
+    found : Bool → Bool → Bool → Option Shape
+    found b b' b'' = cond b (Some (verb_at (codes "show") kind_names)) (cond b' (Some (verb_at (codes "normalise") kind_names)) (rest b''))
+
+    go : (b b' b'' : Bool) → bytes_eq (codes "help") p.0 ≡ b'' → is_some (option_map (λ s. rows_at s p.1) (found b b' b'')) ≡ true
+        → option_map_or (λ s. level_fault s [] nothing_held p.1 false []) (found b b' b'') [] ≡ []
+        → (request : Request) × (request_in (option_map (λ s. rows_at s p.1) (found b b' b'')) ≡ Some request)
+    go true b' b'' is has e = verb_level_asks (codes "show") Show refl p.1 e
+    go false true b'' is has e = verb_level_asks (codes "normalise") Normalise refl p.1 e
+    go false false true is has e =
         let same : codes "help" ≡ p.0 = (bytes_eq-Decides (codes "help") p.0).0 is in
         never (sym n ∙ ap is_help (sym same))
-    go false false is has e = never has
+    go false false false is has e = never has
 
 -- words of which nothing is refused ask for something
 pub words_ask_something : (words : List Text) → fault_of sllink_app words ≡ [] → (request : Request) × (request_in (subcommand_of sllink_app words) ≡ Some request)

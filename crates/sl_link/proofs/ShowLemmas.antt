@@ -79,20 +79,20 @@ HasFailed-since old mid new e h =
     elim h as (λ _. HasFailed old new) [ inl rose ↦ inl (rw (sym e) rose) | inr top ↦ inr top ]
 
 caused_reading : {R W : Type 0} (remaining : R → Option (List ℕ)) (contents : W → Option (List ℕ)) (reader mid reader' : Counted R) (writer writer' : Counted W) (before octets : List ℕ) (limit greatest buffer : ℕ) (fault : LinkFault)
-    → faults_of mid ≡ faults_of reader → limit ≡ greatest - length before → length before ≤ greatest → length octets ≤ buffer → IsReadFault mid reader' limit octets fault
+    → faults_of mid ≡ faults_of reader → faults_of writer' ≡ faults_of writer → limit ≡ greatest - length before → length before ≤ greatest → length octets ≤ buffer → IsReadFault mid reader' limit octets fault
     → IsCaused remaining contents reader reader' writer writer' greatest buffer (before ++ octets) fault
-caused_reading remaining contents reader mid reader' writer writer' before octets limit greatest buffer Read kept left within fits cause =
-    (HasFailed-since reader mid reader' kept cause.0, omega (arith, length-append before octets, ap length cause.1))
-caused_reading remaining contents reader mid reader' writer writer' before octets limit greatest buffer TooLong kept left within fits cause =
-    (omega (arith, length-append before octets), omega (arith, length-append before octets))
-caused_reading remaining contents reader mid reader' writer writer' before octets limit greatest buffer Memory kept left within fits cause = absurd cause
-caused_reading remaining contents reader mid reader' writer writer' before octets limit greatest buffer Write kept left within fits cause = absurd cause
+caused_reading remaining contents reader mid reader' writer writer' before octets limit greatest buffer Read kept other left within fits cause =
+    (HasFailed-since reader mid reader' kept cause.0, other, omega (arith, length-append before octets, ap length cause.1))
+caused_reading remaining contents reader mid reader' writer writer' before octets limit greatest buffer TooLong kept other left within fits cause =
+    (cause.0 ∙ kept, other, omega (arith, cause.1, length-append before octets), omega (arith, length-append before octets))
+caused_reading remaining contents reader mid reader' writer writer' before octets limit greatest buffer Memory kept other left within fits cause = absurd cause
+caused_reading remaining contents reader mid reader' writer writer' before octets limit greatest buffer Write kept other left within fits cause = absurd cause
 
 pub caused_writing : {R W : Type 0} (remaining : R → Option (List ℕ)) (contents : W → Option (List ℕ)) (reader reader' : Counted R) (writer mid writer' : Counted W) (octets : List ℕ) (greatest buffer : ℕ) (fault : LinkFault)
-    → fault ≡ Write → faults_of mid ≡ faults_of writer → HasFailed mid writer' → length octets ≤ greatest
+    → fault ≡ Write → faults_of reader' ≡ faults_of reader → faults_of mid ≡ faults_of writer → HasFailed mid writer' → length octets ≤ greatest
     → IsCaused remaining contents reader reader' writer writer' greatest buffer octets fault
-caused_writing remaining contents reader reader' writer mid writer' octets greatest buffer fault is_write kept cause within =
-    subst (λ f. IsCaused remaining contents reader reader' writer writer' greatest buffer octets f) (sym is_write) (HasFailed-since writer mid writer' kept cause, within)
+caused_writing remaining contents reader reader' writer mid writer' octets greatest buffer fault is_write other kept cause within =
+    subst (λ f. IsCaused remaining contents reader reader' writer writer' greatest buffer octets f) (sym is_write) (HasFailed-since writer mid writer' kept cause, other, within)
 
 -- a prefix of a line, and what follows the line
 split_front : (lines written missing after line : List ℕ) → written ++ missing ≡ line → (lines ++ written) ++ (missing ++ after) ≡ (lines ++ line) ++ after
@@ -261,16 +261,16 @@ module _ {R W : Type 0} (remaining : R → Option (List ℕ)) (contents : W → 
           front = text-front p s.octets f.octets some;
           writes = s.written;
         };
-        cause = caused_reading remaining contents reader mid reader' writer writer' s.octets f.octets limit p.max_octets room fault s.reader_kept left' (omega (arith, s.allowed)) (omega (arith, f.inside)) f.cause;
+        cause = caused_reading remaining contents reader mid reader' writer writer' s.octets f.octets limit p.max_octets room fault s.reader_kept s.writer_kept left' (omega (arith, s.allowed)) (omega (arith, f.inside)) f.cause;
       }
 
   -- a fault of writing leaves a prefix of the lines of what is read by then
   pub stops_writing : (reader mid reader' : Counted R) (writer wmid writer' : Counted W) (tally : Tally) (buffer : List ℕ) (held : ℕ) (taken line : List ℕ) (missing : List ℕ) (fault : LinkFault)
-      → (s : IsShown remaining contents p reader mid writer wmid tally buffer held) → Reads remaining mid reader' taken → tally.octets + held + length taken ≤ p.max_octets
+      → (s : IsShown remaining contents p reader mid writer wmid tally buffer held) → Reads remaining mid reader' taken → faults_of reader' ≡ faults_of mid → tally.octets + held + length taken ≤ p.max_octets
       → frame_lines (tm_format p) p.spacecraft 0 (frames_of p.tm_length s.octets) ++ (line ++ missing) ≡ show_tm_text p (s.octets ++ taken)
       → StopsWriting contents wmid writer' line fault
       → Stops remaining contents reader reader' writer writer' (show_tm_text p) p.max_octets room fault
-  stops_writing reader mid reader' writer wmid writer' tally buffer held taken line missing fault s read within text w =
+  stops_writing reader mid reader' writer wmid writer' tally buffer held taken line missing fault s read kept within text w =
       let lines = frame_lines (tm_format p) p.spacecraft 0 (frames_of p.tm_length s.octets) in
       record {
         octets = s.octets ++ taken;
@@ -281,7 +281,7 @@ module _ {R W : Type 0} (remaining : R → Option (List ℕ)) (contents : W → 
           front = split_front lines w.front.written w.front.missing missing line w.front.front ∙ append_assoc lines line missing ∙ text;
           writes = Appends-trans (contents (stream_of writer)) (contents (stream_of wmid)) (contents (stream_of writer')) lines w.front.written s.written w.front.writes;
         };
-        cause = caused_writing remaining contents reader reader' writer wmid writer' (s.octets ++ taken) p.max_octets room fault w.is_write s.writer_kept w.cause (omega (arith, length-append s.octets taken, octets_read reader mid writer wmid tally buffer held s));
+        cause = caused_writing remaining contents reader reader' writer wmid writer' (s.octets ++ taken) p.max_octets room fault w.is_write (kept ∙ s.reader_kept) s.writer_kept w.cause (omega (arith, length-append s.octets taken, octets_read reader mid writer wmid tally buffer held s));
       }
 
   -- at the end of the input the remainder's line completes the listing
@@ -296,14 +296,14 @@ module _ {R W : Type 0} (remaining : R → Option (List ℕ)) (contents : W → 
       ap (λ n. lines ++ remainder_line n held) before ∙ ap (λ n. lines ++ remainder_line (length s.octets - left) n) size
 
   pub stops_at_rest : (reader mid reader' : Counted R) (writer wmid writer' : Counted W) (tally : Tally) (buffer : List ℕ) (held : ℕ) (fault : LinkFault)
-      → IsShown remaining contents p reader mid writer wmid tally buffer held → Reads remaining mid reader' []
+      → IsShown remaining contents p reader mid writer wmid tally buffer held → Reads remaining mid reader' [] → faults_of reader' ≡ faults_of mid
       → StopsWriting contents wmid writer' (remainder_line tally.octets held) fault
       → Stops remaining contents reader reader' writer writer' (show_tm_text p) p.max_octets room fault
-  stops_at_rest reader mid reader' writer wmid writer' tally buffer held fault s read w =
+  stops_at_rest reader mid reader' writer wmid writer' tally buffer held fault s read kept w =
       let lines = frame_lines (tm_format p) p.spacecraft 0 (frames_of p.tm_length s.octets) in
       let text : lines ++ (remainder_line tally.octets held ++ []) ≡ show_tm_text p (s.octets ++ []) =
       ap (λ l. lines ++ l) (append-nil (remainder_line tally.octets held)) ∙ text-whole reader mid writer wmid tally buffer held s ∙ ap (show_tm_text p) (sym (append-nil s.octets)) in
-      stops_writing reader mid reader' writer wmid writer' tally buffer held [] (remainder_line tally.octets held) [] fault s read (omega (arith, s.allowed)) text w
+      stops_writing reader mid reader' writer wmid writer' tally buffer held [] (remainder_line tally.octets held) [] fault s read kept (omega (arith, s.allowed)) text w
 
   pub shows_all : (reader mid reader' : Counted R) (writer wmid writer' : Counted W) (tally : Tally) (buffer : List ℕ) (held : ℕ)
       → IsShown remaining contents p reader mid writer wmid tally buffer held → Reads remaining mid reader' [] → IsRead remaining reader' → faults_of reader' ≡ faults_of mid
@@ -339,15 +339,15 @@ module _ {R W : Type 0} (remaining : R → Option (List ℕ)) (contents : W → 
         ∙ lines-more p s.octets (take n part) some
 
     -- a fault of writing their lines
-    pub stops_at_frames : (limit : ℕ) (fault : LinkFault) → limit ≡ p.max_octets - tally.octets - held → n ≤ limit → StopsWriting contents wmid writer' (frame_lines (tm_format p) p.spacecraft tally.octets (frames_of p.tm_length chunk)) fault
+    pub stops_at_frames : (limit : ℕ) (fault : LinkFault) → limit ≡ p.max_octets - tally.octets - held → n ≤ limit → faults_of reader' ≡ faults_of mid → StopsWriting contents wmid writer' (frame_lines (tm_format p) p.spacecraft tally.octets (frames_of p.tm_length chunk)) fault
         → Stops remaining contents reader reader' writer writer' (show_tm_text p) p.max_octets room fault
-    stops_at_frames limit fault left allowed w =
+    stops_at_frames limit fault left allowed kept w =
         let x = s.octets ++ take n part in
         let lines = frame_lines (tm_format p) p.spacecraft 0 (frames_of p.tm_length s.octets) in
         let new = frame_lines (tm_format p) p.spacecraft tally.octets (frames_of p.tm_length chunk) in
         let last = remainder_line (length x - length (remainder_of p.tm_length x)) (length (remainder_of p.tm_length x)) in
         let text : lines ++ (new ++ last) ≡ show_tm_text p x = sym (append_assoc lines new last) ∙ ap (λ l. l ++ last) lines_on in
-        stops_writing reader mid reader' writer wmid writer' tally buffer held (take n part) new last fault s came (omega (arith, s.allowed, length-take-le n part fits)) text w
+        stops_writing reader mid reader' writer wmid writer' tally buffer held (take n part) new last fault s came kept (omega (arith, s.allowed, length-take-le n part fits)) text w
 
     -- their whole frames are shown, and what is left of them is moved to the buffer's front
     pub shown_next : (limit shown : ℕ) (tally' : Tally) (moved : List ℕ) → limit ≡ p.max_octets - tally.octets - held → n ≤ limit → faults_of reader' ≡ faults_of mid

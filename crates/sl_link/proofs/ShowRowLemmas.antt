@@ -1,4 +1,4 @@
--- The rows of `show` where nothing is refused: each holds a value that its argument takes.
+-- The rows of a verb where nothing is refused: each holds a value that its argument takes.
 use Rattle.std.proofs.Common.{◌≡◌, ◌∙◌, ◌&&◌, ◌||◌, ◌==◌, ℕ, Bool, true, false, cond, refl, sym, ap, subst, List, [], ◌∷◌, ◌++◌, append-nil, length, Option, Some, None, is_some, true≢false, eqb-true, arith, codes}
 use Rattle.std.specs.Prelude.{IfSome, find, fold, slice_get, unwrap_or}
 use Rattle.clap.specs.Facts.{parser_of_value, unwrap_or_range}
@@ -14,8 +14,8 @@ use Rattle.clap.specs.declared.builder.action.ArgAction.TheVariants.{Set}
 use Rattle.clap.specs.declared.error.kind.ErrorKind.TheVariants as kind
 use Rattle.clap.specs.declared.parser.matches.ValueSource.{ValueSource}
 use Rattle.clap.specs.declared.parser.matches.ValueSource.TheVariants.{CommandLine, DefaultValue}
-use Rattle.sl_link.specs.CommandLine.{shown}
-use Rattle.sl_link.proofs.PlaceLemmas.{rules_at, show_at}
+use Rattle.sl_link.specs.CommandLine.{kind_names}
+use Rattle.sl_link.proofs.PlaceLemmas.{rules_at, verb_at}
 use Rattle.sl_link.proofs.WalkLemmas.{Each, Keeps, neither}
 
 -- ---- rows
@@ -125,10 +125,10 @@ module _ (a : Rule) (one : TakesOne a) where
           let taken : values_fault a (got.0 ∷ []) ≡ [] = subst (λ (vs : List Text). values_fault a (values_or_missing a vs) ≡ []) got.1 ok in
           (got.0, ap (λ (vs : List Text). used a vs rows) got.1 ∙ adds got.0 rows is_fresh, passed got.0 (neither _ [] taken).0)
 
--- ---- the arguments of `show`
+-- ---- the arguments of a verb
 
 abbrev rule_at : ℕ → Rule
-rule_at n = unwrap_or (slice_get (rules_at shown) n) (new_rule [])
+rule_at n = unwrap_or (slice_get (rules_at kind_names) n) (new_rule [])
 
 abbrev pub kind_rule : Rule
 kind_rule = rule_at 0
@@ -182,30 +182,30 @@ length_row v source ok = record { as_kind = never; as_scid = never; as_length = 
 limit_row : (v : Text) (source : ValueSource) → Takes limit v → IsFitting (row_of_one limit v source)
 limit_row v source ok = record { as_kind = never; as_scid = never; as_length = never; as_limit = λ _. record { reading = refl; value = v; first = refl; passes = ok } }
 
-keeps : (a : Rule) → TakesOne a → ((v : Text) (source : ValueSource) → Takes a v → IsFitting (row_of_one a v source)) → Keeps (show_at shown) AllFit a
-keeps a one row values rows e h =
+keeps : (verb : Text) (a : Rule) → TakesOne a → ((v : Text) (source : ValueSource) → Takes a v → IsFitting (row_of_one a v source)) → Keeps (verb_at verb kind_names) AllFit a
+keeps verb a one row values rows e h =
     let got = use_adds a one values rows e in
     subst AllFit (sym got.1) (still_fit (row_of_one a got.0 CommandLine) rows h (row got.0 CommandLine got.2))
 
 takes_one : (a : Rule) → action_of a ≡ Set → (unwrap_or_range a.range).start_inclusive ≡ 1 → most_values a ≡ 1 → TakesOne a
 takes_one a p q r = record { action = p; least = q; most = r }
 
-help_keeps : Keeps (show_at shown) AllFit (rule_at 4)
-help_keeps values rows e h =
+help_keeps : (verb : Text) → Keeps (verb_at verb kind_names) AllFit (rule_at 4)
+help_keeps verb values rows e h =
     let parts = neither (range_kinds 0 0 (length values)) (kind.DisplayHelp ∷ []) e in
     let bad : ◌≡◌ {A = Kinds} (kind.DisplayHelp ∷ []) [] = parts.1 in
     absurd (cc)
 
-pub all_keep : Each (Keeps (show_at shown) AllFit) (rules_at shown)
-all_keep = (
-  keeps kind_rule (takes_one kind_rule refl refl refl) kind_row,
+pub all_keep : (verb : Text) → Each (Keeps (verb_at verb kind_names) AllFit) (rules_at kind_names)
+all_keep verb = (
+  keeps verb kind_rule (takes_one kind_rule refl refl refl) kind_row,
   (
-    keeps scid (takes_one scid refl refl refl) scid_row,
-    (keeps tm_length (takes_one tm_length refl refl refl) length_row, (keeps limit (takes_one limit refl refl refl) limit_row, (help_keeps, tt))),
+    keeps verb scid (takes_one scid refl refl refl) scid_row,
+    (keeps verb tm_length (takes_one tm_length refl refl refl) length_row, (keeps verb limit (takes_one limit refl refl refl) limit_row, (help_keeps verb, tt))),
   ),
 )
 
--- ---- the end of the level of `show`
+-- ---- the end of the level of a verb
 
 either : {X : Type 0} (b : Bool) (x : X) → cond b x x ≡ x
 either true x = refl
@@ -254,7 +254,7 @@ module _ (a : Rule) (v : Text) (rows : List Row) where
   others_stay other h true e = h
   others_stay other h false e = subst (λ (rs : List Row). is_some (row_for other.id rs) ≡ true) (sym (default_added e)) (there_more other (row_of_one a v DefaultValue) rows h)
 
--- what the rows of `show` have at its end
+-- what the rows of a verb have at its end
 pub record AreWhole (rows : List Row) : Type 0 where
   pub fit : AllFit rows
   pub has_length : is_some (row_for tm_length.id rows) ≡ true
@@ -277,7 +277,7 @@ whole rows h =
       has_limit = default_there limit (codes "1073741824") (with_length rows) refl (has_row limit.id (with_length rows)) refl;
     }
 
-pub finished_is : (rows : List Row) → fold with_default rows (rules_at shown) ≡ with_limit (with_length rows)
+pub finished_is : (rows : List Row) → fold with_default rows (rules_at kind_names) ≡ with_limit (with_length rows)
 finished_is rows =
     either (has_row (codes "help") (with_limit (with_length (cond (has_row scid.id (cond (has_row kind_rule.id rows) rows rows)) (cond (has_row kind_rule.id rows) rows rows) (cond (has_row kind_rule.id rows) rows rows))))) _
     ∙ ap (λ (rs : List Row). with_limit (with_length rs)) (either (has_row scid.id (cond (has_row kind_rule.id rows) rows rows)) (cond (has_row kind_rule.id rows) rows rows) ∙ either (has_row kind_rule.id rows) rows)

@@ -8,7 +8,8 @@ use Rattle.sl_packet.specs.Packet.{IsPacket}
 use Rattle.sl_packet.specs.Packets.{packets_of, rest_of}
 use Rattle.sl_packet.proofs.PacketLemmas.{packet_least}
 use Rattle.sl_packet.proofs.PacketsLemmas.{packets_of-concat, rest_of-concat, each_has_packets}
-use Rattle.sl_link.specs.PacketStart.{IsAmong, IsStart, offsets_from, starts_from}
+use Rattle.sl_link.specs.Among.{IsAmong}
+use Rattle.sl_link.specs.PacketStart.{IsStart, offsets_from, starts_from}
 use Rattle.sl_link.proofs.EachLemmas.{each-append}
 
 -- ---- each that is listed is one

@@ -19,7 +19,7 @@ use Rattle.sl_link.specs.declared.command_line.Kind.TheVariants.{Tm}
 use Rattle.sl_link.specs.declared.command_line.Options.{Options}
 use Rattle.sl_link.specs.declared.command_line.Request.{Request}
 use Rattle.sl_link.specs.declared.command_line.Verb.{Verb}
-use Rattle.sl_link.specs.declared.command_line.Verb.TheVariants.{Show}
+use Rattle.sl_link.specs.declared.command_line.Verb.TheVariants.{Show, Normalise}
 
 -- ---- the arguments
 
@@ -68,29 +68,29 @@ with_link_options app = fold with_rule app link_options
 abbrev pub verb_app : Text → Bor (List (Bor Text)) → App
 verb_app name kinds = with_link_options (with_rule (new_app name) (kind_rule kinds))
 
--- `sllink VERB ..`, where the verb is `show` and takes the kinds of these names
+-- `sllink VERB ..`, where a verb takes the kinds of these names
 abbrev pub sllink_with : Bor (List (Bor Text)) → App
 sllink_with kinds = record {
   top = record (new_shape (codes "sllink")) { is_leaf = false; subcommand_required = true };
-  subs = (verb_app (codes "show") kinds).top ∷ [];
+  subs = (verb_app (codes "show") kinds).top ∷ (verb_app (codes "normalise") kinds).top ∷ [];
 }
 
 -- a value at one place in memory: where the names lie makes no difference
 abbrev pub placed : {X : Type 0} → X → Bor X
 placed x = record { ref_ptr = (0, 0); now = x }
 
--- the names of the kinds that `show` takes
-abbrev pub shown : Bor (List (Bor Text))
-shown = placed (placed (codes "tm") ∷ [])
+-- the names of the kinds that a verb takes
+abbrev pub kind_names : Bor (List (Bor Text))
+kind_names = placed (placed (codes "tm") ∷ [])
 
 -- the command line of `sllink`
 abbrev pub sllink_app : App
-sllink_app = sllink_with shown
+sllink_app = sllink_with kind_names
 
 -- that command line, wherever in memory the names lie
 pub record IsSllink (app : App) : Type 0 where
   pub kinds : Bor (List (Bor Text))
-  pub named : texts kinds.now ≡ texts shown.now
+  pub named : texts kinds.now ≡ texts kind_names.now
   pub same : app ≡ sllink_with kinds
 
 -- ---- what the words ask for
@@ -102,7 +102,10 @@ o >>= f = option_and_then f o
 
 -- the verb of that name
 abbrev pub verb_named : Text → Option Verb
-verb_named word = if bytes_eq word (codes "show") then Some Show else None
+verb_named word =
+    if bytes_eq word (codes "show") then Some Show
+    else if bytes_eq word (codes "normalise") then Some Normalise
+    else None
 
 -- the kind of that name
 abbrev pub kind_named : Text → Option Kind

@@ -1,5 +1,5 @@
 -- A stream with the number of its faults.
-use Rattle.std.specs.Prelude.{◌≡◌, ℕ, ◌+◌, ◌-◌, ◌^◌, ◌<◌, ◌⊎◌, ◌==◌, ◌&&◌, min, Bool, true, not, List, length, Result, Ok, Err}
+use Rattle.std.specs.Prelude.{◌≡◌, ℕ, ◌-◌, ◌^◌, ◌<◌, ◌⊎◌, ◌==◌, ◌&&◌, Bool, true, not, List, length, Result, Ok, Err}
 use Rattle.sl_link.specs.declared.counted.Counted.{Counted}
 
 -- the stream itself
@@ -9,10 +9,6 @@ stream_of c = c.stream
 -- the errors that it answered, and the writes that took nothing of one or more octets
 abbrev pub faults_of : {T : Type 0} → Counted T → ℕ
 faults_of c = c.faults
-
--- a count stops at the greatest number that it can be
-abbrev pub one_more : ℕ → ℕ
-one_more count = min (count + 1) (2 ^ 64 - 1)
 
 -- the count rose, or it can't rise any more
 abbrev pub HasFailed : {T : Type 0} → Counted T → Counted T → Type 0

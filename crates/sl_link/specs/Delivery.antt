@@ -4,6 +4,7 @@ use Rattle.std.specs.Prelude.{◌≡◌, ◌≢◌, ⊤, ◌⊎◌, ℕ, ◌+◌
 use Rattle.std.specs.List.{AllByRecursion, filter, flat_map}
 use Rattle.sl_packet.specs.Packet.{IsPacket}
 use Rattle.sl_packet.specs.Front.{Front, Foreign, Incomplete, Whole, front}
+use Rattle.sl_link.specs.Among.{IsAmong}
 use Rattle.sl_link.specs.TmFrame.{TmView, DataField, Packets, Idle, Opaque}
 use Rattle.sl_link.specs.Channel.{is_consecutive, AreConsecutive, packet_data, reassembly}
 use Rattle.sl_link.specs.PacketStart.{IsStart, starts_of}
@@ -151,14 +152,9 @@ packets_delivered deliveries = map (λ d. d.packet) deliveries
 abbrev pub EachIsDelivery : Type 0
 EachIsDelivery = (channel : List TmView) → AllByRecursion (IsDelivery channel) (deliveries_of channel)
 
--- one of the list
-abbrev pub IsListed : Delivery → List Delivery → Type 0
-IsListed d [] = ⊥
-IsListed d (e ∷ deliveries) = (d ≡ e) ⊎ IsListed d deliveries
-
 -- each delivery is listed
 abbrev pub EachIsListed : Type 0
-EachIsListed = (channel : List TmView) (d : Delivery) → IsDelivery channel d → IsListed d (deliveries_of channel)
+EachIsListed = (channel : List TmView) (d : Delivery) → IsDelivery channel d → IsAmong d (deliveries_of channel)
 
 -- an earlier frame, or an earlier start in the same frame
 abbrev pub StartsBefore : Delivery → Delivery → Type 0

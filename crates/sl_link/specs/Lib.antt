@@ -1,9 +1,11 @@
+pub mod Among
 pub mod Channel
 pub mod CommandLine
 pub mod Counted
 pub mod Delimited
 pub mod Deliver
 pub mod Delivery
+pub mod Engine
 pub mod FieldStart
 pub mod Managed
 pub mod ManagedModel

@@ -1,8 +1,9 @@
 -- The packet starts of a data field.
-use Rattle.std.specs.Prelude.{◌≡◌, ◌⊎◌, ℕ, ◌+◌, ◌<◌, List, [], ◌∷◌, ◌++◌, length, drop, Option, None, Some}
+use Rattle.std.specs.Prelude.{◌≡◌, ℕ, ◌+◌, ◌<◌, List, [], ◌∷◌, ◌++◌, length, drop, Option, None, Some}
 use Rattle.std.specs.List.{AllByRecursion, concat}
 use Rattle.sl_packet.specs.Packet.{IsPacket}
 use Rattle.sl_packet.specs.Packets.{packets_of, rest_of}
+use Rattle.sl_link.specs.Among.{IsAmong}
 use Rattle.sl_link.specs.TmFrame.{DataField, Packets, Idle, Opaque}
 
 -- The packet starts are the first header pointer and each offset in the field at which whole packets end to
@@ -45,11 +46,6 @@ whole_packets Idle = []
 whole_packets Opaque = []
 
 -- ---- laws
-
--- one of the list
-abbrev pub IsAmong : ℕ → List ℕ → Type 0
-IsAmong start [] = ⊥
-IsAmong start (offset ∷ offsets) = (start ≡ offset) ⊎ IsAmong start offsets
 
 -- each offset that is listed is a packet start,
 abbrev pub EachIsStart : Type 0

@@ -42,7 +42,7 @@ pub record ReadsSome {R : Type 0} (remaining : R → Option (List ℕ)) (old new
 -- the cause of a fault of reading is there
 abbrev pub IsReadFault : {R : Type 0} → Counted R → Counted R → ℕ → List ℕ → LinkFault → Type 0
 IsReadFault old new limit octets Read = HasFailed old new × (octets ≡ [])
-IsReadFault old new limit octets TooLong = limit < length octets
+IsReadFault old new limit octets TooLong = (faults_of new ≡ faults_of old) × (limit < length octets)
 IsReadFault old new limit octets Memory = ⊥
 IsReadFault old new limit octets Write = ⊥
 
@@ -63,8 +63,9 @@ pub record ReadsAll {R : Type 0} (remaining : R → Option (List ℕ)) (old new 
 -- the cause of a fault of reading, or of keeping what was read, is there
 abbrev pub IsReadingAllFault : {R : Type 0} → Counted R → Counted R → ℕ → ℕ → List ℕ → LinkFault → Type 0
 IsReadingAllFault old new limit buffer octets Read = HasFailed old new × (length octets ≤ limit)
-IsReadingAllFault old new limit buffer octets TooLong = (limit < length octets) × (length octets ≤ limit + buffer)
-IsReadingAllFault old new limit buffer octets Memory = length octets ≤ limit
+IsReadingAllFault old new limit buffer octets TooLong =
+    (faults_of new ≡ faults_of old) × (limit < length octets) × (length octets ≤ limit + buffer)
+IsReadingAllFault old new limit buffer octets Memory = (faults_of new ≡ faults_of old) × (length octets ≤ limit)
 IsReadingAllFault old new limit buffer octets Write = ⊥
 
 -- octets were read, and then a fault came
@@ -106,13 +107,19 @@ module _ {R W : Type 0} (remaining : R → Option (List ℕ)) (contents : W → 
     pub reader_kept : faults_of reader' ≡ faults_of reader
     pub writer_kept : faults_of writer' ≡ faults_of writer
 
-  -- The cause of a fault is there, and nothing was read once the limit was passed, but for what came with
-  -- the octet that passed it, one buffer at most. That memory was refused can't be told by a clause.
+  -- The cause of a fault is there, and no other: at most the stream that it names had a fault. Nothing was
+  -- read once the limit was passed, but for what came with the octet that passed it, one buffer at most. That
+  -- memory was refused can't be told by a clause.
   abbrev pub IsCaused : Counted R → Counted R → Counted W → Counted W → ℕ → ℕ → List ℕ → LinkFault → Type 0
-  IsCaused reader reader' writer writer' limit buffer octets Read = HasFailed reader reader' × (length octets ≤ limit)
-  IsCaused reader reader' writer writer' limit buffer octets TooLong = (limit < length octets) × (length octets ≤ limit + buffer)
-  IsCaused reader reader' writer writer' limit buffer octets Memory = length octets ≤ limit
-  IsCaused reader reader' writer writer' limit buffer octets Write = HasFailed writer writer' × (length octets ≤ limit)
+  IsCaused reader reader' writer writer' limit buffer octets Read =
+      HasFailed reader reader' × (faults_of writer' ≡ faults_of writer) × (length octets ≤ limit)
+  IsCaused reader reader' writer writer' limit buffer octets TooLong =
+      (faults_of reader' ≡ faults_of reader) × (faults_of writer' ≡ faults_of writer)
+      × (limit < length octets) × (length octets ≤ limit + buffer)
+  IsCaused reader reader' writer writer' limit buffer octets Memory =
+      (faults_of reader' ≡ faults_of reader) × (faults_of writer' ≡ faults_of writer) × (length octets ≤ limit)
+  IsCaused reader reader' writer writer' limit buffer octets Write =
+      HasFailed writer writer' × (faults_of reader' ≡ faults_of reader) × (length octets ≤ limit)
 
   -- Octets were read and a prefix of their text was written, and then a fault came, whose cause is there.
   pub record Stops (reader reader' : Counted R) (writer writer' : Counted W) (text : List ℕ → List ℕ) (limit buffer : ℕ) (fault : LinkFault) : Type 0 where

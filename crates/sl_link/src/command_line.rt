@@ -18,6 +18,8 @@ use std::alloc::{AllocError, Global};
 pub(crate) enum Verb {
     /// Its frames are listed.
     Show,
+    /// Its normal form is written.
+    Normalise,
 }
 
 /// Which frames a recording has.
@@ -51,8 +53,8 @@ const TM_LENGTH: &str = "tm-length";
 
 const LIMIT: &str = "limit";
 
-// The kinds that `show` takes.
-static SHOWN: [&str; 1] = ["tm"];
+// The kinds that a verb takes.
+static KINDS: [&str; 1] = ["tm"];
 
 /// What the words ask for, of which the first is the program's name. Else why they are refused, or the
 /// help that they ask for.
@@ -73,11 +75,15 @@ pub(crate) fn parse(alloc: Global, words: &[String]) -> Result<Request, Error>
 fn sllink<'a>(alloc: Global) -> Result<Command<'a>, AllocError>
     ensures { IfOk result (λ command. IsSllink (app_of command)) }
 {
-    let show = verb_command(alloc, "show", "List the frames of a recording", &SHOWN)?;
+    let kinds: &[&str] = &KINDS;
+    let show = verb_command(alloc, "show", "List the frames of a recording", kinds)?;
+    let about = "Write the normal form of a recording";
+    let normalise = verb_command(alloc, "normalise", about, kinds)?;
     Command::new(alloc, "sllink")
         .about("Read recordings of a spacecraft's link")
         .subcommand_required(true)
-        .subcommand(show)
+        .subcommand(show)?
+        .subcommand(normalise)
 }
 
 // A verb, with the kinds of recording that it takes and the options of the link.
@@ -149,6 +155,7 @@ fn verb_of(word: &str) -> Option<Verb>
 {
     match word {
         "show" => Some(Verb::Show),
+        "normalise" => Some(Verb::Normalise),
         _ => None,
     }
 }

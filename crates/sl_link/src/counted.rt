@@ -41,7 +41,8 @@ impl<R: Read> Read for Counted<R> {
     ghost use Rattle.std.specs.Prelude.{◌≡◌, length, is_err, if◌then◌else◌};
     ghost use Rattle.std.specs.Io.{ReadsAtMost};
     ghost use Rattle.std.specs.Io.KnownBytes.{ReadConsumes};
-    ghost use Rattle.sl_link.specs.Counted.{stream_of, faults_of, one_more};
+    ghost use Rattle.sl_link.specs.Counted.{stream_of, faults_of};
+    ghost use Rattle.sl_packet.specs.Sink.{one_more};
 
     ghost remaining = { λ c. R.remaining (stream_of c) };
 
@@ -63,7 +64,8 @@ impl<W: Write> Write for Counted<W> {
     ghost use Rattle.std.specs.Prelude.{◌≡◌, length, is_err, if◌then◌else◌};
     ghost use Rattle.std.specs.Io.{WritesAtMost};
     ghost use Rattle.std.specs.Io.KnownBytes.{WriteAppends, Keeps};
-    ghost use Rattle.sl_link.specs.Counted.{stream_of, faults_of, one_more, is_write_fault};
+    ghost use Rattle.sl_link.specs.Counted.{stream_of, faults_of, is_write_fault};
+    ghost use Rattle.sl_packet.specs.Sink.{one_more};
 
     ghost contents = { λ c. W.contents (stream_of c) };
 

@@ -4,16 +4,18 @@ ghost use Rattle.std.specs.Io.KnownBytes.{Keeps};
 ghost use Rattle.clap.specs.Words.{kind_of};
 ghost use Rattle.sl_link.specs.CommandLine.{AreRefused, AskForHelp};
 ghost use Rattle.sl_link.specs.Counted.{stream_of, faults_of, HasFailed};
-ghost use Rattle.sl_link.specs.Run.{HasListed, HasStopped, IsUnmanaged, WithAsked};
-ghost use Rattle.sl_link.specs.ShowTm.{show_tm_text, show_tm_counts};
+ghost use Rattle.sl_link.specs.Engine.{buffer_of, counts_of, text_of};
+ghost use Rattle.sl_link.specs.Run.{AsksForRefusedParameter, HasStopped, HasSucceeded, WithAsked};
 ghost use Rattle.sl_link.specs.Status.{status};
-ghost use Rattle.sl_link.specs.Streams.{Translates, Stops};
+ghost use Rattle.sl_link.specs.Streams.{IsRead, Translates, Stops};
 
 use crate::command_line::{Kind, Request, Verb, parse};
 use crate::counted::Counted;
 use crate::link_fault::LinkFault;
 use crate::managed::Managed;
+use crate::normalise::normalise_tm;
 use crate::show::show_tm;
+use crate::streams::write_text;
 use crate::totals::Totals;
 use clap::Error;
 use clap::error::ErrorKind;
@@ -32,7 +34,7 @@ const REFUSED: u8 = 2;
 /// The exit status after a fault.
 const FAULT: u8 = 3;
 
-/// Runs the program over its words, of which the first is its own name, and gives its exit status.
+/// Runs the program over its words, of which the first is its own name, and returns its exit status.
 pub fn run<R: Read, W: Write, E: Write>(
     alloc: Global,
     words: &[String],
@@ -41,43 +43,46 @@ pub fn run<R: Read, W: Write, E: Write>(
     errors: &mut E,
 ) -> u8
     ensures range { result ≤ 3 }
-    // After success the recording is listed as the words ask, or they ask for help and nothing was read.
-    ensures listed { result ≡ 0 → (AskForHelp (map string_bytes words.now) × (reader.new ≡ reader.old))
-        ⊎ WithAsked (map string_bytes words.now) (HasListed R.remaining W.contents reader.old reader.new writer.old writer.new) }
+    // After success the text that the words ask for is written, or they ask for help, nothing was read and
+    // the writer had no fault.
+    ensures succeeded { result ≡ 0 → (AskForHelp (map string_bytes words.now) × (reader.new ≡ reader.old) × (faults_of writer.new ≡ faults_of writer.old))
+        ⊎ WithAsked (map string_bytes words.now) (HasSucceeded R.remaining W.contents reader.old reader.new writer.old writer.new) }
     // No engine meets an anomaly yet.
     ensures no_anomaly { result ≢ 1 }
     // A refused run has read and written nothing: the words are refused, or a managed parameter that they
     // ask for is.
     ensures refused { result ≡ 2 → (reader.new ≡ reader.old) × (writer.new ≡ writer.old)
-        × (AreRefused (map string_bytes words.now) ⊎ WithAsked (map string_bytes words.now) IsUnmanaged) }
+        × (AreRefused (map string_bytes words.now) ⊎ WithAsked (map string_bytes words.now) AsksForRefusedParameter) }
     // After a fault its cause is there, with what the words ask for; or nothing was read, and nothing
-    // written unless they ask for help.
-    ensures stopped { result ≡ 3 → ((reader.new ≡ reader.old) × ((writer.new ≡ writer.old) ⊎ AskForHelp (map string_bytes words.now)))
+    // written unless they ask for help and the writer failed.
+    ensures stopped { result ≡ 3 → ((reader.new ≡ reader.old) × ((writer.new ≡ writer.old)
+        ⊎ (AskForHelp (map string_bytes words.now) × HasFailed writer.old writer.new)))
         ⊎ WithAsked (map string_bytes words.now) (HasStopped R.remaining W.contents reader.old reader.new writer.old writer.new) }
 {
     match parse(alloc, words) {
-        Ok(request) => answer(&request, reader, writer, errors),
-        Err(refusal) => explain(&refusal, writer, errors),
+        Ok(request) => run_request(alloc, &request, reader, writer, errors),
+        Err(refusal) => report_refusal(alloc, &refusal, writer, errors),
     }
 }
 
 // Runs what is asked for, unless a managed parameter is refused.
-fn answer<R: Read, W: Write, E: Write>(
+fn run_request<R: Read, W: Write, E: Write>(
+    alloc: Global,
     request: &Request,
     reader: &mut Counted<R>,
     writer: &mut Counted<W>,
     errors: &mut E,
 ) -> u8
     ensures range { result ≤ 3 }
-    ensures listed { result ≡ 0 → HasListed R.remaining W.contents reader.old reader.new writer.old writer.new request.now.options }
+    ensures succeeded { result ≡ 0 → HasSucceeded R.remaining W.contents reader.old reader.new writer.old writer.new request.now }
     ensures no_anomaly { result ≢ 1 }
-    ensures refused { result ≡ 2 → (reader.new ≡ reader.old) × (writer.new ≡ writer.old) × IsUnmanaged request.now.options }
-    ensures stopped { result ≡ 3 → HasStopped R.remaining W.contents reader.old reader.new writer.old writer.new request.now.options }
+    ensures refused { result ≡ 2 → (reader.new ≡ reader.old) × (writer.new ≡ writer.old) × AsksForRefusedParameter request.now }
+    ensures stopped { result ≡ 3 → HasStopped R.remaining W.contents reader.old reader.new writer.old writer.new request.now }
 {
     match request.options.managed() {
         Ok(managed) => {
-            let outcome = conduct(request, &managed, reader, writer);
-            conclude(&outcome, errors)
+            let outcome = run_and_flush(alloc, request, &managed, reader, writer);
+            report(&outcome, errors)
         }
         Err(fault) => {
             let _ = writeln!(errors, "sllink: managed: {fault}");
@@ -87,24 +92,47 @@ fn answer<R: Read, W: Write, E: Write>(
 }
 
 // Runs the engine that is asked for, and flushes what it has written.
-fn conduct<R: Read, W: Write>(
+fn run_and_flush<R: Read, W: Write>(
+    alloc: Global,
     request: &Request,
     managed: &Managed,
     reader: &mut Counted<R>,
     writer: &mut Counted<W>,
 ) -> Result<Totals, LinkFault>
     requires { managed.now.tm_fecf ≡ false }
-    ensures listing { IfOk result (Translates R.remaining W.contents reader.old reader.new writer.old writer.new (show_tm_text managed.now) (show_tm_counts managed.now) managed.now.max_octets) }
-    ensures fault { IfErr result (Stops R.remaining W.contents reader.old reader.new writer.old writer.new (show_tm_text managed.now) managed.now.max_octets 0x20000) }
-    ensures no_memory { result ≢ Err LinkFault.Memory }
+    ensures written { IfOk result (Translates R.remaining W.contents reader.old reader.new writer.old writer.new (text_of request.now.verb request.now.kind managed.now) (counts_of request.now.verb request.now.kind managed.now) managed.now.max_octets) }
+    ensures fault { IfErr result (Stops R.remaining W.contents reader.old reader.new writer.old writer.new (text_of request.now.verb request.now.kind managed.now) managed.now.max_octets (buffer_of request.now.verb request.now.kind)) }
+    ensures no_memory { request.now.verb ≡ Verb.Show → result ≢ Err LinkFault.Memory }
+    ensures all_read { request.now.verb ≡ Verb.Normalise → IfErr result (λ fault. fault ≡ LinkFault.Write → IsRead R.remaining reader.new) }
+    ensures nothing { request.now.verb ≡ Verb.Normalise → IfErr result (λ fault. fault ≢ LinkFault.Write → writer.new ≡ writer.old) }
 {
-    let totals = match (request.verb, request.kind) {
-        (Verb::Show, Kind::Tm) => show_tm(managed, reader, writer)?,
-    };
+    let totals = run_engine(alloc, request, managed, reader, writer)?;
     flush(writer)?;
     Ok(totals)
 }
 
+// Runs the engine that is asked for.
+fn run_engine<R: Read, W: Write>(
+    alloc: Global,
+    request: &Request,
+    managed: &Managed,
+    reader: &mut Counted<R>,
+    writer: &mut Counted<W>,
+) -> Result<Totals, LinkFault>
+    requires { managed.now.tm_fecf ≡ false }
+    ensures written { IfOk result (Translates R.remaining W.contents reader.old reader.new writer.old writer.new (text_of request.now.verb request.now.kind managed.now) (counts_of request.now.verb request.now.kind managed.now) managed.now.max_octets) }
+    ensures fault { IfErr result (Stops R.remaining W.contents reader.old reader.new writer.old writer.new (text_of request.now.verb request.now.kind managed.now) managed.now.max_octets (buffer_of request.now.verb request.now.kind)) }
+    ensures no_memory { request.now.verb ≡ Verb.Show → result ≢ Err LinkFault.Memory }
+    ensures all_read { request.now.verb ≡ Verb.Normalise → IfErr result (λ fault. fault ≡ LinkFault.Write → IsRead R.remaining reader.new) }
+    ensures nothing { request.now.verb ≡ Verb.Normalise → IfErr result (λ fault. fault ≢ LinkFault.Write → writer.new ≡ writer.old) }
+{
+    match (request.verb, request.kind) {
+        (Verb::Show, Kind::Tm) => show_tm(managed, reader, writer),
+        (Verb::Normalise, Kind::Tm) => normalise_tm(alloc, managed, reader, writer),
+    }
+}
+
+// Flushes what was written.
 fn flush<W: Write>(writer: &mut Counted<W>) -> Result<(), LinkFault>
     ensures kept { Keeps (W.contents (stream_of writer.old)) (W.contents (stream_of writer.new)) }
     ensures ok { OnOk result (faults_of writer.new ≡ faults_of writer.old) }
@@ -117,8 +145,8 @@ fn flush<W: Write>(writer: &mut Counted<W>) -> Result<(), LinkFault>
     }
 }
 
-// Names a fault on the error output, and gives the exit status.
-fn conclude<E: Write>(outcome: &Result<Totals, LinkFault>, errors: &mut E) -> u8
+// Names a fault on the error output, and returns the exit status.
+fn report<E: Write>(outcome: &Result<Totals, LinkFault>, errors: &mut E) -> u8
     ensures { result ≡ status outcome.now }
 {
     if let Err(fault) = outcome {
@@ -127,6 +155,7 @@ fn conclude<E: Write>(outcome: &Result<Totals, LinkFault>, errors: &mut E) -> u8
     status_of(outcome)
 }
 
+// The exit status after an engine.
 fn status_of(outcome: &Result<Totals, LinkFault>) -> u8
     ensures { result ≡ status outcome.now }
 {
@@ -138,20 +167,26 @@ fn status_of(outcome: &Result<Totals, LinkFault>) -> u8
 }
 
 // Prints help, or why the command line is refused.
-fn explain<W: Write, E: Write>(refusal: &Error, writer: &mut Counted<W>, errors: &mut E) -> u8
+fn report_refusal<W: Write, E: Write>(
+    alloc: Global,
+    refusal: &Error,
+    writer: &mut Counted<W>,
+    errors: &mut E,
+) -> u8
     ensures range { result ≤ 3 }
     ensures no_anomaly { result ≢ 1 }
-    ensures helped { result ≡ 0 → kind_of refusal.now ≡ ErrorKind.DisplayHelp }
+    ensures helped { result ≡ 0 → (kind_of refusal.now ≡ ErrorKind.DisplayHelp) × (faults_of writer.new ≡ faults_of writer.old) }
     ensures refused { result ≡ 2 → (writer.new ≡ writer.old) × (kind_of refusal.now ≢ ErrorKind.DisplayHelp)
         × (kind_of refusal.now ≢ ErrorKind.OutOfMemory) }
-    ensures stopped { result ≡ 3 → (writer.new ≡ writer.old) ⊎ (kind_of refusal.now ≡ ErrorKind.DisplayHelp) }
+    ensures stopped { result ≡ 3 → (writer.new ≡ writer.old)
+        ⊎ ((kind_of refusal.now ≡ ErrorKind.DisplayHelp) × HasFailed writer.old writer.new) }
 {
     match refusal.kind() {
-        ErrorKind::DisplayHelp => match write_help(refusal, writer) {
+        ErrorKind::DisplayHelp => match write_help(alloc, refusal, writer) {
             Ok(()) => SUCCESS,
-            Err(fault) => conclude(&Err(fault), errors),
+            Err(fault) => report(&Err(fault), errors),
         },
-        ErrorKind::OutOfMemory => conclude(&Err(LinkFault::Memory), errors),
+        ErrorKind::OutOfMemory => report(&Err(LinkFault::Memory), errors),
         _ => {
             let _ = write!(errors, "{refusal}");
             REFUSED
@@ -159,15 +194,19 @@ fn explain<W: Write, E: Write>(refusal: &Error, writer: &mut Counted<W>, errors:
     }
 }
 
-// Writes help and flushes it. A write that was interrupted and tried again is a fault too.
-fn write_help<W: Write>(help: &Error, writer: &mut Counted<W>) -> Result<(), LinkFault>
+// Writes help and flushes it.
+fn write_help<W: Write>(
+    alloc: Global,
+    help: &Error,
+    writer: &mut Counted<W>,
+) -> Result<(), LinkFault>
     ensures ok { OnOk result (faults_of writer.new ≡ faults_of writer.old) }
-    ensures fault { IfErr result (λ fault. fault ≡ LinkFault.Write) }
+    ensures fault { IfErr result (λ fault. (writer.new ≡ writer.old) ⊎ HasFailed writer.old writer.new) }
 {
-    let faults = writer.faults();
-    let written = write!(writer, "{help}");
-    if written.is_err() || flush(writer).is_err() || writer.faults() != faults {
-        return Err(LinkFault::Write);
-    }
-    Ok(())
+    let text = match format!(in alloc; "{help}") {
+        Ok(text) => text,
+        Err(_) => return Err(LinkFault::Memory),
+    };
+    write_text(writer, text.as_bytes())?;
+    flush(writer)
 }

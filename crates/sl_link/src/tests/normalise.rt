@@ -6,9 +6,9 @@ use std::alloc::Global;
 use std::test::Fail;
 
 // A packet of ten octets, and it with an idle packet that fills a data field.
-const TEN: &str = "0001c0000003aabbccdd";
+pub(super) const TEN: &str = "0001c0000003aabbccdd";
 
-const TEN_FILLED: &str = "0001c0000003aabbccdd07ffc000000900000000000000000000";
+pub(super) const TEN_FILLED: &str = "0001c0000003aabbccdd07ffc000000900000000000000000000";
 
 // A packet of twenty-three octets.
 const LONG: &str = "0002c00500101111111111111111111111111111111111";
@@ -23,7 +23,7 @@ const ZEROS: &str = "0000000000000000000000000000000000000000000000000000";
 const FIVES: &str = "5555555555555555555555555555555555555555555555555555";
 
 // The header of a first frame of virtual channel 0 in which a packet starts at once.
-const FIRST: &str = "001000001800";
+pub(super) const FIRST: &str = "001000001800";
 
 // The normal form of the packets of twenty-three and of ten octets, and that of the first alone.
 const BOTH: [&str; 7] = [
@@ -45,7 +45,7 @@ const ALONE: [&str; 6] = [
     "0000000000000000000000000000000000000000000000",
 ];
 
-fn octets(alloc: Global, parts: &[&str]) -> Result<Vec<u8>, Fail> {
+pub(super) fn octets(alloc: Global, parts: &[&str]) -> Result<Vec<u8>, Fail> {
     let mut octets = Vec::new(alloc);
     for part in parts {
         let part = hex::decode(alloc, part)?;

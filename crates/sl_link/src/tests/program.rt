@@ -1,4 +1,5 @@
 use super::faulty::{Interrupted, Unflushed, Unreadable, Unwritable};
+use super::normalise::{FIRST, TEN, TEN_FILLED, octets};
 use super::outcome::{Outcome, text, words};
 use crate::command_line::{Kind, Options, Request, Verb, parse};
 use crate::{Counted, run};
@@ -8,23 +9,33 @@ const HELP: &str = "sllink --help";
 
 const SHOW: &str = "sllink show tm --scid 1";
 
+const NORMALISE: &str = "sllink normalise tm --scid 1 --tm-length 32";
+
 const RECORDING: &[u8] = &[0, 0];
 
 #[test]
 fn command_lines_are_read(rt: HostRuntime) -> Result<(), Fail> {
     let cases = [
-        ("sllink show tm --scid 7", 7, 1115, 1_073_741_824),
+        (
+            "sllink show tm --scid 7",
+            Verb::Show,
+            7,
+            1115,
+            1_073_741_824,
+        ),
         (
             "any show --limit=9 --tm-length 0 tm --scid=65535",
+            Verb::Show,
             65_535,
             0,
             9,
         ),
+        (NORMALISE, Verb::Normalise, 1, 32, 1_073_741_824),
     ];
-    for (line, spacecraft, tm_length, max_octets) in cases {
+    for (line, verb, spacecraft, tm_length, max_octets) in cases {
         let words = words(rt.alloc(), line)?;
         let request = Request {
-            verb: Verb::Show,
+            verb,
             kind: Kind::Tm,
             options: Options {
                 spacecraft,
@@ -46,6 +57,9 @@ fn wrong_command_lines_are_refused(rt: HostRuntime) -> Result<(), Fail> {
         "sllink help tell",
         "sllink show --scid 1",
         "sllink show tc --scid 1",
+        "sllink normalise --scid 1",
+        "sllink normalise tc --scid 1",
+        "sllink normalise tm",
         "sllink show tm tm --scid 1",
         "sllink show tm",
         "sllink show tm --scid",
@@ -75,10 +89,12 @@ fn refused_parameters_are_named(rt: HostRuntime) -> Result<(), Fail> {
         ("--scid 1 --limit 0", "sllink: managed: limit\n"),
     ];
     for (options, said) in cases {
-        let line = format!(in rt.alloc(); "sllink show tm {options}")?;
-        let outcome = Outcome::of(rt.alloc(), line.as_str(), RECORDING)?;
-        assert!(rt; outcome.says(2, said), "{outcome:?}");
-        assert!(rt; outcome.output.is_empty());
+        for verb in ["show", "normalise"] {
+            let line = format!(in rt.alloc(); "sllink {verb} tm {options}")?;
+            let outcome = Outcome::of(rt.alloc(), line.as_str(), RECORDING)?;
+            assert!(rt; outcome.says(2, said), "{outcome:?}");
+            assert!(rt; outcome.output.is_empty());
+        }
     }
     Ok(())
 }
@@ -87,11 +103,13 @@ fn refused_parameters_are_named(rt: HostRuntime) -> Result<(), Fail> {
 fn help_is_printed(rt: HostRuntime) -> Result<(), Fail> {
     let all = "\nUsage: sllink <COMMAND>\n";
     let show = "\nUsage: sllink show [OPTIONS] --scid <ID> <KIND>\n";
+    let normalise = "\nUsage: sllink normalise [OPTIONS] --scid <ID> <KIND>\n";
     let cases = [
         (HELP, all),
         ("sllink help", all),
         ("sllink show -h", show),
         ("sllink help show", show),
+        ("sllink help normalise", normalise),
     ];
     for (line, usage) in cases {
         let outcome = Outcome::of(rt.alloc(), line, RECORDING)?;
@@ -102,11 +120,39 @@ fn help_is_printed(rt: HostRuntime) -> Result<(), Fail> {
 }
 
 #[test]
+fn normal_forms_are_written(rt: HostRuntime) -> Result<(), Fail> {
+    let alloc = rt.alloc();
+    let normal = octets(alloc, &[FIRST, TEN_FILLED])?;
+    let idle = "07ff00070009";
+    let counted = octets(alloc, &["00104dc81800", TEN, idle, "55555555555555555555"])?;
+    for recording in [&normal, &counted] {
+        let outcome = Outcome::of(alloc, NORMALISE, recording.as_slice())?;
+        assert!(rt; outcome.says(0, ""), "{outcome:?}");
+        assert_eq!(rt; outcome.output, normal);
+    }
+    // Exactly the limit, and one octet more.
+    let line = format!(in alloc; "{NORMALISE} --limit 100")?;
+    let cases = [("00100000", 0, ""), ("0010000018", 3, "sllink: too long\n")];
+    for (remainder, status, said) in cases {
+        let parts = [
+            FIRST, TEN_FILLED, FIRST, TEN_FILLED, FIRST, TEN_FILLED, remainder,
+        ];
+        let recording = octets(alloc, &parts)?;
+        let outcome = Outcome::of(alloc, line.as_str(), recording.as_slice())?;
+        assert!(rt; outcome.says(status, said), "{outcome:?}");
+        assert_eq!(rt; outcome.output.is_empty(), status != 0);
+    }
+    Ok(())
+}
+
+#[test]
 fn faults_of_reading_are_named(rt: HostRuntime) -> Result<(), Fail> {
     let alloc = rt.alloc();
-    let mut writer = Counted::new(Vec::new(alloc));
-    let outcome = Outcome::with(alloc, SHOW, Unreadable, &mut writer)?;
-    assert!(rt; outcome.says(3, "sllink: read\n"));
+    for line in [SHOW, NORMALISE] {
+        let mut writer = Counted::new(Vec::new(alloc));
+        let outcome = Outcome::with(alloc, line, Unreadable, &mut writer)?;
+        assert!(rt; outcome.says(3, "sllink: read\n"), "{line}");
+    }
     let outcome = Outcome::of(alloc, "sllink show tm --scid 1 --limit 1", RECORDING)?;
     assert!(rt; outcome.says(3, "sllink: too long\n"));
     Ok(())
@@ -115,15 +161,21 @@ fn faults_of_reading_are_named(rt: HostRuntime) -> Result<(), Fail> {
 #[test]
 fn faults_of_writing_are_named(rt: HostRuntime) -> Result<(), Fail> {
     let alloc = rt.alloc();
-    for line in [SHOW, HELP] {
+    let normal = octets(alloc, &[FIRST, TEN_FILLED])?;
+    let cases: [(&str, &[u8]); 3] = [
+        (SHOW, RECORDING),
+        (HELP, RECORDING),
+        (NORMALISE, normal.as_slice()),
+    ];
+    for (line, recording) in cases {
         let mut writer = Counted::new(Unwritable);
-        let outcome = Outcome::with(alloc, line, RECORDING, &mut writer)?;
+        let outcome = Outcome::with(alloc, line, recording, &mut writer)?;
         assert!(rt; outcome.says(3, "sllink: write\n"), "{line}");
         let mut writer = Counted::new(Unflushed);
-        let outcome = Outcome::with(alloc, line, RECORDING, &mut writer)?;
+        let outcome = Outcome::with(alloc, line, recording, &mut writer)?;
         assert!(rt; outcome.says(3, "sllink: write\n"), "{line}");
         let mut writer = Counted::new(Interrupted::new());
-        let outcome = Outcome::with(alloc, line, RECORDING, &mut writer)?;
+        let outcome = Outcome::with(alloc, line, recording, &mut writer)?;
         assert!(rt; outcome.says(3, "sllink: write\n"), "{line}");
     }
     Ok(())

@@ -12,4 +12,4 @@ returns-in_err-taken-clause-fault g c =
 pub returns-then-is_err-clause-fault : goal.returns-then-is_err-clause-fault
 returns-then-is_err-clause-fault g c =
     let so_far = c.loop-octets.invariant in
-    stops_at_memory g.R.Read.remaining c.args.reader.now c.loop-octets.reader c.read_some.new.reader c.loop-octets.octets.items c.read_some.new.buffer _ c.args.limit 65536 c.in_ok-taken.taken so_far.0 so_far.1 (omega arith) c.in_ok-taken.ensures.came
+    stops_at_memory g.R.Read.remaining c.args.reader.now c.loop-octets.reader c.read_some.new.reader c.loop-octets.octets.items c.read_some.new.buffer _ c.args.limit 65536 c.in_ok-taken.taken so_far.0 so_far.1 so_far.2 (omega arith) c.in_ok-taken.ensures.came

@@ -28,7 +28,7 @@ returns-in_err-show_rest-clause-fault g c =
     let some = some_octets (parameters_of c.managed.inside) c.args.managed.now c.managed.invariant c.managed.view_is in
     let out = err_from_is_err_and c.from_residual-in_err-show_rest.result c.from_residual-in_err-show_rest.ensures.1 in
     let came = rw c.if-taken-eq0.true at c.in_ok-taken.ensures.came.read in
-    rw (out.1, out.2) (stops_at_rest g.R.Read.remaining g.W.Write.contents c.args.managed.now some (length c.args.buffer.now) c.args.reader.now c.loop-taken.reader c.read_some.new.reader c.args.writer.now c.loop-taken.writer c.show_rest.new.writer c.loop-taken.tally c.loop-taken.buffer c.loop-taken.held _ c.loop-taken.invariant.shown came c.in_err-show_rest.ensures.fault)
+    rw (out.1, out.2) (stops_at_rest g.R.Read.remaining g.W.Write.contents c.args.managed.now some (length c.args.buffer.now) c.args.reader.now c.loop-taken.reader c.read_some.new.reader c.args.writer.now c.loop-taken.writer c.show_rest.new.writer c.loop-taken.tally c.loop-taken.buffer c.loop-taken.held _ c.loop-taken.invariant.shown came c.in_ok-taken.ensures.came.no_fault c.in_err-show_rest.ensures.fault)
 
 pub returns-then-taken-eq0-clause-listing : goal.returns-then-taken-eq0-clause-listing
 returns-then-taken-eq0-clause-listing g c =
@@ -45,7 +45,7 @@ returns-in_err-shown-clause-fault g c =
     let came = c.in_ok-taken.ensures.came in
     let left = ap (λ (p : Parameters). p.max_octets - c.loop-taken.tally.octets - c.loop-taken.held) c.managed.view_is in
     let after = post_of c.loop-taken.held (length c.loop-taken.buffer - c.loop-taken.held) c.loop-taken.buffer in
-    rw (out.1, out.2) (stops_at_frames g.R.Read.remaining g.W.Write.contents c.args.managed.now some (length c.args.buffer.now) c.args.reader.now c.loop-taken.reader c.read_some.new.reader c.args.writer.now c.loop-taken.writer c.show_frames.new.writer c.loop-taken.tally c.loop-taken.buffer c.loop-taken.held c.in_ok-taken.taken c.read_some.new.buffer after (take (c.loop-taken.held + c.in_ok-taken.taken) (take c.loop-taken.held c.loop-taken.buffer ++ (c.read_some.new.buffer ++ after))) c.loop-taken.invariant.shown came.inside came.read refl _ _ left came.allowed c.in_err-shown.ensures.fault)
+    rw (out.1, out.2) (stops_at_frames g.R.Read.remaining g.W.Write.contents c.args.managed.now some (length c.args.buffer.now) c.args.reader.now c.loop-taken.reader c.read_some.new.reader c.args.writer.now c.loop-taken.writer c.show_frames.new.writer c.loop-taken.tally c.loop-taken.buffer c.loop-taken.held c.in_ok-taken.taken c.read_some.new.buffer after (take (c.loop-taken.held + c.in_ok-taken.taken) (take c.loop-taken.held c.loop-taken.buffer ++ (c.read_some.new.buffer ++ after))) c.loop-taken.invariant.shown came.inside came.read refl _ _ left came.allowed came.no_fault c.in_err-shown.ensures.fault)
 
 pub loop-taken-preserved : goal.loop-taken-preserved
 loop-taken-preserved g c =

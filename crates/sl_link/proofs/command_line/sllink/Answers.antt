@@ -1,0 +1,18 @@
+use Rattle.std.proofs.Common.{rules, ◌≡◌, ◌∙◌, refl, ap, ap₂, codes, true}
+use Rattle.std.specs.Prelude.{[]}
+use Rattle.std.proofs.lemmas.Result.{IfOk-weaker}
+use Rattle.clap.specs.Words.{app_of}
+use Rattle.clap.specs.Simple.{new_shape, with_subcommand}
+use Rattle.sl_link.proofs.command_line.sllink.Goals as goal
+
+pub returns : goal.returns
+returns c =
+    let show = ap (λ a. a.top) c.in_ok-show.ensures.app in
+    let normalise = ap (λ a. a.top) c.in_ok-normalise.ensures.app in
+    let bare : app_of c.subcommand_required.result ≡ record { top = record (new_shape (codes "sllink")) { subcommand_required = true }; subs = [] } = search rules in
+    let one = c.in_ok-subcommand.ensures.shape c.in_ok-show.ensures.local ∙ ap₂ with_subcommand bare show in
+    IfOk-weaker c.subcommand-2.result _ _ (λ command h. record {
+      kinds = _;
+      named = refl;
+      same = h.shape c.in_ok-normalise.ensures.local ∙ ap₂ with_subcommand one normalise;
+    }) c.subcommand-2.ensures

@@ -214,8 +214,15 @@ register-divided bits b r e h =
 -- octets
 
 pub fecf_of-register : (octets : List ℕ) → fecf_of octets ≡ register_of (bits_of octets)
-unfolding fecf_of register_of
+unfolding fecf_of
 fecf_of-register octets = refl
 
 pub bits_of-append : (octets : List ℕ) (octet : ℕ) → bits_of (octets ++ octet ∷ []) ≡ bits_of octets ++ octet_bits octet
 bits_of-append octets octet = flat_map-append octet_bits octets (octet ∷ []) ∙ ap (λ bits. bits_of octets ++ bits) (append-nil (octet_bits octet))
+
+-- the field is a number of sixteen bits
+pub fecf_of_lt : (octets : List ℕ) → fecf_of octets < 65536
+fecf_of_lt octets =
+    let word = ran ones (bits_of octets) in
+    let bits : length word ≡ 16 = length-ran ones (bits_of octets) refl in
+    rw (fecf_of-register octets ∙ register_of-ran (bits_of octets)) (rw (ap (λ k. 2 ^ k) bits) at (bits_number-lt word))

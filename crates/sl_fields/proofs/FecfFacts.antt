@@ -1,6 +1,6 @@
 -- Frame error control fields that are known from outside, so that a wrong definition doesn't check.
 use Rattle.std.proofs.Common.{◌≡◌, true, false, [], ◌∷◌, codes, replicate, refl}
-use Rattle.sl_fields.specs.Fecf.{fecf_of, fecf_is_good}
+use Rattle.sl_fields.specs.Fecf.{fecf_of, fecf_is_good, register_of}
 
 pub record AreVectors : Type 0 where
   pub empty : fecf_of [] ≡ 0xFFFF
@@ -15,7 +15,7 @@ pub record AreVectors : Type 0 where
       ∷ 0x07 ∷ 0xFF ∷ 0xC0 ∷ 0x00 ∷ 0x00 ∷ 0x09 ∷ replicate 10 0) ≡ 0x5E0C
 
 pub vectors : AreVectors
-unfolding fecf_of
+unfolding fecf_of register_of
 vectors = record {
   empty = refl;
   two_zeros = refl;
@@ -35,7 +35,7 @@ pub record AreCases : Type 0 where
   pub none : fecf_is_good [] ≡ false
 
 pub cases : AreCases
-unfolding fecf_of
+unfolding fecf_of register_of
 cases = record {
   with_field = refl;
   turned_round = refl;

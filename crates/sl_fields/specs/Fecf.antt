@@ -48,14 +48,14 @@ remainder bits = divided (length bits - 16) bits
 abbrev pub preset : List Bool → List Bool
 preset bits = map not (take 16 bits) ++ drop 16 bits
 
--- The frame error control field of the octets before it: their bits and sixteen zeros, the first
--- sixteen of these bits inverted, and the remainder of it all. This covers every message, none included.
-unfoldable pub fecf_of : List ℕ → ℕ
-fecf_of octets = bits_number (remainder (preset (bits_of octets ++ replicate 16 false)))
-
--- the register after these bits of a message, as long division leaves it: the same field, of bits
+-- The field of a message's bits: the bits and sixteen zeros, the first sixteen of these bits inverted, and
+-- the remainder of it all. A register that divides bit by bit holds it after each of them.
 unfoldable pub register_of : List Bool → ℕ
 register_of bits = bits_number (remainder (preset (bits ++ replicate 16 false)))
+
+-- The frame error control field of the octets before it. Each message has one, that of no octets too.
+unfoldable pub fecf_of : List ℕ → ℕ
+fecf_of octets = register_of (bits_of octets)
 
 -- Octets of which the last two, as one number, are the frame error control field of those before them.
 -- There is at least one octet before the field.

@@ -4,5 +4,6 @@ pub mod Fecf
 pub mod Field
 pub mod PacketHeader
 pub mod PacketHeaderModel
+pub mod Shape
 pub mod TmHeader
 pub mod TmHeaderModel

@@ -33,19 +33,19 @@ pub fn fecf_good(octets: &[u8]) -> bool
     BigEndian::read_u16(field) == fecf(covered)
 }
 
-/// The register after one octet more.
+// The register after one octet more.
 fn after_octet(register: u16, octet: u8) -> u16
     ensures { (before : List ℕ) → register ≡ fecf_of before → result ≡ fecf_of (before ++ octet ∷ []) }
 {
     let mut after = register;
-    for place in 0..8u32 {
-        after = after_bit(after, (octet >> (7 - place)) & 1 == 1);
+    for bit in 0..8u32 {
+        after = after_bit(after, (octet >> (7 - bit)) & 1 == 1);
     }
     after
 }
 
-/// The register after one bit more: moved up by one, and with the generator added where the bit that
-/// leaves it isn't the message's.
+// The register after one bit more: moved up by one, and with the generator added where the bit that leaves
+// it isn't the message's.
 fn after_bit(register: u16, bit: bool) -> u16
     ensures { (before : List Bool) → register ≡ register_of before → result ≡ register_of (before ++ bit ∷ []) }
 {

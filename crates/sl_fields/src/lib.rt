@@ -1,5 +1,5 @@
 //! The headers of CCSDS telemetry and telecommand links and of space packets, each as its fields and
-//! as its octets.
+//! as its octets, and the frame error control field.
 //!
 //! A header is its fields and nothing else: all bits are fields, those without a meaning included, so
 //! what [`write`](TmHeader::write) gives for what [`read`](TmHeader::read) took are the same octets.
@@ -9,11 +9,13 @@ mod bits;
 mod clcw;
 mod error_control;
 mod packet_header;
+mod shape_fault;
 mod tm_header;
 
 pub use clcw::Clcw;
 pub use error_control::{fecf, fecf_good};
 pub use packet_header::PacketHeader;
+pub use shape_fault::ShapeFault;
 pub use tm_header::TmHeader;
 
 #[cfg(test)]

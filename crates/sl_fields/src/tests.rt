@@ -1,6 +1,6 @@
 //! Headers of known octets: the fields were worked out by hand from the tables of bits. Error control
 //! fields are known from outside.
-use crate::{Clcw, PacketHeader, TmHeader, fecf, fecf_good};
+use crate::{Clcw, PacketHeader, ShapeFault, TmHeader, fecf, fecf_good};
 use std::test::Fail;
 
 #[test]
@@ -263,4 +263,11 @@ fn too_few_octets_for_an_error_control_field(rt: HostRuntime) {
     assert!(rt; !fecf_good(&[0xFF, 0xFF]));
     assert!(rt; !fecf_good(&[0x1D]));
     assert!(rt; !fecf_good(&[]));
+}
+
+#[test]
+fn a_fault_has_its_text(rt: HostRuntime) -> Result<(), Fail> {
+    let fault = ShapeFault::TmLength;
+    assert_eq!(rt; format!(in rt.alloc(); "{fault}")?.as_str(), "tm length");
+    Ok(())
 }

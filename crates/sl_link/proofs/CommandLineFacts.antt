@@ -1,12 +1,12 @@
 -- Command lines and what becomes of them, computed from the definitions, so that a wrong definition doesn't
 -- check.
-use Rattle.std.proofs.Common.{◌≡◌, ℕ, List, [], ◌∷◌, Option, Some, codes, refl}
+use Rattle.std.proofs.Common.{◌≡◌, ℕ, Bool, true, false, List, [], ◌∷◌, Option, Some, option_map, codes, refl}
 use Rattle.clap.specs.Kinds.{Kinds}
 use Rattle.clap.specs.Simple.{subcommand_of}
 use Rattle.clap.specs.Walk.{Text}
-use Rattle.clap.specs.declared.error.kind.ErrorKind.TheVariants.{ArgumentConflict, DisplayHelp, InvalidSubcommand, InvalidValue, MissingRequiredArgument, MissingSubcommand, UnknownArgument, ValueValidation}
+use Rattle.clap.specs.declared.error.kind.ErrorKind.TheVariants.{ArgumentConflict, DisplayHelp, InvalidSubcommand, InvalidValue, MissingRequiredArgument, MissingSubcommand, TooManyValues, UnknownArgument, ValueValidation}
 use Rattle.clap.proofs.OnLiterals.{clap_on_literals}
-use Rattle.sl_link.specs.CommandLine.{refusals, request_in, sllink_app}
+use Rattle.sl_link.specs.CommandLine.{asked, refusals, request_in, sllink_app}
 use Rattle.sl_link.specs.declared.command_line.Kind.TheVariants.{Tm}
 use Rattle.sl_link.specs.declared.command_line.Request.{Request}
 use Rattle.sl_link.specs.declared.command_line.Verb.{Verb}
@@ -16,22 +16,33 @@ use Rattle.sl_link.specs.declared.command_line.Verb.TheVariants.{Show, Normalise
 abbrev read : List Text → Kinds × Option Request
 read words = (refusals words, request_in (subcommand_of sllink_app words))
 
--- nothing is refused, and the frames of this spacecraft are asked for, with this length and this limit
-abbrev asks : Verb → ℕ → ℕ → ℕ → Kinds × Option Request
-asks verb scid length limit = (
+-- nothing is refused, and the frames of this spacecraft are asked for, with this length, with a frame error
+-- control field or none, and with this limit
+abbrev asks : Verb → ℕ → ℕ → Bool → ℕ → Kinds × Option Request
+asks verb scid length fecf limit = (
   [],
   Some (record {
     verb = verb;
     kind = Tm;
-    options = record { spacecraft = scid; tm_length = length; max_octets = limit };
+    options = record { spacecraft = scid; tm_length = length; tm_fecf = fecf; max_octets = limit };
   }),
 )
 
 pub record AreRead : Type 0 where
-  pub of_one_option : read (codes "sllink" ∷ codes "show" ∷ codes "tm" ∷ codes "--scid" ∷ codes "7" ∷ []) ≡ asks Show 7 1115 1073741824
-  pub of_all_options : read (codes "any" ∷ codes "show" ∷ codes "--limit=9" ∷ codes "--tm-length" ∷ codes "0" ∷ codes "tm" ∷ codes "--scid=65535" ∷ []) ≡ asks Show 65535 0 9
-  pub signed : read (codes "sllink" ∷ codes "show" ∷ codes "tm" ∷ codes "--scid" ∷ codes "+7" ∷ codes "--limit" ∷ codes "18446744073709551615" ∷ []) ≡ asks Show 7 1115 18446744073709551615
-  pub of_normalise : read (codes "sllink" ∷ codes "normalise" ∷ codes "tm" ∷ codes "--scid" ∷ codes "1" ∷ codes "--tm-length" ∷ codes "32" ∷ []) ≡ asks Normalise 1 32 1073741824
+  pub of_one_option : read (codes "sllink" ∷ codes "show" ∷ codes "tm" ∷ codes "--scid" ∷ codes "7" ∷ []) ≡ asks Show 7 1115 false 1073741824
+  pub of_all_options : read (codes "any" ∷ codes "show" ∷ codes "--limit=9" ∷ codes "--tm-length" ∷ codes "0" ∷ codes "tm" ∷ codes "--scid=65535" ∷ []) ≡ asks Show 65535 0 false 9
+  pub signed : read (codes "sllink" ∷ codes "show" ∷ codes "tm" ∷ codes "--scid" ∷ codes "+7" ∷ codes "--limit" ∷ codes "18446744073709551615" ∷ []) ≡ asks Show 7 1115 false 18446744073709551615
+  pub of_normalise : read (codes "sllink" ∷ codes "normalise" ∷ codes "tm" ∷ codes "--scid" ∷ codes "1" ∷ codes "--tm-length" ∷ codes "32" ∷ []) ≡ asks Normalise 1 32 false 1073741824
+  pub with_fecf : read (codes "sllink" ∷ codes "show" ∷ codes "tm" ∷ codes "--scid" ∷ codes "7" ∷ codes "--tm-fecf" ∷ []) ≡ asks Show 7 1115 true 1073741824
+  pub with_fecf_before : read (codes "sllink" ∷ codes "normalise" ∷ codes "--tm-fecf" ∷ codes "tm" ∷ codes "--scid=7" ∷ []) ≡ asks Normalise 7 1115 true 1073741824
+
+-- whether TM frames have a frame error control field, in the parameters that the words ask for
+abbrev asks_fecf : List Text → Option Bool
+asks_fecf words = option_map (λ (r : Request). (asked r.options).tm_fecf) (request_in (subcommand_of sllink_app words))
+
+pub record AskForFecf : Type 0 where
+  pub with_the_flag : asks_fecf (codes "sllink" ∷ codes "show" ∷ codes "tm" ∷ codes "--scid" ∷ codes "1" ∷ codes "--tm-fecf" ∷ []) ≡ Some true
+  pub without : asks_fecf (codes "sllink" ∷ codes "show" ∷ codes "tm" ∷ codes "--scid" ∷ codes "1" ∷ []) ≡ Some false
 
 pub record AskHelp : Type 0 where
   pub of_all : refusals (codes "sllink" ∷ codes "--help" ∷ []) ≡ DisplayHelp ∷ []
@@ -56,6 +67,9 @@ pub record AreRefusedFor : Type 0 where
   pub over_16_bits_of_length : refusals (codes "sllink" ∷ codes "show" ∷ codes "tm" ∷ codes "--scid" ∷ codes "1" ∷ codes "--tm-length" ∷ codes "65536" ∷ []) ≡ ValueValidation ∷ []
   pub over_64_bits : refusals (codes "sllink" ∷ codes "show" ∷ codes "tm" ∷ codes "--scid" ∷ codes "1" ∷ codes "--limit" ∷ codes "18446744073709551616" ∷ []) ≡ ValueValidation ∷ []
   pub other_option : refusals (codes "sllink" ∷ codes "show" ∷ codes "tm" ∷ codes "--scid" ∷ codes "1" ∷ codes "--window" ∷ codes "10" ∷ []) ≡ UnknownArgument ∷ []
+  pub flag_twice : refusals (codes "sllink" ∷ codes "show" ∷ codes "tm" ∷ codes "--scid" ∷ codes "1" ∷ codes "--tm-fecf" ∷ codes "--tm-fecf" ∷ []) ≡ ArgumentConflict ∷ []
+  pub value_of_a_flag : refusals (codes "sllink" ∷ codes "show" ∷ codes "tm" ∷ codes "--scid" ∷ codes "1" ∷ codes "--tm-fecf=1" ∷ []) ≡ TooManyValues ∷ []
+  pub word_after_a_flag : refusals (codes "sllink" ∷ codes "show" ∷ codes "tm" ∷ codes "--scid" ∷ codes "1" ∷ codes "--tm-fecf" ∷ codes "yes" ∷ []) ≡ UnknownArgument ∷ []
 
 pub are_read : AreRead
 unfolding clap_on_literals
@@ -64,7 +78,13 @@ are_read = record {
   of_all_options = refl;
   signed = refl;
   of_normalise = refl;
+  with_fecf = refl;
+  with_fecf_before = refl;
 }
+
+pub ask_for_fecf : AskForFecf
+unfolding clap_on_literals
+ask_for_fecf = record { with_the_flag = refl; without = refl }
 
 pub ask_help : AskHelp
 unfolding clap_on_literals
@@ -94,4 +114,7 @@ are_refused = record {
   over_16_bits_of_length = refl;
   over_64_bits = refl;
   other_option = refl;
+  flag_twice = refl;
+  value_of_a_flag = refl;
+  word_after_a_flag = refl;
 }

@@ -1,17 +1,20 @@
 -- The command line: what its builders make, and what its getters read.
 use Rattle.std.proofs.Common.{◌≡◌, ◌∙◌, ◌&&◌, ◌||◌, ◌^◌, ℕ, Bool, true, false, refl, sym, ap, List, [], ◌∷◌, Option, Some, None, Result, Ok, Err, cond, nat_lt, lt-ltb, ltb-true, true≢false, codes}
-use Rattle.std.specs.Prelude.{option_and_then, option_map}
+use Rattle.std.specs.Prelude.{option_and_then, option_map, unwrap_or}
 use Rattle.std.specs.List.{list_all}
 use Rattle.std.specs.Char.{digit_value}
 use Rattle.std.specs.Borrow.{Bor}
-use Rattle.std.specs.Str.Parse.{AllDigits, ExplainsUnsignedError, HasUnsignedDigitsIfOk, ParsesUnsigned, digits_value, without_leading_plus}
+use Rattle.std.specs.Option.{option_map_or}
+use Rattle.std.specs.Str.{bytes_eq}
+use Rattle.std.specs.Str.Parse.{AllDigits, ExplainsUnsignedError, HasUnsignedDigitsIfOk, ParsesBool, ParsesUnsigned, digits_value, without_leading_plus}
 use Rattle.std.specs.declared.num.ParseIntError.{ParseIntError}
+use Rattle.std.proofs.lemmas.Slice.Eq.{bytes_eq-Decides}
 use Rattle.clap.specs.Matches.{ReadsOne, first_value, one_text}
 use Rattle.clap.specs.ValueTests.{is_numeral}
 use Rattle.clap.specs.Walk.{Row, Text, first_of, rows_of}
 use Rattle.clap.specs.declared.parser.matches.Found.{Found}
 use Rattle.clap.proofs.WalkLemmas.{both, first_value-rows, one_text-rows}
-use Rattle.sl_link.specs.CommandLine.{kind_named, number_in, number_read, options_in, request_with, verb_named}
+use Rattle.sl_link.specs.CommandLine.{is_set, kind_named, number_in, number_read, options_in, request_with, verb_named}
 use Rattle.sl_link.specs.declared.command_line.Kind.{Kind}
 use Rattle.sl_link.specs.declared.command_line.Options.{Options}
 use Rattle.sl_link.specs.declared.command_line.Request.{Request}
@@ -86,14 +89,35 @@ number_reads bits text = go (is_number bits (without_leading_plus text)) refl
           true≢false (sym all ∙ t),
     )
 
--- the options, by the three numbers
-abbrev with_numbers : Option ℕ → Option ℕ → Option ℕ → Option Options
-with_numbers scid length limit =
-    option_and_then (λ s. option_and_then (λ t. option_and_then (λ l. Some (record { spacecraft = s; tm_length = t; max_octets = l })) limit) length) scid
+-- ---- flags
 
-pub options_are : (rows : List Row) (scid length limit : Option ℕ) → scid ≡ number_in 16 (codes "scid") rows → length ≡ number_in 16 (codes "tm-length") rows
-    → limit ≡ number_in 64 (codes "limit") rows → with_numbers scid length limit ≡ options_in rows
-options_are rows scid length limit p q r = λ i. with_numbers (p i) (q i) (r i)
+-- what `parse` reads as a `bool`
+flag_reads : (E : Type 0) (text : Text) (r : Option Bool) → ReadsOne {E = E} ParsesBool text r → unwrap_or r false ≡ bytes_eq text (codes "true")
+flag_reads E text (Some true) h = sym ((bytes_eq-Decides text (codes "true")).1 h)
+flag_reads E text (Some false) h = rw h refl
+flag_reads E text None h = sym (differs (bytes_eq text (codes "true")) refl)
+  where
+    differs : (b : Bool) → bytes_eq text (codes "true") ≡ b → b ≡ false
+    differs false e = refl
+    differs true e = absurd (h.1.0 ((bytes_eq-Decides text (codes "true")).0 e))
+
+-- what `get_one` reads of a flag, by the rows
+pub flag_got : (E : Type 0) (f : Found) (id : Text) (r : Option Bool) → (one_text f id ≡ None → r ≡ None) → ((t : List ℕ) → one_text f id ≡ Some t → ReadsOne {E = E} ParsesBool t r)
+    → unwrap_or r false ≡ is_set id (rows_of f)
+flag_got E f id r none value = go (one_text f id) refl ∙ ap (λ (o : Option Text). option_map_or (λ text. bytes_eq text (codes "true")) o false) (one_text-rows f id)
+  where
+    go : (o : Option Text) → one_text f id ≡ o → unwrap_or r false ≡ option_map_or (λ text. bytes_eq text (codes "true")) o false
+    go None e = ap (λ (o : Option Bool). unwrap_or o false) (none e)
+    go (Some t) e = flag_reads E t r (value t e)
+
+-- the options, by the flag and the three numbers
+abbrev with_numbers : Bool → Option ℕ → Option ℕ → Option ℕ → Option Options
+with_numbers fecf scid length limit =
+    option_and_then (λ s. option_and_then (λ t. option_and_then (λ l. Some (record { spacecraft = s; tm_length = t; tm_fecf = fecf; max_octets = l })) limit) length) scid
+
+pub options_are : (rows : List Row) (fecf : Bool) (scid length limit : Option ℕ) → fecf ≡ is_set (codes "tm-fecf") rows → scid ≡ number_in 16 (codes "scid") rows → length ≡ number_in 16 (codes "tm-length") rows
+    → limit ≡ number_in 64 (codes "limit") rows → with_numbers fecf scid length limit ≡ options_in rows
+options_are rows fecf scid length limit f p q r = λ i. with_numbers (f i) (p i) (q i) (r i)
 
 -- ---- what a verb asks for
 

@@ -9,10 +9,10 @@ use Rattle.std.proofs.lemmas.List.FromFn.{map-range_with_len_more}
 use Rattle.std.proofs.lemmas.Nat.{mod_below}
 use Rattle.std.proofs.Math.Seq.{take-suc}
 use Rattle.sl_fields.specs.Field.{number_of}
-use Rattle.sl_link.specs.declared.tm_frame.TmSkip.{TmSkip}
+use Rattle.sl_tmframe.specs.declared.tm_frame.TmSkip.{TmSkip}
 use Rattle.sl_packet.specs.Packet.{is_idle_packet}
 use Rattle.sl_packet.specs.Packets.{without_idle}
-use Rattle.sl_link.specs.TmFrame.{TmFormat, TmView, read_as, skip_reason, view_of, tm_frame}
+use Rattle.sl_tmframe.specs.TmFrame.{TmFormat, TmView, read_as, skip_reason, view_of, tm_frame}
 use Rattle.sl_link.specs.Channel.{views_of, channel_of}
 use Rattle.sl_link.specs.PacketStart.{whole_packets}
 use Rattle.sl_link.specs.Delimited.{frames_of, remainder_of}

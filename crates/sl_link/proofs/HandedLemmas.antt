@@ -8,8 +8,8 @@ use Rattle.sl_packet.specs.Packets.{packets_of, rest_of}
 use Rattle.sl_packet.specs.Sink.{TakesAll}
 use Rattle.sl_packet.proofs.PacketLemmas.{packet_least}
 use Rattle.sl_packet.proofs.PacketsLemmas.{each_has_packets}
-use Rattle.sl_link.specs.declared.tm_frame.TmSkip.{TmSkip}
-use Rattle.sl_link.specs.TmFrame.{TmFormat, Packets, Idle, Opaque, read_as, skip_reason, view_of, tm_frame, class_of, is_opaque, header_of, parts_of, field_len}
+use Rattle.sl_tmframe.specs.declared.tm_frame.TmSkip.{TmSkip}
+use Rattle.sl_tmframe.specs.TmFrame.{TmFormat, Packets, Idle, Opaque, read_as, skip_reason, view_of, tm_frame, class_of, is_opaque, header_of, parts_of, field_len}
 use Rattle.sl_link.specs.PacketStart.{whole_from, whole_packets}
 use Rattle.sl_link.specs.Deliver.{with_packets, is_deliverable, count_in}
 

@@ -16,7 +16,6 @@ pub mod NormaliseLemmas
 pub mod OpenLemmas
 pub mod OutcomeLemmas
 pub mod ParseLemmas
-pub mod PartLemmas
 pub mod PlaceLemmas
 pub mod RecordingLemmas
 pub mod RequestLemmas
@@ -27,6 +26,5 @@ pub mod ShowRowLemmas
 pub mod StartLemmas
 pub mod StepLemmas
 pub mod StreamLemmas
-pub mod TmFrameLemmas
 pub mod WalkLemmas
 pub mod WholeLemmas

@@ -3,7 +3,7 @@
 use Rattle.std.proofs.Common.{◌≡◌, ℕ, Bool, true, false, List, [], ◌∷◌, ◌++◌, codes, replicate, refl}
 use Rattle.std.specs.Fmt.{digits}
 use Rattle.hex.specs.Hex.{encode_with}
-use Rattle.sl_fields.specs.Fecf.{fecf_of}
+use Rattle.sl_fields.specs.Fecf.{fecf_of, register_of}
 use Rattle.sl_link.specs.Managed.{Parameters}
 use Rattle.sl_link.specs.ShowTm.{show_tm_text, show_tm_counts}
 use Rattle.sl_link.specs.Totals.{Counts}
@@ -66,7 +66,7 @@ pub record AreListed : Type 0 where
       ≡ codes "0 skip fecf\n34 frame vc 0 mc 0 vcc 0 first 0\n"
 
 pub listed : AreListed
-unfolding digits encode_with fecf_of
+unfolding digits encode_with fecf_of register_of
 listed = record {
   nothing = refl;
   one_frame = refl;

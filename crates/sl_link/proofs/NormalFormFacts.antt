@@ -1,7 +1,7 @@
 -- Worked recordings and their normal forms, computed from the definitions, so that a wrong definition
 -- doesn't check. Frames have 32 octets, the spacecraft is 1.
 use Rattle.std.proofs.Common.{◌≡◌, ℕ, true, false, List, [], ◌∷◌, ◌++◌, replicate, refl}
-use Rattle.sl_fields.specs.Fecf.{fecf_of}
+use Rattle.sl_fields.specs.Fecf.{fecf_of, register_of}
 use Rattle.sl_packet.specs.IdlePacket.{idle_packet}
 use Rattle.sl_link.specs.Managed.{Parameters}
 use Rattle.sl_link.specs.NormaliseTm.{tm_normal_form, whole_normal_form, whole_counts}
@@ -138,7 +138,7 @@ pub record HaveFieldsLeftOut : Type 0 where
   pub error_control : tm_normal_form (record link { tm_length = 34; tm_fecf = true }) (damaged ++ guarded) ≡ guarded
 
 pub fields_left_out : HaveFieldsLeftOut
-unfolding idle_packet fecf_of
+unfolding idle_packet fecf_of register_of
 fields_left_out =
     record {
       control = refl;
@@ -175,9 +175,10 @@ pub record HaveWholeForms : Type 0 where
   pub idle_frame : HasWholeForm in_three_frames two_packets
   pub idle_frame_counts : whole_counts link in_three_frames ≡ counts 96 3 0 2 1
   pub remainder_counts : whole_counts link three_copies ≡ counts 100 3 4 3 3
+  pub error_control : whole_normal_form (record link { tm_length = 34; tm_fecf = true }) (damaged ++ guarded) ≡ guarded
 
 pub whole_forms : HaveWholeForms
-unfolding idle_packet
+unfolding idle_packet fecf_of register_of
 whole_forms =
     record {
       plain = refl;
@@ -195,4 +196,5 @@ whole_forms =
       idle_frame = refl;
       idle_frame_counts = refl;
       remainder_counts = refl;
+      error_control = refl;
     }

@@ -4,7 +4,7 @@ use Rattle.std.specs.List.{AllByRecursion, concat}
 use Rattle.std.proofs.lemmas.List.{map-append}
 use Rattle.std.proofs.lemmas.List.Folds.{concat-append}
 use Rattle.sl_packet.specs.Front.{Front, Foreign, Incomplete, Whole, front}
-use Rattle.sl_link.specs.TmFrame.{TmView, Packets, Opaque}
+use Rattle.sl_tmframe.specs.TmFrame.{TmView, Packets, Opaque}
 use Rattle.sl_link.specs.Channel.{is_consecutive, AreConsecutive, packet_data, reassembly}
 use Rattle.sl_link.specs.Delivery.{Outcome, Held, Step, Ends, Continues, Breaks, step_of, after_step, outcome_after, outcome_of_front, outcome_of}
 use Rattle.sl_link.proofs.EachLemmas.{each-append}

@@ -6,7 +6,7 @@ use Rattle.std.proofs.lemmas.List.{take-append-drop, same_from_push, take_at, le
 use Rattle.sl_packet.specs.Packet.{IsPacket}
 use Rattle.sl_packet.specs.Front.{Front, Foreign, Incomplete, Whole, front}
 use Rattle.sl_packet.proofs.FrontLemmas.{whole_is_a_packet, packet_is_whole}
-use Rattle.sl_link.specs.TmFrame.{TmView, DataField, Packets, Idle, Opaque}
+use Rattle.sl_tmframe.specs.TmFrame.{TmView, DataField, Packets, Idle, Opaque}
 use Rattle.sl_link.specs.Channel.{is_consecutive, packet_data, data_of, reassembly}
 use Rattle.sl_link.specs.Delivery.{agreeing_pointer, IsDeliveredBy, Outcome, Completes, Step, Ends, Continues, Breaks, step_of, after_step, outcome_after, outcome_of_front, outcome_of}
 use Rattle.sl_link.proofs.EachLemmas.{each-append, each-at, some_element, has_last, cases_last}

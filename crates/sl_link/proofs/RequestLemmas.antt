@@ -18,7 +18,7 @@ use Rattle.clap.specs.declared.error.kind.ErrorKind.TheVariants as kind
 use Rattle.clap.proofs.CallerReads.{signed_reads}
 use Rattle.clap.proofs.ValueTestLemmas.{accepts-Accepts}
 use Rattle.clap.proofs.WalkLemmas.{both}
-use Rattle.sl_link.specs.CommandLine.{bits_16, bits_64, kind_named, number_in, number_read, request_in, request_with, kind_names, sllink_app, verb_named}
+use Rattle.sl_link.specs.CommandLine.{bits_16, bits_64, is_set, kind_named, number_in, number_read, request_in, request_with, kind_names, sllink_app, verb_named}
 use Rattle.sl_link.specs.declared.command_line.Kind.TheVariants.{Tm}
 use Rattle.sl_link.specs.declared.command_line.Options.{Options}
 use Rattle.sl_link.specs.declared.command_line.Request.{Request}
@@ -80,8 +80,9 @@ asks word verb named rows w has_kind has_scid =
     let is_spacecraft : number_in 16 (codes "scid") rows ≡ Some spacecraft.0 = ap (option_and_then (number_read 16)) (one_text_is scid rows s.0 s.1 s.2) ∙ spacecraft.1 in
     let is_length : number_in 16 (codes "tm-length") rows ≡ Some length.0 = ap (option_and_then (number_read 16)) (one_text_is tm_length rows t.0 t.1 t.2) ∙ length.1 in
     let is_limit : number_in 64 (codes "limit") rows ≡ Some octets.0 = ap (option_and_then (number_read 64)) (one_text_is limit rows l.0 l.1 l.2) ∙ octets.1 in
-    let options : Options = record { spacecraft = spacecraft.0; tm_length = length.0; max_octets = octets.0 } in
-    let are = options_are rows (Some spacecraft.0) (Some length.0) (Some octets.0) (sym is_spacecraft) (sym is_length) (sym is_limit) in
+    let fecf = is_set (codes "tm-fecf") rows in
+    let options : Options = record { spacecraft = spacecraft.0; tm_length = length.0; tm_fecf = fecf; max_octets = octets.0 } in
+    let are = options_are rows fecf (Some spacecraft.0) (Some length.0) (Some octets.0) refl (sym is_spacecraft) (sym is_length) (sym is_limit) in
     let request : Request = record { verb = verb; kind = Tm; options = options } in
     (request, sym (some_request word rows verb k.2.value Tm options (sym named) (sym name) (sym (named_kind k.2.value k.2.passes)) are))
 

@@ -1,5 +1,5 @@
 -- A run: the flush after an engine, and what the exit status says.
-use Rattle.std.proofs.Common.{◌≡◌, ◌≢◌, ℕ, Bool, true, false, List, [], Option, Result, Ok, Err, IfErr, ap, ◌∙◌, append-nil, rules}
+use Rattle.std.proofs.Common.{◌≡◌, ◌≢◌, ℕ, Bool, true, false, List, [], Option, Result, Ok, Err, IfErr, sym, ◌∙◌, append-nil, rules}
 use Rattle.std.specs.Prelude.{if◌then◌else◌}
 use Rattle.std.specs.Io.KnownBytes.{Keeps}
 use Rattle.std.proofs.KnownBytes.{Appends-kept}
@@ -9,12 +9,12 @@ use Rattle.sl_link.specs.declared.link_fault.LinkFault.TheVariants.{Memory, Writ
 use Rattle.sl_link.specs.declared.command_line.Request.{Request}
 use Rattle.sl_link.specs.declared.command_line.Verb.TheVariants.{Show, Normalise}
 use Rattle.sl_link.specs.CommandLine.{asked}
-use Rattle.sl_link.specs.Counted.{stream_of, faults_of, HasFailed}
+use Rattle.sl_link.specs.Counted.{stream_of, HasFailed}
 use Rattle.sl_link.specs.Engine.{text_of, buffer_of}
 use Rattle.sl_link.specs.Managed.{Parameters, managed_of}
-use Rattle.sl_link.specs.Run.{HasStopped}
+use Rattle.sl_link.specs.Run.{HasStopped, HasWritten, IsStoppedBy}
 use Rattle.sl_link.specs.Status.{status}
-use Rattle.sl_link.specs.Streams.{IsRead, Translates, Stops}
+use Rattle.sl_link.specs.Streams.{IsRead, Stops}
 use Rattle.sl_link.specs.Totals.{Counts}
 use Rattle.sl_link.proofs.ShowLemmas.{caused_writing}
 
@@ -23,53 +23,45 @@ no_fault_status true = search rules
 no_fault_status false = search rules
 
 module _ {R W : Type 0} (remaining : R → Option (List ℕ)) (contents : W → Option (List ℕ)) where
-  -- a flush leaves the text as it stands
-  pub translates_flushed : (reader reader' : Counted R) (writer mid writer' : Counted W) (text : List ℕ → List ℕ) (counts : List ℕ → Counts) (limit : ℕ) (totals : Counts)
-      → Translates remaining contents reader reader' writer mid text counts limit totals → Keeps (contents (stream_of mid)) (contents (stream_of writer')) → faults_of writer' ≡ faults_of mid
-      → Translates remaining contents reader reader' writer writer' text counts limit totals
-  translates_flushed reader reader' writer mid writer' text counts limit totals t kept same =
+  -- where the flush fails, all of the text is in its place, but the writer had a fault
+  pub stopped_flushing : (reader reader' : Counted R) (writer mid writer' : Counted W) (request : Request) (managed : Parameters) (totals : Counts) (fault : LinkFault)
+      → HasWritten remaining contents reader reader' writer mid request managed totals → Keeps (contents (stream_of mid)) (contents (stream_of writer')) → fault ≡ Write → HasFailed mid writer'
+      → IsStoppedBy remaining contents reader reader' writer writer' request managed fault
+  stopped_flushing reader reader' writer mid writer' request managed totals fault t kept is_write failed =
       record {
-        octets = t.octets;
-        within = t.within;
-        read = t.read;
-        to_end = t.to_end;
-        written = Appends-kept (contents (stream_of writer)) (contents (stream_of mid)) (contents (stream_of writer')) (text t.octets) t.written kept;
-        counted = t.counted;
-        reader_kept = t.reader_kept;
-        writer_kept = same ∙ t.writer_kept;
+        cause = record {
+          octets = t.octets;
+          read = t.read;
+          written = record {
+            written = text_of request.verb request.kind managed t.octets;
+            missing = [];
+            front = append-nil (text_of request.verb request.kind managed t.octets);
+            writes = Appends-kept (contents (stream_of writer)) (contents (stream_of mid)) (contents (stream_of writer')) (text_of request.verb request.kind managed t.octets) t.written kept;
+          };
+          cause = caused_writing remaining contents reader reader' writer mid writer' t.octets managed.max_octets (buffer_of request.verb request.kind) fault is_write t.reader_kept t.writer_kept failed t.within;
+        };
+        not_memory = λ is_show is_memory. let bad : Memory ≡ Write = sym is_memory ∙ is_write in cc;
+        all_read = λ is_normalise same. t.to_end;
+        nothing = λ is_normalise other. absurd (other is_write);
       }
 
-  -- where it fails, all of the text is in its place, but the writer had a fault
-  pub stops_flushing : (reader reader' : Counted R) (writer mid writer' : Counted W) (text : List ℕ → List ℕ) (counts : List ℕ → Counts) (limit buffer : ℕ) (totals : Counts) (fault : LinkFault)
-      → Translates remaining contents reader reader' writer mid text counts limit totals → Keeps (contents (stream_of mid)) (contents (stream_of writer')) → fault ≡ Write → HasFailed mid writer'
-      → Stops remaining contents reader reader' writer writer' text limit buffer fault
-  stops_flushing reader reader' writer mid writer' text counts limit buffer totals fault t kept is_write failed =
+  -- a fault of the engine of normal forms stops its verb
+  pub stopped_normalising : (reader reader' : Counted R) (writer writer' : Counted W) (request : Request) (managed : Parameters) (outcome : Result Counts LinkFault) → request.verb ≡ Normalise
+      → IfErr outcome (Stops remaining contents reader reader' writer writer' (text_of request.verb request.kind managed) managed.max_octets (buffer_of request.verb request.kind))
+      → IfErr outcome (λ fault. fault ≡ Write → IsRead remaining reader') → IfErr outcome (λ fault. fault ≢ Write → writer' ≡ writer)
+      → IfErr outcome (IsStoppedBy remaining contents reader reader' writer writer' request managed)
+  stopped_normalising reader reader' writer writer' request managed (Ok counts) is cause all_read nothing = tt
+  stopped_normalising reader reader' writer writer' request managed (Err fault) is cause all_read nothing =
       record {
-        octets = t.octets;
-        read = t.read;
-        written = record {
-          written = text t.octets;
-          missing = [];
-          front = append-nil (text t.octets);
-          writes = Appends-kept (contents (stream_of writer)) (contents (stream_of mid)) (contents (stream_of writer')) (text t.octets) t.written kept;
-        };
-        cause = caused_writing remaining contents reader reader' writer mid writer' t.octets limit buffer fault is_write t.reader_kept t.writer_kept failed t.within;
+        cause = cause;
+        not_memory = λ is_show is_memory. let bad : Show ≡ Normalise = sym is_show ∙ is in cc;
+        all_read = λ same. all_read;
+        nothing = λ same. nothing;
       }
 
   -- after a fault's status the engine has stopped
   pub has_stopped : (reader reader' : Counted R) (writer writer' : Counted W) (request : Request) (managed : Parameters) (outcome : Result Counts LinkFault)
-      → status outcome ≡ 3 → managed_of (asked request.options) ≡ Ok managed
-      → IfErr outcome (Stops remaining contents reader reader' writer writer' (text_of request.verb request.kind managed) managed.max_octets (buffer_of request.verb request.kind))
-      → (request.verb ≡ Show → outcome ≢ Err Memory) → (request.verb ≡ Normalise → IfErr outcome (λ fault. fault ≡ Write → IsRead remaining reader')) → (request.verb ≡ Normalise → IfErr outcome (λ fault. fault ≢ Write → writer' ≡ writer))
+      → status outcome ≡ 3 → managed_of (asked request.options) ≡ Ok managed → IfErr outcome (IsStoppedBy remaining contents reader reader' writer writer' request managed)
       → HasStopped remaining contents reader reader' writer writer' request
-  has_stopped reader reader' writer writer' request managed (Ok counts) is_fault allowed cause memory all_read nothing = absurd (no_fault_status _ is_fault)
-  has_stopped reader reader' writer writer' request managed (Err fault) is_fault allowed cause memory all_read nothing =
-      record {
-        managed = managed;
-        allowed = allowed;
-        fault = fault;
-        cause = cause;
-        not_memory = λ is_show is_memory. memory is_show (ap Err is_memory);
-        all_read = all_read;
-        nothing = nothing;
-      }
+  has_stopped reader reader' writer writer' request managed (Ok counts) is_fault allowed stopped = absurd (no_fault_status _ is_fault)
+  has_stopped reader reader' writer writer' request managed (Err fault) is_fault allowed stopped = record { managed = managed; allowed = allowed; fault = fault; stopped = stopped }

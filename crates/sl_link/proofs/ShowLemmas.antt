@@ -14,7 +14,7 @@ use Rattle.sl_link.specs.Delimited.{frames_of, remainder_of}
 use Rattle.sl_link.specs.Managed.{Parameters, tm_format}
 use Rattle.sl_link.specs.ShowTm.{frame_lines, frame_text, line_at, remainder_line, skipped_of, show_tm_text, show_tm_counts}
 use Rattle.sl_link.specs.Streams.{Reads, IsRead, Writes, StopsReading, IsReadFault, AddsText, WritesText, StopsWriting, Translates, Stops, IsCaused}
-use Rattle.sl_link.specs.TmFrame.{TmFormat, tm_frame}
+use Rattle.sl_tmframe.specs.TmFrame.{TmFormat, tm_frame}
 use Rattle.sl_link.specs.Totals.{Counts}
 use Rattle.sl_link.specs.Tally.{AddsFrames}
 use Rattle.sl_link.specs.declared.tally.Tally.{Tally}

@@ -61,6 +61,20 @@ row_of_one a v source = record { id = a.id; values = v ∷ []; count = None; sou
 
 -- ---- one use
 
+-- an argument that isn't used twice
+fresh : (a : Rule) (rows : List Row) → repeat_fault false a.id rows ≡ [] → has_row a.id rows ≡ false
+fresh a rows = go (has_row a.id rows)
+  where
+    go : (b : Bool) → cond (b && true) (kind.ArgumentConflict ∷ []) [] ≡ [] → b ≡ false
+    go true e = absurd (cc)
+    go false e = refl
+
+-- its first use sets its row
+set_once : (a : Rule) (v : Text) (rows : List Row) → has_row a.id rows ≡ false → with_values a.id (reading_by a) CommandLine (v ∷ []) (without a.id rows) ≡ rows ++ row_of_one a v CommandLine ∷ []
+set_once a v rows is_fresh =
+    let none_left : without a.id rows ≡ rows = appended a.id (λ _. []) [] rows is_fresh ∙ append-nil rows in
+    ap (with_values a.id (reading_by a) CommandLine (v ∷ [])) none_left ∙ appended a.id (more_values CommandLine (v ∷ [])) (row_of_one a v CommandLine ∷ []) rows is_fresh
+
 -- an argument that takes one value, once
 pub record TakesOne (a : Rule) : Type 0 where
   pub action : action_of a ≡ Set
@@ -83,13 +97,6 @@ module _ (a : Rule) (one : TakesOne a) where
       go true e = refl
       go false e = absurd (cc)
 
-  fresh : (rows : List Row) → repeat_fault false a.id rows ≡ [] → has_row a.id rows ≡ false
-  fresh rows = go (has_row a.id rows)
-    where
-      go : (b : Bool) → cond (b && true) (kind.ArgumentConflict ∷ []) [] ≡ [] → b ≡ false
-      go true e = absurd (cc)
-      go false e = refl
-
   -- the one value of a use
   one_value : (values : List Text) → range_kinds 1 1 (length values) ≡ [] → (v : Text) × (values ≡ v ∷ [])
   one_value [] e = absurd (cc)
@@ -106,10 +113,7 @@ module _ (a : Rule) (one : TakesOne a) where
   its_steps values rows = λ i. or_else (range_kinds (one.least i) (one.most i) (length values)) (action_fault (one.action i) false a (values_or_missing a values) rows)
 
   adds : (v : Text) (rows : List Row) → has_row a.id rows ≡ false → used a (v ∷ []) rows ≡ rows ++ row_of_one a v CommandLine ∷ []
-  adds v rows is_fresh =
-      let none_left : without a.id rows ≡ rows = appended a.id (λ _. []) [] rows is_fresh ∙ append-nil rows in
-      ap (λ (x : ArgAction). used_as x a.id (reading_by a) (v ∷ []) rows) one.action
-      ∙ ap (with_values a.id (reading_by a) CommandLine (v ∷ [])) none_left ∙ appended a.id (more_values CommandLine (v ∷ [])) (row_of_one a v CommandLine ∷ []) rows is_fresh
+  adds v rows is_fresh = ap (λ (x : ArgAction). used_as x a.id (reading_by a) (v ∷ []) rows) one.action ∙ set_once a v rows is_fresh
 
   -- a use without a fault adds its row
   use_adds : (values : List Text) (rows : List Row) → use_fault false a values rows ≡ []
@@ -117,7 +121,7 @@ module _ (a : Rule) (one : TakesOne a) where
   use_adds values rows e =
       let parts = neither (range_kinds 1 1 (length values)) _ (sym (its_steps values rows) ∙ e) in
       let more = neither (repeat_fault false a.id rows) _ parts.1 in
-      finish (one_value values parts.0) more.1 (fresh rows more.0)
+      finish (one_value values parts.0) more.1 (fresh a rows more.0)
     where
       finish : (v : Text) × (values ≡ v ∷ []) → values_fault a (values_or_missing a values) ≡ [] → has_row a.id rows ≡ false
           → (v : Text) × (used a values rows ≡ rows ++ row_of_one a v CommandLine ∷ []) × (accepts a.ignore_case (parser_of_value a.parser) v ≡ true)
@@ -139,10 +143,13 @@ scid = rule_at 1
 abbrev pub tm_length : Rule
 tm_length = rule_at 2
 
-abbrev pub limit : Rule
-limit = rule_at 3
+abbrev fecf : Rule
+fecf = rule_at 3
 
--- a row of each argument, where there is one, holds a value that the argument takes
+abbrev pub limit : Rule
+limit = rule_at 4
+
+-- a row of each argument that takes a value, where there is one, holds a value that the argument takes
 pub record AllFit (rows : List Row) : Type 0 where
   pub kind_fits : Fits kind_rule rows
   pub scid_fits : Fits scid rows
@@ -179,6 +186,9 @@ scid_row v source ok = record { as_kind = never; as_scid = λ _. record { readin
 length_row : (v : Text) (source : ValueSource) → Takes tm_length v → IsFitting (row_of_one tm_length v source)
 length_row v source ok = record { as_kind = never; as_scid = never; as_length = λ _. record { reading = refl; value = v; first = refl; passes = ok }; as_limit = never }
 
+fecf_row : (v : Text) (source : ValueSource) → IsFitting (row_of_one fecf v source)
+fecf_row v source = record { as_kind = never; as_scid = never; as_length = never; as_limit = never }
+
 limit_row : (v : Text) (source : ValueSource) → Takes limit v → IsFitting (row_of_one limit v source)
 limit_row v source ok = record { as_kind = never; as_scid = never; as_length = never; as_limit = λ _. record { reading = refl; value = v; first = refl; passes = ok } }
 
@@ -190,7 +200,23 @@ keeps verb a one row values rows e h =
 takes_one : (a : Rule) → action_of a ≡ Set → (unwrap_or_range a.range).start_inclusive ≡ 1 → most_values a ≡ 1 → TakesOne a
 takes_one a p q r = record { action = p; least = q; most = r }
 
-help_keeps : (verb : Text) → Keeps (verb_at verb kind_names) AllFit (rule_at 4)
+no_values : (n : ℕ) → range_kinds 0 0 n ≡ [] → n ≡ 0
+no_values n = go (0 == n) refl
+  where
+    go : (b : Bool) → (0 == n) ≡ b → cond b [] (kind.WrongNumberOfValues ∷ []) ≡ [] → n ≡ 0
+    go true is e = sym (eqb-true 0 n is)
+    go false is e = absurd (cc)
+
+-- a flag is used without a value
+fecf_keeps : (verb : Text) → Keeps (verb_at verb kind_names) AllFit fecf
+fecf_keeps verb [] rows e h =
+    let is_fresh = fresh fecf rows (neither (repeat_fault false fecf.id rows) [] e).0 in
+    subst AllFit (sym (set_once fecf (codes "true") rows is_fresh)) (still_fit (row_of_one fecf (codes "true") CommandLine) rows h (fecf_row (codes "true") CommandLine))
+fecf_keeps verb (v ∷ values) rows e h =
+    let n : length (v ∷ values) ≡ 0 = no_values (length (v ∷ values)) (neither (range_kinds 0 0 (length (v ∷ values))) _ e).0 in
+    absurd (omega arith)
+
+help_keeps : (verb : Text) → Keeps (verb_at verb kind_names) AllFit (rule_at 5)
 help_keeps verb values rows e h =
     let parts = neither (range_kinds 0 0 (length values)) (kind.DisplayHelp ∷ []) e in
     let bad : ◌≡◌ {A = Kinds} (kind.DisplayHelp ∷ []) [] = parts.1 in
@@ -201,7 +227,10 @@ all_keep verb = (
   keeps verb kind_rule (takes_one kind_rule refl refl refl) kind_row,
   (
     keeps verb scid (takes_one scid refl refl refl) scid_row,
-    (keeps verb tm_length (takes_one tm_length refl refl refl) length_row, (keeps verb limit (takes_one limit refl refl refl) limit_row, (help_keeps verb, tt))),
+    (
+      keeps verb tm_length (takes_one tm_length refl refl refl) length_row,
+      (fecf_keeps verb, (keeps verb limit (takes_one limit refl refl refl) limit_row, (help_keeps verb, tt))),
+    ),
   ),
 )
 
@@ -263,21 +292,26 @@ pub record AreWhole (rows : List Row) : Type 0 where
 abbrev with_length : List Row → List Row
 with_length rows = with_default rows tm_length
 
+abbrev with_fecf : List Row → List Row
+with_fecf rows = with_default rows fecf
+
 abbrev with_limit : List Row → List Row
 with_limit rows = with_default rows limit
 
-pub whole : (rows : List Row) → AllFit rows → AreWhole (with_limit (with_length rows))
+pub whole : (rows : List Row) → AllFit rows → AreWhole (with_limit (with_fecf (with_length rows)))
 whole rows h =
     let one = default_fits tm_length (codes "1115") rows (length_row (codes "1115") DefaultValue refl) h (has_row tm_length.id rows) refl in
-    let two = default_fits limit (codes "1073741824") (with_length rows) (limit_row (codes "1073741824") DefaultValue refl) one (has_row limit.id (with_length rows)) refl in
+    let two = default_fits fecf (codes "false") (with_length rows) (fecf_row (codes "false") DefaultValue) one (has_row fecf.id (with_length rows)) refl in
+    let three = default_fits limit (codes "1073741824") (with_fecf (with_length rows)) (limit_row (codes "1073741824") DefaultValue refl) two (has_row limit.id (with_fecf (with_length rows))) refl in
     let there = default_there tm_length (codes "1115") rows refl (has_row tm_length.id rows) refl in
+    let still = others_stay fecf (codes "false") (with_length rows) tm_length there (has_row fecf.id (with_length rows)) refl in
     record {
-      fit = two;
-      has_length = others_stay limit (codes "1073741824") (with_length rows) tm_length there (has_row limit.id (with_length rows)) refl;
-      has_limit = default_there limit (codes "1073741824") (with_length rows) refl (has_row limit.id (with_length rows)) refl;
+      fit = three;
+      has_length = others_stay limit (codes "1073741824") (with_fecf (with_length rows)) tm_length still (has_row limit.id (with_fecf (with_length rows))) refl;
+      has_limit = default_there limit (codes "1073741824") (with_fecf (with_length rows)) refl (has_row limit.id (with_fecf (with_length rows))) refl;
     }
 
-pub finished_is : (rows : List Row) → fold with_default rows (rules_at kind_names) ≡ with_limit (with_length rows)
+pub finished_is : (rows : List Row) → fold with_default rows (rules_at kind_names) ≡ with_limit (with_fecf (with_length rows))
 finished_is rows =
-    either (has_row (codes "help") (with_limit (with_length (cond (has_row scid.id (cond (has_row kind_rule.id rows) rows rows)) (cond (has_row kind_rule.id rows) rows rows) (cond (has_row kind_rule.id rows) rows rows))))) _
-    ∙ ap (λ (rs : List Row). with_limit (with_length rs)) (either (has_row scid.id (cond (has_row kind_rule.id rows) rows rows)) (cond (has_row kind_rule.id rows) rows rows) ∙ either (has_row kind_rule.id rows) rows)
+    either (has_row (codes "help") (with_limit (with_fecf (with_length (cond (has_row scid.id (cond (has_row kind_rule.id rows) rows rows)) (cond (has_row kind_rule.id rows) rows rows) (cond (has_row kind_rule.id rows) rows rows)))))) _
+    ∙ ap (λ (rs : List Row). with_limit (with_fecf (with_length rs))) (either (has_row scid.id (cond (has_row kind_rule.id rows) rows rows)) (cond (has_row kind_rule.id rows) rows rows) ∙ either (has_row kind_rule.id rows) rows)

@@ -8,7 +8,7 @@ use Rattle.sl_packet.specs.Front.{Front, Foreign, Incomplete, Whole, front}
 use Rattle.sl_packet.specs.Packets.{packets_of, rest_of}
 use Rattle.sl_packet.proofs.FrontLemmas.{whole_is_a_packet, packet_is_whole}
 use Rattle.sl_packet.proofs.PacketsLemmas.{each_has_packets}
-use Rattle.sl_link.specs.TmFrame.{TmView, DataField, Packets, Idle, Opaque}
+use Rattle.sl_tmframe.specs.TmFrame.{TmView, DataField, Packets, Idle, Opaque}
 use Rattle.sl_link.specs.Channel.{packet_data}
 use Rattle.sl_link.specs.PacketStart.{offsets_from, whole_packets}
 use Rattle.sl_link.specs.Delivery.{Delivery, Outcome, Completes, Held, Undelivered, step_of, outcome_after, outcome_of_front, outcome_of, delivery_of, frame_deliveries, deliveries_from, deliveries_of, whole_in_frame, packets_delivered}

@@ -2,7 +2,7 @@
 use Rattle.std.specs.Prelude.{◌≡◌, ⊤, ℕ, ◌+◌, ◌%◌, ◌==◌, Bool, true, List, [], ◌∷◌, ◌++◌, map}
 use Rattle.std.specs.Result.{result_ok}
 use Rattle.std.specs.List.{filter, filter_map, concat}
-use Rattle.sl_link.specs.TmFrame.{TmFormat, TmView, DataField, Packets, Idle, Opaque, tm_frame}
+use Rattle.sl_tmframe.specs.TmFrame.{TmFormat, TmView, DataField, Packets, Idle, Opaque, tm_frame}
 
 -- the frames that aren't skipped, as they are read
 abbrev pub views_of : TmFormat → ℕ → List (List ℕ) → List TmView

@@ -1,7 +1,8 @@
 -- The command line of `sllink`: its arguments, what it refuses, and what its words ask for.
-use Rattle.std.specs.Prelude.{◌≡◌, ◌≢◌, ◌&&◌, ◌^◌, ℕ, true, false, List, [], ◌∷◌, Option, Some, None}
+use Rattle.std.specs.Prelude.{◌≡◌, ◌≢◌, ◌&&◌, ◌^◌, ℕ, Bool, true, false, List, [], ◌∷◌, Option, Some, None}
 use Rattle.std.specs.Prelude.{codes, fold, nat_lt, option_and_then, if◌then◌else◌, pos}
 use Rattle.std.specs.Borrow.{Bor}
+use Rattle.std.specs.Option.{option_map_or}
 use Rattle.std.specs.Str.{bytes_eq}
 use Rattle.std.specs.Str.Parse.{digits_value, without_leading_plus}
 use Rattle.clap.specs.Faults.{fault_of}
@@ -9,6 +10,7 @@ use Rattle.clap.specs.Kinds.{IsAmong, Kinds}
 use Rattle.clap.specs.Simple.{App, new_app, new_rule, new_shape, subcommand_of, with_rule}
 use Rattle.clap.specs.ValueTests.{is_numeral}
 use Rattle.clap.specs.Walk.{Row, Rule, Text, first_of, one_of, texts}
+use Rattle.clap.specs.declared.builder.action.ArgAction.TheVariants.{SetTrue}
 use Rattle.clap.specs.declared.builder.value_parser.ValueParser.{ValueParser}
 use Rattle.clap.specs.declared.builder.value_parser.ValueParser.TheVariants.{Names, Signed, Unsigned}
 use Rattle.clap.specs.declared.error.kind.ErrorKind.{ErrorKind}
@@ -52,11 +54,16 @@ needed_number name numbers = record (number_rule name numbers) { required = true
 abbrev pub number_or : Text → ValueParser → Text → Rule
 number_or name numbers default = record (number_rule name numbers) { defaults = default ∷ [] }
 
+-- `--NAME`, which takes no value
+abbrev pub flag_rule : Text → Rule
+flag_rule name = record (new_rule name) { long = Some name; action = Some SetTrue }
+
 -- the options of the link
 abbrev pub link_options : List Rule
 link_options =
     needed_number (codes "scid") bits_16
     ∷ number_or (codes "tm-length") bits_16 (codes "1115")
+    ∷ flag_rule (codes "tm-fecf")
     ∷ number_or (codes "limit") bits_64 (codes "1073741824")
     ∷ []
 
@@ -122,13 +129,22 @@ number_read bits text =
 abbrev pub number_in : ℕ → Text → List Row → Option ℕ
 number_in bits name rows = option_and_then (number_read bits) (one_of name rows)
 
+-- an option that takes no value is there: its text is `true` then, and else `false`
+abbrev pub is_set : Text → List Row → Bool
+is_set name rows = option_map_or (λ text. bytes_eq text (codes "true")) (one_of name rows) false
+
 -- what the options say of the link
 abbrev pub options_in : List Row → Option Options
 options_in rows = do
   scid ← number_in 16 (codes "scid") rows
   tm_length ← number_in 16 (codes "tm-length") rows
   limit ← number_in 64 (codes "limit") rows
-  Some (record { spacecraft = scid; tm_length = tm_length; max_octets = limit })
+  Some (record {
+    spacecraft = scid;
+    tm_length = tm_length;
+    tm_fecf = is_set (codes "tm-fecf") rows;
+    max_octets = limit;
+  })
 
 -- what a verb asks for with its arguments
 abbrev pub request_with : Text → List Row → Option Request
@@ -172,13 +188,13 @@ pub record AskFor (words : List Text) (request : Request) : Type 0 where
 -- ---- the link
 
 -- the managed parameters that the options ask for, and those that have no option: a greatest TC frame
--- length of 1024 octets, no frame error control fields, a FARM-1 window of 10, and V(R) 0
+-- length of 1024 octets, no frame error control field in TC frames, a FARM-1 window of 10, and V(R) 0
 abbrev pub asked : Options → Parameters
 asked o =
     record {
       spacecraft = o.spacecraft;
       tm_length = o.tm_length;
-      tm_fecf = false;
+      tm_fecf = o.tm_fecf;
       tc_max = 1024;
       tc_fecf = false;
       window = 10;

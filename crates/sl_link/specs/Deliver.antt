@@ -1,10 +1,10 @@
 -- What happens to the lists of delivered packets while frames are read, one after another.
 use Rattle.std.specs.Prelude.{ℕ, Bool, not, length, List, [], ◌∷◌, ◌++◌, Result, Ok, Err}
 use Rattle.std.specs.List.{filter, slice_index_or, slice_set}
-use Rattle.sl_link.specs.declared.tm_frame.TmSkip.{TmSkip}
+use Rattle.sl_tmframe.specs.declared.tm_frame.TmSkip.{TmSkip}
 use Rattle.sl_packet.specs.Packet.{is_idle_packet}
 use Rattle.sl_packet.specs.Packets.{without_idle}
-use Rattle.sl_link.specs.TmFrame.{TmFormat, TmView, tm_frame}
+use Rattle.sl_tmframe.specs.TmFrame.{TmFormat, TmView, tm_frame}
 use Rattle.sl_link.specs.PacketStart.{whole_packets}
 
 -- the lists with packets added to that of a channel

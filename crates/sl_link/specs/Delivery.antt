@@ -5,7 +5,7 @@ use Rattle.std.specs.List.{AllByRecursion, filter, flat_map}
 use Rattle.sl_packet.specs.Packet.{IsPacket}
 use Rattle.sl_packet.specs.Front.{Front, Foreign, Incomplete, Whole, front}
 use Rattle.sl_link.specs.Among.{IsAmong}
-use Rattle.sl_link.specs.TmFrame.{TmView, DataField, Packets, Idle, Opaque}
+use Rattle.sl_tmframe.specs.TmFrame.{TmView, DataField, Packets, Idle, Opaque}
 use Rattle.sl_link.specs.Channel.{is_consecutive, AreConsecutive, packet_data, reassembly}
 use Rattle.sl_link.specs.PacketStart.{IsStart, starts_of}
 

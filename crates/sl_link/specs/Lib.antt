@@ -17,12 +17,14 @@ pub mod ShowTm
 pub mod Status
 pub mod Streams
 pub mod Tally
-pub mod TmField
-pub mod TmFrame
-pub mod TmFrameModel
 pub mod Totals
 pub mod TotalsModel
 pub use Rattle.sl_fields.specs.Clcw
 pub use Rattle.sl_fields.specs.Fecf
 pub use Rattle.sl_fields.specs.Field
+pub use Rattle.sl_fields.specs.Shape
 pub use Rattle.sl_fields.specs.TmHeader
+pub use Rattle.sl_tmframe.specs.PacketFrame
+pub use Rattle.sl_tmframe.specs.TmField
+pub use Rattle.sl_tmframe.specs.TmFrame
+pub use Rattle.sl_tmframe.specs.TmShape

@@ -2,7 +2,8 @@
 use Rattle.std.specs.Prelude.{ℕ, ◌%◌, ◌==◌, nat_lt, Bool, not, ◌||◌, if◌then◌else◌, Result, Ok, Err}
 use Rattle.sl_link.specs.declared.managed.ManagedFault.{ManagedFault}
 use Rattle.sl_link.specs.declared.managed.ManagedFault.TheVariants.{Spacecraft, TmLength, TcLength, Window, Limit}
-use Rattle.sl_link.specs.TmFrame.{TmFormat}
+use Rattle.sl_fields.specs.Shape.{is_outside}
+use Rattle.sl_tmframe.specs.TmFrame.{TmFormat}
 
 pub record Parameters : Type 0 where
   pub spacecraft : ℕ
@@ -13,9 +14,6 @@ pub record Parameters : Type 0 where
   pub window : ℕ
   pub vr : ℕ
   pub max_octets : ℕ
-
-abbrev pub is_outside : ℕ → ℕ → ℕ → Bool
-is_outside low high n = nat_lt n low || nat_lt high n
 
 -- the parameters, or the first that is refused: a spacecraft over 1023, a TM frame length outside 32 to
 -- 2048, a greatest TC frame length outside 16 to 1024, a FARM-1 window that is 0 or odd, a limit of 0

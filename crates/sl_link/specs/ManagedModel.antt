@@ -1,14 +1,14 @@
 -- A `Managed` is its parameters, none of which is refused.
 use Rattle.std.specs.Prelude.{◌≡◌, Ok}
-use Rattle.sl_link.specs.Managed.{Parameters, managed_of}
+use Rattle.sl_link.specs.Managed.{Parameters, managed_of, tm_format}
 use Rattle.sl_link.specs.declared.managed.Managed.TheInside.{Inside}
 
 abbrev pub parameters_of : Inside → Parameters
 parameters_of m =
     record {
       spacecraft = m.spacecraft;
-      tm_length = m.tm_length;
-      tm_fecf = m.tm_fecf;
+      tm_length = m.tm.len;
+      tm_fecf = m.tm.fecf;
       tc_max = m.tc_max;
       tc_fecf = m.tc_fecf;
       window = m.window;
@@ -23,8 +23,7 @@ abbrev pub inside_of : Parameters → Inside
 inside_of p =
     record {
       spacecraft = p.spacecraft;
-      tm_length = p.tm_length;
-      tm_fecf = p.tm_fecf;
+      tm = tm_format p;
       tc_max = p.tc_max;
       tc_fecf = p.tc_fecf;
       window = p.window;

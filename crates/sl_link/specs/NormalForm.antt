@@ -1,48 +1,10 @@
 -- The normal form of a TM recording: the delivered packets of each virtual channel in frames that have
 -- nothing of the recording's own.
-use Rattle.std.specs.Prelude.{◌≡◌, ◌⊎◌, ℕ, ◌+◌, ◌-◌, ◌*◌, ◌/◌, ◌%◌, ◌≤◌, ◌==◌, ◌||◌, nat_lt, Bool, false, not, if◌then◌else◌, List, [], ◌∷◌, ◌++◌, length, take, drop, map, Option, None, Some, option_map}
+use Rattle.std.specs.Prelude.{◌≡◌, ◌⊎◌, ℕ, ◌+◌, ◌-◌, ◌*◌, ◌/◌, ◌%◌, ◌≤◌, ◌==◌, ◌||◌, nat_lt, Bool, not, if◌then◌else◌, List, [], ◌∷◌, ◌++◌, length, take, drop, map, Option, option_map}
 use Rattle.std.specs.List.{concat, find, range_with_len}
-use Rattle.sl_fields.specs.Fecf.{fecf_of}
-use Rattle.sl_fields.specs.Field.{octets_of}
-use Rattle.sl_fields.specs.TmHeader.{TmFields, tm_octets}
 use Rattle.sl_packet.specs.IdlePacket.{idle_packet}
-use Rattle.sl_link.specs.TmFrame.{TmFormat, fecf_len}
-
--- ---- a frame
-
--- the octets of a data field, where there is no operational control field
-abbrev pub room_of : TmFormat → ℕ
-room_of format = format.len - 6 - fecf_len format
-
--- the first header pointer, 2047 where no packet starts in the data field
-abbrev pub pointer_value : Option ℕ → ℕ
-pointer_value None = 2047
-pointer_value (Some first) = first
-
-abbrev pub packet_frame_header : ℕ → ℕ → ℕ → ℕ → Option ℕ → TmFields
-packet_frame_header spacecraft vc mc vcc first =
-    record {
-      version = 0;
-      spacecraft = spacecraft;
-      vc = vc;
-      control = false;
-      mc = mc;
-      vcc = vcc;
-      secondary = false;
-      sync = false;
-      order = false;
-      segment = 3;
-      first = pointer_value first;
-    }
-
--- octets, and their error control field where the format has it
-abbrev pub with_fecf : TmFormat → List ℕ → List ℕ
-with_fecf format octets = octets ++ (if format.fecf then octets_of 2 ((16, fecf_of octets) ∷ []) else [])
-
--- a frame of packets, with its counts, its first header pointer and its data field
-abbrev pub packet_frame : TmFormat → ℕ → ℕ → ℕ → ℕ → Option ℕ → List ℕ → List ℕ
-packet_frame format spacecraft vc mc vcc first field =
-    with_fecf format (tm_octets (packet_frame_header spacecraft vc mc vcc first) ++ field)
+use Rattle.sl_tmframe.specs.PacketFrame.{room_of, packet_frame}
+use Rattle.sl_tmframe.specs.TmFrame.{TmFormat}
 
 -- ---- the packets of a channel, divided into data fields
 

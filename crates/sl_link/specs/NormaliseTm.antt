@@ -3,7 +3,7 @@
 use Rattle.std.specs.Prelude.{ℕ, ◌+◌, List, [], ◌∷◌, length, map}
 use Rattle.std.specs.List.{range_with_len}
 use Rattle.sl_packet.specs.Packets.{without_idle, only_idle}
-use Rattle.sl_link.specs.TmFrame.{TmView}
+use Rattle.sl_tmframe.specs.TmFrame.{TmView}
 use Rattle.sl_link.specs.Channel.{views_of, channel_of}
 use Rattle.sl_link.specs.Delimited.{frames_of, remainder_of}
 use Rattle.sl_link.specs.Delivery.{deliveries_of, whole_in_frame, packets_delivered}

@@ -4,7 +4,7 @@ use Rattle.std.specs.List.{AllByRecursion, concat}
 use Rattle.sl_packet.specs.Packet.{IsPacket}
 use Rattle.sl_packet.specs.Packets.{packets_of, rest_of}
 use Rattle.sl_link.specs.Among.{IsAmong}
-use Rattle.sl_link.specs.TmFrame.{DataField, Packets, Idle, Opaque}
+use Rattle.sl_tmframe.specs.TmFrame.{DataField, Packets, Idle, Opaque}
 
 -- The packet starts are the first header pointer and each offset in the field at which whole packets end to
 -- end from there end. What begins there need not be a packet.

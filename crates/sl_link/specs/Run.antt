@@ -13,24 +13,32 @@ use Rattle.sl_link.specs.Streams.{IsRead, Translates, Stops}
 use Rattle.sl_link.specs.Totals.{Counts}
 
 module _ {R W : Type 0} (remaining : R → Option (List ℕ)) (contents : W → Option (List ℕ)) where
-  -- No managed parameter that is asked for is refused, and the verb's text of a recording was written.
-  pub record HasSucceeded (reader reader' : Counted R) (writer writer' : Counted W) (request : Request) : Type 0 where
-    pub managed : Parameters
-    pub allowed : managed_of (asked request.options) ≡ Ok managed
-    pub totals : Counts
-    pub written : Translates remaining contents reader reader' writer writer' (text_of request.verb request.kind managed) (counts_of request.verb request.kind managed) managed.max_octets totals
+  -- the verb's text of a recording was written
+  abbrev pub HasWritten : Counted R → Counted R → Counted W → Counted W → Request → Parameters → Counts → Type 0
+  HasWritten reader reader' writer writer' request managed =
+      Translates remaining contents reader reader' writer writer' (text_of request.verb request.kind managed) (counts_of request.verb request.kind managed) managed.max_octets
 
-  -- No managed parameter that is asked for is refused, and a fault stopped the verb's engine, or the flush
-  -- after it. A listing needs no memory. Of a normal form anything is written only where the writer failed, and
-  -- all is read then.
-  pub record HasStopped (reader reader' : Counted R) (writer writer' : Counted W) (request : Request) : Type 0 where
-    pub managed : Parameters
-    pub allowed : managed_of (asked request.options) ≡ Ok managed
-    pub fault : LinkFault
+  -- A fault stopped the verb's engine, or the flush after it. A listing needs no memory. Of a normal form
+  -- anything is written only where the writer failed, and all is read then.
+  pub record IsStoppedBy (reader reader' : Counted R) (writer writer' : Counted W) (request : Request) (managed : Parameters) (fault : LinkFault) : Type 0 where
     pub cause : Stops remaining contents reader reader' writer writer' (text_of request.verb request.kind managed) managed.max_octets (buffer_of request.verb request.kind) fault
     pub not_memory : request.verb ≡ Show → fault ≢ Memory
     pub all_read : request.verb ≡ Normalise → fault ≡ Write → IsRead remaining reader'
     pub nothing : request.verb ≡ Normalise → fault ≢ Write → writer' ≡ writer
+
+  -- no managed parameter that is asked for is refused, and the verb's text of a recording was written
+  pub record HasSucceeded (reader reader' : Counted R) (writer writer' : Counted W) (request : Request) : Type 0 where
+    pub managed : Parameters
+    pub allowed : managed_of (asked request.options) ≡ Ok managed
+    pub totals : Counts
+    pub written : HasWritten reader reader' writer writer' request managed totals
+
+  -- no managed parameter that is asked for is refused, and a fault stopped the verb
+  pub record HasStopped (reader reader' : Counted R) (writer writer' : Counted W) (request : Request) : Type 0 where
+    pub managed : Parameters
+    pub allowed : managed_of (asked request.options) ≡ Ok managed
+    pub fault : LinkFault
+    pub stopped : IsStoppedBy reader reader' writer writer' request managed fault
 
 -- the words are taken, and this holds of what they ask for
 pub record WithAsked (words : List Text) (Done : Request → Type 0) : Type 0 where

@@ -3,9 +3,9 @@ use Rattle.std.specs.Prelude.{ℕ, ◌+◌, ◌-◌, ◌==◌, if◌then◌else�
 use Rattle.hex.specs.Hex.{encode_lower}
 use Rattle.sl_fields.specs.Field.{flag, bit_of}
 use Rattle.sl_fields.specs.Clcw.{ClcwFields, clcw_word}
-use Rattle.sl_link.specs.declared.tm_frame.TmSkip.{TmSkip}
-use Rattle.sl_link.specs.declared.tm_frame.TmSkip.TheVariants.{Fecf, Version, Spacecraft}
-use Rattle.sl_link.specs.TmFrame.{TmFormat, TmView, DataField, Packets, Idle, Opaque, tm_frame}
+use Rattle.sl_tmframe.specs.declared.tm_frame.TmSkip.{TmSkip}
+use Rattle.sl_tmframe.specs.declared.tm_frame.TmSkip.TheVariants.{Fecf, Version, Spacecraft}
+use Rattle.sl_tmframe.specs.TmFrame.{TmFormat, TmView, DataField, Packets, Idle, Opaque, tm_frame}
 use Rattle.sl_link.specs.Delimited.{frames_of, remainder_of}
 use Rattle.sl_link.specs.Managed.{Parameters, tm_format}
 use Rattle.sl_link.specs.Totals.{Counts}

@@ -3,7 +3,7 @@ use Rattle.std.specs.Prelude.{◌≡◌, ℕ, ◌+◌, List, length}
 use Rattle.std.specs.List.{concat}
 use Rattle.sl_link.specs.declared.tally.Tally.{Tally}
 use Rattle.sl_link.specs.ShowTm.{skipped_of}
-use Rattle.sl_link.specs.TmFrame.{TmFormat}
+use Rattle.sl_tmframe.specs.TmFrame.{TmFormat}
 
 -- these frames were counted
 pub record AddsFrames (format : TmFormat) (spacecraft : ℕ) (old new : Tally) (shown : List (List ℕ)) : Type 0 where

@@ -4,13 +4,13 @@ ghost use Rattle.clap.specs.Words.{app_of, found_of, kind_of, rows_of, rule_of, 
 ghost use Rattle.clap.specs.declared.builder.Command.TheViews.{out-Command as fields_of};
 ghost use Rattle.sl_link.specs.Managed.{managed_of};
 ghost use Rattle.sl_link.specs.CommandLine.{AskFor, IsRefusal, IsSllink, asked};
-ghost use Rattle.sl_link.specs.CommandLine.{number_rule, verb_app, with_link_options};
-ghost use Rattle.sl_link.specs.CommandLine.{kind_named, options_in, request_in, request_with, verb_named};
+ghost use Rattle.sl_link.specs.CommandLine.{flag_rule, number_rule, verb_app, with_link_options};
+ghost use Rattle.sl_link.specs.CommandLine.{is_set, kind_named, options_in, request_in, request_with, verb_named};
 
 use crate::managed::{Managed, ManagedFault};
 use clap::builder::ValueParser;
 use clap::error::ErrorKind;
-use clap::{Arg, ArgMatches, Command, Error, value_parser};
+use clap::{Arg, ArgAction, ArgMatches, Command, Error, value_parser};
 use std::alloc::{AllocError, Global};
 
 /// What is done with a recording.
@@ -34,6 +34,7 @@ pub(crate) enum Kind {
 pub(crate) struct Options {
     pub(crate) spacecraft: u16,
     pub(crate) tm_length: u16,
+    pub(crate) tm_fecf: bool,
     pub(crate) max_octets: u64,
 }
 
@@ -50,6 +51,8 @@ const KIND: &str = "kind";
 const SPACECRAFT: &str = "scid";
 
 const TM_LENGTH: &str = "tm-length";
+
+const TM_FECF: &str = "tm-fecf";
 
 const LIMIT: &str = "limit";
 
@@ -115,10 +118,14 @@ fn with_options<'a>(alloc: Global, verb: Command<'a>) -> Result<Command<'a>, All
     let tm_length = number(alloc, TM_LENGTH, "OCTETS", value_parser!(u16))
         .help("TM transfer frame length")
         .default_value("1115");
+    let tm_fecf = flag(alloc, TM_FECF).help("TM transfer frames have a frame error control field");
     let limit = number(alloc, LIMIT, "OCTETS", value_parser!(u64))
         .help("Most octets that are read")
         .default_value("1073741824");
-    verb.arg(spacecraft)?.arg(tm_length)?.arg(limit)
+    verb.arg(spacecraft)?
+        .arg(tm_length)?
+        .arg(tm_fecf)?
+        .arg(limit)
 }
 
 // An option that takes a number.
@@ -130,6 +137,14 @@ fn number<'a>(alloc: Global, name: &'a str, unit: &'a str, range: ValueParser<'a
         .long(name)
         .value_name(unit)
         .value_parser(range)
+}
+
+// An option that takes no value.
+fn flag<'a>(alloc: Global, name: &'a str) -> Arg<'a>
+    ensures rule { rule_of result ≡ flag_rule name.entry.now }
+    ensures local { result.global ≡ false }
+{
+    Arg::new(alloc, name).long(name).action(ArgAction::SetTrue)
 }
 
 // What the words ask for. It is `None` where a required word is missing, which the parse has refused.
@@ -175,13 +190,19 @@ fn options_of(matches: &ArgMatches<'_>) -> Option<Options>
     Some(Options {
         spacecraft: matches.get_one(SPACECRAFT)?,
         tm_length: matches.get_one(TM_LENGTH)?,
+        tm_fecf: is_set(matches, TM_FECF),
         max_octets: matches.get_one(LIMIT)?,
     })
 }
 
-// The managed parameters that have no option.
+// Whether an option that takes no value is there.
+fn is_set(matches: &ArgMatches<'_>, name: &str) -> bool
+    ensures { result ≡ is_set name.now (rows_of (found_of matches.now)) }
+{
+    matches.get_one(name).unwrap_or(false)
+}
 
-const TM_FECF: bool = false;
+// The managed parameters that have no option.
 
 const TC_LENGTH: u16 = 1024;
 
@@ -199,7 +220,7 @@ impl Options {
         Managed::new(
             self.spacecraft,
             self.tm_length,
-            TM_FECF,
+            self.tm_fecf,
             TC_LENGTH,
             TC_FECF,
             WINDOW,

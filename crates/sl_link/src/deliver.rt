@@ -7,15 +7,15 @@ ghost use Rattle.sl_link.specs.Deliver.{after_view, count_in, is_deliverable};
 ghost use Rattle.sl_link.specs.Managed.{tm_format};
 ghost use Rattle.sl_link.specs.NormaliseTm.{whole_counts, whole_tm_packets};
 ghost use Rattle.sl_link.specs.PacketStart.{whole_packets};
-ghost use Rattle.sl_link.specs.TmField.{data_field};
-ghost use Rattle.sl_link.specs.TmFrame.{tm_frame};
+ghost use Rattle.sl_tmframe.specs.TmField.{data_field};
+ghost use Rattle.sl_tmframe.specs.TmFrame.{IsInField, tm_frame};
 
 use crate::link_fault::LinkFault;
 use crate::managed::Managed;
 use crate::tally::Tally;
-use crate::tm_frame::{TmField, TmFrame};
 use crate::totals::Totals;
 use sl_packet::{Delivered, SinkFault, hand_over};
+use sl_tmframe::{TmField, TmFrame};
 
 /// What a frame held.
 #[derive(Clone, Copy)]
@@ -32,13 +32,12 @@ pub fn deliver_whole(
     recording: &[u8],
     delivered: &mut Delivered,
 ) -> Result<Totals, LinkFault>
-    requires no_fecf { managed.now.tm_fecf ≡ false }
     requires none { delivered.old.lists ≡ no_lists }
     ensures packets { OnOk result (take 8 delivered.new.lists ≡ whole_tm_packets managed.now recording.now) }
     ensures counts { IfOk result (λ totals. totals ≡ whole_counts managed.now recording.now) }
     ensures fault { IfErr result (λ fault. fault ≡ LinkFault.Memory) }
 {
-    let length = usize::from(managed.tm_length);
+    let length = usize::from(managed.tm.len());
     let mut tally = Tally::new();
     let mut packets = 0;
     let mut idle = 0;
@@ -64,7 +63,6 @@ fn deliver_frame(
     frame: &[u8],
     delivered: &mut Delivered,
 ) -> Result<FrameReport, LinkFault>
-    requires no_fecf { managed.now.tm_fecf ≡ false }
     requires one_frame { length frame.now ≡ managed.now.tm_length }
     requires channels { 8 ≤ length delivered.old.lists }
     ensures lists { OnOk result (delivered.new.lists ≡ after_view (tm_frame (tm_format managed.now) managed.now.spacecraft frame.now) delivered.old.lists) }
@@ -74,7 +72,7 @@ fn deliver_frame(
     ensures within { IfOk result (λ met. met.packets + met.idle ≤ length frame.now) }
     ensures fault { IfErr result (λ fault. fault ≡ LinkFault.Memory) }
 {
-    let view = match TmFrame::read(managed.spacecraft, frame) {
+    let view = match TmFrame::read(&managed.tm, managed.spacecraft, frame) {
         Ok(view) => view,
         Err(_) => {
             return Ok(FrameReport {
@@ -98,13 +96,14 @@ fn deliver_frame(
 
 // The octets of packets from the first header pointer on.
 fn from_pointer<'a>(field: &TmField<'a>) -> &'a [u8]
+    requires { IsInField (data_field field.now) }
     ensures { packets_of result.now ≡ whole_packets (data_field field.now) }
 {
     match *field {
         TmField::Packets {
             first: Some(first),
             octets,
-        } => octets.get(usize::from(first)..).unwrap_or(&[]),
+        } => &octets[usize::from(first)..],
         _ => &[],
     }
 }

@@ -3,18 +3,11 @@ ghost use Rattle.sl_link.specs.Delimited.{EachIsDelimited, IsDelimitedOnce};
 ghost use Rattle.sl_link.specs.Delivery.{EachIsDelivery, EachIsListed, DeliveriesAreInOrder};
 ghost use Rattle.sl_link.specs.NormalForm.{EachFillIsLeast};
 ghost use Rattle.sl_link.specs.PacketStart.{EachIsStart, EachStartIsListed};
-ghost use Rattle.sl_link.specs.TmFrame.{EachHasParts, HasPartsOnce};
 
 /// Every list of octets is a recording: TM frames of the managed length and a remainder, in one way.
 pub fn tm_recordings_are_delimited()
     ensures each { EachIsDelimited }
     ensures once { IsDelimitedOnce }
-{}
-
-/// Every list of octets of the managed length has the parts of a TM frame, in one way.
-pub fn tm_frames_have_parts()
-    ensures each { EachHasParts }
-    ensures once { HasPartsOnce }
 {}
 
 /// The packet starts of a data field, listed: each is one, and each is listed.

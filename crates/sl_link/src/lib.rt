@@ -15,7 +15,6 @@ mod reframe;
 mod show;
 mod streams;
 mod tally;
-mod tm_frame;
 mod tm_lines;
 mod totals;
 

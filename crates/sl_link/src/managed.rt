@@ -2,6 +2,7 @@
 ghost use Rattle.std.specs.Prelude.{◌≡◌};
 ghost use Rattle.sl_link.specs.Managed.{Parameters};
 
+use sl_tmframe::TmShape;
 use std::marker::Model;
 use thiserror::Error;
 
@@ -29,8 +30,7 @@ pub enum ManagedFault {
 #[derive(Clone, Copy, Debug, PartialEq, Eq)]
 pub struct Managed {
     pub(crate) spacecraft: u16,
-    pub(crate) tm_length: u16,
-    pub(crate) tm_fecf: bool,
+    pub(crate) tm: TmShape,
     pub(crate) tc_max: u16,
     pub(crate) tc_fecf: bool,
     pub(crate) window: u8,
@@ -81,9 +81,10 @@ impl Managed {
         if spacecraft > 1023 {
             return Err(ManagedFault::Spacecraft);
         }
-        if tm_length < 32 || tm_length > 2048 {
-            return Err(ManagedFault::TmLength);
-        }
+        let tm = match TmShape::new(tm_length, tm_fecf) {
+            Ok(shape) => shape,
+            Err(_) => return Err(ManagedFault::TmLength),
+        };
         if tc_max < 16 || tc_max > 1024 {
             return Err(ManagedFault::TcLength);
         }
@@ -95,8 +96,7 @@ impl Managed {
         }
         Ok(Managed {
             spacecraft,
-            tm_length,
-            tm_fecf,
+            tm,
             tc_max,
             tc_fecf,
             window,

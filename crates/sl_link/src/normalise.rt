@@ -23,7 +23,6 @@ pub fn normalise_tm<R: Read, W: Write>(
     reader: &mut Counted<R>,
     writer: &mut Counted<W>,
 ) -> Result<Totals, LinkFault>
-    requires { managed.now.tm_fecf ≡ false }
     // All is read, and the normal form of it is written and nothing else.
     ensures normal_form { IfOk result (Translates R.remaining W.contents reader.old reader.new writer.old writer.new (whole_normal_form managed.now) (whole_counts managed.now) managed.now.max_octets) }
     // After a fault its cause is there, and a prefix of the normal form of what was read is written.
@@ -35,7 +34,7 @@ pub fn normalise_tm<R: Read, W: Write>(
     let recording = read_all(alloc, reader, managed.max_octets)?;
     let mut delivered = Delivered::new(alloc);
     let totals = deliver_whole(managed, recording.as_slice(), &mut delivered)?;
-    let form = match reframe(alloc, managed, &delivered) {
+    let form = match reframe(alloc, &managed.tm, managed.spacecraft, &delivered) {
         Ok(form) => form,
         Err(_) => return Err(LinkFault::Memory),
     };

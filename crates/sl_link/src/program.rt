@@ -1,13 +1,11 @@
 //! The whole program.
-ghost use Rattle.std.specs.Prelude.{◌≡◌, ◌≢◌, ◌≤◌, ◌⊎◌, false, map, string_bytes, OnOk, IfOk, IfErr};
+ghost use Rattle.std.specs.Prelude.{◌≡◌, ◌≢◌, ◌≤◌, ◌⊎◌, map, string_bytes, OnOk, IfOk, IfErr};
 ghost use Rattle.std.specs.Io.KnownBytes.{Keeps};
 ghost use Rattle.clap.specs.Words.{kind_of};
 ghost use Rattle.sl_link.specs.CommandLine.{AreRefused, AskForHelp};
 ghost use Rattle.sl_link.specs.Counted.{stream_of, faults_of, HasFailed};
-ghost use Rattle.sl_link.specs.Engine.{buffer_of, counts_of, text_of};
-ghost use Rattle.sl_link.specs.Run.{AsksForRefusedParameter, HasStopped, HasSucceeded, WithAsked};
+ghost use Rattle.sl_link.specs.Run.{AsksForRefusedParameter, HasStopped, HasSucceeded, HasWritten, IsStoppedBy, WithAsked};
 ghost use Rattle.sl_link.specs.Status.{status};
-ghost use Rattle.sl_link.specs.Streams.{IsRead, Translates, Stops};
 
 use crate::command_line::{Kind, Request, Verb, parse};
 use crate::counted::Counted;
@@ -99,12 +97,8 @@ fn run_and_flush<R: Read, W: Write>(
     reader: &mut Counted<R>,
     writer: &mut Counted<W>,
 ) -> Result<Totals, LinkFault>
-    requires { managed.now.tm_fecf ≡ false }
-    ensures written { IfOk result (Translates R.remaining W.contents reader.old reader.new writer.old writer.new (text_of request.now.verb request.now.kind managed.now) (counts_of request.now.verb request.now.kind managed.now) managed.now.max_octets) }
-    ensures fault { IfErr result (Stops R.remaining W.contents reader.old reader.new writer.old writer.new (text_of request.now.verb request.now.kind managed.now) managed.now.max_octets (buffer_of request.now.verb request.now.kind)) }
-    ensures no_memory { request.now.verb ≡ Verb.Show → result ≢ Err LinkFault.Memory }
-    ensures all_read { request.now.verb ≡ Verb.Normalise → IfErr result (λ fault. fault ≡ LinkFault.Write → IsRead R.remaining reader.new) }
-    ensures nothing { request.now.verb ≡ Verb.Normalise → IfErr result (λ fault. fault ≢ LinkFault.Write → writer.new ≡ writer.old) }
+    ensures written { IfOk result (HasWritten R.remaining W.contents reader.old reader.new writer.old writer.new request.now managed.now) }
+    ensures stopped { IfErr result (IsStoppedBy R.remaining W.contents reader.old reader.new writer.old writer.new request.now managed.now) }
 {
     let totals = run_engine(alloc, request, managed, reader, writer)?;
     flush(writer)?;
@@ -119,12 +113,8 @@ fn run_engine<R: Read, W: Write>(
     reader: &mut Counted<R>,
     writer: &mut Counted<W>,
 ) -> Result<Totals, LinkFault>
-    requires { managed.now.tm_fecf ≡ false }
-    ensures written { IfOk result (Translates R.remaining W.contents reader.old reader.new writer.old writer.new (text_of request.now.verb request.now.kind managed.now) (counts_of request.now.verb request.now.kind managed.now) managed.now.max_octets) }
-    ensures fault { IfErr result (Stops R.remaining W.contents reader.old reader.new writer.old writer.new (text_of request.now.verb request.now.kind managed.now) managed.now.max_octets (buffer_of request.now.verb request.now.kind)) }
-    ensures no_memory { request.now.verb ≡ Verb.Show → result ≢ Err LinkFault.Memory }
-    ensures all_read { request.now.verb ≡ Verb.Normalise → IfErr result (λ fault. fault ≡ LinkFault.Write → IsRead R.remaining reader.new) }
-    ensures nothing { request.now.verb ≡ Verb.Normalise → IfErr result (λ fault. fault ≢ LinkFault.Write → writer.new ≡ writer.old) }
+    ensures written { IfOk result (HasWritten R.remaining W.contents reader.old reader.new writer.old writer.new request.now managed.now) }
+    ensures stopped { IfErr result (IsStoppedBy R.remaining W.contents reader.old reader.new writer.old writer.new request.now managed.now) }
 {
     match (request.verb, request.kind) {
         (Verb::Show, Kind::Tm) => show_tm(managed, reader, writer),

@@ -5,7 +5,7 @@ ghost use Rattle.sl_link.specs.Managed.{tm_format};
 ghost use Rattle.sl_link.specs.ShowTm.{show_tm_text, show_tm_counts, frame_lines, line_at, frame_text, remainder_line};
 ghost use Rattle.sl_link.specs.Streams.{Translates, Stops, AddsText, WritesText, StopsWriting};
 ghost use Rattle.sl_link.specs.Tally.{AddsFrames};
-ghost use Rattle.sl_link.specs.TmFrame.{tm_frame};
+ghost use Rattle.sl_tmframe.specs.TmFrame.{tm_frame};
 
 use crate::counted::Counted;
 use crate::lines::Lines;
@@ -13,9 +13,9 @@ use crate::link_fault::LinkFault;
 use crate::managed::Managed;
 use crate::streams::{read_some, write_text};
 use crate::tally::Tally;
-use crate::tm_frame::TmFrame;
 use crate::tm_lines::{frame_line, rest_line};
 use crate::totals::Totals;
+use sl_tmframe::TmFrame;
 use std::io::{Read, Write};
 
 /// Reads a recording of TM transfer frames to its end and writes a line for each frame, and one for a
@@ -25,7 +25,6 @@ pub fn show_tm<R: Read, W: Write>(
     reader: &mut Counted<R>,
     writer: &mut Counted<W>,
 ) -> Result<Totals, LinkFault>
-    requires { managed.now.tm_fecf ≡ false }
     // All is read, and its listing is written and nothing else.
     ensures listing { IfOk result (Translates R.remaining W.contents reader.old reader.new writer.old writer.new (show_tm_text managed.now) (show_tm_counts managed.now) managed.now.max_octets) }
     // After a fault, whose cause is there, a prefix of the listing of what was read is written.
@@ -45,7 +44,6 @@ fn show_chunks<R: Read, W: Write>(
     buffer: &mut [u8],
     lines: &mut Lines,
 ) -> Result<Totals, LinkFault>
-    requires no_fecf { managed.now.tm_fecf ≡ false }
     requires room { 4096 ≤ length buffer.old }
     requires empty { lines.old ≡ [] }
     ensures listing { IfOk result (Translates R.remaining W.contents reader.old reader.new writer.old writer.new (show_tm_text managed.now) (show_tm_counts managed.now) managed.now.max_octets) }
@@ -80,7 +78,6 @@ fn show_frames<W: Write>(
     lines: &mut Lines,
     tally: &mut Tally,
 ) -> Result<usize, LinkFault>
-    requires no_fecf { managed.now.tm_fecf ≡ false }
     requires fits { tally.old.octets + length octets.now < 2 ^ 64 }
     requires empty { lines.old ≡ [] }
     ensures emptied { OnOk result (lines.new ≡ []) }
@@ -91,7 +88,7 @@ fn show_frames<W: Write>(
     ensures counts { OnOk result (AddsFrames (tm_format managed.now) managed.now.spacecraft tally.old tally.new (frames_of managed.now.tm_length octets.now)) }
     ensures fault { IfErr result (StopsWriting W.contents writer.old writer.new (frame_lines (tm_format managed.now) managed.now.spacecraft tally.old.octets (frames_of managed.now.tm_length octets.now))) }
 {
-    let length = usize::from(managed.tm_length);
+    let length = usize::from(managed.tm.len());
     let mut left = octets;
     while left.len() >= length {
         let (frame, behind) = left.split_at(length);
@@ -112,14 +109,13 @@ fn show_frame<W: Write>(
     lines: &mut Lines,
     offset: u64,
 ) -> Result<bool, LinkFault>
-    requires no_fecf { managed.now.tm_fecf ≡ false }
     requires one_frame { length frame.now ≡ managed.now.tm_length }
     ensures skipped { IfOk result (λ is_skipped. is_skipped ≡ is_err (tm_frame (tm_format managed.now) managed.now.spacecraft frame.now)) }
     ensures line { OnOk result (AddsText W.contents writer.old writer.new lines.old lines.new (line_at offset (frame_text (tm_frame (tm_format managed.now) managed.now.spacecraft frame.now)))) }
     ensures fault { IfErr result (StopsWriting W.contents writer.old writer.new lines.old) }
 {
     make_room(writer, lines)?;
-    let read = TmFrame::read(managed.spacecraft, frame);
+    let read = TmFrame::read(&managed.tm, managed.spacecraft, frame);
     frame_line(lines, offset, &read);
     Ok(read.is_err())
 }

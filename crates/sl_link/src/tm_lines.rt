@@ -1,12 +1,12 @@
 //! The lines of a TM recording's listing.
 ghost use Rattle.std.specs.Prelude.{◌≡◌, ◌+◌, ◌-◌, ◌≤◌, ◌<◌, [], ◌++◌, length, decimal, codes, Result};
 ghost use Rattle.sl_fields.specs.Field.{bit_of};
-ghost use Rattle.sl_link.specs.TmField.{data_field};
+ghost use Rattle.sl_tmframe.specs.TmField.{data_field};
 ghost use Rattle.sl_link.specs.ShowTm.{clcw_fields_text, word_text, control_text, skip_word, field_text, counts_text, view_text, frame_text, line_at, remainder_line};
 
 use crate::lines::Lines;
-use crate::tm_frame::{TmField, TmFrame, TmSkip};
 use sl_fields::Clcw;
+use sl_tmframe::{TmField, TmFrame, TmSkip};
 
 /// Adds the line of a frame at this offset.
 pub fn frame_line(lines: &mut Lines, offset: u64, read: &Result<TmFrame, TmSkip>)

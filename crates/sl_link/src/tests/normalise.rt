@@ -1,5 +1,3 @@
-ghost use Rattle.std.specs.Prelude.{◌≡◌, IfOk, false};
-
 use super::faulty::{FailsAfter, OneByOne};
 use crate::{Counted, LinkFault, Managed, ManagedFault, normalise_tm};
 use std::alloc::Global;
@@ -154,10 +152,36 @@ fn normal_forms_of_recordings(rt: HostRuntime) -> Result<(), Fail> {
     Ok(())
 }
 
-fn link(max_octets: u64) -> Result<Managed, ManagedFault>
-    ensures { IfOk result (λ managed. managed.tm_fecf ≡ false) }
-{
+fn link(max_octets: u64) -> Result<Managed, ManagedFault> {
     Managed::new(1, 32, false, 1024, false, 10, 0, max_octets)
+}
+
+// A frame whose error control field is wrong isn't read, and frames are written with theirs.
+#[test]
+fn frames_with_error_control(rt: HostRuntime) -> Result<(), Fail> {
+    let managed = Managed::new(1, 34, true, 1024, false, 10, 0, 1000)?;
+    let one: &[&str] = &[FIRST, TEN_FILLED, "5e0c"];
+    let cases: [&[&str]; 3] = [
+        one,
+        &[FIRST, TEN_FILLED, "5e0d", FIRST, TEN_FILLED, "5e0c"],
+        // Other counts, and an idle packet with other sequence flags and data.
+        &[
+            "00104dc81800",
+            TEN,
+            "07ff00070009",
+            "55555555555555555555",
+            "929c",
+        ],
+    ];
+    let wanted = octets(rt.alloc(), one)?;
+    for parts in cases {
+        let recording = octets(rt.alloc(), parts)?;
+        let mut reader = Counted::new(recording.as_slice());
+        let mut writer = Counted::new(Vec::new(rt.alloc()));
+        normalise_tm(rt.alloc(), &managed, &mut reader, &mut writer)?;
+        assert_eq!(rt; writer.into_inner(), wanted);
+    }
+    Ok(())
 }
 
 #[test]

@@ -11,6 +11,10 @@ const SHOW: &str = "sllink show tm --scid 1";
 
 const NORMALISE: &str = "sllink normalise tm --scid 1 --tm-length 32";
 
+const WITH_FECF: &str = "sllink show tm --scid 1 --tm-length 34 --tm-fecf";
+
+const NORMALISE_WITH_FECF: &str = "sllink normalise tm --scid 1 --tm-length 34 --tm-fecf";
+
 const RECORDING: &[u8] = &[0, 0];
 
 #[test]
@@ -21,6 +25,7 @@ fn command_lines_are_read(rt: HostRuntime) -> Result<(), Fail> {
             Verb::Show,
             7,
             1115,
+            false,
             1_073_741_824,
         ),
         (
@@ -28,11 +33,13 @@ fn command_lines_are_read(rt: HostRuntime) -> Result<(), Fail> {
             Verb::Show,
             65_535,
             0,
+            false,
             9,
         ),
-        (NORMALISE, Verb::Normalise, 1, 32, 1_073_741_824),
+        (NORMALISE, Verb::Normalise, 1, 32, false, 1_073_741_824),
+        (WITH_FECF, Verb::Show, 1, 34, true, 1_073_741_824),
     ];
-    for (line, verb, spacecraft, tm_length, max_octets) in cases {
+    for (line, verb, spacecraft, tm_length, tm_fecf, max_octets) in cases {
         let words = words(rt.alloc(), line)?;
         let request = Request {
             verb,
@@ -40,6 +47,7 @@ fn command_lines_are_read(rt: HostRuntime) -> Result<(), Fail> {
             options: Options {
                 spacecraft,
                 tm_length,
+                tm_fecf,
                 max_octets,
             },
         };
@@ -71,6 +79,9 @@ fn wrong_command_lines_are_refused(rt: HostRuntime) -> Result<(), Fail> {
         "sllink show tm --scid 1 --tm-length 65536",
         "sllink show tm --scid 1 --limit 18446744073709551616",
         "sllink show tm --scid 1 --window 10",
+        "sllink show tm --scid 1 --tm-fecf --tm-fecf",
+        "sllink show tm --scid 1 --tm-fecf=1",
+        "sllink show tm --scid 1 --tm-fecf yes",
     ];
     for line in lines {
         let outcome = Outcome::of(rt.alloc(), line, RECORDING)?;
@@ -142,6 +153,23 @@ fn normal_forms_are_written(rt: HostRuntime) -> Result<(), Fail> {
         assert!(rt; outcome.says(status, said), "{outcome:?}");
         assert_eq!(rt; outcome.output.is_empty(), status != 0);
     }
+    Ok(())
+}
+
+#[test]
+fn the_frame_error_control_field_is_checked(rt: HostRuntime) -> Result<(), Fail> {
+    let alloc = rt.alloc();
+    let frame = octets(alloc, &[FIRST, TEN_FILLED, "5e0c"])?;
+    // An octet of the first frame is damaged.
+    let damaged = "0001c0000003abbbccdd07ffc000000900000000000000000000";
+    let recording = octets(alloc, &[FIRST, damaged, "5e0c", FIRST, TEN_FILLED, "5e0c"])?;
+    let outcome = Outcome::of(alloc, WITH_FECF, recording.as_slice())?;
+    assert!(rt; outcome.says(0, ""), "{outcome:?}");
+    let listing = "0 skip fecf\n34 frame vc 0 mc 0 vcc 0 first 0\n";
+    assert_eq!(rt; text(outcome.output.as_slice()), listing);
+    let outcome = Outcome::of(alloc, NORMALISE_WITH_FECF, recording.as_slice())?;
+    assert!(rt; outcome.says(0, ""), "{outcome:?}");
+    assert_eq!(rt; outcome.output.as_slice(), frame.as_slice());
     Ok(())
 }
 

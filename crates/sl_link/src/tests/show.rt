@@ -1,5 +1,3 @@
-ghost use Rattle.std.specs.Prelude.{◌≡◌, IfOk, false};
-
 use super::faulty::{FailsAfter, OneByOne};
 use super::outcome::{Outcome, text};
 use crate::{Counted, LinkFault, Managed, ManagedFault, show_tm};
@@ -74,10 +72,27 @@ fn a_remainder_is_listed(rt: HostRuntime) -> Result<(), Fail> {
     Ok(())
 }
 
-fn link(max_octets: u64) -> Result<Managed, ManagedFault>
-    ensures { IfOk result (λ managed. managed.tm_fecf ≡ false) }
-{
+fn link(max_octets: u64) -> Result<Managed, ManagedFault> {
     Managed::new(1, 32, false, 1024, false, 10, 0, max_octets)
+}
+
+// A frame whose error control field is wrong, and one with an operational control field whose error control
+// field is right.
+#[test]
+fn error_control_is_checked(rt: HostRuntime) -> Result<(), Fail> {
+    let mut recording = Vec::from_slice(rt.alloc(), &FRAME)?;
+    recording.extend_from_slice(&[0x5E, 0x0D])?;
+    recording.extend_from_slice(&frame([0x00, 0x11, 0, 0, 0x18, 0], [1, 0, 0x28, 5]))?;
+    recording.extend_from_slice(&[0x79, 0x7B])?;
+    let wanted =
+        "0 skip fecf\n34 frame vc 0 mc 0 vcc 0 first 0 clcw 01002805 vc 0 lockout 1 wait 0 retransmit 1 farmb 0 vr 5\n";
+    let managed = Managed::new(1, 34, true, 1024, false, 10, 0, 1000)?;
+    let mut reader = Counted::new(OneByOne(recording.as_slice()));
+    let mut writer = Counted::new(Vec::new(rt.alloc()));
+    let totals = show_tm(&managed, &mut reader, &mut writer)?;
+    assert_eq!(rt; text(writer.into_inner().as_slice()), wanted);
+    assert_eq!(rt; (totals.frames(), totals.skipped()), (2, 1));
+    Ok(())
 }
 
 #[test]

@@ -21,7 +21,7 @@ loop-left-preserved c =
     let left = c.loop-left.left.now in
     let frame = c.split_at.result.0.now in
     let parts : left ≡ frame ++ c.split_at.result.1.now = rw (c.split_at.ensures.front, c.split_at.ensures.back) (sym (take-append-drop c.from-length.result left)) in
-    let size : length frame ≡ c.args.managed.now.tm_length = c.split_at.ensures.front_len ∙ c.from-length.ensures ∙ ap (λ (p : Parameters). p.tm_length) c.managed.view_is in
+    let size : length frame ≡ c.args.managed.now.tm_length = c.split_at.ensures.front_len ∙ c.from-length.ensures ∙ c.len.ensures.value ∙ ap (λ (p : Parameters). p.tm_length) c.managed.view_is in
     let met = c.in_ok-met.ensures in
     delivered_next c.args.managed.now c.args.delivered.now.lists c.args.recording.now left frame c.split_at.result.1.now c.loop-left.delivered.lists c.deliver_frame.new.delivered.lists
     c.loop-left.tally.octets c.loop-left.tally.frames c.loop-left.tally.skipped c.loop-left.packets c.loop-left.idle _ _ _ _ _

@@ -1,4 +1,4 @@
-use Rattle.std.proofs.Common.{◌≡◌, ◌∙◌, ap, refl}
+use Rattle.std.proofs.Common.{◌≡◌, ◌∙◌, ap, refl, take}
 use Rattle.std.proofs.lemmas.Result.{err_from_is_err_and}
 use Rattle.sl_link.specs.Managed.{Parameters, tm_format}
 use Rattle.sl_link.specs.NormalForm.{normal_form}
@@ -29,7 +29,8 @@ returns-in_err-write_text-clause-fault g c =
     let out = err_from_is_err_and c.from_residual-in_err-write_text.result c.from_residual-in_err-write_text.ensures.1 in
     let p = c.args.managed.now in
     let form : c.as_slice-2.result.now ≡ whole_normal_form p c.in_ok-recording.recording.items =
-    c.as_slice-2.ensures.value ∙ c.in-Ok.ensures ∙ ap (normal_form (tm_format p) p.spacecraft) (c.in_ok-totals.ensures.packets ∙ ap (whole_tm_packets p) c.as_slice.ensures.value) in
+    c.as_slice-2.ensures.value ∙ c.in-Ok.ensures ∙ ap (λ (q : Parameters). normal_form (tm_format q) q.spacecraft (take 8 c.deliver_whole.new.delivered.lists)) c.managed.view_is
+    ∙ ap (normal_form (tm_format p) p.spacecraft) (c.in_ok-totals.ensures.packets ∙ ap (whole_tm_packets p) c.as_slice.ensures.value) in
     rw (out.1, out.2, ← limit) (stops_at_writing g.R.Read.remaining g.W.Write.contents c.args.reader.now c.read_all.new.reader (whole_normal_form p) _ 65536 c.args.writer.now c.write_text.new.writer c.in_ok-recording.recording.items c.as_slice-2.result.now _ c.in_ok-recording.ensures.came form c.in_err-write_text.ensures.fault)
 
 pub returns-clause-normal_form : goal.returns-clause-normal_form
@@ -37,6 +38,7 @@ returns-clause-normal_form g c =
     let limit = ap (λ (p : Parameters). p.max_octets) c.managed.view_is in
     let p = c.args.managed.now in
     let form : c.as_slice-2.result.now ≡ whole_normal_form p c.in_ok-recording.recording.items =
-    c.as_slice-2.ensures.value ∙ c.in-Ok.ensures ∙ ap (normal_form (tm_format p) p.spacecraft) (c.in_ok-totals.ensures.packets ∙ ap (whole_tm_packets p) c.as_slice.ensures.value) in
+    c.as_slice-2.ensures.value ∙ c.in-Ok.ensures ∙ ap (λ (q : Parameters). normal_form (tm_format q) q.spacecraft (take 8 c.deliver_whole.new.delivered.lists)) c.managed.view_is
+    ∙ ap (normal_form (tm_format p) p.spacecraft) (c.in_ok-totals.ensures.packets ∙ ap (whole_tm_packets p) c.as_slice.ensures.value) in
     let counts = c.in_ok-totals.ensures.counts ∙ ap (whole_counts p) c.as_slice.ensures.value in
     rw (← limit) (translates_whole g.R.Read.remaining g.W.Write.contents c.args.reader.now c.read_all.new.reader (whole_normal_form p) _ 65536 c.args.writer.now c.write_text.new.writer (whole_counts p) c.in_ok-totals.totals c.in_ok-recording.recording.items c.as_slice-2.result.now c.in_ok-recording.ensures.came form counts c.in_ok-write_text.ensures.written)

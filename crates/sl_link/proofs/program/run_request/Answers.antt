@@ -5,4 +5,4 @@ use Rattle.sl_link.proofs.program.run_request.Goals as goal
 pub returns-in-Ok-clause-stopped : goal.returns-in-Ok-clause-stopped
 returns-in-Ok-clause-stopped g c =
     let outcome = c.run_and_flush-outcome in
-    λ is_fault. has_stopped g.R.Read.remaining g.W.Write.contents c.args.reader.now outcome.new.reader c.args.writer.now outcome.new.writer c.args.request.now c.in-Ok.managed outcome.result (sym c.report.ensures ∙ is_fault) (sym c.managed.ensures ∙ c.in-Ok.is) outcome.ensures.fault outcome.ensures.no_memory outcome.ensures.all_read outcome.ensures.nothing
+    λ is_fault. has_stopped g.R.Read.remaining g.W.Write.contents c.args.reader.now outcome.new.reader c.args.writer.now outcome.new.writer c.args.request.now c.in-Ok.managed outcome.result (sym c.report.ensures ∙ is_fault) (sym c.managed.ensures ∙ c.in-Ok.is) outcome.ensures.stopped

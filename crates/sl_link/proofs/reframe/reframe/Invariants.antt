@@ -2,4 +2,4 @@ use Rattle.sl_link.proofs.FramingLemmas.{IsReframed}
 use Rattle.sl_link.proofs.reframe.reframe.Given as goal
 
 abbrev pub invariant-loop-vc : goal.invariant-loop-vc
-invariant-loop-vc l = IsReframed l.managed l.delivered.lists l.vc l.form.items
+invariant-loop-vc l = IsReframed l.shape l.spacecraft l.delivered.lists l.vc l.form.items

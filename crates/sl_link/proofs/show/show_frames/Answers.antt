@@ -17,7 +17,7 @@ pub loop-left-preserved : goal.loop-left-preserved
 loop-left-preserved g c =
     let left = c.loop-left.left.now in
     let parts : left ≡ c.split_at.result.0.now ++ c.split_at.result.1.now = rw (c.split_at.ensures.front, c.split_at.ensures.back) (sym (take-append-drop c.from-length.result left)) in
-    let size : length c.split_at.result.0.now ≡ c.args.managed.now.tm_length = c.split_at.ensures.front_len ∙ c.from-length.ensures ∙ ap (λ (p : Parameters). p.tm_length) c.managed.view_is in
+    let size : length c.split_at.result.0.now ≡ c.args.managed.now.tm_length = c.split_at.ensures.front_len ∙ c.from-length.ensures ∙ c.len.ensures.value ∙ ap (λ (p : Parameters). p.tm_length) c.managed.view_is in
     listing_next g.W.Write.contents c.args.managed.now c.args.writer.now c.loop-left.writer c.show_frame.new.writer c.args.tally.now c.loop-left.tally c.add.new.self c.args.octets.now left c.split_at.result.0.now c.split_at.result.1.now c.loop-left.lines c.show_frame.new.lines
     c.loop-left.invariant parts size c.in_ok-is_skipped.ensures.line c.add.ensures.octets c.add.ensures.frames
     (c.add.ensures.skipped ∙ ap (λ (b : Bool). c.loop-left.tally.skipped + (if◌then◌else◌ {A = ℕ} b 1 0)) c.in_ok-is_skipped.ensures.skipped)

@@ -1,0 +1,4 @@
+pub mod PacketFrameLemmas
+pub mod PartLemmas
+pub mod TmFrameFacts
+pub mod TmFrameLemmas

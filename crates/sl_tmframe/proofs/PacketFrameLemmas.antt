@@ -1,0 +1,157 @@
+-- A frame of packets as it is made, and as it is read back.
+use Rattle.std.proofs.Common.{◌≡◌, ℕ, ◌-◌, ◌<◌, ◌≤◌, ◌==◌, Bool, true, false, not, ◌&&◌, List, [], ◌∷◌, ◌++◌, length, take, Option, Some, None, IfSome, Ok, unwrap_or, if◌then◌else◌, refl, sym, ◌∙◌, ap, arith, append-nil, length-append}
+use Rattle.std.proofs.Math.Seq.{take-append_seam}
+use Rattle.std.proofs.lemmas.Bool.{eq-eqb, ne_eqb, lt-ltb}
+use Rattle.sl_fields.specs.Fecf.{fecf_of}
+use Rattle.sl_fields.specs.Field.{number_of, octets_of, packed}
+use Rattle.sl_fields.specs.TmHeader.{TmFields, FitsTmHeader, tm_header, tm_fields, tm_octets}
+use Rattle.sl_fields.proofs.Division.{fecf_of_lt}
+use Rattle.sl_fields.proofs.HeaderLayout.{reads_back}
+use Rattle.sl_fields.proofs.Octets.{length-octets_of, number_of-bytes}
+use Rattle.sl_fields.proofs.Packing.{packed_lt}
+use Rattle.sl_fields.proofs.TmHeaderLemmas.{tm_layout}
+use Rattle.sl_tmframe.specs.TmFrame.{TmFormat, TmParts, TmView, DataField, Packets, header_of, fecf_len, parts_of, skip_reason, class_of, view_of, read_as, tm_frame}
+use Rattle.sl_tmframe.specs.PacketFrame.{FitFrame, room_of, pointer_value, packet_frame_header, with_fecf, packet_frame, packet_view}
+use Rattle.sl_tmframe.specs.declared.tm_frame.TmSkip.{TmSkip}
+use Rattle.sl_tmframe.specs.declared.tm_frame.TmSkip.TheVariants.{Fecf, Version, Spacecraft}
+use Rattle.sl_tmframe.proofs.PartLemmas.{only_parts, either_le}
+
+-- the header as it is made, with 2047 for no pointer
+pub header_is : (spacecraft vc mc vcc pointer : ℕ) (first : Option ℕ) (header : TmFields)
+    → header ≡ record {
+      version = 0;
+      spacecraft = spacecraft;
+      vc = vc;
+      control = false;
+      mc = mc;
+      vcc = vcc;
+      secondary = false;
+      sync = false;
+      order = false;
+      segment = 3;
+      first = pointer;
+    }
+    → pointer ≡ unwrap_or first 2047 → header ≡ packet_frame_header spacecraft vc mc vcc first
+header_is spacecraft vc mc vcc pointer None header made e = rw (made, e) refl
+header_is spacecraft vc mc vcc pointer (Some first) header made e = rw (made, e) refl
+
+-- the error control field of octets, where there is one
+abbrev fecf_part : Bool → List ℕ → List ℕ
+fecf_part has octets = if has then octets_of 2 ((16, fecf_of octets) ∷ []) else []
+
+length-fecf_part : (has : Bool) (octets : List ℕ) → length (fecf_part has octets) ≡ (if has then 2 else 0)
+length-fecf_part true octets = length-octets_of 2 ((16, fecf_of octets) ∷ [])
+length-fecf_part false octets = refl
+
+number_of-fecf : (octets : List ℕ) → number_of (octets_of 2 ((16, fecf_of octets) ∷ [])) ≡ fecf_of octets
+number_of-fecf octets =
+    let value : packed ((16, fecf_of octets) ∷ []) ≡ fecf_of octets = omega arith in
+    number_of-bytes 2 (packed ((16, fecf_of octets) ∷ [])) (omega (arith, fecf_of_lt octets)) ∙ value
+
+-- octets are not skipped for the error control field that is theirs
+fecf_fits : (has : Bool) (octets frame field : List ℕ) → frame ≡ octets ++ fecf_part has octets → field ≡ fecf_part has octets
+    → (has && not (number_of field == fecf_of (take (length frame - 2) frame))) ≡ false
+fecf_fits false octets frame field whole ends = refl
+fecf_fits true octets frame field whole ends =
+    let long : length frame - 2 ≡ length octets =
+    omega (arith, ap length whole, length-append octets (fecf_part true octets), length-fecf_part true octets) in
+    let covered : take (length frame - 2) frame ≡ octets =
+    ap (λ n. take n frame) long ∙ ap (take (length octets)) whole ∙ take-append_seam octets (fecf_part true octets) in
+    let same = eq-eqb (number_of field) (fecf_of (take (length frame - 2) frame)) (ap number_of ends ∙ number_of-fecf octets ∙ ap fecf_of (sym covered)) in
+    ap not same
+
+-- a frame has the octets of its format
+pub with_fecf_whole : (format : TmFormat) (header field : List ℕ) → 8 ≤ format.len → length header ≡ 6 → length field ≡ room_of format
+    → length (with_fecf format (header ++ field)) ≡ format.len
+with_fecf_whole format header field least six fills =
+    let last : fecf_len format ≤ 2 = either_le format.fecf 2 in
+    omega (
+      arith,
+      length-append (header ++ field) (fecf_part format.fecf (header ++ field)),
+      length-append header field,
+      length-fecf_part format.fecf (header ++ field),
+    )
+
+pointer_lt : (first : Option ℕ) (room : ℕ) → room ≤ 2042 → IfSome first (λ offset. offset < room) → pointer_value first < 2048
+pointer_lt None room most inside = omega arith
+pointer_lt (Some first) room most inside = omega arith
+
+-- the pointer is read as it was written
+class_is : (spacecraft vc mc vcc : ℕ) (first : Option ℕ) (field : List ℕ) (room : ℕ)
+    → room ≤ 2042 → length field ≡ room → IfSome first (λ offset. offset < room)
+    → class_of (packet_frame_header spacecraft vc mc vcc first) field ≡ Packets first field
+class_is spacecraft vc mc vcc None field room most fills inside = refl
+class_is spacecraft vc mc vcc (Some first) field room most fills inside =
+    rw (ne_eqb first 2046 (λ e. omega arith), ne_eqb first 2047 (λ e. omega arith), lt-ltb first (length field) (omega arith)) refl
+
+-- why a frame under this header is skipped whose error control field isn't wrong, and what it shows
+abbrev reason_by : ℕ → TmFields → Option TmSkip
+reason_by spacecraft h = if not (h.version == 0) then Some Version else if not (h.spacecraft == spacecraft) then Some Spacecraft else None
+
+abbrev shown_by : TmFields → TmParts → TmView
+shown_by h p =
+    record {
+      vc = h.vc;
+      mc_count = h.mc;
+      vc_count = h.vcc;
+      control = if h.control then Some p.control else None;
+      field = class_of h p.field;
+    }
+
+module _ (format : TmFormat) (spacecraft vc mc vcc : ℕ) (first : Option ℕ) (field : List ℕ) (fit : FitFrame format spacecraft vc mc vcc first field) where
+  abbrev h : TmFields
+  h = packet_frame_header spacecraft vc mc vcc first
+
+  abbrev frame : List ℕ
+  frame = packet_frame format spacecraft vc mc vcc first field
+
+  abbrev made_of : TmParts
+  made_of =
+      record {
+        header = tm_octets h;
+        field = field;
+        control = [];
+        fecf = fecf_part format.fecf (tm_octets h ++ field);
+      }
+
+  header_fits : FitsTmHeader h
+  header_fits = record {
+    version = omega arith;
+    spacecraft = let s = fit.spacecraft_fits in omega arith;
+    vc = let v = fit.vc_fits in omega arith;
+    mc = fit.mc_fits;
+    vcc = fit.vcc_fits;
+    segment = omega arith;
+    first = let m = fit.most in pointer_lt first (room_of format) (omega arith) fit.points_inside;
+  }
+
+  header_back : tm_header (tm_octets h) ≡ h
+  header_back = reads_back tm_layout h (packed (tm_fields h)) header_fits (packed_lt (tm_fields h) (tm_layout.fit h header_fits)) refl
+
+  pub length-packet_frame : length frame ≡ format.len
+  length-packet_frame =
+      let least = fit.least in
+      with_fecf_whole format (tm_octets h) field (omega arith) (length-octets_of 6 (tm_fields h)) fit.fills
+
+  made_of_parts : parts_of format frame ≡ made_of
+  made_of_parts = only_parts format frame made_of (record {
+    whole = length-packet_frame;
+    in_order = ap (λ l. l ++ fecf_part format.fecf (tm_octets h ++ field)) (sym (append-nil (tm_octets h ++ field)));
+    header = length-octets_of 6 (tm_fields h);
+    control = ap (λ (g : TmFields). if g.control then 4 else 0) (sym header_back);
+    fecf = length-fecf_part format.fecf (tm_octets h ++ field);
+  })
+
+  pub packet_frame_back : tm_frame format spacecraft frame ≡ Ok (packet_view vc mc vcc first field)
+  packet_frame_back =
+      let header : header_of frame ≡ h = ap (λ (p : TmParts). tm_header p.header) made_of_parts ∙ header_back in
+      let good = fecf_fits format.fecf (tm_octets h ++ field) frame (parts_of format frame).fecf refl (ap (λ (p : TmParts). p.fecf) made_of_parts) in
+      let kept : skip_reason format spacecraft frame ≡ None =
+      ap (λ bad. if bad then Some Fecf else reason_by spacecraft (header_of frame)) good ∙ ap (reason_by spacecraft) header
+      ∙ ap (λ same. if not same then Some Spacecraft else None) (eq-eqb spacecraft spacecraft refl) in
+      let most = fit.most in
+      let class = class_is spacecraft vc mc vcc first field (room_of format) (omega arith) fit.fills fit.points_inside in
+      let shown : view_of format frame ≡ packet_view vc mc vcc first field =
+      ap (λ g. shown_by g (parts_of format frame)) header ∙ ap (shown_by h) made_of_parts
+      ∙ ap (λ (c : DataField). record { vc = vc; mc_count = mc; vc_count = vcc; control = None; field = c }) class in
+      ap (λ reason. read_as reason (view_of format frame)) kept ∙ ap Ok shown

@@ -1,0 +1,95 @@
+-- Frames of known octets, read and written, so that a wrong definition doesn't check.
+use Rattle.std.proofs.Common.{◌≡◌, ℕ, true, false, arith, List, [], ◌∷◌, ◌++◌, replicate, Option, Some, None, Result, Ok, Err, refl}
+use Rattle.sl_fields.specs.Fecf.{fecf_of, register_of}
+use Rattle.sl_tmframe.specs.declared.tm_frame.TmSkip.TheVariants.{Fecf, Version, Spacecraft}
+use Rattle.sl_tmframe.specs.TmFrame.{TmFormat, TmView, DataField, Packets, Idle, Opaque, tm_frame}
+use Rattle.sl_tmframe.specs.PacketFrame.{FitFrame, packet_frame, room_of}
+
+abbrev format : ℕ → TmFormat
+format len = record { len = len; fecf = false }
+
+abbrev with_error_control : ℕ → TmFormat
+with_error_control len = record { len = len; fecf = true }
+
+-- a packet of ten octets and the idle packet that fills up its data field, all or all but the last four octets
+abbrev packets : List ℕ
+packets =
+    0x00 ∷ 0x01 ∷ 0xC0 ∷ 0x00 ∷ 0x00 ∷ 0x03 ∷ 0xAA ∷ 0xBB ∷ 0xCC ∷ 0xDD
+    ∷ 0x07 ∷ 0xFF ∷ 0xC0 ∷ 0x00 ∷ 0x00 ∷ 0x09 ∷ 0 ∷ 0 ∷ 0 ∷ 0 ∷ 0 ∷ 0 ∷ []
+
+abbrev field : List ℕ
+field = packets ++ replicate 4 0
+
+abbrev header : ℕ → ℕ → List ℕ
+header a b = 0x00 ∷ 0x10 ∷ 0x00 ∷ 0x00 ∷ a ∷ b ∷ []
+
+abbrev shows : Option (List ℕ) → DataField → TmView
+shows control carried = record { vc = 0; mc_count = 0; vc_count = 0; control = control; field = carried }
+
+-- with an operational control field, and then one with its error control field
+abbrev clcw : List ℕ
+clcw = 0x01 ∷ 0x00 ∷ 0x28 ∷ 0x05 ∷ []
+
+abbrev controlled : List ℕ
+controlled = 0x00 ∷ 0x11 ∷ 0x00 ∷ 0x00 ∷ 0x18 ∷ 0x00 ∷ packets ++ clcw
+
+pub record AreRead : Type 0 where
+  pub packet_start : tm_frame (format 32) 1 (header 0x18 0x00 ++ field) ≡ Ok (shows None (Packets (Some 0) field))
+  pub no_start : tm_frame (format 32) 1 (header 0x1F 0xFF ++ field) ≡ Ok (shows None (Packets None field))
+  pub idle : tm_frame (format 32) 1 (header 0x1F 0xFE ++ field) ≡ Ok (shows None Idle)
+  pub opaque_before_idle : tm_frame (format 32) 1 (header 0x9F 0xFE ++ field) ≡ Ok (shows None Opaque)
+  pub last_offset : tm_frame (format 32) 1 (header 0x18 0x19 ++ field) ≡ Ok (shows None (Packets (Some 25) field))
+  pub past_the_field : tm_frame (format 32) 1 (header 0x18 0x1A ++ field) ≡ Ok (shows None Opaque)
+  pub control : tm_frame (format 32) 1 controlled ≡ Ok (shows (Some clcw) (Packets (Some 0) packets))
+  pub control_before_error_control : tm_frame (with_error_control 34) 1 (controlled ++ 0x79 ∷ 0x7B ∷ []) ≡ Ok (shows (Some clcw) (Packets (Some 0) packets))
+  pub wrong_error_control : tm_frame (with_error_control 34) 1 (controlled ++ 0x79 ∷ 0x7A ∷ []) ≡ Err Fecf
+  pub error_control_first : tm_frame (with_error_control 34) 2 (0x40 ∷ controlled ++ 0x79 ∷ []) ≡ Err Fecf
+  pub version_before_spacecraft : tm_frame (format 32) 2 (0x40 ∷ 0x10 ∷ 0 ∷ 0 ∷ 0x18 ∷ 0 ∷ field) ≡ Err Version
+  pub spacecraft : tm_frame (format 32) 2 (header 0x18 0x00 ++ field) ≡ Err Spacecraft
+
+pub frames_are_read : AreRead
+unfolding fecf_of register_of
+frames_are_read = record {
+  packet_start = refl;
+  no_start = refl;
+  idle = refl;
+  opaque_before_idle = refl;
+  last_offset = refl;
+  past_the_field = refl;
+  control = refl;
+  control_before_error_control = refl;
+  wrong_error_control = refl;
+  error_control_first = refl;
+  version_before_spacecraft = refl;
+  spacecraft = refl;
+}
+
+pub record AreWritten : Type 0 where
+  pub start : packet_frame (format 32) 1 0 0 0 (Some 0) field ≡ header 0x18 0x00 ++ field
+  pub none : packet_frame (format 32) 1 7 77 200 None field ≡ 0x00 ∷ 0x1E ∷ 77 ∷ 200 ∷ 0x1F ∷ 0xFF ∷ field
+  pub error_control : packet_frame (with_error_control 34) 1 0 0 0 (Some 0) field ≡ header 0x18 0x00 ++ field ++ 0x5E ∷ 0x0C ∷ []
+  pub room : room_of (format 32) ≡ 26
+  pub guarded_room : room_of (with_error_control 2048) ≡ 2040
+
+pub frames_are_written : AreWritten
+unfolding fecf_of register_of
+frames_are_written = record {
+  start = refl;
+  none = refl;
+  error_control = refl;
+  room = refl;
+  guarded_room = refl;
+}
+
+-- a frame can be made of these
+pub fits : FitFrame (with_error_control 34) 1 0 0 0 (Some 0) field
+fits = record {
+  least = omega arith;
+  most = omega arith;
+  spacecraft_fits = omega arith;
+  vc_fits = omega arith;
+  mc_fits = omega arith;
+  vcc_fits = omega arith;
+  points_inside = omega arith;
+  fills = refl;
+}

@@ -1,0 +1,78 @@
+-- The TM transfer frame of packets that is written: without an operational control field, a secondary
+-- header or the synchronisation flag.
+use Rattle.std.specs.Prelude.{◌≡◌, ℕ, ◌-◌, ◌<◌, ◌≤◌, false, if◌then◌else◌, List, [], ◌∷◌, ◌++◌, length, Option, None, Some, IfSome, Ok}
+use Rattle.sl_fields.specs.Fecf.{fecf_of}
+use Rattle.sl_fields.specs.Field.{octets_of}
+use Rattle.sl_fields.specs.TmHeader.{TmFields, tm_octets}
+use Rattle.sl_tmframe.specs.TmFrame.{TmFormat, TmView, Packets, fecf_len, tm_frame}
+
+-- the octets of a data field, where there is no operational control field
+abbrev pub room_of : TmFormat → ℕ
+room_of format = format.len - 6 - fecf_len format
+
+-- the first header pointer, 2047 where no packet starts in the data field
+abbrev pub pointer_value : Option ℕ → ℕ
+pointer_value None = 2047
+pointer_value (Some first) = first
+
+abbrev pub packet_frame_header : ℕ → ℕ → ℕ → ℕ → Option ℕ → TmFields
+packet_frame_header spacecraft vc mc vcc first =
+    record {
+      version = 0;
+      spacecraft = spacecraft;
+      vc = vc;
+      control = false;
+      mc = mc;
+      vcc = vcc;
+      secondary = false;
+      sync = false;
+      order = false;
+      segment = 3;
+      first = pointer_value first;
+    }
+
+-- octets, and their error control field where the format has it
+abbrev pub with_fecf : TmFormat → List ℕ → List ℕ
+with_fecf format octets = octets ++ (if format.fecf then octets_of 2 ((16, fecf_of octets) ∷ []) else [])
+
+-- a frame of packets, with its counts, its first header pointer and its data field
+abbrev pub packet_frame : TmFormat → ℕ → ℕ → ℕ → ℕ → Option ℕ → List ℕ → List ℕ
+packet_frame format spacecraft vc mc vcc first field =
+    with_fecf format (tm_octets (packet_frame_header spacecraft vc mc vcc first) ++ field)
+
+-- ---- laws
+
+-- a spacecraft, a virtual channel, frame counts, a first header pointer and a data field that a frame of the
+-- format can have
+pub record FitFrame (format : TmFormat) (spacecraft vc mc vcc : ℕ) (first : Option ℕ) (field : List ℕ) : Type 0 where
+  pub least : 32 ≤ format.len
+  pub most : format.len ≤ 2048
+  pub spacecraft_fits : spacecraft ≤ 1023
+  pub vc_fits : vc ≤ 7
+  pub mc_fits : mc < 256
+  pub vcc_fits : vcc < 256
+  pub points_inside : IfSome first (λ offset. offset < room_of format)
+  pub fills : length field ≡ room_of format
+
+-- what the frame shows to whoever reads it
+abbrev pub packet_view : ℕ → ℕ → ℕ → Option ℕ → List ℕ → TmView
+packet_view vc mc vcc first field =
+    record {
+      vc = vc;
+      mc_count = mc;
+      vc_count = vcc;
+      control = None;
+      field = Packets first field;
+    }
+
+-- the frame has the octets of its format,
+abbrev pub PacketFramesAreWhole : Type 0
+PacketFramesAreWhole =
+    (format : TmFormat) (spacecraft vc mc vcc : ℕ) (first : Option ℕ) (field : List ℕ) → FitFrame format spacecraft vc mc vcc first field
+    → length (packet_frame format spacecraft vc mc vcc first field) ≡ format.len
+
+-- and is read back
+abbrev pub PacketFramesAreReadBack : Type 0
+PacketFramesAreReadBack =
+    (format : TmFormat) (spacecraft vc mc vcc : ℕ) (first : Option ℕ) (field : List ℕ) → FitFrame format spacecraft vc mc vcc first field
+    → tm_frame format spacecraft (packet_frame format spacecraft vc mc vcc first field) ≡ Ok (packet_view vc mc vcc first field)

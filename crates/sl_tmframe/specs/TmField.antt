@@ -1,0 +1,10 @@
+-- What a `TmField` stands for, wherever its octets lie in memory.
+use Rattle.sl_tmframe.specs.TmFrame.{DataField}
+use Rattle.sl_tmframe.specs.TmFrame as spec
+use Rattle.sl_tmframe.specs.declared.tm_frame.TmField.{TmField}
+use Rattle.sl_tmframe.specs.declared.tm_frame.TmField.TheVariants.{Packets, Idle, Opaque}
+
+abbrev pub data_field : TmField → DataField
+data_field (Packets first octets) = spec.Packets first octets.now
+data_field Idle = spec.Idle
+data_field Opaque = spec.Opaque

@@ -1,0 +1,16 @@
+//! What holds of the definitions alone. Each function does nothing; its clauses are the laws.
+ghost use Rattle.sl_tmframe.specs.PacketFrame.{PacketFramesAreWhole, PacketFramesAreReadBack};
+ghost use Rattle.sl_tmframe.specs.TmFrame.{EachHasParts, HasPartsOnce};
+
+/// Every list of octets of the managed length has the parts of a TM frame, in one way.
+pub fn tm_frames_have_parts()
+    ensures each { EachHasParts }
+    ensures once { HasPartsOnce }
+{}
+
+/// A frame of packets has as many octets as its format says, and is read back: it isn't skipped, and its
+/// counts, its first header pointer and its data field are those that it was made of.
+pub fn packet_frames_are_read_back()
+    ensures whole { PacketFramesAreWhole }
+    ensures read_back { PacketFramesAreReadBack }
+{}

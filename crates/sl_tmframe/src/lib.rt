@@ -1,0 +1,17 @@
+//! TM transfer frames of CCSDS 132.0-B: how one is read, and how a frame of packets is written.
+//!
+//! Octets of the managed length are a frame or are skipped for a reason, whatever they are. A frame that is
+//! read borrows its data field from them. What [`push_tm`] adds is read back as it was given ([`laws`]).
+#![tactic(auto)]
+
+pub mod laws;
+mod packet_frame;
+mod tm_frame;
+mod tm_shape;
+
+pub use packet_frame::push_tm;
+pub use tm_frame::{TmField, TmFrame, TmSkip};
+pub use tm_shape::TmShape;
+
+#[cfg(test)]
+mod tests;

@@ -1,0 +1,73 @@
+//! The TM transfer frame of packets, as it is written.
+ghost use Rattle.std.specs.Prelude.{◌≡◌, ◌<◌, ◌≤◌, ◌++◌, [], ◌∷◌, length, IfSome, OnOk, OnErr};
+ghost use Rattle.sl_fields.specs.Fecf.{fecf_of};
+ghost use Rattle.sl_fields.specs.Field.{octets_of};
+ghost use Rattle.sl_fields.specs.TmHeader.{tm_octets};
+ghost use Rattle.sl_tmframe.specs.PacketFrame.{packet_frame, packet_frame_header, room_of};
+
+use crate::tm_shape::TmShape;
+use byteorder::{BigEndian, ByteOrder};
+use sl_fields::{TmHeader, fecf};
+use std::alloc::AllocError;
+
+/// The first header pointer of a frame in which no packet starts.
+const NONE_STARTS: u16 = 2047;
+
+/// Adds a frame of packets: `octets` is its data field, as many octets as the format has room for, in which
+/// the first packet starts at `first`, below the room, if one does. `spacecraft` is 0 to 1023 and `vc` 0 to
+/// 7; `mc` and `vcc` are the master and the virtual channel frame count.
+///
+/// The frame has version 0, no operational control field, packet order flag 0 and segment length identifier
+/// 3, and its error control field where the format has one. It leaves `out` as it was where memory is refused.
+pub fn push_tm(
+    out: &mut Vec<u8>,
+    shape: &TmShape,
+    spacecraft: u16,
+    vc: u8,
+    mc: u8,
+    vcc: u8,
+    first: Option<u16>,
+    octets: &[u8],
+) -> Result<(), AllocError>
+    requires spacecraft { spacecraft ≤ 1023 }
+    requires vc { vc ≤ 7 }
+    requires first { IfSome first (λ first. first < room_of shape.now) }
+    requires field { length octets.now ≡ room_of shape.now }
+    ensures added { OnOk result (out.new.items ≡ out.old.items ++ packet_frame shape.now spacecraft vc mc vcc first octets.now) }
+    ensures unchanged { OnErr result (out.new.items ≡ out.old.items) }
+{
+    let start = out.len();
+    out.reserve(usize::from(shape.len))?;
+    out.extend_from_slice(&frame_header(spacecraft, vc, mc, vcc, first))?;
+    out.extend_from_slice(octets)?;
+    if !shape.fecf {
+        return Ok(());
+    }
+    let field = fecf_field(&out.as_slice()[start..]);
+    out.extend_from_slice(&field)
+}
+
+// The header of a frame of packets.
+fn frame_header(spacecraft: u16, vc: u8, mc: u8, vcc: u8, first: Option<u16>) -> [u8; 6]
+    requires spacecraft { spacecraft ≤ 1023 }
+    requires vc { vc ≤ 7 }
+    requires first { IfSome first (λ first. first < 2046) }
+    ensures { result ≡ tm_octets (packet_frame_header spacecraft vc mc vcc first) }
+{
+    let pointer = first.unwrap_or(NONE_STARTS);
+    match TmHeader::new(
+        0, spacecraft, vc, false, mc, vcc, false, false, false, 3, pointer,
+    ) {
+        Some(header) => header.write(),
+        None => unreachable!(),
+    }
+}
+
+// The error control field of the octets of a frame before it.
+fn fecf_field(octets: &[u8]) -> [u8; 2]
+    ensures { result ≡ octets_of 2 ((16, fecf_of octets.now) ∷ []) }
+{
+    let mut field = [0; 2];
+    BigEndian::write_u16(&mut field, fecf(octets));
+    field
+}

@@ -1,0 +1,202 @@
+//! The TM transfer frame, as it is read.
+ghost use Rattle.std.specs.Prelude.{◌≡◌, ◌+◌, ◌-◌, ◌^◌, ◌<◌, ◌≤◌, length, take, drop, false, if◌then◌else◌, Some, None};
+ghost use Rattle.sl_tmframe.specs.TmFrame.{header_of, class_of, skip_reason, IsInField};
+ghost use Rattle.sl_tmframe.specs.TmField.{data_field};
+
+use crate::tm_shape::TmShape;
+use sl_fields::{TmHeader, fecf_good};
+use std::marker::Model;
+
+/// Why a TM transfer frame is skipped: the first of these that holds.
+#[derive(Clone, Copy, Debug, PartialEq, Eq)]
+pub enum TmSkip {
+    /// Its frame error control field is wrong, where frames have one.
+    Fecf,
+    /// Its version isn't 0.
+    Version,
+    /// It is another spacecraft's.
+    Spacecraft,
+}
+
+/// What a TM transfer frame carries.
+#[derive(Clone, Copy, Debug)]
+pub enum TmField<'a> {
+    /// Octets of packets.
+    Packets {
+        /// The first packet start, as an offset in the data field, if one lies in it.
+        first: Option<u16>,
+        /// The data field.
+        octets: &'a [u8],
+    },
+    /// Only idle data.
+    Idle,
+    /// A data field that isn't read.
+    Opaque,
+}
+
+/// A TM transfer frame of CCSDS 132.0-B: its counts, its operational control field and its data field.
+#[derive(Debug, Drop)]
+pub struct TmFrame<'a> {
+    header: TmHeader,
+    control: Option<[u8; 4]>,
+    field: TmField<'a>,
+}
+
+impl<'a> Model for TmFrame<'a> {
+    ghost use Rattle.sl_tmframe.specs.TmFrame.{TmView};
+
+    ghost Value = { TmView };
+
+    ghost use Rattle.sl_tmframe.specs.TmFrameModel.{inside_view, IsTmFrame};
+
+    ghost view = { inside_view };
+
+    ghost invariant = { IsTmFrame };
+}
+
+impl<'a> TmFrame<'a> {
+    ghost use Rattle.sl_tmframe.specs.TmFrame.{tm_frame};
+
+    /// Reads a frame of this format and spacecraft, from as many octets as the format has, or tells why it
+    /// is skipped. The data field is borrowed from the octets.
+    pub fn read(shape: &TmShape, spacecraft: u16, octets: &'a [u8]) -> Result<TmFrame<'a>, TmSkip>
+        requires whole { length octets.now ≡ shape.now.len }
+        ensures { result ≡ tm_frame shape.now spacecraft octets.now }
+    {
+        let has_fecf = shape.fecf;
+        let (header, behind) = split_header(octets);
+        if let Some(reason) = skip_of(shape, &header, spacecraft, octets) {
+            return Err(reason);
+        }
+        let (field, control) = split_control(&header, before_fecf(has_fecf, behind));
+        Ok(TmFrame {
+            header,
+            control,
+            field: data_field_of(&header, field),
+        })
+    }
+
+    /// Virtual channel identifier, 0 to 7.
+    pub fn vc(&self) -> u8
+        ensures value { result ≡ self.now.vc }
+        ensures fits { result ≤ 7 }
+    {
+        self.header.vc()
+    }
+
+    /// Master channel frame count.
+    pub fn mc_count(&self) -> u8
+        ensures { result ≡ self.now.mc_count }
+    {
+        self.header.mc()
+    }
+
+    /// Virtual channel frame count.
+    pub fn vc_count(&self) -> u8
+        ensures { result ≡ self.now.vc_count }
+    {
+        self.header.vcc()
+    }
+
+    /// The operational control field, if the frame has one.
+    pub fn control(&self) -> Option<[u8; 4]>
+        ensures { result ≡ self.now.control }
+    {
+        self.control
+    }
+
+    /// What the frame carries. A packet start lies in the data field, which has at most 2042 octets.
+    pub fn field(&self) -> TmField<'a>
+        ensures value { data_field result ≡ self.now.field }
+        ensures inside { IsInField (data_field result) }
+    {
+        self.field
+    }
+}
+
+// The primary header and the octets after it.
+#[inline(always)]
+fn split_header(octets: &[u8]) -> (TmHeader, &[u8])
+    requires { 6 ≤ length octets.now }
+    ensures header { result.0 ≡ header_of octets.now }
+    ensures behind { result.1.now ≡ drop 6 octets.now }
+{
+    match octets.split_first_chunk::<6>() {
+        Some((header, behind)) => (TmHeader::read(header), behind),
+        None => unreachable!(),
+    }
+}
+
+// The first reason to skip the octets of a frame under this header.
+#[inline(always)]
+fn skip_of(shape: &TmShape, header: &TmHeader, spacecraft: u16, octets: &[u8]) -> Option<TmSkip>
+    requires frame { length octets.now ≡ shape.now.len }
+    requires header { header.now ≡ header_of octets.now }
+    ensures { result ≡ skip_reason shape.now spacecraft octets.now }
+{
+    if shape.fecf && !fecf_good(octets) {
+        return Some(TmSkip::Fecf);
+    }
+    if header.version() != 0 {
+        return Some(TmSkip::Version);
+    }
+    if header.spacecraft() != spacecraft {
+        return Some(TmSkip::Spacecraft);
+    }
+    None
+}
+
+// The octets after the header without the error control field.
+#[inline(always)]
+fn before_fecf<'a>(has_fecf: bool, behind: &'a [u8]) -> &'a [u8]
+    requires { 2 ≤ length behind.now }
+    ensures { result.now ≡ take (length behind.now - (if has_fecf then 2 else 0)) behind.now }
+{
+    if !has_fecf {
+        return behind;
+    }
+    match behind.split_last_chunk::<2>() {
+        Some((covered, _)) => covered,
+        None => unreachable!(),
+    }
+}
+
+// The data field and the operational control field of the octets after the header.
+#[inline(always)]
+fn split_control<'a>(header: &TmHeader, behind: &'a [u8]) -> (&'a [u8], Option<[u8; 4]>)
+    requires { 4 ≤ length behind.now }
+    ensures field { result.0.now ≡ take (length behind.now - (if header.now.control then 4 else 0)) behind.now }
+    ensures control { result.1 ≡ (if header.now.control then Some (drop (length behind.now - 4) behind.now) else None) }
+{
+    if !header.control() {
+        return (behind, None);
+    }
+    match behind.split_last_chunk::<4>() {
+        Some((field, control)) => (field, Some(*control)),
+        None => unreachable!(),
+    }
+}
+
+// What a data field under this header carries.
+#[inline(always)]
+fn data_field_of<'a>(header: &TmHeader, field: &'a [u8]) -> TmField<'a>
+    requires { length field.now ≤ 2042 }
+    ensures class { data_field result ≡ class_of header.now field.now }
+    ensures inside { IsInField (data_field result) }
+{
+    if header.secondary() || header.sync() {
+        return TmField::Opaque;
+    }
+    match header.first() {
+        2046 => TmField::Idle,
+        2047 => TmField::Packets {
+            first: None,
+            octets: field,
+        },
+        first if usize::from(first) < field.len() => TmField::Packets {
+            first: Some(first),
+            octets: field,
+        },
+        _ => TmField::Opaque,
+    }
+}

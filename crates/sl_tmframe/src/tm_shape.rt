@@ -1,0 +1,72 @@
+//! The managed format of TM transfer frames.
+ghost use Rattle.std.specs.Prelude.{◌≡◌, ◌≤◌};
+ghost use Rattle.sl_tmframe.specs.PacketFrame.{room_of};
+
+use sl_fields::ShapeFault;
+use std::marker::Model;
+
+/// The managed format of a physical channel's TM transfer frames: their length, and whether each has a
+/// frame error control field.
+#[derive(Clone, Copy, Debug, PartialEq, Eq)]
+pub struct TmShape {
+    pub(crate) len: u16,
+    pub(crate) fecf: bool,
+}
+
+impl Model for TmShape {
+    ghost use Rattle.sl_tmframe.specs.TmFrame.{TmFormat};
+
+    ghost Value = { TmFormat };
+
+    ghost use Rattle.sl_tmframe.specs.TmShapeModel.{format_of, inside_of, IsTmShape};
+
+    ghost view = { format_of };
+
+    ghost invariant = { IsTmShape };
+
+    ghost inverse = { inside_of };
+}
+
+impl TmShape {
+    ghost use Rattle.sl_tmframe.specs.TmFrame.{TmFormat};
+    ghost use Rattle.sl_tmframe.specs.TmShape.{tm_shape};
+
+    /// The format with this length, 32 to 2048 octets, else `TmLength`.
+    pub fn new(len: u16, fecf: bool) -> Result<TmShape, ShapeFault>
+        ensures { let format : TmFormat = record { len = len; fecf = fecf } in result ≡ tm_shape format }
+    {
+        if len < 32 || len > 2048 {
+            return Err(ShapeFault::TmLength);
+        }
+        Ok(TmShape { len, fecf })
+    }
+
+    /// Octets of a frame, 32 to 2048.
+    pub fn len(&self) -> u16
+        ensures value { result ≡ self.now.len }
+        ensures least { 32 ≤ result }
+        ensures most { result ≤ 2048 }
+    {
+        self.len
+    }
+
+    /// Whether a frame ends with a frame error control field.
+    pub fn fecf(&self) -> bool
+        ensures { result ≡ self.now.fecf }
+    {
+        self.fecf
+    }
+
+    /// Octets of the data field of a frame without an operational control field, 24 to 2042.
+    pub fn room(&self) -> u16
+        ensures value { result ≡ room_of self.now }
+        ensures least { 24 ≤ result }
+        ensures most { result ≤ 2042 }
+    {
+        if self.fecf {
+            self.len - 8
+        } else {
+            self.len - 6
+        }
+    }
+}

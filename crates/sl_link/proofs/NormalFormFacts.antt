@@ -4,7 +4,7 @@ use Rattle.std.proofs.Common.{◌≡◌, ℕ, true, false, List, [], ◌∷◌, 
 use Rattle.sl_fields.specs.Fecf.{fecf_of, register_of}
 use Rattle.sl_packet.specs.IdlePacket.{idle_packet}
 use Rattle.sl_link.specs.Managed.{Parameters}
-use Rattle.sl_link.specs.NormaliseTm.{tm_normal_form, whole_normal_form, whole_counts}
+use Rattle.sl_link.specs.NormaliseTm.{tm_normal_form, tm_counts}
 use Rattle.sl_link.specs.Totals.{Counts}
 
 abbrev link : Parameters
@@ -119,9 +119,6 @@ normal_forms =
       channels = refl;
     }
 
-abbrev HasWholeForm : List ℕ → List ℕ → Type 0
-HasWholeForm recording normal = whole_normal_form link recording ≡ normal
-
 -- with an operational control field, and with error control, where a frame with a wrong field is skipped
 abbrev controlled : List ℕ
 controlled = (0x00 ∷ 0x11 ∷ 0x00 ∷ 0x00 ∷ 0x18 ∷ 0x00 ∷ []) ++ ten ++ (0x07 ∷ 0xFF ∷ 0xC0 ∷ 0x00 ∷ 0x00 ∷ 0x05 ∷ []) ++ replicate 6 0 ++ (0x01 ∷ 0x00 ∷ 0x28 ∷ 0x05 ∷ [])
@@ -134,7 +131,6 @@ damaged = framed 0 0 0x18 0x00 ((0x00 ∷ 0x01 ∷ 0xC0 ∷ 0x00 ∷ 0x00 ∷ 0x
 
 pub record HaveFieldsLeftOut : Type 0 where
   pub control : HasNormalForm controlled one_packet
-  pub other_report : HasWholeForm controlled one_packet
   pub error_control : tm_normal_form (record link { tm_length = 34; tm_fecf = true }) (damaged ++ guarded) ≡ guarded
 
 pub fields_left_out : HaveFieldsLeftOut
@@ -142,7 +138,6 @@ unfolding idle_packet fecf_of register_of
 fields_left_out =
     record {
       control = refl;
-      other_report = refl;
       error_control = refl;
     }
 
@@ -158,43 +153,18 @@ counts octets frames rest packets idle =
       anomalies = 0;
     }
 
--- the same of the packets that lie whole in one frame: that of ten octets in two frames doesn't
-pub record HaveWholeForms : Type 0 where
-  pub plain : HasWholeForm one_packet one_packet
-  pub other_counts : HasWholeForm (framed 0x4D 0xC8 0x18 0x00 (ten ++ (0x07 ∷ 0xFF ∷ 0x00 ∷ 0x07 ∷ 0x00 ∷ 0x09 ∷ []) ++ replicate 10 0x55)) one_packet
-  pub wide : HasWholeForm wide_filling wide_filling
-  pub wide_first : HasWholeForm (framed 0 0 0x18 0x00 (twenty_three ++ (0x07 ∷ 0xFF ∷ 0xC0 ∷ []))) wide_filling
-  pub full : HasWholeForm full_field full_field
-  pub gap : HasWholeForm (begun ++ framed 2 2 0x18 0x07 ended) two_packets
-  pub wrong_pointer : HasWholeForm (begun ++ framed 1 1 0x18 0x11 ended) wide_filling
-  pub repeated : HasWholeForm (begun ++ begun) twice
-  pub remainder : HasWholeForm three_copies three_copies_normal
-  pub opaque_frame : HasWholeForm (begun ++ framed 1 1 0x98 0x00 (replicate 26 0) ++ framed 2 2 0x18 0x07 ended) two_packets
-  pub foreign : HasWholeForm (framed 0 0 0x18 0x00 (ten ++ replicate 16 0x20)) one_packet
-  pub channels : HasWholeForm two_channels two_channels_normal
-  pub idle_frame : HasWholeForm in_three_frames two_packets
-  pub idle_frame_counts : whole_counts link in_three_frames ≡ counts 96 3 0 2 1
-  pub remainder_counts : whole_counts link three_copies ≡ counts 100 3 4 3 3
-  pub error_control : whole_normal_form (record link { tm_length = 34; tm_fecf = true }) (damaged ++ guarded) ≡ guarded
+-- a packet that ends in a later frame counts as one that doesn't
+pub record HaveCounts : Type 0 where
+  pub idle_frame : tm_counts link in_three_frames ≡ counts 96 3 0 3 1
+  pub gap : tm_counts link (begun ++ framed 2 2 0x18 0x07 ended) ≡ counts 64 2 0 2 1
+  pub wrong_pointer : tm_counts link (begun ++ framed 1 1 0x18 0x11 ended) ≡ counts 64 2 0 1 1
+  pub remainder : tm_counts link three_copies ≡ counts 100 3 4 3 3
 
-pub whole_forms : HaveWholeForms
-unfolding idle_packet fecf_of register_of
-whole_forms =
+pub all_counts : HaveCounts
+all_counts =
     record {
-      plain = refl;
-      other_counts = refl;
-      wide = refl;
-      wide_first = refl;
-      full = refl;
+      idle_frame = refl;
       gap = refl;
       wrong_pointer = refl;
-      repeated = refl;
       remainder = refl;
-      opaque_frame = refl;
-      foreign = refl;
-      channels = refl;
-      idle_frame = refl;
-      idle_frame_counts = refl;
-      remainder_counts = refl;
-      error_control = refl;
     }

@@ -33,7 +33,7 @@ frame_lines-append format spacecraft offset (x ∷ xs) ys =
     ap (λ l. line ++ l) (frame_lines-append format spacecraft (offset + length x) xs ys ∙ ap (λ n. frame_lines format spacecraft (offset + length x) xs ++ frame_lines format spacecraft n ys) e)
     ∙ sym (append_assoc line (frame_lines format spacecraft (offset + length x) xs) (frame_lines format spacecraft (offset + length (x ++ concat xs)) ys))
 
-skipped_of-append : (format : TmFormat) (spacecraft : ℕ) (xs ys : List (List ℕ)) → skipped_of format spacecraft (xs ++ ys) ≡ skipped_of format spacecraft xs + skipped_of format spacecraft ys
+pub skipped_of-append : (format : TmFormat) (spacecraft : ℕ) (xs ys : List (List ℕ)) → skipped_of format spacecraft (xs ++ ys) ≡ skipped_of format spacecraft xs + skipped_of format spacecraft ys
 skipped_of-append format spacecraft [] ys = omega arith
 skipped_of-append format spacecraft (x ∷ xs) ys =
     let here : ℕ = if is_err (tm_frame format spacecraft x) then 1 else 0 in

@@ -1,32 +1,39 @@
--- What happens to the lists of delivered packets while frames are read, one after another.
-use Rattle.std.specs.Prelude.{ℕ, Bool, not, length, List, [], ◌∷◌, ◌++◌, Result, Ok, Err}
-use Rattle.std.specs.List.{filter, slice_index_or, slice_set}
-use Rattle.sl_tmframe.specs.declared.tm_frame.TmSkip.{TmSkip}
-use Rattle.sl_packet.specs.Packet.{is_idle_packet}
+-- What a frame adds to what was delivered from the frames before it.
+use Rattle.std.specs.Prelude.{ℕ, List, [], ◌∷◌, ◌++◌, Result, Ok, Err}
+use Rattle.std.specs.List.{slice_index_or, slice_set}
 use Rattle.sl_packet.specs.Packets.{without_idle}
-use Rattle.sl_tmframe.specs.TmFrame.{TmFormat, TmView, tm_frame}
-use Rattle.sl_link.specs.PacketStart.{whole_packets}
+use Rattle.sl_tmframe.specs.declared.tm_frame.TmSkip.{TmSkip}
+use Rattle.sl_tmframe.specs.TmFrame.{TmView, tm_frame}
+use Rattle.sl_tmflow.specs.Extraction.{ExtractorState, HasProcessed, ended_by}
+use Rattle.sl_link.specs.Managed.{Parameters, tm_format}
+
+-- some frames were processed, and no fault came
+abbrev pub IsWorking : ExtractorState → Type 0
+IsWorking state = (views : List TmView) × HasProcessed state views
+
+-- it holds whichever frames were processed
+abbrev pub ForProcessed : ExtractorState → (List TmView → Type 0) → Type 0
+ForProcessed state holds = (views : List TmView) → HasProcessed state views → holds views
+
+-- a frame of a recording, as it is read
+abbrev pub as_read : Parameters → List ℕ → Result TmView TmSkip
+as_read p frame = tm_frame (tm_format p) p.spacecraft frame
 
 -- the lists with packets added to that of a channel
 abbrev pub with_packets : List (List (List ℕ)) → ℕ → List (List ℕ) → List (List (List ℕ))
 with_packets lists channel packets = slice_set lists channel (slice_index_or lists channel [] ++ packets)
 
--- the lists after a frame, as it is read
-abbrev pub after_view : Result TmView TmSkip → List (List (List ℕ)) → List (List (List ℕ))
-after_view (Ok view) lists = with_packets lists view.vc (without_idle (whole_packets view.field))
-after_view (Err reason) lists = lists
+-- the frames, and then the next one, as it is read
+abbrev pub with_frame : List TmView → Result TmView TmSkip → List TmView
+with_frame views (Ok view) = views ++ view ∷ []
+with_frame views (Err reason) = views
 
--- the lists after frames
-abbrev pub after_frames : TmFormat → ℕ → List (List ℕ) → List (List (List ℕ)) → List (List (List ℕ))
-after_frames format spacecraft [] lists = lists
-after_frames format spacecraft (frame ∷ frames) lists =
-    after_frames format spacecraft frames (after_view (tm_frame format spacecraft frame) lists)
+-- the packets that end in the next frame, idle ones included
+abbrev pub ended_in : List TmView → Result TmView TmSkip → List (List ℕ)
+ended_in views (Ok view) = ended_by views view
+ended_in views (Err reason) = []
 
--- a packet that isn't idle
-abbrev pub is_deliverable : List ℕ → Bool
-is_deliverable packet = not (is_idle_packet packet)
-
--- the whole packets of a frame, as it is read, that pass a test
-abbrev pub count_in : (List ℕ → Bool) → Result TmView TmSkip → ℕ
-count_in test (Ok view) = length (filter test (whole_packets view.field))
-count_in test (Err reason) = 0
+-- the lists after the next frame
+abbrev pub lists_after : List TmView → Result TmView TmSkip → List (List (List ℕ)) → List (List (List ℕ))
+lists_after views (Ok view) lists = with_packets lists view.vc (without_idle (ended_by views view))
+lists_after views (Err reason) lists = lists

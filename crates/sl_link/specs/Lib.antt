@@ -1,17 +1,11 @@
-pub mod Among
-pub mod Channel
 pub mod CommandLine
 pub mod Counted
 pub mod Delimited
 pub mod Deliver
-pub mod Delivery
 pub mod Engine
-pub mod FieldStart
 pub mod Managed
 pub mod ManagedModel
-pub mod NormalForm
 pub mod NormaliseTm
-pub mod PacketStart
 pub mod Run
 pub mod ShowTm
 pub mod Status
@@ -27,4 +21,8 @@ pub use Rattle.sl_fields.specs.TmHeader
 pub use Rattle.sl_tmframe.specs.PacketFrame
 pub use Rattle.sl_tmframe.specs.TmField
 pub use Rattle.sl_tmframe.specs.TmFrame
+pub use Rattle.sl_tmflow.specs.Channel
+pub use Rattle.sl_tmflow.specs.Delivery
+pub use Rattle.sl_tmflow.specs.NormalForm
+pub use Rattle.sl_tmflow.specs.PacketStart
 pub use Rattle.sl_tmframe.specs.TmShape

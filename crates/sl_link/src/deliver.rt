@@ -1,53 +1,53 @@
-//! The packets that lie whole in one frame of a recording.
-ghost use Rattle.std.specs.Prelude.{◌≡◌, ◌+◌, ◌<◌, ◌≤◌, ◌^◌, false, length, take, IfOk, IfErr, OnOk, is_err};
-ghost use Rattle.sl_packet.specs.Delivered.{no_lists};
-ghost use Rattle.sl_packet.specs.Packet.{is_idle_packet};
-ghost use Rattle.sl_packet.specs.Packets.{packets_of};
-ghost use Rattle.sl_link.specs.Deliver.{after_view, count_in, is_deliverable};
-ghost use Rattle.sl_link.specs.Managed.{tm_format};
-ghost use Rattle.sl_link.specs.NormaliseTm.{whole_counts, whole_tm_packets};
-ghost use Rattle.sl_link.specs.PacketStart.{whole_packets};
-ghost use Rattle.sl_tmframe.specs.TmField.{data_field};
-ghost use Rattle.sl_tmframe.specs.TmFrame.{IsInField, tm_frame};
+//! The packets that the frames of a recording deliver.
+ghost use Rattle.std.specs.Prelude.{◌≡◌, ◌+◌, ◌<◌, ◌≤◌, ◌^◌, length, take, IfOk, IfErr, OnOk, is_err};
+ghost use Rattle.sl_packet.specs.Delivered.{no_lists, FitsTm};
+ghost use Rattle.sl_packet.specs.Packets.{only_idle, without_idle};
+ghost use Rattle.sl_link.specs.Deliver.{ForProcessed, IsWorking, as_read, ended_in, lists_after, with_frame};
+ghost use Rattle.sl_link.specs.NormaliseTm.{tm_counts, tm_packets};
+ghost use Rattle.sl_tmflow.specs.Extraction.{HasProcessed};
 
 use crate::link_fault::LinkFault;
 use crate::managed::Managed;
 use crate::tally::Tally;
 use crate::totals::Totals;
-use sl_packet::{Delivered, SinkFault, hand_over};
-use sl_tmframe::{TmField, TmFrame};
+use sl_packet::{Delivered, FlowFault, SinkFault};
+use sl_tmflow::Extractor;
+use sl_tmframe::TmFrame;
+use std::alloc::Global;
 
-/// What a frame held.
+/// What a frame brought.
 #[derive(Clone, Copy)]
 struct FrameReport {
     is_skipped: bool,
-    packets: usize,
-    idle: usize,
+    packets: u32,
+    idle: u32,
 }
 
-/// Delivers the packets of a recording that lie whole in one frame, each on the channel of its virtual
-/// channel.
-pub fn deliver_whole(
+/// Delivers the packets of a recording, each on the channel of its virtual channel.
+pub fn deliver(
+    alloc: Global,
     managed: &Managed,
     recording: &[u8],
     delivered: &mut Delivered,
 ) -> Result<Totals, LinkFault>
     requires none { delivered.old.lists ≡ no_lists }
-    ensures packets { OnOk result (take 8 delivered.new.lists ≡ whole_tm_packets managed.now recording.now) }
-    ensures counts { IfOk result (λ totals. totals ≡ whole_counts managed.now recording.now) }
+    ensures packets { OnOk result (take 8 delivered.new.lists ≡ tm_packets managed.now recording.now) }
+    ensures fits { OnOk result (FitsTm delivered.new) }
+    ensures counts { IfOk result (λ totals. totals ≡ tm_counts managed.now recording.now) }
     ensures fault { IfErr result (λ fault. fault ≡ LinkFault.Memory) }
 {
     let length = usize::from(managed.tm.len());
+    let mut extractor = Extractor::new(alloc);
     let mut tally = Tally::new();
     let mut packets = 0;
     let mut idle = 0;
     let mut left = recording;
     while left.len() >= length {
         let (frame, after) = left.split_at(length);
-        let met = deliver_frame(managed, frame, delivered)?;
+        let met = deliver_frame(managed, frame, &mut extractor, delivered)?;
         tally.add(frame.len() as u64, met.is_skipped);
-        packets += met.packets as u64;
-        idle += met.idle as u64;
+        packets += u64::from(met.packets);
+        idle += u64::from(met.idle);
         left = after;
     }
     Ok(Totals {
@@ -57,18 +57,23 @@ pub fn deliver_whole(
     })
 }
 
-// Delivers the packets that lie whole in a frame, unless it is skipped.
+// Delivers the packets that end in a frame, unless it is skipped.
 fn deliver_frame(
     managed: &Managed,
     frame: &[u8],
+    extractor: &mut Extractor,
     delivered: &mut Delivered,
 ) -> Result<FrameReport, LinkFault>
     requires one_frame { length frame.now ≡ managed.now.tm_length }
     requires channels { 8 ≤ length delivered.old.lists }
-    ensures lists { OnOk result (delivered.new.lists ≡ after_view (tm_frame (tm_format managed.now) managed.now.spacecraft frame.now) delivered.old.lists) }
-    ensures skipped { IfOk result (λ met. met.is_skipped ≡ is_err (tm_frame (tm_format managed.now) managed.now.spacecraft frame.now)) }
-    ensures packets { IfOk result (λ met. met.packets ≡ count_in is_deliverable (tm_frame (tm_format managed.now) managed.now.spacecraft frame.now)) }
-    ensures idle { IfOk result (λ met. met.idle ≡ count_in is_idle_packet (tm_frame (tm_format managed.now) managed.now.spacecraft frame.now)) }
+    requires working { IsWorking extractor.old }
+    // Whichever frames were processed before, now they and this one are,
+    ensures processed { OnOk result (ForProcessed extractor.old (λ views. HasProcessed extractor.new (with_frame views (as_read managed.now frame.now)))) }
+    // and the packets that end in it are delivered and counted.
+    ensures lists { OnOk result (ForProcessed extractor.old (λ views. delivered.new.lists ≡ lists_after views (as_read managed.now frame.now) delivered.old.lists)) }
+    ensures skipped { IfOk result (λ met. met.is_skipped ≡ is_err (as_read managed.now frame.now)) }
+    ensures packets { IfOk result (λ met. ForProcessed extractor.old (λ views. met.packets ≡ length (without_idle (ended_in views (as_read managed.now frame.now))))) }
+    ensures idle { IfOk result (λ met. ForProcessed extractor.old (λ views. met.idle ≡ length (only_idle (ended_in views (as_read managed.now frame.now))))) }
     ensures within { IfOk result (λ met. met.packets + met.idle ≤ length frame.now) }
     ensures fault { IfErr result (λ fault. fault ≡ LinkFault.Memory) }
 {
@@ -82,28 +87,25 @@ fn deliver_frame(
             });
         }
     };
-    let octets = from_pointer(&view.field());
-    match hand_over(delivered, u16::from(view.vc()), octets) {
-        Ok(handed) => Ok(FrameReport {
+    match extractor.frame(&view, delivered) {
+        Ok(step) => Ok(FrameReport {
             is_skipped: false,
-            packets: handed.packets,
-            idle: handed.idle,
+            packets: step.packets(),
+            idle: step.idle(),
         }),
-        Err(SinkFault::Memory) => Err(LinkFault::Memory),
-        Err(_) => unreachable!(),
+        Err(FlowFault::Memory) => Err(LinkFault::Memory),
+        Err(FlowFault::Sink(fault)) => Err(store_fault(fault)),
+        Err(FlowFault::Failed) => unreachable!(),
     }
 }
 
-// The octets of packets from the first header pointer on.
-fn from_pointer<'a>(field: &TmField<'a>) -> &'a [u8]
-    requires { IsInField (data_field field.now) }
-    ensures { packets_of result.now ≡ whole_packets (data_field field.now) }
+// Why the store refused a packet: only for want of memory.
+fn store_fault(fault: SinkFault) -> LinkFault
+    requires { fault ≡ SinkFault.Memory }
+    ensures { result ≡ LinkFault.Memory }
 {
-    match *field {
-        TmField::Packets {
-            first: Some(first),
-            octets,
-        } => &octets[usize::from(first)..],
-        _ => &[],
+    match fault {
+        SinkFault::Memory => LinkFault::Memory,
+        SinkFault::Device | SinkFault::Refused => unreachable!(),
     }
 }

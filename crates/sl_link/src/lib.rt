@@ -11,7 +11,6 @@ mod managed;
 mod normalise;
 mod program;
 mod recording;
-mod reframe;
 mod show;
 mod streams;
 mod tally;

@@ -1,22 +1,22 @@
 //! The normal form of a TM recording.
 ghost use Rattle.std.specs.Prelude.{◌≡◌, ◌≢◌, false, IfOk, IfErr};
-ghost use Rattle.sl_link.specs.NormaliseTm.{whole_normal_form, whole_counts};
+ghost use Rattle.sl_link.specs.NormaliseTm.{tm_normal_form, tm_counts};
 ghost use Rattle.sl_link.specs.Streams.{IsRead, Translates, Stops};
 
 use crate::counted::Counted;
-use crate::deliver::deliver_whole;
+use crate::deliver::deliver;
 use crate::link_fault::LinkFault;
 use crate::managed::Managed;
 use crate::recording::read_all;
-use crate::reframe::reframe;
 use crate::streams::write_text;
 use crate::totals::Totals;
 use sl_packet::Delivered;
+use sl_tmflow::reframe_tm;
 use std::alloc::Global;
 use std::io::{Read, Write};
 
-/// Reads a recording of TM transfer frames to its end, and writes the normal form of the packets that lie
-/// whole in one frame. Nothing is written before all is read.
+/// Reads a recording of TM transfer frames to its end, and writes the normal form of the packets that its
+/// frames deliver. Nothing is written before all is read.
 pub fn normalise_tm<R: Read, W: Write>(
     alloc: Global,
     managed: &Managed,
@@ -24,17 +24,17 @@ pub fn normalise_tm<R: Read, W: Write>(
     writer: &mut Counted<W>,
 ) -> Result<Totals, LinkFault>
     // All is read, and the normal form of it is written and nothing else.
-    ensures normal_form { IfOk result (Translates R.remaining W.contents reader.old reader.new writer.old writer.new (whole_normal_form managed.now) (whole_counts managed.now) managed.now.max_octets) }
+    ensures normal_form { IfOk result (Translates R.remaining W.contents reader.old reader.new writer.old writer.new (tm_normal_form managed.now) (tm_counts managed.now) managed.now.max_octets) }
     // After a fault its cause is there, and a prefix of the normal form of what was read is written.
-    ensures fault { IfErr result (Stops R.remaining W.contents reader.old reader.new writer.old writer.new (whole_normal_form managed.now) managed.now.max_octets 0x10000) }
+    ensures fault { IfErr result (Stops R.remaining W.contents reader.old reader.new writer.old writer.new (tm_normal_form managed.now) managed.now.max_octets 0x10000) }
     // Only where the writer failed is anything written, and all is read then.
     ensures all_read { IfErr result (λ fault. fault ≡ LinkFault.Write → IsRead R.remaining reader.new) }
     ensures nothing { IfErr result (λ fault. fault ≢ LinkFault.Write → writer.new ≡ writer.old) }
 {
     let recording = read_all(alloc, reader, managed.max_octets)?;
     let mut delivered = Delivered::new(alloc);
-    let totals = deliver_whole(managed, recording.as_slice(), &mut delivered)?;
-    let form = match reframe(alloc, &managed.tm, managed.spacecraft, &delivered) {
+    let totals = deliver(alloc, managed, recording.as_slice(), &mut delivered)?;
+    let form = match reframe_tm(alloc, &managed.tm, managed.spacecraft, &delivered) {
         Ok(form) => form,
         Err(_) => return Err(LinkFault::Memory),
     };

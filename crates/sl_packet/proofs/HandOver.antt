@@ -1,7 +1,7 @@
 -- While packets are handed over.
 use Rattle.std.proofs.Common.{◌≡◌, ℕ, ◌+◌, ◌-◌, ◌≤◌, true, false, not, cond, List, [], ◌∷◌, ◌++◌, length, take, drop, Some, None, refl, sym, ◌∙◌, ap, subst, arith, length-append, length-drop, append-nil, append_assoc}
 use Rattle.std.proofs.lemmas.List.Elements.{filter-append}
-use Rattle.std.proofs.lemmas.List.{length-take-le, take_rest}
+use Rattle.std.proofs.lemmas.List.{length-take-le, take-append-drop, take_rest}
 use Rattle.sl_packet.specs.Packet.{IsPacket, is_idle_packet}
 use Rattle.sl_packet.specs.Front.{Front, Foreign, Incomplete, Whole, front, packet_at, first_packet_of}
 use Rattle.sl_packet.specs.Packets.{packets_of, rest_of, without_idle, only_idle}
@@ -17,6 +17,7 @@ pub record IsFirst (octets packet : List ℕ) : Type 0 where
   pub packets : packets_of octets ≡ packet ∷ packets_of (drop (length packet) octets)
   pub rest : rest_of octets ≡ rest_of (drop (length packet) octets)
   pub inside : length packet ≤ length octets
+  pub split : octets ≡ packet ++ drop (length packet) octets
 
 first_at : (f : Front) (octets packet : List ℕ) → f ≡ front octets → packet_at f octets ≡ Some packet → (len : ℕ) × (front octets ≡ Whole len) × (packet ≡ take len octets)
 first_at Foreign octets packet e h = absurd (cc)
@@ -34,6 +35,7 @@ is_first octets packet h =
       packets = packets_of-whole octets len whole ∙ ap (λ xs. xs ∷ packets_of (drop len octets)) (sym same) ∙ ap (λ n. packet ∷ packets_of (drop n octets)) (sym long);
       rest = rest_of-whole octets len whole ∙ ap (λ n. rest_of (drop n octets)) (sym long);
       inside = omega arith;
+      split = sym (take-append-drop len octets) ∙ ap (λ xs. xs ++ drop len octets) (sym same) ∙ ap (λ n. packet ++ drop n octets) (sym long);
     }
 
 none_at_front : (f : Front) (octets : List ℕ) → packet_at f octets ≡ None → (len : ℕ) → f ≡ Whole len → ⊥
@@ -43,6 +45,9 @@ none_at_front (Whole n) octets h len e = cc
 
 pub none_first : (octets : List ℕ) → first_packet_of octets ≡ None → packets_of octets ≡ []
 none_first octets h = packets_of-none octets (none_at_front (front octets) octets h)
+
+pub rest_first : (octets : List ℕ) → first_packet_of octets ≡ None → rest_of octets ≡ octets
+rest_first octets h = rest_of-none octets (none_at_front (front octets) octets h)
 
 -- ---- what is due and what is idle
 

@@ -1,6 +1,7 @@
 pub mod DeliveredLemmas
 pub mod Filling
 pub mod FrontLemmas
+pub mod GivenPackets
 pub mod HandOver
 pub mod IdlePacketLemmas
 pub mod KeptLemmas
@@ -8,3 +9,4 @@ pub mod PacketFacts
 pub mod PacketLemmas
 pub mod PacketsLemmas
 pub mod PaddedLemmas
+pub mod PartialFacts

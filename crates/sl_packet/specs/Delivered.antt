@@ -44,3 +44,7 @@ pub record IsLeast (d : PacketLists) (from channel : ℕ) : Type 0 where
   pub inside : channel < channel_count
   pub some : list_at d channel ≢ []
   pub least : HasNone d from channel
+
+-- no packets but on the virtual channels of telemetry, 0 to 7
+abbrev pub FitsTm : PacketLists → Type 0
+FitsTm d = HasNone d 8 channel_count

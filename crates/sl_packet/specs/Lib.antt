@@ -5,4 +5,6 @@ pub mod IdlePacket
 pub mod KeptLists
 pub mod Packet
 pub mod Packets
+pub mod PacketsModel
+pub mod Partial
 pub mod Sink

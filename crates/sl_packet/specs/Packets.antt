@@ -1,8 +1,10 @@
 -- The packets that lie end to end at the front of octets.
-use Rattle.std.specs.Prelude.{◌≡◌, ℕ, zero, suc, ◌-◌, not, List, [], ◌∷◌, ◌++◌, length, take, drop}
+use Rattle.std.specs.Prelude.{◌≡◌, ℕ, zero, suc, ◌-◌, not, List, [], ◌∷◌, ◌++◌, length, take, drop, Option, option_map, IfSome, IfNone}
+use denote.Ref.{Bor}
+use Rattle.std.specs.Iterator.{YieldsFirstBy}
 use Rattle.std.specs.List.{AllByRecursion, concat, filter}
 use Rattle.sl_packet.specs.Packet.{IsPacket, is_idle_packet}
-use Rattle.sl_packet.specs.Front.{Front, Foreign, Incomplete, Whole, front}
+use Rattle.sl_packet.specs.Front.{Front, Foreign, Incomplete, Whole, front, first_packet_of}
 
 -- the packet of a front, as a list of one or of none
 abbrev pub whole_at : Front → List ℕ → List (List ℕ)
@@ -55,3 +57,19 @@ abbrev pub HasPacketsOnce : Type 0
 HasPacketsOnce =
     (octets : List ℕ) (packets : List (List ℕ)) (rest : List ℕ) → ArePacketsOf octets packets rest
     → (packets_of octets ≡ packets) × (rest_of octets ≡ rest)
+
+-- ---- one after another
+
+-- the packets of what was left are this one and those of what is left now; or there are none, before and after
+abbrev pub GivesFirst : List ℕ → Option (Bor (List ℕ)) → List ℕ → Type 0
+GivesFirst = YieldsFirstBy (λ packet. packet.now) packets_of
+
+-- the packet that the octets begin with is given, and what follows it is left; or none is given, and all are left
+pub record GivesPacket (old : List ℕ) (given : Option (Bor (List ℕ))) (new : List ℕ) : Type 0 where
+  pub packets : GivesFirst old given new
+  pub first : option_map (λ packet. packet.now) given ≡ first_packet_of old
+  pub taken : IfSome given (λ packet. old ≡ packet.now ++ new)
+  pub unchanged : IfNone given (new ≡ old)
+  -- what is left in the end is the same, and where none is given it is what is left now
+  pub same_rest : rest_of new ≡ rest_of old
+  pub all_given : IfNone given (new ≡ rest_of old)

@@ -1,8 +1,8 @@
 //! Delivered packets, kept.
-ghost use Rattle.std.specs.Prelude.{◌≡◌, ◌≤◌, ◌<◌, ◌≢◌, ◌+◌, max, ℕ, [], map, length, IfSome, IfNone, OnOk, OnErr};
+ghost use Rattle.std.specs.Prelude.{◌≡◌, ◌≤◌, ◌<◌, ◌≢◌, ◌+◌, max, ℕ, [], map, length, IfSome, IfNone, IsTrue, ◌↔◌, OnOk, OnErr};
 ghost use Rattle.std.specs.List.{AllByRecursion};
 ghost use Rattle.std.specs.Vec.{vec_items, vec_len};
-ghost use Rattle.sl_packet.specs.Delivered.{AddsPacket, list_at, with_packet, no_lists, HasNone, IsLeast, IsDeliverable, channel_count};
+ghost use Rattle.sl_packet.specs.Delivered.{AddsPacket, list_at, with_packet, no_lists, HasNone, IsLeast, IsDeliverable, FitsTm, channel_count};
 ghost use Rattle.sl_packet.specs.KeptLists.{lists_in, with_empty_lists, IsGrown};
 
 use crate::sink::{PacketSink, SinkFault};
@@ -66,6 +66,13 @@ impl Delivered {
             }
         }
         None
+    }
+
+    /// Whether no channel from 8 to 4095 has packets, so that each is on a virtual channel of telemetry, 0 to 7.
+    pub fn fits_tm(&self) -> bool
+        ensures { IsTrue result ↔ FitsTm self.now }
+    {
+        self.at_or_above(8).is_none()
     }
 }
 

@@ -3,6 +3,7 @@ ghost use Rattle.sl_packet.specs.Front.{WholeIsAPacket, APacketIsWhole, ForeignI
 ghost use Rattle.sl_packet.specs.IdlePacket.{IdlePacketsAreIdle};
 ghost use Rattle.sl_packet.specs.Packet.{PacketsArePrefixFree, OnePacketIsPrefix, HeaderFieldsStandFirst};
 ghost use Rattle.sl_packet.specs.Packets.{EachHasPackets, HasPacketsOnce};
+ghost use Rattle.sl_packet.specs.Partial.{ForeignIsForeign, WholeIsWhole, HeaderHasSixOctets, OctetsMakeAPacket};
 
 /// No packet is a proper prefix of another, so at most one packet is a prefix of given octets.
 pub fn packets_are_prefix_free()
@@ -22,6 +23,15 @@ pub fn fronts_tell_packets()
     ensures only_whole { APacketIsWhole }
     ensures foreign { ForeignIsNoPacket }
     ensures incomplete { IncompleteMayBecomeWhole }
+{}
+
+/// What octets want is what their front is: they are foreign or whole where it is. The octets that are
+/// wanted fill the header up, or make a packet of the octets, whichever they are.
+pub fn needs_tell_packets()
+    ensures foreign { ForeignIsForeign }
+    ensures whole { WholeIsWhole }
+    ensures header { HeaderHasSixOctets }
+    ensures octets { OctetsMakeAPacket }
 {}
 
 /// Octets begin with one longest list of packets.

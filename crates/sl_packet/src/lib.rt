@@ -6,14 +6,20 @@
 #![tactic(auto)]
 
 mod delivered;
+mod flow_fault;
 mod idle;
 pub mod laws;
 mod packet;
+mod packets;
+mod partial;
 mod sink;
 
 pub use delivered::Delivered;
+pub use flow_fault::FlowFault;
 pub use idle::{is_idle, push_idle};
-pub use packet::first_packet;
+pub use packet::{first_packet, need};
+pub use packets::Packets;
+pub use partial::Need;
 pub use sink::{HandedOver, PacketSink, SinkFault, hand_over};
 
 #[cfg(test)]

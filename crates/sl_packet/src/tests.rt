@@ -1,7 +1,10 @@
 //! Packets of known octets: what is expected was worked out by hand from the standard's bits.
 ghost use Rattle.std.specs.Prelude.{◌≡◌, ◌++◌};
 
-use crate::{Delivered, PacketSink, SinkFault, first_packet, hand_over, is_idle, push_idle};
+use crate::{
+    Delivered, FlowFault, Need, PacketSink, Packets, SinkFault, first_packet, hand_over, is_idle,
+    need, push_idle,
+};
 use std::test::Fail;
 
 // Telemetry of APID 1 with four octets of data.
@@ -35,6 +38,58 @@ fn packets_at_the_front_of_known_octets(rt: HostRuntime) {
     ] {
         assert_eq!(rt; first_packet(octets), packet, "at {octets:?}");
     }
+}
+
+#[test]
+fn octets_that_are_wanted_for_a_packet(rt: HostRuntime) {
+    for (octets, wanted) in [
+        (&[][..], Need::Header(6)),
+        (&[0x00][..], Need::Header(5)),
+        (&[0x00, 0x03, 0xC0][..], Need::Header(3)),
+        (&[0x20][..], Need::Foreign),
+        (
+            &[0x20, 0x01, 0xC0, 0x00, 0x00, 0x00, 0xAA][..],
+            Need::Foreign,
+        ),
+        (&PACKET[..6], Need::Octets(4)),
+        (&PACKET[..7], Need::Octets(3)),
+        (&PACKET[..], Need::Whole(10)),
+        (&OCTETS[..], Need::Whole(10)),
+        (
+            &[0x00, 0x01, 0xC0, 0x00, 0xFF, 0xFF][..],
+            Need::Octets(65536),
+        ),
+    ] {
+        assert_eq!(rt; need(octets), wanted, "at {octets:?}");
+    }
+}
+
+#[test]
+fn packets_lie_end_to_end(rt: HostRuntime) -> Result<(), Fail> {
+    let mut given = Vec::new(rt.alloc());
+    for packet in Packets::new(&OCTETS[10..]) {
+        given.push(packet)?;
+    }
+    assert_eq!(rt; given.as_slice(), &[&OCTETS[10..26], &COMMAND[..]][..]);
+    let mut packets = Packets::new(&OCTETS[10..]);
+    assert_eq!(rt; packets.rest(), &OCTETS[10..]);
+    assert_eq!(rt; packets.next(), Some(&OCTETS[10..26]));
+    assert_eq!(rt; packets.rest(), &OCTETS[26..]);
+    assert_eq!(rt; packets.next(), Some(&COMMAND[..]));
+    assert_eq!(rt; packets.next(), None);
+    assert_eq!(rt; packets.rest(), &[0x00, 0x03, 0xC0][..]);
+    Ok(())
+}
+
+#[test]
+fn no_packets_of_another_version(rt: HostRuntime) {
+    let octets = [0x20, 0x01, 0xC0, 0x00, 0x00, 0x00, 0xAA];
+    for packet in Packets::new(&octets) {
+        assert!(rt; false, "a packet of {packet:?}");
+    }
+    let mut packets = Packets::new(&octets);
+    assert_eq!(rt; packets.next(), None);
+    assert_eq!(rt; packets.rest(), &octets[..]);
 }
 
 #[test]
@@ -87,6 +142,17 @@ fn delivered_packets_are_kept_by_channel(rt: HostRuntime) -> Result<(), Fail> {
         (4096, None),
     ] {
         assert_eq!(rt; delivered.at_or_above(channel), least, "at {channel}");
+    }
+    Ok(())
+}
+
+#[test]
+fn only_channels_0_to_7_fit_telemetry(rt: HostRuntime) -> Result<(), Fail> {
+    for (channel, fits) in [(0, true), (7, true), (8, false), (4095, false)] {
+        let mut delivered = Delivered::new(rt.alloc());
+        assert!(rt; delivered.fits_tm());
+        delivered.packet(channel, &PACKET)?;
+        assert_eq!(rt; delivered.fits_tm(), fits, "at {channel}");
     }
     Ok(())
 }
@@ -146,6 +212,13 @@ fn faults_have_texts(rt: HostRuntime) -> Result<(), Fail> {
         (SinkFault::Memory, "memory"),
         (SinkFault::Device, "device"),
         (SinkFault::Refused, "refused"),
+    ] {
+        assert_eq!(rt; format!(in rt.alloc(); "{fault}")?.as_str(), text);
+    }
+    for (fault, text) in [
+        (FlowFault::Memory, "memory"),
+        (FlowFault::Sink(SinkFault::Refused), "sink: refused"),
+        (FlowFault::Failed, "failed"),
     ] {
         assert_eq!(rt; format!(in rt.alloc(); "{fault}")?.as_str(), text);
     }

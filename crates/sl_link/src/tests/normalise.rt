@@ -16,6 +16,9 @@ const BEGUN: &str = "0003c0";
 
 const ENDED: &str = "000003010203040001c0000003aabbccdd07ffc0000002000000";
 
+// The packets of twenty-three and of ten octets, and between them one of ten octets in two frames.
+const THROUGH: [&str; 5] = [FIRST, LONG, BEGUN, "001001011807", ENDED];
+
 const ZEROS: &str = "0000000000000000000000000000000000000000000000000000";
 
 const FIVES: &str = "5555555555555555555555555555555555555555555555555555";
@@ -55,7 +58,7 @@ pub(super) fn octets(alloc: Global, parts: &[&str]) -> Result<Vec<u8>, Fail> {
 #[test]
 fn normal_forms_of_recordings(rt: HostRuntime) -> Result<(), Fail> {
     let one: &[&str] = &[FIRST, TEN_FILLED];
-    let cases: [(&[&str], &[&str]); 14] = [
+    let cases: [(&[&str], &[&str]); 15] = [
         (&[], &[]),
         (one, one),
         // Other counts, and an idle packet with other sequence flags and data.
@@ -78,7 +81,9 @@ fn normal_forms_of_recordings(rt: HostRuntime) -> Result<(), Fail> {
                 "2222222222222222222222222222222222222222",
             ],
         ),
-        // A gap, a wrong pointer, an idle frame and an opaque one within a packet.
+        // A packet that runs through two frames, and a gap, a wrong pointer, an idle frame and an opaque one
+        // within it.
+        (&THROUGH, &THROUGH),
         (&[FIRST, LONG, BEGUN, "001002021807", ENDED], &BOTH),
         (&[FIRST, LONG, BEGUN, "001001011811", ENDED], &ALONE),
         (
@@ -91,7 +96,7 @@ fn normal_forms_of_recordings(rt: HostRuntime) -> Result<(), Fail> {
                 "001002021807",
                 ENDED,
             ],
-            &BOTH,
+            &THROUGH,
         ),
         (
             &[
@@ -209,9 +214,9 @@ fn packets_are_counted(rt: HostRuntime) -> Result<(), Fail> {
         totals.idle(),
         totals.anomalies(),
     ];
-    assert_eq!(rt; counted, [100, 3, 1, 4, 2, 1, 0]);
+    assert_eq!(rt; counted, [100, 3, 1, 4, 3, 1, 0]);
     assert_eq!(rt; (reader.faults(), writer.faults()), (0, 0));
-    assert_eq!(rt; writer.into_inner(), octets(rt.alloc(), &BOTH)?);
+    assert_eq!(rt; writer.into_inner(), octets(rt.alloc(), &THROUGH)?);
     Ok(())
 }
 

@@ -1,29 +1,42 @@
-use Rattle.std.proofs.Common.{rules, ◌≡◌, ◌<◌, arith, length, Ok, ap, ◌∙◌}
-use Rattle.sl_packet.specs.Packet.{is_idle_packet}
-use Rattle.sl_packet.specs.Packets.{packets_of, without_idle}
-use Rattle.sl_link.specs.Deliver.{with_packets, count_in, is_deliverable}
-use Rattle.sl_link.specs.Managed.{tm_format}
-use Rattle.sl_link.specs.PacketStart.{whole_packets}
-use Rattle.sl_tmframe.specs.TmFrame.{tm_frame}
-use Rattle.sl_link.proofs.DeliverLemmas.{vc_fits}
-use Rattle.sl_link.proofs.HandedLemmas.{takes_all, counts_within}
+use Rattle.std.proofs.Common.{rules, ◌≡◌, ◌≢◌, ◌+◌, ◌<◌, ◌≤◌, arith, length, Ok, ap, ◌∙◌}
+use Rattle.sl_packet.specs.declared.flow_fault.FlowFault.TheVariants.{Failed}
+use Rattle.sl_packet.specs.Packets.{without_idle, only_idle}
+use Rattle.sl_link.specs.Deliver.{as_read, ended_in}
+use Rattle.sl_link.specs.Managed.{Parameters, tm_format}
+use Rattle.sl_link.specs.ManagedModel.{parameters_of}
+use Rattle.sl_tmflow.specs.Extraction.{ended_by}
+use Rattle.sl_link.proofs.HandedLemmas.{takes_all, why_refused, counts_within, vc_fits}
+use Rattle.sl_link.proofs.ManagedLemmas.{managed_length}
 use Rattle.sl_link.proofs.deliver.deliver_frame.Goals as goal
 
-pub returns-in-Ok-hand_over-clause-lists : goal.returns-in-Ok-hand_over-clause-lists
-returns-in-Ok-hand_over-clause-lists c =
-    let seen : tm_frame (tm_format c.args.managed.now) c.args.managed.now.spacecraft c.args.frame.now ≡ Ok c.in-Ok.view = search rules in
-    let small = vc_fits (tm_format c.args.managed.now) c.args.managed.now.spacecraft c.args.frame.now c.in-Ok.view seen in
-    let same : c.from.result ≡ c.in-Ok.view.vc = c.from.ensures ∙ c.vc.ensures.value in
-    let packets : packets_of c.from_pointer-octets.result.now ≡ whole_packets c.in-Ok.view.field = c.from_pointer-octets.ensures ∙ ap whole_packets c.field.ensures.value in
-    let inside : c.from.result < length c.args.delivered.now.lists = omega (arith, c.requires.channels, same) in
-    rw (seen) (takes_all (without_idle (packets_of c.from_pointer-octets.result.now)) c.args.delivered.now c.hand_over.new.sink c.from.result inside c.in-Ok-hand_over.ensures.accepted
-    ∙ ap (λ vc. with_packets c.args.delivered.now.lists vc (without_idle (packets_of c.from_pointer-octets.result.now))) same
-    ∙ ap (λ ps. with_packets c.args.delivered.now.lists c.in-Ok.view.vc (without_idle ps)) packets)
+pub returns-in-Ok-frame-clause-processed : goal.returns-in-Ok-frame-clause-processed
+returns-in-Ok-frame-clause-processed c =
+    let seen : as_read c.args.managed.now c.args.frame.now ≡ Ok c.in-Ok.view = search rules in
+    rw (seen) c.in-Ok-frame.ensures.processed
 
-pub returns-in-Ok-hand_over-clause-within : goal.returns-in-Ok-hand_over-clause-within
-returns-in-Ok-hand_over-clause-within c =
-    let r = tm_frame (tm_format c.args.managed.now) c.args.managed.now.spacecraft c.args.frame.now in
-    let all = counts_within (tm_format c.args.managed.now) c.args.managed.now.spacecraft c.args.frame.now in
-    let due : c.in-Ok-hand_over.handed.packets ≡ count_in is_deliverable r = search rules in
-    let idle : c.in-Ok-hand_over.handed.idle ≡ count_in is_idle_packet r = search rules in
-    omega (arith, all, due, idle)
+pub returns-in-Ok-frame-clause-lists : goal.returns-in-Ok-frame-clause-lists
+returns-in-Ok-frame-clause-lists c =
+    let seen : as_read c.args.managed.now c.args.frame.now ≡ Ok c.in-Ok.view = search rules in
+    let small = vc_fits (tm_format c.args.managed.now) c.args.managed.now.spacecraft c.args.frame.now c.in-Ok.view seen in
+    let inside : c.in-Ok.view.vc < length c.args.delivered.now.lists = omega (arith, c.requires.channels) in
+    λ views h. rw (seen) (takes_all (without_idle (ended_by views c.in-Ok.view)) c.args.delivered.now c.frame.new.sink c.in-Ok.view.vc
+    inside (c.in-Ok-frame.ensures.accepted views h))
+
+pub returns-in-Ok-frame-clause-within : goal.returns-in-Ok-frame-clause-within
+returns-in-Ok-frame-clause-within c =
+    let seen : as_read c.args.managed.now c.args.frame.now ≡ Ok c.in-Ok.view = search rules in
+    let views = c.requires.working.0 in
+    let processed = c.requires.working.1 in
+    let range = managed_length (parameters_of c.managed.inside) c.managed.invariant in
+    let long : 7 ≤ length c.args.frame.now = omega (arith, range.0, c.requires.one_frame, ap (λ (p : Parameters). p.tm_length) c.managed.view_is) in
+    let all = counts_within (tm_format c.args.managed.now) c.args.managed.now.spacecraft c.args.frame.now views long in
+    let due = c.packets.ensures ∙ c.in-Ok-frame.ensures.packets views processed in
+    let idle = c.idle.ensures ∙ c.in-Ok-frame.ensures.idle views processed in
+    let same = ap (λ r. length (without_idle (ended_in views r)) + length (only_idle (ended_in views r))) seen in
+    omega (arith, all, due, idle, same)
+
+pub store_fault-requires : goal.store_fault-requires
+store_fault-requires c =
+    let ne : c.in-Err-Sink.field-0 ≢ Failed = search rules in
+    let stopped = (c.in-Err-Sink.ensures.stopped ne).1 c.requires.working.0 c.requires.working.1 in
+    why_refused _ _ _ (λ old channel packet fault new fails. fails.0) _ _ _ _ _ _ c.in-Err-Sink.field-0-is stopped

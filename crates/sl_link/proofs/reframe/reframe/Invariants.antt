@@ -1,5 +1,0 @@
-use Rattle.sl_link.proofs.FramingLemmas.{IsReframed}
-use Rattle.sl_link.proofs.reframe.reframe.Given as goal
-
-abbrev pub invariant-loop-vc : goal.invariant-loop-vc
-invariant-loop-vc l = IsReframed l.shape l.spacecraft l.delivered.lists l.vc l.form.items

@@ -1,0 +1,34 @@
+-- What known octets want to be a packet, computed from the definition.
+use Rattle.std.proofs.Common.{◌≡◌, [], ◌∷◌, ◌++◌, List, ℕ, refl}
+use Rattle.sl_packet.specs.Partial.{need_of}
+use Rattle.sl_packet.specs.declared.partial.Need.TheVariants.{Foreign, Header, Octets, Whole}
+
+-- the header and the first octet of data of a telemetry packet of APID 1, and its other three octets
+abbrev front_part : List ℕ
+front_part = 0x00 ∷ 0x01 ∷ 0xC0 ∷ 0x00 ∷ 0x00 ∷ 0x03 ∷ 0xAA ∷ []
+
+abbrev other_part : List ℕ
+other_part = 0xBB ∷ 0xCC ∷ 0xDD ∷ []
+
+pub record AreNeeds : Type 0 where
+  pub nothing : need_of [] ≡ Header 6
+  pub one_octet : need_of (0x00 ∷ []) ≡ Header 5
+  pub three_octets : need_of (0x00 ∷ 0x03 ∷ 0xC0 ∷ []) ≡ Header 3
+  pub version_one : need_of (0x20 ∷ []) ≡ Foreign
+  pub header : need_of (0x00 ∷ 0x01 ∷ 0xC0 ∷ 0x00 ∷ 0x00 ∷ 0x03 ∷ []) ≡ Octets 4
+  pub one_octet_of_data : need_of front_part ≡ Octets 3
+  pub whole : need_of (front_part ++ other_part) ≡ Whole 10
+  -- what follows a packet isn't its own
+  pub more : need_of (front_part ++ other_part ++ 0x20 ∷ []) ≡ Whole 10
+
+pub needs : AreNeeds
+needs = record {
+  nothing = refl;
+  one_octet = refl;
+  three_octets = refl;
+  version_one = refl;
+  header = refl;
+  one_octet_of_data = refl;
+  whole = refl;
+  more = refl;
+}

@@ -1,0 +1,18 @@
+//! Why the flow of packets to a sink stopped.
+
+use crate::sink::SinkFault;
+use thiserror::Error;
+
+/// Why a call that hands packets to a sink stopped.
+#[derive(Clone, Copy, Debug, PartialEq, Eq, Error)]
+pub enum FlowFault {
+    /// Memory was refused.
+    #[error("memory")]
+    Memory,
+    /// The sink refused a packet.
+    #[error("sink: {0}")]
+    Sink(SinkFault),
+    /// An earlier call failed.
+    #[error("failed")]
+    Failed,
+}

@@ -1,0 +1,177 @@
+-- The filling of octets up to a multiple of the room.
+use Rattle.std.proofs.Common.{◌≡◌, ◌⊎◌, ℕ, zero, suc, ◌+◌, ◌-◌, ◌*◌, ◌/◌, ◌%◌, ◌<◌, ◌≤◌, ◌==◌, ◌||◌, nat_lt, not, if◌then◌else◌, List, [], ◌∷◌, ◌++◌, length, refl, sym, ◌∙◌, ap, arith, inl, inr, append-nil, length-append}
+use Rattle.std.specs.List.{AllByRecursion, concat}
+use Rattle.std.proofs.lemmas.List.Folds.{concat-append}
+use Rattle.std.proofs.Math.Nat.{mod_self, mod-eq_of_lt, add-mul, one-mul, zero-mul, suc-mul, zero-mod, mul-add-mod_self_right}
+use Rattle.std.proofs.lemmas.Nat.{div-add-mod', mod_below}
+use Rattle.std.proofs.lemmas.Bool.Decides.{nat_tests, leb_tells, eqb_tells}
+use Rattle.sl_packet.specs.Delivered.{IsDeliverable}
+use Rattle.sl_packet.specs.IdlePacket.{idle_packet}
+use Rattle.sl_packet.specs.Packet.{IsPacket}
+use Rattle.sl_packet.specs.Packets.{packets_of}
+use Rattle.sl_packet.proofs.IdlePacketLemmas.{idle_packet_is_a_packet, length-idle_packet}
+use Rattle.sl_packet.proofs.PacketsLemmas.{packets_of-concat}
+use Rattle.sl_tmflow.specs.NormalForm.{fill_of, filling, with_filling, IsLeastFill}
+use Rattle.sl_tmflow.proofs.EachLemmas.{each-append}
+
+-- the filling for a gap of fewer octets than the room
+abbrev wide_enough : ℕ → ℕ → ℕ
+wide_enough room gap = if (gap == 0) || not (nat_lt gap 7) then gap else gap + room
+
+as_it_is : (room gap : ℕ) → (gap ≡ 0) ⊎ (7 ≤ gap) → wide_enough room gap ≡ gap
+as_it_is room gap (inl h) = grind (arith, nat_tests)
+as_it_is room gap (inr h) = grind (arith, nat_tests)
+
+one_room_more : (room gap : ℕ) → 0 < gap → gap < 7 → wide_enough room gap ≡ gap + room
+one_room_more room gap some narrow = grind (arith, nat_tests)
+
+-- a whole number of rooms is no less than two, where it isn't none or one
+at_least_two : (room k : ℕ) → 0 < k → (k ≡ 1 → ⊥) → room + room ≤ k * room
+at_least_two room zero some more = absurd (omega arith)
+at_least_two room (suc zero) some more = absurd (more refl)
+at_least_two room (suc (suc k)) some more =
+    let e = add-mul (suc k) 1 room in let f = add-mul k 1 room in let one = one-mul room in omega arith
+
+-- what is left of whole rooms after fewer of them
+whole_rooms : (room q k s : ℕ) → q * room + s ≡ k * room → 0 < s → (d : ℕ) × (s ≡ d * room)
+whole_rooms room zero k s e some = (k, omega (arith, e, zero-mul room))
+whole_rooms room (suc q) zero s e some = let z = zero-mul room in absurd (omega arith)
+whole_rooms room (suc q) (suc k) s e some =
+    let p = suc-mul q room in let o = suc-mul k room in whole_rooms room q k s (omega arith) some
+
+none_left : (room k : ℕ) → k * room % room ≡ 0
+none_left room k =
+    let e : k * room ≡ k * room + 0 = omega arith in
+    ap (λ n. n % room) e ∙ mul-add-mod_self_right k room 0 ∙ zero-mod room
+
+at_least_one : (room k : ℕ) → 0 < k → room ≤ k * room
+at_least_one room zero some = absurd (omega arith)
+at_least_one room (suc k) some = let e = suc-mul k room in omega arith
+
+some_rooms : (room d left : ℕ) → left ≡ d * room → 0 < left → room ≤ left
+some_rooms room zero left e some = let z = zero-mul room in absurd (omega arith)
+some_rooms room (suc d) left e some = let o = at_least_one room (suc d) (omega arith) in omega arith
+
+-- so many rooms take what is left in one, and other octets
+past_one_room : (room left gap other d : ℕ) → 0 < left → gap + left ≡ room → left + other ≡ d * room → gap ≤ other
+past_one_room room left gap other zero some whole e = let z = zero-mul room in absurd (omega arith)
+past_one_room room left gap other (suc d) some whole e = let o = at_least_one room (suc d) (omega arith) in omega arith
+
+past_two_rooms : (room left gap other d : ℕ) → 0 < left → 0 < gap → gap < 7 → gap + left ≡ room → (other ≡ 0) ⊎ (7 ≤ other) → left + other ≡ d * room → gap + room ≤ other
+past_two_rooms room left gap other d some there narrow whole (inl none) e =
+    let o = past_one_room room left gap other d some whole e in absurd (omega arith)
+past_two_rooms room left gap other zero some there narrow whole (inr wide) e = let z = zero-mul room in absurd (omega arith)
+past_two_rooms room left gap other (suc zero) some there narrow whole (inr wide) e = let o = one-mul room in absurd (omega arith)
+past_two_rooms room left gap other (suc (suc d)) some there narrow whole (inr wide) e =
+    let o = at_least_two room (suc (suc d)) (omega arith) (λ h. absurd (omega arith)) in omega arith
+
+-- octets that are left after whole rooms of whole rooms have another room
+pub room_left : (room count left all : ℕ) → 0 < room → count * room + left ≡ all → all % room ≡ 0 → 0 < left → room ≤ left
+room_left room count left all roomy parts whole some =
+    let same : all / room * room + all % room ≡ all = div-add-mod' all room in
+    let d = whole_rooms room count (all / room) left (omega arith) some in
+    some_rooms room d.0 left d.1 some
+
+-- where octets are left in the last room, filled up by the rest of it
+least_gap : (room len gap : ℕ) → 7 ≤ room → 0 < len % room → gap + len % room ≡ room → gap < room → (gap ≡ 0 → ⊥) → IsLeastFill room len (wide_enough room gap)
+least_gap room len gap roomy some whole inside there =
+    let len_is : len / room * room + len % room ≡ len = div-add-mod' len room in
+    let one = suc-mul (len / room) room in
+    let two = suc-mul (suc (len / room)) room in
+    let at_least : (other : ℕ) → (len + other) % room ≡ 0 → (d : ℕ) × (len % room + other ≡ d * room) =
+    λ other e.
+    let k = (len + other) / room in
+    let all : (len + other) / room * room + (len + other) % room ≡ len + other = div-add-mod' (len + other) room in
+    whole_rooms room (len / room) k (len % room + other) (omega arith) (omega arith) in
+    elim (leb_tells (suc gap) 7) [
+      | inl (test, low) ↦ let narrow : gap < 7 = omega (arith, low) in
+          rw (one_room_more room gap (omega (arith, there)) narrow) record {
+            allowed = inr (omega arith);
+            fills = let e : len + (gap + room) ≡ suc (suc (len / room)) * room = omega arith in ap (λ n. n % room) e ∙ none_left room (suc (suc (len / room)));
+            least = λ other allowed e. let d = at_least other e in past_two_rooms room (len % room) gap other d.0 some (omega (arith, there)) narrow whole allowed d.1;
+          }
+      | inr (test, high) ↦ let wide : 7 ≤ gap = omega (arith, high) in
+          rw (as_it_is room gap (inr wide)) record {
+            allowed = inr wide;
+            fills = let e : len + gap ≡ suc (len / room) * room = omega arith in ap (λ n. n % room) e ∙ none_left room (suc (len / room));
+            least = λ other allowed e. let d = at_least other e in past_one_room room (len % room) gap other d.0 some whole d.1;
+          }
+    ]
+
+pub fill_is_least : (room len : ℕ) → 7 ≤ room → IsLeastFill room len (fill_of room len)
+fill_is_least room len some =
+    let inside : len % room < room = mod_below len room (omega arith) in
+    elim (eqb_tells (len % room) 0) [
+      | inl (test, none) ↦
+          let all : room - 0 ≡ room = omega arith in
+          let gap : (room - len % room) % room ≡ 0 = ap (λ n. (room - n) % room) none ∙ ap (λ n. n % room) all ∙ mod_self room in
+          rw (gap) record {
+            allowed = inl refl;
+            fills = let e : len + 0 ≡ len = omega arith in ap (λ n. n % room) e ∙ none;
+            least = λ other allowed e. omega arith;
+          }
+      | inr (test, left) ↦
+          let some_left : 0 < len % room = omega (arith, left) in
+          let gap : (room - len % room) % room ≡ room - len % room = mod-eq_of_lt (omega arith) in
+          rw (gap) (least_gap room len (room - len % room) some some_left (omega arith) (omega arith) (λ h. omega arith))
+    ]
+
+-- ---- packets, filled up
+
+-- no octets want none
+no_fill : (room : ℕ) → fill_of room 0 ≡ 0
+no_fill room =
+    let all : room - 0 ≡ room = omega arith in
+    let gap : (room - 0 % room) % room ≡ 0 = ap (λ n. (room - n) % room) (zero-mod room) ∙ ap (λ n. n % room) all ∙ mod_self room in
+    as_it_is room ((room - 0 % room) % room) (inl gap) ∙ gap
+
+pub no_filling : (room : ℕ) → filling room 0 ≡ []
+no_filling room = ap (λ n. if◌then◌else◌ {A = List (List ℕ)} (n == 0) [] (idle_packet n ∷ [])) (no_fill room)
+
+fill_inside : (room len : ℕ) → 7 ≤ room → fill_of room len ≤ room + 6
+fill_inside room len some =
+    let gap : (room - len % room) % room < room = mod_below (room - len % room) room (omega arith) in
+    elim (leb_tells ((room - len % room) % room) 6) [
+      | inl (test, low) ↦ elim (eqb_tells ((room - len % room) % room) 0) [
+        | inl (is, none) ↦ omega (arith, as_it_is room ((room - len % room) % room) (inl none))
+        | inr (is, some_gap) ↦ omega (arith, one_room_more room ((room - len % room) % room) (omega (arith, some_gap)) (omega (arith, low)), low)
+      ]
+      | inr (test, high) ↦ omega (arith, as_it_is room ((room - len % room) % room) (inr (omega (arith, high))))
+    ]
+
+some_fill : (room len : ℕ) → 7 ≤ room → (fill_of room len ≡ 0 → ⊥) → 7 ≤ fill_of room len
+some_fill room len some there =
+    elim (fill_is_least room len some).allowed [
+      | inl none ↦ absurd (there none)
+      | inr wide ↦ wide
+    ]
+
+-- the filling is an idle packet of as many octets as are wanted
+pub filling_is : (room len : ℕ) → 7 ≤ room → room ≤ 65536 → AllByRecursion IsPacket (filling room len) × (length (concat (filling room len)) ≡ fill_of room len)
+filling_is room len some short =
+    elim (eqb_tells (fill_of room len) 0) [
+      | inl (test, none) ↦ rw (test) (tt, sym none)
+      | inr (test, there) ↦
+          let wide = some_fill room len some there in
+          let fits = fill_inside room len some in
+          rw (test) ((idle_packet_is_a_packet (fill_of room len) wide (omega arith), tt), ap length (append-nil (idle_packet (fill_of room len))) ∙ length-idle_packet (fill_of room len) wide)
+    ]
+
+pub filled_octets : (room : ℕ) (packets : List (List ℕ)) → concat packets ++ concat (filling room (length (concat packets))) ≡ concat (with_filling room packets)
+filled_octets room packets = sym (concat-append packets (filling room (length (concat packets))))
+
+pub filled_packets : (room : ℕ) (packets : List (List ℕ)) → 7 ≤ room → room ≤ 65536 → AllByRecursion IsPacket packets → packets_of (concat (with_filling room packets)) ≡ with_filling room packets
+filled_packets room packets some short each =
+    let all = each-append IsPacket packets (filling room (length (concat packets))) each (filling_is room (length (concat packets)) some short).0 in
+    ap packets_of (sym (append-nil (concat (with_filling room packets)))) ∙ packets_of-concat (with_filling room packets) [] all ∙ append-nil (with_filling room packets)
+
+pub filled_whole : (room : ℕ) (packets : List (List ℕ)) → 7 ≤ room → room ≤ 65536 → length (concat (with_filling room packets)) % room ≡ 0
+filled_whole room packets some short =
+    let len = length (concat packets) in
+    ap (λ n. n % room) (ap length (sym (filled_octets room packets)) ∙ length-append (concat packets) (concat (filling room len)) ∙ ap (λ n. len + n) (filling_is room len some short).1)
+    ∙ (fill_is_least room len some).fills
+
+-- packets that may be delivered are packets
+pub due_packets : (packets : List (List ℕ)) → AllByRecursion IsDeliverable packets → AllByRecursion IsPacket packets
+due_packets [] each = tt
+due_packets (packet ∷ packets) each = (each.0.0, due_packets packets each.1)

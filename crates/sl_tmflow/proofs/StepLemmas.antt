@@ -1,0 +1,205 @@
+-- What the next frame does to an incomplete packet: it ends there, or goes on, or never ends.
+use Rattle.std.proofs.Common.{◌≡◌, ◌≢◌, ℕ, ◌+◌, ◌-◌, ◌<◌, ◌≤◌, Bool, true, false, if◌then◌else◌, List, [], ◌++◌, length, take, drop, Option, None, Some, is_some, refl, sym, ◌∙◌, ap, arith, append-nil, append_assoc, eqb-true, eq-eqb, le-ltb}
+use Rattle.std.proofs.lemmas.List.{take-append-drop, take-append-le, take_at, length-take-le}
+use Rattle.sl_packet.specs.Packet.{IsPacket}
+use Rattle.sl_packet.specs.Front.{Front, Foreign, Incomplete, Whole, front}
+use Rattle.sl_packet.proofs.PacketLemmas.{one_packet}
+use Rattle.sl_packet.proofs.FrontLemmas.{whole_is_a_packet, packet_is_whole, foreign_is_no_packet, incomplete_may_become_whole}
+use Rattle.sl_tmframe.specs.TmFrame.{TmView, DataField, Packets, Idle, Opaque}
+use Rattle.sl_tmflow.specs.Channel.{is_consecutive, data_of}
+use Rattle.sl_tmflow.specs.Delivery.{IsPrefix, agreeing_pointer, same_pointer, Ends, Continues, Breaks, front_step, field_step, step_of}
+
+-- ---- octets that begin a packet
+
+-- a packet that lies at the front of octets, of which so many come first, lies in these or is longer
+pub prefix_of_first : (octets more packet rest : List ℕ) → octets ++ more ≡ packet ++ rest → length packet ≤ length octets → IsPrefix packet octets
+prefix_of_first octets more packet rest same inside =
+    let first : take (length packet) octets ≡ packet =
+    sym (take-append-le (length packet) octets more inside) ∙ ap (take (length packet)) same ∙ take_at packet rest (length packet) refl in
+    (drop (length packet) octets, ap (λ l. l ++ drop (length packet) octets) (sym first) ∙ take-append-drop (length packet) octets)
+
+-- a packet isn't whole before its end
+pub incomplete_before_end : (octets more packet rest : List ℕ) → IsPacket packet → octets ++ more ≡ packet ++ rest → length octets < length packet → front octets ≡ Incomplete
+incomplete_before_end octets more packet rest p same short = cases (front octets) refl
+  where
+    cases : (f : Front) → front octets ≡ f → f ≡ Incomplete
+    cases Foreign e = absurd (foreign_is_no_packet octets more packet rest e same p)
+    cases Incomplete e = refl
+    cases (Whole len) e =
+        let whole = whole_is_a_packet octets len e in
+        let split : take len octets ++ (drop len octets ++ more) ≡ packet ++ rest =
+        sym (append_assoc (take len octets) (drop len octets) more) ∙ ap (λ l. l ++ more) (take-append-drop len octets) ∙ same in
+        let is_it : take len octets ≡ packet = one_packet (take len octets) packet (drop len octets ++ more) rest whole.0 p split in
+        let len_is : len ≡ length packet = sym (length-take-le len octets whole.1) ∙ ap length is_it in
+        let fits = whole.1 in
+        absurd (omega arith)
+
+-- where no packet is whole yet, none was before
+pub incomplete_before : (octets more : List ℕ) → front (octets ++ more) ≡ Incomplete → front octets ≡ Incomplete
+incomplete_before octets more incomplete = cases (front octets) refl
+  where
+    cases : (f : Front) → front octets ≡ f → f ≡ Incomplete
+    cases Foreign e =
+        let (rest, p) = incomplete_may_become_whole (octets ++ more) incomplete in
+        absurd (foreign_is_no_packet octets (more ++ rest) ((octets ++ more) ++ rest) [] e
+        (sym (append_assoc octets more rest) ∙ sym (append-nil ((octets ++ more) ++ rest))) p)
+    cases Incomplete e = refl
+    cases (Whole len) e =
+        let whole = whole_is_a_packet octets len e in
+        let split : take len octets ++ (drop len octets ++ more) ≡ octets ++ more =
+        sym (append_assoc (take len octets) (drop len octets) more) ∙ ap (λ l. l ++ more) (take-append-drop len octets) in
+        let there : front (octets ++ more) ≡ Whole (length (take len octets)) =
+        ap front (sym split) ∙ packet_is_whole (take len octets) (drop len octets ++ more) whole.0 in
+        let both : Incomplete ≡ Whole (length (take len octets)) = sym incomplete ∙ there in
+        absurd (cc)
+
+-- where no packet is whole, none lies at the front
+pub incomplete_is_no_packet : (octets packet : List ℕ) → IsPacket packet → front octets ≡ Incomplete → IsPrefix packet octets → ⊥
+incomplete_is_no_packet octets packet p incomplete prefix =
+    let both : Incomplete ≡ Whole (length packet) = sym incomplete ∙ ap front (sym prefix.1) ∙ packet_is_whole packet prefix.0 p in
+    cc
+
+-- ---- pointers
+
+same_pointers : (a b : Option ℕ) → same_pointer a b ≡ true → a ≡ b
+same_pointers None None same = refl
+same_pointers None (Some b) same = absurd (cc)
+same_pointers (Some a) None same = absurd (cc)
+same_pointers (Some a) (Some b) same = ap Some (eqb-true a b same)
+
+pointers_same : (a : Option ℕ) → same_pointer a a ≡ true
+pointers_same None = refl
+pointers_same (Some a) = eq-eqb a a refl
+
+-- a packet that covers a data field to its end agrees with no pointer
+pub agreeing_none : (len before : ℕ) (field : List ℕ) → before + length field ≤ len → agreeing_pointer len before field ≡ None
+agreeing_none len before field covered =
+    ap (λ b. if b then Some (len - before) else None) (le-ltb len (before + length field) covered)
+
+-- ---- the three steps
+
+-- the packet ends in this data field, and its pointer says so
+pub record EndsIn (octets : List ℕ) (field : DataField) (packet : List ℕ) : Type 0 where
+  pub first : Option ℕ
+  pub carried : List ℕ
+  pub is_packets : field ≡ Packets first carried
+  pub is_packet : IsPacket packet
+  pub ends : IsPrefix packet (octets ++ carried)
+  pub agrees : first ≡ agreeing_pointer (length packet) (length octets) carried
+
+-- the packet goes on past this data field, and no pointer says otherwise
+pub record GoesOnPast (octets : List ℕ) (field : DataField) : Type 0 where
+  pub is_read : field ≢ Opaque
+  pub no_start : (first : Option ℕ) (carried : List ℕ) → field ≡ Packets first carried → first ≡ None
+  pub incomplete : front (octets ++ data_of field) ≡ Incomplete
+
+ends_test : (b : Bool) (whole packet : List ℕ) → (if b then Ends whole else Breaks) ≡ Ends packet → (b ≡ true) × (whole ≡ packet)
+ends_test true whole packet e = (refl, cc)
+ends_test false whole packet e = absurd (cc)
+
+no_end : (first : Option ℕ) (packet : List ℕ) → (if is_some first then Breaks else Continues) ≡ Ends packet → ⊥
+no_end None packet e = cc
+no_end (Some first) packet e = cc
+
+front_ends : (first : Option ℕ) (before : ℕ) (field all : List ℕ) (f : Front) (packet : List ℕ) → front_step first before field all f ≡ Ends packet
+    → (len : ℕ) × (f ≡ Whole len) × (first ≡ agreeing_pointer len before field) × (take len all ≡ packet)
+front_ends first before field all Foreign packet e = absurd (cc)
+front_ends first before field all Incomplete packet e = absurd (no_end first packet e)
+front_ends first before field all (Whole len) packet e =
+    let test = ends_test (same_pointer first (agreeing_pointer len before field)) (take len all) packet e in
+    (len, refl, same_pointers first (agreeing_pointer len before field) test.0, test.1)
+
+pub field_ends : (octets : List ℕ) (field : DataField) (packet : List ℕ) → field_step octets field ≡ Ends packet → EndsIn octets field packet
+field_ends octets (Packets first carried) packet e =
+    let (len, is_whole, agrees, packet_is) = front_ends first (length octets) carried (octets ++ carried) (front (octets ++ carried)) packet e in
+    let whole = whole_is_a_packet (octets ++ carried) len is_whole in
+    let len_is : len ≡ length packet = sym (length-take-le len (octets ++ carried) whole.1) ∙ ap length packet_is in
+    record {
+      first = first;
+      carried = carried;
+      is_packets = refl;
+      is_packet = rw (← packet_is) whole.0;
+      ends = (drop len (octets ++ carried), ap (λ l. l ++ drop len (octets ++ carried)) (sym packet_is) ∙ take-append-drop len (octets ++ carried));
+      agrees = agrees ∙ ap (λ n. agreeing_pointer n (length octets) carried) len_is;
+    }
+field_ends octets Idle packet e = absurd (cc)
+field_ends octets Opaque packet e = absurd (cc)
+
+pub ends_field : (octets : List ℕ) (field : DataField) (packet : List ℕ) → EndsIn octets field packet → field_step octets field ≡ Ends packet
+ends_field octets field packet x =
+    let all : octets ++ x.carried ≡ packet ++ x.ends.0 = sym x.ends.1 in
+    let is_whole : front (octets ++ x.carried) ≡ Whole (length packet) = ap front all ∙ packet_is_whole packet x.ends.0 x.is_packet in
+    let test : same_pointer x.first (agreeing_pointer (length packet) (length octets) x.carried) ≡ true =
+    ap (λ first. same_pointer first (agreeing_pointer (length packet) (length octets) x.carried)) x.agrees
+    ∙ pointers_same (agreeing_pointer (length packet) (length octets) x.carried) in
+    ap (field_step octets) x.is_packets
+    ∙ ap (front_step x.first (length octets) x.carried (octets ++ x.carried)) is_whole
+    ∙ ap (λ b. if b then Ends (take (length packet) (octets ++ x.carried)) else Breaks) test
+    ∙ ap (λ l. Ends (take (length packet) l)) all ∙ ap Ends (take_at packet x.ends.0 (length packet) refl)
+
+continues_test : (b : Bool) (whole : List ℕ) → (if b then Ends whole else Breaks) ≡ Continues → ⊥
+continues_test true whole e = cc
+continues_test false whole e = cc
+
+no_pointer : (first : Option ℕ) → (if is_some first then Breaks else Continues) ≡ Continues → first ≡ None
+no_pointer None e = refl
+no_pointer (Some first) e = absurd (cc)
+
+front_continues : (first : Option ℕ) (before : ℕ) (field all : List ℕ) (f : Front) → front_step first before field all f ≡ Continues
+    → (f ≡ Incomplete) × (first ≡ None)
+front_continues first before field all Foreign e = absurd (cc)
+front_continues first before field all Incomplete e = (refl, no_pointer first e)
+front_continues first before field all (Whole len) e =
+    absurd (continues_test (same_pointer first (agreeing_pointer len before field)) (take len all) e)
+
+pub field_continues : (octets : List ℕ) (field : DataField) → front octets ≡ Incomplete → field_step octets field ≡ Continues → GoesOnPast octets field
+field_continues octets (Packets first carried) incomplete e =
+    let step = front_continues first (length octets) carried (octets ++ carried) (front (octets ++ carried)) e in
+    record {
+      is_read = λ same. cc;
+      no_start = λ first' carried' same. let p : first' ≡ first = cc in p ∙ step.1;
+      incomplete = step.0;
+    }
+field_continues octets Idle incomplete e =
+    record {
+      is_read = λ same. cc;
+      no_start = λ first carried same. absurd (cc);
+      incomplete = ap front (append-nil octets) ∙ incomplete;
+    }
+field_continues octets Opaque incomplete e = absurd (cc)
+
+pub continues_field : (octets : List ℕ) (field : DataField) → GoesOnPast octets field → field_step octets field ≡ Continues
+continues_field octets (Packets first carried) x =
+    ap (front_step first (length octets) carried (octets ++ carried)) x.incomplete
+    ∙ ap (λ p. if is_some p then Breaks else Continues) (x.no_start first carried refl)
+continues_field octets Idle x = refl
+continues_field octets Opaque x = absurd (x.is_read refl)
+
+-- a step that isn't a break is one to a consecutive frame
+pub step_ends : (view : TmView) (octets : List ℕ) (next : TmView) (packet : List ℕ) → step_of view octets next ≡ Ends packet
+    → (is_consecutive view next ≡ true) × EndsIn octets next.field packet
+step_ends view octets next packet e = cases (is_consecutive view next) refl e
+  where
+    cases : (b : Bool) → is_consecutive view next ≡ b → (if b then field_step octets next.field else Breaks) ≡ Ends packet
+        → (is_consecutive view next ≡ true) × EndsIn octets next.field packet
+    cases true test s = (test, field_ends octets next.field packet s)
+    cases false test s = absurd (cc)
+
+pub ends_step : (view : TmView) (octets : List ℕ) (next : TmView) (packet : List ℕ) → is_consecutive view next ≡ true → EndsIn octets next.field packet
+    → step_of view octets next ≡ Ends packet
+ends_step view octets next packet consecutive x =
+    ap (λ b. if b then field_step octets next.field else Breaks) consecutive ∙ ends_field octets next.field packet x
+
+pub step_continues : (view : TmView) (octets : List ℕ) (next : TmView) → front octets ≡ Incomplete → step_of view octets next ≡ Continues
+    → (is_consecutive view next ≡ true) × GoesOnPast octets next.field
+step_continues view octets next incomplete e = cases (is_consecutive view next) refl e
+  where
+    cases : (b : Bool) → is_consecutive view next ≡ b → (if b then field_step octets next.field else Breaks) ≡ Continues
+        → (is_consecutive view next ≡ true) × GoesOnPast octets next.field
+    cases true test s = (test, field_continues octets next.field incomplete s)
+    cases false test s = absurd (cc)
+
+pub continues_step : (view : TmView) (octets : List ℕ) (next : TmView) → is_consecutive view next ≡ true → GoesOnPast octets next.field
+    → step_of view octets next ≡ Continues
+continues_step view octets next consecutive x =
+    ap (λ b. if b then field_step octets next.field else Breaks) consecutive ∙ continues_field octets next.field x

@@ -1,0 +1,31 @@
+use Rattle.std.proofs.Common.{length, refl, sym, ◌∙◌, ap, subst, arith}
+use Rattle.sl_packet.specs.Packets.{only_idle, without_idle}
+use Rattle.sl_packet.specs.Sink.{TakesAll}
+use Rattle.sl_tmflow.specs.Stopping.{IsStopped}
+use Rattle.sl_tmflow.proofs.ChannelLemmas.{ended_now, processed_more}
+use Rattle.sl_tmflow.proofs.extractor.Extractor.frame.Goals as goal
+
+pub returns-in-Err-clause-stopped : goal.returns-in-Err-clause-stopped
+returns-in-Err-clause-stopped g c =
+    λ ne. (
+      refl,
+      λ views p. subst (λ l. IsStopped g.S.PacketSink.taking g.S.PacketSink.failing g.S.PacketSink.failures c.args.sink.now c.args.frame.now.vc (without_idle l) c.in-Err.fault c.take.new.sink)
+          (sym (ended_now c.args.self.now views c.args.frame.now c.self.inside.channels c.from.result c.index-self-from.result p (ap (λ s. s.channels) c.self.view_is) (omega arith) (omega arith) (omega arith))) c.in-Err.ensures.stopped,
+    )
+
+pub returns-clause-processed : goal.returns-clause-processed
+returns-clause-processed g c =
+    λ views p. processed_more c.args.self.now views c.args.frame.now c.self.inside.channels c.from.result c.index-self-from.result c.take.new.self p (ap (λ s. s.channels) c.self.view_is) (omega arith) (omega arith) (omega arith) c.in-Ok.ensures.state
+
+pub returns-clause-accepted : goal.returns-clause-accepted
+returns-clause-accepted g c =
+    λ views p. subst (λ l. TakesAll g.S.PacketSink.taking c.args.sink.now c.args.frame.now.vc (without_idle l) c.take.new.sink)
+    (sym (ended_now c.args.self.now views c.args.frame.now c.self.inside.channels c.from.result c.index-self-from.result p (ap (λ s. s.channels) c.self.view_is) (omega arith) (omega arith) (omega arith))) c.in-Ok.ensures.accepted
+
+pub returns-clause-packets : goal.returns-clause-packets
+returns-clause-packets g c =
+    λ views p. c.in-Ok.ensures.packets ∙ ap (λ l. length (without_idle l)) (sym (ended_now c.args.self.now views c.args.frame.now c.self.inside.channels c.from.result c.index-self-from.result p (ap (λ s. s.channels) c.self.view_is) (omega arith) (omega arith) (omega arith)))
+
+pub returns-clause-idle : goal.returns-clause-idle
+returns-clause-idle g c =
+    λ views p. c.in-Ok.ensures.idle ∙ ap (λ l. length (only_idle l)) (sym (ended_now c.args.self.now views c.args.frame.now c.self.inside.channels c.from.result c.index-self-from.result p (ap (λ s. s.channels) c.self.view_is) (omega arith) (omega arith) (omega arith)))

@@ -1,0 +1,5 @@
+use Rattle.sl_tmflow.proofs.FramingLemmas.{IsReframed}
+use Rattle.sl_tmflow.proofs.reframe.reframe_tm.Given as goal
+
+abbrev pub invariant-loop-vc : goal.invariant-loop-vc
+invariant-loop-vc l = IsReframed l.shape l.spacecraft l.delivered.lists l.vc l.form.items

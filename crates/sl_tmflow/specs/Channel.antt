@@ -1,0 +1,38 @@
+-- A virtual channel of a recording, CCSDS 132.0-B: its frames in order, and how one follows another.
+use Rattle.std.specs.Prelude.{◌≡◌, ⊤, ℕ, ◌+◌, ◌%◌, ◌==◌, Bool, true, List, [], ◌∷◌, ◌++◌, map}
+use Rattle.std.specs.Result.{result_ok}
+use Rattle.std.specs.List.{filter, filter_map, concat}
+use Rattle.sl_tmframe.specs.TmFrame.{TmFormat, TmView, DataField, Packets, Idle, Opaque, tm_frame}
+
+-- the frames that aren't skipped, as they are read
+abbrev pub views_of : TmFormat → ℕ → List (List ℕ) → List TmView
+views_of format spacecraft frames = filter_map (λ frame. result_ok (tm_frame format spacecraft frame)) frames
+
+-- those of a virtual channel
+abbrev pub channel_of : ℕ → List TmView → List TmView
+channel_of vc views = filter (λ view. view.vc == vc) views
+
+-- the next frame has the virtual channel frame count that comes after this one
+abbrev pub follows : ℕ → TmView → Bool
+follows count next = next.vc_count == (count + 1) % 256
+
+abbrev pub is_consecutive : TmView → TmView → Bool
+is_consecutive view next = follows view.vc_count next
+
+-- each frame is consecutive to the one before it, the first one to this one
+abbrev pub AreConsecutive : TmView → List TmView → Type 0
+AreConsecutive view [] = ⊤
+AreConsecutive view (next ∷ later) = (is_consecutive view next ≡ true) × AreConsecutive next later
+
+-- the octets of packets that a frame carries: its data field, where that is of packets
+abbrev pub data_of : DataField → List ℕ
+data_of (Packets first octets) = octets
+data_of Idle = []
+data_of Opaque = []
+
+abbrev pub packet_data : TmView → List ℕ
+packet_data view = data_of view.field
+
+-- octets, and then the packet data of frames
+abbrev pub reassembly : List ℕ → List TmView → List ℕ
+reassembly octets views = octets ++ concat (map packet_data views)

@@ -1,0 +1,66 @@
+-- What an extractor keeps of a virtual channel, and what the next frame makes of it.
+use Rattle.std.specs.Prelude.{ℕ, ◌+◌, ◌%◌, ◌==◌, Bool, false, List, [], ◌∷◌, ◌++◌, drop, Option, None, Some}
+use Rattle.sl_packet.specs.Front.{Front, Foreign, Incomplete, Whole, front}
+use Rattle.sl_packet.specs.Packets.{rest_of}
+use Rattle.sl_tmframe.specs.TmFrame.{TmView, DataField, Packets, Idle, Opaque}
+use Rattle.sl_tmflow.specs.Channel.{packet_data}
+use Rattle.sl_tmflow.specs.Delivery.{Step, Ends, Continues, Breaks, ended, step_after}
+use Rattle.sl_tmflow.specs.PacketStart.{whole_packets}
+
+-- the virtual channel frame count of its last frame, and the octets so far of the packet that is incomplete
+-- after it, none where none is
+pub record ChannelState : Type 0 where
+  pub count : Option ℕ
+  pub held : List ℕ
+
+abbrev pub no_frame : ChannelState
+no_frame = record { count = None; held = [] }
+
+-- what the next frame does to the octets that are held
+abbrev pub held_step : Option ℕ → List ℕ → TmView → Step
+held_step None held next = Breaks
+held_step (Some count) [] next = Breaks
+held_step (Some count) (octet ∷ octets) next = step_after count (octet ∷ octets) next
+
+abbrev pub step_in : ChannelState → TmView → Step
+step_in state next = held_step state.count state.held next
+
+-- a virtual channel frame count comes after the last one
+abbrev pub is_after : Option ℕ → ℕ → Bool
+is_after None count = false
+is_after (Some last) count = count == (last + 1) % 256
+
+-- the octets that are held after a step, where these are all of the packet so far
+abbrev pub kept_of : Step → List ℕ → List ℕ
+kept_of (Ends packet) octets = []
+kept_of Continues octets = octets
+kept_of Breaks octets = []
+
+-- the octets that are held after the next frame, but for those of a packet that starts in it
+abbrev pub kept_octets : Step → List ℕ → TmView → List ℕ
+kept_octets step held next = kept_of step (held ++ packet_data next)
+
+-- octets that begin an incomplete packet
+abbrev pub incomplete_in : Front → List ℕ → List ℕ
+incomplete_in Foreign octets = []
+incomplete_in Incomplete octets = octets
+incomplete_in (Whole len) octets = []
+
+-- the octets that are held after a data field, where these were held before the packets that start in it
+abbrev pub held_after : DataField → List ℕ → List ℕ
+held_after (Packets None octets) held = held
+held_after (Packets (Some pointer) octets) held =
+    incomplete_in (front (rest_of (drop pointer octets))) (rest_of (drop pointer octets))
+held_after Idle held = held
+held_after Opaque held = held
+
+-- the state after the next frame, and the packets that end in it
+abbrev pub state_after : ChannelState → TmView → ChannelState
+state_after state next =
+    record {
+      count = Some next.vc_count;
+      held = held_after next.field (kept_octets (step_in state next) state.held next);
+    }
+
+abbrev pub packets_after : ChannelState → TmView → List (List ℕ)
+packets_after state next = ended (step_in state next) ++ whole_packets next.field

@@ -1,0 +1,223 @@
+-- Which packets a virtual channel delivers. A packet is found by its start in a frame, and by the run of
+-- frames after that one in which it ends.
+use Rattle.std.specs.Prelude.{◌≡◌, ◌≢◌, ⊤, ◌⊎◌, ℕ, ◌+◌, ◌-◌, ◌<◌, ◌≤◌, ◌==◌, nat_lt, Bool, true, false, if◌then◌else◌, List, [], ◌∷◌, ◌++◌, length, take, drop, map, Option, None, Some, is_some}
+use Rattle.std.specs.List.{AllByRecursion, filter, flat_map}
+use Rattle.sl_packet.specs.Packet.{IsPacket}
+use Rattle.sl_packet.specs.Front.{Front, Foreign, Incomplete, Whole, front}
+use Rattle.sl_tmflow.specs.Among.{IsAmong}
+use Rattle.sl_tmframe.specs.TmFrame.{TmView, DataField, Packets, Idle, Opaque}
+use Rattle.sl_tmflow.specs.Channel.{follows, AreConsecutive, packet_data, reassembly}
+use Rattle.sl_tmflow.specs.PacketStart.{IsStart, starts_of}
+
+-- ---- the relation
+
+abbrev pub IsPrefix : List ℕ → List ℕ → Type 0
+IsPrefix octets all = (more : List ℕ) × (octets ++ more ≡ all)
+
+-- the first header pointer that agrees with a packet of so many octets, of which so many came before the
+-- frame: none where the packet covers the data field to its end, and else where it ends
+abbrev pub agreeing_pointer : ℕ → ℕ → List ℕ → Option ℕ
+agreeing_pointer len before field = if nat_lt len (before + length field) then Some (len - before) else None
+
+-- A packet that starts in a frame, with these octets of the frame's from its start on, is delivered at the
+-- end of a run of later frames.
+pub record IsDeliveredBy (view : TmView) (octets : List ℕ) (run : List TmView) (packet : List ℕ) : Type 0 where
+  pub is_packet : IsPacket packet
+  -- it ends in the last frame of the run, and not earlier
+  pub ends : IsPrefix packet (reassembly octets run)
+  pub not_earlier : (earlier : List TmView) (last : TmView) → run ≡ earlier ++ last ∷ [] → IsPrefix packet (reassembly octets earlier) → ⊥
+  -- the virtual channel frame counts are consecutive
+  pub consecutive : AreConsecutive view run
+  -- and none of them is opaque
+  pub none_opaque : AllByRecursion (λ next. next.field ≢ Opaque) run
+  -- the pointer of each frame of packets agrees with the packet
+  pub agreed :
+      (earlier : List TmView) (next : TmView) (later : List TmView) (first : Option ℕ) (field : List ℕ)
+      → run ≡ earlier ++ next ∷ later → next.field ≡ Packets first field
+      → first ≡ agreeing_pointer (length packet) (length (reassembly octets earlier)) field
+
+-- a packet that a channel delivers: the numbers of the frames in which it starts and ends, counted from 0 in
+-- the channel, and its start
+pub record Delivery : Type 0 where
+  pub frame : ℕ
+  pub start : ℕ
+  pub ending : ℕ
+  pub packet : List ℕ
+
+pub record IsDelivery (channel : List TmView) (d : Delivery) : Type 0 where
+  pub before : List TmView
+  pub view : TmView
+  pub run : List TmView
+  pub after : List TmView
+  pub in_order : channel ≡ before ++ view ∷ run ++ after
+  pub frame : d.frame ≡ length before
+  pub ending : d.ending ≡ d.frame + length run
+  pub first : Option ℕ
+  pub octets : List ℕ
+  pub field : view.field ≡ Packets first octets
+  pub start : IsStart octets first d.start
+  pub delivered : IsDeliveredBy view (drop d.start octets) run d.packet
+
+-- ---- what becomes of a packet start
+
+pub data Outcome : Type 0 where
+  -- the packet is delivered so many frames later
+  Completes : (packet : List ℕ) (passed : ℕ) → Outcome
+  -- it is still incomplete after the last frame
+  Held : (octets : List ℕ) → Outcome
+  -- it is never delivered: it has another version than 0, or is broken off
+  Undelivered : Outcome
+
+-- what the next frame does to an incomplete packet
+pub data Step : Type 0 where
+  Ends : (packet : List ℕ) → Step
+  Continues : Step
+  Breaks : Step
+
+-- the packet that ends in the next frame, if it does
+abbrev pub ended : Step → List (List ℕ)
+ended (Ends packet) = packet ∷ []
+ended Continues = []
+ended Breaks = []
+
+-- the octets after the next frame, if the packet goes on
+abbrev pub carried : Step → List ℕ → List (List ℕ)
+carried (Ends packet) octets = []
+carried Continues octets = octets ∷ []
+carried Breaks octets = []
+
+abbrev pub same_pointer : Option ℕ → Option ℕ → Bool
+same_pointer None None = true
+same_pointer None (Some b) = false
+same_pointer (Some a) None = false
+same_pointer (Some a) (Some b) = a == b
+
+-- a packet ends here if the pointer agrees; an incomplete one goes on only where no packet starts
+abbrev pub front_step : Option ℕ → ℕ → List ℕ → List ℕ → Front → Step
+front_step first before field all Foreign = Breaks
+front_step first before field all Incomplete = if is_some first then Breaks else Continues
+front_step first before field all (Whole len) =
+    if same_pointer first (agreeing_pointer len before field) then Ends (take len all) else Breaks
+
+abbrev pub field_step : List ℕ → DataField → Step
+field_step octets (Packets first field) = front_step first (length octets) field (octets ++ field) (front (octets ++ field))
+field_step octets Idle = Continues
+field_step octets Opaque = Breaks
+
+-- after a frame with this virtual channel frame count
+abbrev pub step_after : ℕ → List ℕ → TmView → Step
+step_after count octets next = if follows count next then field_step octets next.field else Breaks
+
+abbrev pub step_of : TmView → List ℕ → TmView → Step
+step_of view octets next = step_after view.vc_count octets next
+
+abbrev pub after_step : Step → ℕ → Outcome → Outcome
+after_step (Ends packet) passed later = Completes packet passed
+after_step Continues passed later = later
+after_step Breaks passed later = Undelivered
+
+-- of an incomplete packet, with its octets up to this frame, which is so many frames after its start
+abbrev pub outcome_after : ℕ → TmView → List ℕ → List TmView → Outcome
+outcome_after passed view octets [] = Held octets
+outcome_after passed view octets (next ∷ later) =
+    after_step (step_of view octets next) (passed + 1) (outcome_after (passed + 1) next (octets ++ packet_data next) later)
+
+abbrev pub outcome_of_front : Front → TmView → List ℕ → List TmView → Outcome
+outcome_of_front Foreign view octets later = Undelivered
+outcome_of_front Incomplete view octets later = outcome_after 0 view octets later
+outcome_of_front (Whole len) view octets later = Completes (take len octets) 0
+
+-- of a packet start, with the octets of its frame from it on, and the frames that come later
+abbrev pub outcome_of : TmView → List ℕ → List TmView → Outcome
+outcome_of view octets later = outcome_of_front (front octets) view octets later
+
+-- ---- the deliveries of a channel, by the frames and then the starts of their packets
+
+abbrev pub delivery_of : ℕ → ℕ → Outcome → List Delivery
+delivery_of frame start (Completes packet passed) =
+    record {
+      frame = frame;
+      start = start;
+      ending = frame + passed;
+      packet = packet;
+    } ∷ []
+delivery_of frame start (Held octets) = []
+delivery_of frame start Undelivered = []
+
+abbrev pub frame_deliveries : ℕ → TmView → List TmView → List Delivery
+frame_deliveries frame view later =
+    flat_map (λ start. delivery_of frame start (outcome_of view (drop start (packet_data view)) later)) (starts_of view.field)
+
+abbrev pub deliveries_from : ℕ → List TmView → List Delivery
+deliveries_from frame [] = []
+deliveries_from frame (view ∷ later) = frame_deliveries frame view later ++ deliveries_from (frame + 1) later
+
+abbrev pub deliveries_of : List TmView → List Delivery
+deliveries_of channel = deliveries_from 0 channel
+
+-- those that end in the frame of a number
+abbrev pub ending_in : ℕ → List Delivery → List Delivery
+ending_in number deliveries = filter (λ d. d.ending == number) deliveries
+
+abbrev pub packets_delivered : List Delivery → List (List ℕ)
+packets_delivered deliveries = map (λ d. d.packet) deliveries
+
+-- the packets that end in the next frame of a channel, by the frames and then the starts of their packets
+abbrev pub packets_ending : List TmView → TmView → List (List ℕ)
+packets_ending channel next = packets_delivered (ending_in (length channel) (deliveries_of (channel ++ next ∷ [])))
+
+-- ---- what is still incomplete after the last frame of a channel
+
+abbrev pub held_in : Outcome → List (List ℕ)
+held_in (Completes packet passed) = []
+held_in (Held octets) = octets ∷ []
+held_in Undelivered = []
+
+abbrev pub frame_held : TmView → List TmView → List (List ℕ)
+frame_held view later =
+    flat_map (λ start. held_in (outcome_of view (drop start (packet_data view)) later)) (starts_of view.field)
+
+-- the octets so far of the packets that are incomplete
+abbrev pub held_of : List TmView → List (List ℕ)
+held_of [] = []
+held_of (view ∷ later) = frame_held view later ++ held_of later
+
+-- ---- what the list of deliveries is
+
+-- each that is listed is a delivery
+abbrev pub EachIsDelivery : Type 0
+EachIsDelivery = (channel : List TmView) → AllByRecursion (IsDelivery channel) (deliveries_of channel)
+
+-- each delivery is listed
+abbrev pub EachIsListed : Type 0
+EachIsListed = (channel : List TmView) (d : Delivery) → IsDelivery channel d → IsAmong d (deliveries_of channel)
+
+-- an earlier frame, or an earlier start in the same frame
+abbrev pub StartsBefore : Delivery → Delivery → Type 0
+StartsBefore d e = (d.frame < e.frame) ⊎ ((d.frame ≡ e.frame) × (d.start < e.start))
+
+abbrev pub AreInOrder : List Delivery → Type 0
+AreInOrder [] = ⊤
+AreInOrder (d ∷ deliveries) = AllByRecursion (StartsBefore d) deliveries × AreInOrder deliveries
+
+-- they are listed by frame and packet start
+abbrev pub DeliveriesAreInOrder : Type 0
+DeliveriesAreInOrder = (channel : List TmView) → AreInOrder (deliveries_of channel)
+
+-- ---- laws of what is incomplete, and of ends
+
+-- at most one packet is incomplete after a frame,
+abbrev pub OneIsHeld : Type 0
+OneIsHeld = (channel : List TmView) → length (held_of channel) ≤ 1
+
+-- of one to 65,541 octets
+abbrev pub IsShort : List ℕ → Type 0
+IsShort octets = (1 ≤ length octets) × (length octets ≤ 65541)
+
+abbrev pub HeldIsShort : Type 0
+HeldIsShort = (channel : List TmView) → AllByRecursion IsShort (held_of channel)
+
+-- packets in the order of their starts are in the order of their ends
+abbrev pub EndsAreInOrder : Type 0
+EndsAreInOrder =
+    (channel : List TmView) (d e : Delivery) → IsDelivery channel d → IsDelivery channel e → StartsBefore d e → d.ending ≤ e.ending

@@ -1,0 +1,40 @@
+-- What an extractor has made of the frames that it was given.
+use Rattle.std.specs.Prelude.{◌≡◌, ℕ, ◌<◌, Bool, true, false, List, [], ◌∷◌, Option, None, Some}
+use Rattle.std.specs.List.{slice_index_or}
+use Rattle.sl_tmframe.specs.TmFrame.{TmView}
+use Rattle.sl_tmflow.specs.Channel.{channel_of}
+use Rattle.sl_tmflow.specs.ChannelState.{ChannelState, no_frame}
+use Rattle.sl_tmflow.specs.Delivery.{held_of, packets_ending}
+
+pub record ExtractorState : Type 0 where
+  pub channels : List ChannelState
+  pub has_failed : Bool
+
+-- the virtual channel frame count of the last of these frames
+abbrev pub last_count : List TmView → Option ℕ
+last_count [] = None
+last_count (view ∷ []) = Some view.vc_count
+last_count (view ∷ next ∷ later) = last_count (next ∷ later)
+
+-- octets that are held, as a list of none or of one
+abbrev pub held_as : List ℕ → List (List ℕ)
+held_as [] = []
+held_as (octet ∷ octets) = (octet ∷ octets) ∷ []
+
+-- a virtual channel had these frames
+pub record HasSeen (state : ChannelState) (channel : List TmView) : Type 0 where
+  pub count : state.count ≡ last_count channel
+  pub held : held_as state.held ≡ held_of channel
+
+-- These frames were processed, and no fault came. Other frames may have left the same.
+pub record HasProcessed (state : ExtractorState) (views : List TmView) : Type 0 where
+  pub working : state.has_failed ≡ false
+  pub each : (vc : ℕ) → vc < 8 → HasSeen (slice_index_or state.channels vc no_frame) (channel_of vc views)
+
+-- a fault came
+abbrev pub HasFailed : ExtractorState → Type 0
+HasFailed state = state.has_failed ≡ true
+
+-- the packets that end in the next frame, idle ones included
+abbrev pub ended_by : List TmView → TmView → List (List ℕ)
+ended_by views next = packets_ending (channel_of next.vc views) next

@@ -1,0 +1,16 @@
+pub mod Among
+pub mod Channel
+pub mod ChannelState
+pub mod Delivery
+pub mod Extraction
+pub mod ExtractorModel
+pub mod FieldStart
+pub mod NormalForm
+pub mod PacketStart
+pub mod Progress
+pub mod Stopping
+pub use Rattle.sl_packet.specs.Front
+pub use Rattle.sl_packet.specs.Packet
+pub use Rattle.sl_packet.specs.Packets
+pub use Rattle.sl_tmframe.specs.PacketFrame
+pub use Rattle.sl_tmframe.specs.TmFrame

@@ -1,0 +1,56 @@
+-- The packet starts of a data field.
+use Rattle.std.specs.Prelude.{◌≡◌, ℕ, ◌+◌, ◌<◌, List, [], ◌∷◌, ◌++◌, length, drop, Option, None, Some}
+use Rattle.std.specs.List.{AllByRecursion, concat}
+use Rattle.sl_packet.specs.Packet.{IsPacket}
+use Rattle.sl_packet.specs.Packets.{packets_of, rest_of}
+use Rattle.sl_tmflow.specs.Among.{IsAmong}
+use Rattle.sl_tmframe.specs.TmFrame.{DataField, Packets, Idle, Opaque}
+
+-- The packet starts are the first header pointer and each offset in the field at which whole packets end to
+-- end from there end. What begins there need not be a packet.
+pub record IsStart (field : List ℕ) (first : Option ℕ) (start : ℕ) : Type 0 where
+  pub pointer : ℕ
+  pub pointed : first ≡ Some pointer
+  pub before : List (List ℕ)
+  pub packets : AllByRecursion IsPacket before
+  pub end_to_end : drop pointer field ≡ concat before ++ drop start field
+  pub here : start ≡ pointer + length (concat before)
+  pub inside : start < length field
+
+-- the offsets of packets that lie end to end from an offset on, and of octets after them
+abbrev pub offsets_from : ℕ → List (List ℕ) → List ℕ → List ℕ
+offsets_from offset [] [] = []
+offsets_from offset [] (octet ∷ octets) = offset ∷ []
+offsets_from offset (packet ∷ packets) rest = offset ∷ offsets_from (offset + length packet) packets rest
+
+-- the packet starts of a data field, in order
+abbrev pub starts_from : Option ℕ → List ℕ → List ℕ
+starts_from None field = []
+starts_from (Some pointer) field = offsets_from pointer (packets_of (drop pointer field)) (rest_of (drop pointer field))
+
+-- those of a frame
+abbrev pub starts_of : DataField → List ℕ
+starts_of (Packets first octets) = starts_from first octets
+starts_of Idle = []
+starts_of Opaque = []
+
+-- the packets that lie whole in a data field, end to end from its first header pointer on
+abbrev pub whole_from : Option ℕ → List ℕ → List (List ℕ)
+whole_from None octets = []
+whole_from (Some pointer) octets = packets_of (drop pointer octets)
+
+-- those of a frame
+abbrev pub whole_packets : DataField → List (List ℕ)
+whole_packets (Packets first octets) = whole_from first octets
+whole_packets Idle = []
+whole_packets Opaque = []
+
+-- ---- laws
+
+-- each offset that is listed is a packet start,
+abbrev pub EachIsStart : Type 0
+EachIsStart = (first : Option ℕ) (field : List ℕ) → AllByRecursion (IsStart field first) (starts_from first field)
+
+-- and each packet start is listed
+abbrev pub EachStartIsListed : Type 0
+EachStartIsListed = (field : List ℕ) (first : Option ℕ) (start : ℕ) → IsStart field first start → IsAmong start (starts_from first field)

@@ -1,0 +1,11 @@
+-- What a frame of packets does to an incomplete packet, as the code says it.
+use Rattle.std.specs.Prelude.{List, ℕ, take}
+use Rattle.sl_tmflow.specs.declared.channel.Progress.{Progress}
+use Rattle.sl_tmflow.specs.declared.channel.Progress.TheVariants as code
+use Rattle.sl_tmflow.specs.Delivery.{Step, Ends, Continues, Breaks}
+
+-- of the octets of the packet and of the frame's data field
+abbrev pub progress_step : Progress → List ℕ → Step
+progress_step (code.Ends len) octets = Ends (take len octets)
+progress_step code.Continues octets = Continues
+progress_step code.Breaks octets = Breaks

@@ -1,0 +1,22 @@
+-- How the handing over of packets to a sink stops.
+use Rattle.std.specs.Prelude.{◌≡◌, ℕ, List, ◌++◌}
+use Rattle.sl_packet.specs.Sink.{TakesAll, StopsTaking, one_more}
+use Rattle.sl_packet.specs.declared.flow_fault.FlowFault.{FlowFault}
+use Rattle.sl_packet.specs.declared.flow_fault.FlowFault.TheVariants.{Memory, Sink, Failed}
+use Rattle.sl_packet.specs.declared.sink.SinkFault.{SinkFault}
+
+module _ {S : Type 0} (taking : S → ℕ → List ℕ → S → Type 0) where
+  -- some of the packets were accepted, the first ones
+  pub record TakesSome (old : S) (channel : ℕ) (packets : List (List ℕ)) (new : S) : Type 0 where
+    pub accepted : List (List ℕ)
+    pub later : List (List ℕ)
+    pub in_order : packets ≡ accepted ++ later
+    pub takes : TakesAll taking old channel accepted new
+
+  module _ (failing : S → ℕ → List ℕ → SinkFault → S → Type 0) (failures : S → ℕ) where
+    -- Where memory was refused, the sink accepted some of the packets and refused none; where the sink refused
+    -- one, it accepted those before it.
+    abbrev pub IsStopped : S → ℕ → List (List ℕ) → FlowFault → S → Type 0
+    IsStopped old channel packets Memory new = TakesSome old channel packets new × (failures new ≡ failures old)
+    IsStopped old channel packets (Sink fault) new = StopsTaking taking failing old channel packets fault new × (failures new ≡ one_more (failures old))
+    IsStopped old channel packets Failed new = ⊥

@@ -1,0 +1,302 @@
+//! A virtual channel and the packet that is incomplete on it.
+ghost use Rattle.std.specs.Prelude.{◌≡◌, ◌≤◌, ◌<◌, ◌+◌, ◌-◌, ◌++◌, ◌∷◌, [], ℕ, nat_lt, if◌then◌else◌, length, drop, None, Some, OnOk, IfOk, IfErr};
+ghost use Rattle.sl_packet.specs.Front.{front};
+ghost use Rattle.sl_packet.specs.Packet.{IsPacket};
+ghost use Rattle.sl_packet.specs.Packets.{only_idle, packets_of, rest_of, without_idle};
+ghost use Rattle.sl_packet.specs.Sink.{TakesAll};
+ghost use Rattle.sl_tmframe.specs.TmField.{data_field};
+ghost use Rattle.sl_tmframe.specs.TmFrame.{IsInField, Packets};
+ghost use Rattle.sl_tmflow.specs.ChannelState.{held_after, incomplete_in, is_after, kept_octets, kept_of, no_frame, packets_after, state_after, step_in};
+ghost use Rattle.sl_tmflow.specs.Delivery.{ended, field_step, front_step};
+ghost use Rattle.sl_tmflow.specs.PacketStart.{whole_packets};
+ghost use Rattle.sl_tmflow.specs.Progress.{progress_step};
+ghost use Rattle.sl_tmflow.specs.Stopping.{IsStopped};
+
+use crate::step::{NOTHING, TmStep};
+use sl_packet::{FlowFault, Need, PacketSink, hand_over, need};
+use sl_tmframe::{TmField, TmFrame};
+use std::alloc::Global;
+use std::marker::Model;
+
+/// A virtual channel after its last frame.
+#[derive(Drop)]
+pub struct Channel {
+    // The virtual channel frame count of its last frame.
+    count: Option<u8>,
+    // The octets so far of the packet that is incomplete, none where none is.
+    held: Vec<u8>,
+}
+
+impl Model for Channel {
+    ghost use Rattle.sl_tmflow.specs.ChannelState.{ChannelState};
+
+    ghost Value = { ChannelState };
+
+    ghost use Rattle.sl_tmflow.specs.ExtractorModel.{channel_state};
+
+    ghost view = { channel_state };
+}
+
+/// What a frame of packets does to an incomplete packet.
+#[derive(Clone, Copy)]
+enum Progress {
+    /// It ends, with so many octets.
+    Ends(usize),
+    Continues,
+    Breaks,
+}
+
+impl Channel {
+    /// A virtual channel without a frame.
+    pub fn new(alloc: Global) -> Channel
+        ensures { result ≡ no_frame }
+    {
+        Channel {
+            count: None,
+            held: Vec::new(alloc),
+        }
+    }
+
+    /// Takes the next frame, and hands the sink the packets that end in it.
+    pub fn take<S: PacketSink>(
+        &mut self,
+        frame: &TmFrame,
+        sink: &mut S,
+    ) -> Result<TmStep, FlowFault>
+        ensures state { OnOk result (self.new ≡ state_after self.old frame.now) }
+        ensures accepted { OnOk result (TakesAll S.taking sink.old frame.now.vc (without_idle (packets_after self.old frame.now)) sink.new) }
+        ensures kept { OnOk result (S.failures sink.new ≡ S.failures sink.old) }
+        ensures packets { IfOk result (λ step. step.packets ≡ length (without_idle (packets_after self.old frame.now))) }
+        ensures idle { IfOk result (λ step. step.idle ≡ length (only_idle (packets_after self.old frame.now))) }
+        ensures stopped { IfErr result (λ flow. IsStopped S.taking S.failing S.failures sink.old frame.now.vc (without_idle (packets_after self.old frame.now)) flow sink.new) }
+    {
+        let ended = match self.go_on(frame, sink) {
+            Ok(step) => step,
+            Err(flow) => return Err(flow),
+        };
+        self.count = Some(frame.vc_count());
+        let begun = match self.begin(&frame.field(), u16::from(frame.vc()), sink) {
+            Ok(step) => step,
+            Err(flow) => return Err(flow),
+        };
+        Ok(TmStep {
+            packets: ended.packets + begun.packets,
+            idle: ended.idle + begun.idle,
+        })
+    }
+
+    // Goes on with the packet that is incomplete, if one is.
+    fn go_on<S: PacketSink>(&mut self, frame: &TmFrame, sink: &mut S) -> Result<TmStep, FlowFault>
+        ensures count { self.new.count ≡ self.old.count }
+        ensures held { OnOk result (self.new.held ≡ kept_octets (step_in self.old frame.now) self.old.held frame.now) }
+        ensures accepted { OnOk result (TakesAll S.taking sink.old frame.now.vc (without_idle (ended (step_in self.old frame.now))) sink.new) }
+        ensures kept { OnOk result (S.failures sink.new ≡ S.failures sink.old) }
+        ensures packets { IfOk result (λ step. step.packets ≡ length (without_idle (ended (step_in self.old frame.now)))) }
+        ensures idle { IfOk result (λ step. step.idle ≡ length (only_idle (ended (step_in self.old frame.now)))) }
+        ensures few { IfOk result (λ step. step.packets + step.idle ≤ 1) }
+        ensures stopped { IfErr result (λ flow. IsStopped S.taking S.failing S.failures sink.old frame.now.vc (without_idle (ended (step_in self.old frame.now))) flow sink.new) }
+    {
+        if self.held.is_empty() || !self.is_followed_by(frame.vc_count()) {
+            self.held.clear();
+            return Ok(NOTHING);
+        }
+        match frame.field() {
+            TmField::Packets { first, octets } => {
+                self.join(first, octets, u16::from(frame.vc()), sink)
+            }
+            TmField::Idle => Ok(NOTHING),
+            TmField::Opaque => {
+                self.held.clear();
+                Ok(NOTHING)
+            }
+        }
+    }
+
+    // Whether a frame with this count comes after the last one.
+    fn is_followed_by(&self, count: u8) -> bool
+        ensures { result ≡ is_after self.now.count count }
+    {
+        match self.count {
+            Some(last) => count == last.wrapping_add(1),
+            None => false,
+        }
+    }
+
+    // Goes on with it in the data field of a frame of packets.
+    fn join<S: PacketSink>(
+        &mut self,
+        first: Option<u16>,
+        octets: &[u8],
+        vc: u16,
+        sink: &mut S,
+    ) -> Result<TmStep, FlowFault>
+        requires { vc ≤ 7 }
+        ensures count { self.new.count ≡ self.old.count }
+        ensures held { OnOk result (self.new.held ≡ kept_of (field_step self.old.held (Packets first octets.now)) (self.old.held ++ octets.now)) }
+        ensures accepted { OnOk result (TakesAll S.taking sink.old vc (without_idle (ended (field_step self.old.held (Packets first octets.now)))) sink.new) }
+        ensures kept { OnOk result (S.failures sink.new ≡ S.failures sink.old) }
+        ensures packets { IfOk result (λ step. step.packets ≡ length (without_idle (ended (field_step self.old.held (Packets first octets.now))))) }
+        ensures idle { IfOk result (λ step. step.idle ≡ length (only_idle (ended (field_step self.old.held (Packets first octets.now))))) }
+        ensures few { IfOk result (λ step. step.packets + step.idle ≤ 1) }
+        ensures stopped { IfErr result (λ flow. IsStopped S.taking S.failing S.failures sink.old vc (without_idle (ended (field_step self.old.held (Packets first octets.now)))) flow sink.new) }
+    {
+        let before = self.held.len();
+        if self.held.extend_from_slice(octets).is_err() {
+            return Err(FlowFault::Memory);
+        }
+        match progress_in(self.held.as_slice(), before, first) {
+            Progress::Ends(len) => {
+                let outcome = hand_packet(sink, vc, &self.held.as_slice()[..len]);
+                self.held.clear();
+                outcome
+            }
+            Progress::Continues => Ok(NOTHING),
+            Progress::Breaks => {
+                self.held.clear();
+                Ok(NOTHING)
+            }
+        }
+    }
+
+    // The packets that start in a data field: those that lie whole in it, and the one that is incomplete.
+    fn begin<S: PacketSink>(
+        &mut self,
+        field: &TmField,
+        vc: u16,
+        sink: &mut S,
+    ) -> Result<TmStep, FlowFault>
+        requires vc { vc ≤ 7 }
+        requires inside { IsInField (data_field field.now) }
+        ensures count { self.new.count ≡ self.old.count }
+        ensures held { OnOk result (self.new.held ≡ held_after (data_field field.now) self.old.held) }
+        ensures accepted { OnOk result (TakesAll S.taking sink.old vc (without_idle (whole_packets (data_field field.now))) sink.new) }
+        ensures kept { OnOk result (S.failures sink.new ≡ S.failures sink.old) }
+        ensures packets { IfOk result (λ step. step.packets ≡ length (without_idle (whole_packets (data_field field.now)))) }
+        ensures idle { IfOk result (λ step. step.idle ≡ length (only_idle (whole_packets (data_field field.now)))) }
+        ensures few { IfOk result (λ step. step.packets + step.idle ≤ 2042) }
+        ensures stopped { IfErr result (λ flow. IsStopped S.taking S.failing S.failures sink.old vc (without_idle (whole_packets (data_field field.now))) flow sink.new) }
+    {
+        match *field {
+            TmField::Packets {
+                first: Some(first),
+                octets,
+            } => self.begin_at(&octets[usize::from(first)..], vc, sink),
+            _ => Ok(NOTHING),
+        }
+    }
+
+    // The packets of octets from a packet start on.
+    fn begin_at<S: PacketSink>(
+        &mut self,
+        octets: &[u8],
+        vc: u16,
+        sink: &mut S,
+    ) -> Result<TmStep, FlowFault>
+        requires vc { vc ≤ 7 }
+        requires short { length octets.now ≤ 2042 }
+        ensures count { self.new.count ≡ self.old.count }
+        ensures held { OnOk result (self.new.held ≡ incomplete_in (front (rest_of octets.now)) (rest_of octets.now)) }
+        ensures accepted { OnOk result (TakesAll S.taking sink.old vc (without_idle (packets_of octets.now)) sink.new) }
+        ensures kept { OnOk result (S.failures sink.new ≡ S.failures sink.old) }
+        ensures packets { IfOk result (λ step. step.packets ≡ length (without_idle (packets_of octets.now))) }
+        ensures idle { IfOk result (λ step. step.idle ≡ length (only_idle (packets_of octets.now))) }
+        ensures few { IfOk result (λ step. step.packets + step.idle ≤ 2042) }
+        ensures stopped { IfErr result (λ flow. IsStopped S.taking S.failing S.failures sink.old vc (without_idle (packets_of octets.now)) flow sink.new) }
+    {
+        let (step, remainder) = match hand(sink, vc, octets) {
+            Ok(handed) => handed,
+            Err(flow) => return Err(flow),
+        };
+        self.held.clear();
+        if self.held.extend_from_slice(incomplete(remainder)).is_err() {
+            return Err(FlowFault::Memory);
+        }
+        Ok(step)
+    }
+}
+
+// The octets, where a packet may begin with them that isn't there whole, and else none.
+fn incomplete(octets: &[u8]) -> &[u8]
+    ensures { result.now ≡ incomplete_in (front octets.now) octets.now }
+{
+    match need(octets) {
+        Need::Header(_) | Need::Octets(_) => octets,
+        Need::Foreign | Need::Whole(_) => &[],
+    }
+}
+
+// What octets, of which so many came before the data field, and the pointer of its frame make of a packet.
+fn progress_in(octets: &[u8], before: usize, first: Option<u16>) -> Progress
+    requires { before ≤ length octets.now }
+    ensures step { progress_step result octets.now ≡ front_step first before (drop before octets.now) octets.now (front octets.now) }
+    ensures inside { (len : ℕ) → result ≡ Progress.Ends len → len ≤ length octets.now }
+{
+    match need(octets) {
+        Need::Foreign => Progress::Breaks,
+        Need::Header(_) | Need::Octets(_) if first.is_some() => Progress::Breaks,
+        Need::Header(_) | Need::Octets(_) => Progress::Continues,
+        Need::Whole(len) => {
+            let len = len as usize;
+            if first.map(usize::from) == agreeing_pointer(octets.len(), before, len) {
+                Progress::Ends(len)
+            } else {
+                Progress::Breaks
+            }
+        }
+    }
+}
+
+// The pointer that agrees with a packet of `len` of these octets.
+fn agreeing_pointer(all: usize, before: usize, len: usize) -> Option<usize>
+    ensures { result ≡ (if nat_lt len all then Some (len - before) else None) }
+{
+    if len < all {
+        Some(len.saturating_sub(before))
+    } else {
+        None
+    }
+}
+
+// Hands the sink a packet, unless it is idle.
+fn hand_packet<S: PacketSink>(sink: &mut S, vc: u16, packet: &[u8]) -> Result<TmStep, FlowFault>
+    requires vc { vc ≤ 7 }
+    requires packet { IsPacket packet.now }
+    ensures accepted { OnOk result (TakesAll S.taking sink.old vc (without_idle (packet.now ∷ [])) sink.new) }
+    ensures kept { OnOk result (S.failures sink.new ≡ S.failures sink.old) }
+    ensures packets { IfOk result (λ step. step.packets ≡ length (without_idle (packet.now ∷ []))) }
+    ensures idle { IfOk result (λ step. step.idle ≡ length (only_idle (packet.now ∷ []))) }
+    ensures stopped { IfErr result (λ flow. IsStopped S.taking S.failing S.failures sink.old vc (without_idle (packet.now ∷ [])) flow sink.new) }
+{
+    match hand(sink, vc, packet) {
+        Ok((step, _)) => Ok(step),
+        Err(flow) => Err(flow),
+    }
+}
+
+// Hands the sink the packets at the front of octets. The answer has the octets after them.
+fn hand<'a, S: PacketSink>(
+    sink: &mut S,
+    vc: u16,
+    octets: &'a [u8],
+) -> Result<(TmStep, &'a [u8]), FlowFault>
+    requires vc { vc ≤ 7 }
+    requires short { length octets.now ≤ 65542 }
+    ensures accepted { OnOk result (TakesAll S.taking sink.old vc (without_idle (packets_of octets.now)) sink.new) }
+    ensures kept { OnOk result (S.failures sink.new ≡ S.failures sink.old) }
+    ensures packets { IfOk result (λ handed. handed.0.packets ≡ length (without_idle (packets_of octets.now))) }
+    ensures idle { IfOk result (λ handed. handed.0.idle ≡ length (only_idle (packets_of octets.now))) }
+    ensures few { IfOk result (λ handed. handed.0.packets + handed.0.idle ≤ length octets.now) }
+    ensures remainder { IfOk result (λ handed. handed.1.now ≡ rest_of octets.now) }
+    ensures stopped { IfErr result (λ flow. IsStopped S.taking S.failing S.failures sink.old vc (without_idle (packets_of octets.now)) flow sink.new) }
+{
+    match hand_over(sink, vc, octets) {
+        Ok(handed) => {
+            let step = TmStep {
+                packets: handed.packets as u32,
+                idle: handed.idle as u32,
+            };
+            Ok((step, handed.remainder))
+        }
+        Err(fault) => Err(FlowFault::Sink(fault)),
+    }
+}

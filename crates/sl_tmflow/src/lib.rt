@@ -1,0 +1,18 @@
+//! Packets in TM transfer frames of CCSDS 132.0-B: how they are delivered from the frames of a virtual
+//! channel, and the normal form of delivered packets.
+//!
+//! A packet is found by its start in a frame and the run of later frames in which it ends ([`laws`]).
+#![tactic(auto)]
+
+mod channel;
+mod extractor;
+pub mod laws;
+mod reframe;
+mod step;
+
+pub use extractor::Extractor;
+pub use reframe::reframe_tm;
+pub use step::TmStep;
+
+#[cfg(test)]
+mod tests;

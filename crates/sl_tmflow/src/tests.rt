@@ -1,0 +1,123 @@
+//! Frames of known octets, and the packets that end in them. All were worked out by hand from the standard's
+//! bits.
+ghost use Rattle.std.specs.Prelude.{◌≡◌};
+
+use crate::{Extractor, reframe_tm};
+use sl_packet::{Delivered, FlowFault, PacketSink, SinkFault};
+use sl_tmframe::{TmFrame, TmShape};
+use std::test::Fail;
+
+// Spacecraft 1, virtual channel 0, counts 0: a packet of 23 octets, and the first three of a packet of ten.
+const BEGUN: [u8; 32] = [
+    0x00, 0x10, 0x00, 0x00, 0x18, 0x00, //
+    0x00, 0x02, 0xC0, 0x05, 0x00, 0x10, //
+    0x11, 0x11, 0x11, 0x11, 0x11, 0x11, 0x11, 0x11, 0x11, 0x11, 0x11, 0x11, 0x11, 0x11, 0x11, 0x11,
+    0x11, //
+    0x00, 0x03, 0xC0,
+];
+
+// Counts 1, first header pointer 2046.
+const IDLE: [u8; 32] = [
+    0x00, 0x10, 0x01, 0x01, 0x1F, 0xFE, //
+    0x55, 0x55, 0x55, 0x55, 0x55, 0x55, 0x55, 0x55, 0x55, 0x55, 0x55, 0x55, 0x55, 0x55, 0x55, 0x55,
+    0x55, 0x55, 0x55, 0x55, 0x55, 0x55, 0x55, 0x55, 0x55, 0x55,
+];
+
+// Counts 2, first header pointer 7: the other octets of that packet, one of ten octets and an idle packet.
+const ENDED: [u8; 32] = [
+    0x00, 0x10, 0x02, 0x02, 0x18, 0x07, //
+    0x00, 0x00, 0x03, 0x01, 0x02, 0x03, 0x04, //
+    0x00, 0x01, 0xC0, 0x00, 0x00, 0x03, 0xAA, 0xBB, 0xCC, 0xDD, //
+    0x07, 0xFF, 0xC0, 0x00, 0x00, 0x02, 0x00, 0x00, 0x00,
+];
+
+// The packet of two frames.
+const SPLIT: [u8; 10] = [0x00, 0x03, 0xC0, 0x00, 0x00, 0x03, 0x01, 0x02, 0x03, 0x04];
+
+// The normal form of the two others.
+const NORMAL_FORM: [u8; 64] = [
+    0x00, 0x10, 0x00, 0x00, 0x18, 0x00, //
+    0x00, 0x02, 0xC0, 0x05, 0x00, 0x10, //
+    0x11, 0x11, 0x11, 0x11, 0x11, 0x11, 0x11, 0x11, 0x11, 0x11, 0x11, 0x11, 0x11, 0x11, 0x11, 0x11,
+    0x11, //
+    0x00, 0x01, 0xC0, //
+    0x00, 0x10, 0x01, 0x01, 0x18, 0x07, //
+    0x00, 0x00, 0x03, 0xAA, 0xBB, 0xCC, 0xDD, //
+    0x07, 0xFF, 0xC0, 0x00, 0x00, 0x0C, 0, 0, 0, 0, 0, 0, 0, 0, 0, 0, 0, 0, 0,
+];
+
+// The packets, and the idle ones, that end in a frame.
+fn ended<S: PacketSink>(
+    extractor: &mut Extractor,
+    octets: &[u8; 32],
+    sink: &mut S,
+) -> Result<(u32, u32), Fail> {
+    let shape = TmShape::new(32, false)?;
+    let frame = TmFrame::read(&shape, 1, octets).or(Err("skipped"))?;
+    let step = extractor.frame(&frame, sink)?;
+    Ok((step.packets(), step.idle()))
+}
+
+fn are(list: &[Vec<u8>], packets: &[&[u8]]) -> bool {
+    list.len() == packets.len() && list.iter().zip(packets).all(|(a, b)| a.as_slice() == *b)
+}
+
+#[test]
+fn a_packet_goes_on_past_an_idle_frame(rt: HostRuntime) -> Result<(), Fail> {
+    let mut extractor = Extractor::new(rt.alloc());
+    let mut delivered = Delivered::new(rt.alloc());
+    assert_eq!(rt; ended(&mut extractor, &BEGUN, &mut delivered)?, (1, 0));
+    assert_eq!(rt; ended(&mut extractor, &IDLE, &mut delivered)?, (0, 0));
+    assert_eq!(rt; ended(&mut extractor, &ENDED, &mut delivered)?, (2, 1));
+    assert!(rt; are(delivered.list(0), &[&BEGUN[6..29], &SPLIT, &ENDED[13..23]]));
+    assert!(rt; are(delivered.list(1), &[]));
+    Ok(())
+}
+
+#[test]
+fn a_missing_frame_breaks_a_packet(rt: HostRuntime) -> Result<(), Fail> {
+    let mut extractor = Extractor::new(rt.alloc());
+    let mut delivered = Delivered::new(rt.alloc());
+    assert_eq!(rt; ended(&mut extractor, &BEGUN, &mut delivered)?, (1, 0));
+    assert_eq!(rt; ended(&mut extractor, &ENDED, &mut delivered)?, (1, 1));
+    assert!(rt; are(delivered.list(0), &[&BEGUN[6..29], &ENDED[13..23]]));
+    assert!(rt; delivered.fits_tm());
+    let form = reframe_tm(rt.alloc(), &TmShape::new(32, false)?, 1, &delivered)?;
+    assert_eq!(rt; form.as_slice(), &NORMAL_FORM[..]);
+    Ok(())
+}
+
+// A sink that refuses each packet.
+#[derive(Drop)]
+struct Refuses {
+    refused: u64,
+}
+
+impl PacketSink for Refuses {
+    ghost use Rattle.sl_packet.specs.declared.sink.SinkFault.TheVariants.{Refused};
+
+    ghost taking = { λ old channel packet new. ⊥ };
+
+    ghost failing = { λ old channel packet fault new. fault ≡ Refused };
+
+    ghost failures = { λ sink. sink.refused };
+
+    fn packet(&mut self, _channel: u16, _p: &[u8]) -> Result<(), SinkFault> {
+        self.refused = self.refused.saturating_add(1);
+        Err(SinkFault::Refused)
+    }
+}
+
+#[test]
+fn an_extractor_stops_at_a_fault(rt: HostRuntime) -> Result<(), Fail> {
+    let shape = TmShape::new(32, false)?;
+    let frame = TmFrame::read(&shape, 1, &BEGUN).or(Err("skipped"))?;
+    let mut extractor = Extractor::new(rt.alloc());
+    let mut sink = Refuses { refused: 0 };
+    let fault = extractor.frame(&frame, &mut sink).err();
+    assert_eq!(rt; fault, Some(FlowFault::Sink(SinkFault::Refused)));
+    let fault = extractor.frame(&frame, &mut sink).err();
+    assert_eq!(rt; fault, Some(FlowFault::Failed));
+    assert_eq!(rt; sink.refused, 1);
+    Ok(())
+}

@@ -77,6 +77,17 @@ three_copies = one_packet ++ one_packet ++ one_packet ++ (0x00 ∷ 0x10 ∷ 0x00
 abbrev three_copies_normal : List ℕ
 three_copies_normal = framed 0 0 0x18 0x00 (ten ++ ten ++ (0x00 ∷ 0x01 ∷ 0xC0 ∷ 0x00 ∷ 0x00 ∷ 0x03 ∷ [])) ++ framed 1 1 0x18 0x04 ((0xAA ∷ 0xBB ∷ 0xCC ∷ 0xDD ∷ 0x07 ∷ 0xFF ∷ 0xC0 ∷ 0x00 ∷ 0x00 ∷ 0x0F ∷ []) ++ replicate 16 0)
 
+-- a data field with the other octets of a packet of twenty-nine
+abbrev covered : List ℕ
+covered = (0x00 ∷ 0x00 ∷ 0x16 ∷ []) ++ replicate 23 0x22
+
+-- it goes to the end of the second frame, in which no packet starts
+abbrev covering : List ℕ
+covering = begun ++ framed 1 1 0x1F 0xFF covered
+
+abbrev begun_at_255 : List ℕ
+begun_at_255 = framed 255 255 0x18 0x00 (twenty_three ++ (0x00 ∷ 0x03 ∷ 0xC0 ∷ []))
+
 abbrev HasNormalForm : List ℕ → List ℕ → Type 0
 HasNormalForm recording normal = tm_normal_form link recording ≡ normal
 
@@ -93,6 +104,14 @@ pub record HaveNormalForms : Type 0 where
   -- an idle frame doesn't
   pub idle_frame : HasNormalForm in_three_frames (begun ++ framed 1 1 0x18 0x07 ended)
   pub wrong_pointer : HasNormalForm (begun ++ framed 1 1 0x18 0x11 ended) wide_filling
+  pub covers_field : HasNormalForm covering covering
+  -- but where the pointer says that a packet starts at 0, it isn't delivered,
+  pub covers_field_at_0 : HasNormalForm (begun ++ framed 1 1 0x18 0x00 covered) wide_filling
+  -- nor where it would end within a data field in which no packet starts
+  pub ends_without_start : HasNormalForm (begun ++ framed 1 1 0x1F 0xFF ended) wide_filling
+  -- count 0 is the next one after 255, and 255 isn't
+  pub next_count : HasNormalForm (begun_at_255 ++ framed 0 0 0x18 0x07 ended) (begun ++ framed 1 1 0x18 0x07 ended)
+  pub same_count : HasNormalForm (begun_at_255 ++ framed 255 255 0x18 0x07 ended) two_packets
   pub repeated : HasNormalForm (begun ++ begun) twice
   pub remainder : HasNormalForm three_copies three_copies_normal
   pub opaque_frame : HasNormalForm (begun ++ framed 1 1 0x98 0x00 (replicate 26 0) ++ framed 2 2 0x18 0x07 ended) two_packets
@@ -112,6 +131,11 @@ normal_forms =
       gap = refl;
       idle_frame = refl;
       wrong_pointer = refl;
+      covers_field = refl;
+      covers_field_at_0 = refl;
+      ends_without_start = refl;
+      next_count = refl;
+      same_count = refl;
       repeated = refl;
       remainder = refl;
       opaque_frame = refl;
@@ -120,8 +144,8 @@ normal_forms =
     }
 
 -- with an operational control field, and with error control, where a frame with a wrong field is skipped
-abbrev controlled : List ℕ
-controlled = (0x00 ∷ 0x11 ∷ 0x00 ∷ 0x00 ∷ 0x18 ∷ 0x00 ∷ []) ++ ten ++ (0x07 ∷ 0xFF ∷ 0xC0 ∷ 0x00 ∷ 0x00 ∷ 0x05 ∷ []) ++ replicate 6 0 ++ (0x01 ∷ 0x00 ∷ 0x28 ∷ 0x05 ∷ [])
+abbrev controlled : List ℕ → List ℕ
+controlled word = (0x00 ∷ 0x11 ∷ 0x00 ∷ 0x00 ∷ 0x18 ∷ 0x00 ∷ []) ++ ten ++ (0x07 ∷ 0xFF ∷ 0xC0 ∷ 0x00 ∷ 0x00 ∷ 0x05 ∷ []) ++ replicate 6 0 ++ word
 
 abbrev guarded : List ℕ
 guarded = one_packet ++ (0x5E ∷ 0x0C ∷ [])
@@ -130,7 +154,8 @@ abbrev damaged : List ℕ
 damaged = framed 0 0 0x18 0x00 ((0x00 ∷ 0x01 ∷ 0xC0 ∷ 0x00 ∷ 0x00 ∷ 0x03 ∷ 0xAB ∷ 0xBB ∷ 0xCC ∷ 0xDD ∷ []) ++ (0x07 ∷ 0xFF ∷ 0xC0 ∷ 0x00 ∷ 0x00 ∷ 0x09 ∷ []) ++ replicate 10 0 ++ (0x5E ∷ 0x0C ∷ []))
 
 pub record HaveFieldsLeftOut : Type 0 where
-  pub control : HasNormalForm controlled one_packet
+  pub control : HasNormalForm (controlled (0x01 ∷ 0x00 ∷ 0x28 ∷ 0x05 ∷ [])) one_packet
+  pub other_control : HasNormalForm (controlled (0x80 ∷ 0x00 ∷ 0x00 ∷ 0x00 ∷ [])) one_packet
   pub error_control : tm_normal_form (record link { tm_length = 34; tm_fecf = true }) (damaged ++ guarded) ≡ guarded
 
 pub fields_left_out : HaveFieldsLeftOut
@@ -138,6 +163,7 @@ unfolding idle_packet fecf_of register_of
 fields_left_out =
     record {
       control = refl;
+      other_control = refl;
       error_control = refl;
     }
 

@@ -4,16 +4,8 @@ use Rattle.std.specs.List.{slice_index_or, slice_set}
 use Rattle.sl_packet.specs.Packets.{without_idle}
 use Rattle.sl_tmframe.specs.declared.tm_frame.TmSkip.{TmSkip}
 use Rattle.sl_tmframe.specs.TmFrame.{TmView, tm_frame}
-use Rattle.sl_tmflow.specs.Extraction.{ExtractorState, HasProcessed, ended_by}
+use Rattle.sl_tmflow.specs.Extraction.{ended_by}
 use Rattle.sl_link.specs.Managed.{Parameters, tm_format}
-
--- some frames were processed, and no fault came
-abbrev pub IsWorking : ExtractorState → Type 0
-IsWorking state = (views : List TmView) × HasProcessed state views
-
--- it holds whichever frames were processed
-abbrev pub ForProcessed : ExtractorState → (List TmView → Type 0) → Type 0
-ForProcessed state holds = (views : List TmView) → HasProcessed state views → holds views
 
 -- a frame of a recording, as it is read
 abbrev pub as_read : Parameters → List ℕ → Result TmView TmSkip

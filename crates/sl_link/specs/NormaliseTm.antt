@@ -1,4 +1,5 @@
--- The normal form of a TM recording, which `normalise_tm` writes, and what it counts.
+-- The normal form of a TM recording, which `normalise_tm` writes, and what it counts: this project's mission
+-- profile.
 use Rattle.std.specs.Prelude.{ℕ, ◌+◌, List, [], ◌∷◌, length, map}
 use Rattle.std.specs.List.{range_with_len}
 use Rattle.sl_packet.specs.Packets.{without_idle, only_idle}

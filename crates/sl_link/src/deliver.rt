@@ -2,9 +2,9 @@
 ghost use Rattle.std.specs.Prelude.{◌≡◌, ◌+◌, ◌<◌, ◌≤◌, ◌^◌, length, take, IfOk, IfErr, OnOk, is_err};
 ghost use Rattle.sl_packet.specs.Delivered.{no_lists, FitsTm};
 ghost use Rattle.sl_packet.specs.Packets.{only_idle, without_idle};
-ghost use Rattle.sl_link.specs.Deliver.{ForProcessed, IsWorking, as_read, ended_in, lists_after, with_frame};
+ghost use Rattle.sl_link.specs.Deliver.{as_read, ended_in, lists_after, with_frame};
 ghost use Rattle.sl_link.specs.NormaliseTm.{tm_counts, tm_packets};
-ghost use Rattle.sl_tmflow.specs.Extraction.{HasProcessed};
+ghost use Rattle.sl_tmflow.specs.Extraction.{ForProcessed, HasProcessed, IsWorking};
 
 use crate::link_fault::LinkFault;
 use crate::managed::Managed;

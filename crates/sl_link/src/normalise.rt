@@ -15,8 +15,12 @@ use sl_tmflow::reframe_tm;
 use std::alloc::Global;
 use std::io::{Read, Write};
 
-/// Reads a recording of TM transfer frames to its end, and writes the normal form of the packets that its
-/// frames deliver. Nothing is written before all is read.
+/// Reads a recording of TM transfer frames to its end, and then writes the normal form of the packets that its
+/// frames deliver (docs/normal-form.md).
+///
+/// The fault is `Read` where the reader had one, `TooLong` where more octets came than the managed limit, and
+/// `Memory` where memory was refused; nothing is written then. Or it is `Write`, where the writer had one; it then
+/// has a prefix of the normal form.
 pub fn normalise_tm<R: Read, W: Write>(
     alloc: Global,
     managed: &Managed,

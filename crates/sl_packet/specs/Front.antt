@@ -1,4 +1,4 @@
--- What octets begin with: a packet, or less, or something else.
+-- What octets begin with: a space packet, CCSDS 133.0-B, or less, or something else.
 use Rattle.std.specs.Prelude.{◌≡◌, ℕ, ◌≤◌, ◌==◌, ◌&&◌, nat_lt, Bool, not, if◌then◌else◌, List, ◌++◌, length, take, Option, None, Some}
 use Rattle.sl_packet.specs.Packet.{version_of, stated_len, IsPacket}
 

@@ -1,4 +1,5 @@
--- The idle packet that is written where octets are to be filled.
+-- The idle packet that is written where octets are to be filled. Its APID is that of idle packets, CCSDS
+-- 133.0-B; its other fields and its data are this project's mission profile.
 use Rattle.std.specs.Prelude.{◌≡◌, ℕ, ◌-◌, ◌≤◌, true, false, List, ◌++◌, length, replicate}
 use Rattle.sl_fields.specs.PacketHeader.{PacketFields, packet_octets}
 use Rattle.sl_packet.specs.Packet.{IsPacket, is_idle_packet}

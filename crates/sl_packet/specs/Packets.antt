@@ -1,4 +1,4 @@
--- The packets that lie end to end at the front of octets.
+-- The space packets, CCSDS 133.0-B, that lie end to end at the front of octets.
 use Rattle.std.specs.Prelude.{◌≡◌, ℕ, zero, suc, ◌-◌, not, List, [], ◌∷◌, ◌++◌, length, take, drop, Option, option_map, IfSome, IfNone}
 use denote.Ref.{Bor}
 use Rattle.std.specs.Iterator.{YieldsFirstBy}

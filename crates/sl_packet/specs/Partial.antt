@@ -1,4 +1,4 @@
--- What octets want to be a packet.
+-- What octets want to be a space packet, CCSDS 133.0-B.
 use Rattle.std.specs.Prelude.{◌≡◌, ◌↔◌, ℕ, ◌+◌, ◌-◌, nat_lt, if◌then◌else◌, List, ◌++◌, length}
 use Rattle.sl_packet.specs.Packet.{IsPacket, stated_len}
 use Rattle.sl_packet.specs.Front.{front, is_foreign}

@@ -1,5 +1,5 @@
 -- What is kept of a channel is what its frames leave, frame by frame.
-use Rattle.std.proofs.Common.{◌≡◌, ℕ, ◌+◌, ◌<◌, ◌≤◌, ◌==◌, Bool, true, false, if◌then◌else◌, List, [], ◌∷◌, ◌++◌, length, take, drop, set, Option, None, Some, inl, inr, refl, sym, ◌∙◌, ap, subst, arith, append-nil}
+use Rattle.std.proofs.Common.{◌≡◌, ℕ, ◌<◌, ◌≤◌, ◌==◌, Bool, true, false, if◌then◌else◌, List, [], ◌∷◌, ◌++◌, length, take, drop, set, Option, None, Some, inl, inr, refl, sym, ◌∙◌, ap, subst, arith, append-nil}
 use Rattle.std.specs.List.{flat_map, slice_index_or}
 use Rattle.std.proofs.lemmas.Bool.Decides.{eqb_tells}
 use Rattle.std.proofs.lemmas.List.{get_or_default, get_or-set_same, get_or-set_other}
@@ -9,12 +9,13 @@ use Rattle.sl_packet.specs.Packets.{rest_of}
 use Rattle.sl_tmframe.specs.TmFrame.{TmView, DataField, Packets, Idle, Opaque}
 use Rattle.sl_tmflow.specs.Channel.{channel_of, follows, packet_data}
 use Rattle.sl_tmflow.specs.ChannelState.{ChannelState, no_frame, held_step, kept_of, kept_octets, incomplete_in, held_after, state_after, packets_after}
-use Rattle.sl_tmflow.specs.Delivery.{Step, Ends, Continues, Breaks, agreeing_pointer, carried, ended, field_step, front_step, frame_held, held_in, outcome_of, outcome_of_front, packets_ending, same_pointer, step_of}
+use Rattle.sl_tmflow.specs.Delivery.{Continuation, Ends, Continues, Breaks, agreeing_pointer, ended, field_step, front_step, outcome_of, outcome_of_front, packets_ending, same_pointer, step_of}
+use Rattle.sl_tmflow.specs.Incomplete.{frame_incomplete, incomplete_octets}
 use Rattle.sl_tmflow.specs.Extraction.{ExtractorState, HasSeen, HasProcessed, ended_by, held_as, last_count}
 use Rattle.sl_tmflow.specs.PacketStart.{whole_packets}
 use Rattle.sl_tmflow.proofs.AtStartsLemmas.{at_rest}
-use Rattle.sl_tmflow.proofs.HeldLemmas.{held_of_idle, held_of_opaque, held_without_pointer, held_from_pointer}
-use Rattle.sl_tmflow.proofs.OneMoreLemmas.{carried_into, held_first, held_next, ending_first, ending_next}
+use Rattle.sl_tmflow.proofs.IncompleteListLemmas.{incomplete_of_idle, incomplete_of_opaque, incomplete_without_pointer, incomplete_from_pointer}
+use Rattle.sl_tmflow.proofs.OneMoreLemmas.{carried, carried_into, incomplete_first, incomplete_next, ending_first, ending_next}
 
 -- ---- the last frame of a channel
 
@@ -55,7 +56,7 @@ one_more state (view ∷ later) next s =
 
 -- ---- what is held
 
-goes_on : (s : Step) (octet : ℕ) (octets : List ℕ) → carried s (octet ∷ octets) ++ [] ≡ held_as (kept_of s (octet ∷ octets))
+goes_on : (s : Continuation) (octet : ℕ) (octets : List ℕ) → carried s (octet ∷ octets) ++ [] ≡ held_as (kept_of s (octet ∷ octets))
 goes_on (Ends packet) octet octets = refl
 goes_on Continues octet octets = refl
 goes_on Breaks octet octets = refl
@@ -76,7 +77,7 @@ not_past_start pointer before field all Foreign = refl
 not_past_start pointer before field all Incomplete = refl
 not_past_start pointer before field all (Whole len) = ends_or_breaks (same_pointer (Some pointer) (agreeing_pointer len before field)) (take len all) all
 
-if_follows : (b : Bool) (s : Step) (octets : List ℕ) → kept_of s octets ≡ [] → kept_of (if b then s else Breaks) octets ≡ []
+if_follows : (b : Bool) (s : Continuation) (octets : List ℕ) → kept_of s octets ≡ [] → kept_of (if b then s else Breaks) octets ≡ []
 if_follows true s octets none = none
 if_follows false s octets none = refl
 
@@ -87,7 +88,7 @@ none_kept (Some count) [] next pointer octets is = refl
 none_kept (Some count) (octet ∷ held) next pointer octets is =
     let before = octet ∷ held in
     let all = before ++ octets in
-    if_follows (follows count next) (field_step before next.field) (before ++ packet_data next)
+    if_follows (follows count next.vc_count) (field_step before next.field) (before ++ packet_data next)
     (rw is (not_past_start pointer (length before) octets all (front all)))
 
 -- what starts in the frame
@@ -97,31 +98,31 @@ none_incomplete Foreign = refl
 none_incomplete Incomplete = refl
 none_incomplete (Whole len) = refl
 
-rest_held : (view : TmView) (octet : ℕ) (rest : List ℕ) (f : Front) → held_as (incomplete_in f (octet ∷ rest)) ≡ held_in (outcome_of_front f view (octet ∷ rest) [])
+rest_held : (view : TmView) (octet : ℕ) (rest : List ℕ) (f : Front) → held_as (incomplete_in f (octet ∷ rest)) ≡ incomplete_octets (outcome_of_front f view (octet ∷ rest) [])
 rest_held view octet rest Foreign = refl
 rest_held view octet rest Incomplete = refl
 rest_held view octet rest (Whole len) = refl
 
-held_at_rest : (view : TmView) (rest : List ℕ) → held_as (incomplete_in (front rest) rest) ≡ at_rest (λ l. held_in (outcome_of view l [])) rest
+held_at_rest : (view : TmView) (rest : List ℕ) → held_as (incomplete_in (front rest) rest) ≡ at_rest (λ l. incomplete_octets (outcome_of view l [])) rest
 held_at_rest view [] = ap held_as (none_incomplete (front []))
 held_at_rest view (octet ∷ rest) = rest_held view octet rest (front (octet ∷ rest))
 
-held_in_field : (view : TmView) (field : DataField) (kept : List ℕ) → view.field ≡ field
+incomplete_in_field : (view : TmView) (field : DataField) (kept : List ℕ) → view.field ≡ field
     → ((pointer : ℕ) (octets : List ℕ) → field ≡ Packets (Some pointer) octets → kept ≡ [])
-    → held_as (held_after field kept) ≡ held_as kept ++ frame_held view []
-held_in_field view (Packets None octets) kept is none =
-    sym (ap (λ l. held_as kept ++ l) (held_without_pointer view [] octets is) ∙ append-nil (held_as kept))
-held_in_field view (Packets (Some pointer) octets) kept is none =
-    held_at_rest view (rest_of (drop pointer octets)) ∙ sym (held_from_pointer view [] pointer octets is)
-    ∙ ap (λ l. held_as l ++ frame_held view []) (sym (none pointer octets refl))
-held_in_field view Idle kept is none = sym (ap (λ l. held_as kept ++ l) (held_of_idle view [] is) ∙ append-nil (held_as kept))
-held_in_field view Opaque kept is none = sym (ap (λ l. held_as kept ++ l) (held_of_opaque view [] is) ∙ append-nil (held_as kept))
+    → held_as (held_after field kept) ≡ held_as kept ++ frame_incomplete view []
+incomplete_in_field view (Packets None octets) kept is none =
+    sym (ap (λ l. held_as kept ++ l) (incomplete_without_pointer view [] octets is) ∙ append-nil (held_as kept))
+incomplete_in_field view (Packets (Some pointer) octets) kept is none =
+    held_at_rest view (rest_of (drop pointer octets)) ∙ sym (incomplete_from_pointer view [] pointer octets is)
+    ∙ ap (λ l. held_as l ++ frame_incomplete view []) (sym (none pointer octets refl))
+incomplete_in_field view Idle kept is none = sym (ap (λ l. held_as kept ++ l) (incomplete_of_idle view [] is) ∙ append-nil (held_as kept))
+incomplete_in_field view Opaque kept is none = sym (ap (λ l. held_as kept ++ l) (incomplete_of_opaque view [] is) ∙ append-nil (held_as kept))
 
 held_by_frame : (count : Option ℕ) (held : List ℕ) (next : TmView)
     → held_as (held_after next.field (kept_octets (held_step count held next) held next))
-    ≡ held_as (kept_octets (held_step count held next) held next) ++ frame_held next []
+    ≡ held_as (kept_octets (held_step count held next) held next) ++ frame_incomplete next []
 held_by_frame count held next =
-    held_in_field next next.field (kept_octets (held_step count held next) held next) refl (λ pointer octets is. none_kept count held next pointer octets is)
+    incomplete_in_field next next.field (kept_octets (held_step count held next) held next) refl (λ pointer octets is. none_kept count held next pointer octets is)
 
 -- ---- one frame more
 
@@ -134,8 +135,8 @@ seen_first state next s =
       count = refl;
       held =
           held_by_frame state.count state.held next
-          ∙ ap (λ c. held_as (kept_octets (held_step c state.held next) state.held next) ++ frame_held next []) s.count
-          ∙ sym (held_first next);
+          ∙ ap (λ c. held_as (kept_octets (held_step c state.held next) state.held next) ++ frame_incomplete next []) s.count
+          ∙ sym (incomplete_first next);
     }
 
 seen_next : (state : ChannelState) (before : List TmView) (last next : TmView) → HasSeen state (before ++ last ∷ [])
@@ -145,10 +146,10 @@ seen_next state before last next s =
       count = sym (last_count-push (before ++ last ∷ []) next);
       held =
           held_by_frame state.count state.held next
-          ∙ ap (λ c. held_as (kept_octets (held_step c state.held next) state.held next) ++ frame_held next []) (s.count ∙ last_count-push before last)
-          ∙ ap (λ l. l ++ frame_held next []) (sym (carried_held last next state.held))
-          ∙ ap (λ l. flat_map (carried_into last next) l ++ frame_held next []) s.held
-          ∙ sym (held_next before last next);
+          ∙ ap (λ c. held_as (kept_octets (held_step c state.held next) state.held next) ++ frame_incomplete next []) (s.count ∙ last_count-push before last)
+          ∙ ap (λ l. l ++ frame_incomplete next []) (sym (carried_held last next state.held))
+          ∙ ap (λ l. flat_map (carried_into last next) l ++ frame_incomplete next []) s.held
+          ∙ sym (incomplete_next before last next);
     }
 
 pub seen_more : (state : ChannelState) (channel : List TmView) (next : TmView) → HasSeen state channel → HasSeen (state_after state next) (channel ++ next ∷ [])

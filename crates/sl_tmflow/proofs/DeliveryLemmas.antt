@@ -6,7 +6,7 @@ use Rattle.sl_tmframe.specs.TmFrame.{TmView, DataField, Packets, Idle, Opaque}
 use Rattle.sl_tmflow.specs.Channel.{data_of}
 use Rattle.sl_tmflow.specs.Among.{IsAmong}
 use Rattle.sl_tmflow.specs.PacketStart.{IsStart, starts_from, starts_of}
-use Rattle.sl_tmflow.specs.Delivery.{Delivery, IsDelivery, Outcome, Completes, Held, Undelivered, outcome_of, delivery_of, frame_deliveries, deliveries_from, deliveries_of, EachIsDelivery, EachIsListed, StartsBefore, AreInOrder, DeliveriesAreInOrder}
+use Rattle.sl_tmflow.specs.Delivery.{Delivery, IsDelivery, Outcome, Completes, StillIncomplete, Undelivered, outcome_of, delivery_of, frame_deliveries, deliveries_from, deliveries_of, EachIsDelivery, EachIsListed, StartsBefore, AreInOrder, DeliveriesAreInOrder}
 use Rattle.sl_tmflow.proofs.EachLemmas.{each-append, each-weaker, each-flat_map}
 use Rattle.sl_tmflow.proofs.StartLemmas.{each_is_start, is_among, AreRising, starts_rise}
 use Rattle.sl_tmflow.proofs.OutcomeLemmas.{outcome_delivered, delivered_outcome}
@@ -42,7 +42,7 @@ start_delivery channel before view later frame first octets start all here is s 
           },
           tt,
         )
-    cases (Held so_far) e = tt
+    cases (StillIncomplete so_far) e = tt
     cases Undelivered e = tt
 
 frame_deliveries_are : (channel before : List TmView) (view : TmView) (later : List TmView) (frame : ℕ)
@@ -80,7 +80,7 @@ module _ {X : Type 0} where
   among-right x [] ys there = there
   among-right x (y ∷ xs) ys there = inr (among-right x xs ys there)
 
-  among-flat_map : {Y : Type 0} (x : X) (f : Y → List X) (y : Y) (ys : List Y) → IsAmong y ys → IsAmong x (f y) → IsAmong x (flat_map f ys)
+  pub among-flat_map : {Y : Type 0} (x : X) (f : Y → List X) (y : Y) (ys : List Y) → IsAmong y ys → IsAmong x (f y) → IsAmong x (flat_map f ys)
   among-flat_map x f y [] among there = absurd among
   among-flat_map x f y (other ∷ ys) (inl here) there = among-left x (f other) (flat_map f ys) (subst (λ z. IsAmong x (f z)) here there)
   among-flat_map x f y (other ∷ ys) (inr among) there = among-right x (f other) (flat_map f ys) (among-flat_map x f y ys among there)
@@ -140,12 +140,12 @@ IsPast frame start d = (d.frame ≡ frame) × (start < d.start)
 
 is_from : (frame start : ℕ) (o : Outcome) → AllByRecursion (IsFrom frame start) (delivery_of frame start o)
 is_from frame start (Completes packet passed) = ((refl, refl), tt)
-is_from frame start (Held so_far) = tt
+is_from frame start (StillIncomplete so_far) = tt
 is_from frame start Undelivered = tt
 
 at_most_one : (frame start : ℕ) (o : Outcome) → AreInOrder (delivery_of frame start o)
 at_most_one frame start (Completes packet passed) = (tt, tt)
-at_most_one frame start (Held so_far) = tt
+at_most_one frame start (StillIncomplete so_far) = tt
 at_most_one frame start Undelivered = tt
 
 past : (frame start : ℕ) (o : ℕ → Outcome) (starts : List ℕ) → AllByRecursion (λ later. start < later) starts

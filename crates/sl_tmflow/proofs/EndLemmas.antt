@@ -1,17 +1,20 @@
--- Packets in the order of their starts are in the order of their ends.
-use Rattle.std.proofs.Common.{◌≡◌, ℕ, ◌+◌, ◌<◌, ◌≤◌, List, [], ◌∷◌, ◌++◌, length, take, drop, Option, None, Some, inl, inr, refl, sym, ◌∙◌, ap, subst, arith, length-append, length-drop, append_assoc}
+-- Packets in the order of their starts are in the order of their ends, and no two share an octet.
+use Rattle.std.proofs.Common.{◌≡◌, ℕ, ◌+◌, ◌-◌, ◌<◌, ◌≤◌, nat_lt, Bool, true, false, if◌then◌else◌, List, [], ◌∷◌, ◌++◌, length, take, drop, map, Option, None, Some, inl, inr, refl, sym, ◌∙◌, ap, subst, arith, length-append, length-drop, append-nil, append_assoc}
 use Rattle.std.proofs.lemmas.Bool.{cases_lt}
 use Rattle.std.proofs.lemmas.List.{append_cancel_left, length_push, take-append-drop, take-append-le, take_at, nil_from_length}
-use Rattle.std.specs.List.{concat}
+use Rattle.std.specs.List.{AllByRecursion, concat}
+use Rattle.sl_packet.specs.Packet.{IsPacket}
 use Rattle.sl_packet.specs.Front.{Incomplete, Whole, front}
 use Rattle.sl_packet.specs.Packets.{packets_of, rest_of}
+use Rattle.sl_packet.proofs.PacketLemmas.{one_packet}
 use Rattle.sl_packet.proofs.PacketsLemmas.{rest_of-concat, rest_of-none}
 use Rattle.sl_tmframe.specs.TmFrame.{TmView, DataField, Packets}
-use Rattle.sl_tmflow.specs.Channel.{packet_data}
+use Rattle.sl_tmflow.specs.Channel.{data_of, packet_data, reassembly}
 use Rattle.sl_tmflow.specs.PacketStart.{IsStart}
-use Rattle.sl_tmflow.specs.Delivery.{IsDeliveredBy, Delivery, IsDelivery, EndsAreInOrder}
+use Rattle.sl_tmflow.specs.Delivery.{IsDeliveredBy, Delivery, IsDelivery, EndsAreInOrder, EachEndsByTheNextStart, start_place, NoneOverlap}
+use Rattle.sl_tmflow.specs.Incomplete.{HasNoStart}
 use Rattle.sl_tmflow.proofs.EachLemmas.{head_same}
-use Rattle.sl_tmflow.proofs.OpenLemmas.{HasNoStart}
+use Rattle.sl_tmflow.proofs.IncompleteLemmas.{reassembly-append, reassembly-push}
 use Rattle.sl_tmflow.proofs.OutcomeLemmas.{delivered_tail, incomplete_before_more, delivered_goes_on}
 
 -- ---- lists that begin alike
@@ -85,16 +88,22 @@ at_start x first octets first' octets' is is' = let same : Packets first octets 
 from_frame : (channel : List TmView) (d : Delivery) (x : IsDelivery channel d) → channel ≡ x.before ++ x.view ∷ (x.run ++ x.after)
 from_frame channel d x = x.in_order ∙ append_assoc x.before (x.view ∷ x.run) x.after
 
-in_one_frame : (channel : List TmView) (d e : Delivery)
-    → IsDelivery channel d → IsDelivery channel e → d.frame ≡ e.frame → d.start < e.start → d.ending ≤ e.ending
-in_one_frame channel d e x y same less =
+-- in one frame, the other packet's start is one of the same data field
+start_in_frame : (channel : List TmView) (d e : Delivery) (x : IsDelivery channel d) → IsDelivery channel e → d.frame ≡ e.frame
+    → IsStart x.octets x.first e.start
+start_in_frame channel d e x y same =
     let view : x.view ≡ y.view =
     same_there x.before y.before x.view y.view (x.run ++ x.after) (y.run ++ y.after) (sym (from_frame channel e y) ∙ from_frame channel d x)
     (omega (arith, x.frame, y.frame)) in
     let (first, octets) = at_start x.view.field x.first x.octets y.first y.octets x.field (ap (λ v. v.field) view ∙ y.field) in
-    let start : IsStart x.octets x.first e.start = subst (λ o. IsStart o x.first e.start) octets (subst (λ f. IsStart y.octets f e.start) first y.start) in
+    subst (λ o. IsStart o x.first e.start) octets (subst (λ f. IsStart y.octets f e.start) first y.start)
+
+in_one_frame : (channel : List TmView) (d e : Delivery)
+    → IsDelivery channel d → IsDelivery channel e → d.frame ≡ e.frame → d.start < e.start → d.ending ≤ e.frame
+in_one_frame channel d e x y same less =
+    let start = start_in_frame channel d e x y same in
     let here = ends_in_its_frame x.view x.octets x.first d.start e.start x.run d.packet x.start start less x.delivered in
-    omega (arith, x.ending, y.ending)
+    omega (arith, x.ending)
 
 -- a frame within the run of a delivery and before its last one
 within_run : (view : TmView) (octets : List ℕ) (run after : List TmView) (packet : List ℕ) (earlier : List TmView) (next : TmView) (later : List TmView)
@@ -110,25 +119,139 @@ within_run view octets run after packet earlier next later d same before =
     cases [] some d = absurd (omega arith)
     cases (second ∷ more) some d = no_start_before_last view octets earlier next second more packet d
 
+-- the frames between the starts of two packets
+frames_between : (channel : List TmView) (d e : Delivery) (x : IsDelivery channel d) (y : IsDelivery channel e) → d.frame < e.frame
+    → (earlier : List TmView) × (y.before ≡ (x.before ++ x.view ∷ []) ++ earlier) × (x.run ++ x.after ≡ earlier ++ y.view ∷ (y.run ++ y.after))
+frames_between channel d e x y less =
+    longer_begins (x.before ++ x.view ∷ []) (x.run ++ x.after) y.before (y.view ∷ (y.run ++ y.after))
+    (sym (from_frame channel e y) ∙ from_frame channel d x ∙ sym (append_assoc x.before (x.view ∷ []) (x.run ++ x.after)))
+    (omega (arith, x.frame, y.frame, length_push x.before x.view))
+
 -- a packet never ends after a later frame in which another one starts
 ended_by_then : (channel : List TmView) (d e : Delivery) → IsDelivery channel d → IsDelivery channel e → d.frame < e.frame → e.frame < d.ending → ⊥
 ended_by_then channel d e x y less over =
-    let (earlier, is, rest) = longer_begins (x.before ++ x.view ∷ []) (x.run ++ x.after) y.before (y.view ∷ (y.run ++ y.after))
-    (sym (from_frame channel e y) ∙ from_frame channel d x ∙ sym (append_assoc x.before (x.view ∷ []) (x.run ++ x.after)))
-    (omega (arith, x.frame, y.frame, length_push x.before x.view)) in
+    let (earlier, is, rest) = frames_between channel d e x y less in
     let none : y.first ≡ None = within_run x.view (drop d.start x.octets) x.run x.after d.packet earlier y.view (y.run ++ y.after) x.delivered rest
     (omega (arith, x.frame, y.frame, x.ending, ap length is, length_push x.before x.view, length-append (x.before ++ x.view ∷ []) earlier))
     y.first y.octets y.field in
     let both : Some y.start.pointer ≡ None = sym y.start.pointed ∙ none in
     cc
 
-in_later_frame : (channel : List TmView) (d e : Delivery) → IsDelivery channel d → IsDelivery channel e → d.frame < e.frame → d.ending ≤ e.ending
+in_later_frame : (channel : List TmView) (d e : Delivery) → IsDelivery channel d → IsDelivery channel e → d.frame < e.frame → d.ending ≤ e.frame
 in_later_frame channel d e x y less =
     elim (cases_lt e.frame d.ending) [
       | inl over ↦ absurd (ended_by_then channel d e x y less over)
-      | inr by_then ↦ omega (arith, y.ending)
+      | inr by_then ↦ by_then
     ]
 
+pub each_ends_by_the_next_start : EachEndsByTheNextStart
+each_ends_by_the_next_start channel d e x y (inl less) = in_later_frame channel d e x y less
+each_ends_by_the_next_start channel d e x y (inr same) = in_one_frame channel d e x y same.0 same.1
+
 pub ends_are_in_order : EndsAreInOrder
-ends_are_in_order channel d e x y (inl less) = in_later_frame channel d e x y less
-ends_are_in_order channel d e x y (inr same) = in_one_frame channel d e x y same.0 same.1
+ends_are_in_order channel d e x y before = omega (arith, each_ends_by_the_next_start channel d e x y before, y.ending)
+
+-- ---- places
+
+-- of packets that lie end to end, one that starts before another start ends before it, or at it
+ends_by_offset : (before others : List (List ℕ)) (packet more rest : List ℕ) → AllByRecursion IsPacket before → AllByRecursion IsPacket others → IsPacket packet
+    → concat before ++ (packet ++ more) ≡ concat others ++ rest → length (concat before) < length (concat others)
+    → length (concat before) + length packet ≤ length (concat others)
+ends_by_offset before [] packet more rest done each p same less = absurd (omega arith)
+ends_by_offset [] (other ∷ others) packet more rest done each p same less =
+    let is : packet ≡ other = one_packet packet other more (concat others ++ rest) p each.0 (same ∙ append_assoc other (concat others) rest) in
+    omega (arith, ap length is, length-append other (concat others))
+ends_by_offset (first ∷ before) (other ∷ others) packet more rest done each p same less =
+    let left = concat before ++ (packet ++ more) in
+    let right = concat others ++ rest in
+    let split : first ++ left ≡ other ++ right = sym (append_assoc first (concat before) (packet ++ more)) ∙ same ∙ append_assoc other (concat others) rest in
+    let is : first ≡ other = one_packet first other left right done.0 each.0 split in
+    let next : left ≡ right = append_cancel_left first left right (split ∙ ap (λ l. l ++ right) (sym is)) in
+    let long : length first ≡ length other = ap length is in
+    let first_long = length-append first (concat before) in
+    let other_long = length-append other (concat others) in
+    let later = ends_by_offset before others packet more rest done.1 each.1 p next (omega arith) in
+    omega arith
+
+ends_by_start : (octets : List ℕ) (first : Option ℕ) (start later : ℕ) (packet more : List ℕ) → IsStart octets first start → IsStart octets first later → start < later
+    → IsPacket packet → packet ++ more ≡ drop start octets → start + length packet ≤ later
+ends_by_start octets first start later packet more s t less p begins =
+    let pointers : s.pointer ≡ t.pointer = same_some s.pointer t.pointer (sym s.pointed ∙ t.pointed) in
+    let same : concat s.before ++ (packet ++ more) ≡ concat t.before ++ drop later octets =
+    ap (λ l. concat s.before ++ l) begins ∙ sym s.end_to_end ∙ ap (λ n. drop n octets) pointers ∙ t.end_to_end in
+    let here = s.here in
+    let there = t.here in
+    let offset = ends_by_offset s.before t.before packet more (drop later octets) s.packets t.packets p same (omega arith) in
+    omega arith
+
+-- the octets of a packet that is delivered in its own frame
+begins_in_frame : (view : TmView) (octets : List ℕ) (run : List TmView) (packet : List ℕ) (d : IsDeliveredBy view octets run packet) → length run ≡ 0
+    → packet ++ d.ends.0 ≡ octets
+begins_in_frame view octets run packet d none =
+    d.ends.1 ∙ ap (reassembly octets) (nil_from_length run none) ∙ append-nil octets
+
+apart_in_one_frame : (channel : List TmView) (d e : Delivery) → IsDelivery channel d → IsDelivery channel e → d.frame ≡ e.frame → d.start < e.start
+    → start_place channel d + length d.packet ≤ start_place channel e
+apart_in_one_frame channel d e x y same less =
+    let start = start_in_frame channel d e x y same in
+    let here = ends_in_its_frame x.view x.octets x.first d.start e.start x.run d.packet x.start start less x.delivered in
+    let past = ends_by_start x.octets x.first d.start e.start d.packet x.delivered.ends.0 x.start start less x.delivered.is_packet
+    (begins_in_frame x.view (drop d.start x.octets) x.run d.packet x.delivered here) in
+    omega (arith, past, ap (λ n. length (reassembly [] (take n channel))) same)
+
+-- the place of a delivery's start, by the frames before it
+place_is : (channel : List TmView) (d : Delivery) (x : IsDelivery channel d) → start_place channel d ≡ length (reassembly [] x.before) + d.start
+place_is channel d x =
+    let before : take d.frame channel ≡ x.before =
+    ap (λ l. take d.frame l) (from_frame channel d x) ∙ ap (λ n. take n (x.before ++ x.view ∷ (x.run ++ x.after))) x.frame
+    ∙ take_at x.before (x.view ∷ (x.run ++ x.after)) (length x.before) refl in
+    ap (λ l. length (reassembly [] l) + d.start) before
+
+agreeing_some : (ends : Bool) (place pointer : ℕ) → (if ends then Some place else None) ≡ Some pointer → place ≡ pointer
+agreeing_some true place pointer e = same_some place pointer e
+agreeing_some false place pointer e = absurd (cc)
+
+-- a packet ends before the pointer of a frame after its start, or at it
+ends_by_pointer : (view : TmView) (octets : List ℕ) (run after : List TmView) (packet : List ℕ) (earlier : List TmView) (next : TmView) (later : List TmView)
+    (pointer : ℕ) (field : List ℕ) → IsDeliveredBy view octets run packet → run ++ after ≡ earlier ++ next ∷ later
+    → next.field ≡ Packets (Some pointer) field → length packet ≤ length (reassembly octets earlier) + pointer
+ends_by_pointer view octets run after packet earlier next later pointer field d same is =
+    elim (cases_lt (length earlier) (length run)) [
+      | inl inside ↦
+          let (more, longer, rest) = longer_begins (earlier ++ next ∷ []) later run after
+          (same ∙ sym (append_assoc earlier (next ∷ []) later)) (omega (arith, length_push earlier next)) in
+          let agreed = d.agreed earlier next more (Some pointer) field (longer ∙ append_assoc earlier (next ∷ []) more) is in
+          let before = length (reassembly octets earlier) in
+          let place = agreeing_some (nat_lt (length packet) (before + length field)) (length packet - before) pointer (sym agreed) in
+          omega (arith, place)
+      | inr beyond ↦
+          let (more, longer, rest) = longer_begins run after earlier (next ∷ later) (sym same) beyond in
+          let all : length (reassembly octets earlier) ≡ length (reassembly octets run) + length (concat (map packet_data more)) =
+          ap (λ l. length (reassembly octets l)) longer ∙ ap length (reassembly-append octets run more) ∙ length-append (reassembly octets run) (concat (map packet_data more)) in
+          omega (arith, all, ap length d.ends.1, length-append packet d.ends.0)
+    ]
+
+apart_in_later_frame : (channel : List TmView) (d e : Delivery) → IsDelivery channel d → IsDelivery channel e → d.frame < e.frame
+    → start_place channel d + length d.packet ≤ start_place channel e
+apart_in_later_frame channel d e x y less =
+    let (earlier, is, rest) = frames_between channel d e x y less in
+    let carried : length (packet_data x.view) ≡ length x.octets = ap (λ f. length (data_of f)) x.field in
+    let so_far = length (concat (map packet_data earlier)) in
+    let before : length (reassembly [] y.before) ≡ length (reassembly [] x.before) + length (packet_data x.view) + so_far =
+    ap (λ l. length (reassembly [] l)) is ∙ ap length (reassembly-append [] (x.before ++ x.view ∷ []) earlier)
+    ∙ length-append (reassembly [] (x.before ++ x.view ∷ [])) (concat (map packet_data earlier))
+    ∙ ap (λ l. length l + so_far) (reassembly-push [] x.before x.view)
+    ∙ ap (λ n. n + so_far) (length-append (reassembly [] x.before) (packet_data x.view)) in
+    let pointed : y.view.field ≡ Packets (Some y.start.pointer) y.octets = y.field ∙ ap (λ f. Packets f y.octets) y.start.pointed in
+    let past = ends_by_pointer x.view (drop d.start x.octets) x.run x.after d.packet earlier y.view (y.run ++ y.after) y.start.pointer y.octets x.delivered rest pointed in
+    let long = length-append (drop d.start x.octets) (concat (map packet_data earlier)) in
+    let inside = x.start.inside in
+    let here = y.start.here in
+    let dropped = length-drop d.start x.octets in
+    let from = place_is channel d x in
+    let to = place_is channel e y in
+    omega arith
+
+pub none_overlap : NoneOverlap
+none_overlap channel d e x y (inl less) = apart_in_later_frame channel d e x y less
+none_overlap channel d e x y (inr same) = apart_in_one_frame channel d e x y same.0 same.1

@@ -20,7 +20,7 @@ abbrev found_in : ℕ → ℕ → ℕ → List (List ℕ) → Option ℕ
 found_in room number offset packets = find (lies_in room number) (packet_offsets offset packets)
 
 -- an offset lies in the data field of its own number alone
-lies_here : (room number start : ℕ) → start < room → lies_in room number (number * room + start) ≡ true
+pub lies_here : (room number start : ℕ) → start < room → lies_in room number (number * room + start) ≡ true
 lies_here room number start inside = eq-eqb ((number * room + start) / room) number (div-mul-add number room start inside)
 
 lies_elsewhere : (room number other start : ℕ) → start < room → number < other → lies_in room other (number * room + start) ≡ false

@@ -12,8 +12,9 @@ use Rattle.sl_packet.proofs.FrontLemmas.{packet_is_whole}
 use Rattle.sl_tmframe.specs.TmFrame.{TmView, DataField, Packets, Idle, Opaque}
 use Rattle.sl_tmflow.specs.Channel.{packet_data}
 use Rattle.sl_tmflow.specs.PacketStart.{starts_from, starts_of, whole_packets}
-use Rattle.sl_tmflow.specs.Delivery.{Delivery, Outcome, Completes, Held, Undelivered, Step, Ends, Continues, Breaks, ended, carried, step_of, after_step, outcome_after, outcome_of_front, outcome_of, delivery_of, frame_deliveries, deliveries_from, ending_in, packets_delivered, packets_ending, held_in, frame_held, held_of}
-use Rattle.sl_tmflow.proofs.OpenLemmas.{last_of, last_of-push}
+use Rattle.sl_tmflow.specs.Delivery.{Delivery, Outcome, Completes, StillIncomplete, Undelivered, Continuation, Ends, Continues, Breaks, ended, step_of, after_step, outcome_after, outcome_of_front, outcome_of, delivery_of, frame_deliveries, deliveries_from, ending_in, packets_delivered, packets_ending}
+use Rattle.sl_tmflow.specs.Incomplete.{incomplete_octets, frame_incomplete, incomplete_of}
+use Rattle.sl_tmflow.proofs.IncompleteLemmas.{last_of, last_of-push}
 use Rattle.sl_tmflow.proofs.OutcomeLemmas.{outcome_delivered}
 use Rattle.sl_tmflow.proofs.DeliveryLemmas.{field_deliveries, delivery_with}
 use Rattle.sl_tmflow.proofs.AtStartsLemmas.{flat_map-pieces, at_rest, at_starts, none_in_rest}
@@ -23,10 +24,10 @@ use Rattle.sl_tmflow.proofs.AtStartsLemmas.{flat_map-pieces, at_rest, at_starts,
 -- its outcome where one frame more comes after the last one, so many frames after the start
 abbrev pub with_next : ℕ → TmView → TmView → Outcome → Outcome
 with_next passed last next (Completes packet n) = Completes packet n
-with_next passed last next (Held octets) = after_step (step_of last octets next) passed (Held (octets ++ packet_data next))
+with_next passed last next (StillIncomplete octets) = after_step (step_of last octets next) passed (StillIncomplete (octets ++ packet_data next))
 with_next passed last next Undelivered = Undelivered
 
-with_next-step : (s : Step) (n passed : ℕ) (last next : TmView) (o : Outcome)
+with_next-step : (s : Continuation) (n passed : ℕ) (last next : TmView) (o : Outcome)
     → after_step s n (with_next passed last next o) ≡ with_next passed last next (after_step s n o)
 with_next-step (Ends packet) n passed last next o = refl
 with_next-step Continues n passed last next o = refl
@@ -36,7 +37,7 @@ outcome_after-push : (n : ℕ) (view : TmView) (octets : List ℕ) (later : List
     → outcome_after n view octets (later ++ next ∷ []) ≡ with_next passed (last_of view later) next (outcome_after n view octets later)
 outcome_after-push n view octets [] next passed so_many =
     let same : n + 1 ≡ passed = omega arith in
-    ap (λ k. after_step (step_of view octets next) k (Held (octets ++ packet_data next))) same
+    ap (λ k. after_step (step_of view octets next) k (StillIncomplete (octets ++ packet_data next))) same
 outcome_after-push n view octets (v ∷ later) next passed so_many =
     ap (after_step (step_of view octets v) (n + 1)) (outcome_after-push (n + 1) v (octets ++ packet_data v) later next passed (omega arith))
     ∙ with_next-step (step_of view octets v) (n + 1) passed (last_of v later) next (outcome_after (n + 1) v (octets ++ packet_data v) later)
@@ -53,50 +54,56 @@ outcome_of-push view octets later next = front-push (front octets) view octets l
 
 -- ---- what is incomplete
 
+-- the octets after the next frame, if the packet goes on
+abbrev pub carried : Continuation → List ℕ → List (List ℕ)
+carried (Ends packet) octets = []
+carried Continues octets = octets ∷ []
+carried Breaks octets = []
+
 -- an incomplete packet after the next frame, if it goes on
 abbrev pub carried_into : TmView → TmView → List ℕ → List (List ℕ)
 carried_into last next octets = carried (step_of last octets next) (octets ++ packet_data next)
 
-held_step : (s : Step) (passed : ℕ) (octets : List ℕ) → carried s octets ++ [] ≡ held_in (after_step s passed (Held octets))
-held_step (Ends packet) passed octets = refl
-held_step Continues passed octets = refl
-held_step Breaks passed octets = refl
+carried_step : (s : Continuation) (passed : ℕ) (octets : List ℕ) → carried s octets ++ [] ≡ incomplete_octets (after_step s passed (StillIncomplete octets))
+carried_step (Ends packet) passed octets = refl
+carried_step Continues passed octets = refl
+carried_step Breaks passed octets = refl
 
-held_with_next : (passed : ℕ) (last next : TmView) (o : Outcome) → flat_map (carried_into last next) (held_in o) ≡ held_in (with_next passed last next o)
-held_with_next passed last next (Completes packet n) = refl
-held_with_next passed last next (Held octets) = held_step (step_of last octets next) passed (octets ++ packet_data next)
-held_with_next passed last next Undelivered = refl
+incomplete_with_next : (passed : ℕ) (last next : TmView) (o : Outcome) → flat_map (carried_into last next) (incomplete_octets o) ≡ incomplete_octets (with_next passed last next o)
+incomplete_with_next passed last next (Completes packet n) = refl
+incomplete_with_next passed last next (StillIncomplete octets) = carried_step (step_of last octets next) passed (octets ++ packet_data next)
+incomplete_with_next passed last next Undelivered = refl
 
-frame_held-push : (view : TmView) (later : List TmView) (next : TmView)
-    → flat_map (carried_into (last_of view later) next) (frame_held view later) ≡ frame_held view (later ++ next ∷ [])
-frame_held-push view later next =
+frame_incomplete-push : (view : TmView) (later : List TmView) (next : TmView)
+    → flat_map (carried_into (last_of view later) next) (frame_incomplete view later) ≡ frame_incomplete view (later ++ next ∷ [])
+frame_incomplete-push view later next =
     let go_on = carried_into (last_of view later) next in
     flat_map-pieces (flat_map go_on) refl (flat_map-append go_on)
-    (λ start. held_in (outcome_of view (drop start (packet_data view)) later))
-    (λ start. held_in (outcome_of view (drop start (packet_data view)) (later ++ next ∷ [])))
-    (λ start. held_with_next (length later + 1) (last_of view later) next (outcome_of view (drop start (packet_data view)) later)
-    ∙ ap held_in (sym (outcome_of-push view (drop start (packet_data view)) later next)))
+    (λ start. incomplete_octets (outcome_of view (drop start (packet_data view)) later))
+    (λ start. incomplete_octets (outcome_of view (drop start (packet_data view)) (later ++ next ∷ [])))
+    (λ start. incomplete_with_next (length later + 1) (last_of view later) next (outcome_of view (drop start (packet_data view)) later)
+    ∙ ap incomplete_octets (sym (outcome_of-push view (drop start (packet_data view)) later next)))
     (starts_of view.field)
 
 -- after the first frame of a channel what is incomplete starts in it
-pub held_first : (next : TmView) → held_of (next ∷ []) ≡ frame_held next []
-held_first next = append-nil (frame_held next [])
+pub incomplete_first : (next : TmView) → incomplete_of (next ∷ []) ≡ frame_incomplete next []
+incomplete_first next = append-nil (frame_incomplete next [])
 
 -- and after each other frame it is what goes on, and what starts in that frame
-pub held_next : (before : List TmView) (last next : TmView)
-    → held_of ((before ++ last ∷ []) ++ next ∷ []) ≡ flat_map (carried_into last next) (held_of (before ++ last ∷ [])) ++ frame_held next []
-held_next [] last next =
+pub incomplete_next : (before : List TmView) (last next : TmView)
+    → incomplete_of ((before ++ last ∷ []) ++ next ∷ []) ≡ flat_map (carried_into last next) (incomplete_of (before ++ last ∷ [])) ++ frame_incomplete next []
+incomplete_next [] last next =
     let go_on = carried_into last next in
-    ap₂ (λ xs ys. xs ++ ys) (sym (frame_held-push last [] next)) (held_first next)
-    ∙ ap (λ l. flat_map go_on l ++ frame_held next []) (sym (held_first last))
-held_next (view ∷ before) last next =
+    ap₂ (λ xs ys. xs ++ ys) (sym (frame_incomplete-push last [] next)) (incomplete_first next)
+    ∙ ap (λ l. flat_map go_on l ++ frame_incomplete next []) (sym (incomplete_first last))
+incomplete_next (view ∷ before) last next =
     let go_on = carried_into last next in
     let later = before ++ last ∷ [] in
-    let here : frame_held view (later ++ next ∷ []) ≡ flat_map go_on (frame_held view later) =
-    sym (ap (λ v. flat_map (carried_into v next) (frame_held view later)) (sym (last_of-push view before last)) ∙ frame_held-push view later next) in
-    ap₂ (λ xs ys. xs ++ ys) here (held_next before last next)
-    ∙ sym (append_assoc (flat_map go_on (frame_held view later)) (flat_map go_on (held_of later)) (frame_held next []))
-    ∙ ap (λ l. l ++ frame_held next []) (sym (flat_map-append go_on (frame_held view later) (held_of later)))
+    let here : frame_incomplete view (later ++ next ∷ []) ≡ flat_map go_on (frame_incomplete view later) =
+    sym (ap (λ v. flat_map (carried_into v next) (frame_incomplete view later)) (sym (last_of-push view before last)) ∙ frame_incomplete-push view later next) in
+    ap₂ (λ xs ys. xs ++ ys) here (incomplete_next before last next)
+    ∙ sym (append_assoc (flat_map go_on (frame_incomplete view later)) (flat_map go_on (incomplete_of later)) (frame_incomplete next []))
+    ∙ ap (λ l. l ++ frame_incomplete next []) (sym (flat_map-append go_on (frame_incomplete view later) (incomplete_of later)))
 
 -- ---- the packets that end
 
@@ -163,8 +170,8 @@ at_last_frame frame view = ap (packets_at frame) (append-nil (frame_deliveries f
 abbrev pub ended_in : TmView → TmView → List ℕ → List (List ℕ)
 ended_in last next octets = ended (step_of last octets next)
 
-step_ending : (number frame start : ℕ) (s : Step) (passed : ℕ) (octets : List ℕ) → frame + passed ≡ number
-    → packets_at number (delivery_of frame start (after_step s passed (Held octets))) ≡ ended s ++ []
+step_ending : (number frame start : ℕ) (s : Continuation) (passed : ℕ) (octets : List ℕ) → frame + passed ≡ number
+    → packets_at number (delivery_of frame start (after_step s passed (StillIncomplete octets))) ≡ ended s ++ []
 step_ending number frame start (Ends packet) passed octets here = ends_there number frame start packet passed here
 step_ending number frame start Continues passed octets here = refl
 step_ending number frame start Breaks passed octets here = refl
@@ -172,11 +179,11 @@ step_ending number frame start Breaks passed octets here = refl
 -- a packet that ends earlier is none of them
 ending_with_next : (number frame start : ℕ) (last next : TmView) (passed : ℕ) (o : Outcome)
     → frame + passed ≡ number → ((packet : List ℕ) (n : ℕ) → o ≡ Completes packet n → n + 1 ≤ passed)
-    → packets_at number (delivery_of frame start (with_next passed last next o)) ≡ flat_map (ended_in last next) (held_in o)
+    → packets_at number (delivery_of frame start (with_next passed last next o)) ≡ flat_map (ended_in last next) (incomplete_octets o)
 ending_with_next number frame start last next passed (Completes packet n) here earlier =
     let before = earlier packet n refl in
     ends_elsewhere number frame start packet n (λ same. absurd (omega arith))
-ending_with_next number frame start last next passed (Held octets) here earlier =
+ending_with_next number frame start last next passed (StillIncomplete octets) here earlier =
     step_ending number frame start (step_of last octets next) passed (octets ++ packet_data next) here
 ending_with_next number frame start last next passed Undelivered here earlier = refl
 
@@ -186,39 +193,39 @@ ends_before view octets later packet n e =
     let w = outcome_delivered view octets later packet n e in omega (arith, w.passed_is, ap length w.in_order, length-append w.run w.after)
 
 pub frame_ending-push : (number frame : ℕ) (view : TmView) (later : List TmView) (next : TmView) → frame + (length later + 1) ≡ number
-    → packets_at number (frame_deliveries frame view (later ++ next ∷ [])) ≡ flat_map (ended_in (last_of view later) next) (frame_held view later)
+    → packets_at number (frame_deliveries frame view (later ++ next ∷ [])) ≡ flat_map (ended_in (last_of view later) next) (frame_incomplete view later)
 frame_ending-push number frame view later next here =
     let last = last_of view later in
     let octets = λ (start : ℕ). drop start (packet_data view) in
-    let ends = λ (start : ℕ). flat_map (ended_in last next) (held_in (outcome_of view (octets start) later)) in
+    let ends = λ (start : ℕ). flat_map (ended_in last next) (incomplete_octets (outcome_of view (octets start) later)) in
     flat_map-pieces (packets_at number) refl (packets_at-append number)
     (λ start. delivery_of frame start (outcome_of view (octets start) (later ++ next ∷ []))) ends
     (λ start. ap (λ o. packets_at number (delivery_of frame start o)) (outcome_of-push view (octets start) later next)
     ∙ ending_with_next number frame start last next (length later + 1) (outcome_of view (octets start) later) here (ends_before view (octets start) later))
     (starts_of view.field)
     ∙ sym (flat_map-pieces (flat_map (ended_in last next)) refl (flat_map-append (ended_in last next))
-    (λ start. held_in (outcome_of view (octets start) later)) ends (λ start. refl) (starts_of view.field))
+    (λ start. incomplete_octets (outcome_of view (octets start) later)) ends (λ start. refl) (starts_of view.field))
 
 ending_from : (number frame : ℕ) (before : List TmView) (last next : TmView) → frame + length (before ++ last ∷ []) ≡ number
     → packets_at number (deliveries_from frame ((before ++ last ∷ []) ++ next ∷ []))
-    ≡ flat_map (ended_in last next) (held_of (before ++ last ∷ [])) ++ whole_packets next.field
+    ≡ flat_map (ended_in last next) (incomplete_of (before ++ last ∷ [])) ++ whole_packets next.field
 ending_from number frame [] last next here =
     let there : frame + 1 ≡ number = omega arith in
     let later = deliveries_from (frame + 1) (next ∷ []) in
     packets_at-append number (frame_deliveries frame last (next ∷ [])) later
     ∙ ap₂ (λ xs ys. xs ++ ys) (frame_ending-push number frame last [] next (omega arith))
     (ap (λ n. packets_at n later) (sym there) ∙ at_last_frame (frame + 1) next)
-    ∙ ap (λ l. flat_map (ended_in last next) l ++ whole_packets next.field) (sym (held_first last))
+    ∙ ap (λ l. flat_map (ended_in last next) l ++ whole_packets next.field) (sym (incomplete_first last))
 ending_from number frame (view ∷ before) last next here =
     let later = before ++ last ∷ [] in
     let ends = ended_in last next in
-    let first : packets_at number (frame_deliveries frame view (later ++ next ∷ [])) ≡ flat_map ends (frame_held view later) =
+    let first : packets_at number (frame_deliveries frame view (later ++ next ∷ [])) ≡ flat_map ends (frame_incomplete view later) =
     frame_ending-push number frame view later next (omega arith)
-    ∙ ap (λ v. flat_map (ended_in v next) (frame_held view later)) (last_of-push view before last) in
+    ∙ ap (λ v. flat_map (ended_in v next) (frame_incomplete view later)) (last_of-push view before last) in
     packets_at-append number (frame_deliveries frame view (later ++ next ∷ [])) (deliveries_from (frame + 1) (later ++ next ∷ []))
     ∙ ap₂ (λ xs ys. xs ++ ys) first (ending_from number (frame + 1) before last next (omega arith))
-    ∙ sym (append_assoc (flat_map ends (frame_held view later)) (flat_map ends (held_of later)) (whole_packets next.field))
-    ∙ ap (λ l. l ++ whole_packets next.field) (sym (flat_map-append ends (frame_held view later) (held_of later)))
+    ∙ sym (append_assoc (flat_map ends (frame_incomplete view later)) (flat_map ends (incomplete_of later)) (whole_packets next.field))
+    ∙ ap (λ l. l ++ whole_packets next.field) (sym (flat_map-append ends (frame_incomplete view later) (incomplete_of later)))
 
 -- in the first frame of a channel those packets end that lie whole in it
 pub ending_first : (next : TmView) → packets_ending [] next ≡ whole_packets next.field
@@ -226,5 +233,5 @@ ending_first next = at_last_frame 0 next
 
 -- and in each other frame those of the incomplete ones that end there, too
 pub ending_next : (before : List TmView) (last next : TmView)
-    → packets_ending (before ++ last ∷ []) next ≡ flat_map (ended_in last next) (held_of (before ++ last ∷ [])) ++ whole_packets next.field
+    → packets_ending (before ++ last ∷ []) next ≡ flat_map (ended_in last next) (incomplete_of (before ++ last ∷ [])) ++ whole_packets next.field
 ending_next before last next = ending_from (length (before ++ last ∷ [])) 0 before last next (omega arith)

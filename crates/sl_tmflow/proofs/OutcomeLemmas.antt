@@ -8,12 +8,13 @@ use Rattle.sl_packet.specs.Front.{Front, Foreign, Incomplete, Whole, front}
 use Rattle.sl_packet.proofs.FrontLemmas.{whole_is_a_packet, packet_is_whole}
 use Rattle.sl_tmframe.specs.TmFrame.{TmView, DataField, Packets, Idle, Opaque}
 use Rattle.sl_tmflow.specs.Channel.{is_consecutive, packet_data, data_of, reassembly}
-use Rattle.sl_tmflow.specs.Delivery.{agreeing_pointer, IsDeliveredBy, Outcome, Completes, Step, Ends, Continues, Breaks, step_of, after_step, outcome_after, outcome_of_front, outcome_of}
+use Rattle.sl_tmflow.specs.Delivery.{agreeing_pointer, IsDeliveredBy, Outcome, Completes, Continuation, Ends, Continues, Breaks, step_of, after_step, outcome_after, outcome_of_front, outcome_of}
+use Rattle.sl_tmflow.specs.Incomplete.{HasNoStart}
 use Rattle.sl_tmflow.proofs.EachLemmas.{each-append, each-at, some_element, has_last, cases_last}
 use Rattle.sl_tmflow.proofs.StepLemmas.{EndsIn, GoesOnPast, step_ends, ends_step, step_continues, continues_step, agreeing_none, prefix_of_first, incomplete_before_end, incomplete_is_no_packet}
-use Rattle.sl_tmflow.proofs.OpenLemmas.{IsOpenAfter, HasNoStart, reassembly-append, reassembly-cons, reassembly-push, is_open_at_start, is_open_one_more, consecutive_to_last}
+use Rattle.sl_tmflow.proofs.IncompleteLemmas.{IsIncompleteAfter, reassembly-append, reassembly-cons, reassembly-push, is_incomplete_at_start, is_incomplete_one_more, consecutive_to_last}
 
--- ---- a packet that ends in the next frame of an open one
+-- ---- an incomplete packet that ends in the next frame
 
 -- octets that begin a packet which isn't there whole are fewer than it has
 shorter_than_packet : (octets more packet rest : List ℕ) → IsPacket packet → octets ++ more ≡ packet ++ rest → front octets ≡ Incomplete → length octets < length packet
@@ -58,7 +59,7 @@ agreed_earlier packet start run earlier next later first field short none same i
     no_start first field is ∙ sym (agreeing_none (length packet) (length (reassembly start earlier)) field (omega arith))
 
 pub ends_delivered : (view : TmView) (start : List ℕ) (run : List TmView) (last : TmView) (octets : List ℕ) (next : TmView) (packet : List ℕ)
-    → IsOpenAfter view start run last octets → is_consecutive last next ≡ true → EndsIn octets next.field packet
+    → IsIncompleteAfter view start run last octets → is_consecutive last next ≡ true → EndsIn octets next.field packet
     → IsDeliveredBy view start (run ++ next ∷ []) packet
 ends_delivered view start run last octets next packet o test x =
     let carried : packet_data next ≡ x.carried = ap data_of x.is_packets in
@@ -92,14 +93,14 @@ pub record IsDeliveredWithin (view : TmView) (octets : List ℕ) (later : List T
   pub delivered : IsDeliveredBy view octets run packet
 
 -- a step to a delivery: the packet ends here, or it goes on and ends later
-pub delivered_step : (s : Step) (passed : ℕ) (rest : Outcome) (packet : List ℕ) (n : ℕ) → after_step s passed rest ≡ Completes packet n
+pub delivered_step : (s : Continuation) (passed : ℕ) (rest : Outcome) (packet : List ℕ) (n : ℕ) → after_step s passed rest ≡ Completes packet n
     → ((s ≡ Ends packet) × (passed ≡ n)) ⊎ ((s ≡ Continues) × (rest ≡ Completes packet n))
 delivered_step (Ends other) passed rest packet n e = inl (cc, cc)
 delivered_step Continues passed rest packet n e = inr (refl, e)
 delivered_step Breaks passed rest packet n e = absurd (cc)
 
 pub delivered_after : (first : TmView) (start : List ℕ) (run : List TmView) (passed : ℕ) (view : TmView) (octets : List ℕ) (later : List TmView) (packet : List ℕ) (n : ℕ)
-    → IsOpenAfter first start run view octets → passed ≡ length run → outcome_after passed view octets later ≡ Completes packet n
+    → IsIncompleteAfter first start run view octets → passed ≡ length run → outcome_after passed view octets later ≡ Completes packet n
     → IsDeliveredWithin first start (run ++ later) packet n
 delivered_after first start run passed view octets [] packet n o so_many e = absurd (cc)
 delivered_after first start run passed view octets (next ∷ later) packet n o so_many e =
@@ -117,9 +118,9 @@ delivered_after first start run passed view octets (next ∷ later) packet n o s
           }
       | inr there ↦
           let (consecutive, past) = step_continues view octets next o.incomplete there.0 in
-          let open_now = is_open_one_more first start run view octets next o consecutive past in
+          let now = is_incomplete_one_more first start run view octets next o consecutive past in
           rw (← append_assoc run (next ∷ []) later)
-          (delivered_after first start (run ++ next ∷ []) (passed + 1) next (octets ++ packet_data next) later packet n open_now one_more there.1)
+          (delivered_after first start (run ++ next ∷ []) (passed + 1) next (octets ++ packet_data next) later packet n now one_more there.1)
     ]
 
 whole_delivered : (view : TmView) (octets : List ℕ) (len : ℕ) → front octets ≡ Whole len → IsDeliveredBy view octets [] (take len octets)
@@ -142,7 +143,7 @@ outcome_delivered view octets later packet n e = cases (front octets) refl e
   where
     cases : (f : Front) → front octets ≡ f → outcome_of_front f view octets later ≡ Completes packet n → IsDeliveredWithin view octets later packet n
     cases Foreign is outcome = absurd (cc)
-    cases Incomplete is outcome = delivered_after view octets [] 0 view octets later packet n (is_open_at_start view octets is) refl outcome
+    cases Incomplete is outcome = delivered_after view octets [] 0 view octets later packet n (is_incomplete_at_start view octets is) refl outcome
     cases (Whole len) is outcome =
         let same = same_outcome (take len octets) packet 0 n outcome in
         record {

@@ -11,27 +11,28 @@ use Rattle.sl_packet.proofs.FrontLemmas.{packet_is_whole}
 use Rattle.sl_tmframe.specs.TmFrame.{TmView, DataField, Packets, Idle, Opaque}
 use Rattle.sl_tmflow.specs.Channel.{channel_of, data_of, packet_data}
 use Rattle.sl_tmflow.specs.PacketStart.{starts_from, starts_of, whole_packets}
-use Rattle.sl_tmflow.specs.Delivery.{Delivery, Outcome, Completes, Held, Undelivered, Step, Ends, Continues, Breaks, ended, step_of, after_step, outcome_of_front, outcome_of, delivery_of, frame_deliveries, deliveries_from, deliveries_of, packets_delivered, packets_ending, held_in, frame_held, held_of}
+use Rattle.sl_tmflow.specs.Delivery.{Delivery, Outcome, Completes, StillIncomplete, Undelivered, Continuation, Ends, Continues, Breaks, ended, step_of, after_step, outcome_of_front, outcome_of, delivery_of, frame_deliveries, deliveries_from, deliveries_of, packets_delivered, packets_ending}
+use Rattle.sl_tmflow.specs.Incomplete.{HasNoStart, incomplete_octets, frame_incomplete, incomplete_of}
 use Rattle.sl_tmflow.proofs.AtStartsLemmas.{flat_map-pieces, at_rest, at_starts}
 use Rattle.sl_tmflow.proofs.ChannelLemmas.{same_seen, other_seen}
 use Rattle.sl_tmflow.proofs.CountLemmas.{split_count, packets_within}
 use Rattle.sl_tmflow.proofs.DeliveryLemmas.{field_deliveries}
 use Rattle.sl_tmflow.proofs.EachLemmas.{has_last}
-use Rattle.sl_tmflow.proofs.HeldLemmas.{held_of_idle, held_of_opaque, held_without_pointer, held_from_pointer, one_of_frame, one_is_held}
+use Rattle.sl_tmflow.proofs.IncompleteListLemmas.{incomplete_of_idle, incomplete_of_opaque, incomplete_without_pointer, incomplete_from_pointer, one_of_frame, one_is_incomplete}
 use Rattle.sl_tmflow.proofs.OneMoreLemmas.{with_next, outcome_of-push, packets_at, packets_at-append, at_last, ended_in, frame_ending-push, ending_first, ending_next}
-use Rattle.sl_tmflow.proofs.OpenLemmas.{HasNoStart, last_of}
+use Rattle.sl_tmflow.proofs.IncompleteLemmas.{last_of}
 
 -- ---- the packets of a frame's starts
 
 -- the packet of a start that is delivered
 abbrev completed : Outcome → List (List ℕ)
 completed (Completes packet passed) = packet ∷ []
-completed (Held octets) = []
+completed (StillIncomplete octets) = []
 completed Undelivered = []
 
 is_completed : (frame start : ℕ) (o : Outcome) → packets_delivered (delivery_of frame start o) ≡ completed o
 is_completed frame start (Completes packet passed) = refl
-is_completed frame start (Held octets) = refl
+is_completed frame start (StillIncomplete octets) = refl
 is_completed frame start Undelivered = refl
 
 delivered-append : (xs ys : List Delivery) → packets_delivered (xs ++ ys) ≡ packets_delivered xs ++ packets_delivered ys
@@ -57,21 +58,21 @@ from_pointer frame view later pointer octets =
 
 -- ---- one frame more after a start
 
-step_more : (s : Step) (passed : ℕ) (octets : List ℕ) → completed (after_step s passed (Held octets)) ≡ ended s ++ []
+step_more : (s : Continuation) (passed : ℕ) (octets : List ℕ) → completed (after_step s passed (StillIncomplete octets)) ≡ ended s ++ []
 step_more (Ends packet) passed octets = refl
 step_more Continues passed octets = refl
 step_more Breaks passed octets = refl
 
 outcome_more : (passed : ℕ) (last next : TmView) (o : Outcome)
-    → completed (with_next passed last next o) ≡ completed o ++ flat_map (ended_in last next) (held_in o)
+    → completed (with_next passed last next o) ≡ completed o ++ flat_map (ended_in last next) (incomplete_octets o)
 outcome_more passed last next (Completes packet n) = refl
-outcome_more passed last next (Held octets) = step_more (step_of last octets next) passed (octets ++ packet_data next)
+outcome_more passed last next (StillIncomplete octets) = step_more (step_of last octets next) passed (octets ++ packet_data next)
 outcome_more passed last next Undelivered = refl
 
 rest_more : (view : TmView) (later : List TmView) (next : TmView) (rest : List ℕ)
     → at_rest (λ l. completed (outcome_of view l (later ++ next ∷ []))) rest
     ≡ at_rest (λ l. completed (outcome_of view l later)) rest
-    ++ flat_map (ended_in (last_of view later) next) (at_rest (λ l. held_in (outcome_of view l later)) rest)
+    ++ flat_map (ended_in (last_of view later) next) (at_rest (λ l. incomplete_octets (outcome_of view l later)) rest)
 rest_more view later next [] = refl
 rest_more view later next (octet ∷ rest) =
     ap completed (outcome_of-push view (octet ∷ rest) later next)
@@ -80,24 +81,24 @@ rest_more view later next (octet ∷ rest) =
 -- of a frame those are delivered, too, that were incomplete and end in the next frame
 frame_more : (frame : ℕ) (view : TmView) (later : List TmView) (next : TmView)
     → packets_delivered (frame_deliveries frame view (later ++ next ∷ []))
-    ≡ packets_delivered (frame_deliveries frame view later) ++ flat_map (ended_in (last_of view later) next) (frame_held view later)
+    ≡ packets_delivered (frame_deliveries frame view later) ++ flat_map (ended_in (last_of view later) next) (frame_incomplete view later)
 frame_more frame view later next = cases view.field refl
   where
     cases : (f : DataField) → view.field ≡ f
         → packets_delivered (field_deliveries frame view (later ++ next ∷ []) f)
-        ≡ packets_delivered (field_deliveries frame view later f) ++ flat_map (ended_in (last_of view later) next) (frame_held view later)
-    cases (Packets None octets) is = sym (ap (flat_map (ended_in (last_of view later) next)) (held_without_pointer view later octets is))
+        ≡ packets_delivered (field_deliveries frame view later f) ++ flat_map (ended_in (last_of view later) next) (frame_incomplete view later)
+    cases (Packets None octets) is = sym (ap (flat_map (ended_in (last_of view later) next)) (incomplete_without_pointer view later octets is))
     cases (Packets (Some pointer) octets) is =
         let ends = flat_map (ended_in (last_of view later) next) in
         let at = λ (l : List ℕ). completed (outcome_of view l later) in
         let whole = packets_of (drop pointer octets) in
         let rest = rest_of (drop pointer octets) in
-        let held = at_rest (λ l. held_in (outcome_of view l later)) rest in
+        let held = at_rest (λ l. incomplete_octets (outcome_of view l later)) rest in
         from_pointer frame view (later ++ next ∷ []) pointer octets ∙ ap (λ l. whole ++ l) (rest_more view later next rest)
         ∙ sym (append_assoc whole (at_rest at rest) (ends held))
-        ∙ ap₂ (λ xs ys. xs ++ ends ys) (sym (from_pointer frame view later pointer octets)) (sym (held_from_pointer view later pointer octets is))
-    cases Idle is = sym (ap (flat_map (ended_in (last_of view later) next)) (held_of_idle view later is))
-    cases Opaque is = sym (ap (flat_map (ended_in (last_of view later) next)) (held_of_opaque view later is))
+        ∙ ap₂ (λ xs ys. xs ++ ends ys) (sym (from_pointer frame view later pointer octets)) (sym (incomplete_from_pointer view later pointer octets is))
+    cases Idle is = sym (ap (flat_map (ended_in (last_of view later) next)) (incomplete_of_idle view later is))
+    cases Opaque is = sym (ap (flat_map (ended_in (last_of view later) next)) (incomplete_of_opaque view later is))
 
 -- ---- the last frame
 
@@ -136,12 +137,12 @@ none_without_starts frame (view ∷ later) none =
 
 -- so either no packet of a frame is incomplete, or later frames deliver none: the order of the two doesn't matter
 no_later : (frame : ℕ) (view : TmView) (later : List TmView) (ends : List ℕ → List (List ℕ))
-    → flat_map ends (frame_held view later) ++ packets_delivered (deliveries_from frame later)
-    ≡ packets_delivered (deliveries_from frame later) ++ flat_map ends (frame_held view later)
+    → flat_map ends (frame_incomplete view later) ++ packets_delivered (deliveries_from frame later)
+    ≡ packets_delivered (deliveries_from frame later) ++ flat_map ends (frame_incomplete view later)
 no_later frame view later ends =
     elim (one_of_frame view later) [
       | inl none ↦ rw (none) (sym (append-nil (packets_delivered (deliveries_from frame later))))
-      | inr one ↦ rw (none_without_starts frame later one.2) (append-nil (flat_map ends (frame_held view later)))
+      | inr one ↦ rw (none_without_starts frame later one.2) (append-nil (flat_map ends (frame_incomplete view later)))
     ]
 
 -- ---- one frame more
@@ -159,7 +160,7 @@ delivered_from number frame [] next here =
     let only : deliveries_from frame (next ∷ []) ≡ frame_deliveries frame next [] = append-nil (frame_deliveries frame next []) in
     ap packets_delivered only ∙ last_frame frame next ∙ ap₂ packets_at same (sym only)
 delivered_from number frame (view ∷ later) next here =
-    let ends = flat_map (ended_in (last_of view later) next) (frame_held view later) in
+    let ends = flat_map (ended_in (last_of view later) next) (frame_incomplete view later) in
     let now = frame_deliveries frame view later in
     let now' = frame_deliveries frame view (later ++ next ∷ []) in
     let rest = deliveries_from (frame + 1) later in
@@ -196,7 +197,7 @@ whole_few (Packets (Some pointer) octets) =
 whole_few Idle = omega arith
 whole_few Opaque = omega arith
 
-step_few : (s : Step) → length (ended s) ≤ 1
+step_few : (s : Continuation) → length (ended s) ≤ 1
 step_few (Ends packet) = omega arith
 step_few Continues = omega arith
 step_few Breaks = omega arith
@@ -212,12 +213,12 @@ pub ended_few : (channel : List TmView) (next : TmView) → length (packets_endi
 ended_few [] next = omega (arith, ap length (ending_first next), whole_few next.field)
 ended_few (view ∷ later) next =
     let w = has_last view later in
-    let ends = flat_map (ended_in w.1 next) (held_of (w.0 ++ w.1 ∷ [])) in
+    let ends = flat_map (ended_in w.1 next) (incomplete_of (w.0 ++ w.1 ∷ [])) in
     omega (
       arith,
       ap length (ap (λ l. packets_ending l next) w.2 ∙ ending_next w.0 w.1 next),
       length-append ends (whole_packets next.field),
-      ends_few w.1 next (held_of (w.0 ++ w.1 ∷ [])),
-      one_is_held (w.0 ++ w.1 ∷ []),
+      ends_few w.1 next (incomplete_of (w.0 ++ w.1 ∷ [])),
+      one_is_incomplete (w.0 ++ w.1 ∷ []),
       whole_few next.field,
     )

@@ -1,10 +1,10 @@
 -- The handing over of packets to a sink, list after list.
-use Rattle.std.proofs.Common.{◌≡◌, ℕ, List, [], ◌∷◌, ◌++◌, refl, sym, ◌∙◌, ap, append_assoc, subst}
-use Rattle.sl_packet.specs.Sink.{TakesAll, StopsTaking, one_more}
+use Rattle.std.proofs.Common.{◌≡◌, ℕ, List, [], ◌∷◌, ◌++◌, sym, ◌∙◌, ap, append_assoc, subst}
+use Rattle.sl_packet.specs.Sink.{TakesAll, one_more}
 use Rattle.sl_packet.specs.declared.flow_fault.FlowFault.{FlowFault}
 use Rattle.sl_packet.specs.declared.flow_fault.FlowFault.TheVariants.{Memory, Sink, Failed}
 use Rattle.sl_packet.specs.declared.sink.SinkFault.{SinkFault}
-use Rattle.sl_tmflow.specs.Stopping.{TakesSome, IsStopped}
+use Rattle.sl_tmflow.specs.Stopping.{IsStopped}
 
 module _ {S : Type 0} (taking : S → ℕ → List ℕ → S → Type 0) where
   -- one list after another is all of them

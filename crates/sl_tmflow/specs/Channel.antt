@@ -12,12 +12,13 @@ views_of format spacecraft frames = filter_map (λ frame. result_ok (tm_frame fo
 abbrev pub channel_of : ℕ → List TmView → List TmView
 channel_of vc views = filter (λ view. view.vc == vc) views
 
--- the next frame has the virtual channel frame count that comes after this one
-abbrev pub follows : ℕ → TmView → Bool
-follows count next = next.vc_count == (count + 1) % 256
+-- the virtual channel frame count that comes after one is the next one, modulo 256
+abbrev pub follows : ℕ → ℕ → Bool
+follows count next = next == (count + 1) % 256
 
+-- the next frame has the one that comes after this one's
 abbrev pub is_consecutive : TmView → TmView → Bool
-is_consecutive view next = follows view.vc_count next
+is_consecutive view next = follows view.vc_count next.vc_count
 
 -- each frame is consecutive to the one before it, the first one to this one
 abbrev pub AreConsecutive : TmView → List TmView → Type 0

@@ -1,10 +1,11 @@
--- What an extractor keeps of a virtual channel, and what the next frame makes of it.
-use Rattle.std.specs.Prelude.{ℕ, ◌+◌, ◌%◌, ◌==◌, Bool, false, List, [], ◌∷◌, ◌++◌, drop, Option, None, Some}
+-- What an extractor keeps of a virtual channel of CCSDS 132.0-B, and what the next frame makes of it. These
+-- are the code's steps, not the standard's: contracts of private functions alone cite what a step does.
+use Rattle.std.specs.Prelude.{ℕ, Bool, false, List, [], ◌∷◌, ◌++◌, drop, Option, None, Some}
 use Rattle.sl_packet.specs.Front.{Front, Foreign, Incomplete, Whole, front}
 use Rattle.sl_packet.specs.Packets.{rest_of}
 use Rattle.sl_tmframe.specs.TmFrame.{TmView, DataField, Packets, Idle, Opaque}
-use Rattle.sl_tmflow.specs.Channel.{packet_data}
-use Rattle.sl_tmflow.specs.Delivery.{Step, Ends, Continues, Breaks, ended, step_after}
+use Rattle.sl_tmflow.specs.Channel.{follows, packet_data}
+use Rattle.sl_tmflow.specs.Delivery.{Continuation, Ends, Continues, Breaks, ended, step_after}
 use Rattle.sl_tmflow.specs.PacketStart.{whole_packets}
 
 -- the virtual channel frame count of its last frame, and the octets so far of the packet that is incomplete
@@ -17,27 +18,27 @@ abbrev pub no_frame : ChannelState
 no_frame = record { count = None; held = [] }
 
 -- what the next frame does to the octets that are held
-abbrev pub held_step : Option ℕ → List ℕ → TmView → Step
+abbrev pub held_step : Option ℕ → List ℕ → TmView → Continuation
 held_step None held next = Breaks
 held_step (Some count) [] next = Breaks
 held_step (Some count) (octet ∷ octets) next = step_after count (octet ∷ octets) next
 
-abbrev pub step_in : ChannelState → TmView → Step
+abbrev pub step_in : ChannelState → TmView → Continuation
 step_in state next = held_step state.count state.held next
 
 -- a virtual channel frame count comes after the last one
 abbrev pub is_after : Option ℕ → ℕ → Bool
 is_after None count = false
-is_after (Some last) count = count == (last + 1) % 256
+is_after (Some last) count = follows last count
 
 -- the octets that are held after a step, where these are all of the packet so far
-abbrev pub kept_of : Step → List ℕ → List ℕ
+abbrev pub kept_of : Continuation → List ℕ → List ℕ
 kept_of (Ends packet) octets = []
 kept_of Continues octets = octets
 kept_of Breaks octets = []
 
 -- the octets that are held after the next frame, but for those of a packet that starts in it
-abbrev pub kept_octets : Step → List ℕ → TmView → List ℕ
+abbrev pub kept_octets : Continuation → List ℕ → TmView → List ℕ
 kept_octets step held next = kept_of step (held ++ packet_data next)
 
 -- octets that begin an incomplete packet

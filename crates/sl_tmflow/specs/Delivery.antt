@@ -1,5 +1,6 @@
--- Which packets a virtual channel delivers. A packet is found by its start in a frame, and by the run of
--- frames after that one in which it ends.
+-- Which packets a virtual channel of CCSDS 132.0-B delivers. A packet is found by its start in a frame, and by
+-- the run of frames after that one in which it ends. That the pointers of these frames have to agree with the
+-- packet (`agreeing_pointer`) is this project's mission profile.
 use Rattle.std.specs.Prelude.{◌≡◌, ◌≢◌, ⊤, ◌⊎◌, ℕ, ◌+◌, ◌-◌, ◌<◌, ◌≤◌, ◌==◌, nat_lt, Bool, true, false, if◌then◌else◌, List, [], ◌∷◌, ◌++◌, length, take, drop, map, Option, None, Some, is_some}
 use Rattle.std.specs.List.{AllByRecursion, filter, flat_map}
 use Rattle.sl_packet.specs.Packet.{IsPacket}
@@ -64,27 +65,21 @@ pub data Outcome : Type 0 where
   -- the packet is delivered so many frames later
   Completes : (packet : List ℕ) (passed : ℕ) → Outcome
   -- it is still incomplete after the last frame
-  Held : (octets : List ℕ) → Outcome
+  StillIncomplete : (octets : List ℕ) → Outcome
   -- it is never delivered: it has another version than 0, or is broken off
   Undelivered : Outcome
 
 -- what the next frame does to an incomplete packet
-pub data Step : Type 0 where
-  Ends : (packet : List ℕ) → Step
-  Continues : Step
-  Breaks : Step
+pub data Continuation : Type 0 where
+  Ends : (packet : List ℕ) → Continuation
+  Continues : Continuation
+  Breaks : Continuation
 
 -- the packet that ends in the next frame, if it does
-abbrev pub ended : Step → List (List ℕ)
+abbrev pub ended : Continuation → List (List ℕ)
 ended (Ends packet) = packet ∷ []
 ended Continues = []
 ended Breaks = []
-
--- the octets after the next frame, if the packet goes on
-abbrev pub carried : Step → List ℕ → List (List ℕ)
-carried (Ends packet) octets = []
-carried Continues octets = octets ∷ []
-carried Breaks octets = []
 
 abbrev pub same_pointer : Option ℕ → Option ℕ → Bool
 same_pointer None None = true
@@ -93,32 +88,32 @@ same_pointer (Some a) None = false
 same_pointer (Some a) (Some b) = a == b
 
 -- a packet ends here if the pointer agrees; an incomplete one goes on only where no packet starts
-abbrev pub front_step : Option ℕ → ℕ → List ℕ → List ℕ → Front → Step
+abbrev pub front_step : Option ℕ → ℕ → List ℕ → List ℕ → Front → Continuation
 front_step first before field all Foreign = Breaks
 front_step first before field all Incomplete = if is_some first then Breaks else Continues
 front_step first before field all (Whole len) =
     if same_pointer first (agreeing_pointer len before field) then Ends (take len all) else Breaks
 
-abbrev pub field_step : List ℕ → DataField → Step
+abbrev pub field_step : List ℕ → DataField → Continuation
 field_step octets (Packets first field) = front_step first (length octets) field (octets ++ field) (front (octets ++ field))
 field_step octets Idle = Continues
 field_step octets Opaque = Breaks
 
 -- after a frame with this virtual channel frame count
-abbrev pub step_after : ℕ → List ℕ → TmView → Step
-step_after count octets next = if follows count next then field_step octets next.field else Breaks
+abbrev pub step_after : ℕ → List ℕ → TmView → Continuation
+step_after count octets next = if follows count next.vc_count then field_step octets next.field else Breaks
 
-abbrev pub step_of : TmView → List ℕ → TmView → Step
+abbrev pub step_of : TmView → List ℕ → TmView → Continuation
 step_of view octets next = step_after view.vc_count octets next
 
-abbrev pub after_step : Step → ℕ → Outcome → Outcome
+abbrev pub after_step : Continuation → ℕ → Outcome → Outcome
 after_step (Ends packet) passed later = Completes packet passed
 after_step Continues passed later = later
 after_step Breaks passed later = Undelivered
 
 -- of an incomplete packet, with its octets up to this frame, which is so many frames after its start
 abbrev pub outcome_after : ℕ → TmView → List ℕ → List TmView → Outcome
-outcome_after passed view octets [] = Held octets
+outcome_after passed view octets [] = StillIncomplete octets
 outcome_after passed view octets (next ∷ later) =
     after_step (step_of view octets next) (passed + 1) (outcome_after (passed + 1) next (octets ++ packet_data next) later)
 
@@ -141,7 +136,7 @@ delivery_of frame start (Completes packet passed) =
       ending = frame + passed;
       packet = packet;
     } ∷ []
-delivery_of frame start (Held octets) = []
+delivery_of frame start (StillIncomplete octets) = []
 delivery_of frame start Undelivered = []
 
 abbrev pub frame_deliveries : ℕ → TmView → List TmView → List Delivery
@@ -166,22 +161,6 @@ packets_delivered deliveries = map (λ d. d.packet) deliveries
 abbrev pub packets_ending : List TmView → TmView → List (List ℕ)
 packets_ending channel next = packets_delivered (ending_in (length channel) (deliveries_of (channel ++ next ∷ [])))
 
--- ---- what is still incomplete after the last frame of a channel
-
-abbrev pub held_in : Outcome → List (List ℕ)
-held_in (Completes packet passed) = []
-held_in (Held octets) = octets ∷ []
-held_in Undelivered = []
-
-abbrev pub frame_held : TmView → List TmView → List (List ℕ)
-frame_held view later =
-    flat_map (λ start. held_in (outcome_of view (drop start (packet_data view)) later)) (starts_of view.field)
-
--- the octets so far of the packets that are incomplete
-abbrev pub held_of : List TmView → List (List ℕ)
-held_of [] = []
-held_of (view ∷ later) = frame_held view later ++ held_of later
-
 -- ---- what the list of deliveries is
 
 -- each that is listed is a delivery
@@ -204,20 +183,24 @@ AreInOrder (d ∷ deliveries) = AllByRecursion (StartsBefore d) deliveries × Ar
 abbrev pub DeliveriesAreInOrder : Type 0
 DeliveriesAreInOrder = (channel : List TmView) → AreInOrder (deliveries_of channel)
 
--- ---- laws of what is incomplete, and of ends
+-- ---- where packets end
 
--- at most one packet is incomplete after a frame,
-abbrev pub OneIsHeld : Type 0
-OneIsHeld = (channel : List TmView) → length (held_of channel) ≤ 1
-
--- of one to 65,541 octets
-abbrev pub IsShort : List ℕ → Type 0
-IsShort octets = (1 ≤ length octets) × (length octets ≤ 65541)
-
-abbrev pub HeldIsShort : Type 0
-HeldIsShort = (channel : List TmView) → AllByRecursion IsShort (held_of channel)
-
--- packets in the order of their starts are in the order of their ends
+-- packets in the order of their starts are in the order of their ends:
 abbrev pub EndsAreInOrder : Type 0
 EndsAreInOrder =
     (channel : List TmView) (d e : Delivery) → IsDelivery channel d → IsDelivery channel e → StartsBefore d e → d.ending ≤ e.ending
+
+-- a packet has ended by the frame in which the next one starts,
+abbrev pub EachEndsByTheNextStart : Type 0
+EachEndsByTheNextStart =
+    (channel : List TmView) (d e : Delivery) → IsDelivery channel d → IsDelivery channel e → StartsBefore d e → d.ending ≤ e.frame
+
+-- the place at which a packet starts in the packet data of the channel's frames, end to end
+abbrev pub start_place : List TmView → Delivery → ℕ
+start_place channel d = length (reassembly [] (take d.frame channel)) + d.start
+
+-- and there it ends before that start, or at it: no two packets share an octet
+abbrev pub NoneOverlap : Type 0
+NoneOverlap =
+    (channel : List TmView) (d e : Delivery) → IsDelivery channel d → IsDelivery channel e → StartsBefore d e
+    → start_place channel d + length d.packet ≤ start_place channel e

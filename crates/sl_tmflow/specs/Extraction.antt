@@ -1,10 +1,11 @@
--- What an extractor has made of the frames that it was given.
+-- What an extractor has made of the frames of virtual channels, CCSDS 132.0-B, that it was given.
 use Rattle.std.specs.Prelude.{◌≡◌, ℕ, ◌<◌, Bool, true, false, List, [], ◌∷◌, Option, None, Some}
 use Rattle.std.specs.List.{slice_index_or}
 use Rattle.sl_tmframe.specs.TmFrame.{TmView}
 use Rattle.sl_tmflow.specs.Channel.{channel_of}
 use Rattle.sl_tmflow.specs.ChannelState.{ChannelState, no_frame}
-use Rattle.sl_tmflow.specs.Delivery.{held_of, packets_ending}
+use Rattle.sl_tmflow.specs.Delivery.{packets_ending}
+use Rattle.sl_tmflow.specs.Incomplete.{incomplete_of}
 
 pub record ExtractorState : Type 0 where
   pub channels : List ChannelState
@@ -24,12 +25,20 @@ held_as (octet ∷ octets) = (octet ∷ octets) ∷ []
 -- a virtual channel had these frames
 pub record HasSeen (state : ChannelState) (channel : List TmView) : Type 0 where
   pub count : state.count ≡ last_count channel
-  pub held : held_as state.held ≡ held_of channel
+  pub held : held_as state.held ≡ incomplete_of channel
 
 -- These frames were processed, and no fault came. Other frames may have left the same.
 pub record HasProcessed (state : ExtractorState) (views : List TmView) : Type 0 where
   pub working : state.has_failed ≡ false
   pub each : (vc : ℕ) → vc < 8 → HasSeen (slice_index_or state.channels vc no_frame) (channel_of vc views)
+
+-- some frames were processed, and no fault came
+abbrev pub IsWorking : ExtractorState → Type 0
+IsWorking state = (views : List TmView) × HasProcessed state views
+
+-- it holds whichever frames were processed
+abbrev pub ForProcessed : ExtractorState → (List TmView → Type 0) → Type 0
+ForProcessed state holds = (views : List TmView) → HasProcessed state views → holds views
 
 -- a fault came
 abbrev pub HasFailed : ExtractorState → Type 0

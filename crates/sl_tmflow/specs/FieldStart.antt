@@ -1,4 +1,5 @@
--- The next packet start, while packets are divided into data fields.
+-- The next packet start, while packets are divided into data fields. This is the code's step, not the normal
+-- form's definition: contracts of private functions alone cite it.
 use Rattle.std.specs.Prelude.{ℕ, ◌+◌, nat_lt, if◌then◌else◌, List, [], ◌∷◌, length}
 
 -- the first packet start at or after the end of a data field, where packets lie end to end from a start on

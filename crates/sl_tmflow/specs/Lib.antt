@@ -5,12 +5,17 @@ pub mod Delivery
 pub mod Extraction
 pub mod ExtractorModel
 pub mod FieldStart
+pub mod Incomplete
 pub mod NormalForm
 pub mod PacketStart
 pub mod Progress
+pub mod StepReport
+pub mod StepReportModel
 pub mod Stopping
+pub use Rattle.sl_packet.specs.Delivered
 pub use Rattle.sl_packet.specs.Front
 pub use Rattle.sl_packet.specs.Packet
 pub use Rattle.sl_packet.specs.Packets
+pub use Rattle.sl_packet.specs.Sink
 pub use Rattle.sl_tmframe.specs.PacketFrame
 pub use Rattle.sl_tmframe.specs.TmFrame

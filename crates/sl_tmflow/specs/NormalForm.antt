@@ -1,10 +1,12 @@
 -- The normal form of a TM recording: the delivered packets of each virtual channel in frames that have
--- nothing of the recording's own.
-use Rattle.std.specs.Prelude.{◌≡◌, ◌⊎◌, ℕ, ◌+◌, ◌-◌, ◌*◌, ◌/◌, ◌%◌, ◌≤◌, ◌==◌, ◌||◌, nat_lt, Bool, not, if◌then◌else◌, List, [], ◌∷◌, ◌++◌, length, take, drop, map, Option, option_map}
+-- nothing of the recording's own. All of it is this project's mission profile; the frames are those of CCSDS
+-- 132.0-B.
+use Rattle.std.specs.Prelude.{◌≡◌, ◌⊎◌, ℕ, ◌+◌, ◌-◌, ◌*◌, ◌/◌, ◌%◌, ◌<◌, ◌≤◌, ◌==◌, ◌||◌, nat_lt, Bool, not, if◌then◌else◌, List, [], ◌∷◌, ◌++◌, length, take, drop, map, Option, None, Some, option_map}
 use Rattle.std.specs.List.{concat, find, range_with_len}
 use Rattle.sl_packet.specs.IdlePacket.{idle_packet}
 use Rattle.sl_tmframe.specs.PacketFrame.{room_of, packet_frame}
 use Rattle.sl_tmframe.specs.TmFrame.{TmFormat}
+use Rattle.sl_tmflow.specs.Among.{IsAmong}
 
 -- ---- the packets of a channel, divided into data fields
 
@@ -80,3 +82,21 @@ pub record IsLeastFill (room len fill : ℕ) : Type 0 where
 -- it always is
 abbrev pub EachFillIsLeast : Type 0
 EachFillIsLeast = (room len : ℕ) → 7 ≤ room → IsLeastFill room len (fill_of room len)
+
+-- an offset lies in the data field of a number
+pub record LiesIn (room number offset : ℕ) : Type 0 where
+  pub from : number * room ≤ offset
+  pub below : offset < number * room + room
+
+-- where packets start at these offsets, this is the least start in the data field, from its front
+abbrev pub IsLeastStart : ℕ → ℕ → List ℕ → Option ℕ → Type 0
+IsLeastStart room number offsets None = (offset : ℕ) → IsAmong offset offsets → LiesIn room number offset → ⊥
+IsLeastStart room number offsets (Some first) =
+    IsAmong (number * room + first) offsets × LiesIn room number (number * room + first)
+    × ((offset : ℕ) → IsAmong offset offsets → LiesIn room number offset → number * room + first ≤ offset)
+
+-- the pointer always is
+abbrev pub EachPointerIsLeast : Type 0
+EachPointerIsLeast =
+    (room number : ℕ) (packets : List (List ℕ)) → 0 < room
+    → IsLeastStart room number (packet_offsets 0 packets) (first_of room number (packet_offsets 0 packets))

@@ -1,4 +1,4 @@
--- The packet starts of a data field.
+-- The packet starts of a data field: the first header pointer, CCSDS 132.0-B, and those that follow from it.
 use Rattle.std.specs.Prelude.{◌≡◌, ℕ, ◌+◌, ◌<◌, List, [], ◌∷◌, ◌++◌, length, drop, Option, None, Some}
 use Rattle.std.specs.List.{AllByRecursion, concat}
 use Rattle.sl_packet.specs.Packet.{IsPacket}

@@ -268,7 +268,7 @@ fn hand_packet<S: PacketSink>(sink: &mut S, vc: u16, packet: &[u8]) -> Result<Tm
     ensures stopped { IfErr result (λ flow. IsStopped S.taking S.failing S.failures sink.old vc (without_idle (packet.now ∷ [])) flow sink.new) }
 {
     match hand(sink, vc, packet) {
-        Ok((step, _)) => Ok(step),
+        Ok(handed) => Ok(handed.0),
         Err(flow) => Err(flow),
     }
 }

@@ -1,9 +1,8 @@
 //! Packets out of the frames of virtual channels.
-ghost use Rattle.std.specs.Prelude.{◌≡◌, ◌≢◌, ◌++◌, ◌∷◌, [], ℕ, List, length, OnOk, IfOk, IfErr, Err};
+ghost use Rattle.std.specs.Prelude.{◌≡◌, ◌≢◌, ◌++◌, ◌∷◌, [], length, OnOk, IfOk, IfErr, Err};
 ghost use Rattle.sl_packet.specs.Packets.{only_idle, without_idle};
 ghost use Rattle.sl_packet.specs.Sink.{TakesAll};
-ghost use Rattle.sl_tmframe.specs.TmFrame.{TmView};
-ghost use Rattle.sl_tmflow.specs.Extraction.{HasProcessed, HasFailed, ended_by};
+ghost use Rattle.sl_tmflow.specs.Extraction.{ForProcessed, HasProcessed, HasFailed, ended_by};
 ghost use Rattle.sl_tmflow.specs.Stopping.{IsStopped};
 
 use crate::channel::Channel;
@@ -31,7 +30,7 @@ impl Model for Extractor {
 }
 
 impl Extractor {
-    /// An extractor that was given no frame.
+    /// An extractor that was given no frame. It takes memory only as packets come.
     pub fn new(alloc: Global) -> Extractor
         ensures { HasProcessed result [] }
     {
@@ -44,29 +43,32 @@ impl Extractor {
     /// Hands the sink the packets that end in the next frame, but for idle ones, in the order of their starts
     /// and on the channel of the frame's virtual channel.
     ///
-    /// After a fault each call is `Failed`, and hands over nothing.
+    /// The fault is `Memory` where memory was refused, and `Sink` where the sink refused a packet: it has
+    /// accepted the packets before that one, and none after it. After either each call is `Failed`, and hands
+    /// over nothing.
     pub fn frame<S: PacketSink>(
         &mut self,
         frame: &TmFrame,
         sink: &mut S,
     ) -> Result<TmStep, FlowFault>
         // Whichever frames were processed before, now they and this one are,
-        ensures processed { OnOk result ((views : List TmView) → HasProcessed self.old views → HasProcessed self.new (views ++ frame.now ∷ [])) }
+        ensures processed { OnOk result (ForProcessed self.old (λ views. HasProcessed self.new (views ++ frame.now ∷ []))) }
         // and the packets that end in it were accepted and counted.
-        ensures accepted { OnOk result ((views : List TmView) → HasProcessed self.old views → TakesAll S.taking sink.old frame.now.vc (without_idle (ended_by views frame.now)) sink.new) }
-        ensures packets { IfOk result (λ step. (views : List TmView) → HasProcessed self.old views → step.packets ≡ length (without_idle (ended_by views frame.now))) }
-        ensures idle { IfOk result (λ step. (views : List TmView) → HasProcessed self.old views → step.idle ≡ length (only_idle (ended_by views frame.now))) }
+        ensures accepted { OnOk result (ForProcessed self.old (λ views. TakesAll S.taking sink.old frame.now.vc (without_idle (ended_by views frame.now)) sink.new)) }
+        ensures packets { IfOk result (λ step. ForProcessed self.old (λ views. step.packets ≡ length (without_idle (ended_by views frame.now)))) }
+        ensures idle { IfOk result (λ step. ForProcessed self.old (λ views. step.idle ≡ length (only_idle (ended_by views frame.now)))) }
         ensures kept { OnOk result (S.failures sink.new ≡ S.failures sink.old) }
         // After a fault each call fails, and leaves all as it was; none fails before.
         ensures failed { HasFailed self.old → result ≡ Err FlowFault.Failed }
         ensures left { result ≡ Err FlowFault.Failed → HasFailed self.old × (self.new ≡ self.old) × (sink.new ≡ sink.old) }
         // At a fault some of the packets were accepted, the first ones.
         ensures stopped { IfErr result (λ flow. flow ≢ FlowFault.Failed → HasFailed self.new
-            × ((views : List TmView) → HasProcessed self.old views → IsStopped S.taking S.failing S.failures sink.old frame.now.vc (without_idle (ended_by views frame.now)) flow sink.new)) }
+            × ForProcessed self.old (λ views. IsStopped S.taking S.failing S.failures sink.old frame.now.vc (without_idle (ended_by views frame.now)) flow sink.new)) }
     {
         if self.has_failed {
             return Err(FlowFault::Failed);
         }
+        // A fault leaves it set.
         self.has_failed = true;
         let step = match self.channels[usize::from(frame.vc())].take(frame, sink) {
             Ok(step) => step,

@@ -2,7 +2,7 @@
 ghost use Rattle.std.specs.Prelude.{◌≡◌, ◌≢◌, ◌+◌, ◌-◌, ◌*◌, ◌%◌, ◌/◌, ◌<◌, ◌≤◌, ◌++◌, nat_lt, if◌then◌else◌, [], None, Some, length, take, drop, map, option_map, IfOk, OnOk, OnErr, IfSome};
 ghost use Rattle.std.specs.List.{AllByRecursion, concat};
 ghost use Rattle.std.specs.Vec.{vec_items};
-ghost use Rattle.sl_packet.specs.Delivered.{HasNone, IsDeliverable, channel_count};
+ghost use Rattle.sl_packet.specs.Delivered.{FitsTm, HasNone, IsDeliverable};
 ghost use Rattle.sl_packet.specs.Packets.{packets_of};
 ghost use Rattle.sl_tmframe.specs.PacketFrame.{packet_frame, room_of};
 ghost use Rattle.sl_tmflow.specs.FieldStart.{starts_past};
@@ -12,15 +12,19 @@ use sl_packet::{Delivered, first_packet, push_idle};
 use sl_tmframe::{TmShape, push_tm};
 use std::alloc::{AllocError, Global};
 
-/// The normal form of the packets that were delivered on channels 0 to 7, those of the virtual channels; the
-/// others have none. `spacecraft` is 0 to 1023. It fails only where there are packets.
+/// The normal form of the packets that were delivered on channels 0 to 7, those of the virtual channels: frames
+/// of this format, end to end, and none where there are no packets. The form is this project's own
+/// (docs/normal-form.md).
+///
+/// No other channel has packets, which [`Delivered::fits_tm`] tells; `spacecraft` is 0 to 1023. The only refusal
+/// is want of memory, and only where there are packets.
 pub fn reframe_tm(
     alloc: Global,
     shape: &TmShape,
     spacecraft: u16,
     delivered: &Delivered,
 ) -> Result<Vec<u8>, AllocError>
-    requires fits { HasNone delivered.now 8 channel_count }
+    requires fits { FitsTm delivered.now }
     requires spacecraft { spacecraft ≤ 1023 }
     ensures form { IfOk result (λ form. form.items ≡ normal_form shape.now spacecraft (take 8 delivered.now.lists)) }
     ensures packets { OnErr result (HasNone delivered.now 0 8 → ⊥) }

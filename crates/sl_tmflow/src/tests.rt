@@ -1,9 +1,9 @@
-//! Frames of known octets, and the packets that end in them. All were worked out by hand from the standard's
+//! Frames of known octets, and the packets that end in them. The expected packets follow from the standard's
 //! bits.
 ghost use Rattle.std.specs.Prelude.{◌≡◌};
 
 use crate::{Extractor, reframe_tm};
-use sl_packet::{Delivered, FlowFault, PacketSink, SinkFault};
+use sl_packet::{Delivered, FlowFault, PacketSink, SinkFault, hand_over};
 use sl_tmframe::{TmFrame, TmShape};
 use std::test::Fail;
 
@@ -29,6 +29,28 @@ const ENDED: [u8; 32] = [
     0x00, 0x00, 0x03, 0x01, 0x02, 0x03, 0x04, //
     0x00, 0x01, 0xC0, 0x00, 0x00, 0x03, 0xAA, 0xBB, 0xCC, 0xDD, //
     0x07, 0xFF, 0xC0, 0x00, 0x00, 0x02, 0x00, 0x00, 0x00,
+];
+
+// Counts 0, first header pointer 0: a packet of ten octets, and an idle packet that fills its frame.
+const FILLED: [u8; 32] = [
+    0x00, 0x10, 0x00, 0x00, 0x18, 0x00, //
+    0x00, 0x01, 0xC0, 0x00, 0x00, 0x03, 0xAA, 0xBB, 0xCC, 0xDD, //
+    0x07, 0xFF, 0xC0, 0x00, 0x00, 0x09, 0, 0, 0, 0, 0, 0, 0, 0, 0, 0,
+];
+
+// The last two of the 2,522 frames of a packet of 65,542 octets: its last 22, and an idle packet that begins
+// after them. Counts 2,520 and 2,521 modulo 256.
+const LAST_OF_LONGEST: [[u8; 32]; 2] = [
+    [
+        0x00, 0x10, 0xD8, 0xD8, 0x18, 0x16, //
+        0x33, 0x33, 0x33, 0x33, 0x33, 0x33, 0x33, 0x33, 0x33, 0x33, 0x33, 0x33, 0x33, 0x33, 0x33,
+        0x33, 0x33, 0x33, 0x33, 0x33, 0x33, 0x33, //
+        0x07, 0xFF, 0xC0, 0x00,
+    ],
+    [
+        0x00, 0x10, 0xD9, 0xD9, 0x1F, 0xFF, //
+        0x00, 0x17, 0, 0, 0, 0, 0, 0, 0, 0, 0, 0, 0, 0, 0, 0, 0, 0, 0, 0, 0, 0, 0, 0, 0, 0,
+    ],
 ];
 
 // The packet of two frames.
@@ -84,6 +106,53 @@ fn a_missing_frame_breaks_a_packet(rt: HostRuntime) -> Result<(), Fail> {
     assert!(rt; delivered.fits_tm());
     let form = reframe_tm(rt.alloc(), &TmShape::new(32, false)?, 1, &delivered)?;
     assert_eq!(rt; form.as_slice(), &NORMAL_FORM[..]);
+    Ok(())
+}
+
+#[test]
+fn a_packet_of_one_frame(rt: HostRuntime) -> Result<(), Fail> {
+    let mut extractor = Extractor::new(rt.alloc());
+    let mut extracted = Delivered::new(rt.alloc());
+    assert_eq!(rt; ended(&mut extractor, &FILLED, &mut extracted)?, (1, 1));
+    assert!(rt; are(extracted.list(0), &[&FILLED[6..16]]));
+    let mut delivered = Delivered::new(rt.alloc());
+    hand_over(&mut delivered, 0, &FILLED[6..16])?;
+    assert!(rt; delivered.fits_tm());
+    let form = reframe_tm(rt.alloc(), &TmShape::new(32, false)?, 1, &delivered)?;
+    assert_eq!(rt; form.as_slice(), &FILLED[..]);
+    Ok(())
+}
+
+// It passes the greatest count nine times, and no packet starts in most of its frames.
+#[test]
+fn a_longest_packet_goes_through_its_frames(rt: HostRuntime) -> Result<(), Fail> {
+    let mut longest = Vec::from_slice(rt.alloc(), &[0x00, 0x03, 0xC0, 0x00, 0xFF, 0xFF])?;
+    longest.resize(65542, 0x33)?;
+    let mut delivered = Delivered::new(rt.alloc());
+    hand_over(&mut delivered, 0, &longest)?;
+    assert!(rt; delivered.fits_tm());
+    let form = reframe_tm(rt.alloc(), &TmShape::new(32, false)?, 1, &delivered)?;
+    assert_eq!(rt; form.len(), 80704);
+    assert!(rt; form.starts_with(&[0x00, 0x10, 0x00, 0x00, 0x18, 0x00]));
+    assert!(rt; form.ends_with(LAST_OF_LONGEST.as_flattened()));
+    let (frames, _) = form.as_chunks::<32>();
+    let mut extractor = Extractor::new(rt.alloc());
+    let mut extracted = Delivered::new(rt.alloc());
+    for (number, frame) in frames.iter().enumerate() {
+        let (pointer, wanted) = match number {
+            0 => ([0x18, 0x00], (0, 0)),
+            2520 => ([0x18, 0x16], (1, 0)),
+            2521 => ([0x1F, 0xFF], (0, 1)),
+            _ => ([0x1F, 0xFF], (0, 0)),
+        };
+        assert_eq!(rt; frame.get(4..6), Some(&pointer[..]), "at {number}");
+        assert_eq!(rt;
+            ended(&mut extractor, frame, &mut extracted)?,
+            wanted,
+            "at {number}"
+        );
+    }
+    assert!(rt; are(extracted.list(0), &[&longest]));
     Ok(())
 }
 

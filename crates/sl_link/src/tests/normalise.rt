@@ -19,6 +19,9 @@ const ENDED: &str = "000003010203040001c0000003aabbccdd07ffc0000002000000";
 // The packets of twenty-three and of ten octets, and between them one of ten octets in two frames.
 const THROUGH: [&str; 5] = [FIRST, LONG, BEGUN, "001001011807", ENDED];
 
+// The last octets of a packet of twenty-nine.
+const DATA: &str = "2222222222222222222222222222222222222222222222";
+
 const ZEROS: &str = "0000000000000000000000000000000000000000000000000000";
 
 const FIVES: &str = "5555555555555555555555555555555555555555555555555555";
@@ -58,7 +61,7 @@ pub(super) fn octets(alloc: Global, parts: &[&str]) -> Result<Vec<u8>, Fail> {
 #[test]
 fn normal_forms_of_recordings(rt: HostRuntime) -> Result<(), Fail> {
     let one: &[&str] = &[FIRST, TEN_FILLED];
-    let cases: [(&[&str], &[&str]); 15] = [
+    let cases: [(&[&str], &[&str]); 23] = [
         (&[], &[]),
         (one, one),
         // Other counts, and an idle packet with other sequence flags and data.
@@ -110,6 +113,23 @@ fn normal_forms_of_recordings(rt: HostRuntime) -> Result<(), Fail> {
             ],
             &BOTH,
         ),
+        // A packet that ends with a later data field, in which no packet starts; the same where the pointer says
+        // that one starts at 0; and one that would end within a data field in which no packet starts.
+        (
+            &[FIRST, LONG, BEGUN, "001001011fff", "000016", DATA],
+            &[FIRST, LONG, BEGUN, "001001011fff", "000016", DATA],
+        ),
+        (
+            &[FIRST, LONG, BEGUN, "001001011800", "000016", DATA],
+            &ALONE,
+        ),
+        (&[FIRST, LONG, BEGUN, "001001011fff", ENDED], &ALONE),
+        // Count 0 is the next one after 255, and 255 isn't.
+        (
+            &["0010ffff1800", LONG, BEGUN, "001000001807", ENDED],
+            &THROUGH,
+        ),
+        (&["0010ffff1800", LONG, BEGUN, "0010ffff1807", ENDED], &BOTH),
         // A frame that comes twice.
         (
             &[FIRST, LONG, BEGUN, FIRST, LONG, BEGUN],
@@ -124,7 +144,29 @@ fn normal_forms_of_recordings(rt: HostRuntime) -> Result<(), Fail> {
                 ZEROS,
             ],
         ),
+        // Operational control fields of both types, which are left out.
+        (
+            &[
+                "001100001800",
+                TEN,
+                "07ffc0000005",
+                "000000000000",
+                "01002805",
+            ],
+            one,
+        ),
+        (
+            &[
+                "001100001800",
+                TEN,
+                "07ffc0000005",
+                "000000000000",
+                "80000000",
+            ],
+            one,
+        ),
         // A remainder.
+        (&[FIRST, TEN_FILLED, "0010000018000001"], one),
         (
             &[
                 FIRST, TEN_FILLED, FIRST, TEN_FILLED, FIRST, TEN_FILLED, "00100000",

@@ -6,6 +6,7 @@ use Rattle.sl_packet.specs.Sink.{TakesAll}
 use Rattle.sl_tmflow.specs.ChannelState.{step_in}
 use Rattle.sl_tmflow.specs.Delivery.{ended}
 use Rattle.sl_tmflow.specs.PacketStart.{whole_packets}
+use Rattle.sl_tmflow.specs.StepReport.{StepReport}
 use Rattle.sl_tmflow.specs.Stopping.{IsStopped}
 use Rattle.sl_tmflow.proofs.StoppingLemmas.{takes_both, stops_before, stops_after}
 use Rattle.sl_tmflow.proofs.channel.Channel.take.Goals as goal
@@ -52,6 +53,8 @@ pub returns-clause-packets : goal.returns-clause-packets
 returns-clause-packets g c =
     let first = ended (step_in c.args.self.now c.args.frame.now) in
     let second = whole_packets c.args.frame.now.field in
+    let ended = ap (λ (s : StepReport). s.packets) c.ended.view_is in
+    let begun = ap (λ (s : StepReport). s.packets) c.begun.view_is in
     let here = c.in-Ok-begin.ensures.packets ∙ ap (λ field. length (without_idle (whole_packets field))) c.field.ensures.value in
     omega (arith, c.in-Ok.ensures.packets, here, ap length (without_idle-append first second), length-append (without_idle first) (without_idle second))
 
@@ -59,5 +62,7 @@ pub returns-clause-idle : goal.returns-clause-idle
 returns-clause-idle g c =
     let first = ended (step_in c.args.self.now c.args.frame.now) in
     let second = whole_packets c.args.frame.now.field in
+    let ended = ap (λ (s : StepReport). s.idle) c.ended.view_is in
+    let begun = ap (λ (s : StepReport). s.idle) c.begun.view_is in
     let here = c.in-Ok-begin.ensures.idle ∙ ap (λ field. length (only_idle (whole_packets field))) c.field.ensures.value in
     omega (arith, c.in-Ok.ensures.idle, here, ap length (only_idle-append first second), length-append (only_idle first) (only_idle second))

@@ -1,12 +1,13 @@
--- Packet starts that are still open.
-use Rattle.std.proofs.Common.{◌≡◌, ◌≢◌, ℕ, ◌+◌, true, List, [], ◌∷◌, ◌++◌, map, Option, None, refl, sym, ◌∙◌, ap, append-nil, append_assoc}
+-- Packet starts whose packet is incomplete after the frames that come later.
+use Rattle.std.proofs.Common.{◌≡◌, ◌≢◌, ℕ, ◌+◌, true, List, [], ◌∷◌, ◌++◌, map, refl, sym, ◌∙◌, ap, append-nil, append_assoc}
 use Rattle.std.specs.List.{AllByRecursion, concat}
 use Rattle.std.proofs.lemmas.List.{map-append}
 use Rattle.std.proofs.lemmas.List.Folds.{concat-append}
 use Rattle.sl_packet.specs.Front.{Front, Foreign, Incomplete, Whole, front}
-use Rattle.sl_tmframe.specs.TmFrame.{TmView, Packets, Opaque}
+use Rattle.sl_tmframe.specs.TmFrame.{TmView, Opaque}
 use Rattle.sl_tmflow.specs.Channel.{is_consecutive, AreConsecutive, packet_data, reassembly}
-use Rattle.sl_tmflow.specs.Delivery.{Outcome, Held, Step, Ends, Continues, Breaks, step_of, after_step, outcome_after, outcome_of_front, outcome_of}
+use Rattle.sl_tmflow.specs.Delivery.{Outcome, StillIncomplete, Continuation, Ends, Continues, Breaks, step_of, after_step, outcome_after, outcome_of_front, outcome_of}
+use Rattle.sl_tmflow.specs.Incomplete.{HasNoStart}
 use Rattle.sl_tmflow.proofs.EachLemmas.{each-append}
 use Rattle.sl_tmflow.proofs.StepLemmas.{GoesOnPast, step_continues, continues_step, incomplete_before}
 
@@ -17,13 +18,9 @@ abbrev pub last_of : TmView → List TmView → TmView
 last_of view [] = view
 last_of view (next ∷ later) = last_of next later
 
--- no packet starts in the frame: if it is one of packets, its first header pointer says so
-abbrev pub HasNoStart : TmView → Type 0
-HasNoStart view = (first : Option ℕ) (field : List ℕ) → view.field ≡ Packets first field → first ≡ None
-
--- A packet that starts in a frame, with these octets of the frame's from its start on, is still open at the
+-- A packet that starts in a frame, with these octets of the frame's from its start on, is incomplete at the
 -- end of a run of later frames: the first octets of it have come, but not all.
-pub record IsOpenAfter (view : TmView) (octets : List ℕ) (run : List TmView) (last : TmView) (so_far : List ℕ) : Type 0 where
+pub record IsIncompleteAfter (view : TmView) (octets : List ℕ) (run : List TmView) (last : TmView) (so_far : List ℕ) : Type 0 where
   -- the frame that came last
   pub ended_by : last ≡ last_of view run
   -- the octets so far are those from the packet's start on
@@ -62,8 +59,8 @@ pub consecutive-push : (view : TmView) (run : List TmView) (next : TmView) → A
 consecutive-push view [] next before test = (test, tt)
 consecutive-push view (v ∷ run) next before test = (before.0, consecutive-push v run next before.1 test)
 
-pub is_open_at_start : (view : TmView) (octets : List ℕ) → front octets ≡ Incomplete → IsOpenAfter view octets [] view octets
-is_open_at_start view octets incomplete =
+pub is_incomplete_at_start : (view : TmView) (octets : List ℕ) → front octets ≡ Incomplete → IsIncompleteAfter view octets [] view octets
+is_incomplete_at_start view octets incomplete =
     record {
       ended_by = refl;
       came = sym (append-nil octets);
@@ -75,14 +72,14 @@ is_open_at_start view octets incomplete =
 
 -- the next frame is consecutive, as the record of the run says it
 pub consecutive_to_last : (view : TmView) (octets : List ℕ) (run : List TmView) (last : TmView) (so_far : List ℕ) (next : TmView)
-    → IsOpenAfter view octets run last so_far → is_consecutive last next ≡ true → AreConsecutive view (run ++ next ∷ [])
+    → IsIncompleteAfter view octets run last so_far → is_consecutive last next ≡ true → AreConsecutive view (run ++ next ∷ [])
 consecutive_to_last view octets run last so_far next o test =
     consecutive-push view run next o.consecutive (ap (λ v. is_consecutive v next) (sym o.ended_by) ∙ test)
 
-pub is_open_one_more : (view : TmView) (octets : List ℕ) (run : List TmView) (last : TmView) (so_far : List ℕ) (next : TmView)
-    → IsOpenAfter view octets run last so_far → is_consecutive last next ≡ true → GoesOnPast so_far next.field
-    → IsOpenAfter view octets (run ++ next ∷ []) next (so_far ++ packet_data next)
-is_open_one_more view octets run last so_far next o test x =
+pub is_incomplete_one_more : (view : TmView) (octets : List ℕ) (run : List TmView) (last : TmView) (so_far : List ℕ) (next : TmView)
+    → IsIncompleteAfter view octets run last so_far → is_consecutive last next ≡ true → GoesOnPast so_far next.field
+    → IsIncompleteAfter view octets (run ++ next ∷ []) next (so_far ++ packet_data next)
+is_incomplete_one_more view octets run last so_far next o test x =
     record {
       ended_by = sym (last_of-push view run next);
       came = ap (λ l. l ++ packet_data next) o.came ∙ sym (reassembly-push octets run next);
@@ -94,37 +91,37 @@ is_open_one_more view octets run last so_far next o test x =
 
 -- ---- what the outcome says of it
 
-held_step : (s : Step) (passed : ℕ) (rest : Outcome) (so_far : List ℕ) → after_step s passed rest ≡ Held so_far → (s ≡ Continues) × (rest ≡ Held so_far)
-held_step (Ends packet) passed rest so_far e = absurd (cc)
-held_step Continues passed rest so_far e = (refl, e)
-held_step Breaks passed rest so_far e = absurd (cc)
+incomplete_step : (s : Continuation) (passed : ℕ) (rest : Outcome) (so_far : List ℕ) → after_step s passed rest ≡ StillIncomplete so_far → (s ≡ Continues) × (rest ≡ StillIncomplete so_far)
+incomplete_step (Ends packet) passed rest so_far e = absurd (cc)
+incomplete_step Continues passed rest so_far e = (refl, e)
+incomplete_step Breaks passed rest so_far e = absurd (cc)
 
--- a start that is held at the end of the later frames is open after all of them
-pub held_is_open : (passed : ℕ) (first : TmView) (start : List ℕ) (run : List TmView) (view : TmView) (octets : List ℕ) (later : List TmView) (so_far : List ℕ)
-    → IsOpenAfter first start run view octets → outcome_after passed view octets later ≡ Held so_far
-    → IsOpenAfter first start (run ++ later) (last_of view later) so_far
-held_is_open passed first start run view octets [] so_far o e =
+-- a start whose outcome is that the packet is still incomplete is so after all of the later frames
+pub outcome_to_incomplete : (passed : ℕ) (first : TmView) (start : List ℕ) (run : List TmView) (view : TmView) (octets : List ℕ) (later : List TmView) (so_far : List ℕ)
+    → IsIncompleteAfter first start run view octets → outcome_after passed view octets later ≡ StillIncomplete so_far
+    → IsIncompleteAfter first start (run ++ later) (last_of view later) so_far
+outcome_to_incomplete passed first start run view octets [] so_far o e =
     let same : octets ≡ so_far = cc in
     rw (append-nil run) (rw (← same) o)
-held_is_open passed first start run view octets (next ∷ later) so_far o e =
-    let (goes_on, rest) = held_step (step_of view octets next) (passed + 1) (outcome_after (passed + 1) next (octets ++ packet_data next) later) so_far e in
+outcome_to_incomplete passed first start run view octets (next ∷ later) so_far o e =
+    let (goes_on, rest) = incomplete_step (step_of view octets next) (passed + 1) (outcome_after (passed + 1) next (octets ++ packet_data next) later) so_far e in
     let (consecutive, past) = step_continues view octets next o.incomplete goes_on in
-    let open_now = is_open_one_more first start run view octets next o consecutive past in
+    let now = is_incomplete_one_more first start run view octets next o consecutive past in
     rw (← append_assoc run (next ∷ []) later)
-    (held_is_open (passed + 1) first start (run ++ next ∷ []) next (octets ++ packet_data next) later so_far open_now rest)
+    (outcome_to_incomplete (passed + 1) first start (run ++ next ∷ []) next (octets ++ packet_data next) later so_far now rest)
 
 -- and the other way round
-pub open_is_held : (passed : ℕ) (view : TmView) (octets : List ℕ) (later : List TmView) (last : TmView) (so_far : List ℕ)
-    → IsOpenAfter view octets later last so_far → outcome_after passed view octets later ≡ Held so_far
-open_is_held passed view octets [] last so_far o = ap Held (sym (append-nil octets) ∙ sym o.came)
-open_is_held passed view octets (next ∷ later) last so_far o =
+pub incomplete_to_outcome : (passed : ℕ) (view : TmView) (octets : List ℕ) (later : List TmView) (last : TmView) (so_far : List ℕ)
+    → IsIncompleteAfter view octets later last so_far → outcome_after passed view octets later ≡ StillIncomplete so_far
+incomplete_to_outcome passed view octets [] last so_far o = ap StillIncomplete (sym (append-nil octets) ∙ sym o.came)
+incomplete_to_outcome passed view octets (next ∷ later) last so_far o =
     let came : so_far ≡ reassembly (octets ++ packet_data next) later = o.came ∙ reassembly-cons octets next later in
     let past : GoesOnPast octets next.field = record {
       is_read = o.none_opaque.0;
       no_start = o.no_start.0;
       incomplete = incomplete_before (octets ++ packet_data next) (concat (map packet_data later)) (ap front (sym came) ∙ o.incomplete);
     } in
-    let rest : IsOpenAfter next (octets ++ packet_data next) later last so_far = record {
+    let rest : IsIncompleteAfter next (octets ++ packet_data next) later last so_far = record {
       ended_by = o.ended_by;
       came = came;
       consecutive = o.consecutive.1;
@@ -133,23 +130,23 @@ open_is_held passed view octets (next ∷ later) last so_far o =
       incomplete = o.incomplete;
     } in
     ap (λ s. after_step s (passed + 1) (outcome_after (passed + 1) next (octets ++ packet_data next) later)) (continues_step view octets next o.consecutive.0 past)
-    ∙ open_is_held (passed + 1) next (octets ++ packet_data next) later last so_far rest
+    ∙ incomplete_to_outcome (passed + 1) next (octets ++ packet_data next) later last so_far rest
 
-front_held : (f : Front) (view : TmView) (octets : List ℕ) (later : List TmView) (so_far : List ℕ) → outcome_of_front f view octets later ≡ Held so_far
-    → (f ≡ Incomplete) × (outcome_after 0 view octets later ≡ Held so_far)
-front_held Foreign view octets later so_far e = absurd (cc)
-front_held Incomplete view octets later so_far e = (refl, e)
-front_held (Whole len) view octets later so_far e = absurd (cc)
+front_incomplete : (f : Front) (view : TmView) (octets : List ℕ) (later : List TmView) (so_far : List ℕ) → outcome_of_front f view octets later ≡ StillIncomplete so_far
+    → (f ≡ Incomplete) × (outcome_after 0 view octets later ≡ StillIncomplete so_far)
+front_incomplete Foreign view octets later so_far e = absurd (cc)
+front_incomplete Incomplete view octets later so_far e = (refl, e)
+front_incomplete (Whole len) view octets later so_far e = absurd (cc)
 
--- a packet start is held with these octets where it is open after all later frames with them, and only there
-pub outcome_held : (view : TmView) (octets : List ℕ) (later : List TmView) (so_far : List ℕ) → outcome_of view octets later ≡ Held so_far
-    → IsOpenAfter view octets later (last_of view later) so_far
-outcome_held view octets later so_far e =
-    let (incomplete, held) = front_held (front octets) view octets later so_far e in
-    held_is_open 0 view octets [] view octets later so_far (is_open_at_start view octets incomplete) held
+-- a packet start has this outcome where its packet is incomplete after all later frames, and only there
+pub outcome_incomplete : (view : TmView) (octets : List ℕ) (later : List TmView) (so_far : List ℕ) → outcome_of view octets later ≡ StillIncomplete so_far
+    → IsIncompleteAfter view octets later (last_of view later) so_far
+outcome_incomplete view octets later so_far e =
+    let (incomplete, held) = front_incomplete (front octets) view octets later so_far e in
+    outcome_to_incomplete 0 view octets [] view octets later so_far (is_incomplete_at_start view octets incomplete) held
 
-pub open_outcome : (view : TmView) (octets : List ℕ) (later : List TmView) (last : TmView) (so_far : List ℕ) → IsOpenAfter view octets later last so_far
-    → outcome_of view octets later ≡ Held so_far
-open_outcome view octets later last so_far o =
+pub incomplete_outcome : (view : TmView) (octets : List ℕ) (later : List TmView) (last : TmView) (so_far : List ℕ) → IsIncompleteAfter view octets later last so_far
+    → outcome_of view octets later ≡ StillIncomplete so_far
+incomplete_outcome view octets later last so_far o =
     let incomplete : front octets ≡ Incomplete = incomplete_before octets (concat (map packet_data later)) (ap front (sym o.came) ∙ o.incomplete) in
-    ap (λ f. outcome_of_front f view octets later) incomplete ∙ open_is_held 0 view octets later last so_far o
+    ap (λ f. outcome_of_front f view octets later) incomplete ∙ incomplete_to_outcome 0 view octets later last so_far o

@@ -1,0 +1,80 @@
+-- Incomplete packets of a virtual channel, CCSDS 132.0-B: those that start in one of its frames and go on past
+-- the last one. That the first header pointer of a frame agrees with the packet is this project's mission
+-- profile.
+use Rattle.std.specs.Prelude.{◌≡◌, ◌≢◌, ℕ, ◌≤◌, List, [], ◌∷◌, ◌++◌, length, drop, Option, None}
+use Rattle.std.specs.List.{AllByRecursion, flat_map}
+use Rattle.sl_packet.specs.Packet.{version_of, IsPacket}
+use Rattle.sl_tmframe.specs.TmFrame.{TmView, Packets, Opaque}
+use Rattle.sl_tmflow.specs.Among.{IsAmong}
+use Rattle.sl_tmflow.specs.Channel.{AreConsecutive, packet_data, reassembly}
+use Rattle.sl_tmflow.specs.Delivery.{IsPrefix, Outcome, Completes, StillIncomplete, Undelivered, outcome_of}
+use Rattle.sl_tmflow.specs.PacketStart.{IsStart, starts_of}
+
+-- ---- the relation
+
+-- no packet starts in the frame: where it is one of packets, its first header pointer says so
+abbrev pub HasNoStart : TmView → Type 0
+HasNoStart view = (first : Option ℕ) (field : List ℕ) → view.field ≡ Packets first field → first ≡ None
+
+-- A packet that starts in a frame of the channel is incomplete after its last frame, with these octets so far.
+pub record IsIncomplete (channel : List TmView) (octets : List ℕ) : Type 0 where
+  -- the frame, and the run of later frames, to the last one
+  pub before : List TmView
+  pub view : TmView
+  pub run : List TmView
+  pub in_order : channel ≡ before ++ view ∷ run
+  -- the packet's start
+  pub first : Option ℕ
+  pub field : List ℕ
+  pub carries : view.field ≡ Packets first field
+  pub offset : ℕ
+  pub start : IsStart field first offset
+  -- the octets from there on may begin a packet, but none is whole yet
+  pub came : octets ≡ reassembly (drop offset field) run
+  pub version : version_of octets ≡ 0
+  pub no_packet : (packet : List ℕ) → IsPacket packet → IsPrefix packet octets → ⊥
+  -- the virtual channel frame counts of the run are consecutive
+  pub consecutive : AreConsecutive view run
+  -- none of its frames is opaque
+  pub none_opaque : AllByRecursion (λ next. next.field ≢ Opaque) run
+  -- and the pointer of each frame of packets agrees with the packet, which covers the data field
+  pub no_start : AllByRecursion HasNoStart run
+
+-- ---- the octets so far of each, listed
+
+-- of a packet start, by its outcome
+abbrev pub incomplete_octets : Outcome → List (List ℕ)
+incomplete_octets (Completes packet passed) = []
+incomplete_octets (StillIncomplete octets) = octets ∷ []
+incomplete_octets Undelivered = []
+
+-- of the packet starts of a frame, where these frames come later
+abbrev pub frame_incomplete : TmView → List TmView → List (List ℕ)
+frame_incomplete view later =
+    flat_map (λ start. incomplete_octets (outcome_of view (drop start (packet_data view)) later)) (starts_of view.field)
+
+-- of those of a channel, by the frames and then the starts of the packets
+abbrev pub incomplete_of : List TmView → List (List ℕ)
+incomplete_of [] = []
+incomplete_of (view ∷ later) = frame_incomplete view later ++ incomplete_of later
+
+-- ---- laws
+
+-- each that is listed is incomplete,
+abbrev pub EachListedIsIncomplete : Type 0
+EachListedIsIncomplete = (channel : List TmView) → AllByRecursion (IsIncomplete channel) (incomplete_of channel)
+
+-- and each that is incomplete is listed
+abbrev pub EachIncompleteIsListed : Type 0
+EachIncompleteIsListed = (channel : List TmView) (octets : List ℕ) → IsIncomplete channel octets → IsAmong octets (incomplete_of channel)
+
+-- at most one packet is incomplete after a frame,
+abbrev pub OneIsIncomplete : Type 0
+OneIsIncomplete = (channel : List TmView) → length (incomplete_of channel) ≤ 1
+
+-- of one to 65,541 octets
+abbrev pub IsShort : List ℕ → Type 0
+IsShort octets = (1 ≤ length octets) × (length octets ≤ 65541)
+
+abbrev pub IncompleteIsShort : Type 0
+IncompleteIsShort = (channel : List TmView) → AllByRecursion IsShort (incomplete_of channel)

@@ -1,0 +1,9 @@
+-- A `TmStep` is its report.
+use Rattle.sl_tmflow.specs.StepReport.{StepReport}
+use Rattle.sl_tmflow.specs.declared.step.TmStep.TheInside.{Inside}
+
+abbrev pub report_of : Inside → StepReport
+report_of s = record { packets = s.packets; idle = s.idle }
+
+abbrev pub inside_of : StepReport → Inside
+inside_of r = record { packets = r.packets; idle = r.idle }

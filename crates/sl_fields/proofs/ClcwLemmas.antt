@@ -1,7 +1,6 @@
 -- A CLCW as its fields with their widths.
 use Rattle.std.proofs.Common.{ℕ, List, [], ◌∷◌, refl, arith}
-use Rattle.sl_fields.specs.Clcw.{ClcwFields, FitsClcw}
-use Rattle.sl_fields.specs.Field.{bit_of}
+use Rattle.sl_fields.specs.Clcw.{ClcwFields, FitsClcw, clcw_fields}
 use Rattle.sl_fields.proofs.Flags.{value_at, flag_at, flag_of-bit, bit_of-flag, bit_fits}
 use Rattle.sl_fields.proofs.HeaderLayout.{IsLayout}
 
@@ -9,16 +8,9 @@ use Rattle.sl_fields.proofs.HeaderLayout.{IsLayout}
 abbrev clcw_widths : List ℕ
 clcw_widths = 1 ∷ 2 ∷ 3 ∷ 2 ∷ 6 ∷ 2 ∷ 1 ∷ 1 ∷ 1 ∷ 1 ∷ 1 ∷ 2 ∷ 1 ∷ 8 ∷ []
 
--- the fields with their widths
-abbrev clcw_fields : ClcwFields → List (ℕ × ℕ)
-clcw_fields w =
-    (1, w.word) ∷ (2, w.version) ∷ (3, w.status) ∷ (2, w.cop) ∷ (6, w.vc) ∷ (2, w.spare) ∷ (1, bit_of w.no_rf)
-    ∷ (1, bit_of w.no_lock) ∷ (1, bit_of w.lockout) ∷ (1, bit_of w.wait) ∷ (1, bit_of w.retransmit)
-    ∷ (2, w.farm_b) ∷ (1, bit_of w.spare_end) ∷ (8, w.report) ∷ []
-
 -- the word with these values
-abbrev clcw_of : List (ℕ × ℕ) → ClcwFields
-clcw_of fs =
+abbrev clcw_from : List (ℕ × ℕ) → ClcwFields
+clcw_from fs =
     record {
       word = value_at fs 0;
       version = value_at fs 1;
@@ -36,7 +28,7 @@ clcw_of fs =
       report = value_at fs 13;
     }
 
-pub clcw_layout : IsLayout 4 clcw_widths FitsClcw clcw_fields clcw_of
+pub clcw_layout : IsLayout 4 clcw_widths FitsClcw clcw_fields clcw_from
 clcw_layout = record {
   fills = refl;
   in_order = λ w. refl;

@@ -3,6 +3,8 @@ use Rattle.std.proofs.Common.{◌≡◌, true, false, [], ◌∷◌, refl}
 use Rattle.sl_fields.specs.TmHeader.{tm_header}
 use Rattle.sl_fields.specs.Clcw.{clcw_word}
 use Rattle.sl_fields.specs.PacketHeader.{packet_header}
+use Rattle.sl_fields.specs.SegmentHeader.{segment_header}
+use Rattle.sl_fields.specs.TcHeader.{tc_header}
 
 pub record AreHeaders : Type 0 where
   pub telemetry :
@@ -52,6 +54,102 @@ pub record AreHeaders : Type 0 where
         farm_b = 0;
         spare_end = false;
         report = 5;
+      }
+  pub telecommand :
+      tc_header (0x00 ∷ 0x01 ∷ 0x00 ∷ 0x0C ∷ 0x07 ∷ [])
+      ≡ record {
+        version = 0;
+        bypass = false;
+        command = false;
+        spare = 0;
+        spacecraft = 1;
+        vc = 0;
+        length = 12;
+        ns = 7;
+      }
+  pub control_command :
+      tc_header (0x30 ∷ 0x01 ∷ 0x00 ∷ 0x07 ∷ 0x00 ∷ [])
+      ≡ record {
+        version = 0;
+        bypass = true;
+        command = true;
+        spare = 0;
+        spacecraft = 1;
+        vc = 0;
+        length = 7;
+        ns = 0;
+      }
+  pub bypass_telecommand :
+      tc_header (0x20 ∷ 0x01 ∷ 0x04 ∷ 0x0C ∷ 0x00 ∷ [])
+      ≡ record {
+        version = 0;
+        bypass = true;
+        command = false;
+        spare = 0;
+        spacecraft = 1;
+        vc = 1;
+        length = 12;
+        ns = 0;
+      }
+  pub mixed_telecommand :
+      tc_header (0xBE ∷ 0xA9 ∷ 0xA6 ∷ 0xCB ∷ 0xC3 ∷ [])
+      ≡ record {
+        version = 2;
+        bypass = true;
+        command = true;
+        spare = 3;
+        spacecraft = 681;
+        vc = 41;
+        length = 715;
+        ns = 195;
+      }
+  pub command_alone :
+      tc_header (0x55 ∷ 0x56 ∷ 0x59 ∷ 0x34 ∷ 0x3C ∷ [])
+      ≡ record {
+        version = 1;
+        bypass = false;
+        command = true;
+        spare = 1;
+        spacecraft = 342;
+        vc = 22;
+        length = 308;
+        ns = 60;
+      }
+  pub greatest_telecommand :
+      tc_header (0xFF ∷ 0xFF ∷ 0xFF ∷ 0xFF ∷ 0xFF ∷ [])
+      ≡ record {
+        version = 3;
+        bypass = true;
+        command = true;
+        spare = 3;
+        spacecraft = 1023;
+        vc = 63;
+        length = 1023;
+        ns = 255;
+      }
+  pub whole_segment :
+      segment_header (0xC0 ∷ [])
+      ≡ record {
+        flags = 3;
+        map = 0;
+      }
+  pub first_segment :
+      segment_header (0x45 ∷ [])
+      ≡ record {
+        flags = 1;
+        map = 5;
+      }
+  pub last_segment :
+      segment_header (0xA9 ∷ [])
+      ≡ record {
+        flags = 2;
+        map = 41;
+      }
+  pub greatest_segment :
+      segment_header (0xFF ∷ [])
+      ≡ record {
+        flags = 3;
+        map = 63;
       }
   pub telemetry_packet :
       packet_header (0x00 ∷ 0x01 ∷ 0xC0 ∷ 0x00 ∷ 0x00 ∷ 0x03 ∷ [])
@@ -103,6 +201,16 @@ headers = record {
   telemetry = refl;
   greatest = refl;
   control_word = refl;
+  telecommand = refl;
+  control_command = refl;
+  bypass_telecommand = refl;
+  mixed_telecommand = refl;
+  command_alone = refl;
+  greatest_telecommand = refl;
+  whole_segment = refl;
+  first_segment = refl;
+  last_segment = refl;
+  greatest_segment = refl;
   telemetry_packet = refl;
   telecommand_packet = refl;
   greatest_packet = refl;

@@ -1,5 +1,6 @@
 pub mod ClcwLemmas
 pub mod FecfFacts
+pub mod FecfLemmas
 pub mod Division
 pub mod Flags
 pub mod HeaderFacts
@@ -7,4 +8,6 @@ pub mod HeaderLayout
 pub mod Octets
 pub mod PacketHeaderLemmas
 pub mod Packing
+pub mod SegmentHeaderLemmas
+pub mod TcHeaderLemmas
 pub mod TmHeaderLemmas

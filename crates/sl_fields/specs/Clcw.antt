@@ -1,6 +1,6 @@
 -- The Communications Link Control Word (CLCW), CCSDS 232.0-B: four octets.
-use Rattle.std.specs.Prelude.{ℕ, ◌^◌, ◌<◌, Bool, List}
-use Rattle.sl_fields.specs.Field.{field, flag}
+use Rattle.std.specs.Prelude.{ℕ, ◌^◌, ◌<◌, Bool, List, [], ◌∷◌}
+use Rattle.sl_fields.specs.Field.{bit_of, field, flag, octets_of}
 
 -- the fields of the word, in their order
 pub record ClcwFields : Type 0 where
@@ -49,3 +49,14 @@ clcw_word octets =
       spare_end = flag 4 23 octets;
       report = field 4 24 8 octets;
     }
+
+-- the fields with their widths
+abbrev pub clcw_fields : ClcwFields → List (ℕ × ℕ)
+clcw_fields w =
+    (1, w.word) ∷ (2, w.version) ∷ (3, w.status) ∷ (2, w.cop) ∷ (6, w.vc) ∷ (2, w.spare) ∷ (1, bit_of w.no_rf)
+    ∷ (1, bit_of w.no_lock) ∷ (1, bit_of w.lockout) ∷ (1, bit_of w.wait) ∷ (1, bit_of w.retransmit)
+    ∷ (2, w.farm_b) ∷ (1, bit_of w.spare_end) ∷ (8, w.report) ∷ []
+
+-- the octets that are the word with these fields
+abbrev pub clcw_octets : ClcwFields → List ℕ
+clcw_octets w = octets_of 4 (clcw_fields w)

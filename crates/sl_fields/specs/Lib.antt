@@ -4,6 +4,10 @@ pub mod Fecf
 pub mod Field
 pub mod PacketHeader
 pub mod PacketHeaderModel
+pub mod SegmentHeader
+pub mod SegmentHeaderModel
 pub mod Shape
+pub mod TcHeader
+pub mod TcHeaderModel
 pub mod TmHeader
 pub mod TmHeaderModel

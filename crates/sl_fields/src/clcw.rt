@@ -1,7 +1,7 @@
 //! The Communications Link Control Word.
 ghost use Rattle.std.specs.Prelude.{◌≡◌, ℕ, ◌^◌, ◌<◌, List, length, SomeIff};
 ghost use Rattle.sl_fields.specs.Field.{IsOctets};
-ghost use Rattle.sl_fields.specs.Clcw.{ClcwFields, clcw_word, FitsClcw};
+ghost use Rattle.sl_fields.specs.Clcw.{ClcwFields, clcw_word, FitsClcw, clcw_octets};
 
 use crate::bits::{field, flag, pack};
 use byteorder::{BigEndian, ByteOrder};
@@ -232,6 +232,7 @@ impl Clcw {
         ensures reads_back { clcw_word result ≡ self.now }
         // and no others do.
         ensures only { (octets : List ℕ) → length octets ≡ 4 → IsOctets octets → clcw_word octets ≡ self.now → octets ≡ result }
+        ensures octets { result ≡ clcw_octets self.now }
     {
         let number = pack(&[
             (1, self.word as u64),

@@ -1,6 +1,6 @@
 //! The frame error control field.
-ghost use Rattle.std.specs.Prelude.{◌≡◌, ℕ, List, [], ◌∷◌, ◌++◌, Bool};
-ghost use Rattle.sl_fields.specs.Fecf.{fecf_of, register_of, fecf_is_good};
+ghost use Rattle.std.specs.Prelude.{◌≡◌, ℕ, ◌-◌, ◌≤◌, List, [], ◌∷◌, ◌++◌, length, take, Bool};
+ghost use Rattle.sl_fields.specs.Fecf.{fecf_of, fecf_octets, fecf_len, register_of, fecf_is_good};
 
 use byteorder::{BigEndian, ByteOrder};
 
@@ -31,6 +31,32 @@ pub fn fecf_good(octets: &[u8]) -> bool
     }
     let (covered, field) = octets.split_at(octets.len() - 2);
     BigEndian::read_u16(field) == fecf(covered)
+}
+
+/// The frame error control field of these octets of a frame, as the two octets that stand after them, the
+/// most significant first.
+pub fn fecf_field(octets: &[u8]) -> [u8; 2]
+    ensures { result ≡ fecf_octets octets.now }
+{
+    let mut field = [0; 2];
+    BigEndian::write_u16(&mut field, fecf(octets));
+    field
+}
+
+/// The octets of a frame, or those from some offset on, up to its frame error control field where frames have
+/// one: there are two octets or more then.
+#[inline(always)]
+pub fn without_fecf(has_fecf: bool, octets: &[u8]) -> &[u8]
+    requires { fecf_len has_fecf ≤ length octets.now }
+    ensures { result.now ≡ take (length octets.now - fecf_len has_fecf) octets.now }
+{
+    if !has_fecf {
+        return octets;
+    }
+    match octets.split_last_chunk::<2>() {
+        Some((covered, _)) => covered,
+        None => unreachable!(),
+    }
 }
 
 // The register after one octet more.

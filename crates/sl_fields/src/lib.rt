@@ -9,13 +9,17 @@ mod bits;
 mod clcw;
 mod error_control;
 mod packet_header;
+mod segment_header;
 mod shape_fault;
+mod tc_header;
 mod tm_header;
 
 pub use clcw::Clcw;
-pub use error_control::{fecf, fecf_good};
+pub use error_control::{fecf, fecf_field, fecf_good, without_fecf};
 pub use packet_header::PacketHeader;
+pub use segment_header::SegmentHeader;
 pub use shape_fault::ShapeFault;
+pub use tc_header::TcHeader;
 pub use tm_header::TmHeader;
 
 #[cfg(test)]

@@ -7,4 +7,7 @@ pub enum ShapeFault {
     /// The TM frame length is outside 32 to 2048 octets.
     #[error("tm length")]
     TmLength,
+    /// The greatest TC frame length is outside 16 to 1024 octets.
+    #[error("tc length")]
+    TcLength,
 }

@@ -1,6 +1,9 @@
-//! Headers of known octets: the fields were worked out by hand from the tables of bits. Error control
-//! fields are known from outside.
-use crate::{Clcw, PacketHeader, ShapeFault, TmHeader, fecf, fecf_good};
+//! Headers of known octets: their fields follow from the tables of bits. Error control fields are known
+//! from outside.
+use crate::{
+    Clcw, PacketHeader, SegmentHeader, ShapeFault, TcHeader, TmHeader, fecf, fecf_field, fecf_good,
+    without_fecf,
+};
 use std::test::Fail;
 
 #[test]
@@ -78,6 +81,108 @@ fn no_tm_header_of_a_field_beyond_its_bits(rt: HostRuntime) {
             version, spacecraft, vc, false, 0, 0, false, false, false, segment, first,
         );
         assert_eq!(rt; made, None);
+    }
+}
+
+#[test]
+fn tc_headers_of_known_octets(rt: HostRuntime) {
+    for (octets, (version, bypass, command, spare), (spacecraft, vc), (length, ns)) in [
+        (
+            [0x00, 0x01, 0x00, 0x0C, 0x07],
+            (0, false, false, 0),
+            (1, 0),
+            (12, 7),
+        ),
+        (
+            [0x30, 0x01, 0x00, 0x07, 0x00],
+            (0, true, true, 0),
+            (1, 0),
+            (7, 0),
+        ),
+        (
+            [0x20, 0x01, 0x04, 0x0C, 0x00],
+            (0, true, false, 0),
+            (1, 1),
+            (12, 0),
+        ),
+        (
+            [0x55, 0x56, 0x59, 0x34, 0x3C],
+            (1, false, true, 1),
+            (342, 22),
+            (308, 60),
+        ),
+        (
+            [0xBE, 0xA9, 0xA6, 0xCB, 0xC3],
+            (2, true, true, 3),
+            (681, 41),
+            (715, 195),
+        ),
+        (
+            [0xFF, 0xFF, 0xFF, 0xFF, 0xFF],
+            (3, true, true, 3),
+            (1023, 63),
+            (1023, 255),
+        ),
+    ] {
+        let header = TcHeader::read(&octets);
+        assert_eq!(rt; header.version(), version, "at {octets:?}");
+        assert_eq!(rt; header.bypass(), bypass, "at {octets:?}");
+        assert_eq!(rt; header.command(), command, "at {octets:?}");
+        assert_eq!(rt; header.spare(), spare, "at {octets:?}");
+        assert_eq!(rt; header.spacecraft(), spacecraft, "at {octets:?}");
+        assert_eq!(rt; header.vc(), vc, "at {octets:?}");
+        assert_eq!(rt; header.length(), length, "at {octets:?}");
+        assert_eq!(rt; header.ns(), ns, "at {octets:?}");
+        assert_eq!(rt; header.write(), octets);
+        let made = TcHeader::new(version, bypass, command, spare, spacecraft, vc, length, ns);
+        assert_eq!(rt; made, Some(header));
+    }
+}
+
+#[test]
+fn no_tc_header_of_a_field_beyond_its_bits(rt: HostRuntime) {
+    for (version, spare, spacecraft, vc, length) in [
+        (4, 0, 0, 0, 0),
+        (0, 4, 0, 0, 0),
+        (0, 0, 1024, 0, 0),
+        (0, 0, 0, 64, 0),
+        (0, 0, 0, 0, 1024),
+    ] {
+        let made = TcHeader::new(version, false, false, spare, spacecraft, vc, length, 0);
+        assert_eq!(rt; made, None);
+    }
+}
+
+#[test]
+fn segment_headers_of_known_octets(rt: HostRuntime) {
+    for (octet, flags, map) in [
+        (0xC0, 3, 0),
+        (0x45, 1, 5),
+        (0x2A, 0, 42),
+        (0x95, 2, 21),
+        (0xFF, 3, 63),
+    ] {
+        let header = SegmentHeader::read(&[octet]);
+        assert_eq!(rt; header.flags(), flags, "at {octet}");
+        assert_eq!(rt; header.map(), map, "at {octet}");
+        assert_eq!(rt; SegmentHeader::new(flags, map), Some(header));
+    }
+}
+
+#[test]
+fn each_octet_is_a_segment_header(rt: HostRuntime) {
+    for octet in 0..=255 {
+        let header = SegmentHeader::read(&[octet]);
+        assert_eq!(rt; header.write(), [octet]);
+        let made = SegmentHeader::new(header.flags(), header.map());
+        assert_eq!(rt; made, Some(header));
+    }
+}
+
+#[test]
+fn no_segment_header_of_a_field_beyond_its_bits(rt: HostRuntime) {
+    for (flags, map) in [(4, 0), (0, 64), (255, 255)] {
+        assert_eq!(rt; SegmentHeader::new(flags, map), None);
     }
 }
 
@@ -267,7 +372,23 @@ fn too_few_octets_for_an_error_control_field(rt: HostRuntime) {
 
 #[test]
 fn a_fault_has_its_text(rt: HostRuntime) -> Result<(), Fail> {
-    let fault = ShapeFault::TmLength;
-    assert_eq!(rt; format!(in rt.alloc(); "{fault}")?.as_str(), "tm length");
+    for (fault, text) in [
+        (ShapeFault::TmLength, "tm length"),
+        (ShapeFault::TcLength, "tc length"),
+    ] {
+        assert_eq!(rt; format!(in rt.alloc(); "{fault}")?.as_str(), text);
+    }
+    Ok(())
+}
+
+#[test]
+fn octets_with_and_without_their_field(rt: HostRuntime) -> Result<(), Fail> {
+    let covered = [0x30, 0x01, 0x00, 0x07, 0x00, 0x00];
+    let frame = [0x30, 0x01, 0x00, 0x07, 0x00, 0x00, 0x0E, 0x5D];
+    assert_eq!(rt; fecf_field(&covered), [0x0E, 0x5D]);
+    assert_eq!(rt; fecf_field(&[]), [0xFF, 0xFF]);
+    assert_eq!(rt; without_fecf(true, &frame), &covered[..]);
+    assert_eq!(rt; without_fecf(false, &frame), &frame[..]);
+    assert_eq!(rt; without_fecf(true, &frame[6..]), &[][..]);
     Ok(())
 }

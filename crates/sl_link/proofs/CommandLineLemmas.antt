@@ -1,6 +1,6 @@
 -- The command line: what its builders make, and what its getters read.
-use Rattle.std.proofs.Common.{◌≡◌, ◌∙◌, ◌&&◌, ◌||◌, ◌^◌, ℕ, Bool, true, false, refl, sym, ap, List, [], ◌∷◌, Option, Some, None, Result, Ok, Err, cond, nat_lt, lt-ltb, ltb-true, true≢false, codes}
-use Rattle.std.specs.Prelude.{option_and_then, option_map, unwrap_or}
+use Rattle.std.proofs.Common.{◌≡◌, ◌∙◌, ◌&&◌, ◌||◌, ◌^◌, ℕ, Bool, true, false, refl, sym, ap, List, [], ◌∷◌, Option, Some, None, is_some, Result, Ok, Err, cond, map, not, nat_lt, lt-ltb, ltb-true, true≢false, codes}
+use Rattle.std.specs.Prelude.{fold, option_and_then, option_map, unwrap_or}
 use Rattle.std.specs.List.{list_all}
 use Rattle.std.specs.Char.{digit_value}
 use Rattle.std.specs.Borrow.{Bor}
@@ -9,21 +9,55 @@ use Rattle.std.specs.Str.{bytes_eq}
 use Rattle.std.specs.Str.Parse.{AllDigits, ExplainsUnsignedError, HasUnsignedDigitsIfOk, ParsesBool, ParsesUnsigned, digits_value, without_leading_plus}
 use Rattle.std.specs.declared.num.ParseIntError.{ParseIntError}
 use Rattle.std.proofs.lemmas.Slice.Eq.{bytes_eq-Decides}
+use Rattle.clap.specs.Built.{AddsArg, AddsInTurn}
+use Rattle.clap.specs.Simple.{App, app_of, with_rule}
 use Rattle.clap.specs.Matches.{ReadsOne, first_value, one_text}
 use Rattle.clap.specs.ValueTests.{is_numeral}
-use Rattle.clap.specs.Walk.{Row, Text, first_of, rows_of}
+use Rattle.clap.specs.Walk.{Row, Text, first_of, is_empty, rows_of, rule_of}
+use Rattle.clap.specs.declared.builder.arg.Arg.{Arg}
+use Rattle.clap.specs.declared.builder.command.Command.{Command}
+use Rattle.clap.specs.declared.builder.command.Command.TheViews.{out-Command as fields_of}
 use Rattle.clap.specs.declared.parser.matches.Found.{Found}
 use Rattle.clap.proofs.WalkLemmas.{both, first_value-rows, one_text-rows}
-use Rattle.sl_link.specs.CommandLine.{is_set, kind_named, number_in, number_read, options_in, request_with, verb_named}
-use Rattle.sl_link.specs.declared.command_line.Kind.{Kind}
+use Rattle.sl_link.specs.CommandLine.{engine_named, is_set, number_in, number_read, options_in, request_with}
+use Rattle.sl_link.specs.declared.command_line.Engine.{Engine}
 use Rattle.sl_link.specs.declared.command_line.Options.{Options}
 use Rattle.sl_link.specs.declared.command_line.Request.{Request}
-use Rattle.sl_link.specs.declared.command_line.Verb.{Verb}
+
+-- ---- arguments
 
 -- an argument that is not global makes no command global
-pub stays_local : (has_globals : Bool) (global : Bool) → global ≡ false → (has_globals || global) ≡ has_globals
+stays_local : (has_globals : Bool) (global : Bool) → global ≡ false → (has_globals || global) ≡ has_globals
 stays_local true global e = refl
 stays_local false global e = e
+
+-- an argument with no setting that changes how words are read is not global
+simple_local : (a : Arg) → (rule_of a).is_simple ≡ true → a.global ≡ false
+simple_local a simple =
+    let of_defaults = (both (is_empty a.overrides.items) _ simple).1 in
+    let of_groups = (both (is_empty a.default_vals_ifs.items) _ of_defaults).1 in
+    let of_delimiter = (both (is_empty a.groups.items) _ of_groups).1 in
+    let of_end = (both (not (is_some a.val_delim)) _ of_delimiter).1 in
+    let of_hyphens = (both (not (is_some a.terminator)) _ of_end).1 in
+    let of_negatives = (both (not a.allow_hyphen_values) _ of_hyphens).1 in
+    let of_equals = (both (not a.allow_negative_numbers) _ of_negatives).1 in
+    let of_last = (both (not a.require_equals) _ of_equals).1 in
+    not_true a.global (both (not a.last) (not a.global) of_last).1
+  where
+    not_true : (b : Bool) → not b ≡ true → b ≡ false
+    not_true true e = absurd (true≢false (sym e))
+    not_true false e = refl
+
+-- such arguments, added in turn
+pub adds_rules : (old new : Command) (args : List Arg) → list_all (λ a. a.is_simple) (map rule_of args) ≡ true → AddsInTurn AddsArg old args new
+    → (app_of new ≡ fold with_rule (app_of old) (map rule_of args)) × ((fields_of new).has_globals ≡ (fields_of old).has_globals)
+adds_rules old new [] simple adds = (ap app_of (sym adds), ap (λ (c : Command). (fields_of c).has_globals) (sym adds))
+adds_rules old new (a ∷ args) simple adds =
+    let parts = both (rule_of a).is_simple _ simple in
+    let local = simple_local a parts.0 in
+    let step = adds.1 in
+    let rest = adds_rules adds.0 new args parts.1 adds.2 in
+    (rest.0 ∙ ap (λ (app : App). fold with_rule app (map rule_of args)) (step.shape local), rest.1 ∙ step.globals ∙ stays_local _ _ local)
 
 -- ---- numbers
 
@@ -110,41 +144,43 @@ flag_got E f id r none value = go (one_text f id) refl ∙ ap (λ (o : Option Te
     go None e = ap (λ (o : Option Bool). unwrap_or o false) (none e)
     go (Some t) e = flag_reads E t r (value t e)
 
--- the options, by the flag and the three numbers
-abbrev with_numbers : Bool → Option ℕ → Option ℕ → Option ℕ → Option Options
-with_numbers fecf scid length limit =
-    option_and_then (λ s. option_and_then (λ t. option_and_then (λ l. Some (record { spacecraft = s; tm_length = t; tm_fecf = fecf; max_octets = l })) limit) length) scid
-
-pub options_are : (rows : List Row) (fecf : Bool) (scid length limit : Option ℕ) → fecf ≡ is_set (codes "tm-fecf") rows → scid ≡ number_in 16 (codes "scid") rows → length ≡ number_in 16 (codes "tm-length") rows
-    → limit ≡ number_in 64 (codes "limit") rows → with_numbers fecf scid length limit ≡ options_in rows
-options_are rows fecf scid length limit f p q r = λ i. with_numbers (f i) (p i) (q i) (r i)
-
 -- ---- what a verb asks for
+
+-- the options, by the flags and the numbers
+abbrev with_numbers : Bool → Bool → Option ℕ → Option ℕ → Option ℕ → Option ℕ → Option ℕ → Option ℕ → Option Options
+with_numbers tm_fecf tc_fecf scid tm_length tc_length window vr limit =
+    option_and_then (λ s. option_and_then (λ m. option_and_then (λ c. option_and_then (λ w. option_and_then (λ v. option_and_then (λ l.
+    Some (record { spacecraft = s; tm_length = m; tc_length = c; tm_fecf = tm_fecf; tc_fecf = tc_fecf; window = w; vr = v; max_octets = l })
+    ) limit) vr) window) tc_length) tm_length) scid
+
+pub options_are : (rows : List Row) (tm_fecf tc_fecf : Bool) (scid tm_length tc_length window vr limit : Option ℕ) → tm_fecf ≡ is_set (codes "tm-fecf") rows → tc_fecf ≡ is_set (codes "tc-fecf") rows
+    → scid ≡ number_in 16 (codes "scid") rows → tm_length ≡ number_in 16 (codes "tm-length") rows → tc_length ≡ number_in 16 (codes "tc-length") rows
+    → window ≡ number_in 8 (codes "window") rows → vr ≡ number_in 8 (codes "vr") rows → limit ≡ number_in 64 (codes "limit") rows
+    → with_numbers tm_fecf tc_fecf scid tm_length tc_length window vr limit ≡ options_in rows
+options_are rows tm_fecf tc_fecf scid tm_length tc_length window vr limit m c s t u w v l = λ i. with_numbers (m i) (c i) (s i) (t i) (u i) (w i) (v i) (l i)
 
 -- what `get_str` reads, by the rows
 pub text_got : (f : Found) (id : Text) (r : Option (Bor Text)) → option_map (λ s. s.now) r ≡ first_value f id → option_map (λ s. s.now) r ≡ first_of id (rows_of f)
 text_got f id r is = is ∙ first_value-rows f id
 
--- a request, by its verb, the name of its kind and its options
-abbrev with_parts : Option Verb → Option Text → Option Options → Option Request
-with_parts verb name options =
-    option_and_then (λ v. option_and_then (λ n. option_and_then (λ k. option_and_then (λ o. Some (record { verb = v; kind = k; options = o })) options) (kind_named n)) name) verb
+-- a request by its engine
+abbrev with_engine : Option Engine → Option Options → Option Request
+with_engine engine options = option_and_then (λ e. option_and_then (λ o. Some (record { engine = e; options = o })) options) engine
 
-pub request_is : (word : Text) (rows : List Row) (verb : Option Verb) (name : Option Text) (options : Option Options) → verb ≡ verb_named word
-    → name ≡ first_of (codes "kind") rows → options ≡ options_in rows → with_parts verb name options ≡ request_with word rows
-request_is word rows verb name options p q r = λ i. with_parts (p i) (q i) (r i)
+-- a request, by the name of its kind and its options
+abbrev with_parts : Text → Option Text → Option Options → Option Request
+with_parts verb name options = option_and_then (λ n. with_engine (engine_named verb n) options) name
 
--- no request is of a kind that has no name
-pub no_kind : (word : Text) (rows : List Row) (verb : Verb) (name : Text) → Some verb ≡ verb_named word → Some name ≡ first_of (codes "kind") rows → None ≡ kind_named name
-    → None ≡ request_with word rows
-no_kind word rows verb name p q none =
-    ap (λ (k : Option Kind). option_and_then (λ k. option_and_then (λ o. Some (record { verb = verb; kind = k; options = o })) (options_in rows)) k) none
-    ∙ request_is word rows (Some verb) (Some name) (options_in rows) p q refl
+pub request_is : (verb : Text) (rows : List Row) (name : Option Text) (options : Option Options) → name ≡ first_of (codes "kind") rows → options ≡ options_in rows
+    → with_parts verb name options ≡ request_with verb rows
+request_is verb rows name options p q = λ i. with_parts verb (p i) (q i)
+
+-- no request is of a kind that names no engine
+pub no_engine : (verb : Text) (rows : List Row) (name : Text) → Some name ≡ first_of (codes "kind") rows → None ≡ engine_named verb name → None ≡ request_with verb rows
+no_engine verb rows name p none = ap (λ (e : Option Engine). with_engine e (options_in rows)) none ∙ request_is verb rows (Some name) (options_in rows) p refl
 
 -- the request that is read
-pub some_request : (word : Text) (rows : List Row) (verb : Verb) (name : Text) (kind : Kind) (options : Options) → Some verb ≡ verb_named word
-    → Some name ≡ first_of (codes "kind") rows → Some kind ≡ kind_named name → Some options ≡ options_in rows
-    → Some (record { verb = verb; kind = kind; options = options }) ≡ request_with word rows
-some_request word rows verb name kind options p q is r =
-    ap (λ (k : Option Kind). option_and_then (λ k. option_and_then (λ o. Some (record { verb = verb; kind = k; options = o })) (Some options)) k) is
-    ∙ request_is word rows (Some verb) (Some name) (Some options) p q r
+pub some_request : (verb : Text) (rows : List Row) (name : Text) (engine : Engine) (options : Options) → Some name ≡ first_of (codes "kind") rows → Some engine ≡ engine_named verb name
+    → Some options ≡ options_in rows → Some (record { engine = engine; options = options }) ≡ request_with verb rows
+some_request verb rows name engine options p is q =
+    ap (λ (e : Option Engine). with_engine e (Some options)) is ∙ request_is verb rows (Some name) (Some options) p q

@@ -13,8 +13,8 @@ use Rattle.sl_packet.specs.Sink.{TakesAll}
 use Rattle.sl_tmframe.specs.declared.tm_frame.TmSkip.{TmSkip}
 use Rattle.sl_tmframe.specs.TmFrame.{TmFormat, TmView, Packets, Idle, Opaque, read_as, skip_reason, view_of, tm_frame, is_opaque, header_of, parts_of, field_len}
 use Rattle.sl_tmflow.specs.Channel.{channel_of, data_of}
-use Rattle.sl_tmflow.specs.Stopping.{IsStopped}
-use Rattle.sl_tmflow.proofs.CountLemmas.{split_count}
+use Rattle.sl_packet.specs.Stopping.{IsStopped}
+use Rattle.sl_packet.proofs.CountLemmas.{split_count}
 use Rattle.sl_tmflow.proofs.PushLemmas.{ended_few}
 use Rattle.sl_link.specs.Deliver.{with_packets, ended_in}
 

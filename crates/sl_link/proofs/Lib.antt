@@ -2,6 +2,8 @@ pub mod CommandLineFacts
 pub mod CommandLineLemmas
 pub mod DelimitedLemmas
 pub mod DeliverLemmas
+pub mod FarmsLemmas
+pub mod FinishLemmas
 pub mod HandedLemmas
 pub mod LineLemmas
 pub mod ListingFacts
@@ -12,9 +14,12 @@ pub mod ParseLemmas
 pub mod PlaceLemmas
 pub mod RecordingLemmas
 pub mod RequestLemmas
+pub mod RestLemmas
+pub mod RowLemmas
 pub mod RunLemmas
 pub mod SameWalkLemmas
 pub mod ShowLemmas
-pub mod ShowRowLemmas
 pub mod StreamLemmas
+pub mod TcListingLemmas
+pub mod VerbLemmas
 pub mod WalkLemmas

@@ -7,28 +7,28 @@ use Rattle.std.specs.Option.{option_map_or}
 use Rattle.std.specs.Str.{bytes_eq}
 use Rattle.clap.specs.Faults.{entered_fault, fault_of, repeat_fault, check_fault, defaults_fault, level_fault, positional_fault, settle_fault, stray_fault, use_fault, walk_fault}
 use Rattle.clap.specs.Kinds.{Kinds, or_else, range_kinds, value_kinds, values_kinds}
-use Rattle.clap.specs.Simple.{Shape, built, entered, filled, label_of, names_of, new_shape, rows_at, subcommand_of, with_index}
+use Rattle.clap.specs.Simple.{App, Shape, built, entered, filled, label_of, names_of, new_shape, rows_at, subcommand_of, with_index}
 use Rattle.clap.specs.Values.{same_text}
 use Rattle.clap.specs.Walk.{Held, Names, Row, Rule, Text, Walk, answers_to, is_multiple, is_pending, next_position, nothing_held, pushed, rows_after, stop_after, takes_several, texts, used_by_id, values_or_missing, with_default, arg_by_id, arg_by_index, finished, idle, option_word, positional, settled, settled_rows, to_positional, walk, walk_from}
 use Rattle.clap.specs.declared.builder.value_parser.ValueParser.TheVariants.{Names as OneOf}
 use Rattle.clap.specs.declared.error.kind.ErrorKind.TheVariants as kind
 use Rattle.clap.proofs.WalkLemmas.{list_any-map}
-use Rattle.sl_link.specs.CommandLine.{kind_rule, kind_names, sllink_with}
+use Rattle.sl_link.specs.CommandLine.{kind_rule, normalised_kinds, sllink_with}
 use Rattle.sl_link.proofs.SameWalkLemmas.{SameFaults, SameWalk, walk_fault_is, walk_is}
 
--- a verb, as it is built: verbs differ in their names alone
+-- a verb with the kinds that it takes, as it is built: verbs differ in their names and kinds alone
 abbrev pub verb_at : Text → Bor (List (Bor Text)) → Shape
-verb_at name kinds = record (unwrap_or (slice_get (built (sllink_with kinds)).subs 0) (new_shape [])) { name = name }
+verb_at name kinds = record (unwrap_or (slice_get (built (sllink_with kinds normalised_kinds)).subs 0) (new_shape [])) { name = name }
 
 abbrev pub rules_at : Bor (List (Bor Text)) → List Rule
 rules_at kinds = (verb_at [] kinds).rules
 
--- its first rule, and those after it
+-- the rule of its kind, and those after it
 abbrev pub kind_at : Bor (List (Bor Text)) → Rule
 kind_at kinds = with_index 1 (filled (kind_rule kinds))
 
 abbrev others : List Rule
-others = drop 1 (rules_at kind_names)
+others = drop 1 (rules_at normalised_kinds)
 
 module _ (k l : Bor (List (Bor Text))) (named : texts k.now ≡ texts l.now) where
   value_is : (v : Text) → value_kinds false (OneOf k) v ≡ value_kinds false (OneOf l) v
@@ -108,7 +108,7 @@ module _ (k l : Bor (List (Bor Text))) (named : texts k.now ≡ texts l.now) whe
   finished_is h = ap (λ (rs : List Row). fold with_default rs (rules_at k)) (rows_is h.pending h.rows)
 
   -- what the level of a verb finds
-  rows_after_is : (words : List Text) → rows_after (rules_at k) [] words ≡ rows_after (rules_at l) [] words
+  pub rows_after_is : (words : List Text) → rows_after (rules_at k) [] words ≡ rows_after (rules_at l) [] words
   rows_after_is words =
       ap (λ (w : Walk). finished (rules_at k) w.held) (walk_is (rules_at k) (rules_at l) walks [] nothing_held words)
       ∙ finished_is (walk (rules_at l) [] nothing_held words).held
@@ -117,7 +117,7 @@ module _ (k l : Bor (List (Bor Text))) (named : texts k.now ≡ texts l.now) whe
   unfolding defaults_fault
   defaults_is h = ap (λ (rs : List Row). defaults_fault rs (rules_at k)) (rows_is h.pending h.rows)
 
-  level_is : (name : Text) (words : List Text) → level_fault (verb_at name k) [] nothing_held words false [] ≡ level_fault (verb_at name l) [] nothing_held words false []
+  pub level_is : (name : Text) (words : List Text) → level_fault (verb_at name k) [] nothing_held words false [] ≡ level_fault (verb_at name l) [] nothing_held words false []
   level_is name words =
       let same : walk (rules_at k) [] nothing_held words ≡ walk (rules_at l) [] nothing_held words = walk_is (rules_at k) (rules_at l) walks [] nothing_held words in
       let end = (walk (rules_at l) [] nothing_held words).held in
@@ -126,44 +126,51 @@ module _ (k l : Bor (List (Bor Text))) (named : texts k.now ≡ texts l.now) whe
       ∙ ap₂ or_else (walk_fault_is (verb_at name k) (rules_at k) (rules_at l) (faults name) [] (walk_from nothing_held) words)
       (ap₂ or_else (settle_is end) (ap₂ or_else (defaults_is end) (ap (λ rs. check_fault (verb_at name k) rs false) (finished_is end))))
 
-  -- ---- the whole command line
+-- ---- the whole command line
 
-  entered_is : (stop : Option (Text × List Text)) → entered (built (sllink_with k)) stop ≡ entered (built (sllink_with l)) stop
+module _ (shown shown' normalised normalised' : Bor (List (Bor Text))) (s_named : texts shown.now ≡ texts shown'.now) (n_named : texts normalised.now ≡ texts normalised'.now) where
+  abbrev app : App
+  app = built (sllink_with shown normalised)
+
+  abbrev app' : App
+  app' = built (sllink_with shown' normalised')
+
+  entered_is : (stop : Option (Text × List Text)) → entered app stop ≡ entered app' stop
   entered_is None = refl
   entered_is (Some p) =
-      go (answers_to p.0 (codes "show", [])) (answers_to p.0 (codes "normalise", [])) (find (λ s. answers_to p.0 (label_of s)) (drop 2 (built (sllink_with k)).subs))
+      go (answers_to p.0 (codes "show", [])) (answers_to p.0 (codes "normalise", [])) (find (λ s. answers_to p.0 (label_of s)) (drop 2 app.subs))
     where
       go : (b b' : Bool) (rest : Option Shape)
-          → option_map (λ s. rows_at s p.1) (cond b (Some (verb_at (codes "show") k)) (cond b' (Some (verb_at (codes "normalise") k)) rest))
-          ≡ option_map (λ s. rows_at s p.1) (cond b (Some (verb_at (codes "show") l)) (cond b' (Some (verb_at (codes "normalise") l)) rest))
-      go true b' rest = ap (λ rs. Some (codes "show", rs)) (rows_after_is p.1)
-      go false true rest = ap (λ rs. Some (codes "normalise", rs)) (rows_after_is p.1)
+          → option_map (λ s. rows_at s p.1) (cond b (Some (verb_at (codes "show") shown)) (cond b' (Some (verb_at (codes "normalise") normalised)) rest))
+          ≡ option_map (λ s. rows_at s p.1) (cond b (Some (verb_at (codes "show") shown')) (cond b' (Some (verb_at (codes "normalise") normalised')) rest))
+      go true b' rest = ap (λ rs. Some (codes "show", rs)) (rows_after_is shown shown' s_named p.1)
+      go false true rest = ap (λ rs. Some (codes "normalise", rs)) (rows_after_is normalised normalised' n_named p.1)
       go false false rest = refl
 
-  entered_fault_is : (stop : Option (Text × List Text)) → entered_fault (built (sllink_with k)) stop ≡ entered_fault (built (sllink_with l)) stop
+  entered_fault_is : (stop : Option (Text × List Text)) → entered_fault app stop ≡ entered_fault app' stop
   entered_fault_is None = refl
   entered_fault_is (Some p) =
-      go (answers_to p.0 (codes "show", [])) (answers_to p.0 (codes "normalise", [])) (find (λ s. answers_to p.0 (label_of s)) (drop 2 (built (sllink_with k)).subs))
+      go (answers_to p.0 (codes "show", [])) (answers_to p.0 (codes "normalise", [])) (find (λ s. answers_to p.0 (label_of s)) (drop 2 app.subs))
     where
       go : (b b' : Bool) (rest : Option Shape)
-          → option_map_or (λ s. level_fault s [] nothing_held p.1 false []) (cond b (Some (verb_at (codes "show") k)) (cond b' (Some (verb_at (codes "normalise") k)) rest)) []
-          ≡ option_map_or (λ s. level_fault s [] nothing_held p.1 false []) (cond b (Some (verb_at (codes "show") l)) (cond b' (Some (verb_at (codes "normalise") l)) rest)) []
-      go true b' rest = level_is (codes "show") p.1
-      go false true rest = level_is (codes "normalise") p.1
+          → option_map_or (λ s. level_fault s [] nothing_held p.1 false []) (cond b (Some (verb_at (codes "show") shown)) (cond b' (Some (verb_at (codes "normalise") normalised)) rest)) []
+          ≡ option_map_or (λ s. level_fault s [] nothing_held p.1 false []) (cond b (Some (verb_at (codes "show") shown')) (cond b' (Some (verb_at (codes "normalise") normalised')) rest)) []
+      go true b' rest = level_is shown shown' s_named (codes "show") p.1
+      go false true rest = level_is normalised normalised' n_named (codes "normalise") p.1
       go false false rest = refl
 
   abbrev top : Shape
-  top = (built (sllink_with k)).top
+  top = app.top
 
   abbrev names : Names
-  names = names_of (built (sllink_with k))
+  names = names_of app
 
   -- the words name the same subcommand, with the same matches
-  pub same_subcommand : (words : List Text) → subcommand_of (sllink_with k) words ≡ subcommand_of (sllink_with l) words
+  pub same_subcommand : (words : List Text) → subcommand_of (sllink_with shown normalised) words ≡ subcommand_of (sllink_with shown' normalised') words
   same_subcommand words = entered_is (stop_after top.rules names (drop 1 words))
 
   -- and are refused for the same
-  pub same_fault : (words : List Text) → fault_of (sllink_with k) words ≡ fault_of (sllink_with l) words
+  pub same_fault : (words : List Text) → fault_of (sllink_with shown normalised) words ≡ fault_of (sllink_with shown' normalised') words
   same_fault words =
       let stop = (walk top.rules names nothing_held (drop 1 words)).stopped in
       ap₂ (λ (e : Option (Text × List Row)) (f : Kinds). level_fault top names nothing_held (drop 1 words) (is_some e) f) (entered_is stop) (entered_fault_is stop)

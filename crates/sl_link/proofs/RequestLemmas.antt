@@ -1,124 +1,21 @@
 -- Words of which nothing is refused ask for something.
-use Rattle.std.proofs.Common.{◌≡◌, ◌∙◌, ◌&&◌, ◌||◌, ◌^◌, ℕ, Bool, true, false, cond, not, refl, sym, ap, subst, List, [], ◌∷◌, drop, Option, Some, None, is_some, arith, codes}
-use Rattle.std.specs.Prelude.{IfSome, fold, nat_le, nat_lt, option_and_then, option_map, slice_get, unwrap_or}
-use Rattle.clap.specs.Facts.{explicit_source}
-use Rattle.clap.specs.Faults.{check_fault, defaults_fault, entered_fault, fault_of, level_fault, other_fault, step_fault, turn_fault, word_fault, settle_fault, walk_fault}
-use Rattle.clap.specs.Kinds.{or_else}
-use Rattle.clap.specs.Simple.{Shape, built, entered, names_of, new_shape, rows_at, subcommand_of}
-use Rattle.clap.specs.ValueTests.{accepts, is_numeral}
-use Rattle.clap.specs.Values.{read_as}
-use Rattle.clap.specs.Lexer.{long_of, short_of, without_minus}
-use Rattle.clap.specs.Takes.{is_given}
-use Rattle.clap.specs.Walk.{Held, Names, Outcome, Row, Rule, Step, Text, Waiting, Walk, after_flag, after_step, arg_by_index, arg_by_long, bundle, done, idle, long_met, long_or_other, next, option, plain, plain_word, positional, refused, short_or_plain, subcommand, subcommand_met, subcommand_or_other, to_positional, trailing, value, waits, walked, walked_from, word_met, finished, first_of, nothing_held, one_of, row_text, rows_after, settled, walk, walk_from, reading_by}
+use Rattle.std.proofs.Common.{◌≡◌, ◌∙◌, ◌&&◌, ◌||◌, ℕ, Bool, true, false, cond, refl, sym, ap, subst, List, [], ◌∷◌, drop, Option, Some, None, is_some, codes}
+use Rattle.std.specs.Prelude.{IfSome, fold, option_map, slice_get, unwrap_or}
 use Rattle.std.specs.Option.{option_map_or}
 use Rattle.std.specs.Str.{bytes_eq}
-use Rattle.std.specs.Str.Parse.{ParsesUnsigned, digits_value, without_leading_plus}
 use Rattle.std.proofs.lemmas.Slice.Eq.{bytes_eq-Decides}
+use Rattle.clap.specs.Faults.{check_fault, defaults_fault, entered_fault, fault_of, level_fault, other_fault, step_fault, turn_fault, word_fault, settle_fault, walk_fault}
+use Rattle.clap.specs.Kinds.{or_else}
+use Rattle.clap.specs.Lexer.{long_of, short_of}
+use Rattle.clap.specs.Simple.{Shape, built, entered, names_of, new_shape, rows_at, subcommand_of}
+use Rattle.clap.specs.Walk.{Held, Names, Outcome, Row, Rule, Step, Text, Waiting, Walk, after_flag, after_step, arg_by_index, arg_by_long, bundle, done, idle, long_met, long_or_other, next, option, plain, plain_word, positional, refused, short_or_plain, subcommand, subcommand_met, subcommand_or_other, to_positional, trailing, value, waits, walked, walked_from, word_met, finished, nothing_held, settled, walk, walk_from}
 use Rattle.clap.specs.declared.error.kind.ErrorKind.TheVariants as kind
-use Rattle.clap.proofs.CallerReads.{signed_reads}
-use Rattle.clap.proofs.ValueTestLemmas.{accepts-Accepts}
-use Rattle.clap.proofs.WalkLemmas.{both}
-use Rattle.sl_link.specs.CommandLine.{bits_16, bits_64, is_set, kind_named, number_in, number_read, request_in, request_with, kind_names, sllink_app, verb_named}
-use Rattle.sl_link.specs.declared.command_line.Kind.TheVariants.{Tm}
-use Rattle.sl_link.specs.declared.command_line.Options.{Options}
+use Rattle.sl_link.specs.CommandLine.{normalised_kinds, request_in, shown_kinds, sllink_app}
 use Rattle.sl_link.specs.declared.command_line.Request.{Request}
-use Rattle.sl_link.specs.declared.command_line.Verb.{Verb}
-use Rattle.sl_link.specs.declared.command_line.Verb.TheVariants.{Show, Normalise}
-use Rattle.sl_link.proofs.CommandLineLemmas.{number_reads, options_are, some_request}
-use Rattle.sl_link.proofs.PlaceLemmas.{rules_at, verb_at}
-use Rattle.sl_link.proofs.WalkLemmas.{end_keeps, neither, walk_keeps}
-use Rattle.sl_link.proofs.ShowRowLemmas.{AllFit, AreWhole, Fits, IsGood, Takes, all_keep, finished_is, kind_rule, limit, never, row_for, scid, tm_length, whole}
-
--- ---- what the rows ask for
-
-good_row : (a : Rule) (rows : List Row) → Fits a rows → is_some (row_for a.id rows) ≡ true → (r : Row) × (row_for a.id rows ≡ Some r) × IsGood a r
-good_row a rows = go (row_for a.id rows) refl
-  where
-    go : (o : Option Row) → row_for a.id rows ≡ o → IfSome o (IsGood a) → is_some o ≡ true → (r : Row) × (row_for a.id rows ≡ Some r) × IsGood a r
-    go None is fits there = never there
-    go (Some r) is fits there = (r, is, fits)
-
--- the text that `get_one` reads
-one_text_is : (a : Rule) (rows : List Row) (r : Row) → row_for a.id rows ≡ Some r → (g : IsGood a r) → one_of a.id rows ≡ Some (read_as (reading_by a) g.value)
-one_text_is a rows r is g =
-    ap (λ (o : Option Row). option_and_then row_text o) is ∙ ap (λ (o : Option Text). option_map (read_as r.reading) o) g.first ∙ ap (λ how. Some (read_as how g.value)) g.reading
-
--- a number of 16 bits, and one of 64
-short_number : (v : Text) → accepts false bits_16 v ≡ true → (n : ℕ) × (number_read 16 (without_minus v) ≡ Some n)
-short_number v ok =
-    let got = signed_reads Unit (λ u r. ParsesUnsigned 16 10 u r) 16 0 65535 v (number_read 16 (without_minus v)) (number_reads 16 (without_minus v)) (λ u x g. g) (omega arith)
-    (accepts-Accepts false bits_16 v ok) in
-    (got.0, got.1)
-
-long_number : (v : Text) → accepts false bits_64 v ≡ true → (n : ℕ) × (number_read 64 v ≡ Some n)
-long_number v ok =
-    let digits = without_leading_plus v in
-    let n = digits_value 10 digits in
-    let outer = both (is_numeral digits) (nat_lt n (2 ^ 64) && (nat_le 0 n && nat_le n 18446744073709551615)) ok in
-    let inner = both (nat_lt n (2 ^ 64)) (nat_le 0 n && nat_le n 18446744073709551615) outer.1 in
-    (n, rw (outer.0, inner.0) refl)
-
-or_nothing : (b : Bool) → (b || false) ≡ true → b ≡ true
-or_nothing true e = refl
-or_nothing false e = e
-
--- the kind of a name that `show` takes
-named_kind : (v : Text) → Takes kind_rule v → kind_named v ≡ Some Tm
-named_kind v ok = ap kind_named (sym ((bytes_eq-Decides (codes "tm") v).0 (or_nothing _ ok)))
-
-asks : (word : Text) (verb : Verb) → verb_named word ≡ Some verb → (rows : List Row) → AreWhole rows → is_some (row_for kind_rule.id rows) ≡ true → is_some (row_for scid.id rows) ≡ true
-    → (request : Request) × (request_with word rows ≡ Some request)
-asks word verb named rows w has_kind has_scid =
-    let k = good_row kind_rule rows w.fit.kind_fits has_kind in
-    let s = good_row scid rows w.fit.scid_fits has_scid in
-    let t = good_row tm_length rows w.fit.length_fits w.has_length in
-    let l = good_row limit rows w.fit.limit_fits w.has_limit in
-    let spacecraft = short_number s.2.value s.2.passes in
-    let length = short_number t.2.value t.2.passes in
-    let octets = long_number l.2.value l.2.passes in
-    let name : first_of (codes "kind") rows ≡ Some k.2.value = ap (λ (o : Option Row). option_and_then (λ (r : Row). slice_get r.values 0) o) k.1 ∙ k.2.first in
-    let is_spacecraft : number_in 16 (codes "scid") rows ≡ Some spacecraft.0 = ap (option_and_then (number_read 16)) (one_text_is scid rows s.0 s.1 s.2) ∙ spacecraft.1 in
-    let is_length : number_in 16 (codes "tm-length") rows ≡ Some length.0 = ap (option_and_then (number_read 16)) (one_text_is tm_length rows t.0 t.1 t.2) ∙ length.1 in
-    let is_limit : number_in 64 (codes "limit") rows ≡ Some octets.0 = ap (option_and_then (number_read 64)) (one_text_is limit rows l.0 l.1 l.2) ∙ octets.1 in
-    let fecf = is_set (codes "tm-fecf") rows in
-    let options : Options = record { spacecraft = spacecraft.0; tm_length = length.0; tm_fecf = fecf; max_octets = octets.0 } in
-    let are = options_are rows fecf (Some spacecraft.0) (Some length.0) (Some octets.0) refl (sym is_spacecraft) (sym is_length) (sym is_limit) in
-    let request : Request = record { verb = verb; kind = Tm; options = options } in
-    (request, sym (some_request word rows verb k.2.value Tm options (sym named) (sym name) (sym (named_kind k.2.value k.2.passes)) are))
-
-given_there : (a : Rule) (rows : List Row) → is_given a.id rows ≡ true → is_some (row_for a.id rows) ≡ true
-given_there a rows = go (row_for a.id rows)
-  where
-    go : (o : Option Row) → option_map_or (λ (r : Row). explicit_source r.source) o false ≡ true → is_some o ≡ true
-    go None e = never e
-    go (Some r) e = refl
-
--- what a verb requires is there
-required : (name : Text) (rows : List Row) → check_fault (verb_at name kind_names) rows false ≡ [] → (is_given kind_rule.id rows ≡ true) × (is_given scid.id rows ≡ true)
-required name rows = go (is_given kind_rule.id rows) (is_given scid.id rows)
-  where
-    go : (x y : Bool) → cond (not x || (not y || false)) (kind.MissingRequiredArgument ∷ []) [] ≡ [] → (x ≡ true) × (y ≡ true)
-    go true true e = (refl, refl)
-    go true false e = absurd (cc)
-    go false y e = absurd (cc)
-
--- where a verb finds no fault, it asks for something
-pub verb_level_asks : (name : Text) (verb : Verb) → verb_named name ≡ Some verb → (words : List Text) → level_fault (verb_at name kind_names) [] nothing_held words false [] ≡ []
-    → (request : Request) × (request_with name (rows_after (rules_at kind_names) [] words) ≡ Some request)
-verb_level_asks name verb named words e =
-    let end = (walk (rules_at kind_names) [] nothing_held words).held in
-    let walked_well = neither (walk_fault (verb_at name kind_names) [] (walk_from nothing_held) words) _ e in
-    let settled_well = neither (settle_fault (rules_at kind_names) false end) _ walked_well.1 in
-    let checked = neither (defaults_fault (settled (rules_at kind_names) end).rows (rules_at kind_names)) _ settled_well.1 in
-    let empty : AllFit [] = record { kind_fits = tt; scid_fits = tt; length_fits = tt; limit_fits = tt } in
-    let at_end : AllFit end.rows = walk_keeps (verb_at name kind_names) AllFit (all_keep name) [] (walk_from nothing_held) words walked_well.0 empty in
-    let fit : AllFit (settled (rules_at kind_names) end).rows = end_keeps (verb_at name kind_names) AllFit (all_keep name) end settled_well.0 at_end in
-    let w : AreWhole (finished (rules_at kind_names) end) = subst AreWhole (sym (finished_is (settled (rules_at kind_names) end).rows)) (whole (settled (rules_at kind_names) end).rows fit) in
-    let rows = finished (rules_at kind_names) end in
-    let given = required name rows checked.1 in
-    asks name verb named rows w (given_there kind_rule rows given.0) (given_there scid rows given.1)
-
--- ---- the level above it
+use Rattle.sl_link.proofs.PlaceLemmas.{verb_at}
+use Rattle.sl_link.proofs.RowLemmas.{never}
+use Rattle.sl_link.proofs.WalkLemmas.{neither}
+use Rattle.sl_link.proofs.VerbLemmas.{normalise_engines, show_engines, verb_level_asks}
 
 abbrev top : Shape
 top = (built sllink_app).top
@@ -227,13 +124,13 @@ verb_asks (Some p) n has e = go (bytes_eq (codes "show") p.0 || false) (bytes_eq
     rest b = cond (b || false) (Some help) None
 
     found : Bool → Bool → Bool → Option Shape
-    found b b' b'' = cond b (Some (verb_at (codes "show") kind_names)) (cond b' (Some (verb_at (codes "normalise") kind_names)) (rest b''))
+    found b b' b'' = cond b (Some (verb_at (codes "show") shown_kinds)) (cond b' (Some (verb_at (codes "normalise") normalised_kinds)) (rest b''))
 
     go : (b b' b'' : Bool) → bytes_eq (codes "help") p.0 ≡ b'' → is_some (option_map (λ s. rows_at s p.1) (found b b' b'')) ≡ true
         → option_map_or (λ s. level_fault s [] nothing_held p.1 false []) (found b b' b'') [] ≡ []
         → (request : Request) × (request_in (option_map (λ s. rows_at s p.1) (found b b' b'')) ≡ Some request)
-    go true b' b'' is has e = verb_level_asks (codes "show") Show refl p.1 e
-    go false true b'' is has e = verb_level_asks (codes "normalise") Normalise refl p.1 e
+    go true b' b'' is has e = verb_level_asks (codes "show") shown_kinds p.1 e show_engines
+    go false true b'' is has e = verb_level_asks (codes "normalise") normalised_kinds p.1 e normalise_engines
     go false false true is has e =
         let same : codes "help" ≡ p.0 = (bytes_eq-Decides (codes "help") p.0).0 is in
         never (sym n ∙ ap is_help (sym same))

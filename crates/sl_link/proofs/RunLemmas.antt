@@ -7,14 +7,12 @@ use Rattle.sl_link.specs.declared.counted.Counted.{Counted}
 use Rattle.sl_link.specs.declared.link_fault.LinkFault.{LinkFault}
 use Rattle.sl_link.specs.declared.link_fault.LinkFault.TheVariants.{Memory, Write}
 use Rattle.sl_link.specs.declared.command_line.Request.{Request}
-use Rattle.sl_link.specs.declared.command_line.Verb.TheVariants.{Show, Normalise}
 use Rattle.sl_link.specs.CommandLine.{asked}
 use Rattle.sl_link.specs.Counted.{stream_of, HasFailed}
 use Rattle.sl_link.specs.Engine.{text_of, buffer_of}
 use Rattle.sl_link.specs.Managed.{Parameters, managed_of}
 use Rattle.sl_link.specs.Run.{HasStopped, HasWritten, IsStoppedBy}
 use Rattle.sl_link.specs.Status.{status}
-use Rattle.sl_link.specs.Streams.{IsRead, Stops}
 use Rattle.sl_link.specs.Totals.{Counts}
 use Rattle.sl_link.proofs.ShowLemmas.{caused_writing}
 
@@ -33,30 +31,16 @@ module _ {R W : Type 0} (remaining : R → Option (List ℕ)) (contents : W → 
           octets = t.octets;
           read = t.read;
           written = record {
-            written = text_of request.verb request.kind managed t.octets;
+            written = text_of request.engine managed t.octets;
             missing = [];
-            front = append-nil (text_of request.verb request.kind managed t.octets);
-            writes = Appends-kept (contents (stream_of writer)) (contents (stream_of mid)) (contents (stream_of writer')) (text_of request.verb request.kind managed t.octets) t.written kept;
+            front = append-nil (text_of request.engine managed t.octets);
+            writes = Appends-kept (contents (stream_of writer)) (contents (stream_of mid)) (contents (stream_of writer')) (text_of request.engine managed t.octets) t.written kept;
           };
-          cause = caused_writing remaining contents reader reader' writer mid writer' t.octets managed.max_octets (buffer_of request.verb request.kind) fault is_write t.reader_kept t.writer_kept failed t.within;
+          cause = caused_writing remaining contents reader reader' writer mid writer' t.octets managed.max_octets (buffer_of request.engine) fault is_write t.reader_kept t.writer_kept failed t.within;
         };
-        not_memory = λ is_show is_memory. let bad : Memory ≡ Write = sym is_memory ∙ is_write in cc;
-        all_read = λ is_normalise same. t.to_end;
-        nothing = λ is_normalise other. absurd (other is_write);
-      }
-
-  -- a fault of the engine of normal forms stops its verb
-  pub stopped_normalising : (reader reader' : Counted R) (writer writer' : Counted W) (request : Request) (managed : Parameters) (outcome : Result Counts LinkFault) → request.verb ≡ Normalise
-      → IfErr outcome (Stops remaining contents reader reader' writer writer' (text_of request.verb request.kind managed) managed.max_octets (buffer_of request.verb request.kind))
-      → IfErr outcome (λ fault. fault ≡ Write → IsRead remaining reader') → IfErr outcome (λ fault. fault ≢ Write → writer' ≡ writer)
-      → IfErr outcome (IsStoppedBy remaining contents reader reader' writer writer' request managed)
-  stopped_normalising reader reader' writer writer' request managed (Ok counts) is cause all_read nothing = tt
-  stopped_normalising reader reader' writer writer' request managed (Err fault) is cause all_read nothing =
-      record {
-        cause = cause;
-        not_memory = λ is_show is_memory. let bad : Show ≡ Normalise = sym is_show ∙ is in cc;
-        all_read = λ same. all_read;
-        nothing = λ same. nothing;
+        not_memory = λ lists is_memory. let bad : Memory ≡ Write = sym is_memory ∙ is_write in cc;
+        all_read = λ form same. t.to_end;
+        nothing = λ form other. absurd (other is_write);
       }
 
   -- after a fault's status the engine has stopped

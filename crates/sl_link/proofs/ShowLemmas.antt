@@ -11,8 +11,9 @@ use Rattle.sl_link.specs.declared.link_fault.LinkFault.{LinkFault}
 use Rattle.sl_link.specs.declared.link_fault.LinkFault.TheVariants.{Read, TooLong, Memory, Write}
 use Rattle.sl_link.specs.Counted.{stream_of, faults_of, HasFailed}
 use Rattle.sl_link.specs.Delimited.{frames_of, remainder_of}
+use Rattle.sl_link.specs.Line.{line_at, remainder_line}
 use Rattle.sl_link.specs.Managed.{Parameters, tm_format}
-use Rattle.sl_link.specs.ShowTm.{frame_lines, frame_text, line_at, remainder_line, skipped_of, show_tm_text, show_tm_counts}
+use Rattle.sl_link.specs.ShowTm.{frame_lines, frame_text, skipped_of, show_tm_text, show_tm_counts}
 use Rattle.sl_link.specs.Streams.{Reads, IsRead, Writes, StopsReading, IsReadFault, AddsText, WritesText, StopsWriting, Translates, Stops, IsCaused}
 use Rattle.sl_tmframe.specs.TmFrame.{TmFormat, tm_frame}
 use Rattle.sl_link.specs.Totals.{Counts}
@@ -78,7 +79,7 @@ pub HasFailed-since : {T : Type 0} (old mid new : Counted T) → faults_of mid �
 HasFailed-since old mid new e h =
     elim h as (λ _. HasFailed old new) [ inl rose ↦ inl (rw (sym e) rose) | inr top ↦ inr top ]
 
-caused_reading : {R W : Type 0} (remaining : R → Option (List ℕ)) (contents : W → Option (List ℕ)) (reader mid reader' : Counted R) (writer writer' : Counted W) (before octets : List ℕ) (limit greatest buffer : ℕ) (fault : LinkFault)
+pub caused_reading : {R W : Type 0} (remaining : R → Option (List ℕ)) (contents : W → Option (List ℕ)) (reader mid reader' : Counted R) (writer writer' : Counted W) (before octets : List ℕ) (limit greatest buffer : ℕ) (fault : LinkFault)
     → faults_of mid ≡ faults_of reader → faults_of writer' ≡ faults_of writer → limit ≡ greatest - length before → length before ≤ greatest → length octets ≤ buffer → IsReadFault mid reader' limit octets fault
     → IsCaused remaining contents reader reader' writer writer' greatest buffer (before ++ octets) fault
 caused_reading remaining contents reader mid reader' writer writer' before octets limit greatest buffer Read kept other left within fits cause =
@@ -95,7 +96,7 @@ caused_writing remaining contents reader reader' writer mid writer' octets great
     subst (λ f. IsCaused remaining contents reader reader' writer writer' greatest buffer octets f) (sym is_write) (HasFailed-since writer mid writer' kept cause, other, within)
 
 -- a prefix of a line, and what follows the line
-split_front : (lines written missing after line : List ℕ) → written ++ missing ≡ line → (lines ++ written) ++ (missing ++ after) ≡ (lines ++ line) ++ after
+pub split_front : (lines written missing after line : List ℕ) → written ++ missing ≡ line → (lines ++ written) ++ (missing ++ after) ≡ (lines ++ line) ++ after
 split_front lines written missing after line e =
     append_assoc lines written (missing ++ after) ∙ ap (λ l. lines ++ l) (sym (append_assoc written missing after) ∙ ap (λ l. l ++ after) e)
     ∙ sym (append_assoc lines line after)

@@ -15,9 +15,9 @@ pub neither : (a b : Kinds) → or_else a b ≡ [] → (a ≡ []) × (b ≡ [])
 neither [] b e = (refl, e)
 neither (k ∷ ks) b e = absurd (cc)
 
-abbrev pub Each : (Rule → Type 0) → List Rule → Type 0
+abbrev pub Each : {X : Type 0} → (X → Type 0) → List X → Type 0
 Each Q [] = Unit
-Each Q (a ∷ rest) = Q a × Each Q rest
+Each Q (x ∷ rest) = Q x × Each Q rest
 
 pub found_in : (Q : Rule → Type 0) (p : Rule → Bool) (xs : List Rule) → Each Q xs → IfSome (find p xs) Q
 found_in Q p [] all = tt

@@ -16,12 +16,10 @@ use Rattle.clap.specs.declared.builder.value_parser.ValueParser.TheVariants.{Nam
 use Rattle.clap.specs.declared.error.kind.ErrorKind.{ErrorKind}
 use Rattle.clap.specs.declared.error.kind.ErrorKind.TheVariants.{DisplayHelp}
 use Rattle.sl_link.specs.Managed.{Parameters}
-use Rattle.sl_link.specs.declared.command_line.Kind.{Kind}
-use Rattle.sl_link.specs.declared.command_line.Kind.TheVariants.{Tm}
+use Rattle.sl_link.specs.declared.command_line.Engine.{Engine}
+use Rattle.sl_link.specs.declared.command_line.Engine.TheVariants.{ShowTm, ShowTc, NormaliseTm}
 use Rattle.sl_link.specs.declared.command_line.Options.{Options}
 use Rattle.sl_link.specs.declared.command_line.Request.{Request}
-use Rattle.sl_link.specs.declared.command_line.Verb.{Verb}
-use Rattle.sl_link.specs.declared.command_line.Verb.TheVariants.{Show, Normalise}
 
 -- ---- the arguments
 
@@ -32,6 +30,10 @@ kind_rule kinds = record (new_rule (codes "kind")) {
   parser = Some (Names kinds);
   required = true;
 }
+
+-- numbers of 8 bits
+abbrev pub bits_8 : ValueParser
+bits_8 = Signed (pos 0) (pos 255)
 
 -- numbers of 16 bits
 abbrev pub bits_16 : ValueParser
@@ -63,7 +65,11 @@ abbrev pub link_options : List Rule
 link_options =
     needed_number (codes "scid") bits_16
     ∷ number_or (codes "tm-length") bits_16 (codes "1115")
+    ∷ number_or (codes "tc-length") bits_16 (codes "1024")
     ∷ flag_rule (codes "tm-fecf")
+    ∷ flag_rule (codes "tc-fecf")
+    ∷ number_or (codes "window") bits_8 (codes "10")
+    ∷ number_or (codes "vr") bits_8 (codes "0")
     ∷ number_or (codes "limit") bits_64 (codes "1073741824")
     ∷ []
 
@@ -75,30 +81,36 @@ with_link_options app = fold with_rule app link_options
 abbrev pub verb_app : Text → Bor (List (Bor Text)) → App
 verb_app name kinds = with_link_options (with_rule (new_app name) (kind_rule kinds))
 
--- `sllink VERB ..`, where a verb takes the kinds of these names
-abbrev pub sllink_with : Bor (List (Bor Text)) → App
-sllink_with kinds = record {
+-- `sllink VERB ..`, where `show` takes the kinds of the first names, and `normalise` those of the second
+abbrev pub sllink_with : Bor (List (Bor Text)) → Bor (List (Bor Text)) → App
+sllink_with shown normalised = record {
   top = record (new_shape (codes "sllink")) { is_leaf = false; subcommand_required = true };
-  subs = (verb_app (codes "show") kinds).top ∷ (verb_app (codes "normalise") kinds).top ∷ [];
+  subs = (verb_app (codes "show") shown).top ∷ (verb_app (codes "normalise") normalised).top ∷ [];
 }
 
 -- a value at one place in memory: where the names lie makes no difference
 abbrev pub placed : {X : Type 0} → X → Bor X
 placed x = record { ref_ptr = (0, 0); now = x }
 
--- the names of the kinds that a verb takes
-abbrev pub kind_names : Bor (List (Bor Text))
-kind_names = placed (placed (codes "tm") ∷ [])
+-- the names of the kinds that `show` takes
+abbrev pub shown_kinds : Bor (List (Bor Text))
+shown_kinds = placed (placed (codes "tm") ∷ placed (codes "tc") ∷ [])
+
+-- and those that `normalise` takes
+abbrev pub normalised_kinds : Bor (List (Bor Text))
+normalised_kinds = placed (placed (codes "tm") ∷ [])
 
 -- the command line of `sllink`
 abbrev pub sllink_app : App
-sllink_app = sllink_with kind_names
+sllink_app = sllink_with shown_kinds normalised_kinds
 
 -- that command line, wherever in memory the names lie
 pub record IsSllink (app : App) : Type 0 where
-  pub kinds : Bor (List (Bor Text))
-  pub named : texts kinds.now ≡ texts kind_names.now
-  pub same : app ≡ sllink_with kinds
+  pub shown : Bor (List (Bor Text))
+  pub shown_named : texts shown.now ≡ texts shown_kinds.now
+  pub normalised : Bor (List (Bor Text))
+  pub normalised_named : texts normalised.now ≡ texts normalised_kinds.now
+  pub same : app ≡ sllink_with shown normalised
 
 -- ---- what the words ask for
 
@@ -107,16 +119,13 @@ infixl 10 ◌>>=◌
 abbrev ◌>>=◌ : {A B : Type 0} → Option A → (A → Option B) → Option B
 o >>= f = option_and_then f o
 
--- the verb of that name
-abbrev pub verb_named : Text → Option Verb
-verb_named word =
-    if bytes_eq word (codes "show") then Some Show
-    else if bytes_eq word (codes "normalise") then Some Normalise
+-- the engine that a verb and a kind name
+abbrev pub engine_named : Text → Text → Option Engine
+engine_named verb kind =
+    if bytes_eq verb (codes "show") && bytes_eq kind (codes "tm") then Some ShowTm
+    else if bytes_eq verb (codes "show") && bytes_eq kind (codes "tc") then Some ShowTc
+    else if bytes_eq verb (codes "normalise") && bytes_eq kind (codes "tm") then Some NormaliseTm
     else None
-
--- the kind of that name
-abbrev pub kind_named : Text → Option Kind
-kind_named word = if bytes_eq word (codes "tm") then Some Tm else None
 
 -- the decimal number that a text writes, where it has no more than that many bits
 abbrev pub number_read : ℕ → Text → Option ℕ
@@ -138,22 +147,28 @@ abbrev pub options_in : List Row → Option Options
 options_in rows = do
   scid ← number_in 16 (codes "scid") rows
   tm_length ← number_in 16 (codes "tm-length") rows
+  tc_length ← number_in 16 (codes "tc-length") rows
+  window ← number_in 8 (codes "window") rows
+  vr ← number_in 8 (codes "vr") rows
   limit ← number_in 64 (codes "limit") rows
   Some (record {
     spacecraft = scid;
     tm_length = tm_length;
+    tc_length = tc_length;
     tm_fecf = is_set (codes "tm-fecf") rows;
+    tc_fecf = is_set (codes "tc-fecf") rows;
+    window = window;
+    vr = vr;
     max_octets = limit;
   })
 
 -- what a verb asks for with its arguments
 abbrev pub request_with : Text → List Row → Option Request
-request_with word rows = do
-  verb ← verb_named word
-  name ← first_of (codes "kind") rows
-  kind ← kind_named name
+request_with verb rows = do
+  kind ← first_of (codes "kind") rows
+  engine ← engine_named verb kind
   options ← options_in rows
-  Some (record { verb = verb; kind = kind; options = options })
+  Some (record { engine = engine; options = options })
 
 -- what a verb, where the words name one, asks for
 abbrev pub request_in : Option (Text × List Row) → Option Request
@@ -187,17 +202,16 @@ pub record AskFor (words : List Text) (request : Request) : Type 0 where
 
 -- ---- the link
 
--- the managed parameters that the options ask for, and those that have no option: a greatest TC frame
--- length of 1024 octets, no frame error control field in TC frames, a FARM-1 window of 10, and V(R) 0
+-- the managed parameters that the options ask for
 abbrev pub asked : Options → Parameters
 asked o =
     record {
       spacecraft = o.spacecraft;
       tm_length = o.tm_length;
       tm_fecf = o.tm_fecf;
-      tc_max = 1024;
-      tc_fecf = false;
-      window = 10;
-      vr = 0;
+      tc_max = o.tc_length;
+      tc_fecf = o.tc_fecf;
+      window = o.window;
+      vr = o.vr;
       max_octets = o.max_octets;
     }

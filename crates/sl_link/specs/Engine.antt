@@ -1,25 +1,39 @@
--- What the engine of a verb and a kind writes for a recording, what it counts in it, and how it reads it.
-use Rattle.std.specs.Prelude.{ℕ, List}
-use Rattle.sl_link.specs.declared.command_line.Kind.{Kind}
-use Rattle.sl_link.specs.declared.command_line.Kind.TheVariants.{Tm}
-use Rattle.sl_link.specs.declared.command_line.Verb.{Verb}
-use Rattle.sl_link.specs.declared.command_line.Verb.TheVariants.{Show, Normalise}
+-- What an engine writes for a recording, what it counts in it, and how it reads it.
+use Rattle.std.specs.Prelude.{ℕ, Bool, true, false, List}
+use Rattle.sl_link.specs.declared.command_line.Engine.{Engine}
+use Rattle.sl_link.specs.declared.command_line.Engine.TheVariants.{ShowTm, ShowTc, NormaliseTm}
 use Rattle.sl_link.specs.Managed.{Parameters}
 use Rattle.sl_link.specs.NormaliseTm.{tm_normal_form, tm_counts}
+use Rattle.sl_link.specs.ShowTc.{show_tc_text, show_tc_counts}
 use Rattle.sl_link.specs.ShowTm.{show_tm_text, show_tm_counts}
 use Rattle.sl_link.specs.Totals.{Counts}
 
 -- the listing of its frames, or the normal form of its packets
-abbrev pub text_of : Verb → Kind → Parameters → List ℕ → List ℕ
-text_of Show Tm p = show_tm_text p
-text_of Normalise Tm p = tm_normal_form p
+abbrev pub text_of : Engine → Parameters → List ℕ → List ℕ
+text_of ShowTm p = show_tm_text p
+text_of ShowTc p = show_tc_text p
+text_of NormaliseTm p = tm_normal_form p
 
 -- the counts of what the engine meets
-abbrev pub counts_of : Verb → Kind → Parameters → List ℕ → Counts
-counts_of Show Tm p = show_tm_counts p
-counts_of Normalise Tm p = tm_counts p
+abbrev pub counts_of : Engine → Parameters → List ℕ → Counts
+counts_of ShowTm p = show_tm_counts p
+counts_of ShowTc p = show_tc_counts p
+counts_of NormaliseTm p = tm_counts p
 
 -- the octets that are read at once, at most
-abbrev pub buffer_of : Verb → Kind → ℕ
-buffer_of Show Tm = 0x20000
-buffer_of Normalise Tm = 0x10000
+abbrev pub buffer_of : Engine → ℕ
+buffer_of ShowTm = 0x20000
+buffer_of ShowTc = 0x20000
+buffer_of NormaliseTm = 0x10000
+
+-- the engine lists frames, for which it needs no memory
+abbrev pub lists_frames : Engine → Bool
+lists_frames ShowTm = true
+lists_frames ShowTc = true
+lists_frames NormaliseTm = false
+
+-- the engine writes a normal form, once all is read
+abbrev pub writes_normal_form : Engine → Bool
+writes_normal_form ShowTm = false
+writes_normal_form ShowTc = false
+writes_normal_form NormaliseTm = true

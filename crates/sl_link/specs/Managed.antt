@@ -3,6 +3,7 @@ use Rattle.std.specs.Prelude.{ℕ, ◌%◌, ◌==◌, nat_lt, Bool, not, ◌||�
 use Rattle.sl_link.specs.declared.managed.ManagedFault.{ManagedFault}
 use Rattle.sl_link.specs.declared.managed.ManagedFault.TheVariants.{Spacecraft, TmLength, TcLength, Window, Limit}
 use Rattle.sl_fields.specs.Shape.{is_outside}
+use Rattle.sl_tcframe.specs.TcFrame.{TcFormat}
 use Rattle.sl_tmframe.specs.TmFrame.{TmFormat}
 
 pub record Parameters : Type 0 where
@@ -29,3 +30,7 @@ managed_of p =
 -- the managed format of the TM frames
 abbrev pub tm_format : Parameters → TmFormat
 tm_format p = record { len = p.tm_length; fecf = p.tm_fecf }
+
+-- the managed format of the TC frames
+abbrev pub tc_format : Parameters → TcFormat
+tc_format p = record { max = p.tc_max; fecf = p.tc_fecf }

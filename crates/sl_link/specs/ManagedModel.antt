@@ -1,6 +1,6 @@
 -- A `Managed` is its parameters, none of which is refused.
 use Rattle.std.specs.Prelude.{◌≡◌, Ok}
-use Rattle.sl_link.specs.Managed.{Parameters, managed_of, tm_format}
+use Rattle.sl_link.specs.Managed.{Parameters, managed_of, tc_format, tm_format}
 use Rattle.sl_link.specs.declared.managed.Managed.TheInside.{Inside}
 
 abbrev pub parameters_of : Inside → Parameters
@@ -9,8 +9,8 @@ parameters_of m =
       spacecraft = m.spacecraft;
       tm_length = m.tm.len;
       tm_fecf = m.tm.fecf;
-      tc_max = m.tc_max;
-      tc_fecf = m.tc_fecf;
+      tc_max = m.tc.max;
+      tc_fecf = m.tc.fecf;
       window = m.window;
       vr = m.vr;
       max_octets = m.max_octets;
@@ -24,8 +24,7 @@ inside_of p =
     record {
       spacecraft = p.spacecraft;
       tm = tm_format p;
-      tc_max = p.tc_max;
-      tc_fecf = p.tc_fecf;
+      tc = tc_format p;
       window = p.window;
       vr = p.vr;
       max_octets = p.max_octets;

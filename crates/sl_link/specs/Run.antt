@@ -1,39 +1,38 @@
 -- What a run of the program has done, by its exit status.
-use Rattle.std.specs.Prelude.{◌≡◌, ◌≢◌, ℕ, IsErr, List, Option, Ok}
+use Rattle.std.specs.Prelude.{◌≡◌, ◌≢◌, ℕ, true, IsErr, List, Option, Ok}
 use Rattle.clap.specs.Walk.{Text}
 use Rattle.sl_link.specs.declared.command_line.Request.{Request}
-use Rattle.sl_link.specs.declared.command_line.Verb.TheVariants.{Show, Normalise}
 use Rattle.sl_link.specs.declared.counted.Counted.{Counted}
 use Rattle.sl_link.specs.declared.link_fault.LinkFault.{LinkFault}
 use Rattle.sl_link.specs.declared.link_fault.LinkFault.TheVariants.{Memory, Write}
 use Rattle.sl_link.specs.CommandLine.{AskFor, asked}
-use Rattle.sl_link.specs.Engine.{text_of, counts_of, buffer_of}
+use Rattle.sl_link.specs.Engine.{text_of, counts_of, buffer_of, lists_frames, writes_normal_form}
 use Rattle.sl_link.specs.Managed.{Parameters, managed_of}
 use Rattle.sl_link.specs.Streams.{IsRead, Translates, Stops}
 use Rattle.sl_link.specs.Totals.{Counts}
 
 module _ {R W : Type 0} (remaining : R → Option (List ℕ)) (contents : W → Option (List ℕ)) where
-  -- the verb's text of a recording was written
+  -- the engine's text of a recording was written
   abbrev pub HasWritten : Counted R → Counted R → Counted W → Counted W → Request → Parameters → Counts → Type 0
   HasWritten reader reader' writer writer' request managed =
-      Translates remaining contents reader reader' writer writer' (text_of request.verb request.kind managed) (counts_of request.verb request.kind managed) managed.max_octets
+      Translates remaining contents reader reader' writer writer' (text_of request.engine managed) (counts_of request.engine managed) managed.max_octets
 
-  -- A fault stopped the verb's engine, or the flush after it. A listing needs no memory. Of a normal form
+  -- A fault stopped the engine, or the flush after it. A listing needs no memory. Of a normal form
   -- anything is written only where the writer failed, and all is read then.
   pub record IsStoppedBy (reader reader' : Counted R) (writer writer' : Counted W) (request : Request) (managed : Parameters) (fault : LinkFault) : Type 0 where
-    pub cause : Stops remaining contents reader reader' writer writer' (text_of request.verb request.kind managed) managed.max_octets (buffer_of request.verb request.kind) fault
-    pub not_memory : request.verb ≡ Show → fault ≢ Memory
-    pub all_read : request.verb ≡ Normalise → fault ≡ Write → IsRead remaining reader'
-    pub nothing : request.verb ≡ Normalise → fault ≢ Write → writer' ≡ writer
+    pub cause : Stops remaining contents reader reader' writer writer' (text_of request.engine managed) managed.max_octets (buffer_of request.engine) fault
+    pub not_memory : lists_frames request.engine ≡ true → fault ≢ Memory
+    pub all_read : writes_normal_form request.engine ≡ true → fault ≡ Write → IsRead remaining reader'
+    pub nothing : writes_normal_form request.engine ≡ true → fault ≢ Write → writer' ≡ writer
 
-  -- no managed parameter that is asked for is refused, and the verb's text of a recording was written
+  -- no managed parameter that is asked for is refused, and the engine's text of a recording was written
   pub record HasSucceeded (reader reader' : Counted R) (writer writer' : Counted W) (request : Request) : Type 0 where
     pub managed : Parameters
     pub allowed : managed_of (asked request.options) ≡ Ok managed
     pub totals : Counts
     pub written : HasWritten reader reader' writer writer' request managed totals
 
-  -- no managed parameter that is asked for is refused, and a fault stopped the verb
+  -- no managed parameter that is asked for is refused, and a fault stopped the engine
   pub record HasStopped (reader reader' : Counted R) (writer writer' : Counted W) (request : Request) : Type 0 where
     pub managed : Parameters
     pub allowed : managed_of (asked request.options) ≡ Ok managed

@@ -1,5 +1,5 @@
 -- The listing of a TM recording's frames, a line for each, and then its remainder.
-use Rattle.std.specs.Prelude.{ℕ, ◌+◌, ◌-◌, ◌==◌, if◌then◌else◌, List, [], ◌∷◌, ◌++◌, length, codes, decimal, Option, None, Some, Result, Ok, Err, is_err}
+use Rattle.std.specs.Prelude.{ℕ, ◌+◌, ◌-◌, if◌then◌else◌, List, [], ◌∷◌, ◌++◌, length, codes, decimal, Option, None, Some, Result, Ok, Err, is_err}
 use Rattle.hex.specs.Hex.{encode_lower}
 use Rattle.sl_fields.specs.Field.{flag, bit_of}
 use Rattle.sl_fields.specs.Clcw.{ClcwFields, clcw_word}
@@ -7,6 +7,7 @@ use Rattle.sl_tmframe.specs.declared.tm_frame.TmSkip.{TmSkip}
 use Rattle.sl_tmframe.specs.declared.tm_frame.TmSkip.TheVariants.{Fecf, Version, Spacecraft}
 use Rattle.sl_tmframe.specs.TmFrame.{TmFormat, TmView, DataField, Packets, Idle, Opaque, tm_frame}
 use Rattle.sl_link.specs.Delimited.{frames_of, remainder_of}
+use Rattle.sl_link.specs.Line.{line_at, remainder_line}
 use Rattle.sl_link.specs.Managed.{Parameters, tm_format}
 use Rattle.sl_link.specs.Totals.{Counts}
 
@@ -59,20 +60,12 @@ abbrev pub frame_text : Result TmView TmSkip → List ℕ
 frame_text (Ok view) = view_text view
 frame_text (Err reason) = codes " skip " ++ skip_word reason
 
--- a line: the octets before the thing, and what it says of it
-abbrev pub line_at : ℕ → List ℕ → List ℕ
-line_at offset text = decimal offset ++ text ++ codes "\n"
-
 -- the lines of frames that lie end to end from an offset on
 abbrev pub frame_lines : TmFormat → ℕ → ℕ → List (List ℕ) → List ℕ
 frame_lines format spacecraft offset [] = []
 frame_lines format spacecraft offset (frame ∷ frames) =
     line_at offset (frame_text (tm_frame format spacecraft frame))
     ++ frame_lines format spacecraft (offset + length frame) frames
-
--- the line of a remainder of so many octets, where there is one
-abbrev pub remainder_line : ℕ → ℕ → List ℕ
-remainder_line offset octets = if octets == 0 then [] else line_at offset (codes " rest " ++ decimal octets)
 
 -- the listing of a recording
 abbrev pub show_tm_text : Parameters → List ℕ → List ℕ

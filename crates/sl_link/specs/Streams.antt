@@ -79,7 +79,7 @@ pub record WritesText {W : Type 0} (contents : W → Option (List ℕ)) (old new
   pub writes : Writes contents old new text
   pub no_fault : faults_of new ≡ faults_of old
 
--- a text is added to what waits to be written, some of which may be written for it
+-- a text is added to what isn't written yet, some of which may be written for it
 pub record AddsText {W : Type 0} (contents : W → Option (List ℕ)) (old new : Counted W) (pending pending' text : List ℕ) : Type 0 where
   pub written : List ℕ
   pub parts : pending ++ text ≡ written ++ pending'

@@ -4,8 +4,9 @@ ghost use Rattle.clap.specs.Words.{app_of, found_of, kind_of, rows_of, rule_of, 
 ghost use Rattle.clap.specs.declared.builder.Command.TheViews.{out-Command as fields_of};
 ghost use Rattle.sl_link.specs.Managed.{managed_of};
 ghost use Rattle.sl_link.specs.CommandLine.{AskFor, IsRefusal, IsSllink, asked};
-ghost use Rattle.sl_link.specs.CommandLine.{flag_rule, number_rule, verb_app, with_link_options};
-ghost use Rattle.sl_link.specs.CommandLine.{is_set, kind_named, options_in, request_in, request_with, verb_named};
+ghost use Rattle.sl_link.specs.CommandLine.{flag_rule, link_options, needed_number, number_or, number_rule};
+ghost use Rattle.sl_link.specs.CommandLine.{verb_app, with_link_options};
+ghost use Rattle.sl_link.specs.CommandLine.{engine_named, is_set, number_in, options_in, request_in, request_with};
 
 use crate::managed::{Managed, ManagedFault};
 use clap::builder::ValueParser;
@@ -13,20 +14,15 @@ use clap::error::ErrorKind;
 use clap::{Arg, ArgAction, ArgMatches, Command, Error, value_parser};
 use std::alloc::{AllocError, Global};
 
-/// What is done with a recording.
+/// What is done with a recording, of which kind.
 #[derive(Clone, Copy, Debug, PartialEq, Eq)]
-pub(crate) enum Verb {
-    /// Its frames are listed.
-    Show,
-    /// Its normal form is written.
-    Normalise,
-}
-
-/// Which frames a recording has.
-#[derive(Clone, Copy, Debug, PartialEq, Eq)]
-pub(crate) enum Kind {
-    /// TM transfer frames.
-    Tm,
+pub(crate) enum Engine {
+    /// TM transfer frames are listed.
+    ShowTm,
+    /// TC transfer frames are listed.
+    ShowTc,
+    /// The normal form of TM transfer frames is written.
+    NormaliseTm,
 }
 
 /// What the options say of the link.
@@ -34,15 +30,18 @@ pub(crate) enum Kind {
 pub(crate) struct Options {
     pub(crate) spacecraft: u16,
     pub(crate) tm_length: u16,
+    pub(crate) tc_length: u16,
     pub(crate) tm_fecf: bool,
+    pub(crate) tc_fecf: bool,
+    pub(crate) window: u8,
+    pub(crate) vr: u8,
     pub(crate) max_octets: u64,
 }
 
 /// What a command line asks for.
 #[derive(Clone, Copy, Debug, PartialEq, Eq)]
 pub(crate) struct Request {
-    pub(crate) verb: Verb,
-    pub(crate) kind: Kind,
+    pub(crate) engine: Engine,
     pub(crate) options: Options,
 }
 
@@ -52,12 +51,23 @@ const SPACECRAFT: &str = "scid";
 
 const TM_LENGTH: &str = "tm-length";
 
+const TC_LENGTH: &str = "tc-length";
+
 const TM_FECF: &str = "tm-fecf";
+
+const TC_FECF: &str = "tc-fecf";
+
+const WINDOW: &str = "window";
+
+const VR: &str = "vr";
 
 const LIMIT: &str = "limit";
 
-// The kinds that a verb takes.
-static KINDS: [&str; 1] = ["tm"];
+// The kinds that `show` takes.
+static SHOWN_KINDS: [&str; 2] = ["tm", "tc"];
+
+// The kinds that `normalise` takes.
+static NORMALISED_KINDS: [&str; 1] = ["tm"];
 
 /// What the words ask for, of which the first is the program's name. Else why they are refused, or the
 /// help that they ask for.
@@ -78,10 +88,10 @@ pub(crate) fn parse(alloc: Global, words: &[String]) -> Result<Request, Error>
 fn sllink<'a>(alloc: Global) -> Result<Command<'a>, AllocError>
     ensures { IfOk result (λ command. IsSllink (app_of command)) }
 {
-    let kinds: &[&str] = &KINDS;
-    let show = verb_command(alloc, "show", "List the frames of a recording", kinds)?;
+    let about = "List the frames of a recording";
+    let show = verb_command(alloc, "show", about, &SHOWN_KINDS)?;
     let about = "Write the normal form of a recording";
-    let normalise = verb_command(alloc, "normalise", about, kinds)?;
+    let normalise = verb_command(alloc, "normalise", about, &NORMALISED_KINDS)?;
     Command::new(alloc, "sllink")
         .about("Read recordings of a spacecraft's link")
         .subcommand_required(true)
@@ -107,31 +117,65 @@ fn verb_command<'a>(
     with_options(alloc, Command::new(alloc, name).about(about).arg(kind)?)
 }
 
+// A command, with the options of the link too.
 fn with_options<'a>(alloc: Global, verb: Command<'a>) -> Result<Command<'a>, AllocError>
     ensures app { IfOk result (λ command. app_of command ≡ with_link_options (app_of verb.entry)) }
     ensures local { IfOk result (λ command.
         (fields_of command).has_globals ≡ (fields_of verb.entry).has_globals) }
 {
-    let spacecraft = number(alloc, SPACECRAFT, "ID", value_parser!(u16))
-        .help("Spacecraft identifier")
-        .required(true);
-    let tm_length = number(alloc, TM_LENGTH, "OCTETS", value_parser!(u16))
-        .help("TM transfer frame length")
-        .default_value("1115");
-    let tm_fecf = flag(alloc, TM_FECF).help("TM transfer frames have a frame error control field");
-    let limit = number(alloc, LIMIT, "OCTETS", value_parser!(u64))
-        .help("Most octets that are read")
-        .default_value("1073741824");
-    verb.arg(spacecraft)?
-        .arg(tm_length)?
-        .arg(tm_fecf)?
-        .arg(limit)
+    verb.args(link_options(alloc)?)
+}
+
+// The options of the link.
+fn link_options<'a>(alloc: Global) -> Result<Vec<Arg<'a>>, AllocError>
+    ensures { IfOk result (λ options. map rule_of options.items ≡ link_options) }
+{
+    let byte = value_parser!(u8);
+    let short = value_parser!(u16);
+    let long = value_parser!(u64);
+    let scid = needed_number(alloc, SPACECRAFT, "ID", short);
+    let tm_length = number_or(alloc, TM_LENGTH, "OCTETS", short, "1115");
+    let tc_length = number_or(alloc, TC_LENGTH, "OCTETS", short, "1024");
+    let tm_fecf = flag(alloc, TM_FECF);
+    let tc_fecf = flag(alloc, TC_FECF);
+    let window = number_or(alloc, WINDOW, "WIDTH", byte, "10");
+    let vr = number_or(alloc, VR, "NUMBER", byte, "0");
+    let limit = number_or(alloc, LIMIT, "OCTETS", long, "1073741824");
+    Ok(vec![in alloc;
+        scid.help("Spacecraft identifier"),
+        tm_length.help("TM transfer frame length"),
+        tc_length.help("Greatest TC transfer frame length"),
+        tm_fecf.help("TM transfer frames have a frame error control field"),
+        tc_fecf.help("TC transfer frames have a frame error control field"),
+        window.help("FARM-1 sliding window width"),
+        vr.help("Initial receiver frame sequence number, V(R)"),
+        limit.help("Most octets that are read"),
+    ]?)
+}
+
+// An option that takes a number, and that no command line may leave out.
+fn needed_number<'a>(alloc: Global, name: &'a str, unit: &'a str, range: ValueParser<'a>) -> Arg<'a>
+    ensures { rule_of result ≡ needed_number name.entry.now range.entry }
+{
+    number(alloc, name, unit, range).required(true)
+}
+
+// An option that takes a number, and has this one where it is left out.
+fn number_or<'a>(
+    alloc: Global,
+    name: &'a str,
+    unit: &'a str,
+    range: ValueParser<'a>,
+    default: &'a str,
+) -> Arg<'a>
+    ensures { rule_of result ≡ number_or name.entry.now range.entry default.entry.now }
+{
+    number(alloc, name, unit, range).default_value(default)
 }
 
 // An option that takes a number.
 fn number<'a>(alloc: Global, name: &'a str, unit: &'a str, range: ValueParser<'a>) -> Arg<'a>
-    ensures rule { rule_of result ≡ number_rule name.entry.now range.entry }
-    ensures local { result.global ≡ false }
+    ensures { rule_of result ≡ number_rule name.entry.now range.entry }
 {
     Arg::new(alloc, name)
         .long(name)
@@ -141,8 +185,7 @@ fn number<'a>(alloc: Global, name: &'a str, unit: &'a str, range: ValueParser<'a
 
 // An option that takes no value.
 fn flag<'a>(alloc: Global, name: &'a str) -> Arg<'a>
-    ensures rule { rule_of result ≡ flag_rule name.entry.now }
-    ensures local { result.global ≡ false }
+    ensures { rule_of result ≡ flag_rule name.entry.now }
 {
     Arg::new(alloc, name).long(name).action(ArgAction::SetTrue)
 }
@@ -159,27 +202,18 @@ fn request_with(verb: &str, matches: &ArgMatches<'_>) -> Option<Request>
     ensures { result ≡ request_with verb.now (rows_of (found_of matches.now)) }
 {
     Some(Request {
-        verb: verb_of(verb)?,
-        kind: kind_of(matches.get_str(KIND)?)?,
+        engine: engine_of(verb, matches.get_str(KIND)?)?,
         options: options_of(matches)?,
     })
 }
 
-fn verb_of(word: &str) -> Option<Verb>
-    ensures { result ≡ verb_named word.now }
+fn engine_of(verb: &str, kind: &str) -> Option<Engine>
+    ensures { result ≡ engine_named verb.now kind.now }
 {
-    match word {
-        "show" => Some(Verb::Show),
-        "normalise" => Some(Verb::Normalise),
-        _ => None,
-    }
-}
-
-fn kind_of(word: &str) -> Option<Kind>
-    ensures { result ≡ kind_named word.now }
-{
-    match word {
-        "tm" => Some(Kind::Tm),
+    match (verb, kind) {
+        ("show", "tm") => Some(Engine::ShowTm),
+        ("show", "tc") => Some(Engine::ShowTc),
+        ("normalise", "tm") => Some(Engine::NormaliseTm),
         _ => None,
     }
 }
@@ -188,11 +222,33 @@ fn options_of(matches: &ArgMatches<'_>) -> Option<Options>
     ensures { result ≡ options_in (rows_of (found_of matches.now)) }
 {
     Some(Options {
-        spacecraft: matches.get_one(SPACECRAFT)?,
-        tm_length: matches.get_one(TM_LENGTH)?,
+        spacecraft: number_of_16_bits(matches, SPACECRAFT)?,
+        tm_length: number_of_16_bits(matches, TM_LENGTH)?,
+        tc_length: number_of_16_bits(matches, TC_LENGTH)?,
         tm_fecf: is_set(matches, TM_FECF),
-        max_octets: matches.get_one(LIMIT)?,
+        tc_fecf: is_set(matches, TC_FECF),
+        window: number_of_8_bits(matches, WINDOW)?,
+        vr: number_of_8_bits(matches, VR)?,
+        max_octets: number_of_64_bits(matches, LIMIT)?,
     })
+}
+
+fn number_of_8_bits(matches: &ArgMatches<'_>, name: &str) -> Option<u8>
+    ensures { result ≡ number_in 8 name.now (rows_of (found_of matches.now)) }
+{
+    matches.get_one(name)
+}
+
+fn number_of_16_bits(matches: &ArgMatches<'_>, name: &str) -> Option<u16>
+    ensures { result ≡ number_in 16 name.now (rows_of (found_of matches.now)) }
+{
+    matches.get_one(name)
+}
+
+fn number_of_64_bits(matches: &ArgMatches<'_>, name: &str) -> Option<u64>
+    ensures { result ≡ number_in 64 name.now (rows_of (found_of matches.now)) }
+{
+    matches.get_one(name)
 }
 
 // Whether an option that takes no value is there.
@@ -201,16 +257,6 @@ fn is_set(matches: &ArgMatches<'_>, name: &str) -> bool
 {
     matches.get_one(name).unwrap_or(false)
 }
-
-// The managed parameters that have no option.
-
-const TC_LENGTH: u16 = 1024;
-
-const TC_FECF: bool = false;
-
-const WINDOW: u8 = 10;
-
-const VR: u8 = 0;
 
 impl Options {
     /// The managed parameters of the link, or the first of them that is refused.
@@ -221,10 +267,10 @@ impl Options {
             self.spacecraft,
             self.tm_length,
             self.tm_fecf,
-            TC_LENGTH,
-            TC_FECF,
-            WINDOW,
-            VR,
+            self.tc_length,
+            self.tc_fecf,
+            self.window,
+            self.vr,
             self.max_octets,
         )
     }

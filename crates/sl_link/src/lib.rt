@@ -4,9 +4,11 @@
 mod command_line;
 mod counted;
 mod deliver;
+mod farms;
 pub mod laws;
 mod lines;
 mod link_fault;
+mod listing;
 mod managed;
 mod normalise;
 mod program;
@@ -14,6 +16,8 @@ mod recording;
 mod show;
 mod streams;
 mod tally;
+mod tc_lines;
+mod tc_listing;
 mod tm_lines;
 mod totals;
 
@@ -23,6 +27,7 @@ pub use managed::{Managed, ManagedFault};
 pub use normalise::normalise_tm;
 pub use program::run;
 pub use show::show_tm;
+pub use tc_listing::show_tc;
 pub use totals::Totals;
 
 #[cfg(test)]

@@ -2,6 +2,8 @@
 ghost use Rattle.std.specs.Prelude.{◌≡◌};
 ghost use Rattle.sl_link.specs.Managed.{Parameters};
 
+use sl_cop::Window;
+use sl_tcframe::TcShape;
 use sl_tmframe::TmShape;
 use std::marker::Model;
 use thiserror::Error;
@@ -31,9 +33,8 @@ pub enum ManagedFault {
 pub struct Managed {
     pub(crate) spacecraft: u16,
     pub(crate) tm: TmShape,
-    pub(crate) tc_max: u16,
-    pub(crate) tc_fecf: bool,
-    pub(crate) window: u8,
+    pub(crate) tc: TcShape,
+    pub(crate) window: Window,
     pub(crate) vr: u8,
     pub(crate) max_octets: u64,
 }
@@ -85,20 +86,21 @@ impl Managed {
             Ok(shape) => shape,
             Err(_) => return Err(ManagedFault::TmLength),
         };
-        if tc_max < 16 || tc_max > 1024 {
-            return Err(ManagedFault::TcLength);
-        }
-        if window == 0 || window % 2 != 0 {
-            return Err(ManagedFault::Window);
-        }
+        let tc = match TcShape::new(tc_max, tc_fecf) {
+            Ok(shape) => shape,
+            Err(_) => return Err(ManagedFault::TcLength),
+        };
+        let window = match Window::new(window) {
+            Some(window) => window,
+            None => return Err(ManagedFault::Window),
+        };
         if max_octets == 0 {
             return Err(ManagedFault::Limit);
         }
         Ok(Managed {
             spacecraft,
             tm,
-            tc_max,
-            tc_fecf,
+            tc,
             window,
             vr,
             max_octets,

@@ -7,13 +7,14 @@ ghost use Rattle.sl_link.specs.Counted.{stream_of, faults_of, HasFailed};
 ghost use Rattle.sl_link.specs.Run.{AsksForRefusedParameter, HasStopped, HasSucceeded, HasWritten, IsStoppedBy, WithAsked};
 ghost use Rattle.sl_link.specs.Status.{status};
 
-use crate::command_line::{Kind, Request, Verb, parse};
+use crate::command_line::{Engine, Request, parse};
 use crate::counted::Counted;
 use crate::link_fault::LinkFault;
 use crate::managed::Managed;
 use crate::normalise::normalise_tm;
 use crate::show::show_tm;
 use crate::streams::write_text;
+use crate::tc_listing::show_tc;
 use crate::totals::Totals;
 use clap::Error;
 use clap::error::ErrorKind;
@@ -116,9 +117,10 @@ fn run_engine<R: Read, W: Write>(
     ensures written { IfOk result (HasWritten R.remaining W.contents reader.old reader.new writer.old writer.new request.now managed.now) }
     ensures stopped { IfErr result (IsStoppedBy R.remaining W.contents reader.old reader.new writer.old writer.new request.now managed.now) }
 {
-    match (request.verb, request.kind) {
-        (Verb::Show, Kind::Tm) => show_tm(managed, reader, writer),
-        (Verb::Normalise, Kind::Tm) => normalise_tm(alloc, managed, reader, writer),
+    match request.engine {
+        Engine::ShowTm => show_tm(managed, reader, writer),
+        Engine::ShowTc => show_tc(managed, reader, writer),
+        Engine::NormaliseTm => normalise_tm(alloc, managed, reader, writer),
     }
 }
 

@@ -1,8 +1,9 @@
 //! The frames of a TM recording as lines.
 ghost use Rattle.std.specs.Prelude.{◌≡◌, ◌≢◌, ◌+◌, ◌*◌, ◌/◌, ◌^◌, ◌<◌, ◌≤◌, length, false, is_err, [], IfOk, IfErr, OnOk, Err};
 ghost use Rattle.sl_link.specs.Delimited.{frames_of};
+ghost use Rattle.sl_link.specs.Line.{line_at, remainder_line};
 ghost use Rattle.sl_link.specs.Managed.{tm_format};
-ghost use Rattle.sl_link.specs.ShowTm.{show_tm_text, show_tm_counts, frame_lines, line_at, frame_text, remainder_line};
+ghost use Rattle.sl_link.specs.ShowTm.{show_tm_text, show_tm_counts, frame_lines, frame_text};
 ghost use Rattle.sl_link.specs.Streams.{Translates, Stops, AddsText, WritesText, StopsWriting};
 ghost use Rattle.sl_link.specs.Tally.{AddsFrames};
 ghost use Rattle.sl_tmframe.specs.TmFrame.{tm_frame};
@@ -10,10 +11,11 @@ ghost use Rattle.sl_tmframe.specs.TmFrame.{tm_frame};
 use crate::counted::Counted;
 use crate::lines::Lines;
 use crate::link_fault::LinkFault;
+use crate::listing::{flush, make_room, show_rest};
 use crate::managed::Managed;
-use crate::streams::{read_some, write_text};
+use crate::streams::read_some;
 use crate::tally::Tally;
-use crate::tm_lines::{frame_line, rest_line};
+use crate::tm_lines::frame_line;
 use crate::totals::Totals;
 use sl_tmframe::TmFrame;
 use std::io::{Read, Write};
@@ -118,47 +120,4 @@ fn show_frame<W: Write>(
     let read = TmFrame::read(&managed.tm, managed.spacecraft, frame);
     frame_line(lines, offset, &read);
     Ok(read.is_err())
-}
-
-// Room for one line more.
-#[inline(always)]
-fn make_room<W: Write>(writer: &mut Counted<W>, lines: &mut Lines) -> Result<(), LinkFault>
-    ensures kept { OnOk result (AddsText W.contents writer.old writer.new lines.old lines.new []) }
-    ensures room { OnOk result (length lines.new ≤ 3840) }
-    ensures fault { IfErr result (StopsWriting W.contents writer.old writer.new lines.old) }
-{
-    if !lines.is_full() {
-        return Ok(());
-    }
-    flush(writer, lines)?;
-    Ok(())
-}
-
-// Writes the lines so far.
-fn flush<W: Write>(writer: &mut Counted<W>, lines: &mut Lines) -> Result<(), LinkFault>
-    ensures written { OnOk result (WritesText W.contents writer.old writer.new lines.old) }
-    ensures emptied { OnOk result (lines.new ≡ []) }
-    ensures fault { IfErr result (StopsWriting W.contents writer.old writer.new lines.old) }
-{
-    write_text(writer, lines.octets())?;
-    lines.clear();
-    Ok(())
-}
-
-// The remainder, where there is one.
-fn show_rest<W: Write>(
-    writer: &mut Counted<W>,
-    lines: &mut Lines,
-    offset: u64,
-    octets: u64,
-) -> Result<(), LinkFault>
-    requires { lines.old ≡ [] }
-    ensures line { OnOk result (WritesText W.contents writer.old writer.new (remainder_line offset octets)) }
-    ensures fault { IfErr result (StopsWriting W.contents writer.old writer.new (remainder_line offset octets)) }
-{
-    if octets == 0 {
-        return Ok(());
-    }
-    rest_line(lines, offset, octets);
-    flush(writer, lines)
 }

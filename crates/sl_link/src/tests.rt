@@ -4,3 +4,4 @@ mod outcome;
 mod parts;
 mod program;
 mod show;
+mod show_tc;

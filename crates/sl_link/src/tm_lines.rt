@@ -2,7 +2,8 @@
 ghost use Rattle.std.specs.Prelude.{◌≡◌, ◌+◌, ◌-◌, ◌≤◌, ◌<◌, [], ◌++◌, length, decimal, codes, Result};
 ghost use Rattle.sl_fields.specs.Field.{bit_of};
 ghost use Rattle.sl_tmframe.specs.TmField.{data_field};
-ghost use Rattle.sl_link.specs.ShowTm.{clcw_fields_text, word_text, control_text, skip_word, field_text, counts_text, view_text, frame_text, line_at, remainder_line};
+ghost use Rattle.sl_link.specs.Line.{line_at};
+ghost use Rattle.sl_link.specs.ShowTm.{clcw_fields_text, word_text, control_text, skip_word, field_text, counts_text, view_text, frame_text};
 
 use crate::lines::Lines;
 use sl_fields::Clcw;
@@ -18,17 +19,6 @@ pub fn frame_line(lines: &mut Lines, offset: u64, read: &Result<TmFrame, TmSkip>
         Ok(frame) => push_view(lines, frame),
         Err(reason) => push_skip(lines, *reason),
     }
-    lines.push(b"\n");
-}
-
-/// Adds the line of a remainder of so many octets at this offset.
-pub fn rest_line(lines: &mut Lines, offset: u64, octets: u64)
-    requires { length lines.old ≤ 3840 }
-    ensures { lines.new ≡ lines.old ++ line_at offset (codes " rest " ++ decimal octets) }
-{
-    lines.push_number(offset);
-    lines.push(b" rest ");
-    lines.push_number(octets);
     lines.push(b"\n");
 }
 

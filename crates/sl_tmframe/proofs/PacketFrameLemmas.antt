@@ -2,19 +2,19 @@
 use Rattle.std.proofs.Common.{◌≡◌, ℕ, ◌-◌, ◌<◌, ◌≤◌, ◌==◌, Bool, true, false, not, ◌&&◌, List, [], ◌∷◌, ◌++◌, length, take, Option, Some, None, IfSome, Ok, unwrap_or, if◌then◌else◌, refl, sym, ◌∙◌, ap, arith, append-nil, length-append}
 use Rattle.std.proofs.Math.Seq.{take-append_seam}
 use Rattle.std.proofs.lemmas.Bool.{eq-eqb, ne_eqb, lt-ltb}
-use Rattle.sl_fields.specs.Fecf.{fecf_of}
-use Rattle.sl_fields.specs.Field.{number_of, octets_of, packed}
+use Rattle.sl_fields.specs.Fecf.{fecf_of, fecf_part, fecf_len, with_fecf}
+use Rattle.sl_fields.specs.Field.{number_of, packed}
 use Rattle.sl_fields.specs.TmHeader.{TmFields, FitsTmHeader, tm_header, tm_fields, tm_octets}
-use Rattle.sl_fields.proofs.Division.{fecf_of_lt}
+use Rattle.sl_fields.proofs.FecfLemmas.{fecf_len_le, length-fecf_part, number_of-fecf}
 use Rattle.sl_fields.proofs.HeaderLayout.{reads_back}
-use Rattle.sl_fields.proofs.Octets.{length-octets_of, number_of-bytes}
+use Rattle.sl_fields.proofs.Octets.{length-octets_of}
 use Rattle.sl_fields.proofs.Packing.{packed_lt}
 use Rattle.sl_fields.proofs.TmHeaderLemmas.{tm_layout}
-use Rattle.sl_tmframe.specs.TmFrame.{TmFormat, TmParts, TmView, DataField, Packets, header_of, fecf_len, parts_of, skip_reason, class_of, view_of, read_as, tm_frame}
-use Rattle.sl_tmframe.specs.PacketFrame.{FitFrame, room_of, pointer_value, packet_frame_header, with_fecf, packet_frame, packet_view}
+use Rattle.sl_tmframe.specs.TmFrame.{TmFormat, TmParts, TmView, DataField, Packets, header_of, parts_of, skip_reason, class_of, view_of, read_as, tm_frame}
+use Rattle.sl_tmframe.specs.PacketFrame.{FitFrame, room_of, pointer_value, packet_frame_header, packet_frame, packet_view}
 use Rattle.sl_tmframe.specs.declared.tm_frame.TmSkip.{TmSkip}
 use Rattle.sl_tmframe.specs.declared.tm_frame.TmSkip.TheVariants.{Fecf, Version, Spacecraft}
-use Rattle.sl_tmframe.proofs.PartLemmas.{only_parts, either_le}
+use Rattle.sl_tmframe.proofs.PartLemmas.{only_parts}
 
 -- the header as it is made, with 2047 for no pointer
 pub header_is : (spacecraft vc mc vcc pointer : ℕ) (first : Option ℕ) (header : TmFields)
@@ -35,21 +35,8 @@ pub header_is : (spacecraft vc mc vcc pointer : ℕ) (first : Option ℕ) (heade
 header_is spacecraft vc mc vcc pointer None header made e = rw (made, e) refl
 header_is spacecraft vc mc vcc pointer (Some first) header made e = rw (made, e) refl
 
--- the error control field of octets, where there is one
-abbrev fecf_part : Bool → List ℕ → List ℕ
-fecf_part has octets = if has then octets_of 2 ((16, fecf_of octets) ∷ []) else []
-
-length-fecf_part : (has : Bool) (octets : List ℕ) → length (fecf_part has octets) ≡ (if has then 2 else 0)
-length-fecf_part true octets = length-octets_of 2 ((16, fecf_of octets) ∷ [])
-length-fecf_part false octets = refl
-
-number_of-fecf : (octets : List ℕ) → number_of (octets_of 2 ((16, fecf_of octets) ∷ [])) ≡ fecf_of octets
-number_of-fecf octets =
-    let value : packed ((16, fecf_of octets) ∷ []) ≡ fecf_of octets = omega arith in
-    number_of-bytes 2 (packed ((16, fecf_of octets) ∷ [])) (omega (arith, fecf_of_lt octets)) ∙ value
-
 -- octets are not skipped for the error control field that is theirs
-fecf_fits : (has : Bool) (octets frame field : List ℕ) → frame ≡ octets ++ fecf_part has octets → field ≡ fecf_part has octets
+fecf_fits : (has : Bool) (octets frame field : List ℕ) → frame ≡ with_fecf has octets → field ≡ fecf_part has octets
     → (has && not (number_of field == fecf_of (take (length frame - 2) frame))) ≡ false
 fecf_fits false octets frame field whole ends = refl
 fecf_fits true octets frame field whole ends =
@@ -62,9 +49,9 @@ fecf_fits true octets frame field whole ends =
 
 -- a frame has the octets of its format
 pub with_fecf_whole : (format : TmFormat) (header field : List ℕ) → 8 ≤ format.len → length header ≡ 6 → length field ≡ room_of format
-    → length (with_fecf format (header ++ field)) ≡ format.len
+    → length (with_fecf format.fecf (header ++ field)) ≡ format.len
 with_fecf_whole format header field least six fills =
-    let last : fecf_len format ≤ 2 = either_le format.fecf 2 in
+    let last : fecf_len format.fecf ≤ 2 = fecf_len_le format.fecf in
     omega (
       arith,
       length-append (header ++ field) (fecf_part format.fecf (header ++ field)),

@@ -2,8 +2,10 @@
 use Rattle.std.proofs.Common.{◌≡◌, ℕ, ◌+◌, ◌-◌, ◌≤◌, Bool, true, false, if◌then◌else◌, List, ◌++◌, length, take, drop, refl, sym, ◌∙◌, ap, arith, append_assoc, length-append, length-drop, length-take-le}
 use Rattle.std.proofs.Math.Seq.{take-append_seam, drop-append_seam, drop-append-add}
 use Rattle.std.proofs.lemmas.List.{take-append-drop, drop-drop}
+use Rattle.sl_fields.specs.Fecf.{fecf_len}
 use Rattle.sl_fields.specs.TmHeader.{tm_header}
-use Rattle.sl_tmframe.specs.TmFrame.{TmFormat, TmParts, ArePartsOf, header_of, control_len, fecf_len, field_len, parts_of}
+use Rattle.sl_fields.proofs.FecfLemmas.{fecf_len_le}
+use Rattle.sl_tmframe.specs.TmFrame.{TmFormat, TmParts, ArePartsOf, header_of, control_len, field_len, parts_of}
 
 -- a list in four parts, of which three have these lengths
 four_parts : (a b c : ℕ) (xs : List ℕ) → xs ≡ take a xs ++ take b (drop a xs) ++ take c (drop (a + b) xs) ++ drop (a + b + c) xs
@@ -24,8 +26,8 @@ pub has_parts : (format : TmFormat) (frame : List ℕ) → 12 ≤ format.len →
 has_parts format frame room whole =
     let f : ℕ = field_len format frame in
     let control : control_len frame ≤ 4 = either_le (header_of frame).control 4 in
-    let fecf : fecf_len format ≤ 2 = either_le format.fecf 2 in
-    let field : field_len format frame ≡ length frame - 6 - control_len frame - fecf_len format = refl in
+    let fecf : fecf_len format.fecf ≤ 2 = fecf_len_le format.fecf in
+    let field : field_len format frame ≡ length frame - 6 - control_len frame - fecf_len format.fecf = refl in
     let behind = length-drop (6 + field_len format frame) frame in
     let end = length-drop (6 + field_len format frame + control_len frame) frame in
     let fits : control_len frame ≤ length (drop (6 + field_len format frame) frame) = omega arith in
@@ -71,7 +73,7 @@ only_parts format frame p a =
     ap length a.in_order ∙ length-append (p.header ++ p.field ++ p.control) p.fecf
     ∙ omega (arith, length-append (p.header ++ p.field) p.control, length-append p.header p.field) in
     let h6 = a.header in
-    let fecf : fecf_len format ≡ length p.fecf = sym a.fecf in
+    let fecf : fecf_len format.fecf ≡ length p.fecf = sym a.fecf in
     let field : field_len format frame ≡ length p.field = omega arith in
     let third : take (length p.field) (drop 6 frame) ≡ p.field =
     ap (λ n. take (length p.field) (drop n frame)) (sym h6) ∙ ap (λ l. take (length p.field) (drop (length p.header) l)) a.in_order ∙ cut.1 in

@@ -1,9 +1,11 @@
 -- A frame read from its octets, part by part.
 use Rattle.std.proofs.Common.{◌≡◌, ℕ, ◌+◌, ◌-◌, ◌≤◌, Bool, true, false, List, length, take, drop, Option, Some, None, Ok, refl, sym, ◌∙◌, ap, arith, if◌then◌else◌, length-drop, length-take-le}
 use Rattle.std.proofs.lemmas.List.{drop-drop, drop-take, take-take}
+use Rattle.sl_fields.specs.Fecf.{fecf_len}
 use Rattle.sl_fields.specs.TmHeader.{TmFields}
+use Rattle.sl_fields.proofs.FecfLemmas.{fecf_len_le}
 use Rattle.sl_tmframe.proofs.PartLemmas.{either_le}
-use Rattle.sl_tmframe.specs.TmFrame.{TmFormat, TmView, DataField, header_of, fecf_len, class_of, view_of, skip_reason, read_as, tm_frame}
+use Rattle.sl_tmframe.specs.TmFrame.{TmFormat, TmView, DataField, header_of, class_of, view_of, skip_reason, read_as, tm_frame}
 
 -- Octets in which `last` come last and `word` before them, all after the first six: those between are the
 -- octets after the first six without both,
@@ -38,7 +40,7 @@ control_lies false frame covered last room is_covered = refl
 abbrev view_with : TmFormat → List ℕ → TmFields → TmView
 view_with format frame h =
     let word : ℕ = if h.control then 4 else 0 in
-    let room : ℕ = length frame - 6 - word - fecf_len format in
+    let room : ℕ = length frame - 6 - word - fecf_len format.fecf in
     record {
       vc = h.vc;
       mc_count = h.mc;
@@ -52,14 +54,14 @@ pub read_parts : (format : TmFormat) (spacecraft : ℕ) (frame covered field : L
     → 12 ≤ length frame
     → skip_reason format spacecraft frame ≡ None
     → h ≡ header_of frame
-    → covered ≡ take (length (drop 6 frame) - fecf_len format) (drop 6 frame)
+    → covered ≡ take (length (drop 6 frame) - fecf_len format.fecf) (drop 6 frame)
     → field ≡ take (length covered - (if h.control then 4 else 0)) covered
     → control ≡ (if h.control then Some (drop (length covered - 4) covered) else None)
     → class ≡ class_of h field
     → Ok (record { vc = h.vc; mc_count = h.mc; vc_count = h.vcc; control = control; field = class }) ≡ tm_frame format spacecraft frame
 read_parts format spacecraft frame covered field h control class room kept header covered_by field_by control_by class_by =
-    let last : fecf_len format ≤ 2 = either_le format.fecf 2 in
-    let carried = class_by ∙ ap (class_of h) (field_by ∙ field_lies frame covered (fecf_len format) (if h.control then 4 else 0) covered_by) in
-    let word = control_by ∙ control_lies h.control frame covered (fecf_len format) (omega arith) covered_by in
+    let last : fecf_len format.fecf ≤ 2 = fecf_len_le format.fecf in
+    let carried = class_by ∙ ap (class_of h) (field_by ∙ field_lies frame covered (fecf_len format.fecf) (if h.control then 4 else 0) covered_by) in
+    let word = control_by ∙ control_lies h.control frame covered (fecf_len format.fecf) (omega arith) covered_by in
     let shown : record { vc = h.vc; mc_count = h.mc; vc_count = h.vcc; control = control; field = class } ≡ view_with format frame h = rw (carried, word) refl in
     ap Ok (shown ∙ ap (view_with format frame) header) ∙ ap (λ reason. read_as reason (view_of format frame)) (sym kept)

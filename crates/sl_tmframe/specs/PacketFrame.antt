@@ -1,14 +1,13 @@
 -- The TM transfer frame of packets that is written: without an operational control field, a secondary
 -- header or the synchronisation flag.
 use Rattle.std.specs.Prelude.{◌≡◌, ℕ, ◌-◌, ◌<◌, ◌≤◌, false, if◌then◌else◌, List, [], ◌∷◌, ◌++◌, length, Option, None, Some, IfSome, Ok}
-use Rattle.sl_fields.specs.Fecf.{fecf_of}
-use Rattle.sl_fields.specs.Field.{octets_of}
+use Rattle.sl_fields.specs.Fecf.{fecf_len, with_fecf}
 use Rattle.sl_fields.specs.TmHeader.{TmFields, tm_octets}
-use Rattle.sl_tmframe.specs.TmFrame.{TmFormat, TmView, Packets, fecf_len, tm_frame}
+use Rattle.sl_tmframe.specs.TmFrame.{TmFormat, TmView, Packets, tm_frame}
 
 -- the octets of a data field, where there is no operational control field
 abbrev pub room_of : TmFormat → ℕ
-room_of format = format.len - 6 - fecf_len format
+room_of format = format.len - 6 - fecf_len format.fecf
 
 -- the first header pointer, 2047 where no packet starts in the data field
 abbrev pub pointer_value : Option ℕ → ℕ
@@ -31,14 +30,10 @@ packet_frame_header spacecraft vc mc vcc first =
       first = pointer_value first;
     }
 
--- octets, and their error control field where the format has it
-abbrev pub with_fecf : TmFormat → List ℕ → List ℕ
-with_fecf format octets = octets ++ (if format.fecf then octets_of 2 ((16, fecf_of octets) ∷ []) else [])
-
 -- a frame of packets, with its counts, its first header pointer and its data field
 abbrev pub packet_frame : TmFormat → ℕ → ℕ → ℕ → ℕ → Option ℕ → List ℕ → List ℕ
 packet_frame format spacecraft vc mc vcc first field =
-    with_fecf format (tm_octets (packet_frame_header spacecraft vc mc vcc first) ++ field)
+    with_fecf format.fecf (tm_octets (packet_frame_header spacecraft vc mc vcc first) ++ field)
 
 -- ---- laws
 

@@ -1,7 +1,7 @@
 -- The TM transfer frame, CCSDS 132.0-B: its parts, why one is skipped, and what it carries.
 use Rattle.std.specs.Prelude.{◌≡◌, ⊤, ℕ, ◌+◌, ◌-◌, ◌<◌, ◌≤◌, ◌==◌, nat_lt, Bool, not, ◌&&◌, ◌||◌, if◌then◌else◌, List, ◌++◌, length, take, drop, Option, None, Some, IfSome, Result, Ok, Err}
 use Rattle.sl_fields.specs.Field.{number_of}
-use Rattle.sl_fields.specs.Fecf.{fecf_of}
+use Rattle.sl_fields.specs.Fecf.{fecf_of, fecf_len}
 use Rattle.sl_fields.specs.TmHeader.{TmFields, tm_header}
 use Rattle.sl_tmframe.specs.declared.tm_frame.TmSkip.{TmSkip}
 use Rattle.sl_tmframe.specs.declared.tm_frame.TmSkip.TheVariants.{Fecf, Version, Spacecraft}
@@ -28,22 +28,19 @@ pub record ArePartsOf (format : TmFormat) (frame : List ℕ) (p : TmParts) : Typ
   pub in_order : frame ≡ p.header ++ p.field ++ p.control ++ p.fecf
   pub header : length p.header ≡ 6
   pub control : length p.control ≡ (if (tm_header p.header).control then 4 else 0)
-  pub fecf : length p.fecf ≡ (if format.fecf then 2 else 0)
+  pub fecf : length p.fecf ≡ fecf_len format.fecf
 
 -- the header that a frame begins with
 abbrev pub header_of : List ℕ → TmFields
 header_of frame = tm_header (take 6 frame)
 
--- the octets of the error control field, and of the operational control field
-abbrev pub fecf_len : TmFormat → ℕ
-fecf_len format = if format.fecf then 2 else 0
-
+-- the octets of the operational control field
 abbrev pub control_len : List ℕ → ℕ
 control_len frame = if (header_of frame).control then 4 else 0
 
 -- the octets of the data field
 abbrev pub field_len : TmFormat → List ℕ → ℕ
-field_len format frame = length frame - 6 - control_len frame - fecf_len format
+field_len format frame = length frame - 6 - control_len frame - fecf_len format.fecf
 
 -- the parts, by where they lie
 abbrev pub parts_of : TmFormat → List ℕ → TmParts

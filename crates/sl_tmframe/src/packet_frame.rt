@@ -1,13 +1,10 @@
 //! The TM transfer frame of packets, as it is written.
 ghost use Rattle.std.specs.Prelude.{◌≡◌, ◌<◌, ◌≤◌, ◌++◌, [], ◌∷◌, length, IfSome, OnOk, OnErr};
-ghost use Rattle.sl_fields.specs.Fecf.{fecf_of};
-ghost use Rattle.sl_fields.specs.Field.{octets_of};
 ghost use Rattle.sl_fields.specs.TmHeader.{tm_octets};
 ghost use Rattle.sl_tmframe.specs.PacketFrame.{packet_frame, packet_frame_header, room_of};
 
 use crate::tm_shape::TmShape;
-use byteorder::{BigEndian, ByteOrder};
-use sl_fields::{TmHeader, fecf};
+use sl_fields::{TmHeader, fecf_field};
 use std::alloc::AllocError;
 
 /// The first header pointer of a frame in which no packet starts.
@@ -61,13 +58,4 @@ fn frame_header(spacecraft: u16, vc: u8, mc: u8, vcc: u8, first: Option<u16>) ->
         Some(header) => header.write(),
         None => unreachable!(),
     }
-}
-
-// The error control field of the octets of a frame before it.
-fn fecf_field(octets: &[u8]) -> [u8; 2]
-    ensures { result ≡ octets_of 2 ((16, fecf_of octets.now) ∷ []) }
-{
-    let mut field = [0; 2];
-    BigEndian::write_u16(&mut field, fecf(octets));
-    field
 }

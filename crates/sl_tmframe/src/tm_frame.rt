@@ -4,7 +4,7 @@ ghost use Rattle.sl_tmframe.specs.TmFrame.{header_of, class_of, skip_reason, IsI
 ghost use Rattle.sl_tmframe.specs.TmField.{data_field};
 
 use crate::tm_shape::TmShape;
-use sl_fields::{TmHeader, fecf_good};
+use sl_fields::{TmHeader, fecf_good, without_fecf};
 use std::marker::Model;
 
 /// Why a TM transfer frame is skipped: the first of these that holds.
@@ -68,7 +68,7 @@ impl<'a> TmFrame<'a> {
         if let Some(reason) = skip_of(shape, &header, spacecraft, octets) {
             return Err(reason);
         }
-        let (field, control) = split_control(&header, before_fecf(has_fecf, behind));
+        let (field, control) = split_control(&header, without_fecf(has_fecf, behind));
         Ok(TmFrame {
             header,
             control,
@@ -144,21 +144,6 @@ fn skip_of(shape: &TmShape, header: &TmHeader, spacecraft: u16, octets: &[u8]) -
         return Some(TmSkip::Spacecraft);
     }
     None
-}
-
-// The octets after the header without the error control field.
-#[inline(always)]
-fn before_fecf<'a>(has_fecf: bool, behind: &'a [u8]) -> &'a [u8]
-    requires { 2 ≤ length behind.now }
-    ensures { result.now ≡ take (length behind.now - (if has_fecf then 2 else 0)) behind.now }
-{
-    if !has_fecf {
-        return behind;
-    }
-    match behind.split_last_chunk::<2>() {
-        Some((covered, _)) => covered,
-        None => unreachable!(),
-    }
 }
 
 // The data field and the operational control field of the octets after the header.

@@ -1,7 +1,7 @@
 use super::faulty::{Interrupted, Unflushed, Unreadable, Unwritable};
 use super::normalise::{FIRST, TEN, TEN_FILLED, octets};
 use super::outcome::{Outcome, text, words};
-use crate::command_line::{Kind, Options, Request, Verb, parse};
+use crate::command_line::{Engine, Options, Request, parse};
 use crate::{Counted, run};
 use std::test::Fail;
 
@@ -17,40 +17,77 @@ const NORMALISE_WITH_FECF: &str = "sllink normalise tm --scid 1 --tm-length 34 -
 
 const RECORDING: &[u8] = &[0, 0];
 
+// The options where only a spacecraft identifier is given.
+const LEAST: Options = Options {
+    spacecraft: 7,
+    tm_length: 1115,
+    tc_length: 1024,
+    tm_fecf: false,
+    tc_fecf: false,
+    window: 10,
+    vr: 0,
+    max_octets: 1_073_741_824,
+};
+
 #[test]
 fn command_lines_are_read(rt: HostRuntime) -> Result<(), Fail> {
     let cases = [
-        (
-            "sllink show tm --scid 7",
-            Verb::Show,
-            7,
-            1115,
-            false,
-            1_073_741_824,
-        ),
+        ("sllink show tm --scid 7", Engine::ShowTm, LEAST),
+        ("sllink show tc --scid 7", Engine::ShowTc, LEAST),
+        ("sllink normalise tm --scid 7", Engine::NormaliseTm, LEAST),
         (
             "any show --limit=9 --tm-length 0 tm --scid=65535",
-            Verb::Show,
-            65_535,
-            0,
-            false,
-            9,
-        ),
-        (NORMALISE, Verb::Normalise, 1, 32, false, 1_073_741_824),
-        (WITH_FECF, Verb::Show, 1, 34, true, 1_073_741_824),
-    ];
-    for (line, verb, spacecraft, tm_length, tm_fecf, max_octets) in cases {
-        let words = words(rt.alloc(), line)?;
-        let request = Request {
-            verb,
-            kind: Kind::Tm,
-            options: Options {
-                spacecraft,
-                tm_length,
-                tm_fecf,
-                max_octets,
+            Engine::ShowTm,
+            Options {
+                spacecraft: 65_535,
+                tm_length: 0,
+                max_octets: 9,
+                ..LEAST
             },
-        };
+        ),
+        (
+            WITH_FECF,
+            Engine::ShowTm,
+            Options {
+                spacecraft: 1,
+                tm_length: 34,
+                tm_fecf: true,
+                ..LEAST
+            },
+        ),
+        (
+            "sllink show --tc-fecf tc --scid 7",
+            Engine::ShowTc,
+            Options {
+                tc_fecf: true,
+                ..LEAST
+            },
+        ),
+        (
+            "sllink show tc --scid 7 --tc-length 16",
+            Engine::ShowTc,
+            Options {
+                tc_length: 16,
+                ..LEAST
+            },
+        ),
+        (
+            "sllink show tc --scid 7 --window 11",
+            Engine::ShowTc,
+            Options {
+                window: 11,
+                ..LEAST
+            },
+        ),
+        (
+            "sllink normalise tm --scid 7 --vr=255",
+            Engine::NormaliseTm,
+            Options { vr: 255, ..LEAST },
+        ),
+    ];
+    for (line, engine, options) in cases {
+        let words = words(rt.alloc(), line)?;
+        let request = Request { engine, options };
         assert_eq!(rt; parse(rt.alloc(), words.as_slice())?, request, "{line}");
     }
     Ok(())
@@ -64,7 +101,7 @@ fn wrong_command_lines_are_refused(rt: HostRuntime) -> Result<(), Fail> {
         "sllink tell tm --scid 1",
         "sllink help tell",
         "sllink show --scid 1",
-        "sllink show tc --scid 1",
+        "sllink show tx --scid 1",
         "sllink normalise --scid 1",
         "sllink normalise tc --scid 1",
         "sllink normalise tm",
@@ -78,9 +115,15 @@ fn wrong_command_lines_are_refused(rt: HostRuntime) -> Result<(), Fail> {
         "sllink show tm --scid 1 --scid 1",
         "sllink show tm --scid 1 --tm-length 65536",
         "sllink show tm --scid 1 --limit 18446744073709551616",
-        "sllink show tm --scid 1 --window 10",
+        "sllink show tm --scid 1 --spare 10",
+        "sllink show tc --scid 1 --tc-length 65536",
+        "sllink show tc --scid 1 --window 256",
+        "sllink show tc --scid 1 --vr 256",
+        "sllink show tc --scid 1 --vr=-1",
         "sllink show tm --scid 1 --tm-fecf --tm-fecf",
         "sllink show tm --scid 1 --tm-fecf=1",
+        "sllink show tc --scid 1 --tc-fecf=1",
+        "sllink show tc --scid 1 --tc-fecf --tc-fecf",
         "sllink show tm --scid 1 --tm-fecf yes",
     ];
     for line in lines {
@@ -97,14 +140,21 @@ fn refused_parameters_are_named(rt: HostRuntime) -> Result<(), Fail> {
     let cases = [
         ("--scid 1024 --limit 0", "sllink: managed: spacecraft\n"),
         ("--scid 1 --tm-length 31", "sllink: managed: tm length\n"),
+        (
+            "--scid 1 --tc-length 15 --limit 0",
+            "sllink: managed: tc length\n",
+        ),
+        ("--scid 1 --window 11", "sllink: managed: window\n"),
         ("--scid 1 --limit 0", "sllink: managed: limit\n"),
     ];
     for (options, said) in cases {
-        for verb in ["show", "normalise"] {
-            let line = format!(in rt.alloc(); "sllink {verb} tm {options}")?;
-            let outcome = Outcome::of(rt.alloc(), line.as_str(), RECORDING)?;
+        for engine in ["show tm", "show tc", "normalise tm"] {
+            let line = format!(in rt.alloc(); "sllink {engine} {options}")?;
+            // A read would be a fault.
+            let mut writer = Counted::new(Unwritable);
+            let outcome = Outcome::with(rt.alloc(), line.as_str(), Unreadable, &mut writer)?;
             assert!(rt; outcome.says(2, said), "{outcome:?}");
-            assert!(rt; outcome.output.is_empty());
+            assert_eq!(rt; writer.faults(), 0);
         }
     }
     Ok(())
@@ -126,6 +176,36 @@ fn help_is_printed(rt: HostRuntime) -> Result<(), Fail> {
         let outcome = Outcome::of(rt.alloc(), line, RECORDING)?;
         assert!(rt; outcome.says(0, ""), "{line}");
         assert!(rt; text(outcome.output.as_slice()).contains(usage), "{line}");
+    }
+    Ok(())
+}
+
+#[test]
+fn help_names_each_option(rt: HostRuntime) -> Result<(), Fail> {
+    let options = [
+        "--scid <ID>",
+        "--tm-length <OCTETS>",
+        "--tc-length <OCTETS>",
+        "--tm-fecf",
+        "--tc-fecf",
+        "--window <WIDTH>",
+        "--vr <NUMBER>",
+        "--limit <OCTETS>",
+    ];
+    let cases = [
+        ("sllink show --help", "[possible values: tm, tc]"),
+        ("sllink normalise --help", "[possible values: tm]"),
+    ];
+    for (line, kinds) in cases {
+        let outcome = Outcome::of(rt.alloc(), line, RECORDING)?;
+        let mut left = text(outcome.output.as_slice());
+        assert!(rt; left.contains(kinds), "{left}");
+        // In this order.
+        for option in options {
+            let (_, behind) = left.split_once(option).unwrap_or(("", ""));
+            assert!(rt; !behind.is_empty(), "{line} {option}");
+            left = behind;
+        }
     }
     Ok(())
 }

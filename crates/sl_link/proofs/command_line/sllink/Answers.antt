@@ -12,7 +12,9 @@ returns c =
     let bare : app_of c.subcommand_required.result ≡ record { top = record (new_shape (codes "sllink")) { subcommand_required = true }; subs = [] } = search rules in
     let one = c.in_ok-subcommand.ensures.shape c.in_ok-show.ensures.local ∙ ap₂ with_subcommand bare show in
     IfOk-weaker c.subcommand-2.result _ _ (λ command h. record {
-      kinds = _;
-      named = refl;
+      shown = _;
+      shown_named = refl;
+      normalised = _;
+      normalised_named = refl;
       same = h.shape c.in_ok-normalise.ensures.local ∙ ap₂ with_subcommand one normalise;
     }) c.subcommand-2.ensures

@@ -1,6 +1,7 @@
 use Rattle.std.proofs.Common.{ℕ, ◌-◌, ◌∙◌, List, length, take, drop, sym, ap, arith, if◌then◌else◌}
 use Rattle.sl_tmframe.specs.TmField.{data_field}
-use Rattle.sl_tmframe.specs.TmFrame.{TmFormat, fecf_len}
+use Rattle.sl_fields.specs.Fecf.{fecf_len}
+use Rattle.sl_tmframe.specs.TmFrame.{TmFormat}
 use Rattle.sl_tmframe.proofs.TmFrameLemmas.{read_parts}
 use Rattle.sl_tmframe.proofs.tm_frame.TmFrame.read.Goals as goal
 
@@ -8,7 +9,7 @@ pub returns : goal.returns
 returns c =
     let frame = c.args.octets.now in
     let header = c.split_header-header in
-    let covered = c.before_fecf in
+    let covered = c.without_fecf in
     let parts = c.split_control-control in
     let least = c.shape.invariant.least in
     let format = c.shape.view_is in
@@ -17,8 +18,8 @@ returns c =
     (omega arith)
     (sym c.in_default.ensures)
     header.ensures.header
-    (covered.ensures ∙ ap (λ (b : List ℕ). take (length b - (if c.shape.inside.fecf then 2 else 0)) b) header.ensures.behind
-    ∙ ap (λ (f : TmFormat). take (length (drop 6 frame) - fecf_len f) (drop 6 frame)) format)
+    (covered.ensures ∙ ap (λ (b : List ℕ). take (length b - fecf_len c.shape.inside.fecf) b) header.ensures.behind
+    ∙ ap (λ (f : TmFormat). take (length (drop 6 frame) - fecf_len f.fecf) (drop 6 frame)) format)
     parts.ensures.field
     parts.ensures.control
     c.data_field_of.ensures.class

@@ -1,0 +1,2 @@
+pub mod FarmLemmas
+pub mod FarmFacts

@@ -1,0 +1,37 @@
+-- A `Window` is its width, which is even and 2 to 254. A `Farm` is its window and its state.
+use Rattle.std.specs.Prelude.{ℕ, ◌<◌, ◌≤◌}
+use Rattle.sl_cop.specs.Farm.{FarmView, IsWidth}
+use Rattle.sl_cop.specs.declared.window.Window.TheInside as window
+use Rattle.sl_cop.specs.declared.farm.Farm.TheInside as farm
+
+abbrev pub width_of : window.Inside → ℕ
+width_of w = w.width
+
+pub record IsWindow (w : window.Inside) : Type 0 where
+  pub even : IsWidth w.width
+  pub most : w.width ≤ 254
+
+abbrev pub window_of : ℕ → window.Inside
+window_of w = record { width = w }
+
+abbrev pub view_of : farm.Inside → FarmView
+view_of f =
+    record {
+      window = f.window;
+      state = record { vr = f.vr; lockout = f.lockout; retransmit = f.retransmit; farm_b = f.farm_b };
+    }
+
+pub record IsFarm (f : farm.Inside) : Type 0 where
+  pub even : IsWidth f.window
+  pub most : f.window ≤ 254
+  pub farm_b : f.farm_b < 4
+
+abbrev pub inside_of : FarmView → farm.Inside
+inside_of v =
+    record {
+      window = v.window;
+      vr = v.state.vr;
+      lockout = v.state.lockout;
+      retransmit = v.state.retransmit;
+      farm_b = v.state.farm_b;
+    }

@@ -1,0 +1,37 @@
+//! The sliding window of FARM-1.
+ghost use Rattle.std.specs.Prelude.{SomeIff};
+ghost use Rattle.sl_cop.specs.Farm.{IsWidth};
+
+use std::marker::Model;
+
+/// The width of the sliding window (W). Its positive part and its negative part are half of it each.
+#[derive(Clone, Copy, Debug, PartialEq, Eq)]
+pub struct Window {
+    pub(crate) width: u8,
+}
+
+impl Model for Window {
+    ghost use Rattle.std.specs.Prelude.{ℕ};
+
+    ghost Value = { ℕ };
+
+    ghost use Rattle.sl_cop.specs.FarmModel.{width_of, window_of, IsWindow};
+
+    ghost view = { width_of };
+
+    ghost invariant = { IsWindow };
+
+    ghost inverse = { window_of };
+}
+
+impl Window {
+    /// The window of this width, 2 to 254, `None` exactly for 0 and for odd numbers.
+    pub fn new(w: u8) -> Option<Window>
+        ensures { SomeIff result (IsWidth w) w }
+    {
+        if w == 0 || w % 2 == 1 {
+            return None;
+        }
+        Some(Window { width: w })
+    }
+}

@@ -1,0 +1,29 @@
+-- The segment header of a TC transfer frame's data field, CCSDS 232.0-B: one octet.
+use Rattle.std.specs.Prelude.{ℕ, ◌^◌, ◌<◌, List, [], ◌∷◌}
+use Rattle.sl_fields.specs.Field.{field, octets_of}
+
+-- the fields of the header, in their order
+pub record SegmentFields : Type 0 where
+  pub flags : ℕ
+  pub map : ℕ
+
+-- each field is within the range of its bits
+pub record FitsSegmentHeader (h : SegmentFields) : Type 0 where
+  pub flags : h.flags < 2 ^ 2
+  pub map : h.map < 2 ^ 6
+
+-- the header that one octet is
+abbrev pub segment_header : List ℕ → SegmentFields
+segment_header octets =
+    record {
+      flags = field 1 0 2 octets;
+      map = field 1 2 6 octets;
+    }
+
+-- the fields with their widths
+abbrev pub segment_fields : SegmentFields → List (ℕ × ℕ)
+segment_fields h = (2, h.flags) ∷ (6, h.map) ∷ []
+
+-- the octet that is the header with these fields
+abbrev pub segment_octets : SegmentFields → List ℕ
+segment_octets h = octets_of 1 (segment_fields h)

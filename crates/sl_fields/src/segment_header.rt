@@ -1,0 +1,87 @@
+//! The segment header of a TC transfer frame.
+ghost use Rattle.std.specs.Prelude.{◌≡◌, ℕ, ◌^◌, ◌<◌, List, length, SomeIff};
+ghost use Rattle.sl_fields.specs.Field.{IsOctets};
+ghost use Rattle.sl_fields.specs.SegmentHeader.{SegmentFields, segment_header, FitsSegmentHeader, segment_octets};
+
+use crate::bits::{field, pack};
+use byteorder::{BigEndian, ByteOrder};
+use std::marker::Model;
+
+/// The segment header of CCSDS 232.0-B, one octet at the front of a TC transfer frame's data field.
+#[derive(Clone, Copy, Debug, PartialEq, Eq)]
+pub struct SegmentHeader {
+    flags: u8,
+    map: u8,
+}
+
+impl Model for SegmentHeader {
+    ghost use Rattle.sl_fields.specs.SegmentHeader.{SegmentFields};
+
+    ghost Value = { SegmentFields };
+
+    ghost use Rattle.sl_fields.specs.SegmentHeaderModel.{fields_of, inside_of, IsSegmentHeader};
+
+    ghost view = { fields_of };
+
+    ghost invariant = { IsSegmentHeader };
+
+    ghost inverse = { inside_of };
+}
+
+impl SegmentHeader {
+    /// The header with these fields, `None` exactly where one is out of the range of its bits: `flags`
+    /// 0 to 3, `map` 0 to 63.
+    pub fn new(flags: u8, map: u8) -> Option<SegmentHeader>
+        ensures { let fields : SegmentFields = record {
+          flags = flags;
+          map = map;
+        } in SomeIff result (FitsSegmentHeader fields) fields }
+    {
+        let fits = flags < 4 && map < 64;
+        if !fits {
+            return None;
+        }
+        Some(SegmentHeader { flags, map })
+    }
+
+    /// The header that the octet is.
+    pub fn read(octets: &[u8; 1]) -> SegmentHeader
+        ensures { result ≡ segment_header octets.now }
+    {
+        let number = u64::from(octets[0]);
+        SegmentHeader {
+            flags: field(number, 6, 2) as u8,
+            map: field(number, 0, 6) as u8,
+        }
+    }
+
+    /// Sequence flags: 1 first, 0 continuing, 2 last, 3 no segmentation.
+    pub fn flags(&self) -> u8
+        ensures value { result ≡ self.now.flags }
+        ensures fits { result < 2 ^ 2 }
+    {
+        self.flags
+    }
+
+    /// Multiplexer access point identifier (MAP ID), 0 to 63.
+    pub fn map(&self) -> u8
+        ensures value { result ≡ self.now.map }
+        ensures fits { result < 2 ^ 6 }
+    {
+        self.map
+    }
+
+    /// The octet of the header.
+    pub fn write(&self) -> [u8; 1]
+        // It reads as this header,
+        ensures reads_back { segment_header result ≡ self.now }
+        // and no other does.
+        ensures only { (octets : List ℕ) → length octets ≡ 1 → IsOctets octets → segment_header octets ≡ self.now → octets ≡ result }
+        ensures octets { result ≡ segment_octets self.now }
+    {
+        let number = pack(&[(2, self.flags as u64), (6, self.map as u64)]);
+        let mut octets = [0; 1];
+        BigEndian::write_uint(&mut octets, number, 1);
+        octets
+    }
+}

@@ -1,0 +1,177 @@
+//! The primary header of a TC transfer frame.
+ghost use Rattle.std.specs.Prelude.{◌≡◌, ℕ, ◌^◌, ◌<◌, List, length, SomeIff};
+ghost use Rattle.sl_fields.specs.Field.{IsOctets};
+ghost use Rattle.sl_fields.specs.TcHeader.{TcFields, tc_header, FitsTcHeader, tc_octets};
+
+use crate::bits::{field, flag, pack};
+use byteorder::{BigEndian, ByteOrder};
+use std::marker::Model;
+
+/// The TC transfer frame primary header of CCSDS 232.0-B, five octets.
+#[derive(Clone, Copy, Debug, PartialEq, Eq)]
+pub struct TcHeader {
+    version: u8,
+    bypass: bool,
+    command: bool,
+    spare: u8,
+    spacecraft: u16,
+    vc: u8,
+    length: u16,
+    ns: u8,
+}
+
+impl Model for TcHeader {
+    ghost use Rattle.sl_fields.specs.TcHeader.{TcFields};
+
+    ghost Value = { TcFields };
+
+    ghost use Rattle.sl_fields.specs.TcHeaderModel.{fields_of, inside_of, IsTcHeader};
+
+    ghost view = { fields_of };
+
+    ghost invariant = { IsTcHeader };
+
+    ghost inverse = { inside_of };
+}
+
+impl TcHeader {
+    /// The header with these fields, `None` exactly where one is out of the range of its bits:
+    /// `version` and `spare` 0 to 3, `spacecraft` and `length` 0 to 1023, `vc` 0 to 63.
+    pub fn new(
+        version: u8,
+        bypass: bool,
+        command: bool,
+        spare: u8,
+        spacecraft: u16,
+        vc: u8,
+        length: u16,
+        ns: u8,
+    ) -> Option<TcHeader>
+        ensures { let fields : TcFields = record {
+          version = version;
+          bypass = bypass;
+          command = command;
+          spare = spare;
+          spacecraft = spacecraft;
+          vc = vc;
+          length = length;
+          ns = ns;
+        } in SomeIff result (FitsTcHeader fields) fields }
+    {
+        let fits = version < 4 && spare < 4 && spacecraft < 1024 && vc < 64 && length < 1024;
+        if !fits {
+            return None;
+        }
+        Some(TcHeader {
+            version,
+            bypass,
+            command,
+            spare,
+            spacecraft,
+            vc,
+            length,
+            ns,
+        })
+    }
+
+    /// The header that the octets are.
+    pub fn read(octets: &[u8; 5]) -> TcHeader
+        ensures { result ≡ tc_header octets.now }
+    {
+        let number = BigEndian::read_uint(octets, 5);
+        TcHeader {
+            version: field(number, 38, 2) as u8,
+            bypass: flag(number, 37),
+            command: flag(number, 36),
+            spare: field(number, 34, 2) as u8,
+            spacecraft: field(number, 24, 10) as u16,
+            vc: field(number, 18, 6) as u8,
+            length: field(number, 8, 10) as u16,
+            ns: field(number, 0, 8) as u8,
+        }
+    }
+
+    /// Transfer frame version number, 0 for a TC transfer frame.
+    pub fn version(&self) -> u8
+        ensures value { result ≡ self.now.version }
+        ensures fits { result < 2 ^ 2 }
+    {
+        self.version
+    }
+
+    /// Bypass flag: the frame bypasses the frame acceptance checks (Type-B).
+    pub fn bypass(&self) -> bool
+        ensures { result ≡ self.now.bypass }
+    {
+        self.bypass
+    }
+
+    /// Control command flag: the frame carries a control command (Type-C), not data (Type-D).
+    pub fn command(&self) -> bool
+        ensures { result ≡ self.now.command }
+    {
+        self.command
+    }
+
+    /// Reserved spare, 0 to 3.
+    pub fn spare(&self) -> u8
+        ensures value { result ≡ self.now.spare }
+        ensures fits { result < 2 ^ 2 }
+    {
+        self.spare
+    }
+
+    /// Spacecraft identifier, 0 to 1023.
+    pub fn spacecraft(&self) -> u16
+        ensures value { result ≡ self.now.spacecraft }
+        ensures fits { result < 2 ^ 10 }
+    {
+        self.spacecraft
+    }
+
+    /// Virtual channel identifier, 0 to 63.
+    pub fn vc(&self) -> u8
+        ensures value { result ≡ self.now.vc }
+        ensures fits { result < 2 ^ 6 }
+    {
+        self.vc
+    }
+
+    /// Frame length, 0 to 1023: the octets of the frame, minus 1.
+    pub fn length(&self) -> u16
+        ensures value { result ≡ self.now.length }
+        ensures fits { result < 2 ^ 10 }
+    {
+        self.length
+    }
+
+    /// Frame sequence number, N(S).
+    pub fn ns(&self) -> u8
+        ensures { result ≡ self.now.ns }
+    {
+        self.ns
+    }
+
+    /// The five octets of the header.
+    pub fn write(&self) -> [u8; 5]
+        // They read as this header,
+        ensures reads_back { tc_header result ≡ self.now }
+        // and no others do.
+        ensures only { (octets : List ℕ) → length octets ≡ 5 → IsOctets octets → tc_header octets ≡ self.now → octets ≡ result }
+        ensures octets { result ≡ tc_octets self.now }
+    {
+        let number = pack(&[
+            (2, self.version as u64),
+            (1, self.bypass as u64),
+            (1, self.command as u64),
+            (2, self.spare as u64),
+            (10, self.spacecraft as u64),
+            (6, self.vc as u64),
+            (10, self.length as u64),
+            (8, self.ns as u64),
+        ]);
+        let mut octets = [0; 5];
+        BigEndian::write_uint(&mut octets, number, 5);
+        octets
+    }
+}

@@ -1,0 +1,64 @@
+//! What the listings of frames share: lines that are not written yet, and the line of a remainder.
+ghost use Rattle.std.specs.Prelude.{◌≡◌, ◌≤◌, ◌++◌, [], length, codes, decimal, IfErr, OnOk};
+ghost use Rattle.sl_link.specs.Line.{line_at, remainder_line};
+ghost use Rattle.sl_link.specs.Streams.{AddsText, WritesText, StopsWriting};
+
+use crate::counted::Counted;
+use crate::lines::Lines;
+use crate::link_fault::LinkFault;
+use crate::streams::write_text;
+use std::io::Write;
+
+/// Room for one line more.
+#[inline(always)]
+pub fn make_room<W: Write>(writer: &mut Counted<W>, lines: &mut Lines) -> Result<(), LinkFault>
+    ensures kept { OnOk result (AddsText W.contents writer.old writer.new lines.old lines.new []) }
+    ensures room { OnOk result (length lines.new ≤ 3840) }
+    ensures fault { IfErr result (StopsWriting W.contents writer.old writer.new lines.old) }
+{
+    if !lines.is_full() {
+        return Ok(());
+    }
+    flush(writer, lines)?;
+    Ok(())
+}
+
+/// Writes the lines so far.
+pub fn flush<W: Write>(writer: &mut Counted<W>, lines: &mut Lines) -> Result<(), LinkFault>
+    ensures written { OnOk result (WritesText W.contents writer.old writer.new lines.old) }
+    ensures emptied { OnOk result (lines.new ≡ []) }
+    ensures fault { IfErr result (StopsWriting W.contents writer.old writer.new lines.old) }
+{
+    write_text(writer, lines.octets())?;
+    lines.clear();
+    Ok(())
+}
+
+/// The remainder, where there is one.
+pub fn show_rest<W: Write>(
+    writer: &mut Counted<W>,
+    lines: &mut Lines,
+    offset: u64,
+    octets: u64,
+) -> Result<(), LinkFault>
+    requires { lines.old ≡ [] }
+    ensures line { OnOk result (WritesText W.contents writer.old writer.new (remainder_line offset octets)) }
+    ensures fault { IfErr result (StopsWriting W.contents writer.old writer.new (remainder_line offset octets)) }
+{
+    if octets == 0 {
+        return Ok(());
+    }
+    rest_line(lines, offset, octets);
+    flush(writer, lines)
+}
+
+// Adds the line of a remainder of so many octets at this offset.
+fn rest_line(lines: &mut Lines, offset: u64, octets: u64)
+    requires { length lines.old ≤ 3840 }
+    ensures { lines.new ≡ lines.old ++ line_at offset (codes " rest " ++ decimal octets) }
+{
+    lines.push_number(offset);
+    lines.push(b" rest ");
+    lines.push_number(octets);
+    lines.push(b"\n");
+}

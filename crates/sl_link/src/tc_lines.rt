@@ -1,0 +1,172 @@
+//! The lines of a TC recording's listing.
+ghost use Rattle.std.specs.Prelude.{◌≡◌, ◌+◌, ◌≤◌, ◌<◌, ◌-◌, ◌++◌, codes, length};
+ghost use Rattle.sl_tcframe.specs.TcContent.{content};
+ghost use Rattle.sl_tcframe.specs.TcFrame.{IsContent};
+ghost use Rattle.sl_cop.specs.Farm.{farm_step};
+ghost use Rattle.sl_link.specs.ChannelFarm.{event_of};
+ghost use Rattle.sl_link.specs.Line.{line_at};
+ghost use Rattle.sl_link.specs.ShowTc.{tc_skip_word, flags_word, header_at, unit_text, content_text, verdict_word, step_text, tc_view_text, tc_frame_text};
+ghost use Rattle.sl_link.specs.TcListing.{farm_at, farm_states, farms_after, farms_with};
+
+use crate::farms::Farms;
+use crate::lines::Lines;
+use sl_cop::{FarmEvent, Verdict};
+use sl_fields::SegmentHeader;
+use sl_tcframe::{TcContent, TcFrame, TcSkip};
+
+/// Adds the line of a frame at this offset, which FARM-1 of its virtual channel takes unless it is skipped.
+pub fn tc_frame_line(
+    lines: &mut Lines,
+    offset: u64,
+    farms: &mut Farms,
+    read: &Result<TcFrame, TcSkip>,
+)
+    requires { length lines.old ≤ 3840 }
+    ensures line { lines.new ≡ lines.old ++ line_at offset (tc_frame_text (farm_at farms.old) read.now) }
+    ensures farms { farms.new ≡ farms_after farms.old read.now }
+{
+    lines.push_number(offset);
+    match read {
+        Ok(frame) => push_view(lines, farms, frame),
+        Err(reason) => push_skip(lines, *reason),
+    }
+    lines.push(b"\n");
+}
+
+fn push_skip(lines: &mut Lines, reason: TcSkip)
+    requires { length lines.old ≤ 3860 }
+    ensures text { lines.new ≡ lines.old ++ (codes " skip " ++ tc_skip_word reason) }
+    ensures short { length lines.new ≤ length lines.old + 16 }
+{
+    lines.push(b" skip ");
+    lines.push(match reason {
+        TcSkip::Fecf => b"fecf",
+        TcSkip::Version => b"version",
+        TcSkip::Spacecraft => b"spacecraft",
+        TcSkip::Long => b"long",
+        TcSkip::Kind => b"kind",
+        TcSkip::Empty => b"empty",
+        TcSkip::Command => b"command",
+    });
+}
+
+fn push_view(lines: &mut Lines, farms: &mut Farms, frame: &TcFrame)
+    requires { length lines.old ≤ 3860 }
+    ensures text { lines.new ≡ lines.old ++ tc_view_text (farm_at farms.old frame.now.vc) frame.now }
+    ensures farms { farms.new ≡ farms_with farms.old frame.now.vc (event_of frame.now.content) }
+    ensures short { length lines.new ≤ length lines.old + 120 }
+{
+    let content = frame.content();
+    lines.push(b" frame vc ");
+    lines.push_octet(frame.vc());
+    lines.push(b" ");
+    push_content(lines, content);
+    lines.push(b" ");
+    push_step(lines, farms, frame.vc(), event(&content));
+}
+
+// What a frame is to FARM-1.
+fn event(carried: &TcContent) -> FarmEvent
+    ensures { result ≡ event_of (content carried.now) }
+{
+    match *carried {
+        TcContent::Ad { ns, .. } => FarmEvent::Ad(ns),
+        TcContent::Bd { .. } => FarmEvent::Bd,
+        TcContent::Unlock => FarmEvent::Unlock,
+        TcContent::SetVr(vr) => FarmEvent::SetVr(vr),
+    }
+}
+
+// Takes a frame of the virtual channel, and adds what became of it and the CLCW after it.
+fn push_step(lines: &mut Lines, farms: &mut Farms, vc: u8, event: FarmEvent)
+    requires room { length lines.old ≤ 3960 }
+    requires vc { vc ≤ 63 }
+    ensures text { lines.new ≡ lines.old ++ step_text vc (farm_step (farm_at farms.old vc).window (farm_states farms.old vc) event) }
+    ensures farms { farms.new ≡ farms_with farms.old vc event }
+    ensures short { length lines.new ≤ length lines.old + 24 }
+{
+    let verdict = farms.step(vc, event);
+    push_verdict(lines, verdict);
+    lines.push(b" clcw ");
+    lines.push_hex(&farms.clcw(vc).write());
+}
+
+fn push_verdict(lines: &mut Lines, verdict: Verdict)
+    requires { length lines.old ≤ 4000 }
+    ensures text { lines.new ≡ lines.old ++ verdict_word verdict }
+    ensures short { length lines.new ≤ length lines.old + 8 }
+{
+    lines.push(match verdict {
+        Verdict::Accept => b"accept",
+        Verdict::Early => b"early",
+        Verdict::Late => b"late",
+        Verdict::Outside => b"outside",
+        Verdict::Refused => b"refused",
+        Verdict::Command => b"command",
+    });
+}
+
+fn push_content(lines: &mut Lines, carried: TcContent)
+    requires room { length lines.old ≤ 3880 }
+    requires unit { IsContent (content carried) }
+    ensures text { lines.new ≡ lines.old ++ content_text (content carried.entry) }
+    ensures short { length lines.new ≤ length lines.old + 70 }
+{
+    match carried {
+        TcContent::Ad { ns, unit } => {
+            lines.push(b"ad ");
+            lines.push_octet(ns);
+            push_unit(lines, unit);
+        }
+        TcContent::Bd { unit } => {
+            lines.push(b"bd");
+            push_unit(lines, unit);
+        }
+        TcContent::Unlock => lines.push(b"unlock"),
+        TcContent::SetVr(vr) => {
+            lines.push(b"setvr ");
+            lines.push_octet(vr);
+        }
+    }
+}
+
+fn push_unit(lines: &mut Lines, unit: &[u8])
+    requires room { length lines.old ≤ 3900 }
+    requires some { 0 < length unit.now }
+    ensures text { lines.new ≡ lines.old ++ unit_text unit.now }
+    ensures short { length lines.new ≤ length lines.old + 60 }
+{
+    let (header, octets) = split_segment(unit);
+    lines.push(b" segment ");
+    push_flags(lines, header.flags());
+    lines.push(b" map ");
+    lines.push_octet(header.map());
+    lines.push(b" octets ");
+    lines.push_number(octets.len() as u64);
+}
+
+// The segment header of a unit, and the octets after it.
+fn split_segment(unit: &[u8]) -> (SegmentHeader, &[u8])
+    requires { 0 < length unit.now }
+    ensures header { result.0 ≡ header_at unit.now }
+    ensures octets { length result.1.now ≡ length unit.now - 1 }
+{
+    match unit.split_first_chunk::<1>() {
+        Some((header, octets)) => (SegmentHeader::read(header), octets),
+        None => unreachable!(),
+    }
+}
+
+fn push_flags(lines: &mut Lines, flags: u8)
+    requires room { length lines.old ≤ 4000 }
+    requires fits { flags < 4 }
+    ensures text { lines.new ≡ lines.old ++ flags_word flags }
+    ensures short { length lines.new ≤ length lines.old + 6 }
+{
+    lines.push(match flags {
+        0 => b"middle",
+        1 => b"first",
+        2 => b"last",
+        _ => b"whole",
+    });
+}

@@ -1,0 +1,113 @@
+-- A frame of type AD as it is made, and as it is read back.
+use Rattle.std.proofs.Common.{◌≡◌, ℕ, ◌+◌, ◌<◌, ◌≤◌, ◌==◌, nat_lt, Bool, true, false, not, ◌&&◌, List, [], ◌∷◌, ◌++◌, length, Option, Some, None, Ok, if◌then◌else◌, refl, sym, ◌∙◌, ap, arith, append_assoc, length-append}
+use Rattle.std.proofs.lemmas.Bool.{eq-eqb, ne_eqb, le-ltb}
+use Rattle.sl_fields.specs.Fecf.{fecf_part, fecf_is_good, with_fecf}
+use Rattle.sl_fields.specs.Field.{packed}
+use Rattle.sl_fields.specs.SegmentHeader.{SegmentFields, segment_fields, segment_octets}
+use Rattle.sl_fields.specs.TcHeader.{TcFields, FitsTcHeader, tc_header, tc_fields, tc_octets}
+use Rattle.sl_fields.proofs.FecfLemmas.{fecf_len_le, length-fecf_part, length-with_fecf, with_fecf_good}
+use Rattle.sl_fields.proofs.HeaderLayout.{reads_back}
+use Rattle.sl_fields.proofs.Octets.{length-octets_of}
+use Rattle.sl_fields.proofs.Packing.{packed_lt}
+use Rattle.sl_fields.proofs.TcHeaderLemmas.{tc_layout}
+use Rattle.sl_tcframe.specs.declared.tc_frame.TcSkip.{TcSkip}
+use Rattle.sl_tcframe.specs.declared.tc_frame.TcSkip.TheVariants.{Fecf, Version, Spacecraft, Long, Kind, Empty}
+use Rattle.sl_tcframe.specs.TcFrame.{TcFormat, TcParts, ArePartsOf, Ad, header_of, parts_of, is_cut, content_of, unit_of, early_reason, read_as, tc_frame}
+use Rattle.sl_tcframe.specs.AdFrame.{FitAdFrame, ad_header, ad_len, ad_frame}
+use Rattle.sl_tcframe.proofs.PartLemmas.{only_parts, parts_cut}
+
+-- octets are not skipped for the error control field that is theirs
+good_if : (has : Bool) (octets : List ℕ) → 0 < length octets → (has && not (fecf_is_good (with_fecf has octets))) ≡ false
+good_if false octets some = refl
+good_if true octets some = ap not (with_fecf_good octets some)
+
+-- a data field of one octet or more under a header of type AD
+unit_is : (h : TcFields) (field : List ℕ) → h.bypass ≡ false → 0 < length field → unit_of h field ≡ Some (Ad h.ns field)
+unit_is h [] kept some = absurd (omega arith)
+unit_is h (octet ∷ octets) kept some = rw kept refl
+
+-- why a frame under this header with this data field is skipped whose error control field isn't wrong
+abbrev reason_by : ℕ → ℕ → ℕ → TcFields → List ℕ → Option TcSkip
+reason_by spacecraft max len h field =
+    if not (h.version == 0) then Some Version
+    else if not (h.spacecraft == spacecraft) then Some Spacecraft
+    else if nat_lt max len then Some Long
+    else if not h.bypass && h.command then Some Kind
+    else if length field == 0 then Some Empty
+    else None
+
+module _ (format : TcFormat) (spacecraft vc ns : ℕ) (segment : SegmentFields) (octets : List ℕ) (fit : FitAdFrame format spacecraft vc ns segment octets) where
+  abbrev len : ℕ
+  len = ad_len format (length octets)
+
+  abbrev h : TcFields
+  h = ad_header spacecraft vc ns len
+
+  abbrev unit : List ℕ
+  unit = segment_octets segment ++ octets
+
+  abbrev frame : List ℕ
+  frame = ad_frame format spacecraft vc ns segment octets
+
+  abbrev covered : List ℕ
+  covered = tc_octets h ++ segment_octets segment ++ octets
+
+  abbrev made_of : TcParts
+  made_of = record { header = tc_octets h; field = unit; fecf = fecf_part format.fecf covered }
+
+  length-unit : length unit ≡ 1 + length octets
+  length-unit = omega (arith, length-append (segment_octets segment) octets, length-octets_of 1 (segment_fields segment))
+
+  length-covered : length covered ≡ 6 + length octets
+  length-covered = omega (arith, length-append (tc_octets h ++ segment_octets segment) octets, length-append (tc_octets h) (segment_octets segment), length-octets_of 5 (tc_fields h), length-octets_of 1 (segment_fields segment))
+
+  pub length-ad_frame : length frame ≡ len
+  length-ad_frame = omega (arith, length-with_fecf format.fecf covered, length-covered)
+
+  pub within : len ≤ format.max
+  within = let inside = fit.inside in let least = fit.least in omega (arith, fecf_len_le format.fecf)
+
+  header_fits : FitsTcHeader h
+  header_fits = record {
+    version = omega arith;
+    spare = omega arith;
+    spacecraft = let s = fit.spacecraft_fits in omega arith;
+    vc = let v = fit.vc_fits in omega arith;
+    length = let m = fit.most in let w = within in omega arith;
+    ns = fit.ns_fits;
+  }
+
+  header_back : tc_header (tc_octets h) ≡ h
+  header_back = reads_back tc_layout h (packed (tc_fields h)) header_fits (packed_lt (tc_fields h) (tc_layout.fit h header_fits)) refl
+
+  made_of_parts : ArePartsOf format frame made_of
+  made_of_parts = record {
+    in_order = ap (λ l. l ++ fecf_part format.fecf covered) (append_assoc (tc_octets h) (segment_octets segment) octets);
+    header = length-octets_of 5 (tc_fields h);
+    fecf = length-fecf_part format.fecf covered;
+    stated = length-ad_frame ∙ stated ∙ ap (λ (g : TcFields). g.length + 1) (sym header_back);
+  }
+    where
+      stated : len ≡ h.length + 1
+      stated = omega arith
+
+  pub ad_frame_cut : is_cut format frame ≡ true
+  ad_frame_cut = parts_cut format frame made_of made_of_parts
+
+  pub ad_frame_back : tc_frame format spacecraft frame ≡ Ok (record { vc = vc; content = Ad ns unit })
+  ad_frame_back =
+      let parts = only_parts format frame made_of made_of_parts in
+      let header : header_of frame ≡ h = ap (λ (p : TcParts). tc_header p.header) parts ∙ header_back in
+      let field : (parts_of format frame).field ≡ unit = ap (λ (p : TcParts). p.field) parts in
+      let good = good_if format.fecf covered (omega (arith, length-covered)) in
+      let small : nat_lt format.max (length frame) ≡ false = le-ltb format.max (length frame) (let w = within in omega (arith, length-ad_frame)) in
+      let some : (length unit == 0) ≡ false = ne_eqb (length unit) 0 (λ e. omega (arith, length-unit)) in
+      let kept : early_reason format spacecraft frame ≡ None =
+      ap (λ bad. if bad then Some Fecf else reason_by spacecraft format.max (length frame) (header_of frame) (parts_of format frame).field) good
+      ∙ ap (λ g. reason_by spacecraft format.max (length frame) g (parts_of format frame).field) header
+      ∙ ap (λ f. reason_by spacecraft format.max (length frame) h f) field
+      ∙ rw (eq-eqb spacecraft spacecraft refl, small, some) refl in
+      let carried : content_of (header_of frame) (parts_of format frame).field ≡ Some (Ad ns unit) =
+      ap (λ g. content_of g (parts_of format frame).field) header ∙ ap (content_of h) field ∙ unit_is h unit refl (omega (arith, length-unit)) in
+      ap (λ reason. read_as reason (header_of frame) (content_of (header_of frame) (parts_of format frame).field)) kept
+      ∙ ap (λ c. read_as None (header_of frame) c) carried ∙ ap (λ g. read_as None g (Some (Ad ns unit))) header

@@ -1,0 +1,12 @@
+pub mod AdFrame
+pub mod TcContent
+pub mod TcDelimited
+pub mod TcFrame
+pub mod TcFrameModel
+pub mod TcShape
+pub mod TcShapeModel
+pub use Rattle.sl_fields.specs.Fecf
+pub use Rattle.sl_fields.specs.Field
+pub use Rattle.sl_fields.specs.SegmentHeader
+pub use Rattle.sl_fields.specs.Shape
+pub use Rattle.sl_fields.specs.TcHeader

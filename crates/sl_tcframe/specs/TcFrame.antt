@@ -1,0 +1,197 @@
+-- The TC transfer frame, CCSDS 232.0-B: its parts, why one is skipped, and what it carries.
+use Rattle.std.specs.Prelude.{◌≡◌, ◌≢◌, ⊤, ℕ, ◌+◌, ◌-◌, ◌<◌, ◌≤◌, ◌==◌, nat_lt, Bool, true, false, not, ◌&&◌, if◌then◌else◌, List, [], ◌∷◌, ◌++◌, length, take, drop, Option, None, Some, Result, Ok, Err}
+use Rattle.sl_fields.specs.Fecf.{fecf_is_good, fecf_len}
+use Rattle.sl_fields.specs.TcHeader.{TcFields, tc_header}
+use Rattle.sl_tcframe.specs.declared.tc_frame.TcSkip.{TcSkip}
+use Rattle.sl_tcframe.specs.declared.tc_frame.TcSkip.TheVariants.{Fecf, Version, Spacecraft, Long, Kind, Empty, Command}
+
+-- the managed format of a physical channel's frames: how many octets one has at most, and whether its
+-- last two are a frame error control field
+pub record TcFormat : Type 0 where
+  pub max : ℕ
+  pub fecf : Bool
+
+-- ---- the parts
+
+pub record TcParts : Type 0 where
+  pub header : List ℕ
+  pub field : List ℕ
+  pub fecf : List ℕ
+
+-- The primary header has five octets; the data field follows; then the frame error control field, two
+-- octets where the format has it. The frame length field is the octets of the whole frame minus 1.
+pub record ArePartsOf (format : TcFormat) (frame : List ℕ) (p : TcParts) : Type 0 where
+  pub in_order : frame ≡ p.header ++ p.field ++ p.fecf
+  pub header : length p.header ≡ 5
+  pub fecf : length p.fecf ≡ fecf_len format.fecf
+  pub stated : length frame ≡ (tc_header p.header).length + 1
+
+-- the header that a frame begins with
+abbrev pub header_of : List ℕ → TcFields
+header_of frame = tc_header (take 5 frame)
+
+-- the octets of a frame without a data field, the fewest that a frame can have
+abbrev pub least_of : TcFormat → ℕ
+least_of format = 5 + fecf_len format.fecf
+
+-- the octets of the frame that begins here, as its frame length field states them
+abbrev pub stated_len : List ℕ → ℕ
+stated_len octets = (header_of octets).length + 1
+
+-- octets that are one frame by the frame length field
+abbrev pub is_cut : TcFormat → List ℕ → Bool
+is_cut format octets = not (nat_lt (length octets) (least_of format)) && length octets == stated_len octets
+
+-- the octets of the data field
+abbrev pub field_len : TcFormat → List ℕ → ℕ
+field_len format frame = length frame - 5 - fecf_len format.fecf
+
+-- the parts, by where they lie
+abbrev pub parts_of : TcFormat → List ℕ → TcParts
+parts_of format frame =
+    record {
+      header = take 5 frame;
+      field = take (field_len format frame) (drop 5 frame);
+      fecf = drop (5 + field_len format frame) frame;
+    }
+
+-- ---- what a frame carries
+
+-- A frame of type AD or BD carries a unit, its whole data field: a segment header and the octets after it.
+-- One of type BC carries a control command for FARM-1: Unlock, or Set V(R) with the value to be set.
+pub data Content : Type 0 where
+  Ad : (ns : ℕ) (unit : List ℕ) → Content
+  Bd : (unit : List ℕ) → Content
+  Unlock : Content
+  SetVr : (vr : ℕ) → Content
+
+-- What a data field under this header carries. The bypass flag and the control command flag tell the type:
+-- 0 and 0 is AD, 1 and 0 is BD, 1 and 1 is BC. The frame sequence number counts in type AD alone. A unit
+-- has one octet or more; Unlock is one octet of zeros, and Set V(R) is `82 00` and the value.
+abbrev pub Carries : TcFields → List ℕ → Content → Type 0
+Carries h field (Ad ns unit) =
+    (h.bypass ≡ false) × (h.command ≡ false) × (field ≢ []) × (ns ≡ h.ns) × (unit ≡ field)
+Carries h field (Bd unit) = (h.bypass ≡ true) × (h.command ≡ false) × (field ≢ []) × (unit ≡ field)
+Carries h field Unlock = (h.bypass ≡ true) × (h.command ≡ true) × (field ≡ 0x00 ∷ [])
+Carries h field (SetVr vr) = (h.bypass ≡ true) × (h.command ≡ true) × (field ≡ 0x82 ∷ 0x00 ∷ vr ∷ [])
+
+-- the control command that a data field is
+abbrev pub command_of : List ℕ → Option Content
+command_of [] = None
+command_of (code ∷ []) = if code == 0x00 then Some Unlock else None
+command_of (code ∷ second ∷ []) = None
+command_of (code ∷ second ∷ third ∷ []) = if code == 0x82 && second == 0x00 then Some (SetVr third) else None
+command_of (code ∷ second ∷ third ∷ fourth ∷ more) = None
+
+-- the unit that a data field is, in a frame of type AD or BD
+abbrev pub unit_of : TcFields → List ℕ → Option Content
+unit_of h [] = None
+unit_of h (octet ∷ octets) = Some (if h.bypass then Bd (octet ∷ octets) else Ad h.ns (octet ∷ octets))
+
+-- what a data field carries, where it carries something
+abbrev pub content_of : TcFields → List ℕ → Option Content
+content_of h field =
+    if not h.command then unit_of h field
+    else if h.bypass then command_of field
+    else None
+
+-- ---- whether a frame is skipped
+
+-- Why a frame is skipped: a wrong error control field where the format has one; another version than 0;
+-- another spacecraft; more octets than the managed length; the control command flag without the bypass
+-- flag; no data field; and a frame of type BC that is no control command.
+abbrev pub HasReason : TcFormat → ℕ → List ℕ → TcSkip → Type 0
+HasReason format spacecraft frame Fecf = (format.fecf ≡ true) × (fecf_is_good frame ≡ false)
+HasReason format spacecraft frame Version = (header_of frame).version ≢ 0
+HasReason format spacecraft frame Spacecraft = (header_of frame).spacecraft ≢ spacecraft
+HasReason format spacecraft frame Long = format.max < length frame
+HasReason format spacecraft frame Kind = ((header_of frame).bypass ≡ false) × ((header_of frame).command ≡ true)
+HasReason format spacecraft frame Empty = (parts_of format frame).field ≡ []
+HasReason format spacecraft frame Command =
+    ((header_of frame).bypass ≡ true) × ((header_of frame).command ≡ true)
+    × ((content : Content) → Carries (header_of frame) (parts_of format frame).field content → ⊥)
+
+-- the reasons in the order in which they are looked for
+abbrev pub order_of : TcSkip → ℕ
+order_of Fecf = 1
+order_of Version = 2
+order_of Spacecraft = 3
+order_of Long = 4
+order_of Kind = 5
+order_of Empty = 6
+order_of Command = 7
+
+-- the first of these reasons that holds, but for the last
+abbrev pub early_reason : TcFormat → ℕ → List ℕ → Option TcSkip
+early_reason format spacecraft frame =
+    if format.fecf && not (fecf_is_good frame) then Some Fecf
+    else if not ((header_of frame).version == 0) then Some Version
+    else if not ((header_of frame).spacecraft == spacecraft) then Some Spacecraft
+    else if nat_lt format.max (length frame) then Some Long
+    else if not (header_of frame).bypass && (header_of frame).command then Some Kind
+    else if length (parts_of format frame).field == 0 then Some Empty
+    else None
+
+-- ---- a frame as it is read for a spacecraft
+
+-- what a frame shows to whoever reads it
+pub record TcView : Type 0 where
+  pub vc : ℕ
+  pub content : Content
+
+-- a frame is skipped for the first reason that holds, and is read where none does
+abbrev pub IsReadAs : TcFormat → ℕ → List ℕ → Result TcView TcSkip → Type 0
+IsReadAs format spacecraft frame (Ok view) =
+    ((reason : TcSkip) → HasReason format spacecraft frame reason → ⊥) × (view.vc ≡ (header_of frame).vc)
+    × Carries (header_of frame) (parts_of format frame).field view.content
+IsReadAs format spacecraft frame (Err reason) =
+    HasReason format spacecraft frame reason
+    × ((earlier : TcSkip) → order_of earlier < order_of reason → HasReason format spacecraft frame earlier → ⊥)
+
+-- what is read under this header, or why it is skipped
+abbrev pub read_as : Option TcSkip → TcFields → Option Content → Result TcView TcSkip
+read_as (Some reason) h content = Err reason
+read_as None h (Some content) = Ok (record { vc = h.vc; content = content })
+read_as None h None = Err Command
+
+abbrev pub tc_frame : TcFormat → ℕ → List ℕ → Result TcView TcSkip
+tc_frame format spacecraft frame =
+    read_as (early_reason format spacecraft frame) (header_of frame) (content_of (header_of frame) (parts_of format frame).field)
+
+-- a unit has 1 to 1019 octets
+abbrev pub IsContent : Content → Type 0
+IsContent (Ad ns unit) = (0 < length unit) × (length unit ≤ 1019)
+IsContent (Bd unit) = (0 < length unit) × (length unit ≤ 1019)
+IsContent Unlock = ⊤
+IsContent (SetVr vr) = ⊤
+
+-- what is so of each frame that is read
+pub record IsInRange (view : TcView) : Type 0 where
+  pub vc : view.vc ≤ 63
+  pub content : IsContent view.content
+
+-- ---- laws
+
+-- octets that are one frame by their length field have these parts,
+abbrev pub EachHasParts : Type 0
+EachHasParts = (format : TcFormat) (frame : List ℕ) → is_cut format frame ≡ true → ArePartsOf format frame (parts_of format frame)
+
+-- no others,
+abbrev pub HasPartsOnce : Type 0
+HasPartsOnce = (format : TcFormat) (frame : List ℕ) (p : TcParts) → ArePartsOf format frame p → parts_of format frame ≡ p
+
+-- and no other octets have parts
+abbrev pub OnlyFramesHaveParts : Type 0
+OnlyFramesHaveParts = (format : TcFormat) (frame : List ℕ) (p : TcParts) → ArePartsOf format frame p → is_cut format frame ≡ true
+
+-- each frame is read, or skipped, as this says,
+abbrev pub EachIsRead : Type 0
+EachIsRead =
+    (format : TcFormat) (spacecraft : ℕ) (frame : List ℕ)
+    → IsReadAs format spacecraft frame (tc_frame format spacecraft frame)
+
+-- and in no other way
+abbrev pub IsReadOnce : Type 0
+IsReadOnce =
+    (format : TcFormat) (spacecraft : ℕ) (frame : List ℕ) (read : Result TcView TcSkip)
+    → IsReadAs format spacecraft frame read → tc_frame format spacecraft frame ≡ read

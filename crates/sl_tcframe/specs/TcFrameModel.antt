@@ -1,0 +1,10 @@
+-- A `TcFrame` is what it shows, which is in range.
+use Rattle.sl_tcframe.specs.TcFrame.{TcView, IsInRange}
+use Rattle.sl_tcframe.specs.TcContent.{content}
+use Rattle.sl_tcframe.specs.declared.tc_frame.TcFrame.TheInside.{Inside}
+
+abbrev pub inside_view : Inside → TcView
+inside_view f = record { vc = f.vc; content = content f.content }
+
+abbrev pub IsTcFrame : Inside → Type 0
+IsTcFrame f = IsInRange (inside_view f)

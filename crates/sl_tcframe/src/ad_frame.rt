@@ -1,0 +1,66 @@
+//! The TC transfer frame of type AD, as it is written.
+ghost use Rattle.std.specs.Prelude.{◌≡◌, ◌≤◌, ◌++◌, length, OnOk, OnErr};
+ghost use Rattle.sl_fields.specs.TcHeader.{tc_octets};
+ghost use Rattle.sl_tcframe.specs.AdFrame.{ad_frame, ad_header, ad_len, room_of};
+
+use crate::tc_shape::TcShape;
+use sl_fields::{SegmentHeader, TcHeader, fecf_field};
+use std::alloc::AllocError;
+
+/// Adds a frame of type AD: the segment header, and `octets` of the segment after it, none to as many as the
+/// format has room for. `spacecraft` is 0 to 1023 and `vc` 0 to 63; `ns` is the frame sequence number N(S).
+///
+/// The frame has version 0, bypass flag 0, control command flag 0 and spare bits 0, and its error control
+/// field where the format has one. It leaves `out` as it was where memory is refused.
+pub fn push_tc(
+    out: &mut Vec<u8>,
+    shape: &TcShape,
+    spacecraft: u16,
+    vc: u8,
+    ns: u8,
+    header: SegmentHeader,
+    octets: &[u8],
+) -> Result<(), AllocError>
+    requires spacecraft { spacecraft ≤ 1023 }
+    requires vc { vc ≤ 63 }
+    requires segment { length octets.now ≤ room_of shape.now }
+    ensures added { OnOk result (out.new.items ≡ out.old.items ++ ad_frame shape.now spacecraft vc ns header octets.now) }
+    ensures unchanged { OnErr result (out.new.items ≡ out.old.items) }
+{
+    let start = out.len();
+    let len = frame_len(shape, octets);
+    out.reserve(usize::from(len))?;
+    out.extend_from_slice(&frame_header(spacecraft, vc, ns, len))?;
+    out.extend_from_slice(&header.write())?;
+    out.extend_from_slice(octets)?;
+    if !shape.fecf {
+        return Ok(());
+    }
+    let field = fecf_field(&out.as_slice()[start..]);
+    out.extend_from_slice(&field)
+}
+
+// Octets of the frame of a segment with these octets after its header.
+fn frame_len(shape: &TcShape, octets: &[u8]) -> u16
+    requires { length octets.now ≤ room_of shape.now }
+    ensures value { result ≡ ad_len shape.now (length octets.now) }
+    ensures least { 6 ≤ result }
+    ensures most { result ≤ 1024 }
+{
+    let around = if shape.fecf { 8 } else { 6 };
+    around + octets.len() as u16
+}
+
+// The header of a frame of type AD with so many octets.
+fn frame_header(spacecraft: u16, vc: u8, ns: u8, len: u16) -> [u8; 5]
+    requires spacecraft { spacecraft ≤ 1023 }
+    requires vc { vc ≤ 63 }
+    requires least { 1 ≤ len }
+    requires most { len ≤ 1024 }
+    ensures { result ≡ tc_octets (ad_header spacecraft vc ns len) }
+{
+    match TcHeader::new(0, false, false, 0, spacecraft, vc, len - 1, ns) {
+        Some(header) => header.write(),
+        None => unreachable!(),
+    }
+}

@@ -1,0 +1,32 @@
+//! What holds of the definitions alone. Each function does nothing; its clauses are the laws.
+ghost use Rattle.sl_tcframe.specs.AdFrame.{AdFramesAreWhole, AdFramesAreReadBack};
+ghost use Rattle.sl_tcframe.specs.TcDelimited.{EachIsTcDelimited, IsTcDelimitedOnce};
+ghost use Rattle.sl_tcframe.specs.TcFrame.{EachHasParts, HasPartsOnce, OnlyFramesHaveParts, EachIsRead, IsReadOnce};
+
+/// Octets that are one frame by their frame length field have the parts of a TC frame, in one way, and no
+/// other octets have them.
+pub fn tc_frames_have_parts()
+    ensures each { EachHasParts }
+    ensures once { HasPartsOnce }
+    ensures only { OnlyFramesHaveParts }
+{}
+
+/// A frame is skipped for the first of the reasons that hold; where none does, it has one content.
+pub fn tc_frames_are_read()
+    ensures each { EachIsRead }
+    ensures once { IsReadOnce }
+{}
+
+/// Every list of octets is a recording: frames end to end by their frame length fields and a remainder with
+/// which no frame begins, in one way.
+pub fn tc_recordings_are_delimited()
+    ensures each { EachIsTcDelimited }
+    ensures once { IsTcDelimitedOnce }
+{}
+
+/// A frame of type AD is one by its frame length field, and is read back: it isn't skipped, and its virtual
+/// channel, its N(S) and its unit are those that it was made of.
+pub fn ad_frames_are_read_back()
+    ensures whole { AdFramesAreWhole }
+    ensures read_back { AdFramesAreReadBack }
+{}

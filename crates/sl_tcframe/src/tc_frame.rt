@@ -1,0 +1,190 @@
+//! The TC transfer frame, as it is read.
+ghost use Rattle.std.specs.Prelude.{◌≡◌, ◌+◌, ◌-◌, ◌<◌, ◌≤◌, true, length, drop, option_map, IfSome};
+ghost use Rattle.sl_tcframe.specs.TcFrame.{header_of, command_of, content_of, early_reason, is_cut, parts_of, IsContent};
+ghost use Rattle.sl_tcframe.specs.TcContent.{content};
+
+use crate::tc_shape::TcShape;
+use sl_fields::{TcHeader, fecf_good, without_fecf};
+use std::marker::Model;
+
+/// Why a TC transfer frame is skipped: the first of these that holds.
+#[derive(Clone, Copy, Debug, PartialEq, Eq)]
+pub enum TcSkip {
+    /// Its frame error control field is wrong, where frames have one.
+    Fecf,
+    /// Its version isn't 0.
+    Version,
+    /// It is another spacecraft's.
+    Spacecraft,
+    /// It has more octets than frames may have.
+    Long,
+    /// It has the control command flag without the bypass flag, which is no type of frame.
+    Kind,
+    /// It has no data field.
+    Empty,
+    /// It is of type BC, and its data field is no control command.
+    Command,
+}
+
+/// What a TC transfer frame carries.
+#[derive(Clone, Copy, Debug)]
+pub enum TcContent<'a> {
+    /// A unit under the acceptance checks of FARM-1.
+    Ad {
+        /// Frame sequence number N(S).
+        ns: u8,
+        /// The segment header and the octets of the segment.
+        unit: &'a [u8],
+    },
+    /// A unit that bypasses the acceptance checks.
+    Bd {
+        /// The segment header and the octets of the segment.
+        unit: &'a [u8],
+    },
+    /// The control command Unlock.
+    Unlock,
+    /// The control command Set V(R), with the value to be set.
+    SetVr(u8),
+}
+
+/// A TC transfer frame of CCSDS 232.0-B: its virtual channel, and what it carries.
+#[derive(Debug, Drop)]
+pub struct TcFrame<'a> {
+    vc: u8,
+    content: TcContent<'a>,
+}
+
+impl<'a> Model for TcFrame<'a> {
+    ghost use Rattle.sl_tcframe.specs.TcFrame.{TcView};
+
+    ghost Value = { TcView };
+
+    ghost use Rattle.sl_tcframe.specs.TcFrameModel.{inside_view, IsTcFrame};
+
+    ghost view = { inside_view };
+
+    ghost invariant = { IsTcFrame };
+}
+
+impl<'a> TcFrame<'a> {
+    ghost use Rattle.sl_tcframe.specs.TcFrame.{tc_frame};
+
+    /// Reads a frame of this format and spacecraft from octets that are one by their frame length field, or
+    /// tells why it is skipped. Its unit is borrowed from the octets.
+    pub fn read(shape: &TcShape, spacecraft: u16, octets: &'a [u8]) -> Result<TcFrame<'a>, TcSkip>
+        requires cut { is_cut shape.now octets.now ≡ true }
+        ensures { result ≡ tc_frame shape.now spacecraft octets.now }
+    {
+        let (header, behind) = split_header(octets);
+        let field = without_fecf(shape.fecf, behind);
+        if let Some(reason) = early_skip_of(shape, &header, spacecraft, octets, field) {
+            return Err(reason);
+        }
+        match content_under(&header, field) {
+            Some(content) => Ok(TcFrame {
+                vc: header.vc(),
+                content,
+            }),
+            None => Err(TcSkip::Command),
+        }
+    }
+
+    /// Virtual channel identifier, 0 to 63.
+    pub fn vc(&self) -> u8
+        ensures value { result ≡ self.now.vc }
+        ensures fits { result ≤ 63 }
+    {
+        self.vc
+    }
+
+    /// What the frame carries. A unit has 1 to 1019 octets.
+    pub fn content(&self) -> TcContent<'a>
+        ensures value { content result ≡ self.now.content }
+        ensures inside { IsContent (content result) }
+    {
+        self.content
+    }
+}
+
+// The primary header and the octets after it.
+#[inline(always)]
+fn split_header(octets: &[u8]) -> (TcHeader, &[u8])
+    requires { 5 ≤ length octets.now }
+    ensures header { result.0 ≡ header_of octets.now }
+    ensures behind { result.1.now ≡ drop 5 octets.now }
+{
+    match octets.split_first_chunk::<5>() {
+        Some((header, behind)) => (TcHeader::read(header), behind),
+        None => unreachable!(),
+    }
+}
+
+// The first reason to skip a frame under this header with this data field, but for a wrong command.
+#[inline(always)]
+fn early_skip_of(
+    shape: &TcShape,
+    header: &TcHeader,
+    spacecraft: u16,
+    octets: &[u8],
+    field: &[u8],
+) -> Option<TcSkip>
+    requires header { header.now ≡ header_of octets.now }
+    requires field { field.now ≡ (parts_of shape.now octets.now).field }
+    ensures { result ≡ early_reason shape.now spacecraft octets.now }
+{
+    if shape.fecf && !fecf_good(octets) {
+        return Some(TcSkip::Fecf);
+    }
+    if header.version() != 0 {
+        return Some(TcSkip::Version);
+    }
+    if header.spacecraft() != spacecraft {
+        return Some(TcSkip::Spacecraft);
+    }
+    if octets.len() > usize::from(shape.max) {
+        return Some(TcSkip::Long);
+    }
+    if !header.bypass() && header.command() {
+        return Some(TcSkip::Kind);
+    }
+    if field.is_empty() {
+        return Some(TcSkip::Empty);
+    }
+    None
+}
+
+// What a data field under this header carries, where it carries something.
+#[inline(always)]
+fn content_under<'a>(header: &TcHeader, field: &'a [u8]) -> Option<TcContent<'a>>
+    requires { length field.now ≤ 1019 }
+    ensures value { option_map content result ≡ content_of header.now field.now }
+    ensures inside { IfSome result (λ c. IsContent (content c)) }
+{
+    if header.command() {
+        if header.bypass() {
+            control_command(field)
+        } else {
+            None
+        }
+    } else if field.is_empty() {
+        None
+    } else if header.bypass() {
+        Some(TcContent::Bd { unit: field })
+    } else {
+        Some(TcContent::Ad {
+            ns: header.ns(),
+            unit: field,
+        })
+    }
+}
+
+// The control command that a data field is.
+fn control_command(field: &[u8]) -> Option<TcContent<'static>>
+    ensures { option_map content result ≡ command_of field.now }
+{
+    match *field {
+        [0x00] => Some(TcContent::Unlock),
+        [0x82, 0x00, vr] => Some(TcContent::SetVr(vr)),
+        _ => None,
+    }
+}

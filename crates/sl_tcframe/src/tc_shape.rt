@@ -1,0 +1,95 @@
+//! The managed format of TC transfer frames.
+ghost use Rattle.std.specs.Prelude.{◌≡◌, ◌+◌, ◌≤◌, length};
+ghost use Rattle.sl_tcframe.specs.AdFrame.{room_of};
+ghost use Rattle.sl_tcframe.specs.TcFrame.{header_of, is_cut, least_of};
+
+use sl_fields::{ShapeFault, TcHeader};
+use std::marker::Model;
+
+/// The managed format of a physical channel's TC transfer frames: how many octets one has at most, and
+/// whether each has a frame error control field.
+#[derive(Clone, Copy, Debug, PartialEq, Eq)]
+pub struct TcShape {
+    pub(crate) max: u16,
+    pub(crate) fecf: bool,
+}
+
+impl Model for TcShape {
+    ghost use Rattle.sl_tcframe.specs.TcFrame.{TcFormat};
+
+    ghost Value = { TcFormat };
+
+    ghost use Rattle.sl_tcframe.specs.TcShapeModel.{format_of, inside_of, IsTcShape};
+
+    ghost view = { format_of };
+
+    ghost invariant = { IsTcShape };
+
+    ghost inverse = { inside_of };
+}
+
+impl TcShape {
+    ghost use Rattle.sl_tcframe.specs.TcFrame.{TcFormat};
+    ghost use Rattle.sl_tcframe.specs.TcShape.{tc_shape};
+
+    /// The format with this greatest length, 16 to 1024 octets, else `TcLength`.
+    pub fn new(max: u16, fecf: bool) -> Result<TcShape, ShapeFault>
+        ensures { let format : TcFormat = record { max = max; fecf = fecf } in result ≡ tc_shape format }
+    {
+        if max < 16 || max > 1024 {
+            return Err(ShapeFault::TcLength);
+        }
+        Ok(TcShape { max, fecf })
+    }
+
+    /// Octets of a frame at most, 16 to 1024.
+    pub fn max(&self) -> u16
+        ensures value { result ≡ self.now.max }
+        ensures least { 16 ≤ result }
+        ensures most { result ≤ 1024 }
+    {
+        self.max
+    }
+
+    /// Whether a frame ends with a frame error control field.
+    pub fn fecf(&self) -> bool
+        ensures { result ≡ self.now.fecf }
+    {
+        self.fecf
+    }
+
+    /// Octets of a frame at least: 7 with a frame error control field, else 5.
+    pub fn least(&self) -> u16
+        ensures value { result ≡ least_of self.now }
+        ensures most { result ≤ 7 }
+    {
+        if self.fecf { 7 } else { 5 }
+    }
+
+    /// Octets of a segment at most, after its segment header: 8 to 1018.
+    pub fn room(&self) -> u16
+        ensures value { result ≡ room_of self.now }
+        ensures least { 8 ≤ result }
+        ensures most { result ≤ 1018 }
+    {
+        if self.fecf {
+            self.max - 8
+        } else {
+            self.max - 6
+        }
+    }
+
+    /// Whether the octets are one frame by their frame length field: at least [`least`](TcShape::least), and
+    /// as many as the field states, also where they are more than [`max`](TcShape::max).
+    pub fn is_cut(&self, octets: &[u8]) -> bool
+        ensures { result ≡ is_cut self.now octets.now }
+    {
+        match octets.split_first_chunk::<5>() {
+            Some((header, _)) => {
+                let stated = usize::from(TcHeader::read(header).length()) + 1;
+                octets.len() >= usize::from(self.least()) && octets.len() == stated
+            }
+            None => false,
+        }
+    }
+}

@@ -1,3 +1,4 @@
+pub mod CountLemmas
 pub mod DeliveredLemmas
 pub mod Filling
 pub mod FrontLemmas
@@ -10,3 +11,4 @@ pub mod PacketLemmas
 pub mod PacketsLemmas
 pub mod PaddedLemmas
 pub mod PartialFacts
+pub mod StoppingLemmas

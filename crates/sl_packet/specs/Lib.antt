@@ -8,3 +8,4 @@ pub mod Packets
 pub mod PacketsModel
 pub mod Partial
 pub mod Sink
+pub mod Stopping

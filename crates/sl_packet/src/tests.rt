@@ -1,4 +1,4 @@
-//! Packets of known octets: what is expected was worked out by hand from the standard's bits.
+//! Packets of known octets: what is expected follows from the standard's bits.
 ghost use Rattle.std.specs.Prelude.{◌≡◌, ◌++◌};
 
 use crate::{

@@ -1,6 +1,5 @@
 pub mod AtStartsLemmas
 pub mod ChannelLemmas
-pub mod CountLemmas
 pub mod DeliveryLemmas
 pub mod EachIncompleteLemmas
 pub mod EachLemmas
@@ -17,4 +16,3 @@ pub mod OutcomeLemmas
 pub mod PushLemmas
 pub mod StartLemmas
 pub mod StepLemmas
-pub mod StoppingLemmas

@@ -15,7 +15,7 @@ use Rattle.sl_tmflow.specs.Delivery.{Delivery, Outcome, Completes, StillIncomple
 use Rattle.sl_tmflow.specs.Incomplete.{HasNoStart, incomplete_octets, frame_incomplete, incomplete_of}
 use Rattle.sl_tmflow.proofs.AtStartsLemmas.{flat_map-pieces, at_rest, at_starts}
 use Rattle.sl_tmflow.proofs.ChannelLemmas.{same_seen, other_seen}
-use Rattle.sl_tmflow.proofs.CountLemmas.{split_count, packets_within}
+use Rattle.sl_packet.proofs.CountLemmas.{split_count, packets_within}
 use Rattle.sl_tmflow.proofs.DeliveryLemmas.{field_deliveries}
 use Rattle.sl_tmflow.proofs.EachLemmas.{has_last}
 use Rattle.sl_tmflow.proofs.IncompleteListLemmas.{incomplete_of_idle, incomplete_of_opaque, incomplete_without_pointer, incomplete_from_pointer, one_of_frame, one_is_incomplete}

@@ -11,11 +11,11 @@ pub mod PacketStart
 pub mod Progress
 pub mod StepReport
 pub mod StepReportModel
-pub mod Stopping
 pub use Rattle.sl_packet.specs.Delivered
 pub use Rattle.sl_packet.specs.Front
 pub use Rattle.sl_packet.specs.Packet
 pub use Rattle.sl_packet.specs.Packets
 pub use Rattle.sl_packet.specs.Sink
+pub use Rattle.sl_packet.specs.Stopping
 pub use Rattle.sl_tmframe.specs.PacketFrame
 pub use Rattle.sl_tmframe.specs.TmFrame

@@ -10,7 +10,7 @@ ghost use Rattle.sl_tmflow.specs.ChannelState.{held_after, incomplete_in, is_aft
 ghost use Rattle.sl_tmflow.specs.Delivery.{ended, field_step, front_step};
 ghost use Rattle.sl_tmflow.specs.PacketStart.{whole_packets};
 ghost use Rattle.sl_tmflow.specs.Progress.{progress_step};
-ghost use Rattle.sl_tmflow.specs.Stopping.{IsStopped};
+ghost use Rattle.sl_packet.specs.Stopping.{IsStopped};
 
 use crate::step::{NOTHING, TmStep};
 use sl_packet::{FlowFault, Need, PacketSink, hand_over, need};

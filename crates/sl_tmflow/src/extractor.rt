@@ -3,7 +3,7 @@ ghost use Rattle.std.specs.Prelude.{◌≡◌, ◌≢◌, ◌++◌, ◌∷◌, [
 ghost use Rattle.sl_packet.specs.Packets.{only_idle, without_idle};
 ghost use Rattle.sl_packet.specs.Sink.{TakesAll};
 ghost use Rattle.sl_tmflow.specs.Extraction.{ForProcessed, HasProcessed, HasFailed, ended_by};
-ghost use Rattle.sl_tmflow.specs.Stopping.{IsStopped};
+ghost use Rattle.sl_packet.specs.Stopping.{IsStopped};
 
 use crate::channel::Channel;
 use crate::step::TmStep;

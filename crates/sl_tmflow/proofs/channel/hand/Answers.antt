@@ -1,5 +1,5 @@
 use Rattle.std.proofs.Common.{arith}
-use Rattle.sl_tmflow.proofs.CountLemmas.{packets_within}
+use Rattle.sl_packet.proofs.CountLemmas.{packets_within}
 use Rattle.sl_tmflow.proofs.channel.hand.Goals as goal
 
 pub overflow_cast-step : goal.overflow_cast-step

@@ -4,7 +4,7 @@ use Rattle.sl_packet.specs.Packets.{packets_of, without_idle, only_idle}
 use Rattle.sl_packet.specs.Sink.{TakesAll}
 use Rattle.sl_packet.proofs.PacketLemmas.{stated_len-packet}
 use Rattle.sl_packet.proofs.PacketsLemmas.{packets_of-packet}
-use Rattle.sl_tmflow.specs.Stopping.{IsStopped}
+use Rattle.sl_packet.specs.Stopping.{IsStopped}
 use Rattle.sl_tmflow.proofs.IncompleteListLemmas.{stated_len-most}
 use Rattle.sl_tmflow.proofs.channel.hand_packet.Goals as goal
 

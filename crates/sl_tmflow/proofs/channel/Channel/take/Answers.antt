@@ -7,8 +7,8 @@ use Rattle.sl_tmflow.specs.ChannelState.{step_in}
 use Rattle.sl_tmflow.specs.Delivery.{ended}
 use Rattle.sl_tmflow.specs.PacketStart.{whole_packets}
 use Rattle.sl_tmflow.specs.StepReport.{StepReport}
-use Rattle.sl_tmflow.specs.Stopping.{IsStopped}
-use Rattle.sl_tmflow.proofs.StoppingLemmas.{takes_both, stops_before, stops_after}
+use Rattle.sl_packet.specs.Stopping.{IsStopped}
+use Rattle.sl_packet.proofs.StoppingLemmas.{takes_both, stops_before, stops_after}
 use Rattle.sl_tmflow.proofs.channel.Channel.take.Goals as goal
 
 without_idle-append : (xs ys : List (List ℕ)) → without_idle (xs ++ ys) ≡ without_idle xs ++ without_idle ys

@@ -1,7 +1,7 @@
 use Rattle.std.proofs.Common.{length, refl, sym, ◌∙◌, ap, subst, arith}
 use Rattle.sl_packet.specs.Packets.{only_idle, without_idle}
 use Rattle.sl_packet.specs.Sink.{TakesAll}
-use Rattle.sl_tmflow.specs.Stopping.{IsStopped}
+use Rattle.sl_packet.specs.Stopping.{IsStopped}
 use Rattle.sl_tmflow.proofs.ChannelLemmas.{ended_now, processed_more}
 use Rattle.sl_tmflow.proofs.extractor.Extractor.frame.Goals as goal
 

@@ -4,7 +4,7 @@ use Rattle.sl_packet.specs.Sink.{TakesAll, one_more}
 use Rattle.sl_packet.specs.declared.flow_fault.FlowFault.{FlowFault}
 use Rattle.sl_packet.specs.declared.flow_fault.FlowFault.TheVariants.{Memory, Sink, Failed}
 use Rattle.sl_packet.specs.declared.sink.SinkFault.{SinkFault}
-use Rattle.sl_tmflow.specs.Stopping.{IsStopped}
+use Rattle.sl_packet.specs.Stopping.{IsStopped}
 
 module _ {S : Type 0} (taking : S → ℕ → List ℕ → S → Type 0) where
   -- one list after another is all of them

@@ -1,0 +1,9 @@
+pub mod EachLemmas
+pub mod FarmLemmas
+pub mod FitLemmas
+pub mod IncompleteLemmas
+pub mod OneMoreLemmas
+pub mod PushedLemmas
+pub mod ReceptionFacts
+pub mod SeriesLemmas
+pub mod UnitLemmas

@@ -1,0 +1,202 @@
+-- The frames of segments, one after another.
+use Rattle.std.proofs.Common.{◌≡◌, ℕ, zero, suc, ◌+◌, ◌-◌, ◌*◌, ◌%◌, ◌<◌, ◌≤◌, ◌==◌, Bool, if◌then◌else◌, List, [], ◌∷◌, ◌++◌, length, take, drop, map, flat_map, inl, inr, refl, sym, subst, ◌∙◌, ap, arith, length-append, length-take-le, append_assoc, append-nil, add-one}
+use Rattle.std.specs.List.{concat, range_with_len, slice_index_or}
+use Rattle.std.proofs.lemmas.Bool.Decides.{leb_tells, nat_tests}
+use Rattle.std.proofs.lemmas.Grind.{flat_map-append}
+use Rattle.std.proofs.lemmas.List.{drop-drop, length-drop, get_or-drop, get_or-take}
+use Rattle.std.proofs.lemmas.List.Folds.{concat-append, flat_map-map}
+use Rattle.std.proofs.lemmas.List.FromFn.{map-range_with_len_more}
+use Rattle.std.proofs.Math.Seq.{take-suc}
+use Rattle.std.proofs.Math.Nat.{suc-mul, zero-mul, div-lt_iff_lt-mul, le-div_iff_mul-le}
+use Rattle.sl_fields.specs.SegmentHeader.{SegmentFields}
+use Rattle.sl_tcframe.specs.AdFrame.{ad_frame}
+use Rattle.sl_tcframe.specs.TcFrame.{TcFormat}
+use Rattle.sl_tcflow.specs.TcNormalForm.{segment_count, segment_octets_at, flags_at, segments_of_packet, segments_of_maps, frames_of_segments}
+
+module _ (format : TcFormat) (spacecraft vc : ℕ) where
+  abbrev frames_from : ℕ → List (SegmentFields × List ℕ) → List (List ℕ)
+  frames_from = frames_of_segments format spacecraft vc
+
+  -- the N(S) counts modulo 256 alone
+  pub frames_from_same : (ns ns' : ℕ) (segments : List (SegmentFields × List ℕ)) → ns % 256 ≡ ns' % 256 → frames_from ns segments ≡ frames_from ns' segments
+  frames_from_same ns ns' [] same = refl
+  frames_from_same ns ns' (segment ∷ segments) same =
+      let later = frames_from_same (ns + 1) (ns' + 1) segments (omega (arith, same)) in
+      ap (λ n. ad_frame format spacecraft vc n segment.0 segment.1 ∷ frames_from (ns + 1) segments) same
+      ∙ ap (λ l. ad_frame format spacecraft vc (ns' % 256) segment.0 segment.1 ∷ l) later
+
+  pub frames_from-append : (ns : ℕ) (segments more : List (SegmentFields × List ℕ)) → frames_from ns (segments ++ more) ≡ frames_from ns segments ++ frames_from (ns + length segments) more
+  frames_from-append ns [] more = let same : ns ≡ ns + 0 = omega arith in ap (λ n. frames_from n more) same
+  frames_from-append ns (segment ∷ segments) more =
+      let same : ns + 1 + length segments ≡ ns + length (segment ∷ segments) = omega arith in
+      ap (λ l. ad_frame format spacecraft vc (ns % 256) segment.0 segment.1 ∷ l) (frames_from-append (ns + 1) segments more)
+      ∙ ap (λ n. ad_frame format spacecraft vc (ns % 256) segment.0 segment.1 ∷ (frames_from (ns + 1) segments ++ frames_from n more)) same
+
+  module _ (base : List ℕ) (ns : ℕ) where
+    -- the frames of these segments were added to a form, the N(S) of the first one `ns`, that of a next one `next`
+    pub record IsPushed (segments : List (SegmentFields × List ℕ)) (next : ℕ) (form : List ℕ) : Type 0 where
+      pub form_is : form ≡ base ++ concat (frames_from ns segments)
+      pub next_is : next ≡ (ns + length segments) % 256
+
+    pub none_pushed : ns < 256 → IsPushed [] ns base
+    none_pushed small = record { form_is = sym (append-nil base); next_is = omega arith }
+
+    pub pushed_more : (segments more : List (SegmentFields × List ℕ)) (next next' : ℕ) (form form' : List ℕ) → IsPushed segments next form
+        → form' ≡ form ++ concat (frames_from next more) → next' ≡ (next + length more) % 256
+        → IsPushed (segments ++ more) next' form'
+    pushed_more segments more next next' form form' s added up =
+        let before = frames_from ns segments in
+        let number : next % 256 ≡ (ns + length segments) % 256 = omega (arith, s.next_is) in
+        let later = frames_from_same next (ns + length segments) more number in
+        record {
+          form_is = added ∙ ap (λ l. l ++ concat (frames_from next more)) s.form_is ∙ append_assoc base (concat before) (concat (frames_from next more))
+              ∙ ap (λ l. base ++ (concat before ++ concat l)) later
+              ∙ ap (λ l. base ++ l) (sym (concat-append before (frames_from (ns + length segments) more)) ∙ ap concat (sym (frames_from-append ns segments more)));
+          next_is = omega (arith, up, s.next_is, length-append segments more);
+        }
+
+-- ---- the segments of a packet
+
+-- another segment begins within the packet
+pub counts_more : (room : ℕ) (packet : List ℕ) (number : ℕ) → 0 < room → number * room < length packet → number < segment_count room packet
+counts_more room packet number some inside =
+    let one = suc-mul number room in
+    (le-div_iff_mul-le {k = room} {x = suc number} {y = length packet + room - 1} some).1 (omega arith)
+
+-- and none after its end
+pub counts_all : (room : ℕ) (packet : List ℕ) (number : ℕ) → 0 < room → length packet ≤ number * room → segment_count room packet ≤ number
+counts_all room packet number some outside =
+    let one = suc-mul number room in
+    let below : segment_count room packet < suc number = (div-lt_iff_lt-mul {k = room} {x = length packet + room - 1} {y = suc number} some).1 (omega arith) in
+    omega (arith, below)
+
+flags_are : (count number : ℕ) → number < count
+    → flags_at count number ≡ (if number == 0 then (if number + 1 == count then 3 else 1) else (if number + 1 == count then 2 else 0))
+flags_are count number inside = grind (arith, nat_tests)
+
+-- the segment that begins at the packet's front is the first one,
+is_first_one : (room len number : ℕ) → 0 < room → number * room < len → (len - number * room == len) ≡ (number == 0)
+is_first_one room len zero some inside = let none = zero-mul room in grind (arith, nat_tests)
+is_first_one room len (suc number) some inside = let one = suc-mul number room in grind (arith, nat_tests)
+
+-- and the one that leaves none of it is the last one
+is_last_one : (room : ℕ) (packet : List ℕ) (number : ℕ) → 0 < room → number < segment_count room packet
+    → (length packet - number * room - room == 0) ≡ (number + 1 == segment_count room packet)
+is_last_one room packet number some there =
+    let one = suc-mul number room in
+    elim (leb_tells (length packet) (suc number * room)) [
+      | inl (test, low) ↦ let all = counts_all room packet (suc number) some low in grind (arith, nat_tests)
+      | inr (test, high) ↦ let more = counts_more room packet (suc number) some (omega (arith, high)) in grind (arith, nat_tests)
+    ]
+
+module _ (format : TcFormat) (spacecraft vc mid : ℕ) (base : List ℕ) (ns room : ℕ) (packet : List ℕ) where
+  abbrev segment_at : ℕ → SegmentFields × List ℕ
+  segment_at number = (record { flags = flags_at (segment_count room packet) number; map = mid }, segment_octets_at room packet number)
+
+  -- so many segments of the packet were added, and these octets are left
+  pub record IsDivided (left : List ℕ) (next : ℕ) (form : List ℕ) : Type 0 where
+    pub number : ℕ
+    pub left_is : left ≡ drop (number * room) packet
+    pub so_far : number ≤ segment_count room packet
+    pub pushed : IsPushed format spacecraft vc base ns (map segment_at (range_with_len 0 number)) next form
+
+  pub none_divided : ns < 256 → IsDivided packet ns base
+  none_divided small =
+      record {
+        number = 0;
+        left_is = let none = zero-mul room in ap (λ n. drop n packet) (sym none);
+        so_far = omega arith;
+        pushed = none_pushed format spacecraft vc base ns small;
+      }
+
+  -- the next segment
+  pub divided_next : (left octets later : List ℕ) (first last : Bool) (next next' : ℕ) (form form' : List ℕ) → 0 < room → 0 < length left → next < 256
+      → octets ≡ take room left → later ≡ drop room left → first ≡ (length left == length packet) → last ≡ (length later == 0)
+      → (s : IsDivided left next form)
+      → form' ≡ form ++ ad_frame format spacecraft vc next (record { flags = if first then (if last then 3 else 1) else (if last then 2 else 0); map = mid }) octets
+      → next' ≡ (next + 1) % 256
+      → IsDivided later next' form'
+  divided_next left octets later first last next next' form form' some there small taken dropped is_first is_last s added up =
+      let count = segment_count room packet in
+      let size : length left ≡ length packet - s.number * room = ap length s.left_is ∙ length-drop (s.number * room) packet in
+      let rest : length later ≡ length left - room = ap length dropped ∙ length-drop room left in
+      let inside : s.number * room < length packet = omega (arith, size) in
+      let more : s.number < count = counts_more room packet s.number some inside in
+      let first_is : first ≡ (s.number == 0) = is_first ∙ ap (λ n. n == length packet) size ∙ is_first_one room (length packet) s.number some inside in
+      let last_is : last ≡ (s.number + 1 == count) = is_last ∙ ap (λ n. n == 0) (rest ∙ ap (λ n. n - room) size) ∙ is_last_one room packet s.number some more in
+      let flags : (if first then (if last then 3 else 1) else (if last then 2 else 0)) ≡ flags_at count s.number = rw (first_is, last_is) (sym (flags_are count s.number more)) in
+      let next_frame = ad_frame format spacecraft vc next (record { flags = if first then (if last then 3 else 1) else (if last then 2 else 0); map = mid }) octets in
+      let same : next_frame ≡ ad_frame format spacecraft vc (next % 256) (segment_at s.number).0 (segment_at s.number).1 = same_frame next (next % 256) _ _ octets _ (omega arith) flags (taken ∙ ap (take room) s.left_is) in
+      let one = suc-mul s.number room in
+      record {
+        number = suc s.number;
+        left_is = dropped ∙ ap (drop room) s.left_is ∙ drop-drop room (s.number * room) packet ∙ ap (λ n. drop n packet) (omega (arith, one));
+        so_far = more;
+        pushed = subst (λ segments. IsPushed format spacecraft vc base ns segments next' form')
+            (sym (map-range_with_len_more segment_at 0 s.number s.number (omega arith)) ∙ ap (λ n. map segment_at (range_with_len 0 n)) (add-one s.number))
+            (pushed_more format spacecraft vc base ns (map segment_at (range_with_len 0 s.number)) (segment_at s.number ∷ []) next next' form form' s.pushed
+            (added ∙ ap (λ l. form ++ l) (same ∙ sym (append-nil (ad_frame format spacecraft vc (next % 256) (segment_at s.number).0 (segment_at s.number).1)))) up);
+      }
+    where
+      same_frame : (ns ns' flags flags' : ℕ) (octets octets' : List ℕ) → ns ≡ ns' → flags ≡ flags' → octets ≡ octets'
+          → ad_frame format spacecraft vc ns (record { flags = flags; map = mid }) octets ≡ ad_frame format spacecraft vc ns' (record { flags = flags'; map = mid }) octets'
+      same_frame ns ns' flags flags' octets octets' a b c = rw (a, b, c) refl
+
+  -- all of them
+  pub all_divided : (left : List ℕ) (next : ℕ) (form : List ℕ) → 0 < room → length left ≡ 0 → IsDivided left next form
+      → IsPushed format spacecraft vc base ns (segments_of_packet room mid packet) next form
+  all_divided left next form some none s =
+      let size : length left ≡ length packet - s.number * room = ap length s.left_is ∙ length-drop (s.number * room) packet in
+      let all : segment_count room packet ≤ s.number = counts_all room packet s.number some (omega (arith, size, none)) in
+      let count : s.number ≡ segment_count room packet = omega (arith, s.so_far, all) in
+      subst (λ n. IsPushed format spacecraft vc base ns (map segment_at (range_with_len 0 n)) next form) count s.pushed
+
+-- ---- the packets of a MAP
+
+pub next_packet : (room mid : ℕ) (packets : List (List ℕ)) (packet : List ℕ)
+    → flat_map (segments_of_packet room mid) (packets ++ packet ∷ []) ≡ flat_map (segments_of_packet room mid) packets ++ segments_of_packet room mid packet
+next_packet room mid packets packet =
+    flat_map-append (segments_of_packet room mid) packets (packet ∷ []) ∙ ap (λ l. flat_map (segments_of_packet room mid) packets ++ l) (append-nil (segments_of_packet room mid packet))
+
+-- ---- the MAPs of a virtual channel
+
+last_map : (room mid : ℕ) (lists : List (List (List ℕ))) (packets : List (List ℕ))
+    → segments_of_maps room mid (lists ++ packets ∷ []) ≡ segments_of_maps room mid lists ++ flat_map (segments_of_packet room (mid + length lists)) packets
+last_map room mid [] packets =
+    let same : mid ≡ mid + 0 = omega arith in
+    append-nil (flat_map (segments_of_packet room mid) packets) ∙ ap (λ m. flat_map (segments_of_packet room m) packets) same
+last_map room mid (first ∷ lists) packets =
+    let same : mid + 1 + length lists ≡ mid + length (first ∷ lists) = omega arith in
+    let here = flat_map (segments_of_packet room mid) first in
+    ap (λ l. here ++ l) (last_map room (mid + 1) lists packets)
+    ∙ sym (append_assoc here (segments_of_maps room (mid + 1) lists) (flat_map (segments_of_packet room (mid + 1 + length lists)) packets))
+    ∙ ap (λ m. (here ++ segments_of_maps room (mid + 1) lists) ++ flat_map (segments_of_packet room m) packets) same
+
+-- the next one of a virtual channel, among the lists of all
+pub next_map : (room vc mid : ℕ) (lists : List (List (List ℕ))) → vc ≤ 63 → mid < 64 → length lists ≡ 4096
+    → segments_of_maps room 0 (take (suc mid) (take 64 (drop (64 * vc) lists)))
+    ≡ segments_of_maps room 0 (take mid (take 64 (drop (64 * vc) lists))) ++ flat_map (segments_of_packet room mid) (slice_index_or lists (vc * 64 + mid) [])
+next_map room vc mid lists inside below all =
+    let channel = take 64 (drop (64 * vc) lists) in
+    let left : 64 ≤ length (drop (64 * vc) lists) = omega (arith, length-drop (64 * vc) lists, all) in
+    let size : length channel ≡ 64 = length-take-le 64 (drop (64 * vc) lists) left in
+    let before : 0 + length (take mid channel) ≡ mid = omega (arith, length-take-le mid channel (omega (arith, size))) in
+    let place : 64 * vc + mid ≡ vc * 64 + mid = omega arith in
+    let packets : slice_index_or channel mid [] ≡ slice_index_or lists (vc * 64 + mid) [] =
+    get_or-take 64 (drop (64 * vc) lists) mid [] below ∙ get_or-drop (64 * vc) lists mid [] ∙ ap (λ n. slice_index_or lists n []) place in
+    ap (segments_of_maps room 0) (take-suc channel mid [] (omega (arith, size)))
+    ∙ last_map room 0 (take mid channel) (slice_index_or channel mid [])
+    ∙ ap (λ m. segments_of_maps room 0 (take mid channel) ++ flat_map (segments_of_packet room m) (slice_index_or channel mid [])) before
+    ∙ ap (λ ps. segments_of_maps room 0 (take mid channel) ++ flat_map (segments_of_packet room mid) ps) packets
+
+-- ---- the virtual channels
+
+pub next_number : {X : Type 0} (f : ℕ → List X) (number : ℕ) → flat_map f (range_with_len 0 (suc number)) ≡ flat_map f (range_with_len 0 number) ++ f number
+next_number f number =
+    let id : ℕ → ℕ = λ n. n in
+    ap (λ n. flat_map f (range_with_len 0 n)) (sym (add-one number))
+    ∙ sym (flat_map-map f id (range_with_len 0 (number + 1)))
+    ∙ ap (flat_map f) (map-range_with_len_more id 0 number number (omega arith))
+    ∙ flat_map-append f (map id (range_with_len 0 number)) (number ∷ [])
+    ∙ ap (λ l. l ++ (f number ++ [])) (flat_map-map f id (range_with_len 0 number))
+    ∙ ap (λ l. flat_map f (range_with_len 0 number) ++ l) (append-nil (f number))

@@ -1,0 +1,26 @@
+use Rattle.std.proofs.Common.{refl, sym, ap, subst}
+use Rattle.sl_tcflow.specs.Receiving.{HaveStepped, AreIncomplete}
+use Rattle.sl_tcflow.proofs.receiver.Receiver.frame.Goals as goal
+
+pub returns-in-Err-clause-stopped : goal.returns-in-Err-clause-stopped
+returns-in-Err-clause-stopped g c =
+    λ ne. (
+      refl,
+      λ w vr views r.
+          let farms = subst (λ l. HaveStepped w vr l views) (sym (ap (λ s. s.farms) c.self.view_is)) r.farms in
+          let series = subst (λ l. AreIncomplete w vr l views) (sym (ap (λ s. s.incomplete) c.self.view_is)) r.series in (
+            record { failed = refl; farms = c.step-verdict.ensures.farms w vr views farms },
+            c.in-Err.ensures.stopped w vr views series (c.step-verdict.ensures.verdict w vr views farms),
+          ),
+    )
+
+pub returns-clause-processed : goal.returns-clause-processed
+returns-clause-processed g c =
+    λ w vr views r.
+    let farms = subst (λ l. HaveStepped w vr l views) (sym (ap (λ s. s.farms) c.self.view_is)) r.farms in
+    let series = subst (λ l. AreIncomplete w vr l views) (sym (ap (λ s. s.incomplete) c.self.view_is)) r.series in
+    record {
+      working = refl;
+      farms = c.step-verdict.ensures.farms w vr views farms;
+      series = c.in-Ok.ensures.series w vr views series (c.step-verdict.ensures.verdict w vr views farms);
+    }

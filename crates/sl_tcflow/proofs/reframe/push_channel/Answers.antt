@@ -1,0 +1,37 @@
+use Rattle.std.proofs.Common.{◌≡◌, ◌+◌, ◌*◌, ◌%◌, ◌++◌, [], ◌∙◌, arith, sym, ap, subst, add-one, length, take, drop, flat_map}
+use Rattle.std.proofs.lemmas.List.{take_all, length-take}
+use Rattle.std.specs.List.{concat, slice_index_or}
+use Rattle.sl_packet.specs.Delivered.{list_at}
+use Rattle.sl_tcframe.specs.AdFrame.{room_of}
+use Rattle.sl_tcflow.specs.TcNormalForm.{segments_of_packet, segments_of_maps, frames_of_segments}
+use Rattle.sl_tcflow.proofs.PushedLemmas.{IsPushed, none_pushed, pushed_more, next_map}
+use Rattle.sl_tcflow.proofs.reframe.push_channel.Goals as goal
+
+pub loop-mid-init : goal.loop-mid-init
+loop-mid-init c = none_pushed c.args.shape.now c.args.spacecraft c.args.vc c.args.form.now.items c.args.vr c.ranges.vr.fits
+
+pub loop-mid-preserved : goal.loop-mid-preserved
+loop-mid-preserved c =
+    let format = c.args.shape.now in
+    let form = c.loop-mid.form.items in
+    let lists = c.args.delivered.now.lists in
+    let mid = c.loop-mid.mid in
+    let channel = take 64 (drop (64 * c.args.vc) lists) in
+    let here = slice_index_or lists (c.args.vc * 64 + mid) [] in
+    let segments = flat_map (segments_of_packet (room_of format) mid) in
+    let place : c.from.result * 64 + c.from-in-loop-mid.result ≡ c.args.vc * 64 + mid = omega (arith, c.from.ensures, c.from-in-loop-mid.ensures) in
+    let packets = c.list-packets.ensures.packets ∙ ap (λ n. list_at c.args.delivered.now n) place in
+    let all = next_map (room_of format) c.args.vc mid lists c.requires.vc c.loop-mid-test.true c.list-packets.ensures.channels in
+    subst (λ l. IsPushed format c.args.spacecraft c.args.vc c.args.form.now.items c.args.vr l c.in_ok-ns.ns c.push_packets.new.form.items)
+    (sym all ∙ ap (λ n. segments_of_maps (room_of format) 0 (take n channel)) (sym (add-one mid)))
+    (pushed_more format c.args.spacecraft c.args.vc c.args.form.now.items c.args.vr (segments_of_maps (room_of format) 0 (take mid channel)) (segments here) c.loop-mid.ns c.in_ok-ns.ns form c.push_packets.new.form.items
+    c.loop-mid.invariant
+    (c.in_ok-ns.ensures.frames ∙ ap (λ ps. form ++ concat (frames_of_segments format c.args.spacecraft c.args.vc c.loop-mid.ns (segments ps))) packets)
+    (c.in_ok-ns.ensures.next ∙ ap (λ ps. (c.loop-mid.ns + length (segments ps)) % 256) packets))
+
+pub returns-clause-frames : goal.returns-clause-frames
+returns-clause-frames c =
+    let format = c.args.shape.now in
+    let from_here = drop (64 * c.args.vc) c.args.delivered.now.lists in
+    let all : take c.loop-mid.mid (take 64 from_here) ≡ take 64 from_here = take_all c.loop-mid.mid (take 64 from_here) (omega (arith, length-take 64 from_here, c.loop-mid-test.false)) in
+    c.loop-mid.invariant.form_is ∙ ap (λ l. c.args.form.now.items ++ concat (frames_of_segments format c.args.spacecraft c.args.vc c.args.vr (segments_of_maps (room_of format) 0 l))) all

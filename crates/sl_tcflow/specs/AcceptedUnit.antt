@@ -1,0 +1,58 @@
+-- The frame data units that FARM-1 accepts on a virtual channel, CCSDS 232.0-B and 232.1-B.
+use Rattle.std.specs.Prelude.{ℕ, ◌==◌, List, [], ◌∷◌, ◌++◌, map}
+use Rattle.std.specs.Result.{result_ok}
+use Rattle.std.specs.List.{filter, filter_map}
+use Rattle.sl_cop.specs.declared.farm_event.FarmEvent.{FarmEvent}
+use Rattle.sl_cop.specs.declared.farm_event.FarmEvent.TheVariants as event
+use Rattle.sl_cop.specs.declared.verdict.Verdict.{Verdict}
+use Rattle.sl_cop.specs.declared.verdict.Verdict.TheVariants.{Accept, Early, Late, Outside, Refused, Command}
+use Rattle.sl_cop.specs.Farm.{FarmState, farm_start, state_after, verdicts_of}
+use Rattle.sl_tcframe.specs.TcFrame.{TcFormat, TcView, Content, Ad, Bd, Unlock, SetVr, tc_frame}
+
+-- the frames that aren't skipped, as they are read
+abbrev pub views_of : TcFormat → ℕ → List (List ℕ) → List TcView
+views_of format spacecraft frames = filter_map (λ frame. result_ok (tc_frame format spacecraft frame)) frames
+
+-- those of a virtual channel, in order
+abbrev pub channel_of : ℕ → List TcView → List TcView
+channel_of vc views = filter (λ view. view.vc == vc) views
+
+-- what a frame is to FARM-1
+abbrev pub event_of : Content → FarmEvent
+event_of (Ad ns unit) = event.Ad ns
+event_of (Bd unit) = event.Bd
+event_of Unlock = event.Unlock
+event_of (SetVr vr) = event.SetVr vr
+
+abbrev pub events_of : List TcView → List FarmEvent
+events_of channel = map (λ view. event_of view.content) channel
+
+-- the state of FARM-1 after the frames of its virtual channel
+abbrev pub farm_after : ℕ → ℕ → List TcView → FarmState
+farm_after w vr channel = state_after w (farm_start vr) (events_of channel)
+
+-- the unit of a frame of type AD or BD, as a list of one or of none
+abbrev pub unit_of : Content → List (List ℕ)
+unit_of (Ad ns unit) = unit ∷ []
+unit_of (Bd unit) = unit ∷ []
+unit_of Unlock = []
+unit_of (SetVr vr) = []
+
+-- a frame's unit, where the frame is accepted
+abbrev pub unit_by : Verdict → Content → List (List ℕ)
+unit_by Accept content = unit_of content
+unit_by Early content = []
+unit_by Late content = []
+unit_by Outside content = []
+unit_by Refused content = []
+unit_by Command content = []
+
+-- the units of the frames with these verdicts
+abbrev pub units_by : List Verdict → List TcView → List (List ℕ)
+units_by [] channel = []
+units_by (verdict ∷ verdicts) [] = []
+units_by (verdict ∷ verdicts) (view ∷ channel) = unit_by verdict view.content ++ units_by verdicts channel
+
+-- the units that FARM-1 with this window and this initial V(R) accepts, of types AD and BD in one order
+abbrev pub accepted_units : ℕ → ℕ → List TcView → List (List ℕ)
+accepted_units w vr channel = units_by (verdicts_of w (farm_start vr) (events_of channel)) channel

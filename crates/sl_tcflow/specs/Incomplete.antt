@@ -1,0 +1,56 @@
+-- A series of segments that is incomplete, CCSDS 232.0-B: it began, and its last segment didn't come yet. How long
+-- a reassembled service data unit may be is the mission profile's.
+use Rattle.std.specs.Prelude.{◌≡◌, ℕ, ◌≤◌, ◌==◌, ◌&&◌, Bool, true, nat_le, if◌then◌else◌, List, [], ◌∷◌, ◌++◌, length, Option, None, Some}
+use Rattle.std.specs.List.{AllByRecursion}
+use Rattle.sl_tcflow.specs.Series.{flags_of, reassembled}
+
+-- ---- the relation
+
+-- A series is incomplete after the last segment of a MAP's list, with these octets so far.
+pub record IsIncomplete (list : List (List ℕ)) (octets : List ℕ) : Type 0 where
+  -- its first segment, and the segments from there on, to the last one
+  pub earlier : List (List ℕ)
+  pub first : List ℕ
+  pub later : List (List ℕ)
+  pub in_order : list ≡ earlier ++ first ∷ later
+  pub begins : flags_of first ≡ 1
+  -- which are continuing ones
+  pub goes_on : AllByRecursion (λ segment. flags_of segment ≡ 0) later
+  -- together they have these octets after the segment headers, and not too many
+  pub together : octets ≡ reassembled (first ∷ later)
+  pub fits : length octets ≤ 65542
+
+-- ---- the octets so far, if a series is incomplete
+
+-- octets of a service data unit, where they aren't too many
+abbrev pub if_fits : List ℕ → Option (List ℕ)
+if_fits octets = if nat_le (length octets) 65542 then Some octets else None
+
+abbrev pub are_continuing : List (List ℕ) → Bool
+are_continuing [] = true
+are_continuing (segment ∷ later) = flags_of segment == 0 && are_continuing later
+
+-- a segment begins the series, and those after it continue it
+abbrev pub incomplete_of : List (List ℕ) → Option (List ℕ)
+incomplete_of [] = None
+incomplete_of (segment ∷ later) =
+    if flags_of segment == 1 && are_continuing later then if_fits (reassembled (segment ∷ later))
+    else incomplete_of later
+
+-- ---- laws
+
+-- what is told is incomplete,
+abbrev pub WhatIsToldIsIncomplete : Type 0
+WhatIsToldIsIncomplete = (list : List (List ℕ)) (octets : List ℕ) → incomplete_of list ≡ Some octets → IsIncomplete list octets
+
+-- and what is incomplete is told.
+abbrev pub IncompleteIsTold : Type 0
+IncompleteIsTold = (list : List (List ℕ)) (octets : List ℕ) → IsIncomplete list octets → incomplete_of list ≡ Some octets
+
+-- At most one series is incomplete,
+abbrev pub OneIsIncomplete : Type 0
+OneIsIncomplete = (list : List (List ℕ)) (octets others : List ℕ) → IsIncomplete list octets → IsIncomplete list others → octets ≡ others
+
+-- of 65,542 octets at most.
+abbrev pub IncompleteFits : Type 0
+IncompleteFits = (list : List (List ℕ)) (octets : List ℕ) → incomplete_of list ≡ Some octets → length octets ≤ 65542

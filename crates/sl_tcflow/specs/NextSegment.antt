@@ -1,0 +1,34 @@
+-- What the next segment of a MAP does, CCSDS 232.0-B, told from the octets of the series that is incomplete before
+-- it. These are the code's steps, not the standard's.
+use Rattle.std.specs.Prelude.{ℕ, ◌==◌, if◌then◌else◌, List, [], ◌++◌, Option, None, Some}
+use Rattle.sl_packet.specs.Packets.{packets_of}
+use Rattle.sl_tcflow.specs.Incomplete.{if_fits}
+use Rattle.sl_tcflow.specs.Series.{flags_of, octets_at}
+
+-- the octets of a service data unit so far, with those of one segment more
+abbrev pub joined : Option (List ℕ) → List ℕ → Option (List ℕ)
+joined None octets = None
+joined (Some before) octets = if_fits (before ++ octets)
+
+-- the octets of the series that is incomplete after the next segment: it begins with it, or is continued by it
+abbrev pub incomplete_after : Option (List ℕ) → List ℕ → Option (List ℕ)
+incomplete_after held next =
+    if flags_of next == 1 then if_fits (octets_at next)
+    else if flags_of next == 0 then joined held (octets_at next)
+    else None
+
+-- the service data unit that ends with the next segment, whole or the last one of a series
+abbrev pub unit_ended : Option (List ℕ) → List ℕ → Option (List ℕ)
+unit_ended held next =
+    if flags_of next == 3 then if_fits (octets_at next)
+    else if flags_of next == 2 then joined held (octets_at next)
+    else None
+
+-- the packets of a service data unit, if there is one
+abbrev pub packets_of_unit : Option (List ℕ) → List (List ℕ)
+packets_of_unit None = []
+packets_of_unit (Some octets) = packets_of octets
+
+-- those that end with the next segment
+abbrev pub packets_after : Option (List ℕ) → List ℕ → List (List ℕ)
+packets_after held next = packets_of_unit (unit_ended held next)

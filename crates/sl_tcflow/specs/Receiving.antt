@@ -1,0 +1,91 @@
+-- What a receiver has made of the frames of virtual channels, CCSDS 232.0-B and 232.1-B, that it was given.
+use Rattle.std.specs.Prelude.{◌≡◌, ◌≢◌, ◌⊎◌, ℕ, ◌+◌, ◌*◌, ◌<◌, Bool, true, false, List, [], ◌∷◌, ◌++◌, length, flat_map, Option, None}
+use Rattle.std.specs.List.{slice_index_or}
+use Rattle.sl_cop.specs.declared.verdict.Verdict.{Verdict}
+use Rattle.sl_cop.specs.Farm.{FarmView, farm_start, farm_step}
+use Rattle.sl_tcframe.specs.TcFrame.{TcView, Content, Ad, Bd, Unlock, SetVr}
+use Rattle.sl_tcflow.specs.AcceptedUnit.{channel_of, event_of, farm_after, unit_by}
+use Rattle.sl_tcflow.specs.Incomplete.{incomplete_of}
+use Rattle.sl_tcflow.specs.Reception.{packets_ended, segments_of}
+use Rattle.sl_tcflow.specs.Series.{header_at}
+
+-- the channel of a virtual channel and a MAP
+abbrev pub channel_at : ℕ → ℕ → ℕ
+channel_at vc mid = 64 * vc + mid
+
+-- The FARM-1 of each virtual channel, and of each channel the octets so far of the series that is incomplete, if one
+-- is; there is none past the last channel that is kept.
+pub record ReceiverState : Type 0 where
+  pub farms : List FarmView
+  pub incomplete : List (Option (List ℕ))
+  pub has_failed : Bool
+
+-- with this window and this V(R) at the start: FARM-1 at the start, and after frames of its virtual channel
+abbrev pub farm_at_start : ℕ → ℕ → FarmView
+farm_at_start w vr = record { window = w; state = farm_start vr }
+
+abbrev pub farm_of : ℕ → ℕ → List TcView → FarmView
+farm_of w vr channel = record { window = w; state = farm_after w vr channel }
+
+-- the virtual channels' FARMs had these frames
+pub record HaveStepped (w vr : ℕ) (farms : List FarmView) (views : List TcView) : Type 0 where
+  pub count : length farms ≡ 64
+  pub each : (vc : ℕ) → vc < 64 → slice_index_or farms vc (farm_at_start w vr) ≡ farm_of w vr (channel_of vc views)
+
+-- the series that are incomplete after these frames
+abbrev pub AreIncomplete : ℕ → ℕ → List (Option (List ℕ)) → List TcView → Type 0
+AreIncomplete w vr incomplete views =
+    (vc mid : ℕ) → vc < 64 → mid < 64 → slice_index_or incomplete (channel_at vc mid) None ≡ incomplete_of (segments_of w vr vc mid views)
+
+-- These frames were received, and no fault came. Other frames may have left the same.
+pub record HasReceived (w vr : ℕ) (state : ReceiverState) (views : List TcView) : Type 0 where
+  pub working : state.has_failed ≡ false
+  pub farms : HaveStepped w vr state.farms views
+  pub series : AreIncomplete w vr state.incomplete views
+
+-- A fault came at the last of these frames.
+pub record HasFailedAfter (w vr : ℕ) (state : ReceiverState) (views : List TcView) : Type 0 where
+  pub failed : state.has_failed ≡ true
+  pub farms : HaveStepped w vr state.farms views
+
+-- a fault came
+abbrev pub HasFailed : ReceiverState → Type 0
+HasFailed state = state.has_failed ≡ true
+
+-- it holds whichever frames were received, with whichever window and V(R) at the start
+abbrev pub ForReceived : ReceiverState → (ℕ → ℕ → List TcView → Type 0) → Type 0
+ForReceived state holds = (w vr : ℕ) (views : List TcView) → HasReceived w vr state views → holds w vr views
+
+-- ---- what the next frame does
+
+-- the verdict of FARM-1 on it
+abbrev pub verdict_on : ℕ → ℕ → List TcView → TcView → Verdict
+verdict_on w vr views next = (farm_step w (farm_after w vr (channel_of next.vc views)) (event_of next.content)).0
+
+-- the MAP of its unit, if it carries one
+abbrev pub map_of : Content → ℕ
+map_of (Ad ns unit) = (header_at unit).map
+map_of (Bd unit) = (header_at unit).map
+map_of Unlock = 0
+map_of (SetVr vr) = 0
+
+-- the channel of its unit
+abbrev pub unit_channel : TcView → ℕ
+unit_channel next = channel_at next.vc (map_of next.content)
+
+-- the packets that end with its unit, if it is accepted, idle ones included
+abbrev pub ended_by : ℕ → ℕ → List TcView → TcView → List (List ℕ)
+ended_by w vr views next =
+    flat_map (packets_ended (segments_of w vr next.vc (map_of next.content) views)) (unit_by (verdict_on w vr views next) next.content)
+
+-- it holds whichever frames came before the next one, with whichever window and V(R) at the start, where these series
+-- are incomplete and FARM-1 gives this verdict
+abbrev pub ForIncomplete : List (Option (List ℕ)) → Verdict → TcView → (ℕ → ℕ → List TcView → Type 0) → Type 0
+ForIncomplete incomplete verdict next holds =
+    (w vr : ℕ) (views : List TcView) → AreIncomplete w vr incomplete views → verdict ≡ verdict_on w vr views next → holds w vr views
+
+-- a series is incomplete on the virtual channel and the MAP of the next frame's unit, before that frame or after it
+abbrev pub IsIncompleteAround : ℕ → ℕ → List TcView → TcView → Type 0
+IsIncompleteAround w vr views next =
+    (incomplete_of (segments_of w vr next.vc (map_of next.content) views) ≢ None)
+    ⊎ (incomplete_of (segments_of w vr next.vc (map_of next.content) (views ++ next ∷ [])) ≢ None)

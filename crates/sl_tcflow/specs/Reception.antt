@@ -1,0 +1,25 @@
+-- The packets of a MAP, CCSDS 232.0-B and 133.0-B. The greatest service data unit, and that what follows its
+-- last whole packet is dropped, are the mission profile's.
+use Rattle.std.specs.Prelude.{ℕ, ◌+◌, ◌==◌, nat_le, if◌then◌else◌, List, [], ◌∷◌, ◌++◌, length, flat_map}
+use Rattle.std.specs.List.{filter}
+use Rattle.sl_packet.specs.Packets.{packets_of}
+use Rattle.sl_tcframe.specs.TcFrame.{TcView}
+use Rattle.sl_tcflow.specs.AcceptedUnit.{channel_of, accepted_units}
+use Rattle.sl_tcflow.specs.Series.{SeriesAt, past, reassembled, segments_on, series_of}
+
+-- the packets of a service data unit: the longest list of them that lies at its front
+abbrev pub packets_in : List (List ℕ) → List (List ℕ)
+packets_in segments = if nat_le (length (reassembled segments)) 65542 then packets_of (reassembled segments) else []
+
+-- the packets of the series of a MAP, in order, idle ones included
+abbrev pub packets_on : List (List ℕ) → List (List ℕ)
+packets_on list = flat_map (λ (s : SeriesAt). packets_in s.segments) (series_of list)
+
+-- those of the series that ends with the next segment
+abbrev pub packets_ended : List (List ℕ) → List ℕ → List (List ℕ)
+packets_ended list next =
+    flat_map (λ (s : SeriesAt). packets_in s.segments) (filter (λ (s : SeriesAt). past s == length list + 1) (series_of (list ++ next ∷ [])))
+
+-- the segments of a virtual channel and a MAP, among frames
+abbrev pub segments_of : ℕ → ℕ → ℕ → ℕ → List TcView → List (List ℕ)
+segments_of w vr vc mid views = segments_on mid (accepted_units w vr (channel_of vc views))

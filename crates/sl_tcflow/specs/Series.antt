@@ -1,0 +1,95 @@
+-- Segments and the series of them that carry one service data unit, CCSDS 232.0-B. How long a reassembled
+-- service data unit may be is the mission profile's.
+use Rattle.std.specs.Prelude.{◌≡◌, ℕ, ◌+◌, ◌==◌, nat_le, Bool, if◌then◌else◌, List, [], ◌∷◌, ◌++◌, length, take, drop, map, Contains}
+use Rattle.std.specs.List.{AllByRecursion, concat, filter}
+use Rattle.sl_fields.specs.SegmentHeader.{SegmentFields, segment_header}
+
+-- the segment header of a unit, and the octets after it
+abbrev pub header_at : List ℕ → SegmentFields
+header_at unit = segment_header (take 1 unit)
+
+abbrev pub octets_at : List ℕ → List ℕ
+octets_at unit = drop 1 unit
+
+-- the segments of a multiplexer access point (MAP), among the units of a virtual channel, in order
+abbrev pub segments_on : ℕ → List (List ℕ) → List (List ℕ)
+segments_on mid units = filter (λ unit. (header_at unit).map == mid) units
+
+-- the sequence flags: first 1, continuing 0, last 2, no segmentation 3
+abbrev pub flags_of : List ℕ → ℕ
+flags_of segment = (header_at segment).flags
+
+-- A series is one segment with no segmentation, or a first one, continuing ones or none, and a last one.
+pub data IsSeries : List (List ℕ) → Type 0 where
+  whole : (segment : List ℕ) → flags_of segment ≡ 3 → IsSeries (segment ∷ [])
+  divided : (first last : List ℕ) (middle : List (List ℕ)) → flags_of first ≡ 1
+      → AllByRecursion (λ segment. flags_of segment ≡ 0) middle → flags_of last ≡ 2
+      → IsSeries (first ∷ middle ++ last ∷ [])
+
+-- a series in the list of a MAP's segments: those before it, and itself
+pub record SeriesAt : Type 0 where
+  pub before : ℕ
+  pub segments : List (List ℕ)
+
+-- the segments of the series stand in the list from that index on
+pub record IsSeriesOf (list : List (List ℕ)) (s : SeriesAt) : Type 0 where
+  pub series : IsSeries s.segments
+  pub earlier : List (List ℕ)
+  pub later : List (List ℕ)
+  pub in_order : list ≡ earlier ++ s.segments ++ later
+  pub here : s.before ≡ length earlier
+
+-- the index of the segment after the series
+abbrev pub past : SeriesAt → ℕ
+past s = s.before + length s.segments
+
+-- ---- the series of a list, each found from its first segment with those after it
+
+-- the series that these segments so far become with later ones: one, or none
+abbrev pub completed : List (List ℕ) → List (List ℕ) → List (List (List ℕ))
+completed so_far [] = []
+completed so_far (segment ∷ later) =
+    if flags_of segment == 0 then completed (so_far ++ segment ∷ []) later
+    else if flags_of segment == 2 then (so_far ++ segment ∷ []) ∷ []
+    else []
+
+-- the series that begins with a segment: one, or none
+abbrev pub series_with : List ℕ → List (List ℕ) → List (List (List ℕ))
+series_with segment later =
+    if flags_of segment == 3 then (segment ∷ []) ∷ []
+    else if flags_of segment == 1 then completed (segment ∷ []) later
+    else []
+
+-- all series, by their first segments, where so many segments come before the list
+abbrev pub series_from : ℕ → List (List ℕ) → List SeriesAt
+series_from before [] = []
+series_from before (segment ∷ later) =
+    map (λ segments. record { before = before; segments = segments }) (series_with segment later) ++ series_from (before + 1) later
+
+abbrev pub series_of : List (List ℕ) → List SeriesAt
+series_of list = series_from 0 list
+
+-- ---- what a series carries
+
+-- the reassembled service data unit
+abbrev pub reassembled : List (List ℕ) → List ℕ
+reassembled segments = concat (map octets_at segments)
+
+-- ---- laws
+
+-- each series that is listed is one,
+abbrev pub EachIsSeries : Type 0
+EachIsSeries = (list : List (List ℕ)) → AllByRecursion (IsSeriesOf list) (series_of list)
+
+-- and each series is listed.
+abbrev pub EachSeriesIsListed : Type 0
+EachSeriesIsListed = (list : List (List ℕ)) (s : SeriesAt) → IsSeriesOf list s → Contains (series_of list) s
+
+-- One ends before the next begins: no segment is in two series.
+pub data AreApart : List SeriesAt → Type 0 where
+  none : AreApart []
+  one : (s : SeriesAt) → AreApart (s ∷ [])
+  more : (s t : SeriesAt) (later : List SeriesAt) → nat_le (past s) t.before ≡ Bool.true → AreApart (t ∷ later) → AreApart (s ∷ t ∷ later)
+
+abbrev pub SeriesAreApart : Type 0
+SeriesAreApart = (list : List (List ℕ)) → AreApart (series_of list)

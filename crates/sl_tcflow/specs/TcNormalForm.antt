@@ -1,0 +1,54 @@
+-- The normal form of a TC recording: the delivered packets of each virtual channel and MAP in frames of type AD
+-- that have nothing of the recording's own. All of it is this project's mission profile; the frames are those of
+-- CCSDS 232.0-B.
+use Rattle.std.specs.Prelude.{ℕ, ◌+◌, ◌-◌, ◌*◌, ◌/◌, ◌%◌, ◌==◌, if◌then◌else◌, List, [], ◌∷◌, ◌++◌, length, take, drop, map, flat_map}
+use Rattle.std.specs.List.{concat, range_with_len}
+use Rattle.sl_fields.specs.SegmentHeader.{SegmentFields}
+use Rattle.sl_tcframe.specs.AdFrame.{room_of, ad_frame}
+use Rattle.sl_tcframe.specs.TcFrame.{TcFormat}
+
+-- how many segments a packet needs: each is full but the last, which has one octet or more
+abbrev pub segment_count : ℕ → List ℕ → ℕ
+segment_count room packet = (length packet + room - 1) / room
+
+-- the octets of the segment of that number
+abbrev pub segment_octets_at : ℕ → List ℕ → ℕ → List ℕ
+segment_octets_at room packet number = take room (drop (number * room) packet)
+
+-- the sequence flags of the segment of that number among so many
+abbrev pub flags_at : ℕ → ℕ → ℕ
+flags_at count number =
+    if count == 1 then 3
+    else if number == 0 then 1
+    else if number + 1 == count then 2
+    else 0
+
+-- the segments of a packet on a MAP, as their headers and their octets
+abbrev pub segments_of_packet : ℕ → ℕ → List ℕ → List (SegmentFields × List ℕ)
+segments_of_packet room mid packet =
+    let count : ℕ = segment_count room packet in
+    map (λ number. (record { flags = flags_at count number; map = mid }, segment_octets_at room packet number)) (range_with_len 0 count)
+
+-- those of the packets of a virtual channel's MAPs, 64 lists by rising MAP
+abbrev pub segments_of_maps : ℕ → ℕ → List (List (List ℕ)) → List (SegmentFields × List ℕ)
+segments_of_maps room mid [] = []
+segments_of_maps room mid (packets ∷ lists) = flat_map (segments_of_packet room mid) packets ++ segments_of_maps room (mid + 1) lists
+
+-- frames of type AD of these segments, N(S) from a number on
+abbrev pub frames_of_segments : TcFormat → ℕ → ℕ → ℕ → List (SegmentFields × List ℕ) → List (List ℕ)
+frames_of_segments format spacecraft vc ns [] = []
+frames_of_segments format spacecraft vc ns (segment ∷ segments) =
+    ad_frame format spacecraft vc (ns % 256) segment.0 segment.1 ∷ frames_of_segments format spacecraft vc (ns + 1) segments
+
+-- the frames of a virtual channel, of its 64 lists of packets by MAP, N(S) from the initial V(R) on
+abbrev pub channel_frames : TcFormat → ℕ → ℕ → ℕ → List (List (List ℕ)) → List (List ℕ)
+channel_frames format spacecraft vr vc lists =
+    frames_of_segments format spacecraft vc vr (segments_of_maps (room_of format) 0 lists)
+
+-- the normal form of lists of packets, that of virtual channel v and MAP m at the index 64 v + m
+abbrev pub tc_frames_form : TcFormat → ℕ → ℕ → List (List (List ℕ)) → List (List ℕ)
+tc_frames_form format spacecraft vr lists =
+    flat_map (λ vc. channel_frames format spacecraft vr vc (take 64 (drop (64 * vc) lists))) (range_with_len 0 64)
+
+abbrev pub tc_normal_form_of : TcFormat → ℕ → ℕ → List (List (List ℕ)) → List ℕ
+tc_normal_form_of format spacecraft vr lists = concat (tc_frames_form format spacecraft vr lists)

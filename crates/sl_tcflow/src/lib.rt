@@ -1,0 +1,19 @@
+//! Packets in TC transfer frames of CCSDS 232.0-B: how they are delivered from the units that FARM-1 accepts on
+//! a virtual channel, and the normal form of delivered packets.
+//!
+//! A service data unit is a series of segments on a multiplexer access point (MAP) ([`laws`]).
+#![tactic(auto)]
+
+mod hand;
+mod incomplete;
+pub mod laws;
+mod receiver;
+mod reframe;
+mod step;
+
+pub use receiver::Receiver;
+pub use reframe::reframe_tc;
+pub use step::TcStep;
+
+#[cfg(test)]
+mod tests;

@@ -1,0 +1,49 @@
+//! What a frame brought.
+ghost use Rattle.std.specs.Prelude.{◌≡◌};
+
+use sl_cop::Verdict;
+use std::marker::Model;
+
+/// What a receiver made of a frame.
+#[derive(Clone, Copy, Debug, PartialEq, Eq)]
+pub struct TcStep {
+    pub(crate) verdict: Verdict,
+    pub(crate) packets: u32,
+    pub(crate) idle: u32,
+}
+
+impl Model for TcStep {
+    ghost use Rattle.sl_tcflow.specs.StepReport.{StepReport};
+
+    ghost Value = { StepReport };
+
+    ghost use Rattle.sl_tcflow.specs.StepReportModel.{report_of, inside_of};
+
+    ghost view = { report_of };
+
+    ghost inverse = { inside_of };
+}
+
+impl TcStep {
+    /// What FARM-1 answered.
+    pub fn verdict(&self) -> Verdict
+        ensures { result ≡ self.now.verdict }
+    {
+        self.verdict
+    }
+
+    /// Packets that end with the frame's unit, idle ones left out: together with those at most 9,363, as many as
+    /// a longest service data unit has.
+    pub fn packets(&self) -> u32
+        ensures { result ≡ self.now.packets }
+    {
+        self.packets
+    }
+
+    /// Idle packets that end with the frame's unit. See [`packets`](TcStep::packets) for how many there can be.
+    pub fn idle(&self) -> u32
+        ensures { result ≡ self.now.idle }
+    {
+        self.idle
+    }
+}

@@ -1,0 +1,2 @@
+mod receiver;
+mod reframe;

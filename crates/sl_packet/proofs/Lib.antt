@@ -12,3 +12,4 @@ pub mod PacketsLemmas
 pub mod PaddedLemmas
 pub mod PartialFacts
 pub mod StoppingLemmas
+pub mod WithoutIdleLemmas

@@ -7,11 +7,11 @@ use Rattle.std.proofs.lemmas.List.Elements.{filter-append}
 use Rattle.sl_packet.specs.Front.{Front, Foreign, Incomplete, Whole, front}
 use Rattle.sl_packet.specs.Packets.{rest_of}
 use Rattle.sl_tmframe.specs.TmFrame.{TmView, DataField, Packets, Idle, Opaque}
-use Rattle.sl_tmflow.specs.Channel.{channel_of, follows, packet_data}
+use Rattle.sl_tmflow.specs.Channel.{channel_of, follows, last_count, packet_data}
 use Rattle.sl_tmflow.specs.ChannelState.{ChannelState, no_frame, held_step, kept_of, kept_octets, incomplete_in, held_after, state_after, packets_after}
 use Rattle.sl_tmflow.specs.Delivery.{Continuation, Ends, Continues, Breaks, agreeing_pointer, ended, field_step, front_step, outcome_of, outcome_of_front, packets_ending, same_pointer, step_of}
 use Rattle.sl_tmflow.specs.Incomplete.{frame_incomplete, incomplete_octets}
-use Rattle.sl_tmflow.specs.Extraction.{ExtractorState, HasSeen, HasProcessed, ended_by, held_as, last_count}
+use Rattle.sl_tmflow.specs.Extraction.{ExtractorState, HasSeen, HasProcessed, ended_by, held_as}
 use Rattle.sl_tmflow.specs.PacketStart.{whole_packets}
 use Rattle.sl_tmflow.proofs.AtStartsLemmas.{at_rest}
 use Rattle.sl_tmflow.proofs.IncompleteListLemmas.{incomplete_of_idle, incomplete_of_opaque, incomplete_without_pointer, incomplete_from_pointer}
@@ -27,7 +27,7 @@ ends_with view [] = ([], view, refl)
 ends_with view (next ∷ later) =
     let w = ends_with next later in (view ∷ w.0, w.1, ap (λ l. view ∷ l) w.2)
 
-last_count-push : (before : List TmView) (last : TmView) → last_count (before ++ last ∷ []) ≡ Some last.vc_count
+pub last_count-push : (before : List TmView) (last : TmView) → last_count (before ++ last ∷ []) ≡ Some last.vc_count
 last_count-push [] last = refl
 last_count-push (view ∷ []) last = refl
 last_count-push (view ∷ next ∷ before) last = last_count-push (next ∷ before) last
@@ -194,16 +194,21 @@ each_seen states views next inside vc s =
 
 -- ---- all of them
 
+-- of the channel of a number
+pub seen_at : (old : ExtractorState) (views : List TmView) (states : List ChannelState) (at vc : ℕ) (d : ChannelState) → HasProcessed old views → states ≡ old.channels
+    → length states ≡ 8 → vc ≤ 7 → at ≡ vc → HasSeen (slice_index_or states at d) (channel_of vc views)
+seen_at old views states at vc d p are eight fits same =
+    let inside : vc < length states = omega arith in
+    let seen : HasSeen (slice_index_or states vc no_frame) (channel_of vc views) =
+    subst (λ l. HasSeen (slice_index_or l vc no_frame) (channel_of vc views)) (sym are) (p.each vc (omega arith)) in
+    subst (λ i. HasSeen (slice_index_or states i d) (channel_of vc views)) (sym same)
+    (subst (λ s. HasSeen s (channel_of vc views)) (get_or_default states vc no_frame d inside) seen)
+
 module _ (old : ExtractorState) (views : List TmView) (next : TmView) (states : List ChannelState) (at : ℕ) (d : ChannelState) where
   pub ended_now : HasProcessed old views → states ≡ old.channels → length states ≡ 8 → next.vc ≤ 7 → at ≡ next.vc
       → ended_by views next ≡ packets_after (slice_index_or states at d) next
   ended_now p are eight fits same =
-      let inside : next.vc < length states = omega arith in
-      let seen : HasSeen (slice_index_or states next.vc no_frame) (channel_of next.vc views) =
-      subst (λ l. HasSeen (slice_index_or l next.vc no_frame) (channel_of next.vc views)) (sym are) (p.each next.vc (omega arith)) in
-      one_more (slice_index_or states next.vc no_frame) (channel_of next.vc views) next seen
-      ∙ ap (λ s. packets_after s next) (get_or_default states next.vc no_frame d inside)
-      ∙ ap (λ i. packets_after (slice_index_or states i d) next) (sym same)
+      one_more (slice_index_or states at d) (channel_of next.vc views) next (seen_at old views states at next.vc d p are eight fits same)
 
   pub processed_more : (after : ChannelState) → HasProcessed old views → states ≡ old.channels → length states ≡ 8 → next.vc ≤ 7 → at ≡ next.vc
       → after ≡ state_after (slice_index_or states at d) next

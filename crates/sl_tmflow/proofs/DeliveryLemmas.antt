@@ -18,7 +18,7 @@ field_deliveries frame view later field =
 
 -- ---- each that is listed is one
 
-start_delivery : (channel before : List TmView) (view : TmView) (later : List TmView) (frame : ℕ) (first : Option ℕ) (octets : List ℕ) (start : ℕ)
+pub start_delivery : (channel before : List TmView) (view : TmView) (later : List TmView) (frame : ℕ) (first : Option ℕ) (octets : List ℕ) (start : ℕ)
     → channel ≡ before ++ view ∷ later → frame ≡ length before → view.field ≡ Packets first octets → IsStart octets first start
     → AllByRecursion (IsDelivery channel) (delivery_of frame start (outcome_of view (drop start octets) later))
 start_delivery channel before view later frame first octets start all here is s = cases (outcome_of view (drop start octets) later) refl

@@ -9,6 +9,7 @@ use Rattle.sl_packet.proofs.FrontLemmas.{whole_is_a_packet, incomplete_may_becom
 use Rattle.sl_packet.proofs.PacketLemmas.{version_of-append}
 use Rattle.sl_tmframe.specs.TmFrame.{TmView, DataField, Packets, Idle, Opaque}
 use Rattle.sl_tmflow.specs.Among.{IsAmong}
+use Rattle.sl_tmflow.specs.Anomaly.{IsIncompleteAt}
 use Rattle.sl_tmflow.specs.Channel.{packet_data}
 use Rattle.sl_tmflow.specs.Delivery.{IsPrefix, Outcome, Completes, StillIncomplete, Undelivered, outcome_of}
 use Rattle.sl_tmflow.specs.Incomplete.{IsIncomplete, incomplete_octets, frame_incomplete, incomplete_of, EachListedIsIncomplete, EachIncompleteIsListed}
@@ -27,7 +28,7 @@ begun_version : (octets : List ℕ) → front octets ≡ Incomplete → 1 ≤ le
 begun_version octets incomplete some =
     let (more, packet) = incomplete_may_become_whole octets incomplete in sym (version_of-append octets more some) ∙ packet.version
 
-not_foreign : (n version : ℕ) → version ≡ 0 → (nat_lt 0 n && not (version == 0)) ≡ false
+pub not_foreign : (n version : ℕ) → version ≡ 0 → (nat_lt 0 n && not (version == 0)) ≡ false
 not_foreign n version none = grind (arith, nat_tests)
 
 foreign_test : (foreign fewer : Bool) (len : ℕ) → foreign ≡ false → (if foreign then Foreign else if fewer then Incomplete else Whole len) ≡ Foreign → ⊥
@@ -49,6 +50,37 @@ begins octets version none = cases (front octets) refl
 
 -- ---- each that is listed is incomplete
 
+-- the packet of a start is incomplete where its outcome says so
+pub incomplete_at_start : (channel before : List TmView) (view : TmView) (later : List TmView) (first : Option ℕ) (field : List ℕ) (offset : ℕ) (so_far : List ℕ)
+    → channel ≡ before ++ view ∷ later → view.field ≡ Packets first field → IsStart field first offset
+    → outcome_of view (drop offset field) later ≡ StillIncomplete so_far → IsIncompleteAt channel (length before) offset so_far
+incomplete_at_start channel before view later first field offset so_far all is s e =
+    let w = outcome_incomplete view (drop offset field) later so_far e in
+    let inside = s.inside in
+    let some : 1 ≤ length so_far =
+    omega (arith, ap length w.came, length-append (drop offset field) (concat (map packet_data later)), length-drop offset field) in
+    record {
+      incomplete = record {
+        before = before;
+        view = view;
+        run = later;
+        in_order = all;
+        first = first;
+        field = field;
+        carries = is;
+        offset = offset;
+        start = s;
+        came = w.came;
+        version = begun_version so_far w.incomplete some;
+        no_packet = λ packet p prefix. incomplete_is_no_packet so_far packet p w.incomplete prefix;
+        consecutive = w.consecutive;
+        none_opaque = w.none_opaque;
+        no_start = w.no_start;
+      };
+      in_frame = refl;
+      at = refl;
+    }
+
 start_incomplete : (channel before : List TmView) (view : TmView) (later : List TmView) (first : Option ℕ) (field : List ℕ) (offset : ℕ)
     → channel ≡ before ++ view ∷ later → view.field ≡ Packets first field → IsStart field first offset
     → AllByRecursion (IsIncomplete channel) (incomplete_octets (outcome_of view (drop offset field) later))
@@ -56,30 +88,7 @@ start_incomplete channel before view later first field offset all is s = cases (
   where
     cases : (o : Outcome) → outcome_of view (drop offset field) later ≡ o → AllByRecursion (IsIncomplete channel) (incomplete_octets o)
     cases (Completes packet passed) e = tt
-    cases (StillIncomplete so_far) e =
-        let w = outcome_incomplete view (drop offset field) later so_far e in
-        let inside = s.inside in
-        let some : 1 ≤ length so_far =
-        omega (arith, ap length w.came, length-append (drop offset field) (concat (map packet_data later)), length-drop offset field) in (
-          record {
-            before = before;
-            view = view;
-            run = later;
-            in_order = all;
-            first = first;
-            field = field;
-            carries = is;
-            offset = offset;
-            start = s;
-            came = w.came;
-            version = begun_version so_far w.incomplete some;
-            no_packet = λ packet p prefix. incomplete_is_no_packet so_far packet p w.incomplete prefix;
-            consecutive = w.consecutive;
-            none_opaque = w.none_opaque;
-            no_start = w.no_start;
-          },
-          tt,
-        )
+    cases (StillIncomplete so_far) e = ((incomplete_at_start channel before view later first field offset so_far all is s e).incomplete, tt)
     cases Undelivered e = tt
 
 frame_is_incomplete : (channel before : List TmView) (view : TmView) (later : List TmView) → channel ≡ before ++ view ∷ later
@@ -111,8 +120,9 @@ listed_from octets [] view later there = among-left octets (frame_incomplete vie
 listed_from octets (other ∷ before) view later there =
     among-right octets (frame_incomplete other (before ++ view ∷ later)) (incomplete_of (before ++ view ∷ later)) (listed_from octets before view later there)
 
-listed_in_frame : (channel : List TmView) (octets : List ℕ) (x : IsIncomplete channel octets) → IsAmong octets (frame_incomplete x.view x.run)
-listed_in_frame channel octets x =
+-- the outcome of its start says so
+pub incomplete_start_outcome : (channel : List TmView) (octets : List ℕ) (x : IsIncomplete channel octets) → outcome_of x.view (drop x.offset x.field) x.run ≡ StillIncomplete octets
+incomplete_start_outcome channel octets x =
     let after : IsIncompleteAfter x.view (drop x.offset x.field) x.run (last_of x.view x.run) octets = record {
       ended_by = refl;
       came = x.came;
@@ -121,8 +131,11 @@ listed_in_frame channel octets x =
       no_start = x.no_start;
       incomplete = begins octets x.version x.no_packet;
     } in
-    let outcome : outcome_of x.view (drop x.offset x.field) x.run ≡ StillIncomplete octets =
-    incomplete_outcome x.view (drop x.offset x.field) x.run (last_of x.view x.run) octets after in
+    incomplete_outcome x.view (drop x.offset x.field) x.run (last_of x.view x.run) octets after
+
+listed_in_frame : (channel : List TmView) (octets : List ℕ) (x : IsIncomplete channel octets) → IsAmong octets (frame_incomplete x.view x.run)
+listed_in_frame channel octets x =
+    let outcome = incomplete_start_outcome channel octets x in
     let here : IsAmong octets (incomplete_octets (outcome_of x.view (drop x.offset x.field) x.run)) =
     subst (λ o. IsAmong octets (incomplete_octets o)) (sym outcome) (inl refl) in
     let there : IsAmong octets (field_incomplete x.view x.run (Packets x.first x.field)) =

@@ -1,6 +1,6 @@
 -- What holds of each element of a list, and where an element stands.
-use Rattle.std.proofs.Common.{◌≡◌, ◌⊎◌, List, [], ◌∷◌, ◌++◌, inl, inr, refl, ap}
-use Rattle.std.specs.List.{AllByRecursion, flat_map}
+use Rattle.std.proofs.Common.{◌≡◌, ◌⊎◌, Bool, true, false, List, [], ◌∷◌, ◌++◌, length, inl, inr, refl, ap, arith}
+use Rattle.std.specs.List.{AllByRecursion, filter, flat_map}
 
 pub each-append : {X : Type 0} (P : X → Type 0) (xs ys : List X) → AllByRecursion P xs → AllByRecursion P ys → AllByRecursion P (xs ++ ys)
 each-append P [] ys left right = right
@@ -13,6 +13,15 @@ each-weaker P Q weaker (x ∷ xs) each = (weaker x each.0, each-weaker P Q weake
 pub each-flat_map : {X A : Type 0} (P : A → Type 0) (f : X → List A) (xs : List X) → AllByRecursion (λ x. AllByRecursion P (f x)) xs → AllByRecursion P (flat_map f xs)
 each-flat_map P f [] each = tt
 each-flat_map P f (x ∷ xs) each = each-append P (f x) (flat_map f xs) each.0 (each-flat_map P f xs each.1)
+
+-- a test that each element passes keeps all of them, and one that none passes keeps none
+pub filter_all : {X : Type 0} (p : X → Bool) (xs : List X) → AllByRecursion (λ x. p x ≡ true) xs → filter p xs ≡ xs
+filter_all p [] each = refl
+filter_all p (x ∷ xs) each = rw (each.0, filter_all p xs each.1) refl
+
+pub filter_none : {X : Type 0} (p : X → Bool) (xs : List X) → AllByRecursion (λ x. p x ≡ false) xs → filter p xs ≡ []
+filter_none p [] each = refl
+filter_none p (x ∷ xs) each = rw (each.0) (filter_none p xs each.1)
 
 -- one that stands in the list
 pub each-at : {X : Type 0} (P : X → Type 0) (earlier : List X) (x : X) (later : List X) → AllByRecursion P (earlier ++ x ∷ later) → P x
@@ -29,6 +38,14 @@ tail_same x y xs ys same = cc
 pub some_element : {X : Type 0} (earlier : List X) (x : X) (later : List X) → [] ≡ earlier ++ x ∷ later → ⊥
 some_element [] x later same = cc
 some_element (e ∷ earlier) x later same = cc
+
+-- the elements of a number are the same, and so are those after them
+pub same_place : {X : Type 0} (xs ys : List X) (x y : X) (xs' ys' : List X) → xs ++ x ∷ xs' ≡ ys ++ y ∷ ys' → length xs ≡ length ys → (x ≡ y) × (xs' ≡ ys')
+same_place [] [] x y xs' ys' same long = (head_same x y xs' ys' same, tail_same x y xs' ys' same)
+same_place [] (b ∷ ys) x y xs' ys' same long = absurd (omega arith)
+same_place (a ∷ xs) [] x y xs' ys' same long = absurd (omega arith)
+same_place (a ∷ xs) (b ∷ ys) x y xs' ys' same long =
+    same_place xs ys x y xs' ys' (tail_same a b (xs ++ x ∷ xs') (ys ++ y ∷ ys') same) (omega arith)
 
 -- every other list has a last element
 pub has_last : {X : Type 0} (x : X) (xs : List X) → (earlier : List X) × (last : X) × (x ∷ xs ≡ earlier ++ last ∷ [])

@@ -16,14 +16,14 @@ use Rattle.sl_tmflow.specs.FieldStart.{starts_past}
 use Rattle.sl_tmflow.specs.NormalForm.{packet_offsets, lies_in, first_of}
 
 -- the first of these offsets that lies in the data field of a number
-abbrev found_in : ℕ → ℕ → ℕ → List (List ℕ) → Option ℕ
+abbrev pub found_in : ℕ → ℕ → ℕ → List (List ℕ) → Option ℕ
 found_in room number offset packets = find (lies_in room number) (packet_offsets offset packets)
 
 -- an offset lies in the data field of its own number alone
 pub lies_here : (room number start : ℕ) → start < room → lies_in room number (number * room + start) ≡ true
 lies_here room number start inside = eq-eqb ((number * room + start) / room) number (div-mul-add number room start inside)
 
-lies_elsewhere : (room number other start : ℕ) → start < room → number < other → lies_in room other (number * room + start) ≡ false
+pub lies_elsewhere : (room number other start : ℕ) → start < room → number < other → lies_in room other (number * room + start) ≡ false
 lies_elsewhere room number other start inside less =
     let e = div-mul-add number room start inside in ne_eqb ((number * room + start) / room) other (λ h. absurd (omega arith))
 
@@ -36,7 +36,7 @@ no_later room number offset (packet ∷ packets) some beyond =
     let test : (offset / room == number) ≡ false = ne_eqb (offset / room) number (λ e. absurd (omega arith)) in
     rw (test) (no_later room number (offset + length packet) packets some (omega arith))
 
-skip_packet : (room number offset : ℕ) (packet : List ℕ) (packets : List (List ℕ)) → lies_in room number offset ≡ false
+pub skip_packet : (room number offset : ℕ) (packet : List ℕ) (packets : List (List ℕ)) → lies_in room number offset ≡ false
     → found_in room number offset (packet ∷ packets) ≡ found_in room number (offset + length packet) packets
 skip_packet room number offset packet packets test = rw (test) refl
 

@@ -1,18 +1,19 @@
 -- The filling of octets up to a multiple of the room.
-use Rattle.std.proofs.Common.{◌≡◌, ◌⊎◌, ℕ, zero, suc, ◌+◌, ◌-◌, ◌*◌, ◌/◌, ◌%◌, ◌<◌, ◌≤◌, ◌==◌, ◌||◌, nat_lt, not, if◌then◌else◌, List, [], ◌∷◌, ◌++◌, length, refl, sym, ◌∙◌, ap, arith, inl, inr, append-nil, length-append}
+use Rattle.std.proofs.Common.{◌≡◌, ◌⊎◌, ℕ, zero, suc, ◌+◌, ◌-◌, ◌*◌, ◌/◌, ◌%◌, ◌<◌, ◌≤◌, ◌==◌, ◌||◌, nat_lt, true, false, not, if◌then◌else◌, List, [], ◌∷◌, ◌++◌, length, refl, sym, ◌∙◌, ap, ap₂, arith, inl, inr, append-nil, length-append}
 use Rattle.std.specs.List.{AllByRecursion, concat}
 use Rattle.std.proofs.lemmas.List.Folds.{concat-append}
 use Rattle.std.proofs.Math.Nat.{mod_self, mod-eq_of_lt, add-mul, one-mul, zero-mul, suc-mul, zero-mod, mul-add-mod_self_right}
 use Rattle.std.proofs.lemmas.Nat.{div-add-mod', mod_below}
 use Rattle.std.proofs.lemmas.Bool.Decides.{nat_tests, leb_tells, eqb_tells}
+use Rattle.std.proofs.lemmas.List.Elements.{filter-append}
 use Rattle.sl_packet.specs.Delivered.{IsDeliverable}
 use Rattle.sl_packet.specs.IdlePacket.{idle_packet}
-use Rattle.sl_packet.specs.Packet.{IsPacket}
-use Rattle.sl_packet.specs.Packets.{packets_of}
-use Rattle.sl_packet.proofs.IdlePacketLemmas.{idle_packet_is_a_packet, length-idle_packet}
+use Rattle.sl_packet.specs.Packet.{IsPacket, is_idle_packet}
+use Rattle.sl_packet.specs.Packets.{packets_of, without_idle}
+use Rattle.sl_packet.proofs.IdlePacketLemmas.{idle_packet_is_a_packet, idle_packet_is_idle, length-idle_packet}
 use Rattle.sl_packet.proofs.PacketsLemmas.{packets_of-concat}
 use Rattle.sl_tmflow.specs.NormalForm.{fill_of, filling, with_filling, IsLeastFill}
-use Rattle.sl_tmflow.proofs.EachLemmas.{each-append}
+use Rattle.sl_tmflow.proofs.EachLemmas.{each-append, each-weaker, filter_all, filter_none}
 
 -- the filling for a gap of fewer octets than the room
 abbrev wide_enough : ℕ → ℕ → ℕ
@@ -157,6 +158,13 @@ filling_is room len some short =
           rw (test) ((idle_packet_is_a_packet (fill_of room len) wide (omega arith), tt), ap length (append-nil (idle_packet (fill_of room len))) ∙ length-idle_packet (fill_of room len) wide)
     ]
 
+filling_is_idle : (room len : ℕ) → 7 ≤ room → room ≤ 65536 → AllByRecursion (λ packet. is_idle_packet packet ≡ true) (filling room len)
+filling_is_idle room len some short =
+    elim (eqb_tells (fill_of room len) 0) [
+      | inl (test, none) ↦ rw (test) tt
+      | inr (test, there) ↦ rw (test) (idle_packet_is_idle (fill_of room len) (some_fill room len some there) (let fits = fill_inside room len some in omega arith), tt)
+    ]
+
 pub filled_octets : (room : ℕ) (packets : List (List ℕ)) → concat packets ++ concat (filling room (length (concat packets))) ≡ concat (with_filling room packets)
 filled_octets room packets = sym (concat-append packets (filling room (length (concat packets))))
 
@@ -175,3 +183,13 @@ filled_whole room packets some short =
 pub due_packets : (packets : List (List ℕ)) → AllByRecursion IsDeliverable packets → AllByRecursion IsPacket packets
 due_packets [] each = tt
 due_packets (packet ∷ packets) each = (each.0.0, due_packets packets each.1)
+
+-- and without the idle packet that fills them up they are as they were
+pub filled_without_idle : (room : ℕ) (packets : List (List ℕ)) → 7 ≤ room → room ≤ 65536 → AllByRecursion IsDeliverable packets → without_idle (with_filling room packets) ≡ packets
+filled_without_idle room packets some short each =
+    let fill = filling room (length (concat packets)) in
+    let keeps = λ (packet : List ℕ). not (is_idle_packet packet) in
+    filter-append keeps packets fill
+    ∙ ap₂ (λ ps fs. ps ++ fs) (filter_all keeps packets (each-weaker IsDeliverable (λ packet. keeps packet ≡ true) (λ packet due. ap not due.1) packets each))
+    (filter_none keeps fill (each-weaker (λ packet. is_idle_packet packet ≡ true) (λ packet. keeps packet ≡ false) (λ packet idle. ap not idle) fill (filling_is_idle room (length (concat packets)) some short)))
+    ∙ append-nil packets

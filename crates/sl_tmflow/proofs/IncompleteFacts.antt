@@ -5,7 +5,7 @@ use Rattle.sl_tmflow.specs.Delivery.{packets_ending}
 use Rattle.sl_tmflow.specs.Incomplete.{incomplete_of}
 
 -- a frame on virtual channel 0 with this count
-abbrev frame : ℕ → DataField → TmView
+abbrev pub frame : ℕ → DataField → TmView
 frame count field = record {
   vc = 0;
   mc_count = count;
@@ -15,37 +15,37 @@ frame count field = record {
 }
 
 -- a packet of 23 octets
-abbrev long : List ℕ
+abbrev pub long : List ℕ
 long = 0x00 ∷ 0x02 ∷ 0xC0 ∷ 0x05 ∷ 0x00 ∷ 0x10 ∷ replicate 17 0x11
 
 -- one of ten, and where a frame ends in it
-abbrev begun : List ℕ
+abbrev pub begun : List ℕ
 begun = 0x00 ∷ 0x03 ∷ 0xC0 ∷ []
 
-abbrev remainder : List ℕ
+abbrev pub remainder : List ℕ
 remainder = 0x00 ∷ 0x00 ∷ 0x03 ∷ 0x01 ∷ 0x02 ∷ 0x03 ∷ 0x04 ∷ []
 
 -- another one of ten, and an idle packet of nine
-abbrev packet : List ℕ
+abbrev pub packet : List ℕ
 packet = 0x00 ∷ 0x01 ∷ 0xC0 ∷ 0x00 ∷ 0x00 ∷ 0x03 ∷ 0xAA ∷ 0xBB ∷ 0xCC ∷ 0xDD ∷ []
 
-abbrev idle : List ℕ
+abbrev pub idle : List ℕ
 idle = 0x07 ∷ 0xFF ∷ 0xC0 ∷ 0x00 ∷ 0x00 ∷ 0x02 ∷ 0x00 ∷ 0x00 ∷ 0x00 ∷ []
 
 -- the first frame with this count
-abbrev first : ℕ → TmView
+abbrev pub first : ℕ → TmView
 first count = frame count (Packets (Some 0) (long ++ begun))
 
 -- a later one with this count, which ends the packet
-abbrev second : ℕ → TmView
+abbrev pub second : ℕ → TmView
 second count = frame count (Packets (Some 7) (remainder ++ packet ++ idle))
 
 -- a data field that ends with a packet of 29 octets, where a frame ends in it
-abbrev covered : List ℕ
+abbrev pub covered : List ℕ
 covered = 0x00 ∷ 0x00 ∷ 0x16 ∷ replicate 23 0x22
 
 -- one that a packet of 55 octets goes through
-abbrev passed : List ℕ
+abbrev pub passed : List ℕ
 passed = 0x00 ∷ 0x00 ∷ 0x30 ∷ replicate 23 0x33
 
 pub record AreComputed : Type 0 where

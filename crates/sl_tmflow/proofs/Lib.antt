@@ -1,5 +1,12 @@
+pub mod AnomalyFacts
+pub mod AnomalyLemmas
 pub mod AtStartsLemmas
+pub mod BrokenOffLemmas
+pub mod CanonicalLemmas
 pub mod ChannelLemmas
+pub mod CutDeliveryLemmas
+pub mod CutLemmas
+pub mod CutViewLemmas
 pub mod DeliveryLemmas
 pub mod EachIncompleteLemmas
 pub mod EachLemmas
@@ -14,5 +21,7 @@ pub mod LeastStartLemmas
 pub mod OneMoreLemmas
 pub mod OutcomeLemmas
 pub mod PushLemmas
+pub mod RecordingLemmas
+pub mod SeenLemmas
 pub mod StartLemmas
 pub mod StepLemmas

@@ -1,5 +1,5 @@
 -- A virtual channel of a recording, CCSDS 132.0-B: its frames in order, and how one follows another.
-use Rattle.std.specs.Prelude.{◌≡◌, ⊤, ℕ, ◌+◌, ◌%◌, ◌==◌, Bool, true, List, [], ◌∷◌, ◌++◌, map}
+use Rattle.std.specs.Prelude.{◌≡◌, ⊤, ℕ, ◌+◌, ◌%◌, ◌==◌, Bool, true, List, [], ◌∷◌, ◌++◌, map, Option, None, Some}
 use Rattle.std.specs.Result.{result_ok}
 use Rattle.std.specs.List.{filter, filter_map, concat}
 use Rattle.sl_tmframe.specs.TmFrame.{TmFormat, TmView, DataField, Packets, Idle, Opaque, tm_frame}
@@ -15,6 +15,12 @@ channel_of vc views = filter (λ view. view.vc == vc) views
 -- the virtual channel frame count that comes after one is the next one, modulo 256
 abbrev pub follows : ℕ → ℕ → Bool
 follows count next = next == (count + 1) % 256
+
+-- the virtual channel frame count of the last of these frames
+abbrev pub last_count : List TmView → Option ℕ
+last_count [] = None
+last_count (view ∷ []) = Some view.vc_count
+last_count (view ∷ next ∷ later) = last_count (next ∷ later)
 
 -- the next frame has the one that comes after this one's
 abbrev pub is_consecutive : TmView → TmView → Bool

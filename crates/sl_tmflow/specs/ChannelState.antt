@@ -1,7 +1,7 @@
 -- What an extractor keeps of a virtual channel of CCSDS 132.0-B, and what the next frame makes of it. These
 -- are the code's steps, not the standard's: contracts of private functions alone cite what a step does.
 use Rattle.std.specs.Prelude.{ℕ, Bool, false, List, [], ◌∷◌, ◌++◌, drop, Option, None, Some}
-use Rattle.sl_packet.specs.Front.{Front, Foreign, Incomplete, Whole, front}
+use Rattle.sl_packet.specs.Front.{Front, Foreign, Incomplete, Whole, front, is_foreign}
 use Rattle.sl_packet.specs.Packets.{rest_of}
 use Rattle.sl_tmframe.specs.TmFrame.{TmView, DataField, Packets, Idle, Opaque}
 use Rattle.sl_tmflow.specs.Channel.{follows, packet_data}
@@ -41,6 +41,16 @@ kept_of Breaks octets = []
 abbrev pub kept_octets : Continuation → List ℕ → TmView → List ℕ
 kept_octets step held next = kept_of step (held ++ packet_data next)
 
+-- the octets of an incomplete packet that a step breaks off
+abbrev pub lost_of : Continuation → List ℕ → List ℕ
+lost_of (Ends packet) octets = []
+lost_of Continues octets = []
+lost_of Breaks octets = octets
+
+-- the octets that are held and that the next frame breaks off
+abbrev pub lost_by : ChannelState → TmView → List ℕ
+lost_by state next = lost_of (step_in state next) state.held
+
 -- octets that begin an incomplete packet
 abbrev pub incomplete_in : Front → List ℕ → List ℕ
 incomplete_in Foreign octets = []
@@ -54,6 +64,13 @@ held_after (Packets (Some pointer) octets) held =
     incomplete_in (front (rest_of (drop pointer octets))) (rest_of (drop pointer octets))
 held_after Idle held = held
 held_after Opaque held = held
+
+-- what the packets that lie whole in a data field leave is of another version
+abbrev pub foreign_in : DataField → Bool
+foreign_in (Packets None octets) = false
+foreign_in (Packets (Some pointer) octets) = is_foreign (rest_of (drop pointer octets))
+foreign_in Idle = false
+foreign_in Opaque = false
 
 -- the state after the next frame, and the packets that end in it
 abbrev pub state_after : ChannelState → TmView → ChannelState

@@ -1,8 +1,8 @@
 -- What an extractor has made of the frames of virtual channels, CCSDS 132.0-B, that it was given.
-use Rattle.std.specs.Prelude.{◌≡◌, ℕ, ◌<◌, Bool, true, false, List, [], ◌∷◌, Option, None, Some}
+use Rattle.std.specs.Prelude.{◌≡◌, ℕ, ◌<◌, Bool, true, false, List, [], ◌∷◌}
 use Rattle.std.specs.List.{slice_index_or}
 use Rattle.sl_tmframe.specs.TmFrame.{TmView}
-use Rattle.sl_tmflow.specs.Channel.{channel_of}
+use Rattle.sl_tmflow.specs.Channel.{channel_of, last_count}
 use Rattle.sl_tmflow.specs.ChannelState.{ChannelState, no_frame}
 use Rattle.sl_tmflow.specs.Delivery.{packets_ending}
 use Rattle.sl_tmflow.specs.Incomplete.{incomplete_of}
@@ -10,12 +10,6 @@ use Rattle.sl_tmflow.specs.Incomplete.{incomplete_of}
 pub record ExtractorState : Type 0 where
   pub channels : List ChannelState
   pub has_failed : Bool
-
--- the virtual channel frame count of the last of these frames
-abbrev pub last_count : List TmView → Option ℕ
-last_count [] = None
-last_count (view ∷ []) = Some view.vc_count
-last_count (view ∷ next ∷ later) = last_count (next ∷ later)
 
 -- octets that are held, as a list of none or of one
 abbrev pub held_as : List ℕ → List (List ℕ)

@@ -1,4 +1,6 @@
 pub mod Among
+pub mod Anomaly
+pub mod Canonical
 pub mod Channel
 pub mod ChannelState
 pub mod Delivery
@@ -9,6 +11,7 @@ pub mod Incomplete
 pub mod NormalForm
 pub mod PacketStart
 pub mod Progress
+pub mod Recording
 pub mod StepReport
 pub mod StepReportModel
 pub use Rattle.sl_packet.specs.Delivered
@@ -18,4 +21,5 @@ pub use Rattle.sl_packet.specs.Packets
 pub use Rattle.sl_packet.specs.Sink
 pub use Rattle.sl_packet.specs.Stopping
 pub use Rattle.sl_tmframe.specs.PacketFrame
+pub use Rattle.sl_tmframe.specs.TmDelimited
 pub use Rattle.sl_tmframe.specs.TmFrame

@@ -1,8 +1,8 @@
 -- What a frame of packets does to an incomplete packet, as the code says it. Contracts of private functions
 -- alone cite it.
 use Rattle.std.specs.Prelude.{List, ℕ, take}
-use Rattle.sl_tmflow.specs.declared.channel.Progress.{Progress}
-use Rattle.sl_tmflow.specs.declared.channel.Progress.TheVariants as code
+use Rattle.sl_tmflow.specs.declared.progress.Progress.{Progress}
+use Rattle.sl_tmflow.specs.declared.progress.Progress.TheVariants as code
 use Rattle.sl_tmflow.specs.Delivery.{Continuation, Ends, Continues, Breaks}
 
 -- of the octets of the packet and of the frame's data field

@@ -1,19 +1,20 @@
 //! A virtual channel and the packet that is incomplete on it.
-ghost use Rattle.std.specs.Prelude.{◌≡◌, ◌≤◌, ◌<◌, ◌+◌, ◌-◌, ◌++◌, ◌∷◌, [], ℕ, nat_lt, if◌then◌else◌, length, drop, None, Some, OnOk, IfOk, IfErr};
-ghost use Rattle.sl_packet.specs.Front.{front};
-ghost use Rattle.sl_packet.specs.Packet.{IsPacket};
+ghost use Rattle.std.specs.Prelude.{◌≡◌, ◌≤◌, ◌+◌, ◌++◌, [], length, OnOk, IfOk, IfErr};
+ghost use Rattle.sl_packet.specs.Front.{front, is_foreign};
 ghost use Rattle.sl_packet.specs.Packets.{only_idle, packets_of, rest_of, without_idle};
 ghost use Rattle.sl_packet.specs.Sink.{TakesAll};
 ghost use Rattle.sl_tmframe.specs.TmField.{data_field};
 ghost use Rattle.sl_tmframe.specs.TmFrame.{IsInField, Packets};
-ghost use Rattle.sl_tmflow.specs.ChannelState.{held_after, incomplete_in, is_after, kept_octets, kept_of, no_frame, packets_after, state_after, step_in};
-ghost use Rattle.sl_tmflow.specs.Delivery.{ended, field_step, front_step};
+ghost use Rattle.sl_tmflow.specs.Anomaly.{gap_after};
+ghost use Rattle.sl_tmflow.specs.ChannelState.{foreign_in, held_after, incomplete_in, is_after, kept_octets, kept_of, lost_by, lost_of, no_frame, packets_after, state_after, step_in};
+ghost use Rattle.sl_tmflow.specs.Delivery.{ended, field_step};
 ghost use Rattle.sl_tmflow.specs.PacketStart.{whole_packets};
-ghost use Rattle.sl_tmflow.specs.Progress.{progress_step};
 ghost use Rattle.sl_packet.specs.Stopping.{IsStopped};
 
+use crate::handing::{hand, hand_packet};
+use crate::progress::{Progress, progress_in};
 use crate::step::{NOTHING, TmStep};
-use sl_packet::{FlowFault, Need, PacketSink, hand_over, need};
+use sl_packet::{FlowFault, Need, PacketSink, need};
 use sl_tmframe::{TmField, TmFrame};
 use std::alloc::Global;
 use std::marker::Model;
@@ -32,18 +33,11 @@ impl Model for Channel {
 
     ghost Value = { ChannelState };
 
-    ghost use Rattle.sl_tmflow.specs.ExtractorModel.{channel_state};
+    ghost use Rattle.sl_tmflow.specs.ExtractorModel.{channel_state, HoldsNoPacket};
 
     ghost view = { channel_state };
-}
 
-/// What a frame of packets does to an incomplete packet.
-#[derive(Clone, Copy)]
-enum Progress {
-    /// It ends, with so many octets.
-    Ends(usize),
-    Continues,
-    Breaks,
+    ghost invariant = { HoldsNoPacket };
 }
 
 impl Channel {
@@ -68,8 +62,12 @@ impl Channel {
         ensures kept { OnOk result (S.failures sink.new ≡ S.failures sink.old) }
         ensures packets { IfOk result (λ step. step.packets ≡ length (without_idle (packets_after self.old frame.now))) }
         ensures idle { IfOk result (λ step. step.idle ≡ length (only_idle (packets_after self.old frame.now))) }
+        ensures gap { IfOk result (λ step. step.gap ≡ gap_after self.old.count frame.now.vc_count) }
+        ensures dropped { IfOk result (λ step. step.dropped ≡ length (lost_by self.old frame.now)) }
+        ensures foreign { IfOk result (λ step. step.foreign ≡ foreign_in frame.now.field) }
         ensures stopped { IfErr result (λ flow. IsStopped S.taking S.failing S.failures sink.old frame.now.vc (without_idle (packets_after self.old frame.now)) flow sink.new) }
     {
+        let gap = self.gap_at(frame.vc_count());
         let ended = match self.go_on(frame, sink) {
             Ok(step) => step,
             Err(flow) => return Err(flow),
@@ -82,7 +80,30 @@ impl Channel {
         Ok(TmStep {
             packets: ended.packets + begun.packets,
             idle: ended.idle + begun.idle,
+            gap,
+            dropped: ended.dropped,
+            foreign: begun.foreign,
         })
+    }
+
+    /// The octets so far of the packet that is incomplete, 0 where none is.
+    pub fn held(&self) -> u32
+        ensures value { result ≡ length self.now.held }
+        ensures most { result ≤ 65541 }
+    {
+        self.held.len() as u32
+    }
+
+    // The count that was expected, where this one doesn't come after the last one.
+    fn gap_at(&self, count: u8) -> Option<u8>
+        ensures { result ≡ gap_after self.now.count count }
+    {
+        let expected = self.count?.wrapping_add(1);
+        if count == expected {
+            None
+        } else {
+            Some(expected)
+        }
     }
 
     // Goes on with the packet that is incomplete, if one is.
@@ -94,22 +115,32 @@ impl Channel {
         ensures packets { IfOk result (λ step. step.packets ≡ length (without_idle (ended (step_in self.old frame.now)))) }
         ensures idle { IfOk result (λ step. step.idle ≡ length (only_idle (ended (step_in self.old frame.now)))) }
         ensures few { IfOk result (λ step. step.packets + step.idle ≤ 1) }
+        ensures dropped { IfOk result (λ step. step.dropped ≡ length (lost_by self.old frame.now)) }
         ensures stopped { IfErr result (λ flow. IsStopped S.taking S.failing S.failures sink.old frame.now.vc (without_idle (ended (step_in self.old frame.now))) flow sink.new) }
     {
         if self.held.is_empty() || !self.is_followed_by(frame.vc_count()) {
-            self.held.clear();
-            return Ok(NOTHING);
+            return Ok(self.break_off());
         }
         match frame.field() {
             TmField::Packets { first, octets } => {
                 self.join(first, octets, u16::from(frame.vc()), sink)
             }
             TmField::Idle => Ok(NOTHING),
-            TmField::Opaque => {
-                self.held.clear();
-                Ok(NOTHING)
-            }
+            TmField::Opaque => Ok(self.break_off()),
         }
+    }
+
+    // Gives up the packet that is incomplete, if one is.
+    fn break_off(&mut self) -> TmStep
+        ensures count { self.new.count ≡ self.old.count }
+        ensures held { self.new.held ≡ [] }
+        ensures packets { result.packets ≡ 0 }
+        ensures idle { result.idle ≡ 0 }
+        ensures dropped { result.dropped ≡ length self.old.held }
+    {
+        let dropped = self.held.len() as u32;
+        self.held.clear();
+        TmStep { dropped, ..NOTHING }
     }
 
     // Whether a frame with this count comes after the last one.
@@ -138,6 +169,7 @@ impl Channel {
         ensures packets { IfOk result (λ step. step.packets ≡ length (without_idle (ended (field_step self.old.held (Packets first octets.now))))) }
         ensures idle { IfOk result (λ step. step.idle ≡ length (only_idle (ended (field_step self.old.held (Packets first octets.now))))) }
         ensures few { IfOk result (λ step. step.packets + step.idle ≤ 1) }
+        ensures dropped { IfOk result (λ step. step.dropped ≡ length (lost_of (field_step self.old.held (Packets first octets.now)) self.old.held)) }
         ensures stopped { IfErr result (λ flow. IsStopped S.taking S.failing S.failures sink.old vc (without_idle (ended (field_step self.old.held (Packets first octets.now)))) flow sink.new) }
     {
         let before = self.held.len();
@@ -152,8 +184,8 @@ impl Channel {
             }
             Progress::Continues => Ok(NOTHING),
             Progress::Breaks => {
-                self.held.clear();
-                Ok(NOTHING)
+                self.held.truncate(before);
+                Ok(self.break_off())
             }
         }
     }
@@ -174,6 +206,7 @@ impl Channel {
         ensures packets { IfOk result (λ step. step.packets ≡ length (without_idle (whole_packets (data_field field.now)))) }
         ensures idle { IfOk result (λ step. step.idle ≡ length (only_idle (whole_packets (data_field field.now)))) }
         ensures few { IfOk result (λ step. step.packets + step.idle ≤ 2042) }
+        ensures foreign { IfOk result (λ step. step.foreign ≡ foreign_in (data_field field.now)) }
         ensures stopped { IfErr result (λ flow. IsStopped S.taking S.failing S.failures sink.old vc (without_idle (whole_packets (data_field field.now))) flow sink.new) }
     {
         match *field {
@@ -201,6 +234,7 @@ impl Channel {
         ensures packets { IfOk result (λ step. step.packets ≡ length (without_idle (packets_of octets.now))) }
         ensures idle { IfOk result (λ step. step.idle ≡ length (only_idle (packets_of octets.now))) }
         ensures few { IfOk result (λ step. step.packets + step.idle ≤ 2042) }
+        ensures foreign { IfOk result (λ step. step.foreign ≡ is_foreign (rest_of octets.now)) }
         ensures stopped { IfErr result (λ flow. IsStopped S.taking S.failing S.failures sink.old vc (without_idle (packets_of octets.now)) flow sink.new) }
     {
         let (step, remainder) = match hand(sink, vc, octets) {
@@ -211,8 +245,18 @@ impl Channel {
         if self.held.extend_from_slice(incomplete(remainder)).is_err() {
             return Err(FlowFault::Memory);
         }
-        Ok(step)
+        Ok(TmStep {
+            foreign: is_foreign(remainder),
+            ..step
+        })
     }
+}
+
+// Whether the first octet has another version than 0.
+fn is_foreign(octets: &[u8]) -> bool
+    ensures { result ≡ is_foreign octets.now }
+{
+    matches!(need(octets), Need::Foreign)
 }
 
 // The octets, where a packet may begin with them that isn't there whole, and else none.
@@ -222,81 +266,5 @@ fn incomplete(octets: &[u8]) -> &[u8]
     match need(octets) {
         Need::Header(_) | Need::Octets(_) => octets,
         Need::Foreign | Need::Whole(_) => &[],
-    }
-}
-
-// What octets, of which so many came before the data field, and the pointer of its frame make of a packet.
-fn progress_in(octets: &[u8], before: usize, first: Option<u16>) -> Progress
-    requires { before ≤ length octets.now }
-    ensures step { progress_step result octets.now ≡ front_step first before (drop before octets.now) octets.now (front octets.now) }
-    ensures inside { (len : ℕ) → result ≡ Progress.Ends len → len ≤ length octets.now }
-{
-    match need(octets) {
-        Need::Foreign => Progress::Breaks,
-        Need::Header(_) | Need::Octets(_) if first.is_some() => Progress::Breaks,
-        Need::Header(_) | Need::Octets(_) => Progress::Continues,
-        Need::Whole(len) => {
-            let len = len as usize;
-            if first.map(usize::from) == agreeing_pointer(octets.len(), before, len) {
-                Progress::Ends(len)
-            } else {
-                Progress::Breaks
-            }
-        }
-    }
-}
-
-// The pointer that agrees with a packet of `len` of these octets.
-fn agreeing_pointer(all: usize, before: usize, len: usize) -> Option<usize>
-    ensures { result ≡ (if nat_lt len all then Some (len - before) else None) }
-{
-    if len < all {
-        Some(len.saturating_sub(before))
-    } else {
-        None
-    }
-}
-
-// Hands the sink a packet, unless it is idle.
-fn hand_packet<S: PacketSink>(sink: &mut S, vc: u16, packet: &[u8]) -> Result<TmStep, FlowFault>
-    requires vc { vc ≤ 7 }
-    requires packet { IsPacket packet.now }
-    ensures accepted { OnOk result (TakesAll S.taking sink.old vc (without_idle (packet.now ∷ [])) sink.new) }
-    ensures kept { OnOk result (S.failures sink.new ≡ S.failures sink.old) }
-    ensures packets { IfOk result (λ step. step.packets ≡ length (without_idle (packet.now ∷ []))) }
-    ensures idle { IfOk result (λ step. step.idle ≡ length (only_idle (packet.now ∷ []))) }
-    ensures stopped { IfErr result (λ flow. IsStopped S.taking S.failing S.failures sink.old vc (without_idle (packet.now ∷ [])) flow sink.new) }
-{
-    match hand(sink, vc, packet) {
-        Ok(handed) => Ok(handed.0),
-        Err(flow) => Err(flow),
-    }
-}
-
-// Hands the sink the packets at the front of octets. The answer has the octets after them.
-fn hand<'a, S: PacketSink>(
-    sink: &mut S,
-    vc: u16,
-    octets: &'a [u8],
-) -> Result<(TmStep, &'a [u8]), FlowFault>
-    requires vc { vc ≤ 7 }
-    requires short { length octets.now ≤ 65542 }
-    ensures accepted { OnOk result (TakesAll S.taking sink.old vc (without_idle (packets_of octets.now)) sink.new) }
-    ensures kept { OnOk result (S.failures sink.new ≡ S.failures sink.old) }
-    ensures packets { IfOk result (λ handed. handed.0.packets ≡ length (without_idle (packets_of octets.now))) }
-    ensures idle { IfOk result (λ handed. handed.0.idle ≡ length (only_idle (packets_of octets.now))) }
-    ensures few { IfOk result (λ handed. handed.0.packets + handed.0.idle ≤ length octets.now) }
-    ensures remainder { IfOk result (λ handed. handed.1.now ≡ rest_of octets.now) }
-    ensures stopped { IfErr result (λ flow. IsStopped S.taking S.failing S.failures sink.old vc (without_idle (packets_of octets.now)) flow sink.new) }
-{
-    match hand_over(sink, vc, octets) {
-        Ok(handed) => {
-            let step = TmStep {
-                packets: handed.packets as u32,
-                idle: handed.idle as u32,
-            };
-            Ok((step, handed.remainder))
-        }
-        Err(fault) => Err(FlowFault::Sink(fault)),
     }
 }

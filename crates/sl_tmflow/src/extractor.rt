@@ -1,7 +1,11 @@
 //! Packets out of the frames of virtual channels.
-ghost use Rattle.std.specs.Prelude.{◌≡◌, ◌≢◌, ◌++◌, ◌∷◌, [], length, OnOk, IfOk, IfErr, Err};
+ghost use Rattle.std.specs.Prelude.{◌≡◌, ◌≢◌, ◌≤◌, ◌++◌, ◌∷◌, [], length, OnOk, IfOk, IfErr, Err};
 ghost use Rattle.sl_packet.specs.Packets.{only_idle, without_idle};
 ghost use Rattle.sl_packet.specs.Sink.{TakesAll};
+ghost use Rattle.std.specs.List.{concat};
+ghost use Rattle.sl_tmflow.specs.Anomaly.{dropped_of, foreign_of, gap_of};
+ghost use Rattle.sl_tmflow.specs.Channel.{channel_of};
+ghost use Rattle.sl_tmflow.specs.Incomplete.{incomplete_of};
 ghost use Rattle.sl_tmflow.specs.Extraction.{ForProcessed, HasProcessed, HasFailed, ended_by};
 ghost use Rattle.sl_packet.specs.Stopping.{IsStopped};
 
@@ -20,6 +24,10 @@ pub struct Extractor {
 }
 
 impl Model for Extractor {
+    ghost use Rattle.std.specs.List.{concat};
+    ghost use Rattle.sl_tmflow.specs.Anomaly.{dropped_of, foreign_of, gap_of};
+    ghost use Rattle.sl_tmflow.specs.Channel.{channel_of};
+    ghost use Rattle.sl_tmflow.specs.Incomplete.{incomplete_of};
     ghost use Rattle.sl_tmflow.specs.Extraction.{ExtractorState};
 
     ghost Value = { ExtractorState };
@@ -57,6 +65,11 @@ impl Extractor {
         ensures accepted { OnOk result (ForProcessed self.old (λ views. TakesAll S.taking sink.old frame.now.vc (without_idle (ended_by views frame.now)) sink.new)) }
         ensures packets { IfOk result (λ step. ForProcessed self.old (λ views. step.packets ≡ length (without_idle (ended_by views frame.now)))) }
         ensures idle { IfOk result (λ step. ForProcessed self.old (λ views. step.idle ≡ length (only_idle (ended_by views frame.now)))) }
+        // What is amiss: a count that doesn't come after the last one, an incomplete packet that is broken off, and
+        // octets of another packet version at a packet start.
+        ensures gap { IfOk result (λ step. ForProcessed self.old (λ views. step.gap ≡ gap_of (channel_of frame.now.vc views) frame.now)) }
+        ensures dropped { IfOk result (λ step. ForProcessed self.old (λ views. step.dropped ≡ dropped_of (channel_of frame.now.vc views) frame.now)) }
+        ensures foreign { IfOk result (λ step. step.foreign ≡ foreign_of frame.now.field) }
         ensures kept { OnOk result (S.failures sink.new ≡ S.failures sink.old) }
         // After a fault each call fails, and leaves all as it was; none fails before.
         ensures failed { HasFailed self.old → result ≡ Err FlowFault.Failed }
@@ -76,5 +89,19 @@ impl Extractor {
         };
         self.has_failed = false;
         Ok(step)
+    }
+
+    /// How many octets so far the packet has that is incomplete after the last frame of a virtual channel: 65,541
+    /// at most, 0 where none is incomplete, and 0 after a fault.
+    pub fn held(&self, vc: u8) -> u32
+        requires { vc ≤ 7 }
+        ensures value { ForProcessed self.now (λ views. result ≡ length (concat (incomplete_of (channel_of vc views)))) }
+        ensures most { result ≤ 65541 }
+        ensures failed { HasFailed self.now → result ≡ 0 }
+    {
+        if self.has_failed {
+            return 0;
+        }
+        self.channels[usize::from(vc)].held()
     }
 }

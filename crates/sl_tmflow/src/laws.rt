@@ -1,4 +1,7 @@
 //! What holds of the definitions alone. Each function does nothing; its clauses are the laws.
+ghost use Rattle.sl_tmflow.specs.Anomaly.{EachGapIsTold, EachToldIsAGap, EachListedIsBrokenOff, EachBrokenOffIsListed, OneIsBrokenOff, BrokenOffIsShort};
+ghost use Rattle.sl_tmflow.specs.Anomaly.{EachForeignStartIsTold, EachToldIsAForeignStart};
+ghost use Rattle.sl_tmflow.specs.Canonical.{NormalFormIsFrames, NormalFormDelivers, RecordedListsAreDeliverable};
 ghost use Rattle.sl_tmflow.specs.Delivery.{EachIsDelivery, EachIsListed, DeliveriesAreInOrder};
 ghost use Rattle.sl_tmflow.specs.Delivery.{EndsAreInOrder, EachEndsByTheNextStart, NoneOverlap};
 ghost use Rattle.sl_tmflow.specs.Incomplete.{EachListedIsIncomplete, EachIncompleteIsListed, OneIsIncomplete, IncompleteIsShort};
@@ -37,9 +40,45 @@ pub fn tm_incomplete_packets_are_listed()
     ensures all { EachIncompleteIsListed }
 {}
 
+/// A virtual channel frame count that doesn't come after the one of the channel's last frame is told with the
+/// count that was expected, and no other one is.
+pub fn tm_gaps_are_told()
+    ensures each { EachGapIsTold }
+    ensures only { EachToldIsAGap }
+{}
+
+/// The packets that were incomplete before a frame of a virtual channel, and that it neither ends nor goes on with,
+/// listed by their octets so far: each is broken off by the frame, each that is is listed, and it is one at most, with
+/// one to 65,541 octets.
+pub fn tm_broken_packets_are_listed()
+    ensures each { EachListedIsBrokenOff }
+    ensures all { EachBrokenOffIsListed }
+    ensures one { OneIsBrokenOff }
+    ensures short { BrokenOffIsShort }
+{}
+
+/// A data field is told to have octets of another packet version than 0 at a packet start where it does, and only
+/// there.
+pub fn tm_foreign_starts_are_told()
+    ensures each { EachForeignStartIsTold }
+    ensures only { EachToldIsAForeignStart }
+{}
+
 /// Packets are filled up by the least number of octets that is none or an idle packet's, and the pointer to a
 /// data field is the least packet start in it.
 pub fn normal_forms_are_filled_least()
     ensures fill { EachFillIsLeast }
     ensures pointer { EachPointerIsLeast }
+{}
+
+/// What a recording delivers are packets, none of them idle, on eight virtual channels.
+pub fn tm_recordings_deliver_packets()
+    ensures { RecordedListsAreDeliverable }
+{}
+
+/// The normal form of packets is frames end to end, and read as a recording it delivers exactly the packets that it
+/// was made of, on each virtual channel: frames are written, delimited, read back, and their packets put together.
+pub fn normal_form_delivers_its_packets()
+    ensures frames { NormalFormIsFrames }
+    ensures packets { NormalFormDelivers }
 {}

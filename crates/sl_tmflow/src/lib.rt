@@ -6,7 +6,9 @@
 
 mod channel;
 mod extractor;
+mod handing;
 pub mod laws;
+mod progress;
 mod reframe;
 mod step;
 

@@ -5,8 +5,10 @@ ghost use Rattle.std.specs.Vec.{vec_items};
 ghost use Rattle.sl_packet.specs.Delivered.{FitsTm, HasNone, IsDeliverable};
 ghost use Rattle.sl_packet.specs.Packets.{packets_of};
 ghost use Rattle.sl_tmframe.specs.PacketFrame.{packet_frame, room_of};
+ghost use Rattle.sl_tmflow.specs.Canonical.{IsFormat};
 ghost use Rattle.sl_tmflow.specs.FieldStart.{starts_past};
 ghost use Rattle.sl_tmflow.specs.NormalForm.{fill_of, with_filling, filling, channel_frames, frames_of_packets, normal_form};
+ghost use Rattle.sl_tmflow.specs.Recording.{tm_lists};
 
 use sl_packet::{Delivered, first_packet, push_idle};
 use sl_tmframe::{TmShape, push_tm};
@@ -15,6 +17,8 @@ use std::alloc::{AllocError, Global};
 /// The normal form of the packets that were delivered on channels 0 to 7, those of the virtual channels: frames
 /// of this format, end to end, and none where there are no packets. The form is this project's own
 /// (docs/normal-form.md).
+///
+/// Read as a recording of this format, for this spacecraft, the form delivers exactly these packets again.
 ///
 /// No other channel has packets, which [`Delivered::fits_tm`] tells; `spacecraft` is 0 to 1023. The only refusal
 /// is want of memory, and only where there are packets.
@@ -27,14 +31,23 @@ pub fn reframe_tm(
     requires fits { FitsTm delivered.now }
     requires spacecraft { spacecraft ≤ 1023 }
     ensures form { IfOk result (λ form. form.items ≡ normal_form shape.now spacecraft (take 8 delivered.now.lists)) }
+    ensures delivers { IfOk result (λ form. tm_lists shape.now spacecraft form.items ≡ take 8 delivered.now.lists) }
     ensures packets { OnErr result (HasNone delivered.now 0 8 → ⊥) }
 {
+    has_format(shape);
     let mut form = Vec::new(alloc);
     for vc in 0..8 {
         let packets = delivered.list(u16::from(vc));
         push_channel(alloc, &mut form, shape, spacecraft, vc, packets)?;
     }
     Ok(form)
+}
+
+// The format of a `TmShape` is one that frames may have.
+fn has_format(shape: &TmShape)
+    ensures { IsFormat shape.now }
+{
+    shape.len();
 }
 
 // Adds the frames of a virtual channel with these packets.

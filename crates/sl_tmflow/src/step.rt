@@ -8,6 +8,9 @@ use std::marker::Model;
 pub struct TmStep {
     pub(crate) packets: u32,
     pub(crate) idle: u32,
+    pub(crate) gap: Option<u8>,
+    pub(crate) dropped: u32,
+    pub(crate) foreign: bool,
 }
 
 impl Model for TmStep {
@@ -22,10 +25,13 @@ impl Model for TmStep {
     ghost inverse = { inside_of };
 }
 
-/// The step of a frame in which no packet ends.
+/// The step of a frame in which no packet ends and nothing is amiss.
 pub(crate) const NOTHING: TmStep = TmStep {
     packets: 0,
     idle: 0,
+    gap: None,
+    dropped: 0,
+    foreign: false,
 };
 
 impl TmStep {
@@ -42,5 +48,28 @@ impl TmStep {
         ensures { result ≡ self.now.idle }
     {
         self.idle
+    }
+
+    /// The virtual channel frame count that was expected, where the frame's isn't the one after that of the
+    /// frame before it on the virtual channel, modulo 256. The first frame of a channel follows none.
+    pub fn gap(&self) -> Option<u8>
+        ensures { result ≡ self.now.gap }
+    {
+        self.gap
+    }
+
+    /// Octets so far of the packet that was incomplete before the frame, where the frame neither ends it nor goes
+    /// on with it: one to 65,541, and none of the frame's own; 0 where no packet is broken off.
+    pub fn dropped(&self) -> u32
+        ensures { result ≡ self.now.dropped }
+    {
+        self.dropped
+    }
+
+    /// Whether octets of another packet version than 0 stand at a packet start of the frame.
+    pub fn foreign(&self) -> bool
+        ensures { result ≡ self.now.foreign }
+    {
+        self.foreign
     }
 }

@@ -2,7 +2,7 @@
 //! bits.
 ghost use Rattle.std.specs.Prelude.{◌≡◌};
 
-use crate::{Extractor, reframe_tm};
+use crate::{Extractor, TmStep, reframe_tm};
 use sl_packet::{Delivered, FlowFault, PacketSink, SinkFault, hand_over};
 use sl_tmframe::{TmFrame, TmShape};
 use std::test::Fail;
@@ -38,6 +38,15 @@ const FILLED: [u8; 32] = [
     0x07, 0xFF, 0xC0, 0x00, 0x00, 0x09, 0, 0, 0, 0, 0, 0, 0, 0, 0, 0,
 ];
 
+// Counts 255, first header pointer 10: ten octets of a packet that no frame began, a packet of ten octets, and
+// octets of version 1.
+const FOREIGN: [u8; 32] = [
+    0x00, 0x10, 0xFF, 0xFF, 0x18, 0x0A, //
+    0x44, 0x44, 0x44, 0x44, 0x44, 0x44, 0x44, 0x44, 0x44, 0x44, //
+    0x00, 0x01, 0xC0, 0x00, 0x00, 0x03, 0xAA, 0xBB, 0xCC, 0xDD, //
+    0x20, 0x01, 0xC0, 0x00, 0x00, 0x03,
+];
+
 // The last two of the 2,522 frames of a packet of 65,542 octets: its last 22, and an idle packet that begins
 // after them. Counts 2,520 and 2,521 modulo 256.
 const LAST_OF_LONGEST: [[u8; 32]; 2] = [
@@ -68,15 +77,24 @@ const NORMAL_FORM: [u8; 64] = [
     0x07, 0xFF, 0xC0, 0x00, 0x00, 0x0C, 0, 0, 0, 0, 0, 0, 0, 0, 0, 0, 0, 0, 0,
 ];
 
+// What is made of a frame.
+fn made<S: PacketSink>(
+    extractor: &mut Extractor,
+    octets: &[u8; 32],
+    sink: &mut S,
+) -> Result<TmStep, Fail> {
+    let shape = TmShape::new(32, false)?;
+    let frame = TmFrame::read(&shape, 1, octets).or(Err("skipped"))?;
+    Ok(extractor.frame(&frame, sink)?)
+}
+
 // The packets, and the idle ones, that end in a frame.
 fn ended<S: PacketSink>(
     extractor: &mut Extractor,
     octets: &[u8; 32],
     sink: &mut S,
 ) -> Result<(u32, u32), Fail> {
-    let shape = TmShape::new(32, false)?;
-    let frame = TmFrame::read(&shape, 1, octets).or(Err("skipped"))?;
-    let step = extractor.frame(&frame, sink)?;
+    let step = made(extractor, octets, sink)?;
     Ok((step.packets(), step.idle()))
 }
 
@@ -110,6 +128,36 @@ fn a_missing_frame_breaks_a_packet(rt: HostRuntime) -> Result<(), Fail> {
 }
 
 #[test]
+fn what_is_amiss_in_a_frame_is_told(rt: HostRuntime) -> Result<(), Fail> {
+    let mut extractor = Extractor::new(rt.alloc());
+    let mut delivered = Delivered::new(rt.alloc());
+    let step = made(&mut extractor, &FOREIGN, &mut delivered)?;
+    assert_eq!(rt;
+        (step.gap(), step.dropped(), step.foreign()),
+        (None, 0, true)
+    );
+    let step = made(&mut extractor, &BEGUN, &mut delivered)?;
+    assert_eq!(rt;
+        (step.gap(), step.dropped(), step.foreign()),
+        (None, 0, false)
+    );
+    assert_eq!(rt; (extractor.held(0), extractor.held(1)), (3, 0));
+    let step = made(&mut extractor, &ENDED, &mut delivered)?;
+    assert_eq!(rt;
+        (step.gap(), step.dropped(), step.foreign()),
+        (Some(1), 3, false)
+    );
+    assert_eq!(rt; extractor.held(0), 0);
+    let step = made(&mut extractor, &FOREIGN, &mut delivered)?;
+    assert_eq!(rt;
+        (step.gap(), step.dropped(), step.foreign()),
+        (Some(3), 0, true)
+    );
+    assert_eq!(rt; (step.packets(), step.idle()), (1, 0));
+    Ok(())
+}
+
+#[test]
 fn a_packet_of_one_frame(rt: HostRuntime) -> Result<(), Fail> {
     let mut extractor = Extractor::new(rt.alloc());
     let mut extracted = Delivered::new(rt.alloc());
@@ -139,11 +187,12 @@ fn a_longest_packet_goes_through_its_frames(rt: HostRuntime) -> Result<(), Fail>
     let mut extractor = Extractor::new(rt.alloc());
     let mut extracted = Delivered::new(rt.alloc());
     for (number, frame) in frames.iter().enumerate() {
-        let (pointer, wanted) = match number {
-            0 => ([0x18, 0x00], (0, 0)),
-            2520 => ([0x18, 0x16], (1, 0)),
-            2521 => ([0x1F, 0xFF], (0, 1)),
-            _ => ([0x1F, 0xFF], (0, 0)),
+        let (pointer, wanted, held) = match number {
+            0 => ([0x18, 0x00], (0, 0), 26),
+            2519 => ([0x1F, 0xFF], (0, 0), 65520),
+            2520 => ([0x18, 0x16], (1, 0), 4),
+            2521 => ([0x1F, 0xFF], (0, 1), 0),
+            _ => ([0x1F, 0xFF], (0, 0), 26 * (number as u32 + 1)),
         };
         assert_eq!(rt; frame.get(4..6), Some(&pointer[..]), "at {number}");
         assert_eq!(rt;
@@ -151,6 +200,7 @@ fn a_longest_packet_goes_through_its_frames(rt: HostRuntime) -> Result<(), Fail>
             wanted,
             "at {number}"
         );
+        assert_eq!(rt; extractor.held(0), held, "at {number}");
     }
     assert!(rt; are(extracted.list(0), &[&longest]));
     Ok(())

@@ -1,3 +1,4 @@
+pub mod DelimitedLemmas
 pub mod PacketFrameLemmas
 pub mod PartLemmas
 pub mod TmFrameFacts

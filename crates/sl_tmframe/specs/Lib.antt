@@ -1,4 +1,5 @@
 pub mod PacketFrame
+pub mod TmDelimited
 pub mod TmField
 pub mod TmFrame
 pub mod TmFrameModel

@@ -1,5 +1,6 @@
 //! What holds of the definitions alone. Each function does nothing; its clauses are the laws.
 ghost use Rattle.sl_tmframe.specs.PacketFrame.{PacketFramesAreWhole, PacketFramesAreReadBack};
+ghost use Rattle.sl_tmframe.specs.TmDelimited.{EachIsTmDelimited, IsTmDelimitedOnce};
 ghost use Rattle.sl_tmframe.specs.TmFrame.{EachHasParts, HasPartsOnce};
 
 /// Every list of octets of the managed length has the parts of a TM frame, in one way.
@@ -13,4 +14,10 @@ pub fn tm_frames_have_parts()
 pub fn packet_frames_are_read_back()
     ensures whole { PacketFramesAreWhole }
     ensures read_back { PacketFramesAreReadBack }
+{}
+
+/// Every list of octets is a recording: TM frames of the managed length and a remainder, in one way.
+pub fn tm_recordings_are_delimited()
+    ensures each { EachIsTmDelimited }
+    ensures once { IsTmDelimitedOnce }
 {}

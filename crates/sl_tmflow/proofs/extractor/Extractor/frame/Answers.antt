@@ -2,7 +2,11 @@ use Rattle.std.proofs.Common.{length, refl, sym, ◌∙◌, ap, subst, arith}
 use Rattle.sl_packet.specs.Packets.{only_idle, without_idle}
 use Rattle.sl_packet.specs.Sink.{TakesAll}
 use Rattle.sl_packet.specs.Stopping.{IsStopped}
-use Rattle.sl_tmflow.proofs.ChannelLemmas.{ended_now, processed_more}
+use Rattle.std.specs.List.{slice_index_or}
+use Rattle.sl_tmflow.specs.Channel.{channel_of}
+use Rattle.sl_tmflow.proofs.AnomalyLemmas.{foreign_is}
+use Rattle.sl_tmflow.proofs.ChannelLemmas.{ended_now, processed_more, seen_at}
+use Rattle.sl_tmflow.proofs.SeenLemmas.{dropped_seen, gap_seen}
 use Rattle.sl_tmflow.proofs.extractor.Extractor.frame.Goals as goal
 
 pub returns-in-Err-clause-stopped : goal.returns-in-Err-clause-stopped
@@ -29,3 +33,16 @@ returns-clause-packets g c =
 pub returns-clause-idle : goal.returns-clause-idle
 returns-clause-idle g c =
     λ views p. c.in-Ok.ensures.idle ∙ ap (λ l. length (only_idle l)) (sym (ended_now c.args.self.now views c.args.frame.now c.self.inside.channels c.from.result c.index-self-from.result p (ap (λ s. s.channels) c.self.view_is) (omega arith) (omega arith) (omega arith)))
+
+pub returns-clause-gap : goal.returns-clause-gap
+returns-clause-gap g c =
+    λ views p. c.in-Ok.ensures.gap ∙ sym (gap_seen (slice_index_or c.self.inside.channels c.from.result c.index-self-from.result) (channel_of c.args.frame.now.vc views) c.args.frame.now
+    (seen_at c.args.self.now views c.self.inside.channels c.from.result c.args.frame.now.vc c.index-self-from.result p (ap (λ s. s.channels) c.self.view_is) (omega arith) (omega arith) (omega arith)))
+
+pub returns-clause-dropped : goal.returns-clause-dropped
+returns-clause-dropped g c =
+    λ views p. c.in-Ok.ensures.dropped ∙ sym (dropped_seen (slice_index_or c.self.inside.channels c.from.result c.index-self-from.result) (channel_of c.args.frame.now.vc views) c.args.frame.now
+    (seen_at c.args.self.now views c.self.inside.channels c.from.result c.args.frame.now.vc c.index-self-from.result p (ap (λ s. s.channels) c.self.view_is) (omega arith) (omega arith) (omega arith)))
+
+pub returns-clause-foreign : goal.returns-clause-foreign
+returns-clause-foreign g c = c.in-Ok.ensures.foreign ∙ sym (foreign_is c.args.frame.now.field)

@@ -6,7 +6,7 @@ use Rattle.sl_packet.proofs.PacketLemmas.{stated_len-packet}
 use Rattle.sl_packet.proofs.PacketsLemmas.{packets_of-packet}
 use Rattle.sl_packet.specs.Stopping.{IsStopped}
 use Rattle.sl_tmflow.proofs.IncompleteListLemmas.{stated_len-most}
-use Rattle.sl_tmflow.proofs.channel.hand_packet.Goals as goal
+use Rattle.sl_tmflow.proofs.handing.hand_packet.Goals as goal
 
 -- a packet has no other packets
 alone : (packet : List ℕ) → IsPacket packet → packets_of packet ≡ packet ∷ []

@@ -1,0 +1,17 @@
+-- Packets, idle ones left out.
+use Rattle.std.proofs.Common.{◌≡◌, Bool, true, false, not, cond, ℕ, List, [], ◌∷◌, refl}
+use Rattle.std.specs.List.{AllByRecursion}
+use Rattle.sl_packet.specs.Delivered.{IsDeliverable}
+use Rattle.sl_packet.specs.Packet.{IsPacket, is_idle_packet}
+use Rattle.sl_packet.specs.Packets.{without_idle}
+
+next_due : (packet : List ℕ) (due : List (List ℕ)) (idle : Bool) → is_idle_packet packet ≡ idle → IsPacket packet
+    → AllByRecursion IsDeliverable due → AllByRecursion IsDeliverable (cond (not idle) (packet ∷ due) due)
+next_due packet due true is here later = later
+next_due packet due false is here later = ((here, is), later)
+
+-- they may be delivered
+pub without_idle_due : (packets : List (List ℕ)) → AllByRecursion IsPacket packets → AllByRecursion IsDeliverable (without_idle packets)
+without_idle_due [] each = tt
+without_idle_due (packet ∷ packets) each =
+    next_due packet (without_idle packets) (is_idle_packet packet) refl each.0 (without_idle_due packets each.1)

@@ -1,0 +1,8 @@
+use Rattle.sl_tmflow.proofs.CanonicalLemmas.{is_frames, delivers}
+use Rattle.sl_tmflow.proofs.laws.normal_form_delivers_its_packets.Goals as goal
+
+pub returns-clause-frames : goal.returns-clause-frames
+returns-clause-frames c = is_frames
+
+pub returns-clause-packets : goal.returns-clause-packets
+returns-clause-packets c = delivers

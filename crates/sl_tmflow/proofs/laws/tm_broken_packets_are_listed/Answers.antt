@@ -1,0 +1,14 @@
+use Rattle.sl_tmflow.proofs.BrokenOffLemmas.{each_listed_is_broken_off, each_broken_off_is_listed, one_is_broken_off, broken_off_is_short}
+use Rattle.sl_tmflow.proofs.laws.tm_broken_packets_are_listed.Goals as goal
+
+pub returns-clause-each : goal.returns-clause-each
+returns-clause-each c = each_listed_is_broken_off
+
+pub returns-clause-all : goal.returns-clause-all
+returns-clause-all c = each_broken_off_is_listed
+
+pub returns-clause-one : goal.returns-clause-one
+returns-clause-one c = one_is_broken_off
+
+pub returns-clause-short : goal.returns-clause-short
+returns-clause-short c = broken_off_is_short

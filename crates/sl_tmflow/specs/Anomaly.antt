@@ -1,0 +1,125 @@
+-- What is amiss in the next frame of a virtual channel, CCSDS 132.0-B: a gap in the virtual channel frame
+-- counts before it, an incomplete packet that it breaks off, and octets of another packet version than 0 at a
+-- packet start.
+use Rattle.std.specs.Prelude.{◌≡◌, ◌≢◌, ℕ, ◌+◌, ◌%◌, ◌≤◌, Bool, true, false, if◌then◌else◌, List, [], ◌∷◌, ◌++◌, length, drop, Option, None, Some}
+use Rattle.std.specs.List.{AllByRecursion, concat, flat_map, list_any}
+use Rattle.sl_packet.specs.Front.{is_foreign}
+use Rattle.sl_packet.specs.Packet.{version_of}
+use Rattle.sl_tmframe.specs.TmFrame.{TmView, DataField, Packets}
+use Rattle.sl_tmflow.specs.Among.{IsAmong}
+use Rattle.sl_tmflow.specs.Channel.{data_of, follows, is_consecutive, last_count, packet_data}
+use Rattle.sl_tmflow.specs.Delivery.{Delivery, IsDelivery, Outcome, Completes, StillIncomplete, Undelivered, outcome_of}
+use Rattle.sl_tmflow.specs.Incomplete.{IsIncomplete, IsShort}
+use Rattle.sl_tmflow.specs.PacketStart.{IsStart, starts_of}
+
+-- ---- gaps
+
+-- The virtual channel frame count of the next frame isn't the one that comes after the last frame's, which was
+-- expected.
+pub record IsGap (channel : List TmView) (next : TmView) (expected : ℕ) : Type 0 where
+  pub earlier : List TmView
+  pub last : TmView
+  pub in_order : channel ≡ earlier ++ last ∷ []
+  pub broken : is_consecutive last next ≡ false
+  pub value : expected ≡ (last.vc_count + 1) % 256
+
+-- the count that was expected after the last one, where this one isn't it
+abbrev pub gap_after : Option ℕ → ℕ → Option ℕ
+gap_after None count = None
+gap_after (Some last) count = if follows last count then None else Some ((last + 1) % 256)
+
+-- the count that was expected after a channel's last frame, where the next frame's isn't it
+abbrev pub gap_of : List TmView → TmView → Option ℕ
+gap_of channel next = gap_after (last_count channel) next.vc_count
+
+-- ---- packets that are broken off
+
+-- the packet that starts in the frame of a number, counted from 0, and at this offset in its data field is
+-- incomplete after the channel's last frame, with these octets so far
+pub record IsIncompleteAt (channel : List TmView) (frame start : ℕ) (octets : List ℕ) : Type 0 where
+  pub incomplete : IsIncomplete channel octets
+  pub in_frame : frame ≡ length incomplete.before
+  pub at : start ≡ incomplete.offset
+
+-- A packet is incomplete after the channel's last frame, with these octets so far; after the next frame it is
+-- not, and it isn't delivered with that frame.
+pub record IsBrokenOff (channel : List TmView) (next : TmView) (octets : List ℕ) : Type 0 where
+  pub frame : ℕ
+  pub start : ℕ
+  pub before : IsIncompleteAt channel frame start octets
+  pub not_incomplete : (later : List ℕ) → IsIncompleteAt (channel ++ next ∷ []) frame start later → ⊥
+  pub not_delivered :
+      (d : Delivery) → IsDelivery (channel ++ next ∷ []) d → d.frame ≡ frame → d.start ≡ start → d.ending ≡ length channel → ⊥
+
+-- the octets so far of the packet that is broken off, of a packet start by its outcome before the next frame
+-- and by that after it
+abbrev pub broken_octets : Outcome → Outcome → List (List ℕ)
+broken_octets (Completes packet passed) after = []
+broken_octets (StillIncomplete octets) (Completes packet passed) = []
+broken_octets (StillIncomplete octets) (StillIncomplete later) = []
+broken_octets (StillIncomplete octets) Undelivered = octets ∷ []
+broken_octets Undelivered after = []
+
+-- of the packet starts of a frame, where these frames come later, and then the next one
+abbrev pub frame_broken : TmView → List TmView → TmView → List (List ℕ)
+frame_broken view later next =
+    flat_map (λ start. broken_octets (outcome_of view (drop start (packet_data view)) later) (outcome_of view (drop start (packet_data view)) (later ++ next ∷ [])))
+    (starts_of view.field)
+
+-- of those of a channel, by the frames and then the starts of the packets
+abbrev pub broken_off : List TmView → TmView → List (List ℕ)
+broken_off [] next = []
+broken_off (view ∷ later) next = frame_broken view later next ++ broken_off later next
+
+-- how many octets so far they have
+abbrev pub dropped_of : List TmView → TmView → ℕ
+dropped_of channel next = length (concat (broken_off channel next))
+
+-- ---- octets of another packet version
+
+-- octets of another version than 0 stand at a packet start of the data field
+pub record HasForeignStart (field : DataField) : Type 0 where
+  pub first : Option ℕ
+  pub octets : List ℕ
+  pub carries : field ≡ Packets first octets
+  pub start : ℕ
+  pub is_start : IsStart octets first start
+  pub version : version_of (drop start octets) ≢ 0
+
+-- whether they do
+abbrev pub foreign_of : DataField → Bool
+foreign_of field = list_any (λ start. is_foreign (drop start (data_of field))) (starts_of field)
+
+-- ---- laws
+
+-- a count is told where the next frame follows a gap, as the one that was expected,
+abbrev pub EachGapIsTold : Type 0
+EachGapIsTold = (channel : List TmView) (next : TmView) (expected : ℕ) → IsGap channel next expected → gap_of channel next ≡ Some expected
+
+-- and only there
+abbrev pub EachToldIsAGap : Type 0
+EachToldIsAGap = (channel : List TmView) (next : TmView) (expected : ℕ) → gap_of channel next ≡ Some expected → IsGap channel next expected
+
+-- each that is listed is broken off,
+abbrev pub EachListedIsBrokenOff : Type 0
+EachListedIsBrokenOff = (channel : List TmView) (next : TmView) → AllByRecursion (IsBrokenOff channel next) (broken_off channel next)
+
+-- each that is broken off is listed,
+abbrev pub EachBrokenOffIsListed : Type 0
+EachBrokenOffIsListed = (channel : List TmView) (next : TmView) (octets : List ℕ) → IsBrokenOff channel next octets → IsAmong octets (broken_off channel next)
+
+-- and at most one packet is broken off by a frame,
+abbrev pub OneIsBrokenOff : Type 0
+OneIsBrokenOff = (channel : List TmView) (next : TmView) → length (broken_off channel next) ≤ 1
+
+-- with one to 65,541 octets so far
+abbrev pub BrokenOffIsShort : Type 0
+BrokenOffIsShort = (channel : List TmView) (next : TmView) → AllByRecursion IsShort (broken_off channel next)
+
+-- a data field is told to have octets of another version at a packet start where it does,
+abbrev pub EachForeignStartIsTold : Type 0
+EachForeignStartIsTold = (field : DataField) → HasForeignStart field → foreign_of field ≡ true
+
+-- and only there
+abbrev pub EachToldIsAForeignStart : Type 0
+EachToldIsAForeignStart = (field : DataField) → foreign_of field ≡ true → HasForeignStart field

@@ -1,0 +1,32 @@
+-- A recording of TM frames: frames of the managed length end to end, and a remainder shorter than one.
+use Rattle.std.specs.Prelude.{◌≡◌, ℕ, zero, suc, ◌*◌, ◌/◌, ◌<◌, List, [], ◌∷◌, ◌++◌, length, take, drop}
+use Rattle.std.specs.List.{AllByRecursion, concat}
+
+pub record IsTmDelimited (len : ℕ) (recording : List ℕ) (frames : List (List ℕ)) (remainder : List ℕ) : Type 0 where
+  pub end_to_end : recording ≡ concat frames ++ remainder
+  pub whole : AllByRecursion (λ frame. length frame ≡ len) frames
+  pub short : length remainder < len
+
+-- so many frames from the front on
+abbrev pub tm_frames_from : ℕ → ℕ → List ℕ → List (List ℕ)
+tm_frames_from len zero recording = []
+tm_frames_from len (suc count) recording = take len recording ∷ tm_frames_from len count (drop len recording)
+
+-- the frames of a recording, as many as it has room for, and what is left
+abbrev pub tm_frames_of : ℕ → List ℕ → List (List ℕ)
+tm_frames_of len recording = tm_frames_from len (length recording / len) recording
+
+abbrev pub tm_remainder_of : ℕ → List ℕ → List ℕ
+tm_remainder_of len recording = drop (length recording / len * len) recording
+
+-- ---- what these two functions are
+
+-- every recording is delimited into its frames and its remainder
+abbrev pub EachIsTmDelimited : Type 0
+EachIsTmDelimited = (len : ℕ) (recording : List ℕ) → 0 < len → IsTmDelimited len recording (tm_frames_of len recording) (tm_remainder_of len recording)
+
+-- and into no others
+abbrev pub IsTmDelimitedOnce : Type 0
+IsTmDelimitedOnce =
+    (len : ℕ) (recording : List ℕ) (frames : List (List ℕ)) (remainder : List ℕ) → 0 < len → IsTmDelimited len recording frames remainder
+    → (tm_frames_of len recording ≡ frames) × (tm_remainder_of len recording ≡ remainder)

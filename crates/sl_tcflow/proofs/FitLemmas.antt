@@ -4,10 +4,8 @@ use Rattle.std.specs.List.{concat}
 use Rattle.std.proofs.lemmas.Bool.Decides.{leb_tells}
 use Rattle.std.proofs.lemmas.List.{map-append}
 use Rattle.std.proofs.lemmas.List.Folds.{concat-append}
-use Rattle.sl_packet.specs.Packets.{packets_of}
 use Rattle.sl_tcflow.specs.Incomplete.{if_fits}
-use Rattle.sl_tcflow.specs.NextSegment.{joined, packets_of_unit}
-use Rattle.sl_tcflow.specs.Reception.{packets_in}
+use Rattle.sl_tcflow.specs.NextSegment.{joined}
 use Rattle.sl_tcflow.specs.Series.{octets_at, reassembled}
 
 pub reassembled-push : (segments : List (List ℕ)) (next : List ℕ) → reassembled (segments ++ next ∷ []) ≡ reassembled segments ++ octets_at next
@@ -47,10 +45,3 @@ fits_are octets others e =
       | inl (is, few) ↦ (same, omega (arith, few, ap length same))
       | inr (is, over) ↦ absurd (let both : true ≡ false = sym test ∙ is in cc)
     ]
-
-packets_if : (b : Bool) (octets : List ℕ) → (if b then packets_of octets else []) ≡ packets_of_unit (if b then Some octets else None)
-packets_if true octets = refl
-packets_if false octets = refl
-
-pub packets_in_unit : (segments : List (List ℕ)) → packets_in segments ≡ packets_of_unit (if_fits (reassembled segments))
-packets_in_unit segments = packets_if (nat_le (length (reassembled segments)) 65542) (reassembled segments)

@@ -6,11 +6,11 @@ use Rattle.std.proofs.lemmas.Grind.{flat_map-append}
 use Rattle.std.proofs.lemmas.List.{length_push}
 use Rattle.std.proofs.lemmas.List.Elements.{filter-append}
 use Rattle.sl_tcflow.specs.Incomplete.{if_fits, are_continuing, incomplete_of}
-use Rattle.sl_tcflow.specs.NextSegment.{joined, incomplete_after, unit_ended, packets_of_unit, packets_after}
+use Rattle.sl_tcflow.specs.NextSegment.{joined, incomplete_after}
 use Rattle.sl_tcflow.specs.Reception.{packets_in, packets_on, packets_ended}
 use Rattle.sl_tcflow.specs.Series.{flags_of, octets_at, SeriesAt, IsSeriesOf, past, completed, series_with, series_from, series_of, reassembled}
 use Rattle.sl_tcflow.proofs.EachLemmas.{each-weaker}
-use Rattle.sl_tcflow.proofs.FitLemmas.{reassembled-push, joined_fits, packets_in_unit}
+use Rattle.sl_tcflow.proofs.FitLemmas.{reassembled-push, joined_fits}
 use Rattle.sl_tcflow.proofs.IncompleteLemmas.{both_true, continuing_each}
 use Rattle.sl_tcflow.proofs.SeriesLemmas.{IsContinuing, series_at, completed_continuing, completed_last, completed_other, completed_all, begins_whole, begins_divided, begins_none, each_is_series}
 
@@ -28,16 +28,6 @@ after_continuing held next is =
 after_other : (held other : Option (List ℕ)) (next : List ℕ) → flags_of next ≢ 0 → incomplete_after held next ≡ incomplete_after other next
 after_other held other next not_0 =
     let by = λ (before : Option (List ℕ)). ap (λ b. if flags_of next == 1 then if_fits (octets_at next) else if b then joined before (octets_at next) else None) (ne_eqb (flags_of next) 0 not_0) in
-    by held ∙ sym (by other)
-
-ended_last : (held : Option (List ℕ)) (next : List ℕ) → flags_of next ≡ 2 → unit_ended held next ≡ joined held (octets_at next)
-ended_last held next is =
-    ap (λ flags. if flags == 3 then if_fits (octets_at next) else if flags == 2 then joined held (octets_at next) else None) is
-
--- or to a last one
-ended_other : (held other : Option (List ℕ)) (next : List ℕ) → flags_of next ≢ 2 → unit_ended held next ≡ unit_ended other next
-ended_other held other next not_2 =
-    let by = λ (before : Option (List ℕ)). ap (λ b. if flags_of next == 3 then if_fits (octets_at next) else if b then joined before (octets_at next) else None) (ne_eqb (flags_of next) 2 not_2) in
     by held ∙ sym (by other)
 
 -- ---- what is incomplete
@@ -209,11 +199,11 @@ filter_none : {X : Type 0} (p : X → Bool) (xs : List X) → AllByRecursion (λ
 filter_none p [] each = refl
 filter_none p (x ∷ xs) each = ap (λ b. if b then x ∷ filter p xs else filter p xs) each.0 ∙ filter_none p xs each.1
 
-series_within : (list : List (List ℕ)) (s : SeriesAt) → IsSeriesOf list s → past s ≤ length list
+pub series_within : (list : List (List ℕ)) (s : SeriesAt) → IsSeriesOf list s → past s ≤ length list
 series_within list s x =
     omega (arith, x.here, ap length x.in_order, length-append (x.earlier ++ s.segments) x.later, length-append x.earlier s.segments)
 
-each_ending : (number before : ℕ) (list : List (List ℕ)) (next : List ℕ) → number ≡ before + length list + 1
+pub each_ending : (number before : ℕ) (list : List (List ℕ)) (next : List ℕ) → number ≡ before + length list + 1
     → AllByRecursion (λ (s : SeriesAt). (past s == number) ≡ true) (series_ending before list next)
 each_ending number before [] next so_many = by (flags_of next == 3)
   where
@@ -246,47 +236,3 @@ packets_next list next =
     let packets = λ (s : SeriesAt). packets_in s.segments in
     ap (flat_map packets) (series_next 0 list next) ∙ flat_map-append packets (series_of list) (series_ending 0 list next)
     ∙ ap (λ l. packets_on list ++ flat_map packets l) (sym (ending_is list next))
-
-ended_first : (before : ℕ) (next : List ℕ) → flat_map (λ (s : SeriesAt). packets_in s.segments) (series_ending before [] next) ≡ packets_after None next
-ended_first before next =
-    by (flags_of next == 3) (flags_of next == 2)
-    ∙ ap (λ l. packets_of_unit (if flags_of next == 3 then if_fits l else if flags_of next == 2 then None else None)) (append-nil (octets_at next))
-  where
-    by : (three two : Bool)
-        → flat_map (λ (s : SeriesAt). packets_in s.segments) (if three then series_at before (next ∷ []) ∷ [] else [])
-        ≡ packets_of_unit (if three then if_fits (octets_at next ++ []) else if two then None else None)
-    by true two = append-nil (packets_in (next ∷ [])) ∙ packets_in_unit (next ∷ [])
-    by false true = refl
-    by false false = refl
-
-ended_after : (begun : Bool) (segment : List ℕ) (later : List (List ℕ)) (next : List ℕ) (ending : List SeriesAt) (before : ℕ) (held : Option (List ℕ))
-    → flat_map (λ (s : SeriesAt). packets_in s.segments) ending ≡ packets_after held next
-    → flat_map (λ (s : SeriesAt). packets_in s.segments)
-    (if begun && flags_of next == 2 then series_at before (segment ∷ (later ++ next ∷ [])) ∷ [] else ending)
-    ≡ packets_after (if begun then if_fits (reassembled (segment ∷ later)) else held) next
-ended_after true segment later next ending before held rest =
-    let segments = segment ∷ (later ++ next ∷ []) in
-    let together = if_fits (reassembled (segment ∷ later)) in
-    let packets = λ (s : SeriesAt). packets_in s.segments in
-    elim (eqb_tells (flags_of next) 2) [
-      | inl (test, is) ↦
-          ap (λ b. flat_map packets (if b then series_at before segments ∷ [] else ending)) test
-          ∙ append-nil (packets_in segments) ∙ packets_in_unit segments
-          ∙ ap (λ l. packets_of_unit (if_fits l)) (reassembled-push (segment ∷ later) next)
-          ∙ ap packets_of_unit (sym (joined_fits (reassembled (segment ∷ later)) (octets_at next)) ∙ sym (ended_last together next is))
-      | inr (test, not_2) ↦
-          ap (λ b. flat_map packets (if b then series_at before segments ∷ [] else ending)) test
-          ∙ rest ∙ ap packets_of_unit (ended_other held together next not_2)
-    ]
-ended_after false segment later next ending before held rest = rest
-
-ended_from : (before : ℕ) (list : List (List ℕ)) (next : List ℕ)
-    → flat_map (λ (s : SeriesAt). packets_in s.segments) (series_ending before list next) ≡ packets_after (incomplete_of list) next
-ended_from before [] next = ended_first before next
-ended_from before (segment ∷ later) next =
-    ended_after (flags_of segment == 1 && are_continuing later) segment later next (series_ending (before + 1) later next) before (incomplete_of later)
-    (ended_from (before + 1) later next)
-
--- those that end with the next segment are told from what was incomplete before it
-pub ended_next : (list : List (List ℕ)) (next : List ℕ) → packets_ended list next ≡ packets_after (incomplete_of list) next
-ended_next list next = ap (flat_map (λ (s : SeriesAt). packets_in s.segments)) (ending_is list next) ∙ ended_from 0 list next

@@ -7,6 +7,7 @@ use Rattle.sl_tcframe.specs.TcFrame.{TcFormat, TcView, Ad, Bd, Unlock, SetVr}
 use Rattle.sl_tcflow.specs.AcceptedUnit.{views_of, channel_of, accepted_units}
 use Rattle.sl_tcflow.specs.Incomplete.{incomplete_of}
 use Rattle.sl_tcflow.specs.Reception.{packets_on, packets_ended, segments_of}
+use Rattle.sl_tcflow.specs.Recording.{packets_in_channel, recorded_views}
 use Rattle.sl_tcflow.specs.Series.{series_of}
 use Rattle.sl_tcflow.specs.TcNormalForm.{tc_normal_form_of}
 
@@ -208,3 +209,48 @@ pub record AreBoth : Type 0 where
 
 pub are_both : AreBoth
 are_both = record { delivers = refl; not_idle = refl; normal = refl }
+
+-- ---- series at their limits
+
+-- a first segment of type AD, and the last one of type BD
+abbrev of_both_types : List ℕ
+of_both_types =
+    0x00 ∷ 0x01 ∷ 0x00 ∷ 0x0A ∷ 0x00 ∷ 0x40 ∷ 0x10 ∷ 0x01 ∷ 0xC0 ∷ 0x00 ∷ 0x00 ∷ []
+    ++ 0x20 ∷ 0x01 ∷ 0x00 ∷ 0x0A ∷ 0x00 ∷ 0x80 ∷ 0x03 ∷ 0xAA ∷ 0xBB ∷ 0xCC ∷ 0xDD ∷ []
+
+-- virtual channel 63, MAP 63, N(S) 255
+abbrev at_last : List ℕ
+at_last = 0x00 ∷ 0x01 ∷ 0xFC ∷ 0x0F ∷ 0xFF ∷ 0xFF ∷ packet
+
+-- two unsegmented units: octets that are left after the packet of the first one would be completed by the second one
+abbrev with_rest : List ℕ
+with_rest = 0xC0 ∷ packet ++ 0x10 ∷ 0x02 ∷ 0xC0 ∷ []
+
+abbrev completing : List ℕ
+completing = 0xC0 ∷ 0x01 ∷ 0x00 ∷ 0x00 ∷ 0xEE ∷ []
+
+pub record AreAtLimits : Type 0 where
+  -- segments without octets
+  pub empty_last : packets_on ((0x40 ∷ packet) ∷ (0x80 ∷ []) ∷ []) ≡ packet ∷ []
+  pub empty_whole : packets_on ((0xC0 ∷ []) ∷ []) ≡ []
+  pub empty_first : incomplete_of ((0x40 ∷ []) ∷ []) ≡ Some []
+  -- an unsegmented unit gives up the series that is incomplete
+  pub whole_between : packets_on (first_of_2 ∷ (0xC2 ∷ packet) ∷ last_of_2 ∷ []) ≡ packet ∷ []
+  pub left_over : packets_on (with_rest ∷ completing ∷ []) ≡ packet ∷ []
+  pub both_types : packets 0 0 0 of_both_types ≡ packet ∷ []
+  pub last_channel : packets_in_channel 10 255 (recorded_views (format 16) 1 at_last) 4095 ≡ packet ∷ []
+  pub channel_before : packets_in_channel 10 255 (recorded_views (format 16) 1 at_last) 4094 ≡ []
+  pub recorded : packets_in_channel 10 0 (recorded_views (format 16) 1 (divided 0x00 0x01 0x02)) 320 ≡ longer ∷ []
+
+pub are_at_limits : AreAtLimits
+are_at_limits = record {
+  empty_last = refl;
+  empty_whole = refl;
+  empty_first = refl;
+  whole_between = refl;
+  left_over = refl;
+  both_types = refl;
+  last_channel = refl;
+  channel_before = refl;
+  recorded = refl;
+}

@@ -114,10 +114,10 @@ completion so_far (segment ∷ later) =
 abbrev pub BeginsNone : List ℕ → Type 0
 BeginsNone segment = (later : List (List ℕ)) → series_with segment later ≡ []
 
-continuing_begins_none : (segment : List ℕ) → IsContinuing segment → BeginsNone segment
+pub continuing_begins_none : (segment : List ℕ) → IsContinuing segment → BeginsNone segment
 continuing_begins_none segment is later = begins_none segment later (λ e. absurd (omega (arith, e, is))) (λ e. absurd (omega (arith, e, is)))
 
-last_begins_none : (segment : List ℕ) → flags_of segment ≡ 2 → BeginsNone segment
+pub last_begins_none : (segment : List ℕ) → flags_of segment ≡ 2 → BeginsNone segment
 last_begins_none segment is later = begins_none segment later (λ e. absurd (omega (arith, e, is))) (λ e. absurd (omega (arith, e, is)))
 
 -- this series begins with a segment, and no series begins in the rest of it

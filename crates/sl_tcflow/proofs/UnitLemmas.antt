@@ -13,8 +13,9 @@ use Rattle.sl_tcflow.specs.Placed.{at, IsPlaced}
 use Rattle.sl_tcflow.specs.Receiving.{AreIncomplete, IsIncompleteAround, channel_at, map_of, unit_channel, ended_by, verdict_on}
 use Rattle.sl_tcflow.specs.Reception.{packets_ended, segments_of}
 use Rattle.sl_tcflow.specs.Series.{header_at, segments_on}
+use Rattle.sl_tcflow.proofs.EndedLemmas.{ended_next}
 use Rattle.sl_tcflow.proofs.FarmLemmas.{same_channel, other_channel}
-use Rattle.sl_tcflow.proofs.OneMoreLemmas.{incomplete_next, ended_next}
+use Rattle.sl_tcflow.proofs.OneMoreLemmas.{incomplete_next}
 
 -- ---- accepted units
 
@@ -56,7 +57,7 @@ on_map mid unit same = ap (λ b. cond b (unit ∷ []) []) (eq-eqb (header_at uni
 on_other_map : (mid : ℕ) (unit : List ℕ) → (header_at unit).map ≢ mid → segments_on mid (unit ∷ []) ≡ []
 on_other_map mid unit other = ap (λ b. cond b (unit ∷ []) []) (ne_eqb (header_at unit).map mid other)
 
-map_fits : (unit : List ℕ) → (header_at unit).map < 64
+pub map_fits : (unit : List ℕ) → (header_at unit).map < 64
 map_fits unit = omega arith
 
 -- ---- what is incomplete
@@ -136,11 +137,13 @@ module _ (w vr : ℕ) (old : List (Option (List ℕ))) (views : List TcView) (ne
       let before : at old place ≡ incomplete_of list =
       ap (at old) (here ∙ ap (channel_at next.vc) (sym mid_is)) ∙ are next.vc mid inside (omega (arith, mid_is, map_fits unit)) in
       let segments : segments_of w vr next.vc mid (views ++ next ∷ []) ≡ list ++ unit ∷ [] =
-      segments_next w vr mid views next ∙ ap (λ l. list ++ segments_on mid l) unit_is ∙ ap (λ l. list ++ l) (on_map mid unit (sym mid_is)) in
-      elim around [
-        | inl some ↦ inl (λ e. some (before ∙ e))
-        | inr some ↦ inr (λ e. some (ap (λ held. incomplete_after held unit) before ∙ sym (incomplete_next list unit) ∙ ap incomplete_of (sym segments) ∙ e))
-      ]
+      segments_next w vr mid views next ∙ ap (λ l. list ++ segments_on mid l) unit_is ∙ ap (λ l. list ++ l) (on_map mid unit (sym mid_is)) in (
+        λ e. let none : unit ∷ [] ≡ [] = sym unit_is ∙ e in cc,
+        elim around [
+          | inl some ↦ inl (λ e. some (before ∙ e))
+          | inr some ↦ inr (λ e. some (ap (λ held. incomplete_after held unit) before ∙ sym (incomplete_next list unit) ∙ ap incomplete_of (sym segments) ∙ e))
+        ],
+      )
 
 -- the channel of the unit
 pub unit_channel_is : (vc : ℕ) (carried : Content) (unit : List ℕ) (next : TcView) → vc ≡ next.vc → carried ≡ next.content → map_of carried ≡ (header_at unit).map

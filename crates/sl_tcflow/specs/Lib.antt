@@ -1,8 +1,11 @@
 pub mod AcceptedUnit
+pub mod Anomaly
+pub mod Canonical
 pub mod Incomplete
 pub mod NextSegment
 pub mod Placed
 pub mod ReceiverModel
+pub mod Recording
 pub mod Receiving
 pub mod Reception
 pub mod Series
@@ -12,8 +15,10 @@ pub mod TcNormalForm
 pub use Rattle.sl_cop.specs.Farm
 pub use Rattle.sl_cop.specs.FarmClcw
 pub use Rattle.sl_fields.specs.SegmentHeader
+pub use Rattle.sl_packet.specs.Delivered
 pub use Rattle.sl_packet.specs.Packets
 pub use Rattle.sl_packet.specs.Sink
 pub use Rattle.sl_packet.specs.Stopping
 pub use Rattle.sl_tcframe.specs.AdFrame
+pub use Rattle.sl_tcframe.specs.TcDelimited
 pub use Rattle.sl_tcframe.specs.TcFrame

@@ -1,7 +1,7 @@
 -- What the next segment of a MAP does, CCSDS 232.0-B, told from the octets of the series that is incomplete before
 -- it. These are the code's steps, not the standard's.
-use Rattle.std.specs.Prelude.{ℕ, ◌==◌, if◌then◌else◌, List, [], ◌++◌, Option, None, Some}
-use Rattle.sl_packet.specs.Packets.{packets_of}
+use Rattle.std.specs.Prelude.{ℕ, ◌==◌, if◌then◌else◌, List, [], ◌++◌, length, Option, None, Some}
+use Rattle.sl_packet.specs.Packets.{packets_of, rest_of}
 use Rattle.sl_tcflow.specs.Incomplete.{if_fits}
 use Rattle.sl_tcflow.specs.Series.{flags_of, octets_at}
 
@@ -32,3 +32,12 @@ packets_of_unit (Some octets) = packets_of octets
 -- those that end with the next segment
 abbrev pub packets_after : Option (List ℕ) → List ℕ → List (List ℕ)
 packets_after held next = packets_of_unit (unit_ended held next)
+
+-- what is left of a service data unit after its packets, if there is one
+abbrev pub rest_of_unit : Option (List ℕ) → List ℕ
+rest_of_unit None = []
+rest_of_unit (Some octets) = rest_of octets
+
+-- how many octets are left of the one that ends with the next segment
+abbrev pub tail_after : Option (List ℕ) → List ℕ → ℕ
+tail_after held next = length (rest_of_unit (unit_ended held next))

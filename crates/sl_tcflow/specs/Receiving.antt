@@ -20,7 +20,7 @@ pub record ReceiverState : Type 0 where
   pub incomplete : List (Option (List ℕ))
   pub has_failed : Bool
 
--- with this window and this V(R) at the start: FARM-1 at the start, and after frames of its virtual channel
+-- with this window and this initial V(R): FARM-1 at the start, and after frames of its virtual channel
 abbrev pub farm_at_start : ℕ → ℕ → FarmView
 farm_at_start w vr = record { window = w; state = farm_start vr }
 
@@ -52,7 +52,7 @@ pub record HasFailedAfter (w vr : ℕ) (state : ReceiverState) (views : List TcV
 abbrev pub HasFailed : ReceiverState → Type 0
 HasFailed state = state.has_failed ≡ true
 
--- it holds whichever frames were received, with whichever window and V(R) at the start
+-- it holds whichever frames were received, with whichever window and initial V(R)
 abbrev pub ForReceived : ReceiverState → (ℕ → ℕ → List TcView → Type 0) → Type 0
 ForReceived state holds = (w vr : ℕ) (views : List TcView) → HasReceived w vr state views → holds w vr views
 
@@ -78,14 +78,16 @@ abbrev pub ended_by : ℕ → ℕ → List TcView → TcView → List (List ℕ)
 ended_by w vr views next =
     flat_map (packets_ended (segments_of w vr next.vc (map_of next.content) views)) (unit_by (verdict_on w vr views next) next.content)
 
--- it holds whichever frames came before the next one, with whichever window and V(R) at the start, where these series
+-- it holds whichever frames came before the next one, with whichever window and initial V(R), where these series
 -- are incomplete and FARM-1 gives this verdict
 abbrev pub ForIncomplete : List (Option (List ℕ)) → Verdict → TcView → (ℕ → ℕ → List TcView → Type 0) → Type 0
 ForIncomplete incomplete verdict next holds =
     (w vr : ℕ) (views : List TcView) → AreIncomplete w vr incomplete views → verdict ≡ verdict_on w vr views next → holds w vr views
 
--- a series is incomplete on the virtual channel and the MAP of the next frame's unit, before that frame or after it
+-- the next frame's unit is accepted, and a series is incomplete on its virtual channel and MAP, before that frame or
+-- after it
 abbrev pub IsIncompleteAround : ℕ → ℕ → List TcView → TcView → Type 0
 IsIncompleteAround w vr views next =
-    (incomplete_of (segments_of w vr next.vc (map_of next.content) views) ≢ None)
-    ⊎ (incomplete_of (segments_of w vr next.vc (map_of next.content) (views ++ next ∷ [])) ≢ None)
+    (unit_by (verdict_on w vr views next) next.content ≢ [])
+    × ((incomplete_of (segments_of w vr next.vc (map_of next.content) views) ≢ None)
+    ⊎ (incomplete_of (segments_of w vr next.vc (map_of next.content) (views ++ next ∷ [])) ≢ None))

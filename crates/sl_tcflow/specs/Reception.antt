@@ -1,6 +1,6 @@
 -- The packets of a MAP, CCSDS 232.0-B and 133.0-B. The greatest service data unit, and that what follows its
 -- last whole packet is dropped, are the mission profile's.
-use Rattle.std.specs.Prelude.{ℕ, ◌+◌, ◌==◌, nat_le, if◌then◌else◌, List, [], ◌∷◌, ◌++◌, length, flat_map}
+use Rattle.std.specs.Prelude.{◌≡◌, ℕ, ◌+◌, ◌==◌, nat_le, if◌then◌else◌, List, [], ◌∷◌, ◌++◌, length, flat_map}
 use Rattle.std.specs.List.{filter}
 use Rattle.sl_packet.specs.Packets.{packets_of}
 use Rattle.sl_tcframe.specs.TcFrame.{TcView}
@@ -23,3 +23,9 @@ packets_ended list next =
 -- the segments of a virtual channel and a MAP, among frames
 abbrev pub segments_of : ℕ → ℕ → ℕ → ℕ → List TcView → List (List ℕ)
 segments_of w vr vc mid views = segments_on mid (accepted_units w vr (channel_of vc views))
+
+-- ---- laws
+
+-- the packets of one segment more are those before, and those of the series that ends with it
+abbrev pub PacketsEndOnce : Type 0
+PacketsEndOnce = (list : List (List ℕ)) (next : List ℕ) → packets_on (list ++ next ∷ []) ≡ packets_on list ++ packets_ended list next

@@ -1,5 +1,5 @@
 -- What a receiver made of a frame.
-use Rattle.std.specs.Prelude.{ℕ}
+use Rattle.std.specs.Prelude.{ℕ, Bool, Option}
 use Rattle.sl_cop.specs.declared.verdict.Verdict.{Verdict}
 
 pub record StepReport : Type 0 where
@@ -8,3 +8,11 @@ pub record StepReport : Type 0 where
   pub packets : ℕ
   -- idle ones
   pub idle : ℕ
+  -- the frame's unit is out of sequence
+  pub stray : Bool
+  -- how many octets the incomplete series had, if the frame's unit drops one
+  pub dropped : Option ℕ
+  -- the incomplete series is given up, too long with the frame's unit
+  pub long : Bool
+  -- how many octets are left after the last whole packet of the service data unit that ends with the frame's unit
+  pub tail : ℕ

@@ -3,7 +3,23 @@ use Rattle.sl_tcflow.specs.StepReport.{StepReport}
 use Rattle.sl_tcflow.specs.declared.step.TcStep.TheInside.{Inside}
 
 abbrev pub report_of : Inside → StepReport
-report_of s = record { verdict = s.verdict; packets = s.packets; idle = s.idle }
+report_of s = record {
+  verdict = s.verdict;
+  packets = s.packets;
+  idle = s.idle;
+  stray = s.stray;
+  dropped = s.dropped;
+  long = s.long;
+  tail = s.tail;
+}
 
 abbrev pub inside_of : StepReport → Inside
-inside_of r = record { verdict = r.verdict; packets = r.packets; idle = r.idle }
+inside_of r = record {
+  verdict = r.verdict;
+  packets = r.packets;
+  idle = r.idle;
+  stray = r.stray;
+  dropped = r.dropped;
+  long = r.long;
+  tail = r.tail;
+}

@@ -1,11 +1,12 @@
 -- The normal form of a TC recording: the delivered packets of each virtual channel and MAP in frames of type AD
 -- that have nothing of the recording's own. All of it is this project's mission profile; the frames are those of
 -- CCSDS 232.0-B.
-use Rattle.std.specs.Prelude.{ℕ, ◌+◌, ◌-◌, ◌*◌, ◌/◌, ◌%◌, ◌==◌, if◌then◌else◌, List, [], ◌∷◌, ◌++◌, length, take, drop, map, flat_map}
-use Rattle.std.specs.List.{concat, range_with_len}
-use Rattle.sl_fields.specs.SegmentHeader.{SegmentFields}
+use Rattle.std.specs.Prelude.{◌≡◌, ℕ, ◌+◌, ◌-◌, ◌*◌, ◌/◌, ◌%◌, ◌<◌, ◌≤◌, ◌==◌, if◌then◌else◌, List, [], ◌∷◌, ◌++◌, length, take, drop, map, flat_map}
+use Rattle.std.specs.List.{AllByRecursion, concat, range_with_len}
+use Rattle.sl_fields.specs.SegmentHeader.{SegmentFields, segment_octets}
 use Rattle.sl_tcframe.specs.AdFrame.{room_of, ad_frame}
 use Rattle.sl_tcframe.specs.TcFrame.{TcFormat}
+use Rattle.sl_tcflow.specs.Series.{IsSeries}
 
 -- how many segments a packet needs: each is full but the last, which has one octet or more
 abbrev pub segment_count : ℕ → List ℕ → ℕ
@@ -52,3 +53,22 @@ tc_frames_form format spacecraft vr lists =
 
 abbrev pub tc_normal_form_of : TcFormat → ℕ → ℕ → List (List (List ℕ)) → List ℕ
 tc_normal_form_of format spacecraft vr lists = concat (tc_frames_form format spacecraft vr lists)
+
+-- ---- laws
+
+-- The octets of segments that have room for so many: each segment is full but the last, which has one octet or more.
+pub data AreSegments (room : ℕ) : List (List ℕ) → Type 0 where
+  last : (octets : List ℕ) → 0 < length octets → length octets ≤ room → AreSegments room (octets ∷ [])
+  full : (octets : List ℕ) (later : List (List ℕ)) → length octets ≡ room → AreSegments room later → AreSegments room (octets ∷ later)
+
+-- A packet is divided into these segments.
+pub record IsDividedInto (room mid : ℕ) (packet : List ℕ) (segments : List (SegmentFields × List ℕ)) : Type 0 where
+  pub filled : AreSegments room (map (λ s. s.1) segments)
+  pub end_to_end : concat (map (λ s. s.1) segments) ≡ packet
+  pub series : IsSeries (map (λ s. segment_octets s.0 ++ s.1) segments)
+  pub on_map : AllByRecursion (λ s. s.0.map ≡ mid) segments
+
+-- each packet is divided into its segments
+abbrev pub EachIsDivided : Type 0
+EachIsDivided =
+    (room mid : ℕ) (packet : List ℕ) → 0 < room → mid < 64 → 0 < length packet → IsDividedInto room mid packet (segments_of_packet room mid packet)

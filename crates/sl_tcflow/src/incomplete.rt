@@ -1,10 +1,10 @@
 //! The series of segments that is incomplete on a MAP.
-ghost use Rattle.std.specs.Prelude.{◌≡◌, ◌≢◌, ◌⊎◌, ◌≤◌, ◌<◌, length, None, OnOk, OnErr, IfOk, IfErr};
+ghost use Rattle.std.specs.Prelude.{◌≡◌, ◌≢◌, ◌⊎◌, ◌≤◌, ◌<◌, length, None, option_map, OnOk, OnErr, IfOk, IfErr, IfSome};
 ghost use Rattle.sl_packet.specs.Packets.{only_idle, without_idle};
 ghost use Rattle.sl_packet.specs.Sink.{TakesAll};
 ghost use Rattle.sl_packet.specs.Stopping.{IsStopped};
 ghost use Rattle.sl_tcflow.specs.Incomplete.{if_fits};
-ghost use Rattle.sl_tcflow.specs.NextSegment.{incomplete_after, joined, packets_after, packets_of_unit};
+ghost use Rattle.sl_tcflow.specs.NextSegment.{incomplete_after, joined, packets_after, packets_of_unit, rest_of_unit, tail_after};
 ghost use Rattle.sl_tcflow.specs.Series.{flags_of, header_at, octets_at};
 
 use crate::hand::{Handed, NOTHING, hand};
@@ -43,6 +43,17 @@ impl Incomplete {
         }
     }
 
+    /// How many octets it has so far, if a series is incomplete.
+    pub fn held(&self) -> Option<u32>
+        ensures octets { result ≡ option_map length self.now }
+        ensures most { IfSome result (λ octets. octets ≤ 65542) }
+    {
+        if !self.is_begun {
+            return None;
+        }
+        Some(self.octets.len() as u32)
+    }
+
     /// Takes the next segment, and hands the sink the packets that end with it.
     pub fn take<S: PacketSink>(
         &mut self,
@@ -58,6 +69,7 @@ impl Incomplete {
         ensures kept { OnOk result (S.failures sink.new ≡ S.failures sink.old) }
         ensures packets { IfOk result (λ handed. handed.packets ≡ length (without_idle (packets_after self.old unit.now))) }
         ensures idle { IfOk result (λ handed. handed.idle ≡ length (only_idle (packets_after self.old unit.now))) }
+        ensures tail { IfOk result (λ handed. handed.tail ≡ tail_after self.old unit.now) }
         ensures stopped { IfErr result (λ flow. IsStopped S.taking S.failing S.failures sink.old channel (without_idle (packets_after self.old unit.now)) flow sink.new) }
         ensures memory { IfErr result (λ flow. flow ≡ FlowFault.Memory → (self.old ≢ None) ⊎ (incomplete_after self.old unit.now ≢ None)) }
     {
@@ -116,6 +128,7 @@ impl Incomplete {
         ensures kept { OnOk result (S.failures sink.new ≡ S.failures sink.old) }
         ensures packets { IfOk result (λ handed. handed.packets ≡ length (without_idle (packets_of_unit self.old))) }
         ensures idle { IfOk result (λ handed. handed.idle ≡ length (only_idle (packets_of_unit self.old))) }
+        ensures tail { IfOk result (λ handed. handed.tail ≡ length (rest_of_unit self.old)) }
         ensures stopped { IfErr result (λ flow. IsStopped S.taking S.failing S.failures sink.old channel (without_idle (packets_of_unit self.old)) flow sink.new) }
         ensures not_memory { IfErr result (λ flow. flow ≢ FlowFault.Memory) }
     {
@@ -142,6 +155,7 @@ pub fn take_alone<S: PacketSink>(
     ensures kept { OnOk result (S.failures sink.new ≡ S.failures sink.old) }
     ensures packets { IfOk result (λ handed. handed.packets ≡ length (without_idle (packets_after None unit.now))) }
     ensures idle { IfOk result (λ handed. handed.idle ≡ length (only_idle (packets_after None unit.now))) }
+    ensures tail { IfOk result (λ handed. handed.tail ≡ tail_after None unit.now) }
     ensures stopped { IfErr result (λ flow. IsStopped S.taking S.failing S.failures sink.old channel (without_idle (packets_after None unit.now)) flow sink.new) }
     ensures not_memory { IfErr result (λ flow. flow ≢ FlowFault.Memory) }
 {

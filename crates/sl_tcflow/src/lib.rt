@@ -4,8 +4,10 @@
 //! A service data unit is a series of segments on a multiplexer access point (MAP) ([`laws`]).
 #![tactic(auto)]
 
+mod anomaly;
 mod hand;
 mod incomplete;
+mod kept;
 pub mod laws;
 mod receiver;
 mod reframe;

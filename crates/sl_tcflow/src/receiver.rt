@@ -1,6 +1,5 @@
 //! Packets out of the frames that FARM-1 accepts.
-ghost use Rattle.std.specs.Prelude.{◌≡◌, ◌≢◌, ◌⊎◌, ◌≤◌, ◌<◌, nat_lt, true, None, OnErr, ◌++◌, ◌∷◌, [], ℕ, List, length, OnOk, IfOk, IfErr, IfSome, IfNone, Err};
-ghost use Rattle.std.specs.Vec.{vec_len};
+ghost use Rattle.std.specs.Prelude.{◌≡◌, ◌≢◌, ◌≤◌, ◌<◌, ◌++◌, ◌∷◌, [], ℕ, List, length, is_some, OnOk, IfOk, IfErr, IfSome, IfNone, Err};
 ghost use Rattle.sl_cop.specs.FarmClcw.{clcw_of};
 ghost use Rattle.sl_packet.specs.Packets.{only_idle, without_idle};
 ghost use Rattle.sl_packet.specs.Sink.{TakesAll};
@@ -8,19 +7,22 @@ ghost use Rattle.sl_packet.specs.Stopping.{IsStopped};
 ghost use Rattle.sl_tcframe.specs.TcContent.{content};
 ghost use Rattle.sl_tcframe.specs.TcFrame.{TcView, IsContent};
 ghost use Rattle.sl_tcflow.specs.AcceptedUnit.{channel_of, event_of, farm_after, unit_by};
-ghost use Rattle.sl_tcflow.specs.NextSegment.{incomplete_after, packets_after};
-ghost use Rattle.sl_tcflow.specs.Placed.{at, IsPlaced};
-ghost use Rattle.sl_tcflow.specs.Receiving.{ForReceived, HasReceived, HasFailed, HasFailedAfter, HaveStepped, ForIncomplete, IsIncompleteAround, AreIncomplete, channel_at, map_of, ended_by, unit_channel, verdict_on};
+ghost use Rattle.sl_tcflow.specs.Anomaly.{dropped_by, held_of, long_by, stray_by, tail_by};
+ghost use Rattle.sl_tcflow.specs.Incomplete.{incomplete_of};
+ghost use Rattle.sl_tcflow.specs.Receiving.{ForReceived, HasReceived, HasFailed, HasFailedAfter, HaveStepped, ForIncomplete, IsIncompleteAround, AreIncomplete, map_of, ended_by, unit_channel, verdict_on};
+ghost use Rattle.sl_tcflow.specs.Reception.{segments_of};
 ghost use Rattle.sl_tcflow.specs.Series.{header_at};
 
+use crate::anomaly::{Anomaly, NO_ANOMALY, anomaly_of};
 use crate::hand::{Handed, NOTHING};
-use crate::incomplete::{Incomplete, split_segment, take_alone};
+use crate::incomplete::{Incomplete, split_segment};
+use crate::kept::{held_on, take_unit};
 use crate::step::TcStep;
 use sl_cop::{Farm, FarmEvent, Verdict, Window};
 use sl_fields::Clcw;
 use sl_packet::{FlowFault, PacketSink};
 use sl_tcframe::{TcContent, TcFrame};
-use std::alloc::{AllocError, Global};
+use std::alloc::Global;
 use std::marker::Model;
 
 /// Delivers the packets of the virtual channels and MAPs of CCSDS 232.0-B from the frames that FARM-1 accepts,
@@ -58,7 +60,8 @@ impl Receiver {
     }
 
     /// Steps FARM-1 of the frame's virtual channel, and hands the sink the packets that end with the frame's
-    /// unit, if it is accepted, but for idle ones. Their channel is 64 times the virtual channel and the MAP.
+    /// unit, if it is accepted, but for idle ones. Their channel is 64 times the virtual channel, plus the MAP. The
+    /// step says what is amiss with the unit.
     ///
     /// The fault is `Memory` where memory was refused, and `Sink` where the sink refused a packet: it has
     /// accepted the packets before that one, and none after it, and FARM-1 has taken the frame. After either
@@ -76,6 +79,11 @@ impl Receiver {
         ensures packets { IfOk result (λ step. ForReceived self.old (λ w vr views. step.packets ≡ length (without_idle (ended_by w vr views frame.now)))) }
         ensures idle { IfOk result (λ step. ForReceived self.old (λ w vr views. step.idle ≡ length (only_idle (ended_by w vr views frame.now)))) }
         ensures kept { OnOk result (S.failures sink.new ≡ S.failures sink.old) }
+        // What is amiss with its unit is told, if it is accepted.
+        ensures stray { IfOk result (λ step. ForReceived self.old (λ w vr views. step.stray ≡ stray_by w vr views frame.now)) }
+        ensures dropped { IfOk result (λ step. ForReceived self.old (λ w vr views. step.dropped ≡ dropped_by w vr views frame.now)) }
+        ensures long { IfOk result (λ step. ForReceived self.old (λ w vr views. step.long ≡ long_by w vr views frame.now)) }
+        ensures tail { IfOk result (λ step. ForReceived self.old (λ w vr views. step.tail ≡ tail_by w vr views frame.now)) }
         // After a fault each call fails, and leaves all as it was; none fails before.
         ensures failed { HasFailed self.old → result ≡ Err FlowFault.Failed }
         ensures left { result ≡ Err FlowFault.Failed → HasFailed self.old × (self.new ≡ self.old) × (sink.new ≡ sink.old) }
@@ -83,7 +91,8 @@ impl Receiver {
         ensures stopped { IfErr result (λ flow. flow ≢ FlowFault.Failed → HasFailed self.new
             × ForReceived self.old (λ w vr views. HasFailedAfter w vr self.new (views ++ frame.now ∷ [])
             × IsStopped S.taking S.failing S.failures sink.old (unit_channel frame.now) (without_idle (ended_by w vr views frame.now)) flow sink.new)) }
-        // Memory is wanted only where a series is incomplete before the frame or after it.
+        // Memory is wanted only where the frame's unit is accepted and a series is incomplete on its MAP, before the
+        // frame or after it.
         ensures memory { IfErr result (λ flow. flow ≡ FlowFault.Memory → ForReceived self.old (λ w vr views. IsIncompleteAround w vr views frame.now)) }
     {
         if self.has_failed {
@@ -92,6 +101,7 @@ impl Receiver {
         // A fault leaves it set.
         self.has_failed = true;
         let verdict = step(&mut self.farms, frame);
+        let anomaly = anomaly_by(&self.incomplete, verdict, frame);
         let handed = match take(self.alloc, &mut self.incomplete, verdict, frame, sink) {
             Ok(handed) => handed,
             Err(flow) => return Err(flow),
@@ -101,6 +111,10 @@ impl Receiver {
             verdict,
             packets: handed.packets,
             idle: handed.idle,
+            stray: anomaly.stray,
+            dropped: anomaly.dropped,
+            long: anomaly.long,
+            tail: handed.tail,
         })
     }
 
@@ -111,6 +125,27 @@ impl Receiver {
         ensures failed { (w vr : ℕ) (views : List TcView) → HasFailedAfter w vr self.now views → result ≡ clcw_of vc (farm_after w vr (channel_of vc views)) }
     {
         self.farms[usize::from(vc)].clcw(vc)
+    }
+
+    /// The octets so far of the series that is incomplete on a virtual channel and a MAP, 0 where none is. After a
+    /// fault they are at most 65,542, as ever, and nothing else is said of them.
+    pub fn held(&self, vc: u8, map: u8) -> u32
+        requires vc { vc ≤ 63 }
+        requires map { map ≤ 63 }
+        ensures value { ForReceived self.now (λ w vr views. result ≡ held_of (segments_of w vr vc map views)) }
+        ensures most { result ≤ 65542 }
+    {
+        held_on(&self.incomplete, vc, map).unwrap_or(0)
+    }
+
+    /// Whether a series is incomplete on a virtual channel and a MAP. It may have no octets so far. After a fault
+    /// nothing is said of it.
+    pub fn is_open(&self, vc: u8, map: u8) -> bool
+        requires vc { vc ≤ 63 }
+        requires map { map ≤ 63 }
+        ensures value { ForReceived self.now (λ w vr views. result ≡ is_some (incomplete_of (segments_of w vr vc map views))) }
+    {
+        held_on(&self.incomplete, vc, map).is_some()
     }
 }
 
@@ -138,6 +173,22 @@ fn event_in(carried: &TcContent) -> FarmEvent
     }
 }
 
+// What is amiss with the unit of a frame, if it carries one and this verdict accepts it.
+fn anomaly_by(incomplete: &Vec<Incomplete>, verdict: Verdict, frame: &TcFrame) -> Anomaly
+    ensures stray { ForIncomplete incomplete.now.items verdict frame.now (λ w vr views. result.stray ≡ stray_by w vr views frame.now) }
+    ensures dropped { ForIncomplete incomplete.now.items verdict frame.now (λ w vr views. result.dropped ≡ dropped_by w vr views frame.now) }
+    ensures long { ForIncomplete incomplete.now.items verdict frame.now (λ w vr views. result.long ≡ long_by w vr views frame.now) }
+{
+    match accepted_unit(verdict, &frame.content()) {
+        Some(unit) => {
+            let (header, _) = split_segment(unit);
+            let held = held_on(incomplete, frame.vc(), header.map());
+            anomaly_of(held, unit)
+        }
+        None => NO_ANOMALY,
+    }
+}
+
 // Takes the unit of a frame, if it carries one and this verdict accepts it.
 fn take<S: PacketSink>(
     alloc: Global,
@@ -150,6 +201,7 @@ fn take<S: PacketSink>(
     ensures accepted { OnOk result (ForIncomplete incomplete.old.items verdict frame.now (λ w vr views. TakesAll S.taking sink.old (unit_channel frame.now) (without_idle (ended_by w vr views frame.now)) sink.new)) }
     ensures packets { IfOk result (λ handed. ForIncomplete incomplete.old.items verdict frame.now (λ w vr views. handed.packets ≡ length (without_idle (ended_by w vr views frame.now)))) }
     ensures idle { IfOk result (λ handed. ForIncomplete incomplete.old.items verdict frame.now (λ w vr views. handed.idle ≡ length (only_idle (ended_by w vr views frame.now)))) }
+    ensures tail { IfOk result (λ handed. ForIncomplete incomplete.old.items verdict frame.now (λ w vr views. handed.tail ≡ tail_by w vr views frame.now)) }
     ensures kept { OnOk result (S.failures sink.new ≡ S.failures sink.old) }
     ensures stopped { IfErr result (λ flow. ForIncomplete incomplete.old.items verdict frame.now (λ w vr views. IsStopped S.taking S.failing S.failures sink.old (unit_channel frame.now) (without_idle (ended_by w vr views frame.now)) flow sink.new)) }
     ensures not_failed { IfErr result (λ flow. flow ≢ FlowFault.Failed) }
@@ -180,68 +232,4 @@ fn accepted_unit<'a>(verdict: Verdict, carried: &TcContent<'a>) -> Option<&'a [u
         },
         _ => None,
     }
-}
-
-// Takes the next segment of its MAP.
-fn take_unit<S: PacketSink>(
-    alloc: Global,
-    incomplete: &mut Vec<Incomplete>,
-    vc: u8,
-    unit: &[u8],
-    sink: &mut S,
-) -> Result<Handed, FlowFault>
-    requires vc { vc ≤ 63 }
-    requires some { 0 < length unit.now }
-    requires short { length unit.now ≤ 1019 }
-    ensures placed { OnOk result (let place : ℕ = channel_at vc (header_at unit.now).map in IsPlaced incomplete.old.items place (incomplete_after (at incomplete.old.items place) unit.now) incomplete.new.items) }
-    ensures accepted { OnOk result (let place : ℕ = channel_at vc (header_at unit.now).map in TakesAll S.taking sink.old place (without_idle (packets_after (at incomplete.old.items place) unit.now)) sink.new) }
-    ensures packets { IfOk result (λ handed. handed.packets ≡ length (without_idle (packets_after (at incomplete.old.items (channel_at vc (header_at unit.now).map)) unit.now))) }
-    ensures idle { IfOk result (λ handed. handed.idle ≡ length (only_idle (packets_after (at incomplete.old.items (channel_at vc (header_at unit.now).map)) unit.now))) }
-    ensures kept { OnOk result (S.failures sink.new ≡ S.failures sink.old) }
-    ensures stopped { IfErr result (λ flow. let place : ℕ = channel_at vc (header_at unit.now).map in IsStopped S.taking S.failing S.failures sink.old place (without_idle (packets_after (at incomplete.old.items place) unit.now)) flow sink.new) }
-    ensures memory { IfErr result (λ flow. let place : ℕ = channel_at vc (header_at unit.now).map in flow ≡ FlowFault.Memory → (at incomplete.old.items place ≢ None) ⊎ (incomplete_after (at incomplete.old.items place) unit.now ≢ None)) }
-{
-    let (header, _) = split_segment(unit);
-    let channel = 64 * u16::from(vc) + u16::from(header.map());
-    let place = usize::from(channel);
-    match is_kept(alloc, incomplete, place, header.flags()) {
-        Ok(true) => match incomplete[place].take(unit, channel, sink) {
-            Ok(handed) => Ok(handed),
-            Err(flow) => Err(flow),
-        },
-        Ok(false) => match take_alone(alloc, unit, channel, sink) {
-            Ok(handed) => Ok(handed),
-            Err(flow) => Err(flow),
-        },
-        Err(_) => Err(FlowFault::Memory),
-    }
-}
-
-// Whether there is this place: for a first segment there is, as far as memory was found.
-fn is_kept(
-    alloc: Global,
-    incomplete: &mut Vec<Incomplete>,
-    place: usize,
-    flags: u8,
-) -> Result<bool, AllocError>
-    ensures kept { IfOk result (λ kept. kept ≡ nat_lt place (vec_len incomplete.new)) }
-    ensures first { IfOk result (λ kept. flags ≡ 1 → kept ≡ true) }
-    ensures refused { OnErr result (flags ≡ 1) }
-    ensures same { (other : ℕ) → at incomplete.new.items other ≡ at incomplete.old.items other }
-{
-    if flags == 1 {
-        reach(alloc, incomplete, place)?;
-    }
-    Ok(place < incomplete.len())
-}
-
-// Adds places up to one, at which nothing is incomplete.
-fn reach(alloc: Global, incomplete: &mut Vec<Incomplete>, place: usize) -> Result<(), AllocError>
-    ensures reached { OnOk result (place < vec_len incomplete.new) }
-    ensures same { (other : ℕ) → at incomplete.new.items other ≡ at incomplete.old.items other }
-{
-    while incomplete.len() <= place {
-        incomplete.push(Incomplete::new(alloc))?;
-    }
-    Ok(())
 }

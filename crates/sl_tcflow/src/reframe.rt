@@ -1,10 +1,11 @@
 //! The normal form of delivered packets.
-ghost use Rattle.std.specs.Prelude.{◌≡◌, ◌≢◌, ◌+◌, ◌*◌, ◌%◌, ◌≤◌, ◌++◌, if◌then◌else◌, [], length, take, drop, map, flat_map, IfOk, OnOk, OnErr};
-ghost use Rattle.std.specs.List.{concat};
+ghost use Rattle.std.specs.Prelude.{◌≡◌, ◌≢◌, ℕ, ◌+◌, ◌*◌, ◌%◌, ◌≤◌, ◌++◌, if◌then◌else◌, [], length, take, drop, map, flat_map, IfOk, OnOk, OnErr};
+ghost use Rattle.std.specs.List.{AllByRecursion, concat};
 ghost use Rattle.std.specs.Vec.{vec_items};
 ghost use Rattle.sl_fields.specs.SegmentHeader.{SegmentFields};
-ghost use Rattle.sl_packet.specs.Delivered.{HasNone, channel_count};
+ghost use Rattle.sl_packet.specs.Delivered.{HasNone, IsDeliverable, channel_count};
 ghost use Rattle.sl_tcframe.specs.AdFrame.{room_of};
+ghost use Rattle.sl_tcflow.specs.Recording.{tc_lists};
 ghost use Rattle.sl_tcflow.specs.TcNormalForm.{segments_of_packet, frames_of_segments, channel_frames, tc_normal_form_of};
 
 use sl_fields::SegmentHeader;
@@ -15,7 +16,8 @@ use std::alloc::{AllocError, Global};
 /// The normal form of the packets that were delivered, those of virtual channel `v` and MAP `m` on channel
 /// `64 * v + m`: frames of type AD of this format, end to end, and none where there are no packets. `vr` is the
 /// initial V(R) of each virtual channel, the N(S) of its first frame. The form is this project's own
-/// (docs/normal-form.md).
+/// (docs/normal-form.md). Read as a recording, from that V(R) on, it delivers these packets and no others,
+/// whatever the window of FARM-1.
 ///
 /// `spacecraft` is 0 to 1023. The only refusal is want of memory, and only where there are packets.
 pub fn reframe_tc(
@@ -27,8 +29,11 @@ pub fn reframe_tc(
 ) -> Result<Vec<u8>, AllocError>
     requires spacecraft { spacecraft ≤ 1023 }
     ensures form { IfOk result (λ form. form.items ≡ tc_normal_form_of shape.now spacecraft vr delivered.now.lists) }
+    ensures delivers { IfOk result (λ form. (w : ℕ) → tc_lists shape.now spacecraft w vr form.items ≡ delivered.now.lists) }
     ensures packets { OnErr result (HasNone delivered.now 0 channel_count → ⊥) }
 {
+    let max = shape.max();
+    prove!(16 <= max && max <= 1024);
     let mut form = Vec::new(alloc);
     for vc in 0..64 {
         push_channel(&mut form, shape, spacecraft, vc, vr, delivered)?;
@@ -48,6 +53,8 @@ fn push_channel(
     requires spacecraft { spacecraft ≤ 1023 }
     requires vc { vc ≤ 63 }
     ensures frames { OnOk result (form.new.items ≡ form.old.items ++ concat (channel_frames shape.now spacecraft vr vc (take 64 (drop (64 * vc) delivered.now.lists)))) }
+    ensures channels { OnOk result (length delivered.now.lists ≡ channel_count) }
+    ensures deliverable { OnOk result (AllByRecursion (AllByRecursion IsDeliverable) (take 64 (drop (64 * vc) delivered.now.lists))) }
     ensures packets { OnErr result (HasNone delivered.now 0 channel_count → ⊥) }
 {
     let mut ns = vr;

@@ -10,6 +10,10 @@ pub struct TcStep {
     pub(crate) verdict: Verdict,
     pub(crate) packets: u32,
     pub(crate) idle: u32,
+    pub(crate) stray: bool,
+    pub(crate) dropped: Option<u32>,
+    pub(crate) long: bool,
+    pub(crate) tail: u32,
 }
 
 impl Model for TcStep {
@@ -45,5 +49,35 @@ impl TcStep {
         ensures { result ≡ self.now.idle }
     {
         self.idle
+    }
+    /// Whether the frame's unit is out of sequence: a continuing or last segment where no series is incomplete.
+    pub fn stray(&self) -> bool
+        ensures { result ≡ self.now.stray }
+    {
+        self.stray
+    }
+
+    /// The octets of the series that was incomplete, if one was, where the frame's unit begins another one. It may
+    /// have had none.
+    pub fn dropped(&self) -> Option<u32>
+        ensures { result ≡ self.now.dropped }
+    {
+        self.dropped
+    }
+
+    /// Whether the series that was incomplete is given up: together with the frame's unit it has more than 65,542
+    /// octets.
+    pub fn long(&self) -> bool
+        ensures { result ≡ self.now.long }
+    {
+        self.long
+    }
+
+    /// The octets after the last whole packet of the service data unit that ends with the frame's unit, 0 where
+    /// there are none or where none ends.
+    pub fn tail(&self) -> u32
+        ensures { result ≡ self.now.tail }
+    {
+        self.tail
     }
 }

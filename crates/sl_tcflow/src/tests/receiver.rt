@@ -1,16 +1,13 @@
 //! Frames of known octets, what FARM-1 answers to them, and the packets that end with their units. The expected
 //! values follow from the standard's bits.
-ghost use Rattle.std.specs.Prelude.{◌≡◌};
-
-use crate::Receiver;
+use crate::{Receiver, TcStep};
 use sl_cop::{Verdict, Window};
-use sl_fields::SegmentHeader;
-use sl_packet::{Delivered, FlowFault, PacketSink, SinkFault};
-use sl_tcframe::{TcFrame, TcShape, push_tc};
+use sl_packet::{Delivered, PacketSink};
+use sl_tcframe::{TcFrame, TcShape};
 use std::test::Fail;
 
 // Spacecraft 1, virtual channel 0, type AD, N(S) 0: an unsegmented unit on MAP 0 that is one packet.
-const WHOLE: [u8; 16] = [
+pub const WHOLE: [u8; 16] = [
     0x00, 0x01, 0x00, 0x0F, 0x00, 0xC0, //
     0x10, 0x01, 0xC0, 0x00, 0x00, 0x03, 0xAA, 0xBB, 0xCC, 0xDD,
 ];
@@ -34,26 +31,26 @@ const WITH_IDLE: [u8; 20] = [
 
 // A continuing segment on MAP 1 without a first one; a first segment on MAP 1, and one on MAP 2; the last one on
 // MAP 1; another first one on MAP 2, and the last one.
-const STRAY_1: [u8; 7] = [0x00, 0x01, 0x00, 0x06, 0x00, 0x01, 0xFF];
+pub const STRAY_1: [u8; 7] = [0x00, 0x01, 0x00, 0x06, 0x00, 0x01, 0xFF];
 
-const FIRST_1: [u8; 11] = [
+pub const FIRST_1: [u8; 11] = [
     0x00, 0x01, 0x00, 0x0A, 0x01, 0x41, 0x10, 0x01, 0xC0, 0x00, 0x00,
 ];
 
-const DROPPED_2: [u8; 10] = [0x00, 0x01, 0x00, 0x09, 0x02, 0x42, 0x10, 0x02, 0xC0, 0x00];
+pub const DROPPED_2: [u8; 10] = [0x00, 0x01, 0x00, 0x09, 0x02, 0x42, 0x10, 0x02, 0xC0, 0x00];
 
-const LAST_1: [u8; 11] = [
+pub const LAST_1: [u8; 11] = [
     0x00, 0x01, 0x00, 0x0A, 0x03, 0x81, 0x03, 0xAA, 0xBB, 0xCC, 0xDD,
 ];
 
-const FIRST_2: [u8; 11] = [
+pub const FIRST_2: [u8; 11] = [
     0x00, 0x01, 0x00, 0x0A, 0x04, 0x42, 0x10, 0x02, 0xC0, 0x01, 0x00,
 ];
 
-const LAST_2: [u8; 8] = [0x00, 0x01, 0x00, 0x07, 0x05, 0x82, 0x00, 0xEE];
+pub const LAST_2: [u8; 8] = [0x00, 0x01, 0x00, 0x07, 0x05, 0x82, 0x00, 0xEE];
 
 // Three segments of one packet on virtual channel 5, with N(S) 0.
-const DIVIDED: [&[u8]; 3] = [
+pub const DIVIDED: [&[u8]; 3] = [
     &[
         0x00, 0x01, 0x14, 0x0F, 0x00, 0x40, //
         0x10, 0x02, 0xC0, 0x05, 0x00, 0x10, 0x11, 0x11, 0x11, 0x11,
@@ -77,27 +74,44 @@ const fn one_octet(ns: u8) -> [u8; 7] {
     [0x00, 0x01, 0x00, 0x06, ns, 0xC0, 0x00]
 }
 
-fn receiver(rt: &HostRuntime, vr: u8) -> Result<Receiver, Fail> {
+// A frame of type AD with this N(S), that carries a packet.
+const fn with_packet(ns: u8) -> [u8; 16] {
+    [
+        0x00, 0x01, 0x00, 0x0F, ns, 0xC0, //
+        0x10, 0x01, 0xC0, 0x00, 0x00, 0x03, 0xAA, 0xBB, 0xCC, 0xDD,
+    ]
+}
+
+pub fn receiver(rt: &HostRuntime, vr: u8) -> Result<Receiver, Fail> {
     let window = Window::new(10).ok_or("no window")?;
     Ok(Receiver::new(rt.alloc(), window, vr))
 }
 
-// The verdict on a frame of spacecraft 1, and the packets and the idle ones that end with its unit.
-fn received<S: PacketSink>(
+// What a frame of spacecraft 1 brought.
+pub fn step_of<S: PacketSink>(
     receiver: &mut Receiver,
     octets: &[u8],
     sink: &mut S,
-) -> Result<(Verdict, u32, u32), Fail> {
+) -> Result<TcStep, Fail> {
     let shape = TcShape::new(1024, false)?;
     if !shape.is_cut(octets) {
         return Err("not one frame".into());
     }
     let frame = TcFrame::read(&shape, 1, octets).or(Err("skipped"))?;
-    let step = receiver.frame(&frame, sink)?;
+    Ok(receiver.frame(&frame, sink)?)
+}
+
+// The verdict on it, and the packets and the idle ones that end with its unit.
+pub fn received<S: PacketSink>(
+    receiver: &mut Receiver,
+    octets: &[u8],
+    sink: &mut S,
+) -> Result<(Verdict, u32, u32), Fail> {
+    let step = step_of(receiver, octets, sink)?;
     Ok((step.verdict(), step.packets(), step.idle()))
 }
 
-fn are(list: &[Vec<u8>], packets: &[&[u8]]) -> bool {
+pub fn are(list: &[Vec<u8>], packets: &[&[u8]]) -> bool {
     list.len() == packets.len() && list.iter().zip(packets).all(|(a, b)| a.as_slice() == *b)
 }
 
@@ -140,7 +154,7 @@ fn frames_that_are_not_accepted_deliver_nothing(rt: HostRuntime) -> Result<(), F
         (0, Verdict::Refused),
     ] {
         assert_eq!(rt;
-            received(&mut receiver, &one_octet(ns), &mut delivered)?,
+            received(&mut receiver, &with_packet(ns), &mut delivered)?,
             (verdict, 0, 0),
             "at {ns}"
         );
@@ -238,105 +252,5 @@ fn each_begins_with_the_given_number(rt: HostRuntime) -> Result<(), Fail> {
         received(&mut receiver, &WHOLE, &mut delivered)?,
         (Verdict::Accept, 1, 0)
     );
-    Ok(())
-}
-
-// Frames with ten octets each behind their segment headers, the last one with so many: the packets that end with
-// that one.
-fn series_of(
-    rt: &HostRuntime,
-    octets: &[u8],
-    delivered: &mut Delivered,
-) -> Result<(Verdict, u32, u32), Fail> {
-    let mut receiver = receiver(rt, 0)?;
-    let shape = TcShape::new(16, false)?;
-    let count = octets.len().div_ceil(10);
-    let mut last = (Verdict::Late, 0, 0);
-    for (number, segment) in octets.chunks(10).enumerate() {
-        let flags = match number {
-            0 => 1,
-            _ if number + 1 == count => 2,
-            _ => 0,
-        };
-        let header = SegmentHeader::new(flags, 0).ok_or("no header")?;
-        let mut frame = Vec::new(rt.alloc());
-        if segment.len() <= 10 && shape.room() == 10 {
-            push_tc(
-                &mut frame,
-                &shape,
-                1,
-                0,
-                (number % 256) as u8,
-                header,
-                segment,
-            )?;
-        }
-        last = received(&mut receiver, &frame, delivered)?;
-    }
-    Ok(last)
-}
-
-#[test]
-fn a_longest_packet_is_reassembled(rt: HostRuntime) -> Result<(), Fail> {
-    let mut longest = Vec::from_slice(rt.alloc(), &[0x00, 0x03, 0xC0, 0x00, 0xFF, 0xFF])?;
-    longest.resize(65542, 0x33)?;
-    let mut delivered = Delivered::new(rt.alloc());
-    assert_eq!(rt;
-        series_of(&rt, &longest, &mut delivered)?,
-        (Verdict::Accept, 1, 0)
-    );
-    assert!(rt; are(delivered.list(0), &[&longest]));
-    Ok(())
-}
-
-#[test]
-fn a_longer_series_is_given_up(rt: HostRuntime) -> Result<(), Fail> {
-    let mut longer = Vec::from_slice(rt.alloc(), &[0x00, 0x03, 0xC0, 0x00, 0xFF, 0xFF])?;
-    longer.resize(65543, 0x33)?;
-    let mut delivered = Delivered::new(rt.alloc());
-    assert_eq!(rt;
-        series_of(&rt, &longer, &mut delivered)?,
-        (Verdict::Accept, 0, 0)
-    );
-    assert_eq!(rt; delivered.at_or_above(0), None);
-    Ok(())
-}
-
-// A sink that refuses each packet.
-#[derive(Drop)]
-struct Refuses {
-    refused: u64,
-}
-
-impl PacketSink for Refuses {
-    ghost use Rattle.sl_packet.specs.declared.sink.SinkFault.TheVariants.{Refused};
-
-    ghost taking = { λ old channel packet new. ⊥ };
-
-    ghost failing = { λ old channel packet fault new. fault ≡ Refused };
-
-    ghost failures = { λ sink. sink.refused };
-
-    fn packet(&mut self, _channel: u16, _p: &[u8]) -> Result<(), SinkFault> {
-        self.refused = self.refused.saturating_add(1);
-        Err(SinkFault::Refused)
-    }
-}
-
-#[test]
-fn a_receiver_stops_at_a_fault(rt: HostRuntime) -> Result<(), Fail> {
-    let shape = TcShape::new(16, false)?;
-    if !shape.is_cut(&WHOLE) {
-        return Err("not one frame".into());
-    }
-    let frame = TcFrame::read(&shape, 1, &WHOLE).or(Err("skipped"))?;
-    let mut receiver = receiver(&rt, 0)?;
-    let mut sink = Refuses { refused: 0 };
-    let fault = receiver.frame(&frame, &mut sink).err();
-    assert_eq!(rt; fault, Some(FlowFault::Sink(SinkFault::Refused)));
-    let fault = receiver.frame(&frame, &mut sink).err();
-    assert_eq!(rt; fault, Some(FlowFault::Failed));
-    assert_eq!(rt; sink.refused, 1);
-    assert_eq!(rt; receiver.clcw(0).write(), [0x01, 0x00, 0x00, 0x01]);
     Ok(())
 }

@@ -1,4 +1,5 @@
 //! The normal form of known packets. The expected frames follow from the standard's bits.
+use super::receiver::{are, received, receiver};
 use crate::reframe_tc;
 use sl_packet::{Delivered, hand_over};
 use sl_tcframe::TcShape;
@@ -153,7 +154,8 @@ fn packets_of_three_channels(rt: HostRuntime) -> Result<(), Fail> {
     Ok(())
 }
 
-// It has 6,555 segments, the first of flags 1, the last of flags 2, and all others of flags 0.
+// It has 6,555 segments, the first of flags 1, the last of flags 2, and all others of flags 0, and is received from
+// them.
 #[test]
 fn a_longest_packet_goes_through_its_frames(rt: HostRuntime) -> Result<(), Fail> {
     let mut longest = Vec::from_slice(rt.alloc(), &[0x00, 0x03, 0xC0, 0x00, 0xFF, 0xFF])?;
@@ -174,5 +176,11 @@ fn a_longest_packet_goes_through_its_frames(rt: HostRuntime) -> Result<(), Fail>
             "at {number}"
         );
     }
+    let mut receiver = receiver(&rt, 0)?;
+    let mut again = Delivered::new(rt.alloc());
+    for frame in form.chunks(16) {
+        received(&mut receiver, frame, &mut again)?;
+    }
+    assert!(rt; are(again.list(0), &[&longest]));
     Ok(())
 }

@@ -24,3 +24,9 @@ returns-clause-processed g c =
       farms = c.step-verdict.ensures.farms w vr views farms;
       series = c.in-Ok.ensures.series w vr views series (c.step-verdict.ensures.verdict w vr views farms);
     }
+
+pub returns-in-Err-clause-memory : goal.returns-in-Err-clause-memory
+returns-in-Err-clause-memory g c e w vr views r =
+    let farms = subst (λ l. HaveStepped w vr l views) (sym (ap (λ s. s.farms) c.self.view_is)) r.farms in
+    let series = subst (λ l. AreIncomplete w vr l views) (sym (ap (λ s. s.incomplete) c.self.view_is)) r.series in
+    c.in-Err.ensures.memory e w vr views series (c.step-verdict.ensures.verdict w vr views farms)

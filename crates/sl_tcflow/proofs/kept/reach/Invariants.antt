@@ -1,7 +1,7 @@
 use Rattle.std.proofs.Common.{◌≡◌, ◌+◌, ◌-◌, ℕ}
 use Rattle.std.specs.Vec.{vec_len}
 use Rattle.sl_tcflow.specs.Placed.{at}
-use Rattle.sl_tcflow.proofs.receiver.reach.Given as goal
+use Rattle.sl_tcflow.proofs.kept.reach.Given as goal
 
 abbrev pub invariant-loop-alloc : goal.invariant-loop-alloc
 invariant-loop-alloc l = (other : ℕ) → at l.incomplete.items other ≡ at l.initial.incomplete.items other

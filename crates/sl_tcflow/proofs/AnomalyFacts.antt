@@ -1,0 +1,171 @@
+-- Segments and frames of known octets, and what is amiss with them, computed from the definitions.
+use Rattle.std.proofs.Common.{◌≡◌, ℕ, true, false, List, [], ◌∷◌, ◌++◌, None, Some, refl}
+use Rattle.std.specs.Prelude.{is_some}
+use Rattle.sl_tcframe.specs.TcDelimited.{tc_frames_of}
+use Rattle.sl_tcframe.specs.TcFrame.{TcFormat, TcView, Ad, Bd}
+use Rattle.sl_tcflow.specs.AcceptedUnit.{views_of}
+use Rattle.sl_tcflow.specs.Anomaly.{dropped_by, dropped_of, held_of, long_by, long_of, passes, stray_by, stray_of, tail_by, tail_of}
+use Rattle.sl_tcflow.specs.Incomplete.{incomplete_of}
+use Rattle.sl_tcflow.specs.Reception.{segments_of}
+
+-- ---- segments of MAP 0
+
+-- a first, a continuing and a last one without octets, and one with no segmentation
+abbrev first : List ℕ
+first = 0x40 ∷ []
+
+abbrev continuing : List ℕ
+continuing = 0x00 ∷ []
+
+abbrev last : List ℕ
+last = 0x80 ∷ []
+
+abbrev whole : List ℕ
+whole = 0xC0 ∷ []
+
+-- a packet of seven octets
+abbrev packet : List ℕ
+packet = 0x10 ∷ 0x02 ∷ 0xC0 ∷ 0x01 ∷ 0x00 ∷ 0x00 ∷ 0xEE ∷ []
+
+pub record AreOutOfSequence : Type 0 where
+  pub a_continuing_one : stray_of [] continuing ≡ true
+  pub a_last_one : stray_of [] last ≡ true
+  pub after_the_last : stray_of (first ∷ last ∷ []) continuing ≡ true
+  pub after_a_whole_one : stray_of (first ∷ whole ∷ []) last ≡ true
+  pub not_a_first_one : stray_of [] first ≡ false
+  pub not_a_whole_one : stray_of [] whole ≡ false
+  pub not_within_a_series : stray_of (first ∷ continuing ∷ []) last ≡ false
+
+pub are_out_of_sequence : AreOutOfSequence
+are_out_of_sequence = record {
+  a_continuing_one = refl;
+  a_last_one = refl;
+  after_the_last = refl;
+  after_a_whole_one = refl;
+  not_a_first_one = refl;
+  not_a_whole_one = refl;
+  not_within_a_series = refl;
+}
+
+pub record AreDropped : Type 0 where
+  -- a series of no octets is one,
+  pub by_a_first_one : dropped_of (first ∷ []) first ≡ Some 0
+  pub by_a_whole_one : dropped_of (first ∷ continuing ∷ []) whole ≡ Some 0
+  -- its own octets are counted, and those of the next segment are not
+  pub of_two_octets : dropped_of ((0x40 ∷ 0x10 ∷ []) ∷ (0x00 ∷ 0x02 ∷ []) ∷ []) (0xC0 ∷ packet) ≡ Some 2
+  pub not_by_a_last_one : dropped_of (first ∷ []) last ≡ None
+  pub not_after_the_last : dropped_of (first ∷ last ∷ []) whole ≡ None
+
+pub are_dropped : AreDropped
+are_dropped = record {
+  by_a_first_one = refl;
+  by_a_whole_one = refl;
+  of_two_octets = refl;
+  not_by_a_last_one = refl;
+  not_after_the_last = refl;
+}
+
+pub record AreTooLong : Type 0 where
+  pub beyond : passes (Some 65542) 1 ≡ true
+  pub not_by_none : passes (Some 65542) 0 ≡ false
+  pub not_up_to_it : passes (Some 65541) 1 ≡ false
+  pub not_without_a_series : long_of [] continuing ≡ false
+  pub not_a_short_one : long_of (first ∷ []) last ≡ false
+
+pub are_too_long : AreTooLong
+are_too_long = record {
+  beyond = refl;
+  not_by_none = refl;
+  not_up_to_it = refl;
+  not_without_a_series = refl;
+  not_a_short_one = refl;
+}
+
+pub record AreLeft : Type 0 where
+  pub of_a_whole_one : tail_of [] (0xC0 ∷ packet ++ 0x77 ∷ []) ≡ 1
+  pub of_a_series : tail_of ((0x40 ∷ packet) ∷ []) (0x80 ∷ 0x10 ∷ 0x02 ∷ []) ≡ 2
+  pub nothing : tail_of [] (0xC0 ∷ packet ++ packet) ≡ 0
+  pub not_before_the_end : tail_of ((0x40 ∷ packet) ∷ []) (0x00 ∷ 0x10 ∷ []) ≡ 0
+  pub not_out_of_sequence : tail_of [] (0x80 ∷ 0x10 ∷ []) ≡ 0
+
+pub are_left : AreLeft
+are_left = record {
+  of_a_whole_one = refl;
+  of_a_series = refl;
+  nothing = refl;
+  not_before_the_end = refl;
+  not_out_of_sequence = refl;
+}
+
+-- nothing is amiss with a unit without octets
+pub record IsEmpty : Type 0 where
+  pub in_sequence : stray_of [] whole ≡ false
+  pub none_dropped : dropped_of [] whole ≡ None
+  pub not_too_long : long_of [] whole ≡ false
+  pub nothing_left : tail_of [] whole ≡ 0
+
+pub is_empty : IsEmpty
+is_empty = record {
+  in_sequence = refl;
+  none_dropped = refl;
+  not_too_long = refl;
+  nothing_left = refl;
+}
+
+-- ---- frames on virtual channel 0, with a window of width 10
+
+abbrev early : List ℕ → TcView
+early unit = record { vc = 0; content = Ad 4 unit }
+
+abbrev bypassing : List ℕ → TcView
+bypassing unit = record { vc = 0; content = Bd unit }
+
+pub record AreOfFrames : Type 0 where
+  pub out_of_sequence : stray_by 10 0 [] (bypassing last) ≡ true
+  pub a_series_dropped : dropped_by 10 0 (bypassing first ∷ []) (bypassing whole) ≡ Some 0
+  pub left : tail_by 10 0 [] (bypassing (0xC0 ∷ packet ++ 0x77 ∷ [])) ≡ 1
+  -- nothing is told of a unit that is not accepted
+  pub not_accepted : stray_by 10 0 [] (early last) ≡ false
+  pub none_dropped : dropped_by 10 0 (bypassing first ∷ []) (early whole) ≡ None
+  pub none_too_long : long_by 10 0 (bypassing first ∷ []) (early last) ≡ false
+  pub none_left : tail_by 10 0 [] (early (0xC0 ∷ packet ++ 0x77 ∷ [])) ≡ 0
+
+pub are_of_frames : AreOfFrames
+are_of_frames = record {
+  out_of_sequence = refl;
+  a_series_dropped = refl;
+  left = refl;
+  not_accepted = refl;
+  none_dropped = refl;
+  none_too_long = refl;
+  none_left = refl;
+}
+
+-- ---- recordings of spacecraft 1
+
+abbrev read : List ℕ → List TcView
+read recording = let format : TcFormat = record { max = 16; fecf = false } in views_of format 1 (tc_frames_of format recording)
+
+-- a first segment without octets
+abbrev begun : List ℕ
+begun = 0x00 ∷ 0x01 ∷ 0x00 ∷ 0x05 ∷ 0x00 ∷ first
+
+-- a packet and one octet more
+abbrev with_tail : List ℕ
+with_tail = 0x00 ∷ 0x01 ∷ 0x00 ∷ 0x0D ∷ 0x00 ∷ 0xC0 ∷ packet ++ 0x77 ∷ []
+
+pub record AreRecorded : Type 0 where
+  pub held : held_of (segments_of 10 0 0 0 (read begun)) ≡ 0
+  pub is_open : is_some (incomplete_of (segments_of 10 0 0 0 (read begun))) ≡ true
+  pub not_on_another_map : is_some (incomplete_of (segments_of 10 0 0 1 (read begun))) ≡ false
+  pub views : read with_tail ≡ record { vc = 0; content = Ad 0 (0xC0 ∷ packet ++ 0x77 ∷ []) } ∷ []
+  pub tail : tail_by 10 0 [] (record { vc = 0; content = Ad 0 (0xC0 ∷ packet ++ 0x77 ∷ []) }) ≡ 1
+
+pub are_recorded : AreRecorded
+are_recorded = record {
+  held = refl;
+  is_open = refl;
+  not_on_another_map = refl;
+  views = refl;
+  tail = refl;
+}

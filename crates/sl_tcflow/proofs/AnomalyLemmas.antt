@@ -1,0 +1,150 @@
+-- What is amiss with a segment of a MAP, as it is told: told exactly where it is, and told from the series that is
+-- incomplete before that segment.
+use Rattle.std.proofs.Common.{◌≡◌, ◌⊎◌, ℕ, ◌+◌, ◌<◌, ◌==◌, ◌&&◌, ◌||◌, Bool, true, false, if◌then◌else◌, List, [], ◌∷◌, length, Option, None, Some, inl, inr, refl, sym, ◌∙◌, ap, eqb-true, lt-ltb}
+use Rattle.std.proofs.lemmas.Bool.{ltb-true}
+use Rattle.std.proofs.lemmas.Bool.Decides.{eqb_tells}
+use Rattle.std.specs.Prelude.{is_none, option_map}
+use Rattle.sl_tcframe.specs.TcFrame.{TcView}
+use Rattle.sl_tcflow.specs.AcceptedUnit.{unit_by}
+use Rattle.sl_tcflow.specs.Anomaly.{begins, continues, octets_held, passes, stray_of, of_unit, of_accepted, StrayIsTold, WhatIsToldIsStray, DroppedIsTold, WhatIsToldIsDropped, LongIsTold, WhatIsToldIsLong}
+use Rattle.sl_tcflow.specs.Incomplete.{IsIncomplete, incomplete_of}
+use Rattle.sl_tcflow.specs.Placed.{at}
+use Rattle.sl_tcflow.specs.Receiving.{AreIncomplete, channel_at, map_of, verdict_on}
+use Rattle.sl_tcflow.specs.Reception.{segments_of}
+use Rattle.sl_tcflow.specs.Series.{flags_of, header_at, octets_at}
+use Rattle.sl_tcflow.proofs.IncompleteLemmas.{both_true, incomplete_is_told, what_is_told_is_incomplete}
+use Rattle.sl_tcflow.proofs.UnitLemmas.{map_fits}
+
+-- ---- the accepted unit of the next frame
+
+-- without one there is nothing to tell
+pub told_none : {X : Type 0} (none : X) (told : List (List ℕ) → List ℕ → X) (w vr : ℕ) (views : List TcView) (next : TcView)
+    → unit_by (verdict_on w vr views next) next.content ≡ [] → of_accepted none told w vr views next ≡ none
+told_none none told w vr views next e = ap (of_unit none (told (segments_of w vr next.vc (map_of next.content) views))) e
+
+-- of one it is told from what is incomplete at its place
+module _ (w vr : ℕ) (old : List (Option (List ℕ))) (views : List TcView) (next : TcView) (unit : List ℕ) where
+  told_more : {X : Type 0} (none : X) (told : List (List ℕ) → List ℕ → X) (from : Option (List ℕ) → List ℕ → X)
+      → ((list : List (List ℕ)) (segment : List ℕ) → told list segment ≡ from (incomplete_of list) segment)
+      → AreIncomplete w vr old views → next.vc < 64 → unit_by (verdict_on w vr views next) next.content ≡ unit ∷ []
+      → map_of next.content ≡ (header_at unit).map
+      → of_accepted none told w vr views next ≡ from (at old (channel_at next.vc (header_at unit).map)) unit
+  told_more none told from same are inside unit_is mid_is =
+      let mid = (header_at unit).map in
+      ap (of_unit none (told (segments_of w vr next.vc (map_of next.content) views))) unit_is
+      ∙ ap (λ n. told (segments_of w vr next.vc n views) unit) mid_is
+      ∙ same (segments_of w vr next.vc mid views) unit
+      ∙ ap (λ held. from held unit) (sym (are next.vc mid inside (map_fits unit)))
+
+  pub told_at : {X : Type 0} (none : X) (told : List (List ℕ) → List ℕ → X) (from : Option (List ℕ) → List ℕ → X)
+      → ((list : List (List ℕ)) (segment : List ℕ) → told list segment ≡ from (incomplete_of list) segment)
+      → (vc : ℕ) (answer : X) → AreIncomplete w vr old views → next.vc < 64 → unit_by (verdict_on w vr views next) next.content ≡ unit ∷ []
+      → map_of next.content ≡ (header_at unit).map → vc ≡ next.vc → answer ≡ from (at old (channel_at vc (header_at unit).map)) unit
+      → answer ≡ of_accepted none told w vr views next
+  told_at none told from same vc answer are inside unit_is mid_is same_vc is =
+      is ∙ ap (λ n. from (at old (channel_at n (header_at unit).map)) unit) same_vc ∙ sym (told_more none told from same are inside unit_is mid_is)
+
+  -- or from how many octets are held there
+  pub told_held : {X : Type 0} (none : X) (told : List (List ℕ) → List ℕ → X) (from : Option ℕ → List ℕ → X)
+      → ((list : List (List ℕ)) (segment : List ℕ) → told list segment ≡ from (octets_held list) segment)
+      → (vc mid : ℕ) (held : Option ℕ) → AreIncomplete w vr old views → next.vc < 64 → unit_by (verdict_on w vr views next) next.content ≡ unit ∷ []
+      → map_of next.content ≡ (header_at unit).map → vc ≡ next.vc → mid ≡ (header_at unit).map → held ≡ option_map length (at old (channel_at vc mid))
+      → from held unit ≡ of_accepted none told w vr views next
+  told_held none told from same vc mid held are inside unit_is mid_is same_vc same_mid here =
+      ap (λ h. from h unit) (here ∙ ap (λ n. option_map length (at old (channel_at n mid))) same_vc ∙ ap (λ n. option_map length (at old (channel_at next.vc n))) same_mid)
+      ∙ sym (told_more none told (λ h segment. from (option_map length h) segment) same are inside unit_is mid_is)
+
+-- whether a series is incomplete, by its octets
+none_held : (held : Option (List ℕ)) → is_none (option_map length held) ≡ is_none held
+none_held None = refl
+none_held (Some octets) = refl
+
+pub stray_held : (list : List (List ℕ)) (segment : List ℕ) → stray_of list segment ≡ (continues segment && is_none (octets_held list))
+stray_held list segment = ap (λ b. continues segment && b) (sym (none_held (incomplete_of list)))
+
+-- ---- by the sequence flags
+
+continues_is : (next : List ℕ) → (flags_of next ≡ 0) ⊎ (flags_of next ≡ 2) → continues next ≡ true
+continues_is next (inl is) = ap (λ flags. flags == 0 || flags == 2) is
+continues_is next (inr is) = ap (λ flags. flags == 0 || flags == 2) is
+
+begins_is : (next : List ℕ) → (flags_of next ≡ 1) ⊎ (flags_of next ≡ 3) → begins next ≡ true
+begins_is next (inl is) = ap (λ flags. flags == 1 || flags == 3) is
+begins_is next (inr is) = ap (λ flags. flags == 1 || flags == 3) is
+
+-- one of two numbers
+one_of : (n a b : ℕ) → (n == a || n == b) ≡ true → (n ≡ a) ⊎ (n ≡ b)
+one_of n a b e =
+    elim (eqb_tells n a) [
+      | inl (test, is) ↦ inl is
+      | inr (test, other) ↦ inr (eqb-true n b (sym (ap (λ t. t || n == b) test) ∙ e))
+    ]
+
+-- ---- out of sequence
+
+none_told : (list : List (List ℕ)) (held : Option (List ℕ)) → incomplete_of list ≡ held → ((octets : List ℕ) → IsIncomplete list octets → ⊥) → is_none held ≡ true
+none_told list None e none = refl
+none_told list (Some octets) e none = absurd (none octets (what_is_told_is_incomplete list octets e))
+
+pub stray_is_told : StrayIsTold
+stray_is_told list next x = ap (λ b. b && is_none (incomplete_of list)) (continues_is next x.goes_on) ∙ none_told list (incomplete_of list) refl x.none
+
+pub what_is_told_is_stray : WhatIsToldIsStray
+what_is_told_is_stray list next e =
+    let (test, none) = both_true (continues next) (is_none (incomplete_of list)) e in
+    record {
+      goes_on = one_of (flags_of next) 0 2 test;
+      none = λ octets x. let both : false ≡ true = sym (ap is_none (incomplete_is_told list octets x)) ∙ none in absurd (cc);
+    }
+
+-- ---- dropped
+
+pub dropped_is_told : DroppedIsTold
+dropped_is_told list next count x =
+    ap (λ b. if b then octets_held list else None) (begins_is next x.anew)
+    ∙ ap (option_map length) (incomplete_is_told list x.octets x.incomplete) ∙ ap Some (sym x.count_is)
+
+some_if : (b : Bool) (held : Option ℕ) (count : ℕ) → (if b then held else None) ≡ Some count → (b ≡ true) × (held ≡ Some count)
+some_if true held count e = (refl, e)
+some_if false held count e = absurd (cc)
+
+-- the series whose octets are counted
+some_held : (list : List (List ℕ)) (held : Option (List ℕ)) (count : ℕ) → incomplete_of list ≡ held → option_map length held ≡ Some count
+    → (octets : List ℕ) × IsIncomplete list octets × (count ≡ length octets)
+some_held list None count e counted = absurd (cc)
+some_held list (Some octets) count e counted = (octets, what_is_told_is_incomplete list octets e, cc)
+
+pub what_is_told_is_dropped : WhatIsToldIsDropped
+what_is_told_is_dropped list next count e =
+    let (test, counted) = some_if (begins next) (octets_held list) count e in
+    let (octets, x, count_is) = some_held list (incomplete_of list) count refl counted in
+    record {
+      anew = one_of (flags_of next) 1 3 test;
+      octets = octets;
+      incomplete = x;
+      count_is = count_is;
+    }
+
+-- ---- too long
+
+pub long_is_told : LongIsTold
+long_is_told list next x =
+    ap (λ b. b && passes (octets_held list) (length (octets_at next))) (continues_is next x.goes_on)
+    ∙ ap (λ held. passes (option_map length held) (length (octets_at next))) (incomplete_is_told list x.octets x.incomplete)
+    ∙ lt-ltb 65542 (length x.octets + length (octets_at next)) x.too_many
+
+some_passes : (list : List (List ℕ)) (held : Option (List ℕ)) (more : ℕ) → incomplete_of list ≡ held → passes (option_map length held) more ≡ true
+    → (octets : List ℕ) × IsIncomplete list octets × (65542 < length octets + more)
+some_passes list None more e over = absurd (cc)
+some_passes list (Some octets) more e over = (octets, what_is_told_is_incomplete list octets e, ltb-true 65542 (length octets + more) over)
+
+pub what_is_told_is_long : WhatIsToldIsLong
+what_is_told_is_long list next e =
+    let (test, over) = both_true (continues next) (passes (octets_held list) (length (octets_at next))) e in
+    let (octets, x, too_many) = some_passes list (incomplete_of list) (length (octets_at next)) refl over in
+    record {
+      goes_on = one_of (flags_of next) 0 2 test;
+      octets = octets;
+      incomplete = x;
+      too_many = too_many;
+    }

@@ -1,0 +1,94 @@
+-- The normal form of packets is a recording that delivers these packets and no others.
+use Rattle.std.proofs.Common.{◌≡◌, ℕ, ◌+◌, ◌*◌, ◌/◌, ◌%◌, ◌<◌, ◌≤◌, not, true, List, [], length, drop, map, flat_map, refl, sym, ◌∙◌, ap, arith, append-nil, length-drop, length-take-le}
+use Rattle.std.specs.List.{AllByRecursion, slice_index_or}
+use Rattle.std.proofs.lemmas.List.{get_or-drop, get_or-take}
+use Rattle.std.proofs.lemmas.List.FromFn.{fill_by_all}
+use Rattle.sl_packet.specs.Delivered.{IsDeliverable, channel_count}
+use Rattle.sl_packet.specs.Packet.{IsPacket, is_idle_packet}
+use Rattle.sl_packet.specs.Packets.{without_idle}
+use Rattle.sl_tcframe.specs.AdFrame.{room_of}
+use Rattle.sl_tcframe.specs.TcFrame.{TcFormat}
+use Rattle.sl_tcframe.proofs.DelimitedLemmas.{delimited_once}
+use Rattle.sl_tcflow.specs.AcceptedUnit.{accepted_units, views_of}
+use Rattle.sl_tcflow.specs.Canonical.{IsFormat, AreDeliverable, NormalFormIsFrames, NoFrameIsLong, NormalFormDelivers}
+use Rattle.sl_tcflow.specs.Reception.{packets_on, segments_of}
+use Rattle.sl_tcflow.specs.Recording.{map_channels, packets_in_channel, recorded_views}
+use Rattle.sl_tcflow.specs.Series.{segments_on}
+use Rattle.sl_tcflow.specs.TcNormalForm.{segments_of_packet, tc_frames_form, tc_normal_form_of}
+use Rattle.sl_tcflow.proofs.EachLemmas.{each-at, each-weaker, kept_all}
+use Rattle.sl_tcflow.proofs.FormLemmas.{all_accepted, channel_back, form_cut, form_within, parts_on, lists_on, some_room}
+use Rattle.sl_tcflow.proofs.PartLemmas.{packets_back}
+use Rattle.sl_tcflow.proofs.SegmentLemmas.{parts_of_map, unit_made}
+
+-- ---- frames end to end
+
+pub normal_form_is_frames : NormalFormIsFrames
+normal_form_is_frames format spacecraft vr lists is known are =
+    record {
+      end_to_end = sym (append-nil (tc_normal_form_of format spacecraft vr lists));
+      each = form_cut format spacecraft vr is known lists;
+      no_more = refl;
+    }
+
+pub no_frame_is_long : NoFrameIsLong
+no_frame_is_long format spacecraft vr lists is known are = form_within format spacecraft vr is known lists
+
+-- ---- the packets of a channel
+
+-- packets that may be delivered are packets, and none of them is left out
+are_packets : (packets : List (List ℕ)) → AllByRecursion IsDeliverable packets → AllByRecursion IsPacket packets
+are_packets packets each = each-weaker IsDeliverable IsPacket (λ packet is. is.0) packets each
+
+none_idle : (packets : List (List ℕ)) → AllByRecursion IsDeliverable packets → without_idle packets ≡ packets
+none_idle packets each =
+    kept_all (λ packet. not (is_idle_packet packet)) packets
+    (each-weaker IsDeliverable (λ packet. not (is_idle_packet packet) ≡ true) (λ packet is. ap not is.1) packets each)
+
+module _ (format : TcFormat) (spacecraft w vr : ℕ) (lists : List (List (List ℕ))) (is : IsFormat format) (known : spacecraft ≤ 1023) (small : vr < 256) (are : AreDeliverable lists) where
+  abbrev form : List ℕ
+  form = tc_normal_form_of format spacecraft vr lists
+
+  views_are : recorded_views format spacecraft form ≡ views_of format spacecraft (tc_frames_form format spacecraft vr lists)
+  views_are =
+      ap (views_of format spacecraft)
+      (delimited_once format form (tc_frames_form format spacecraft vr lists) [] (normal_form_is_frames format spacecraft vr lists is known are)).0
+
+  packets_at : (vc mid : ℕ) → vc < 64 → mid < 64
+      → packets_on (segments_of w vr vc mid (recorded_views format spacecraft form)) ≡ slice_index_or lists (64 * vc + mid) []
+  packets_at vc mid vc_fits mid_fits =
+      let room = room_of format in
+      let own = lists_on lists vc in
+      let parts = parts_on format lists vc in
+      let all : length lists ≡ 4096 = are.all in
+      let left : 64 ≤ length (drop (64 * vc) lists) = omega (arith, length-drop (64 * vc) lists, all) in
+      let size : length own ≡ 64 = length-take-le 64 (drop (64 * vc) lists) left in
+      let here : slice_index_or own mid [] ≡ slice_index_or lists (64 * vc + mid) [] =
+      get_or-take 64 (drop (64 * vc) lists) mid [] mid_fits ∙ get_or-drop (64 * vc) lists mid [] in
+      let packets = slice_index_or lists (64 * vc + mid) [] in
+      let each : AllByRecursion IsPacket packets = are_packets packets (each-at (AllByRecursion IsDeliverable) lists (64 * vc + mid) [] tt are.each) in
+      ap (λ views. packets_on (segments_of w vr vc mid views)) views_are
+      ∙ ap (λ channel. packets_on (segments_on mid (accepted_units w vr channel))) (channel_back format spacecraft vr is known lists vc vc_fits)
+      ∙ ap (λ units. packets_on (segments_on mid units)) (all_accepted w vc vr vr parts small (omega arith))
+      ∙ ap packets_on (parts_of_map room 0 mid mid own (omega arith) (omega (arith, size)) (omega (arith, size)))
+      ∙ ap (λ ps. packets_on (map unit_made (flat_map (segments_of_packet room mid) ps))) here
+      ∙ packets_back room mid 0 packets (some_room format spacecraft vr is known) mid_fits each
+
+  list_back : (channel : ℕ) → channel < channel_count
+      → slice_index_or lists channel [] ≡ without_idle (packets_in_channel w vr (recorded_views format spacecraft form) channel)
+  list_back channel below =
+      let place : 64 * (channel / 64) + channel % 64 ≡ channel = omega arith in
+      let packets = slice_index_or lists channel [] in
+      let each = each-at (AllByRecursion IsDeliverable) lists channel [] tt are.each in
+      sym (ap without_idle (packets_at (channel / 64) (channel % 64) (omega (arith, below)) (omega arith) ∙ ap (λ n. slice_index_or lists n []) place) ∙ none_idle packets each)
+
+-- ---- all channels
+
+map_over_channels : (f : ℕ → List (List ℕ)) (lists : List (List (List ℕ))) → length lists ≡ channel_count
+    → ((channel : ℕ) → channel < channel_count → slice_index_or lists channel [] ≡ f channel) → map f map_channels ≡ lists
+unfolding map_channels
+map_over_channels f lists all each = sym (fill_by_all f lists channel_count [] all each)
+
+pub normal_form_delivers : NormalFormDelivers
+normal_form_delivers format spacecraft w vr lists is known small are =
+    map_over_channels (λ channel. without_idle (packets_in_channel w vr (recorded_views format spacecraft (tc_normal_form_of format spacecraft vr lists)) channel)) lists are.all
+    (list_back format spacecraft w vr lists is known small are)

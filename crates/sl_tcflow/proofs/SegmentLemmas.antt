@@ -1,0 +1,125 @@
+-- Segments of packets as the units that they are in frames, and these on their MAPs.
+use Rattle.std.proofs.Common.{◌≡◌, ◌≢◌, ℕ, zero, suc, ◌+◌, ◌*◌, ◌<◌, ◌≤◌, ◌==◌, true, false, List, [], ◌∷◌, ◌++◌, length, drop, map, flat_map, refl, sym, ◌∙◌, ap, arith, append-nil, eq-eqb, ne_eqb}
+use Rattle.std.specs.List.{AllByRecursion, slice_index_or}
+use Rattle.std.proofs.lemmas.Bool.Decides.{nat_tests}
+use Rattle.std.proofs.lemmas.List.{drop_at, take_at, map-append, length-take}
+use Rattle.std.proofs.lemmas.List.Elements.{filter-append}
+use Rattle.sl_fields.specs.Field.{packed}
+use Rattle.sl_fields.specs.SegmentHeader.{SegmentFields, FitsSegmentHeader, segment_fields, segment_header, segment_octets}
+use Rattle.sl_fields.proofs.HeaderLayout.{reads_back}
+use Rattle.sl_fields.proofs.Octets.{length-octets_of}
+use Rattle.sl_fields.proofs.Packing.{packed_lt}
+use Rattle.sl_fields.proofs.SegmentHeaderLemmas.{segment_layout}
+use Rattle.sl_tcflow.specs.Series.{header_at, octets_at, segments_on}
+use Rattle.sl_tcflow.specs.TcNormalForm.{segment_count, segment_octets_at, flags_at, segments_of_packet, segments_of_maps}
+use Rattle.sl_tcflow.proofs.EachLemmas.{each-append, each-weaker, each-map, each-flat_map, each-map_range, kept_all, kept_none}
+
+-- ---- a segment
+
+-- the unit with this header and these octets
+abbrev pub unit_made : SegmentFields × List ℕ → List ℕ
+unit_made segment = segment_octets segment.0 ++ segment.1
+
+-- a segment that a frame can have, with so many octets at most, on such a MAP
+pub record IsSegment (room : ℕ) (On : ℕ → Type 0) (segment : SegmentFields × List ℕ) : Type 0 where
+  pub header : FitsSegmentHeader segment.0
+  pub inside : length segment.1 ≤ room
+  pub on : On segment.0.map
+
+-- its header and its octets are read back
+pub header_of_unit : (segment : SegmentFields × List ℕ) → FitsSegmentHeader segment.0 → header_at (unit_made segment) ≡ segment.0
+header_of_unit segment fit =
+    let h = segment.0 in
+    ap segment_header (take_at (segment_octets h) segment.1 1 (length-octets_of 1 (segment_fields h)))
+    ∙ reads_back segment_layout h (packed (segment_fields h)) fit (packed_lt (segment_fields h) (segment_layout.fit h fit)) refl
+
+pub octets_of_unit : (segment : SegmentFields × List ℕ) → octets_at (unit_made segment) ≡ segment.1
+octets_of_unit segment = drop_at (segment_octets segment.0) segment.1 1 (length-octets_of 1 (segment_fields segment.0))
+
+map_of_unit : (room : ℕ) (On : ℕ → Type 0) (segment : SegmentFields × List ℕ) → IsSegment room On segment → (header_at (unit_made segment)).map ≡ segment.0.map
+map_of_unit room On segment is = ap (λ (h : SegmentFields). h.map) (header_of_unit segment is.header)
+
+-- ---- segments on their MAPs
+
+module _ (room mid : ℕ) where
+  -- those of a MAP stay
+  pub on_all : (segments : List (SegmentFields × List ℕ)) → AllByRecursion (IsSegment room (λ m. m ≡ mid)) segments
+      → segments_on mid (map unit_made segments) ≡ map unit_made segments
+  on_all segments each =
+      kept_all (λ unit. (header_at unit).map == mid) (map unit_made segments)
+      (each-map (λ unit. ((header_at unit).map == mid) ≡ true) unit_made segments
+      (each-weaker (IsSegment room (λ m. m ≡ mid)) (λ segment. ((header_at (unit_made segment)).map == mid) ≡ true)
+      (λ segment is. eq-eqb (header_at (unit_made segment)).map mid (map_of_unit room (λ m. m ≡ mid) segment is ∙ is.on)) segments each))
+
+  -- and those of others go
+  pub on_none : (On : ℕ → Type 0) → ((m : ℕ) → On m → m ≢ mid) → (segments : List (SegmentFields × List ℕ)) → AllByRecursion (IsSegment room On) segments
+      → segments_on mid (map unit_made segments) ≡ []
+  on_none On apart segments each =
+      kept_none (λ unit. (header_at unit).map == mid) (map unit_made segments)
+      (each-map (λ unit. ((header_at unit).map == mid) ≡ false) unit_made segments
+      (each-weaker (IsSegment room On) (λ segment. ((header_at (unit_made segment)).map == mid) ≡ false)
+      (λ segment is. ne_eqb (header_at (unit_made segment)).map mid (λ e. apart segment.0.map is.on (sym (map_of_unit room On segment is) ∙ e))) segments each))
+
+-- ---- the segments of packets
+
+flags_fit : (count number : ℕ) → flags_at count number < 4
+flags_fit count number = grind (arith, nat_tests)
+
+module _ (room mid : ℕ) where
+  abbrev pub part_at : List ℕ → ℕ → SegmentFields × List ℕ
+  part_at packet number = (record { flags = flags_at (segment_count room packet) number; map = mid }, segment_octets_at room packet number)
+
+  pub part_is : mid < 64 → (packet : List ℕ) (number : ℕ) → IsSegment room (λ m. m ≡ mid) (part_at packet number)
+  part_is small packet number =
+      record {
+        header = record { flags = flags_fit (segment_count room packet) number; map = small };
+        inside = omega (arith, length-take room (drop (number * room) packet));
+        on = refl;
+      }
+
+  pub packet_parts : mid < 64 → (packet : List ℕ) → AllByRecursion (IsSegment room (λ m. m ≡ mid)) (segments_of_packet room mid packet)
+  packet_parts small packet = each-map_range (IsSegment room (λ m. m ≡ mid)) (part_at packet) (part_is small packet) 0 (segment_count room packet)
+
+  pub packets_parts : mid < 64 → (packets : List (List ℕ)) → AllByRecursion (IsSegment room (λ m. m ≡ mid)) (flat_map (segments_of_packet room mid) packets)
+  packets_parts small packets = each-flat_map (IsSegment room (λ m. m ≡ mid)) (segments_of_packet room mid) (packet_parts small) packets
+
+-- ---- those of a virtual channel's MAPs
+
+weaker_on : (room : ℕ) (On On' : ℕ → Type 0) → ((m : ℕ) → On m → On' m) → (segments : List (SegmentFields × List ℕ)) → AllByRecursion (IsSegment room On) segments
+    → AllByRecursion (IsSegment room On') segments
+weaker_on room On On' weaker segments each =
+    each-weaker (IsSegment room On) (IsSegment room On')
+    (λ segment is. record { header = is.header; inside = is.inside; on = weaker segment.0.map is.on }) segments each
+
+pub maps_parts : (room from : ℕ) (lists : List (List (List ℕ))) → from + length lists ≤ 64 → AllByRecursion (IsSegment room (λ m. from ≤ m)) (segments_of_maps room from lists)
+maps_parts room from [] few = tt
+maps_parts room from (packets ∷ lists) few =
+    each-append (IsSegment room (λ m. from ≤ m)) (flat_map (segments_of_packet room from) packets) (segments_of_maps room (from + 1) lists)
+    (weaker_on room (λ m. m ≡ from) (λ m. from ≤ m) (λ m is. omega (arith, is)) (flat_map (segments_of_packet room from) packets)
+    (packets_parts room from (omega arith) packets))
+    (weaker_on room (λ m. from + 1 ≤ m) (λ m. from ≤ m) (λ m is. omega (arith, is)) (segments_of_maps room (from + 1) lists)
+    (maps_parts room (from + 1) lists (omega arith)))
+
+-- the segments of a MAP are those of its packets
+pub parts_of_map : (room from mid place : ℕ) (lists : List (List (List ℕ))) → mid ≡ from + place → place < length lists → from + length lists ≤ 64
+    → segments_on mid (map unit_made (segments_of_maps room from lists)) ≡ map unit_made (flat_map (segments_of_packet room mid) (slice_index_or lists place []))
+parts_of_map room from mid place [] here inside few = absurd (omega arith)
+parts_of_map room from mid zero (packets ∷ lists) here inside few =
+    let segments = flat_map (segments_of_packet room from) packets in
+    let later = segments_of_maps room (from + 1) lists in
+    let same : from ≡ mid = omega (arith, here) in
+    ap (segments_on mid) (map-append unit_made segments later)
+    ∙ filter-append (λ unit. (header_at unit).map == mid) (map unit_made segments) (map unit_made later)
+    ∙ ap (λ l. segments_on mid (map unit_made segments) ++ l)
+    (on_none room mid (λ m. from + 1 ≤ m) (λ m above e. omega (arith, above, e, same)) later (maps_parts room (from + 1) lists (omega arith)))
+    ∙ append-nil (segments_on mid (map unit_made segments))
+    ∙ ap (λ m. segments_on mid (map unit_made (flat_map (segments_of_packet room m) packets))) same
+    ∙ on_all room mid (flat_map (segments_of_packet room mid) packets) (packets_parts room mid (omega (arith, same)) packets)
+parts_of_map room from mid (suc place) (packets ∷ lists) here inside few =
+    let segments = flat_map (segments_of_packet room from) packets in
+    let later = segments_of_maps room (from + 1) lists in
+    ap (segments_on mid) (map-append unit_made segments later)
+    ∙ filter-append (λ unit. (header_at unit).map == mid) (map unit_made segments) (map unit_made later)
+    ∙ ap (λ l. l ++ segments_on mid (map unit_made later))
+    (on_none room mid (λ m. m ≡ from) (λ m is e. omega (arith, is, e, here)) segments (packets_parts room from (omega arith) packets))
+    ∙ parts_of_map room (from + 1) mid place lists (omega (arith, here)) (omega arith) (omega arith)

@@ -1,0 +1,11 @@
+use Rattle.sl_tcflow.proofs.CanonicalLemmas.{normal_form_is_frames, no_frame_is_long, normal_form_delivers}
+use Rattle.sl_tcflow.proofs.laws.normal_form_delivers_its_packets.Goals as goal
+
+pub returns-clause-frames : goal.returns-clause-frames
+returns-clause-frames c = normal_form_is_frames
+
+pub returns-clause-within : goal.returns-clause-within
+returns-clause-within c = no_frame_is_long
+
+pub returns-clause-packets : goal.returns-clause-packets
+returns-clause-packets c = normal_form_delivers

@@ -1,0 +1,44 @@
+-- The normal form of packets is a recording that delivers these packets and no others.
+use Rattle.std.specs.Prelude.{◌≡◌, ℕ, ◌<◌, ◌≤◌, List, [], length}
+use Rattle.std.specs.List.{AllByRecursion}
+use Rattle.sl_packet.specs.Delivered.{IsDeliverable, channel_count}
+use Rattle.sl_tcframe.specs.TcDelimited.{IsTcDelimited}
+use Rattle.sl_tcframe.specs.TcFrame.{TcFormat}
+use Rattle.sl_tcflow.specs.Recording.{tc_lists}
+use Rattle.sl_tcflow.specs.TcNormalForm.{tc_frames_form, tc_normal_form_of}
+
+-- a managed format, whose frames have 16 to 1024 octets at most
+pub record IsFormat (format : TcFormat) : Type 0 where
+  pub least : 16 ≤ format.max
+  pub most : format.max ≤ 1024
+
+-- lists of packets, none of them idle, one for each virtual channel and MAP
+pub record AreDeliverable (lists : List (List (List ℕ))) : Type 0 where
+  pub all : length lists ≡ channel_count
+  pub each : AllByRecursion (AllByRecursion IsDeliverable) lists
+
+-- ---- laws
+
+-- What a recording delivers are such lists.
+abbrev pub RecordedListsAreDeliverable : Type 0
+RecordedListsAreDeliverable =
+    (format : TcFormat) (spacecraft w vr : ℕ) (recording : List ℕ) → AreDeliverable (tc_lists format spacecraft w vr recording)
+
+-- The frames of the normal form, end to end, are all of it: nothing remains,
+abbrev pub NormalFormIsFrames : Type 0
+NormalFormIsFrames =
+    (format : TcFormat) (spacecraft vr : ℕ) (lists : List (List (List ℕ))) → IsFormat format → spacecraft ≤ 1023 → AreDeliverable lists
+    → IsTcDelimited format (tc_normal_form_of format spacecraft vr lists) (tc_frames_form format spacecraft vr lists) []
+
+-- none of them is longer than the managed greatest length,
+abbrev pub NoFrameIsLong : Type 0
+NoFrameIsLong =
+    (format : TcFormat) (spacecraft vr : ℕ) (lists : List (List (List ℕ))) → IsFormat format → spacecraft ≤ 1023 → AreDeliverable lists
+    → AllByRecursion (λ frame. length frame ≤ format.max) (tc_frames_form format spacecraft vr lists)
+
+-- and read as a recording, from the same initial V(R) on and whatever the window, it delivers exactly the packets that
+-- it was made of
+abbrev pub NormalFormDelivers : Type 0
+NormalFormDelivers =
+    (format : TcFormat) (spacecraft w vr : ℕ) (lists : List (List (List ℕ))) → IsFormat format → spacecraft ≤ 1023 → vr < 256 → AreDeliverable lists
+    → tc_lists format spacecraft w vr (tc_normal_form_of format spacecraft vr lists) ≡ lists

@@ -1,0 +1,32 @@
+-- The packets that a recording of TC frames delivers, CCSDS 232.0-B and 232.1-B, on each virtual channel and MAP: those
+-- of the units that FARM-1 accepts.
+use Rattle.std.specs.Prelude.{ℕ, ◌/◌, ◌%◌, List, map}
+use Rattle.std.specs.List.{range_with_len}
+use Rattle.sl_packet.specs.Delivered.{channel_count}
+use Rattle.sl_packet.specs.Packets.{without_idle, only_idle}
+use Rattle.sl_tcframe.specs.TcDelimited.{tc_frames_of}
+use Rattle.sl_tcframe.specs.TcFrame.{TcFormat, TcView}
+use Rattle.sl_tcflow.specs.AcceptedUnit.{views_of}
+use Rattle.sl_tcflow.specs.Reception.{packets_on, segments_of}
+
+-- the frames of a recording that aren't skipped
+abbrev pub recorded_views : TcFormat → ℕ → List ℕ → List TcView
+recorded_views format spacecraft recording = views_of format spacecraft (tc_frames_of format recording)
+
+-- the channels, of which 64 v + m is that of virtual channel v and MAP m
+unfoldable pub map_channels : List ℕ
+map_channels = range_with_len 0 channel_count
+
+-- the packets of a channel, idle ones included
+abbrev pub packets_in_channel : ℕ → ℕ → List TcView → ℕ → List (List ℕ)
+packets_in_channel w vr views channel = packets_on (segments_of w vr (channel / 64) (channel % 64) views)
+
+-- the packets of each channel, without idle ones, under this window and this initial V(R): 4,096 lists
+abbrev pub tc_lists : TcFormat → ℕ → ℕ → ℕ → List ℕ → List (List (List ℕ))
+tc_lists format spacecraft w vr recording =
+    map (λ channel. without_idle (packets_in_channel w vr (recorded_views format spacecraft recording) channel)) map_channels
+
+-- and the idle ones alone
+abbrev pub tc_idle_lists : TcFormat → ℕ → ℕ → ℕ → List ℕ → List (List (List ℕ))
+tc_idle_lists format spacecraft w vr recording =
+    map (λ channel. only_idle (packets_in_channel w vr (recorded_views format spacecraft recording) channel)) map_channels

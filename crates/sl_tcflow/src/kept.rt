@@ -1,0 +1,95 @@
+//! The series that are incomplete on the MAPs of all virtual channels. They are kept as far as the last place at which
+//! one began.
+ghost use Rattle.std.specs.Prelude.{◌≡◌, ◌≢◌, ◌⊎◌, ◌≤◌, ◌<◌, nat_lt, true, None, option_map, ℕ, length, OnOk, OnErr, IfOk, IfErr, IfSome};
+ghost use Rattle.std.specs.Vec.{vec_len};
+ghost use Rattle.sl_packet.specs.Packets.{only_idle, without_idle};
+ghost use Rattle.sl_packet.specs.Sink.{TakesAll};
+ghost use Rattle.sl_packet.specs.Stopping.{IsStopped};
+ghost use Rattle.sl_tcflow.specs.NextSegment.{incomplete_after, packets_after, tail_after};
+ghost use Rattle.sl_tcflow.specs.Placed.{at, IsPlaced};
+ghost use Rattle.sl_tcflow.specs.Receiving.{channel_at};
+ghost use Rattle.sl_tcflow.specs.Series.{header_at};
+
+use crate::hand::Handed;
+use crate::incomplete::{Incomplete, split_segment, take_alone};
+use sl_packet::{FlowFault, PacketSink};
+use std::alloc::{AllocError, Global};
+
+/// How many octets the series of a virtual channel and a MAP has so far, if one is incomplete.
+pub fn held_on(incomplete: &Vec<Incomplete>, vc: u8, mid: u8) -> Option<u32>
+    requires vc { vc ≤ 63 }
+    requires mid { mid ≤ 63 }
+    ensures octets { result ≡ option_map length (at incomplete.now.items (channel_at vc mid)) }
+    ensures most { IfSome result (λ octets. octets ≤ 65542) }
+{
+    let place = 64 * usize::from(vc) + usize::from(mid);
+    match incomplete.get(place) {
+        Some(series) => series.held(),
+        None => None,
+    }
+}
+
+/// Takes the next segment of its MAP.
+pub fn take_unit<S: PacketSink>(
+    alloc: Global,
+    incomplete: &mut Vec<Incomplete>,
+    vc: u8,
+    unit: &[u8],
+    sink: &mut S,
+) -> Result<Handed, FlowFault>
+    requires vc { vc ≤ 63 }
+    requires some { 0 < length unit.now }
+    requires short { length unit.now ≤ 1019 }
+    ensures placed { OnOk result (let place : ℕ = channel_at vc (header_at unit.now).map in IsPlaced incomplete.old.items place (incomplete_after (at incomplete.old.items place) unit.now) incomplete.new.items) }
+    ensures accepted { OnOk result (let place : ℕ = channel_at vc (header_at unit.now).map in TakesAll S.taking sink.old place (without_idle (packets_after (at incomplete.old.items place) unit.now)) sink.new) }
+    ensures packets { IfOk result (λ handed. handed.packets ≡ length (without_idle (packets_after (at incomplete.old.items (channel_at vc (header_at unit.now).map)) unit.now))) }
+    ensures idle { IfOk result (λ handed. handed.idle ≡ length (only_idle (packets_after (at incomplete.old.items (channel_at vc (header_at unit.now).map)) unit.now))) }
+    ensures tail { IfOk result (λ handed. handed.tail ≡ tail_after (at incomplete.old.items (channel_at vc (header_at unit.now).map)) unit.now) }
+    ensures kept { OnOk result (S.failures sink.new ≡ S.failures sink.old) }
+    ensures stopped { IfErr result (λ flow. let place : ℕ = channel_at vc (header_at unit.now).map in IsStopped S.taking S.failing S.failures sink.old place (without_idle (packets_after (at incomplete.old.items place) unit.now)) flow sink.new) }
+    ensures memory { IfErr result (λ flow. let place : ℕ = channel_at vc (header_at unit.now).map in flow ≡ FlowFault.Memory → (at incomplete.old.items place ≢ None) ⊎ (incomplete_after (at incomplete.old.items place) unit.now ≢ None)) }
+{
+    let (header, _) = split_segment(unit);
+    let channel = 64 * u16::from(vc) + u16::from(header.map());
+    let place = usize::from(channel);
+    match is_kept(alloc, incomplete, place, header.flags()) {
+        Ok(true) => match incomplete[place].take(unit, channel, sink) {
+            Ok(handed) => Ok(handed),
+            Err(flow) => Err(flow),
+        },
+        Ok(false) => match take_alone(alloc, unit, channel, sink) {
+            Ok(handed) => Ok(handed),
+            Err(flow) => Err(flow),
+        },
+        Err(_) => Err(FlowFault::Memory),
+    }
+}
+
+// Whether there is this place: for a first segment there is, as far as memory was found.
+fn is_kept(
+    alloc: Global,
+    incomplete: &mut Vec<Incomplete>,
+    place: usize,
+    flags: u8,
+) -> Result<bool, AllocError>
+    ensures kept { IfOk result (λ kept. kept ≡ nat_lt place (vec_len incomplete.new)) }
+    ensures first { IfOk result (λ kept. flags ≡ 1 → kept ≡ true) }
+    ensures refused { OnErr result (flags ≡ 1) }
+    ensures same { (other : ℕ) → at incomplete.new.items other ≡ at incomplete.old.items other }
+{
+    if flags == 1 {
+        reach(alloc, incomplete, place)?;
+    }
+    Ok(place < incomplete.len())
+}
+
+// Adds places up to one, at which nothing is incomplete.
+fn reach(alloc: Global, incomplete: &mut Vec<Incomplete>, place: usize) -> Result<(), AllocError>
+    ensures reached { OnOk result (place < vec_len incomplete.new) }
+    ensures same { (other : ℕ) → at incomplete.new.items other ≡ at incomplete.old.items other }
+{
+    while incomplete.len() <= place {
+        incomplete.push(Incomplete::new(alloc))?;
+    }
+    Ok(())
+}

@@ -9,7 +9,7 @@ use Rattle.clap.proofs.OnLiterals.{clap_on_literals}
 use Rattle.sl_link.specs.CommandLine.{asked, refusals, request_in, sllink_app}
 use Rattle.sl_link.specs.Managed.{Parameters}
 use Rattle.sl_link.specs.declared.command_line.Engine.{Engine}
-use Rattle.sl_link.specs.declared.command_line.Engine.TheVariants.{ShowTm, ShowTc, NormaliseTm}
+use Rattle.sl_link.specs.declared.command_line.Engine.TheVariants.{ShowTm, ShowTc, NormaliseTm, NormaliseTc}
 use Rattle.sl_link.specs.declared.command_line.Request.{Request}
 
 -- why the words are refused, and what they ask for
@@ -42,6 +42,7 @@ pub record AreRead : Type 0 where
   pub signed : read (codes "sllink" ∷ codes "show" ∷ codes "tm" ∷ codes "--scid" ∷ codes "+7" ∷ codes "--limit" ∷ codes "18446744073709551615" ∷ []) ≡ asks ShowTm 7 1115 1024 false false 10 0 18446744073709551615
   pub of_tc : read (codes "sllink" ∷ codes "show" ∷ codes "tc" ∷ codes "--scid" ∷ codes "1" ∷ []) ≡ asks ShowTc 1 1115 1024 false false 10 0 1073741824
   pub of_normalise : read (codes "sllink" ∷ codes "normalise" ∷ codes "tm" ∷ codes "--scid" ∷ codes "1" ∷ codes "--tm-length" ∷ codes "32" ∷ []) ≡ asks NormaliseTm 1 32 1024 false false 10 0 1073741824
+  pub of_normalise_tc : read (codes "sllink" ∷ codes "normalise" ∷ codes "tc" ∷ codes "--scid" ∷ codes "1" ∷ codes "--vr" ∷ codes "255" ∷ []) ≡ asks NormaliseTc 1 1115 1024 false false 10 255 1073741824
   pub with_tm_fecf : read (codes "sllink" ∷ codes "show" ∷ codes "tm" ∷ codes "--scid" ∷ codes "7" ∷ codes "--tm-fecf" ∷ []) ≡ asks ShowTm 7 1115 1024 true false 10 0 1073741824
   pub with_tm_fecf_before : read (codes "sllink" ∷ codes "normalise" ∷ codes "--tm-fecf" ∷ codes "tm" ∷ codes "--scid=7" ∷ []) ≡ asks NormaliseTm 7 1115 1024 true false 10 0 1073741824
   pub with_tc_fecf : read (codes "sllink" ∷ codes "show" ∷ codes "tc" ∷ codes "--scid" ∷ codes "7" ∷ codes "--tc-fecf" ∷ []) ≡ asks ShowTc 7 1115 1024 false true 10 0 1073741824
@@ -86,7 +87,7 @@ pub record AreRefusedFor : Type 0 where
   pub unknown_verb : refusals (codes "sllink" ∷ codes "tell" ∷ codes "tm" ∷ codes "--scid" ∷ codes "1" ∷ []) ≡ UnknownArgument ∷ InvalidSubcommand ∷ []
   pub no_kind : refusals (codes "sllink" ∷ codes "show" ∷ codes "--scid" ∷ codes "1" ∷ []) ≡ MissingRequiredArgument ∷ []
   pub other_kind : refusals (codes "sllink" ∷ codes "show" ∷ codes "tx" ∷ codes "--scid" ∷ codes "1" ∷ []) ≡ InvalidValue ∷ []
-  pub other_kind_of_normalise : refusals (codes "sllink" ∷ codes "normalise" ∷ codes "tc" ∷ codes "--scid" ∷ codes "1" ∷ []) ≡ InvalidValue ∷ []
+  pub other_kind_of_normalise : refusals (codes "sllink" ∷ codes "normalise" ∷ codes "tx" ∷ codes "--scid" ∷ codes "1" ∷ []) ≡ InvalidValue ∷ []
   pub no_spacecraft_of_normalise : refusals (codes "sllink" ∷ codes "normalise" ∷ codes "tm" ∷ []) ≡ MissingRequiredArgument ∷ []
   pub two_kinds : refusals (codes "sllink" ∷ codes "show" ∷ codes "tm" ∷ codes "tc" ∷ codes "--scid" ∷ codes "1" ∷ []) ≡ UnknownArgument ∷ []
   pub no_spacecraft : refusals (codes "sllink" ∷ codes "show" ∷ codes "tc" ∷ []) ≡ MissingRequiredArgument ∷ []
@@ -116,6 +117,7 @@ are_read = record {
   signed = refl;
   of_tc = refl;
   of_normalise = refl;
+  of_normalise_tc = refl;
   with_tm_fecf = refl;
   with_tm_fecf_before = refl;
   with_tc_fecf = refl;

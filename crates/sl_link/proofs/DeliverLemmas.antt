@@ -1,12 +1,10 @@
 -- The lists of delivered packets, channel by channel, while frames are processed one after another.
-use Rattle.std.proofs.Common.{◌≡◌, ℕ, zero, suc, ◌+◌, ◌<◌, ◌≤◌, Bool, List, [], ◌∷◌, ◌++◌, length, take, map, Result, Ok, Err, refl, sym, ◌∙◌, ap, subst, arith, append_assoc, append-nil, length-append, inl, inr, add-one, if◌then◌else◌, is_err}
+use Rattle.std.proofs.Common.{◌≡◌, ℕ, zero, suc, ◌+◌, ◌<◌, ◌≤◌, Bool, List, [], ◌∷◌, ◌++◌, length, take, map, Result, Ok, Err, refl, sym, ◌∙◌, ap, subst, arith, append_assoc, append-nil, length-append, inl, inr, if◌then◌else◌, is_err}
 use Rattle.std.specs.Result.{result_ok}
-use Rattle.std.specs.List.{slice_index_or, slice_set, concat, filter, cons_option, range_with_len}
+use Rattle.std.specs.List.{slice_index_or, slice_set, concat, filter, range_with_len}
 use Rattle.std.proofs.lemmas.Bool.Decides.{eqb_tells}
 use Rattle.std.proofs.lemmas.List.{length-set, get_or-set_same, get_or-set_other}
 use Rattle.std.proofs.lemmas.List.Elements.{filter-append, filter_map-append}
-use Rattle.std.proofs.lemmas.List.FromFn.{map-range_with_len_more}
-use Rattle.std.proofs.Math.Seq.{take-suc}
 use Rattle.sl_tmframe.specs.declared.tm_frame.TmSkip.{TmSkip}
 use Rattle.sl_packet.specs.Delivered.{channel_count}
 use Rattle.sl_packet.specs.Packet.{is_idle_packet}
@@ -16,13 +14,16 @@ use Rattle.sl_tmflow.specs.Channel.{views_of, channel_of}
 use Rattle.sl_tmflow.specs.Delivery.{packets_ending}
 use Rattle.sl_tmflow.specs.Extraction.{ExtractorState, HasProcessed, ended_by}
 use Rattle.sl_tmflow.proofs.PushLemmas.{packets_of_channel_step}
-use Rattle.sl_link.specs.Delimited.{IsDelimited, frames_of}
-use Rattle.sl_link.specs.Deliver.{as_read, with_frame, ended_in, lists_after}
+use Rattle.sl_tmframe.specs.TmDelimited.{IsTmDelimited, tm_frames_of}
+use Rattle.sl_link.specs.Deliver.{as_read, ended_in, lists_after}
+use Rattle.sl_link.specs.Delivering.{count_of, with_frame}
 use Rattle.sl_link.specs.Managed.{Parameters, tm_format}
-use Rattle.sl_link.specs.NormaliseTm.{count_of, packets_on, virtual_channels, tm_packets, tm_counts}
+use Rattle.sl_tmflow.specs.Recording.{packets_on, virtual_channels}
+use Rattle.sl_link.specs.NormaliseTm.{tm_packets, tm_counts}
 use Rattle.sl_link.specs.ShowTm.{skipped_of}
 use Rattle.sl_link.specs.Totals.{Counts}
-use Rattle.sl_link.proofs.DelimitedLemmas.{AreWhole, AreWhole-last, concat-last, only_frames, only_remainder}
+use Rattle.sl_tmframe.proofs.DelimitedLemmas.{AreWhole, AreWhole-last, concat-last, only_frames, only_remainder}
+use Rattle.sl_link.proofs.DeliveringLemmas.{map_range, take_lists, views_step}
 use Rattle.sl_link.proofs.HandedLemmas.{vc_or_none, small_vc}
 use Rattle.sl_link.proofs.ShowLemmas.{skipped_of-append}
 
@@ -89,7 +90,7 @@ other_step views (Err reason) lists channel below = refl
 -- ---- what is counted
 
 -- the packets that pass a test, on so many channels from one on
-abbrev counted : (List ℕ → Bool) → ℕ → ℕ → List TmView → ℕ
+abbrev pub counted : (List ℕ → Bool) → ℕ → ℕ → List TmView → ℕ
 counted test from n views = count_of (map (passing test views) (range_with_len from n))
 
 counted_outside : (test : List ℕ → Bool) (from n : ℕ) (views : List TmView) (view : TmView) → view.vc < from
@@ -115,32 +116,14 @@ counted_inside test from (suc n) views view above below =
           omega arith
     ]
 
-counted_next : (test : List ℕ → Bool) (views : List TmView) (r : Result TmView TmSkip) → vc_or_none r < 8
+pub counted_next : (test : List ℕ → Bool) (views : List TmView) (r : Result TmView TmSkip) → vc_or_none r < 8
     → counted test 0 8 (with_frame views r) ≡ counted test 0 8 views + length (filter test (ended_in views r))
 counted_next test views (Ok view) small = counted_inside test 0 8 views view (omega arith) small
 counted_next test views (Err reason) small = omega arith
 
--- ---- the lists of the virtual channels
-
-take_lists : (n : ℕ) (lists : List (List (List ℕ))) → n ≤ length lists → take n lists ≡ map (λ vc. slice_index_or lists vc []) (range_with_len 0 n)
-take_lists zero lists inside = refl
-take_lists (suc n) lists inside =
-    take-suc lists n [] (omega arith) ∙ ap (λ l. l ++ slice_index_or lists n [] ∷ []) (take_lists n lists (omega arith))
-    ∙ sym (map-range_with_len_more (λ vc. slice_index_or lists vc []) 0 n n (omega arith))
-    ∙ ap (λ k. map (λ vc. slice_index_or lists vc []) (range_with_len 0 k)) (add-one n)
-
-map_range : {X : Type 0} (f h : ℕ → X) (from n : ℕ) → ((i : ℕ) → i < from + n → f i ≡ h i) → map f (range_with_len from n) ≡ map h (range_with_len from n)
-map_range f h from zero same = refl
-map_range f h from (suc n) same =
-    rw (same from (omega arith), map_range f h (from + 1) n (λ i below. same i (omega arith))) refl
-
 -- ---- frame by frame
 
-views_step : (views : List TmView) (r : Result TmView TmSkip) → views ++ cons_option (result_ok r) [] ≡ with_frame views r
-views_step views (Ok view) = refl
-views_step views (Err reason) = append-nil views
-
-views_next : (format : TmFormat) (spacecraft : ℕ) (frames : List (List ℕ)) (frame : List ℕ)
+pub views_next : (format : TmFormat) (spacecraft : ℕ) (frames : List (List ℕ)) (frame : List ℕ)
     → views_of format spacecraft (frames ++ frame ∷ []) ≡ with_frame (views_of format spacecraft frames) (tm_frame format spacecraft frame)
 views_next format spacecraft frames frame =
     filter_map-append (λ f. result_ok (tm_frame format spacecraft f)) frames (frame ∷ [])
@@ -226,10 +209,10 @@ module _ (p : Parameters) (recording : List ℕ) where
   -- where no whole frame is left, the frames are all of the recording
   module _ (extractor : ExtractorState) (left : List ℕ) (lists : List (List (List ℕ))) (octets frames skipped packets idle : ℕ)
       (some : 0 < p.tm_length) (short : length left < p.tm_length) (d : IsDelivering extractor left lists octets frames skipped packets idle) where
-    delimited : IsDelimited p.tm_length recording d.done left
+    delimited : IsTmDelimited p.tm_length recording d.done left
     delimited = record { end_to_end = d.parts; whole = d.whole; short = short }
 
-    all_frames : frames_of p.tm_length recording ≡ d.done
+    all_frames : tm_frames_of p.tm_length recording ≡ d.done
     all_frames = only_frames p.tm_length recording d.done left some delimited
 
     -- so the lists have all of its packets,

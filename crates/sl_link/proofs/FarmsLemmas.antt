@@ -1,6 +1,6 @@
 -- FARM-1 of each virtual channel, frame by frame.
-use Rattle.std.proofs.Common.{◌≡◌, ◌≢◌, ℕ, ◌+◌, ◌<◌, ◌/◌, ◌^◌, ◌==◌, Bool, true, false, if◌then◌else◌, List, [], ◌∷◌, ◌++◌, length, take, replicate, codes, Option, None, Some, Result, Ok, Err, inl, inr, refl, sym, ◌∙◌, ap, arith, append-nil, append_assoc, slice_set}
-use Rattle.std.specs.Prelude.{⊤, flat_map}
+use Rattle.std.proofs.Common.{◌≡◌, ◌≢◌, ℕ, ◌<◌, ◌/◌, ◌^◌, List, [], ◌∷◌, ◌++◌, length, take, replicate, Option, None, Some, Result, Ok, Err, inl, inr, refl, sym, ◌∙◌, ap, arith, append-nil}
+use Rattle.std.specs.Prelude.{⊤}
 use Rattle.std.proofs.lemmas.Bool.Decides.{eqb_tells}
 use Rattle.std.proofs.lemmas.List.{get_or-set_same, get_or-set_other, length-set, length-replicate, get_or-replicate}
 use Rattle.std.proofs.lemmas.List.Concat.{flat_map-append}

@@ -16,7 +16,8 @@ use Rattle.sl_tmflow.specs.Channel.{channel_of, data_of}
 use Rattle.sl_packet.specs.Stopping.{IsStopped}
 use Rattle.sl_packet.proofs.CountLemmas.{split_count}
 use Rattle.sl_tmflow.proofs.PushLemmas.{ended_few}
-use Rattle.sl_link.specs.Deliver.{with_packets, ended_in}
+use Rattle.sl_link.specs.Deliver.{ended_in}
+use Rattle.sl_link.specs.Delivering.{with_packets}
 
 -- packets that were accepted in turn were added in turn
 pub takes_all : (packets : List (List ℕ)) (old new : PacketLists) (channel : ℕ) → channel < length old.lists

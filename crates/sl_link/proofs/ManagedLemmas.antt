@@ -11,3 +11,11 @@ managed_length p h = (grind (arith, nat_tests), grind (arith, nat_tests))
 pub some_octets : (p q : Parameters) → managed_of p ≡ Ok p → p ≡ q → 0 < q.tm_length
 some_octets p q h e =
     let long = (managed_length p h).0 in omega (arith, ap (λ (r : Parameters). r.tm_length) e)
+
+-- a TC frame has 16 to 1024 octets at most
+pub managed_greatest : (p : Parameters) → managed_of p ≡ Ok p → (16 ≤ p.tc_max) × (p.tc_max ≤ 1024)
+managed_greatest p h = (grind (arith, nat_tests), grind (arith, nat_tests))
+
+-- a spacecraft identifier has ten bits
+pub managed_spacecraft : (p : Parameters) → managed_of p ≡ Ok p → p.spacecraft ≤ 1023
+managed_spacecraft p h = grind (arith, nat_tests)

@@ -5,7 +5,7 @@ use Rattle.sl_link.specs.declared.counted.Counted.{Counted}
 use Rattle.sl_link.specs.declared.link_fault.LinkFault.{LinkFault}
 use Rattle.sl_link.specs.declared.link_fault.LinkFault.TheVariants.{Read, TooLong, Memory, Write}
 use Rattle.sl_link.specs.Counted.{stream_of}
-use Rattle.sl_link.specs.Streams.{ReadsAll, StopsReadingAll, IsReadingAllFault, IsCaused, WritesPrefix, WritesText, StopsWriting, Translates, Stops}
+use Rattle.sl_link.specs.Streams.{KeepsPackets, ReadsAll, StopsReadingAll, IsReadingAllFault, IsCaused, WritesPrefix, WritesText, StopsWriting, Translates, Stops}
 use Rattle.sl_link.specs.Totals.{Counts}
 use Rattle.sl_link.proofs.ShowLemmas.{caused_writing}
 
@@ -68,4 +68,16 @@ module _ {R W : Type 0} (remaining : R → Option (List ℕ)) (contents : W → 
         counted = counted;
         reader_kept = r.no_fault;
         writer_kept = w.no_fault;
+      }
+
+  -- which delivers what the octets do
+  pub keeps_packets : (writer writer' : Counted W) (packets : List ℕ → List (List (List ℕ))) (octets written : List ℕ) → ReadsAll remaining reader reader' limit octets
+      → packets written ≡ packets octets → WritesText contents writer writer' written → KeepsPackets remaining contents reader reader' writer writer' packets
+  keeps_packets writer writer' packets octets written r same w =
+      record {
+        recording = octets;
+        read = r.read;
+        form = written;
+        written = w.writes;
+        same = same;
       }

@@ -1,11 +1,11 @@
 -- Octets that are read only to be counted.
-use Rattle.std.proofs.Common.{◌≡◌, ℕ, ◌+◌, ◌-◌, ◌<◌, ◌≤◌, List, [], ◌++◌, length, take, Option, refl, ◌∙◌, ap, arith, append-nil, length-append, length-take-le, subst}
+use Rattle.std.proofs.Common.{◌≡◌, ℕ, ◌+◌, ◌-◌, ◌<◌, ◌≤◌, List, [], ◌++◌, length, take, Option, refl, ◌∙◌, arith, append-nil, length-append, length-take-le, subst}
 use Rattle.std.specs.Io.KnownBytes.{Consumes}
 use Rattle.std.proofs.KnownBytes.{Consumes-nil, Consumes-trans}
 use Rattle.sl_link.specs.declared.counted.Counted.{Counted}
 use Rattle.sl_link.specs.declared.link_fault.LinkFault.{LinkFault}
 use Rattle.sl_link.specs.Counted.{stream_of, faults_of}
-use Rattle.sl_link.specs.Streams.{Reads, ReadsSome, ReadsAll, StopsReading, StopsReadingAll}
+use Rattle.sl_link.specs.Streams.{Reads, ReadsSome, StopsReading, StopsReadingAll}
 use Rattle.sl_link.specs.TcListing.{CountsRest}
 use Rattle.sl_link.proofs.RecordingLemmas.{stops_at_read}
 

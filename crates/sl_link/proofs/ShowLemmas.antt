@@ -10,7 +10,7 @@ use Rattle.sl_link.specs.declared.counted.Counted.{Counted}
 use Rattle.sl_link.specs.declared.link_fault.LinkFault.{LinkFault}
 use Rattle.sl_link.specs.declared.link_fault.LinkFault.TheVariants.{Read, TooLong, Memory, Write}
 use Rattle.sl_link.specs.Counted.{stream_of, faults_of, HasFailed}
-use Rattle.sl_link.specs.Delimited.{frames_of, remainder_of}
+use Rattle.sl_tmframe.specs.TmDelimited.{tm_frames_of, tm_remainder_of}
 use Rattle.sl_link.specs.Line.{line_at, remainder_line}
 use Rattle.sl_link.specs.Managed.{Parameters, tm_format}
 use Rattle.sl_link.specs.ShowTm.{frame_lines, frame_text, skipped_of, show_tm_text, show_tm_counts}
@@ -20,7 +20,7 @@ use Rattle.sl_link.specs.Totals.{Counts}
 use Rattle.sl_link.specs.Tally.{AddsFrames}
 use Rattle.sl_link.specs.declared.tally.Tally.{Tally}
 use Rattle.sl_link.proofs.StreamLemmas.{take_read}
-use Rattle.sl_link.proofs.DelimitedLemmas.{AreWhole, length-concat, concat-last, AreWhole-last, frames_of-concat, frames_of-short, remainder_of-short, frames_of-more, remainder_of-more, length-delimited}
+use Rattle.sl_tmframe.proofs.DelimitedLemmas.{AreWhole, length-concat, concat-last, AreWhole-last, frames_of-concat, frames_of-short, remainder_of-short, frames_of-more, remainder_of-more, length-delimited}
 
 -- ---- the listing
 
@@ -43,25 +43,25 @@ skipped_of-append format spacecraft (x ∷ xs) ys =
 -- what is still to come of the listing of x ++ y when the frames of x are shown
 abbrev to_come : Parameters → List ℕ → List ℕ → List ℕ
 to_come p x y =
-    frame_lines (tm_format p) p.spacecraft (length (concat (frames_of p.tm_length x))) (frames_of p.tm_length (remainder_of p.tm_length x ++ y))
-    ++ remainder_line (length (x ++ y) - length (remainder_of p.tm_length (x ++ y))) (length (remainder_of p.tm_length (x ++ y)))
+    frame_lines (tm_format p) p.spacecraft (length (concat (tm_frames_of p.tm_length x))) (tm_frames_of p.tm_length (tm_remainder_of p.tm_length x ++ y))
+    ++ remainder_line (length (x ++ y) - length (tm_remainder_of p.tm_length (x ++ y))) (length (tm_remainder_of p.tm_length (x ++ y)))
 
 -- the lines of the frames of x, and those of the frames that y completes
 lines-more : (p : Parameters) (x y : List ℕ) → 0 < p.tm_length
-    → frame_lines (tm_format p) p.spacecraft 0 (frames_of p.tm_length x) ++ frame_lines (tm_format p) p.spacecraft (length (concat (frames_of p.tm_length x))) (frames_of p.tm_length (remainder_of p.tm_length x ++ y))
-    ≡ frame_lines (tm_format p) p.spacecraft 0 (frames_of p.tm_length (x ++ y))
+    → frame_lines (tm_format p) p.spacecraft 0 (tm_frames_of p.tm_length x) ++ frame_lines (tm_format p) p.spacecraft (length (concat (tm_frames_of p.tm_length x))) (tm_frames_of p.tm_length (tm_remainder_of p.tm_length x ++ y))
+    ≡ frame_lines (tm_format p) p.spacecraft 0 (tm_frames_of p.tm_length (x ++ y))
 lines-more p x y some =
-    let more = frames_of p.tm_length (remainder_of p.tm_length x ++ y) in
-    let from_zero : length (concat (frames_of p.tm_length x)) ≡ 0 + length (concat (frames_of p.tm_length x)) = omega arith in
-    ap (λ n. frame_lines (tm_format p) p.spacecraft 0 (frames_of p.tm_length x) ++ frame_lines (tm_format p) p.spacecraft n more) from_zero
-    ∙ sym (frame_lines-append (tm_format p) p.spacecraft 0 (frames_of p.tm_length x) more)
+    let more = tm_frames_of p.tm_length (tm_remainder_of p.tm_length x ++ y) in
+    let from_zero : length (concat (tm_frames_of p.tm_length x)) ≡ 0 + length (concat (tm_frames_of p.tm_length x)) = omega arith in
+    ap (λ n. frame_lines (tm_format p) p.spacecraft 0 (tm_frames_of p.tm_length x) ++ frame_lines (tm_format p) p.spacecraft n more) from_zero
+    ∙ sym (frame_lines-append (tm_format p) p.spacecraft 0 (tm_frames_of p.tm_length x) more)
     ∙ ap (frame_lines (tm_format p) p.spacecraft 0) (sym (frames_of-more p.tm_length x y some))
 
 -- the lines of the first frames are a prefix of the listing
-text-front : (p : Parameters) (x y : List ℕ) → 0 < p.tm_length → frame_lines (tm_format p) p.spacecraft 0 (frames_of p.tm_length x) ++ to_come p x y ≡ show_tm_text p (x ++ y)
+text-front : (p : Parameters) (x y : List ℕ) → 0 < p.tm_length → frame_lines (tm_format p) p.spacecraft 0 (tm_frames_of p.tm_length x) ++ to_come p x y ≡ show_tm_text p (x ++ y)
 text-front p x y some =
-    let last = remainder_line (length (x ++ y) - length (remainder_of p.tm_length (x ++ y))) (length (remainder_of p.tm_length (x ++ y))) in
-    sym (append_assoc (frame_lines (tm_format p) p.spacecraft 0 (frames_of p.tm_length x)) (frame_lines (tm_format p) p.spacecraft (length (concat (frames_of p.tm_length x))) (frames_of p.tm_length (remainder_of p.tm_length x ++ y))) last)
+    let last = remainder_line (length (x ++ y) - length (tm_remainder_of p.tm_length (x ++ y))) (length (tm_remainder_of p.tm_length (x ++ y))) in
+    sym (append_assoc (frame_lines (tm_format p) p.spacecraft 0 (tm_frames_of p.tm_length x)) (frame_lines (tm_format p) p.spacecraft (length (concat (tm_frames_of p.tm_length x))) (tm_frames_of p.tm_length (tm_remainder_of p.tm_length x ++ y))) last)
     ∙ ap (λ l. l ++ last) (lines-more p x y some)
 
 -- counts of a listing
@@ -153,13 +153,13 @@ module _ {W : Type 0} (contents : W → Option (List ℕ)) (p : Parameters) wher
   -- a fault of writing what waits leaves a prefix of the lines
   pub listing_stops : (writer mid writer' : Counted W) (tally now : Tally) (octets left pending : List ℕ) (fault : LinkFault) → 0 < p.tm_length
       → IsListing contents p writer mid tally now octets left pending → StopsWriting contents mid writer' pending fault
-      → StopsWriting contents writer writer' (frame_lines (tm_format p) p.spacecraft tally.octets (frames_of p.tm_length octets)) fault
+      → StopsWriting contents writer writer' (frame_lines (tm_format p) p.spacecraft tally.octets (tm_frames_of p.tm_length octets)) fault
   listing_stops writer mid writer' tally now octets left pending fault some s w =
-      let later = frame_lines (tm_format p) p.spacecraft (tally.octets + length (concat s.shown)) (frames_of p.tm_length left) in
-      let split : frame_lines (tm_format p) p.spacecraft tally.octets s.shown ++ later ≡ frame_lines (tm_format p) p.spacecraft tally.octets (frames_of p.tm_length octets) =
-      sym (ap (λ o. frame_lines (tm_format p) p.spacecraft tally.octets (frames_of p.tm_length o)) s.parts
+      let later = frame_lines (tm_format p) p.spacecraft (tally.octets + length (concat s.shown)) (tm_frames_of p.tm_length left) in
+      let split : frame_lines (tm_format p) p.spacecraft tally.octets s.shown ++ later ≡ frame_lines (tm_format p) p.spacecraft tally.octets (tm_frames_of p.tm_length octets) =
+      sym (ap (λ o. frame_lines (tm_format p) p.spacecraft tally.octets (tm_frames_of p.tm_length o)) s.parts
       ∙ ap (frame_lines (tm_format p) p.spacecraft tally.octets) (frames_of-concat p.tm_length s.shown left some s.whole)
-      ∙ frame_lines-append (tm_format p) p.spacecraft tally.octets s.shown (frames_of p.tm_length left)) in
+      ∙ frame_lines-append (tm_format p) p.spacecraft tally.octets s.shown (tm_frames_of p.tm_length left)) in
       record {
         front = record {
           written = s.written ++ w.front.written;
@@ -173,9 +173,9 @@ module _ {W : Type 0} (contents : W → Option (List ℕ)) (p : Parameters) wher
 
   -- where no whole frame is left, all are shown
   pub all_shown : (writer writer' : Counted W) (tally tally' : Tally) (octets left pending : List ℕ) → 0 < p.tm_length
-      → (s : IsListing contents p writer writer' tally tally' octets left pending) → length left < p.tm_length → frames_of p.tm_length octets ≡ s.shown
+      → (s : IsListing contents p writer writer' tally tally' octets left pending) → length left < p.tm_length → tm_frames_of p.tm_length octets ≡ s.shown
   all_shown writer writer' tally tally' octets left pending some s short =
-      ap (frames_of p.tm_length) s.parts ∙ frames_of-concat p.tm_length s.shown left some s.whole
+      ap (tm_frames_of p.tm_length) s.parts ∙ frames_of-concat p.tm_length s.shown left some s.whole
       ∙ ap (λ l. s.shown ++ l) (frames_of-short p.tm_length left short) ∙ append-nil s.shown
 
   -- so many octets of them
@@ -192,7 +192,7 @@ module _ {W : Type 0} (contents : W → Option (List ℕ)) (p : Parameters) wher
   -- their lines, once what waits is written, and their counts
   pub lines_shown : (writer mid writer' : Counted W) (tally tally' : Tally) (octets left pending : List ℕ) → 0 < p.tm_length
       → IsListing contents p writer mid tally tally' octets left pending → length left < p.tm_length → WritesText contents mid writer' pending
-      → WritesText contents writer writer' (frame_lines (tm_format p) p.spacecraft tally.octets (frames_of p.tm_length octets))
+      → WritesText contents writer writer' (frame_lines (tm_format p) p.spacecraft tally.octets (tm_frames_of p.tm_length octets))
   lines_shown writer mid writer' tally tally' octets left pending some s short w =
       let all = all_shown writer mid tally tally' octets left pending some s short in
       record {
@@ -203,7 +203,7 @@ module _ {W : Type 0} (contents : W → Option (List ℕ)) (p : Parameters) wher
 
   pub counts_shown : (writer writer' : Counted W) (tally tally' : Tally) (octets left pending : List ℕ) → 0 < p.tm_length
       → IsListing contents p writer writer' tally tally' octets left pending → length left < p.tm_length
-      → AddsFrames (tm_format p) p.spacecraft tally tally' (frames_of p.tm_length octets)
+      → AddsFrames (tm_format p) p.spacecraft tally tally' (tm_frames_of p.tm_length octets)
   counts_shown writer writer' tally tally' octets left pending some s short =
       subst (AddsFrames (tm_format p) p.spacecraft tally tally') (sym (all_shown writer writer' tally tally' octets left pending some s short)) s.counted
 
@@ -227,12 +227,12 @@ module _ {W : Type 0} (contents : W → Option (List ℕ)) (p : Parameters) wher
 pub record IsShown {R W : Type 0} (remaining : R → Option (List ℕ)) (contents : W → Option (List ℕ)) (p : Parameters) (reader reader' : Counted R) (writer writer' : Counted W) (tally : Tally) (buffer : List ℕ) (held : ℕ) : Type 0 where
   pub octets : List ℕ
   pub read : Reads remaining reader reader' octets
-  pub written : Writes contents writer writer' (frame_lines (tm_format p) p.spacecraft 0 (frames_of p.tm_length octets))
+  pub written : Writes contents writer writer' (frame_lines (tm_format p) p.spacecraft 0 (tm_frames_of p.tm_length octets))
   pub inside : held ≤ length buffer
-  pub held_are : take held buffer ≡ remainder_of p.tm_length octets
-  pub counted_octets : tally.octets ≡ length (concat (frames_of p.tm_length octets))
-  pub counted_frames : tally.frames ≡ length (frames_of p.tm_length octets)
-  pub counted_skipped : tally.skipped ≡ skipped_of (tm_format p) p.spacecraft (frames_of p.tm_length octets)
+  pub held_are : take held buffer ≡ tm_remainder_of p.tm_length octets
+  pub counted_octets : tally.octets ≡ length (concat (tm_frames_of p.tm_length octets))
+  pub counted_frames : tally.frames ≡ length (tm_frames_of p.tm_length octets)
+  pub counted_skipped : tally.skipped ≡ skipped_of (tm_format p) p.spacecraft (tm_frames_of p.tm_length octets)
   pub short : held < p.tm_length
   pub allowed : tally.octets + held ≤ p.max_octets
   pub reader_kept : faults_of reader' ≡ faults_of reader
@@ -257,7 +257,7 @@ module _ {R W : Type 0} (remaining : R → Option (List ℕ)) (contents : W → 
         octets = s.octets ++ f.octets;
         read = Consumes-trans (remaining (stream_of reader)) (remaining (stream_of mid)) (remaining (stream_of reader')) s.octets f.octets s.read f.read;
         written = record {
-          written = frame_lines (tm_format p) p.spacecraft 0 (frames_of p.tm_length s.octets);
+          written = frame_lines (tm_format p) p.spacecraft 0 (tm_frames_of p.tm_length s.octets);
           missing = to_come p s.octets f.octets;
           front = text-front p s.octets f.octets some;
           writes = s.written;
@@ -268,11 +268,11 @@ module _ {R W : Type 0} (remaining : R → Option (List ℕ)) (contents : W → 
   -- a fault of writing leaves a prefix of the lines of what is read by then
   pub stops_writing : (reader mid reader' : Counted R) (writer wmid writer' : Counted W) (tally : Tally) (buffer : List ℕ) (held : ℕ) (taken line : List ℕ) (missing : List ℕ) (fault : LinkFault)
       → (s : IsShown remaining contents p reader mid writer wmid tally buffer held) → Reads remaining mid reader' taken → faults_of reader' ≡ faults_of mid → tally.octets + held + length taken ≤ p.max_octets
-      → frame_lines (tm_format p) p.spacecraft 0 (frames_of p.tm_length s.octets) ++ (line ++ missing) ≡ show_tm_text p (s.octets ++ taken)
+      → frame_lines (tm_format p) p.spacecraft 0 (tm_frames_of p.tm_length s.octets) ++ (line ++ missing) ≡ show_tm_text p (s.octets ++ taken)
       → StopsWriting contents wmid writer' line fault
       → Stops remaining contents reader reader' writer writer' (show_tm_text p) p.max_octets room fault
   stops_writing reader mid reader' writer wmid writer' tally buffer held taken line missing fault s read kept within text w =
-      let lines = frame_lines (tm_format p) p.spacecraft 0 (frames_of p.tm_length s.octets) in
+      let lines = frame_lines (tm_format p) p.spacecraft 0 (tm_frames_of p.tm_length s.octets) in
       record {
         octets = s.octets ++ taken;
         read = Consumes-trans (remaining (stream_of reader)) (remaining (stream_of mid)) (remaining (stream_of reader')) s.octets taken s.read read;
@@ -288,12 +288,12 @@ module _ {R W : Type 0} (remaining : R → Option (List ℕ)) (contents : W → 
   -- at the end of the input the remainder's line completes the listing
   text-whole : (reader reader' : Counted R) (writer writer' : Counted W) (tally : Tally) (buffer : List ℕ) (held : ℕ)
       → (s : IsShown remaining contents p reader reader' writer writer' tally buffer held)
-      → frame_lines (tm_format p) p.spacecraft 0 (frames_of p.tm_length s.octets) ++ remainder_line tally.octets held ≡ show_tm_text p s.octets
+      → frame_lines (tm_format p) p.spacecraft 0 (tm_frames_of p.tm_length s.octets) ++ remainder_line tally.octets held ≡ show_tm_text p s.octets
   text-whole reader reader' writer writer' tally buffer held s =
-      let left = length (remainder_of p.tm_length s.octets) in
+      let left = length (tm_remainder_of p.tm_length s.octets) in
       let size : held ≡ left = sym (length-take-le held buffer s.inside) ∙ ap length s.held_are in
       let before : tally.octets ≡ length s.octets - left = omega (arith, octets_read reader reader' writer writer' tally buffer held s) in
-      let lines = frame_lines (tm_format p) p.spacecraft 0 (frames_of p.tm_length s.octets) in
+      let lines = frame_lines (tm_format p) p.spacecraft 0 (tm_frames_of p.tm_length s.octets) in
       ap (λ n. lines ++ remainder_line n held) before ∙ ap (λ n. lines ++ remainder_line (length s.octets - left) n) size
 
   pub stops_at_rest : (reader mid reader' : Counted R) (writer wmid writer' : Counted W) (tally : Tally) (buffer : List ℕ) (held : ℕ) (fault : LinkFault)
@@ -301,7 +301,7 @@ module _ {R W : Type 0} (remaining : R → Option (List ℕ)) (contents : W → 
       → StopsWriting contents wmid writer' (remainder_line tally.octets held) fault
       → Stops remaining contents reader reader' writer writer' (show_tm_text p) p.max_octets room fault
   stops_at_rest reader mid reader' writer wmid writer' tally buffer held fault s read kept w =
-      let lines = frame_lines (tm_format p) p.spacecraft 0 (frames_of p.tm_length s.octets) in
+      let lines = frame_lines (tm_format p) p.spacecraft 0 (tm_frames_of p.tm_length s.octets) in
       let text : lines ++ (remainder_line tally.octets held ++ []) ≡ show_tm_text p (s.octets ++ []) =
       ap (λ l. lines ++ l) (append-nil (remainder_line tally.octets held)) ∙ text-whole reader mid writer wmid tally buffer held s ∙ ap (show_tm_text p) (sym (append-nil s.octets)) in
       stops_writing reader mid reader' writer wmid writer' tally buffer held [] (remainder_line tally.octets held) [] fault s read kept (omega (arith, s.allowed)) text w
@@ -311,15 +311,15 @@ module _ {R W : Type 0} (remaining : R → Option (List ℕ)) (contents : W → 
       → WritesText contents wmid writer' (remainder_line tally.octets held)
       → Translates remaining contents reader reader' writer writer' (show_tm_text p) (show_tm_counts p) p.max_octets (record_of (tally.octets + held) tally.frames tally.skipped held)
   shows_all reader mid reader' writer wmid writer' tally buffer held s read end kept w =
-      let size : held ≡ length (remainder_of p.tm_length s.octets) = sym (length-take-le held buffer s.inside) ∙ ap length s.held_are in
+      let size : held ≡ length (tm_remainder_of p.tm_length s.octets) = sym (length-take-le held buffer s.inside) ∙ ap length s.held_are in
       record {
         octets = s.octets;
         within = omega (arith, s.allowed, octets_read reader mid writer wmid tally buffer held s);
         read = subst (Consumes (remaining (stream_of reader)) (remaining (stream_of reader'))) (append-nil s.octets) (Consumes-trans (remaining (stream_of reader)) (remaining (stream_of mid)) (remaining (stream_of reader')) s.octets [] s.read read);
         to_end = end;
         written = subst (Appends (contents (stream_of writer)) (contents (stream_of writer'))) (text-whole reader mid writer wmid tally buffer held s)
-            (Appends-trans (contents (stream_of writer)) (contents (stream_of wmid)) (contents (stream_of writer')) (frame_lines (tm_format p) p.spacecraft 0 (frames_of p.tm_length s.octets)) (remainder_line tally.octets held) s.written w.writes);
-        counted = same_counts (tally.octets + held) tally.frames tally.skipped held (length s.octets) (length (frames_of p.tm_length s.octets)) (skipped_of (tm_format p) p.spacecraft (frames_of p.tm_length s.octets)) (length (remainder_of p.tm_length s.octets))
+            (Appends-trans (contents (stream_of writer)) (contents (stream_of wmid)) (contents (stream_of writer')) (frame_lines (tm_format p) p.spacecraft 0 (tm_frames_of p.tm_length s.octets)) (remainder_line tally.octets held) s.written w.writes);
+        counted = same_counts (tally.octets + held) tally.frames tally.skipped held (length s.octets) (length (tm_frames_of p.tm_length s.octets)) (skipped_of (tm_format p) p.spacecraft (tm_frames_of p.tm_length s.octets)) (length (tm_remainder_of p.tm_length s.octets))
             (octets_read reader mid writer wmid tally buffer held s) s.counted_frames s.counted_skipped size;
         reader_kept = kept ∙ s.reader_kept;
         writer_kept = w.no_fault ∙ s.writer_kept;
@@ -329,52 +329,52 @@ module _ {R W : Type 0} (remaining : R → Option (List ℕ)) (contents : W → 
   module _ (reader mid reader' : Counted R) (writer wmid writer' : Counted W) (tally : Tally) (buffer : List ℕ) (held n : ℕ) (part after chunk : List ℕ)
       (s : IsShown remaining contents p reader mid writer wmid tally buffer held) (fits : n ≤ length part) (came : Reads remaining mid reader' (take n part))
       (chunk_is : chunk ≡ take (held + n) (take held buffer ++ (part ++ after))) where
-    chunk_parts : chunk ≡ remainder_of p.tm_length s.octets ++ take n part
+    chunk_parts : chunk ≡ tm_remainder_of p.tm_length s.octets ++ take n part
     chunk_parts = chunk_is ∙ take_read held n buffer part after s.inside fits ∙ ap (λ l. l ++ take n part) s.held_are
 
-    lines_on : frame_lines (tm_format p) p.spacecraft 0 (frames_of p.tm_length s.octets) ++ frame_lines (tm_format p) p.spacecraft tally.octets (frames_of p.tm_length chunk)
-        ≡ frame_lines (tm_format p) p.spacecraft 0 (frames_of p.tm_length (s.octets ++ take n part))
+    lines_on : frame_lines (tm_format p) p.spacecraft 0 (tm_frames_of p.tm_length s.octets) ++ frame_lines (tm_format p) p.spacecraft tally.octets (tm_frames_of p.tm_length chunk)
+        ≡ frame_lines (tm_format p) p.spacecraft 0 (tm_frames_of p.tm_length (s.octets ++ take n part))
     lines_on =
-        ap (λ k. frame_lines (tm_format p) p.spacecraft 0 (frames_of p.tm_length s.octets) ++ frame_lines (tm_format p) p.spacecraft k (frames_of p.tm_length chunk)) s.counted_octets
-        ∙ ap (λ l. frame_lines (tm_format p) p.spacecraft 0 (frames_of p.tm_length s.octets) ++ frame_lines (tm_format p) p.spacecraft (length (concat (frames_of p.tm_length s.octets))) (frames_of p.tm_length l)) chunk_parts
+        ap (λ k. frame_lines (tm_format p) p.spacecraft 0 (tm_frames_of p.tm_length s.octets) ++ frame_lines (tm_format p) p.spacecraft k (tm_frames_of p.tm_length chunk)) s.counted_octets
+        ∙ ap (λ l. frame_lines (tm_format p) p.spacecraft 0 (tm_frames_of p.tm_length s.octets) ++ frame_lines (tm_format p) p.spacecraft (length (concat (tm_frames_of p.tm_length s.octets))) (tm_frames_of p.tm_length l)) chunk_parts
         ∙ lines-more p s.octets (take n part) some
 
     -- a fault of writing their lines
-    pub stops_at_frames : (limit : ℕ) (fault : LinkFault) → limit ≡ p.max_octets - tally.octets - held → n ≤ limit → faults_of reader' ≡ faults_of mid → StopsWriting contents wmid writer' (frame_lines (tm_format p) p.spacecraft tally.octets (frames_of p.tm_length chunk)) fault
+    pub stops_at_frames : (limit : ℕ) (fault : LinkFault) → limit ≡ p.max_octets - tally.octets - held → n ≤ limit → faults_of reader' ≡ faults_of mid → StopsWriting contents wmid writer' (frame_lines (tm_format p) p.spacecraft tally.octets (tm_frames_of p.tm_length chunk)) fault
         → Stops remaining contents reader reader' writer writer' (show_tm_text p) p.max_octets room fault
     stops_at_frames limit fault left allowed kept w =
         let x = s.octets ++ take n part in
-        let lines = frame_lines (tm_format p) p.spacecraft 0 (frames_of p.tm_length s.octets) in
-        let new = frame_lines (tm_format p) p.spacecraft tally.octets (frames_of p.tm_length chunk) in
-        let last = remainder_line (length x - length (remainder_of p.tm_length x)) (length (remainder_of p.tm_length x)) in
+        let lines = frame_lines (tm_format p) p.spacecraft 0 (tm_frames_of p.tm_length s.octets) in
+        let new = frame_lines (tm_format p) p.spacecraft tally.octets (tm_frames_of p.tm_length chunk) in
+        let last = remainder_line (length x - length (tm_remainder_of p.tm_length x)) (length (tm_remainder_of p.tm_length x)) in
         let text : lines ++ (new ++ last) ≡ show_tm_text p x = sym (append_assoc lines new last) ∙ ap (λ l. l ++ last) lines_on in
         stops_writing reader mid reader' writer wmid writer' tally buffer held (take n part) new last fault s came kept (omega (arith, s.allowed, length-take-le n part fits)) text w
 
     -- their whole frames are shown, and what is left of them is moved to the buffer's front
     pub shown_next : (limit shown : ℕ) (tally' : Tally) (moved : List ℕ) → limit ≡ p.max_octets - tally.octets - held → n ≤ limit → faults_of reader' ≡ faults_of mid
-        → WritesText contents wmid writer' (frame_lines (tm_format p) p.spacecraft tally.octets (frames_of p.tm_length chunk))
-        → AddsFrames (tm_format p) p.spacecraft tally tally' (frames_of p.tm_length chunk)
+        → WritesText contents wmid writer' (frame_lines (tm_format p) p.spacecraft tally.octets (tm_frames_of p.tm_length chunk))
+        → AddsFrames (tm_format p) p.spacecraft tally tally' (tm_frames_of p.tm_length chunk)
         → shown ≡ length chunk / p.tm_length * p.tm_length → length chunk ≡ held + n
         → held + n - shown ≤ length moved → take (held + n - shown) moved ≡ drop shown chunk
         → IsShown remaining contents p reader reader' writer writer' tally' moved (held + n - shown)
     shown_next limit shown tally' moved left allowed kept w counts shown_is size room moved_is =
         let x = s.octets ++ take n part in
-        let frames = ap (frames_of p.tm_length) chunk_parts in
-        let all : frames_of p.tm_length x ≡ frames_of p.tm_length s.octets ++ frames_of p.tm_length chunk =
-        frames_of-more p.tm_length s.octets (take n part) some ∙ ap (λ l. frames_of p.tm_length s.octets ++ frames_of p.tm_length l) (sym chunk_parts) in
+        let frames = ap (tm_frames_of p.tm_length) chunk_parts in
+        let all : tm_frames_of p.tm_length x ≡ tm_frames_of p.tm_length s.octets ++ tm_frames_of p.tm_length chunk =
+        frames_of-more p.tm_length s.octets (take n part) some ∙ ap (λ l. tm_frames_of p.tm_length s.octets ++ tm_frames_of p.tm_length l) (sym chunk_parts) in
         let parts = div-add-mod' (length chunk) p.tm_length in
-        let rest : remainder_of p.tm_length x ≡ drop shown chunk =
-        remainder_of-more p.tm_length s.octets (take n part) some ∙ ap (remainder_of p.tm_length) (sym chunk_parts) ∙ ap (λ k. drop k chunk) (sym shown_is) in
+        let rest : tm_remainder_of p.tm_length x ≡ drop shown chunk =
+        remainder_of-more p.tm_length s.octets (take n part) some ∙ ap (tm_remainder_of p.tm_length) (sym chunk_parts) ∙ ap (λ k. drop k chunk) (sym shown_is) in
         record {
           octets = x;
           read = Consumes-trans (remaining (stream_of reader)) (remaining (stream_of mid)) (remaining (stream_of reader')) s.octets (take n part) s.read came;
           written = subst (Appends (contents (stream_of writer)) (contents (stream_of writer'))) lines_on
-              (Appends-trans (contents (stream_of writer)) (contents (stream_of wmid)) (contents (stream_of writer')) (frame_lines (tm_format p) p.spacecraft 0 (frames_of p.tm_length s.octets)) (frame_lines (tm_format p) p.spacecraft tally.octets (frames_of p.tm_length chunk)) s.written w.writes);
+              (Appends-trans (contents (stream_of writer)) (contents (stream_of wmid)) (contents (stream_of writer')) (frame_lines (tm_format p) p.spacecraft 0 (tm_frames_of p.tm_length s.octets)) (frame_lines (tm_format p) p.spacecraft tally.octets (tm_frames_of p.tm_length chunk)) s.written w.writes);
           inside = room;
           held_are = moved_is ∙ sym rest;
-          counted_octets = omega (arith, counts.octets, s.counted_octets, ap (λ f. length (concat f)) all, ap length (concat-append (frames_of p.tm_length s.octets) (frames_of p.tm_length chunk)), length-append (concat (frames_of p.tm_length s.octets)) (concat (frames_of p.tm_length chunk)));
-          counted_frames = omega (arith, counts.frames, s.counted_frames, ap length all, length-append (frames_of p.tm_length s.octets) (frames_of p.tm_length chunk));
-          counted_skipped = omega (arith, counts.skipped, s.counted_skipped, ap (skipped_of (tm_format p) p.spacecraft) all, skipped_of-append (tm_format p) p.spacecraft (frames_of p.tm_length s.octets) (frames_of p.tm_length chunk));
+          counted_octets = omega (arith, counts.octets, s.counted_octets, ap (λ f. length (concat f)) all, ap length (concat-append (tm_frames_of p.tm_length s.octets) (tm_frames_of p.tm_length chunk)), length-append (concat (tm_frames_of p.tm_length s.octets)) (concat (tm_frames_of p.tm_length chunk)));
+          counted_frames = omega (arith, counts.frames, s.counted_frames, ap length all, length-append (tm_frames_of p.tm_length s.octets) (tm_frames_of p.tm_length chunk));
+          counted_skipped = omega (arith, counts.skipped, s.counted_skipped, ap (skipped_of (tm_format p) p.spacecraft) all, skipped_of-append (tm_format p) p.spacecraft (tm_frames_of p.tm_length s.octets) (tm_frames_of p.tm_length chunk));
           short = omega (arith, parts, mod_below (length chunk) p.tm_length some);
           allowed = omega (arith, s.allowed, counts.octets, parts, length-delimited p.tm_length chunk some, length-drop (length chunk / p.tm_length * p.tm_length) chunk);
           reader_kept = kept ∙ s.reader_kept;
@@ -385,7 +385,7 @@ module _ {R W : Type 0} (remaining : R → Option (List ℕ)) (contents : W → 
   pub nothing_shown : (reader : Counted R) (writer : Counted W) (tally : Tally) (buffer : List ℕ) → tally.octets ≡ 0 → tally.frames ≡ 0 → tally.skipped ≡ 0
       → IsShown remaining contents p reader reader writer writer tally buffer 0
   nothing_shown reader writer tally buffer octets frames skipped =
-      let none : frames_of p.tm_length [] ≡ [] = frames_of-short p.tm_length [] some in
+      let none : tm_frames_of p.tm_length [] ≡ [] = frames_of-short p.tm_length [] some in
       record {
         octets = [];
         read = Consumes-nil (remaining (stream_of reader));

@@ -1,8 +1,8 @@
 -- The frames of a TC recording shown one by one: what stands after each, and at each way out.
-use Rattle.std.proofs.Common.{◌≡◌, ℕ, ◌+◌, ◌-◌, ◌<◌, ◌≤◌, ◌/◌, ◌^◌, ◌⊎◌, ◌||◌, nat_lt, Bool, true, false, not, ◌&&◌, List, [], ◌∷◌, ◌++◌, length, take, drop, replicate, Option, None, Some, if◌then◌else◌, inl, inr, refl, sym, ◌∙◌, ap, subst, arith, append_assoc, append-nil, length-append, length-take-le, length-drop}
+use Rattle.std.proofs.Common.{◌≡◌, ℕ, ◌+◌, ◌-◌, ◌<◌, ◌≤◌, ◌/◌, ◌^◌, ◌⊎◌, ◌||◌, nat_lt, Bool, true, false, not, ◌&&◌, List, [], ◌∷◌, ◌++◌, length, take, drop, replicate, Option, None, Some, if◌then◌else◌, inl, inr, refl, sym, ◌∙◌, ap, subst, arith, append_assoc, append-nil, length-append, length-take-le}
 use Rattle.std.specs.Prelude.{is_err}
 use Rattle.std.specs.Io.KnownBytes.{Consumes, Appends}
-use Rattle.std.specs.List.{AllByRecursion, concat}
+use Rattle.std.specs.List.{concat}
 use Rattle.std.proofs.KnownBytes.{Consumes-nil, Consumes-trans, Appends-nil, Appends-trans}
 use Rattle.std.proofs.Math.Bool.{or-true}
 use Rattle.std.proofs.lemmas.Bool.{ltb-true, ltb-false, not-true}
@@ -23,7 +23,7 @@ use Rattle.sl_link.specs.Counted.{stream_of, faults_of}
 use Rattle.sl_link.specs.Line.{line_at, remainder_line}
 use Rattle.sl_link.specs.Managed.{Parameters, tc_format}
 use Rattle.sl_link.specs.ShowTc.{tc_frame_text, tc_line, tc_lines, tc_skipped_of, show_tc_text, show_tc_counts}
-use Rattle.sl_link.specs.Streams.{Reads, IsRead, Writes, StopsReading, ReadsAll, StopsReadingAll, IsReadingAllFault, AddsText, WritesText, StopsWriting, Translates, Stops, IsCaused}
+use Rattle.sl_link.specs.Streams.{Reads, IsRead, Writes, StopsReading, StopsReadingAll, IsReadingAllFault, AddsText, WritesText, StopsWriting, Translates, Stops, IsCaused}
 use Rattle.sl_link.specs.Tally.{shown_counts}
 use Rattle.sl_link.specs.TcListing.{HasCounted, HasFarms, HasListed, ListsFrames, farm_at, farms_after, StopsListing, ends_frames}
 use Rattle.sl_tcframe.proofs.PartLemmas.{both}

@@ -23,7 +23,7 @@ use Rattle.clap.proofs.ValueTestLemmas.{accepts-Accepts}
 use Rattle.clap.proofs.WalkLemmas.{both}
 use Rattle.sl_link.specs.CommandLine.{bits_64, engine_named, is_set, normalised_kinds, number_in, number_read, request_with, shown_kinds}
 use Rattle.sl_link.specs.declared.command_line.Engine.{Engine}
-use Rattle.sl_link.specs.declared.command_line.Engine.TheVariants.{ShowTm, ShowTc, NormaliseTm}
+use Rattle.sl_link.specs.declared.command_line.Engine.TheVariants.{ShowTm, ShowTc, NormaliseTm, NormaliseTc}
 use Rattle.sl_link.specs.declared.command_line.Options.{Options}
 use Rattle.sl_link.specs.declared.command_line.Request.{Request}
 use Rattle.sl_link.proofs.CommandLineLemmas.{number_reads, options_are, some_request}
@@ -220,4 +220,4 @@ pub show_engines : NamesEngines (codes "show") shown_kinds
 show_engines = engines_of (codes "show") (codes "tm" ∷ codes "tc" ∷ []) ((ShowTm, refl), ((ShowTc, refl), tt))
 
 pub normalise_engines : NamesEngines (codes "normalise") normalised_kinds
-normalise_engines = engines_of (codes "normalise") (codes "tm" ∷ []) ((NormaliseTm, refl), tt)
+normalise_engines = engines_of (codes "normalise") (codes "tm" ∷ codes "tc" ∷ []) ((NormaliseTm, refl), ((NormaliseTc, refl), tt))

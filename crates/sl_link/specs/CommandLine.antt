@@ -17,7 +17,7 @@ use Rattle.clap.specs.declared.error.kind.ErrorKind.{ErrorKind}
 use Rattle.clap.specs.declared.error.kind.ErrorKind.TheVariants.{DisplayHelp}
 use Rattle.sl_link.specs.Managed.{Parameters}
 use Rattle.sl_link.specs.declared.command_line.Engine.{Engine}
-use Rattle.sl_link.specs.declared.command_line.Engine.TheVariants.{ShowTm, ShowTc, NormaliseTm}
+use Rattle.sl_link.specs.declared.command_line.Engine.TheVariants.{ShowTm, ShowTc, NormaliseTm, NormaliseTc}
 use Rattle.sl_link.specs.declared.command_line.Options.{Options}
 use Rattle.sl_link.specs.declared.command_line.Request.{Request}
 
@@ -98,7 +98,7 @@ shown_kinds = placed (placed (codes "tm") ∷ placed (codes "tc") ∷ [])
 
 -- and those that `normalise` takes
 abbrev pub normalised_kinds : Bor (List (Bor Text))
-normalised_kinds = placed (placed (codes "tm") ∷ [])
+normalised_kinds = placed (placed (codes "tm") ∷ placed (codes "tc") ∷ [])
 
 -- the command line of `sllink`
 abbrev pub sllink_app : App
@@ -125,6 +125,7 @@ engine_named verb kind =
     if bytes_eq verb (codes "show") && bytes_eq kind (codes "tm") then Some ShowTm
     else if bytes_eq verb (codes "show") && bytes_eq kind (codes "tc") then Some ShowTc
     else if bytes_eq verb (codes "normalise") && bytes_eq kind (codes "tm") then Some NormaliseTm
+    else if bytes_eq verb (codes "normalise") && bytes_eq kind (codes "tc") then Some NormaliseTc
     else None
 
 -- the decimal number that a text writes, where it has no more than that many bits

@@ -1,8 +1,9 @@
 -- What an engine writes for a recording, what it counts in it, and how it reads it.
 use Rattle.std.specs.Prelude.{ℕ, Bool, true, false, List}
 use Rattle.sl_link.specs.declared.command_line.Engine.{Engine}
-use Rattle.sl_link.specs.declared.command_line.Engine.TheVariants.{ShowTm, ShowTc, NormaliseTm}
+use Rattle.sl_link.specs.declared.command_line.Engine.TheVariants.{ShowTm, ShowTc, NormaliseTm, NormaliseTc}
 use Rattle.sl_link.specs.Managed.{Parameters}
+use Rattle.sl_link.specs.NormaliseTc.{tc_normal_form, tc_counts}
 use Rattle.sl_link.specs.NormaliseTm.{tm_normal_form, tm_counts}
 use Rattle.sl_link.specs.ShowTc.{show_tc_text, show_tc_counts}
 use Rattle.sl_link.specs.ShowTm.{show_tm_text, show_tm_counts}
@@ -13,27 +14,32 @@ abbrev pub text_of : Engine → Parameters → List ℕ → List ℕ
 text_of ShowTm p = show_tm_text p
 text_of ShowTc p = show_tc_text p
 text_of NormaliseTm p = tm_normal_form p
+text_of NormaliseTc p = tc_normal_form p
 
 -- the counts of what the engine meets
 abbrev pub counts_of : Engine → Parameters → List ℕ → Counts
 counts_of ShowTm p = show_tm_counts p
 counts_of ShowTc p = show_tc_counts p
 counts_of NormaliseTm p = tm_counts p
+counts_of NormaliseTc p = tc_counts p
 
 -- the octets that are read at once, at most
 abbrev pub buffer_of : Engine → ℕ
 buffer_of ShowTm = 0x20000
 buffer_of ShowTc = 0x20000
 buffer_of NormaliseTm = 0x10000
+buffer_of NormaliseTc = 0x10000
 
 -- the engine lists frames, for which it needs no memory
 abbrev pub lists_frames : Engine → Bool
 lists_frames ShowTm = true
 lists_frames ShowTc = true
 lists_frames NormaliseTm = false
+lists_frames NormaliseTc = false
 
 -- the engine writes a normal form, once all is read
 abbrev pub writes_normal_form : Engine → Bool
 writes_normal_form ShowTm = false
 writes_normal_form ShowTc = false
 writes_normal_form NormaliseTm = true
+writes_normal_form NormaliseTc = true

@@ -1,5 +1,5 @@
 -- The lines of a listing.
-use Rattle.std.specs.Prelude.{ℕ, ◌+◌, ◌==◌, if◌then◌else◌, List, [], ◌∷◌, ◌++◌, length, codes, decimal}
+use Rattle.std.specs.Prelude.{ℕ, ◌==◌, if◌then◌else◌, List, [], ◌++◌, codes, decimal}
 
 -- a line: the octets before the thing, and what it says of it
 abbrev pub line_at : ℕ → List ℕ → List ℕ

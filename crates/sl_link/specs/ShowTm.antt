@@ -6,7 +6,7 @@ use Rattle.sl_fields.specs.Clcw.{ClcwFields, clcw_word}
 use Rattle.sl_tmframe.specs.declared.tm_frame.TmSkip.{TmSkip}
 use Rattle.sl_tmframe.specs.declared.tm_frame.TmSkip.TheVariants.{Fecf, Version, Spacecraft}
 use Rattle.sl_tmframe.specs.TmFrame.{TmFormat, TmView, DataField, Packets, Idle, Opaque, tm_frame}
-use Rattle.sl_link.specs.Delimited.{frames_of, remainder_of}
+use Rattle.sl_tmframe.specs.TmDelimited.{tm_frames_of, tm_remainder_of}
 use Rattle.sl_link.specs.Line.{line_at, remainder_line}
 use Rattle.sl_link.specs.Managed.{Parameters, tm_format}
 use Rattle.sl_link.specs.Totals.{Counts}
@@ -70,8 +70,8 @@ frame_lines format spacecraft offset (frame ∷ frames) =
 -- the listing of a recording
 abbrev pub show_tm_text : Parameters → List ℕ → List ℕ
 show_tm_text p recording =
-    let rest : ℕ = length (remainder_of p.tm_length recording) in
-    frame_lines (tm_format p) p.spacecraft 0 (frames_of p.tm_length recording)
+    let rest : ℕ = length (tm_remainder_of p.tm_length recording) in
+    frame_lines (tm_format p) p.spacecraft 0 (tm_frames_of p.tm_length recording)
     ++ remainder_line (length recording - rest) rest
 
 -- how many frames are skipped
@@ -85,9 +85,9 @@ abbrev pub show_tm_counts : Parameters → List ℕ → Counts
 show_tm_counts p recording =
     record {
       octets = length recording;
-      frames = length (frames_of p.tm_length recording);
-      skipped = skipped_of (tm_format p) p.spacecraft (frames_of p.tm_length recording);
-      rest = length (remainder_of p.tm_length recording);
+      frames = length (tm_frames_of p.tm_length recording);
+      skipped = skipped_of (tm_format p) p.spacecraft (tm_frames_of p.tm_length recording);
+      rest = length (tm_remainder_of p.tm_length recording);
       packets = 0;
       idle = 0;
       anomalies = 0;

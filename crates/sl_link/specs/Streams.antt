@@ -92,6 +92,18 @@ pub record StopsWriting {W : Type 0} (contents : W → Option (List ℕ)) (old n
   pub is_write : fault ≡ Write
   pub cause : HasFailed old new
 
+-- the cause of a fault of writing, or of keeping what is to be written, is there
+abbrev pub IsListingFault : {W : Type 0} → Counted W → Counted W → LinkFault → Type 0
+IsListingFault old new Read = ⊥
+IsListingFault old new TooLong = ⊥
+IsListingFault old new Memory = faults_of new ≡ faults_of old
+IsListingFault old new Write = HasFailed old new
+
+-- a prefix of the text was written, and then memory was refused or the writer failed
+pub record StopsListing {W : Type 0} (contents : W → Option (List ℕ)) (old new : Counted W) (text : List ℕ) (fault : LinkFault) : Type 0 where
+  pub front : WritesPrefix contents old new text
+  pub cause : IsListingFault old new fault
+
 -- ---- a whole engine, over its reader and its writer before and after the call
 
 module _ {R W : Type 0} (remaining : R → Option (List ℕ)) (contents : W → Option (List ℕ)) where
@@ -106,6 +118,15 @@ module _ {R W : Type 0} (remaining : R → Option (List ℕ)) (contents : W → 
     pub counted : totals ≡ counts octets
     pub reader_kept : faults_of reader' ≡ faults_of reader
     pub writer_kept : faults_of writer' ≡ faults_of writer
+
+  -- What was written delivers, read as a recording, the packets that what was read delivers. `packets` gives those of a
+  -- recording.
+  pub record KeepsPackets (reader reader' : Counted R) (writer writer' : Counted W) (packets : List ℕ → List (List (List ℕ))) : Type 0 where
+    pub recording : List ℕ
+    pub read : Reads remaining reader reader' recording
+    pub form : List ℕ
+    pub written : Writes contents writer writer' form
+    pub same : packets form ≡ packets recording
 
   -- The cause of a fault is there, and no other: at most the stream that it names had a fault. Nothing was
   -- read once the limit was passed, but for what came with the octet that passed it, one buffer at most. That

@@ -1,5 +1,5 @@
 -- The frames of a TC recording shown one by one, while it is read: what private functions owe to each other.
-use Rattle.std.specs.Prelude.{◌≡◌, ℕ, ◌+◌, ◌<◌, nat_lt, Bool, not, ◌&&◌, List, ◌++◌, length, Option, Result, Ok, Err}
+use Rattle.std.specs.Prelude.{◌≡◌, ℕ, ◌<◌, nat_lt, Bool, not, ◌&&◌, List, ◌++◌, length, Option, Result, Ok, Err}
 use Rattle.std.specs.List.{concat, slice_index_or, slice_set}
 use Rattle.sl_cop.specs.declared.farm_event.FarmEvent.{FarmEvent}
 use Rattle.sl_cop.specs.Farm.{FarmState, FarmView, farm_start, farm_step}

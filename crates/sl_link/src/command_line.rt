@@ -23,6 +23,8 @@ pub(crate) enum Engine {
     ShowTc,
     /// The normal form of TM transfer frames is written.
     NormaliseTm,
+    /// The normal form of TC transfer frames is written.
+    NormaliseTc,
 }
 
 /// What the options say of the link.
@@ -67,7 +69,7 @@ const LIMIT: &str = "limit";
 static SHOWN_KINDS: [&str; 2] = ["tm", "tc"];
 
 // The kinds that `normalise` takes.
-static NORMALISED_KINDS: [&str; 1] = ["tm"];
+static NORMALISED_KINDS: [&str; 2] = ["tm", "tc"];
 
 /// What the words ask for, of which the first is the program's name. Else why they are refused, or the
 /// help that they ask for.
@@ -214,6 +216,7 @@ fn engine_of(verb: &str, kind: &str) -> Option<Engine>
         ("show", "tm") => Some(Engine::ShowTm),
         ("show", "tc") => Some(Engine::ShowTc),
         ("normalise", "tm") => Some(Engine::NormaliseTm),
+        ("normalise", "tc") => Some(Engine::NormaliseTc),
         _ => None,
     }
 }

@@ -1,27 +1,20 @@
-//! The packets that the frames of a recording deliver.
+//! The packets that the frames of a TM recording deliver.
 ghost use Rattle.std.specs.Prelude.{◌≡◌, ◌+◌, ◌<◌, ◌≤◌, ◌^◌, length, take, IfOk, IfErr, OnOk, is_err};
 ghost use Rattle.sl_packet.specs.Delivered.{no_lists, FitsTm};
 ghost use Rattle.sl_packet.specs.Packets.{only_idle, without_idle};
-ghost use Rattle.sl_link.specs.Deliver.{as_read, ended_in, lists_after, with_frame};
+ghost use Rattle.sl_link.specs.Deliver.{as_read, ended_in, lists_after};
+ghost use Rattle.sl_link.specs.Delivering.{with_frame};
 ghost use Rattle.sl_link.specs.NormaliseTm.{tm_counts, tm_packets};
 ghost use Rattle.sl_tmflow.specs.Extraction.{ForProcessed, HasProcessed, IsWorking};
 
+use crate::delivery::{DeliveryTally, FrameReport, SKIPPED, store_fault};
 use crate::link_fault::LinkFault;
 use crate::managed::Managed;
-use crate::tally::Tally;
 use crate::totals::Totals;
-use sl_packet::{Delivered, FlowFault, SinkFault};
+use sl_packet::{Delivered, FlowFault};
 use sl_tmflow::Extractor;
 use sl_tmframe::TmFrame;
 use std::alloc::Global;
-
-/// What a frame brought.
-#[derive(Clone, Copy)]
-struct FrameReport {
-    is_skipped: bool,
-    packets: u32,
-    idle: u32,
-}
 
 /// Delivers the packets of a recording, each on the channel of its virtual channel.
 pub fn deliver(
@@ -38,23 +31,15 @@ pub fn deliver(
 {
     let length = usize::from(managed.tm.len());
     let mut extractor = Extractor::new(alloc);
-    let mut tally = Tally::new();
-    let mut packets = 0;
-    let mut idle = 0;
+    let mut so_far = DeliveryTally::new();
     let mut left = recording;
     while left.len() >= length {
         let (frame, after) = left.split_at(length);
         let met = deliver_frame(managed, frame, &mut extractor, delivered)?;
-        tally.add(frame.len() as u64, met.is_skipped);
-        packets += u64::from(met.packets);
-        idle += u64::from(met.idle);
+        so_far.add(frame.len() as u64, met);
         left = after;
     }
-    Ok(Totals {
-        packets,
-        idle,
-        ..tally.totals(left.len() as u64)
-    })
+    Ok(so_far.totals(left.len() as u64))
 }
 
 // Delivers the packets that end in a frame, unless it is skipped.
@@ -79,13 +64,7 @@ fn deliver_frame(
 {
     let view = match TmFrame::read(&managed.tm, managed.spacecraft, frame) {
         Ok(view) => view,
-        Err(_) => {
-            return Ok(FrameReport {
-                is_skipped: true,
-                packets: 0,
-                idle: 0,
-            });
-        }
+        Err(_) => return Ok(SKIPPED),
     };
     match extractor.frame(&view, delivered) {
         Ok(step) => Ok(FrameReport {
@@ -96,16 +75,5 @@ fn deliver_frame(
         Err(FlowFault::Memory) => Err(LinkFault::Memory),
         Err(FlowFault::Sink(fault)) => Err(store_fault(fault)),
         Err(FlowFault::Failed) => unreachable!(),
-    }
-}
-
-// Why the store refused a packet: only for want of memory.
-fn store_fault(fault: SinkFault) -> LinkFault
-    requires { fault ≡ SinkFault.Memory }
-    ensures { result ≡ LinkFault.Memory }
-{
-    match fault {
-        SinkFault::Memory => LinkFault::Memory,
-        SinkFault::Device | SinkFault::Refused => unreachable!(),
     }
 }

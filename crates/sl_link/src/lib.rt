@@ -1,9 +1,12 @@
 //! Recordings of a spacecraft's link: the listing of their frames, and the normal form of their packets.
 #![tactic(auto)]
 
+mod amiss_lines;
+mod check_tally;
 mod command_line;
 mod counted;
 mod deliver;
+mod delivery;
 mod farms;
 pub mod laws;
 mod lines;
@@ -11,15 +14,24 @@ mod link_fault;
 mod listing;
 mod managed;
 mod normalise;
+mod packet_lines;
+mod printer;
 mod program;
 mod recording;
 mod show;
 mod streams;
 mod tally;
+mod tc_deliver;
+mod tc_front;
 mod tc_lines;
 mod tc_listing;
+mod tc_normalise;
+mod tm_check;
+mod tm_check_lines;
 mod tm_lines;
+mod tm_packets;
 mod totals;
+mod uncounted;
 
 pub use counted::Counted;
 pub use link_fault::LinkFault;
@@ -28,6 +40,9 @@ pub use normalise::normalise_tm;
 pub use program::run;
 pub use show::show_tm;
 pub use tc_listing::show_tc;
+pub use tc_normalise::normalise_tc;
+pub use tm_check::check_tm;
+pub use tm_packets::packets_tm;
 pub use totals::Totals;
 
 #[cfg(test)]

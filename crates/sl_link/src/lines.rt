@@ -1,5 +1,5 @@
 //! Lines of a listing, put together in a buffer before they are written.
-ghost use Rattle.std.specs.Prelude.{◌≡◌, ◌+◌, ◌≤◌, ◌<◌, [], ◌++◌, length, decimal, nat_lt};
+ghost use Rattle.std.specs.Prelude.{◌≡◌, ◌+◌, ◌*◌, ◌≤◌, ◌<◌, [], ◌++◌, length, decimal, nat_lt};
 ghost use Rattle.hex.specs.Hex.{encode_lower};
 
 use arrayvec::ArrayVec;
@@ -89,6 +89,18 @@ impl Lines {
                 b'0' + number % 10,
             ]);
         }
+    }
+
+    /// Adds octets in hexadecimal, 128 at most.
+    pub fn push_hexadecimal(&mut self, octets: &[u8])
+        requires short { length octets.now ≤ 128 }
+        requires room { length self.old + 2 * length octets.now ≤ 4096 }
+        ensures { self.new ≡ self.old ++ encode_lower octets.now }
+    {
+        let mut digits = [0; 256];
+        let written = &mut digits[..2 * octets.len()];
+        let _ = hex::encode_to_slice(octets, written);
+        self.push(written);
     }
 
     /// Adds a word in hexadecimal.

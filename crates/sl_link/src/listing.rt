@@ -1,5 +1,5 @@
 //! What the listings of frames share: lines that are not written yet, and the line of a remainder.
-ghost use Rattle.std.specs.Prelude.{◌≡◌, ◌≤◌, ◌++◌, [], length, codes, decimal, IfErr, OnOk};
+ghost use Rattle.std.specs.Prelude.{◌≡◌, ◌+◌, ◌≤◌, ◌++◌, [], length, codes, decimal, IfErr, OnOk};
 ghost use Rattle.sl_link.specs.Line.{line_at, remainder_line};
 ghost use Rattle.sl_link.specs.Streams.{AddsText, WritesText, StopsWriting};
 
@@ -52,10 +52,11 @@ pub fn show_rest<W: Write>(
     flush(writer, lines)
 }
 
-// Adds the line of a remainder of so many octets at this offset.
-fn rest_line(lines: &mut Lines, offset: u64, octets: u64)
+/// Adds the line of a remainder of so many octets at this offset.
+pub fn rest_line(lines: &mut Lines, offset: u64, octets: u64)
     requires { length lines.old ≤ 3840 }
-    ensures { lines.new ≡ lines.old ++ line_at offset (codes " rest " ++ decimal octets) }
+    ensures text { lines.new ≡ lines.old ++ line_at offset (codes " rest " ++ decimal octets) }
+    ensures short { length lines.new ≤ length lines.old + 50 }
 {
     lines.push_number(offset);
     lines.push(b" rest ");

@@ -1,7 +1,7 @@
 //! The normal form of a TM recording.
-ghost use Rattle.std.specs.Prelude.{◌≡◌, ◌≢◌, false, IfOk, IfErr};
-ghost use Rattle.sl_link.specs.NormaliseTm.{tm_normal_form, tm_counts};
-ghost use Rattle.sl_link.specs.Streams.{IsRead, Translates, Stops};
+ghost use Rattle.std.specs.Prelude.{◌≡◌, ◌≢◌, false, IfOk, IfErr, OnOk};
+ghost use Rattle.sl_link.specs.NormaliseTm.{tm_normal_form, tm_counts, tm_packets};
+ghost use Rattle.sl_link.specs.Streams.{IsRead, KeepsPackets, Translates, Stops};
 
 use crate::counted::Counted;
 use crate::deliver::deliver;
@@ -29,6 +29,8 @@ pub fn normalise_tm<R: Read, W: Write>(
 ) -> Result<Totals, LinkFault>
     // All is read, and the normal form of it is written and nothing else.
     ensures normal_form { IfOk result (Translates R.remaining W.contents reader.old reader.new writer.old writer.new (tm_normal_form managed.now) (tm_counts managed.now) managed.now.max_octets) }
+    // The normal form delivers the packets of the recording.
+    ensures packets { OnOk result (KeepsPackets R.remaining W.contents reader.old reader.new writer.old writer.new (tm_packets managed.now)) }
     // After a fault its cause is there, and a prefix of the normal form of what was read is written.
     ensures fault { IfErr result (Stops R.remaining W.contents reader.old reader.new writer.old writer.new (tm_normal_form managed.now) managed.now.max_octets 0x10000) }
     // Only where the writer failed is anything written, and all is read then.

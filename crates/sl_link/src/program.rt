@@ -15,6 +15,7 @@ use crate::normalise::normalise_tm;
 use crate::show::show_tm;
 use crate::streams::write_text;
 use crate::tc_listing::show_tc;
+use crate::tc_normalise::normalise_tc;
 use crate::totals::Totals;
 use clap::Error;
 use clap::error::ErrorKind;
@@ -121,6 +122,7 @@ fn run_engine<R: Read, W: Write>(
         Engine::ShowTm => show_tm(managed, reader, writer),
         Engine::ShowTc => show_tc(managed, reader, writer),
         Engine::NormaliseTm => normalise_tm(alloc, managed, reader, writer),
+        Engine::NormaliseTc => normalise_tc(alloc, managed, reader, writer),
     }
 }
 

@@ -1,6 +1,6 @@
 //! The frames of a TM recording as lines.
 ghost use Rattle.std.specs.Prelude.{◌≡◌, ◌≢◌, ◌+◌, ◌*◌, ◌/◌, ◌^◌, ◌<◌, ◌≤◌, length, false, is_err, [], IfOk, IfErr, OnOk, Err};
-ghost use Rattle.sl_link.specs.Delimited.{frames_of};
+ghost use Rattle.sl_tmframe.specs.TmDelimited.{tm_frames_of};
 ghost use Rattle.sl_link.specs.Line.{line_at, remainder_line};
 ghost use Rattle.sl_link.specs.Managed.{tm_format};
 ghost use Rattle.sl_link.specs.ShowTm.{show_tm_text, show_tm_counts, frame_lines, frame_text};
@@ -86,9 +86,9 @@ fn show_frames<W: Write>(
     ensures shown { IfOk result (λ n. n ≡ length octets.now / managed.now.tm_length * managed.now.tm_length) }
     ensures within { IfOk result (λ n. n ≤ length octets.now) }
     ensures counted { IfOk result (λ n. tally.new.octets ≡ tally.old.octets + n) }
-    ensures lines { OnOk result (WritesText W.contents writer.old writer.new (frame_lines (tm_format managed.now) managed.now.spacecraft tally.old.octets (frames_of managed.now.tm_length octets.now))) }
-    ensures counts { OnOk result (AddsFrames (tm_format managed.now) managed.now.spacecraft tally.old tally.new (frames_of managed.now.tm_length octets.now)) }
-    ensures fault { IfErr result (StopsWriting W.contents writer.old writer.new (frame_lines (tm_format managed.now) managed.now.spacecraft tally.old.octets (frames_of managed.now.tm_length octets.now))) }
+    ensures lines { OnOk result (WritesText W.contents writer.old writer.new (frame_lines (tm_format managed.now) managed.now.spacecraft tally.old.octets (tm_frames_of managed.now.tm_length octets.now))) }
+    ensures counts { OnOk result (AddsFrames (tm_format managed.now) managed.now.spacecraft tally.old tally.new (tm_frames_of managed.now.tm_length octets.now)) }
+    ensures fault { IfErr result (StopsWriting W.contents writer.old writer.new (frame_lines (tm_format managed.now) managed.now.spacecraft tally.old.octets (tm_frames_of managed.now.tm_length octets.now))) }
 {
     let length = usize::from(managed.tm.len());
     let mut left = octets;

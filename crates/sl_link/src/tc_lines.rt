@@ -1,5 +1,5 @@
 //! The lines of a TC recording's listing.
-ghost use Rattle.std.specs.Prelude.{◌≡◌, ◌+◌, ◌≤◌, ◌<◌, ◌-◌, ◌++◌, codes, length};
+ghost use Rattle.std.specs.Prelude.{◌≡◌, ◌+◌, ◌≤◌, ◌<◌, ◌-◌, ◌++◌, codes, decimal, length};
 ghost use Rattle.sl_tcframe.specs.TcContent.{content};
 ghost use Rattle.sl_tcframe.specs.TcFrame.{IsContent};
 ghost use Rattle.sl_cop.specs.Farm.{farm_step};
@@ -59,9 +59,7 @@ fn push_view(lines: &mut Lines, farms: &mut Farms, frame: &TcFrame)
     let content = frame.content();
     lines.push(b" frame vc ");
     lines.push_octet(frame.vc());
-    lines.push(b" ");
     push_content(lines, content);
-    lines.push(b" ");
     push_step(lines, farms, frame.vc(), event(&content));
 }
 
@@ -81,50 +79,51 @@ fn event(carried: &TcContent) -> FarmEvent
 fn push_step(lines: &mut Lines, farms: &mut Farms, vc: u8, event: FarmEvent)
     requires room { length lines.old ≤ 3960 }
     requires vc { vc ≤ 63 }
-    ensures text { lines.new ≡ lines.old ++ step_text vc (farm_step (farm_at farms.old vc).window (farm_states farms.old vc) event) }
+    ensures text { lines.new ≡ lines.old ++ (codes " " ++ step_text vc (farm_step (farm_at farms.old vc).window (farm_states farms.old vc) event)) }
     ensures farms { farms.new ≡ farms_with farms.old vc event }
     ensures short { length lines.new ≤ length lines.old + 24 }
 {
     let verdict = farms.step(vc, event);
     push_verdict(lines, verdict);
-    lines.push(b" clcw ");
     lines.push_hex(&farms.clcw(vc).write());
 }
 
+// Nearly all are accepted, so each text is pushed where it is known. Of the sequence flags nothing is known before,
+// so their text is chosen first and pushed then: both are measured.
 fn push_verdict(lines: &mut Lines, verdict: Verdict)
     requires { length lines.old ≤ 4000 }
-    ensures text { lines.new ≡ lines.old ++ verdict_word verdict }
-    ensures short { length lines.new ≤ length lines.old + 8 }
+    ensures text { lines.new ≡ lines.old ++ (codes " " ++ verdict_word verdict ++ codes " clcw ") }
+    ensures short { length lines.new ≤ length lines.old + 16 }
 {
-    lines.push(match verdict {
-        Verdict::Accept => b"accept",
-        Verdict::Early => b"early",
-        Verdict::Late => b"late",
-        Verdict::Outside => b"outside",
-        Verdict::Refused => b"refused",
-        Verdict::Command => b"command",
-    });
+    match verdict {
+        Verdict::Accept => lines.push(b" accept clcw "),
+        Verdict::Early => lines.push(b" early clcw "),
+        Verdict::Late => lines.push(b" late clcw "),
+        Verdict::Outside => lines.push(b" outside clcw "),
+        Verdict::Refused => lines.push(b" refused clcw "),
+        Verdict::Command => lines.push(b" command clcw "),
+    }
 }
 
 fn push_content(lines: &mut Lines, carried: TcContent)
     requires room { length lines.old ≤ 3880 }
     requires unit { IsContent (content carried) }
-    ensures text { lines.new ≡ lines.old ++ content_text (content carried.entry) }
+    ensures text { lines.new ≡ lines.old ++ (codes " " ++ content_text (content carried.entry)) }
     ensures short { length lines.new ≤ length lines.old + 70 }
 {
     match carried {
         TcContent::Ad { ns, unit } => {
-            lines.push(b"ad ");
+            lines.push(b" ad ");
             lines.push_octet(ns);
             push_unit(lines, unit);
         }
         TcContent::Bd { unit } => {
-            lines.push(b"bd");
+            lines.push(b" bd");
             push_unit(lines, unit);
         }
-        TcContent::Unlock => lines.push(b"unlock"),
+        TcContent::Unlock => lines.push(b" unlock"),
         TcContent::SetVr(vr) => {
-            lines.push(b"setvr ");
+            lines.push(b" setvr ");
             lines.push_octet(vr);
         }
     }
@@ -137,12 +136,23 @@ fn push_unit(lines: &mut Lines, unit: &[u8])
     ensures short { length lines.new ≤ length lines.old + 60 }
 {
     let (header, octets) = split_segment(unit);
-    lines.push(b" segment ");
     push_flags(lines, header.flags());
-    lines.push(b" map ");
     lines.push_octet(header.map());
     lines.push(b" octets ");
-    lines.push_number(octets.len() as u64);
+    push_octet_count(lines, octets.len());
+}
+
+// Most units are short.
+fn push_octet_count(lines: &mut Lines, octets: usize)
+    requires { length lines.old ≤ 4000 }
+    ensures text { lines.new ≡ lines.old ++ decimal octets }
+    ensures short { length lines.new ≤ length lines.old + 20 }
+{
+    if octets < 256 {
+        lines.push_octet(octets as u8);
+    } else {
+        lines.push_number(octets as u64);
+    }
 }
 
 // The segment header of a unit, and the octets after it.
@@ -160,13 +170,13 @@ fn split_segment(unit: &[u8]) -> (SegmentHeader, &[u8])
 fn push_flags(lines: &mut Lines, flags: u8)
     requires room { length lines.old ≤ 4000 }
     requires fits { flags < 4 }
-    ensures text { lines.new ≡ lines.old ++ flags_word flags }
-    ensures short { length lines.new ≤ length lines.old + 6 }
+    ensures text { lines.new ≡ lines.old ++ (codes " segment " ++ flags_word flags ++ codes " map ") }
+    ensures short { length lines.new ≤ length lines.old + 20 }
 {
     lines.push(match flags {
-        0 => b"middle",
-        1 => b"first",
-        2 => b"last",
-        _ => b"whole",
+        0 => b" segment middle map ",
+        1 => b" segment first map ",
+        2 => b" segment last map ",
+        _ => b" segment whole map ",
     });
 }

@@ -1,6 +1,5 @@
 //! The frames of a TC recording as lines.
-ghost use Rattle.std.specs.Prelude.{◌≡◌, ◌≢◌, ◌+◌, ◌-◌, ◌^◌, ◌<◌, ◌≤◌, List, ℕ, length, true, is_err, [], IfOk, IfErr, IfSome, OnOk, Err};
-ghost use Rattle.sl_tcframe.specs.TcDelimited.{front_len};
+ghost use Rattle.std.specs.Prelude.{◌≡◌, ◌≢◌, ◌+◌, ◌-◌, ◌^◌, ◌<◌, ◌≤◌, List, ℕ, length, true, is_err, [], IfOk, IfErr, OnOk, Err};
 ghost use Rattle.sl_tcframe.specs.TcFrame.{is_cut, tc_frame};
 ghost use Rattle.sl_link.specs.Line.{line_at, remainder_line};
 ghost use Rattle.sl_link.specs.Managed.{tc_format};
@@ -17,6 +16,7 @@ use crate::listing::{flush, make_room, show_rest};
 use crate::managed::Managed;
 use crate::streams::read_some;
 use crate::tally::Tally;
+use crate::tc_front::frame_len;
 use crate::tc_lines::tc_frame_line;
 use crate::totals::Totals;
 use sl_fields::TcHeader;
@@ -148,21 +148,6 @@ fn show_frame<W: Write>(
     let read = TcFrame::read(&managed.tc, managed.spacecraft, frame);
     tc_frame_line(lines, offset, farms, &read);
     Ok(read.is_err())
-}
-
-// How many octets the frame has that the octets begin with, where they begin with one.
-#[inline(always)]
-fn frame_len(shape: &TcShape, octets: &[u8]) -> Option<usize>
-    ensures value { result ≡ front_len shape.now octets.now }
-    ensures some { IfSome result (λ len. 0 < len) }
-    ensures inside { IfSome result (λ len. len ≤ length octets.now) }
-{
-    let (header, _) = octets.split_first_chunk::<5>()?;
-    let stated = TcHeader::read(header).length() + 1;
-    if stated < shape.least() || octets.len() < usize::from(stated) {
-        return None;
-    }
-    Some(usize::from(stated))
 }
 
 // Whether no frame begins here, whatever octets come after these.

@@ -1,5 +1,7 @@
 mod faulty;
+mod listings_tm;
 mod normalise;
+mod normalise_tc;
 mod outcome;
 mod parts;
 mod program;

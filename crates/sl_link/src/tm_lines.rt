@@ -22,7 +22,8 @@ pub fn frame_line(lines: &mut Lines, offset: u64, read: &Result<TmFrame, TmSkip>
     lines.push(b"\n");
 }
 
-fn push_skip(lines: &mut Lines, reason: TmSkip)
+/// Adds why a frame is skipped.
+pub fn push_skip(lines: &mut Lines, reason: TmSkip)
     requires { length lines.old ≤ 3860 }
     ensures text { lines.new ≡ lines.old ++ (codes " skip " ++ skip_word reason) }
     ensures short { length lines.new ≤ length lines.old + 16 }
@@ -123,7 +124,8 @@ fn push_clcw(lines: &mut Lines, clcw: &Clcw)
     lines.push_octet(clcw.report());
 }
 
-fn push_flag(lines: &mut Lines, is_set: bool)
+/// Adds a flag as 0 or 1.
+pub fn push_flag(lines: &mut Lines, is_set: bool)
     requires { length lines.old ≤ 4094 }
     ensures text { lines.new ≡ lines.old ++ decimal (bit_of is_set) }
     ensures short { length lines.new ≡ length lines.old + 1 }

@@ -189,14 +189,21 @@ fn normal_forms_of_recordings(rt: HostRuntime) -> Result<(), Fail> {
             &[FIRST, TEN_FILLED, "001201001800", TEN_FILLED],
         ),
     ];
+    // The normal form of each normal form is itself.
     for (parts, wanted) in cases {
         let recording = octets(rt.alloc(), parts)?;
-        let mut reader = Counted::new(recording.as_slice());
-        let mut writer = Counted::new(Vec::new(rt.alloc()));
-        normalise_tm(rt.alloc(), &link(1000)?, &mut reader, &mut writer)?;
-        assert_eq!(rt; writer.into_inner(), octets(rt.alloc(), wanted)?);
+        let wanted = octets(rt.alloc(), wanted)?;
+        assert_eq!(rt; normal_form(rt.alloc(), recording.as_slice())?, wanted);
+        assert_eq!(rt; normal_form(rt.alloc(), wanted.as_slice())?, wanted);
     }
     Ok(())
+}
+
+fn normal_form(alloc: Global, recording: &[u8]) -> Result<Vec<u8>, Fail> {
+    let mut reader = Counted::new(recording);
+    let mut writer = Counted::new(Vec::new(alloc));
+    normalise_tm(alloc, &link(1000)?, &mut reader, &mut writer)?;
+    Ok(writer.into_inner())
 }
 
 fn link(max_octets: u64) -> Result<Managed, ManagedFault> {

@@ -35,6 +35,7 @@ fn command_lines_are_read(rt: HostRuntime) -> Result<(), Fail> {
         ("sllink show tm --scid 7", Engine::ShowTm, LEAST),
         ("sllink show tc --scid 7", Engine::ShowTc, LEAST),
         ("sllink normalise tm --scid 7", Engine::NormaliseTm, LEAST),
+        ("sllink normalise tc --scid 7", Engine::NormaliseTc, LEAST),
         (
             "any show --limit=9 --tm-length 0 tm --scid=65535",
             Engine::ShowTm,
@@ -103,7 +104,7 @@ fn wrong_command_lines_are_refused(rt: HostRuntime) -> Result<(), Fail> {
         "sllink show --scid 1",
         "sllink show tx --scid 1",
         "sllink normalise --scid 1",
-        "sllink normalise tc --scid 1",
+        "sllink normalise tx --scid 1",
         "sllink normalise tm",
         "sllink show tm tm --scid 1",
         "sllink show tm",
@@ -148,7 +149,7 @@ fn refused_parameters_are_named(rt: HostRuntime) -> Result<(), Fail> {
         ("--scid 1 --limit 0", "sllink: managed: limit\n"),
     ];
     for (options, said) in cases {
-        for engine in ["show tm", "show tc", "normalise tm"] {
+        for engine in ["show tm", "show tc", "normalise tm", "normalise tc"] {
             let line = format!(in rt.alloc(); "sllink {engine} {options}")?;
             // A read would be a fault.
             let mut writer = Counted::new(Unwritable);
@@ -194,7 +195,7 @@ fn help_names_each_option(rt: HostRuntime) -> Result<(), Fail> {
     ];
     let cases = [
         ("sllink show --help", "[possible values: tm, tc]"),
-        ("sllink normalise --help", "[possible values: tm]"),
+        ("sllink normalise --help", "[possible values: tm, tc]"),
     ];
     for (line, kinds) in cases {
         let outcome = Outcome::of(rt.alloc(), line, RECORDING)?;

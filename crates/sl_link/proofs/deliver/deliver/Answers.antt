@@ -11,7 +11,7 @@ use Rattle.sl_link.proofs.deliver.deliver.Goals as goal
 
 pub loop-left-init : goal.loop-left-init
 loop-left-init c =
-    rw (c.new-tally.ensures.octets, c.new-tally.ensures.frames, c.new-tally.ensures.skipped)
+    rw (c.new-so_far.ensures.octets, c.new-so_far.ensures.frames, c.new-so_far.ensures.skipped, c.new-so_far.ensures.packets, c.new-so_far.ensures.idle)
     (nothing_delivered c.args.managed.now c.args.recording.now c.new-extractor.result c.args.delivered.now.lists c.new-extractor.ensures
     (ap length c.requires.none ∙ length-no_lists)
     (λ channel. ap (λ l. slice_index_or {A = List (List ℕ)} l channel []) c.requires.none ∙ list_at-no_lists channel))
@@ -21,6 +21,9 @@ deliver_frame-requires-clause-channels c = omega (arith, c.loop-left.invariant.s
 
 pub deliver_frame-requires-clause-working : goal.deliver_frame-requires-clause-working
 deliver_frame-requires-clause-working c = (_, c.loop-left.invariant.processed)
+
+pub add-requires-clause-within : goal.add-requires-clause-within
+add-requires-clause-within c = omega (arith, c.in_ok-met.ensures.within, c.loop-left.invariant.within)
 
 pub loop-left-preserved : goal.loop-left-preserved
 loop-left-preserved c =
@@ -35,19 +38,19 @@ loop-left-preserved c =
     let met = c.in_ok-met.ensures in
     delivered_next c.args.managed.now c.args.recording.now c.loop-left.extractor c.deliver_frame.new.extractor left frame c.split_at.result.1.now
     c.loop-left.delivered.lists c.deliver_frame.new.delivered.lists
-    c.loop-left.tally.octets c.loop-left.tally.frames c.loop-left.tally.skipped c.loop-left.packets c.loop-left.idle _ _ _ _ _
+    c.loop-left.so_far.tally.octets c.loop-left.so_far.tally.frames c.loop-left.so_far.tally.skipped c.loop-left.so_far.packets c.loop-left.so_far.idle _ _ _ _ _
     parts size d (met.processed seen d.processed) (met.lists seen d.processed) c.add.ensures.octets c.add.ensures.frames
-    (c.add.ensures.skipped ∙ ap (λ (b : Bool). c.loop-left.tally.skipped + (if◌then◌else◌ {A = ℕ} b 1 0)) met.skipped)
-    (ap (λ n. c.loop-left.packets + n) (c.from-packets.ensures ∙ met.packets seen d.processed))
-    (ap (λ n. c.loop-left.idle + n) (c.from-idle.ensures ∙ met.idle seen d.processed))
-    (omega (arith, met.within, d.within, c.add.ensures.octets, c.from-packets.ensures, c.from-idle.ensures))
+    (c.add.ensures.skipped ∙ ap (λ (b : Bool). c.loop-left.so_far.tally.skipped + (if◌then◌else◌ {A = ℕ} b 1 0)) met.skipped)
+    (c.add.ensures.packets ∙ ap (λ n. c.loop-left.so_far.packets + n) (met.packets seen d.processed))
+    (c.add.ensures.idle ∙ ap (λ n. c.loop-left.so_far.idle + n) (met.idle seen d.processed))
+    (omega (arith, met.within, d.within, c.add.ensures.octets, c.add.ensures.packets, c.add.ensures.idle))
 
 pub returns-clause-packets : goal.returns-clause-packets
 returns-clause-packets c =
     let some = some_octets (parameters_of c.managed.inside) c.args.managed.now c.managed.invariant c.managed.view_is in
     let short : length c.loop-left.left.now < c.args.managed.now.tm_length = omega (arith, ap (λ (p : Parameters). p.tm_length) c.managed.view_is) in
     all_delivered c.args.managed.now c.args.recording.now c.loop-left.extractor c.loop-left.left.now c.loop-left.delivered.lists
-    c.loop-left.tally.octets c.loop-left.tally.frames c.loop-left.tally.skipped c.loop-left.packets c.loop-left.idle some short c.loop-left.invariant
+    c.loop-left.so_far.tally.octets c.loop-left.so_far.tally.frames c.loop-left.so_far.tally.skipped c.loop-left.so_far.packets c.loop-left.so_far.idle some short c.loop-left.invariant
 
 pub returns-clause-fits : goal.returns-clause-fits
 returns-clause-fits c = λ channel past inside. c.loop-left.invariant.none_elsewhere channel past
@@ -57,8 +60,8 @@ returns-clause-counts c =
     let some = some_octets (parameters_of c.managed.inside) c.args.managed.now c.managed.invariant c.managed.view_is in
     let short : length c.loop-left.left.now < c.args.managed.now.tm_length = omega (arith, ap (λ (p : Parameters). p.tm_length) c.managed.view_is) in
     let all = all_counted c.args.managed.now c.args.recording.now c.loop-left.extractor c.loop-left.left.now c.loop-left.delivered.lists
-    c.loop-left.tally.octets c.loop-left.tally.frames c.loop-left.tally.skipped c.loop-left.packets c.loop-left.idle some short c.loop-left.invariant in
-    let t = c.result.view_is ∙ c.totals.ensures in
+    c.loop-left.so_far.tally.octets c.loop-left.so_far.tally.frames c.loop-left.so_far.tally.skipped c.loop-left.so_far.packets c.loop-left.so_far.idle some short c.loop-left.invariant in
+    let t = c.totals.ensures in
     same_counts _ _ _ _ _ _ _ _ _ _ _ _ _ _
     (ap (λ (k : Counts). k.octets) t ∙ all.0) (ap (λ (k : Counts). k.frames) t ∙ all.1) (ap (λ (k : Counts). k.skipped) t ∙ all.2)
-    (ap (λ (k : Counts). k.rest) t ∙ all.3) all.4 all.5 (ap (λ (k : Counts). k.anomalies) t)
+    (ap (λ (k : Counts). k.rest) t ∙ all.3) (ap (λ (k : Counts). k.packets) t ∙ all.4) (ap (λ (k : Counts). k.idle) t ∙ all.5) (ap (λ (k : Counts). k.anomalies) t)

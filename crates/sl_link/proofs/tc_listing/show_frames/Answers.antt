@@ -1,4 +1,4 @@
-use Rattle.std.proofs.Common.{◌≡◌, ◌+◌, ◌∙◌, ◌++◌, arith, sym, ap, length, take, true, Bool, ℕ, List, None, Some, if◌then◌else◌}
+use Rattle.std.proofs.Common.{◌≡◌, ◌+◌, ◌∙◌, ◌++◌, sym, ap, true, Bool, ℕ, None, Some, if◌then◌else◌}
 use Rattle.std.proofs.lemmas.List.{take-append-drop}
 use Rattle.sl_tcframe.specs.TcDelimited.{front_len}
 use Rattle.sl_tcframe.specs.TcFrame.{is_cut}

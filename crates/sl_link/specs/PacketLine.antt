@@ -1,0 +1,29 @@
+-- A packet as `packets` lists it, CCSDS 133.0-B: the fields of its primary header, its octets, and all of them in
+-- hexadecimal.
+use Rattle.std.specs.Prelude.{ℕ, List, ◌++◌, length, take, codes, decimal}
+use Rattle.hex.specs.Hex.{encode_lower}
+use Rattle.sl_fields.specs.Field.{bit_of}
+use Rattle.sl_fields.specs.PacketHeader.{PacketFields, packet_header}
+
+-- the flags and the count
+abbrev pub numbers_text : PacketFields → List ℕ
+numbers_text h = codes " secondary " ++ decimal (bit_of h.secondary) ++ codes " flags " ++ decimal h.flags ++ codes " count " ++ decimal h.count
+
+abbrev pub header_text : PacketFields → List ℕ
+header_text h = codes " apid " ++ decimal h.apid ++ codes " type " ++ decimal h.kind ++ numbers_text h
+
+-- how many octets there are
+abbrev pub size_text : ℕ → List ℕ
+size_text octets = codes " octets " ++ decimal octets ++ codes " "
+
+-- the header, and how many octets there are
+abbrev pub fields_text : List ℕ → List ℕ
+fields_text packet = header_text (packet_header (take 6 packet)) ++ size_text (length packet)
+
+-- what follows the channel
+abbrev pub packet_text : List ℕ → List ℕ
+packet_text packet = fields_text packet ++ encode_lower packet ++ codes "\n"
+
+-- the line, after the channel that it is on
+abbrev pub packet_line : List ℕ → List ℕ → List ℕ
+packet_line channel packet = channel ++ packet_text packet

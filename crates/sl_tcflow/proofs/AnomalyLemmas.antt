@@ -22,7 +22,7 @@ pub told_none : {X : Type 0} (none : X) (told : List (List ℕ) → List ℕ →
     → unit_by (verdict_on w vr views next) next.content ≡ [] → of_accepted none told w vr views next ≡ none
 told_none none told w vr views next e = ap (of_unit none (told (segments_of w vr next.vc (map_of next.content) views))) e
 
--- of one it is told from what is incomplete at its place
+-- of one it is told from what is incomplete at its index
 module _ (w vr : ℕ) (old : List (Option (List ℕ))) (views : List TcView) (next : TcView) (unit : List ℕ) where
   told_more : {X : Type 0} (none : X) (told : List (List ℕ) → List ℕ → X) (from : Option (List ℕ) → List ℕ → X)
       → ((list : List (List ℕ)) (segment : List ℕ) → told list segment ≡ from (incomplete_of list) segment)

@@ -76,10 +76,10 @@ module _ (format : TcFormat) (spacecraft w vr : ℕ) (lists : List (List (List �
   list_back : (channel : ℕ) → channel < channel_count
       → slice_index_or lists channel [] ≡ without_idle (packets_in_channel w vr (recorded_views format spacecraft form) channel)
   list_back channel below =
-      let place : 64 * (channel / 64) + channel % 64 ≡ channel = omega arith in
+      let index : 64 * (channel / 64) + channel % 64 ≡ channel = omega arith in
       let packets = slice_index_or lists channel [] in
       let each = each-at (AllByRecursion IsDeliverable) lists channel [] tt are.each in
-      sym (ap without_idle (packets_at (channel / 64) (channel % 64) (omega (arith, below)) (omega arith) ∙ ap (λ n. slice_index_or lists n []) place) ∙ none_idle packets each)
+      sym (ap without_idle (packets_at (channel / 64) (channel % 64) (omega (arith, below)) (omega arith) ∙ ap (λ n. slice_index_or lists n []) index) ∙ none_idle packets each)
 
 -- ---- all channels
 

@@ -18,9 +18,9 @@ next_due vc mid lists packets inside below all is before here =
     let own = take 64 (drop (64 * vc) lists) in
     let left : 64 ≤ length (drop (64 * vc) lists) = omega (arith, length-drop (64 * vc) lists, all) in
     let size : length own ≡ 64 = length-take-le 64 (drop (64 * vc) lists) left in
-    let place : 64 * vc + mid ≡ vc * 64 + mid = omega arith in
+    let index : 64 * vc + mid ≡ vc * 64 + mid = omega arith in
     let same : slice_index_or own mid [] ≡ packets =
-    get_or-take 64 (drop (64 * vc) lists) mid [] below ∙ get_or-drop (64 * vc) lists mid [] ∙ ap (λ n. slice_index_or lists n []) place ∙ sym is in
+    get_or-take 64 (drop (64 * vc) lists) mid [] below ∙ get_or-drop (64 * vc) lists mid [] ∙ ap (λ n. slice_index_or lists n []) index ∙ sym is in
     let more : take (mid + 1) own ≡ take mid own ++ packets ∷ [] =
     let on : mid + 1 ≡ suc mid = omega arith in
     ap (λ n. take n own) on ∙ take-suc own mid [] (omega (arith, size, below)) ∙ ap (λ l. take mid own ++ l ∷ []) same in

@@ -6,23 +6,23 @@ use Rattle.std.proofs.lemmas.Bool.Decides.{eqb_tells}
 use Rattle.sl_packet.specs.Packets.{packets_of, rest_of}
 use Rattle.sl_tcflow.specs.Anomaly.{tail_of}
 use Rattle.sl_tcflow.specs.Incomplete.{if_fits, are_continuing, incomplete_of}
-use Rattle.sl_tcflow.specs.NextSegment.{joined, unit_ended, packets_of_unit, packets_after, rest_of_unit, tail_after}
+use Rattle.sl_tcflow.specs.NextSegment.{extended, service_unit_ended, packets_of_service_unit, packets_after, rest_of_service_unit, tail_after}
 use Rattle.sl_tcflow.specs.Reception.{packets_ended}
 use Rattle.sl_tcflow.specs.Series.{flags_of, octets_at, SeriesAt, past, series_of, reassembled}
-use Rattle.sl_tcflow.proofs.FitLemmas.{reassembled-push, joined_fits}
+use Rattle.sl_tcflow.proofs.FitLemmas.{reassembled-push, extended_fits}
 use Rattle.sl_tcflow.proofs.OneMoreLemmas.{series_ending, ending_is}
 use Rattle.sl_tcflow.proofs.SeriesLemmas.{series_at}
 
 -- ---- by the sequence flags of the next segment
 
-ended_last : (held : Option (List ℕ)) (next : List ℕ) → flags_of next ≡ 2 → unit_ended held next ≡ joined held (octets_at next)
+ended_last : (held : Option (List ℕ)) (next : List ℕ) → flags_of next ≡ 2 → service_unit_ended held next ≡ extended held (octets_at next)
 ended_last held next is =
-    ap (λ flags. if flags == 3 then if_fits (octets_at next) else if flags == 2 then joined held (octets_at next) else None) is
+    ap (λ flags. if flags == 3 then if_fits (octets_at next) else if flags == 2 then extended held (octets_at next) else None) is
 
 -- what was incomplete matters to a last segment alone
-ended_other : (held other : Option (List ℕ)) (next : List ℕ) → flags_of next ≢ 2 → unit_ended held next ≡ unit_ended other next
+ended_other : (held other : Option (List ℕ)) (next : List ℕ) → flags_of next ≢ 2 → service_unit_ended held next ≡ service_unit_ended other next
 ended_other held other next not_2 =
-    let by = λ (before : Option (List ℕ)). ap (λ b. if flags_of next == 3 then if_fits (octets_at next) else if b then joined before (octets_at next) else None) (ne_eqb (flags_of next) 2 not_2) in
+    let by = λ (before : Option (List ℕ)). ap (λ b. if flags_of next == 3 then if_fits (octets_at next) else if b then extended before (octets_at next) else None) (ne_eqb (flags_of next) 2 not_2) in
     by held ∙ sym (by other)
 
 -- ---- whatever a service data unit has
@@ -44,7 +44,7 @@ module _ {X : Type 0} (of : List ℕ → List X) where
   in_reassembled : (segments : List (List ℕ)) → in_segments segments ≡ in_unit (if_fits (reassembled segments))
   in_reassembled segments = in_if (nat_le (length (reassembled segments)) 65542) (reassembled segments)
 
-  in_first : (before : ℕ) (next : List ℕ) → flat_map (λ (s : SeriesAt). in_segments s.segments) (series_ending before [] next) ≡ in_unit (unit_ended None next)
+  in_first : (before : ℕ) (next : List ℕ) → flat_map (λ (s : SeriesAt). in_segments s.segments) (series_ending before [] next) ≡ in_unit (service_unit_ended None next)
   in_first before next =
       by (flags_of next == 3) (flags_of next == 2)
       ∙ ap (λ l. in_unit (if flags_of next == 3 then if_fits l else if flags_of next == 2 then None else None)) (append-nil (octets_at next))
@@ -57,10 +57,10 @@ module _ {X : Type 0} (of : List ℕ → List X) where
       by false false = refl
 
   in_after : (begun : Bool) (segment : List ℕ) (later : List (List ℕ)) (next : List ℕ) (ending : List SeriesAt) (before : ℕ) (held : Option (List ℕ))
-      → flat_map (λ (s : SeriesAt). in_segments s.segments) ending ≡ in_unit (unit_ended held next)
+      → flat_map (λ (s : SeriesAt). in_segments s.segments) ending ≡ in_unit (service_unit_ended held next)
       → flat_map (λ (s : SeriesAt). in_segments s.segments)
       (if begun && flags_of next == 2 then series_at before (segment ∷ (later ++ next ∷ [])) ∷ [] else ending)
-      ≡ in_unit (unit_ended (if begun then if_fits (reassembled (segment ∷ later)) else held) next)
+      ≡ in_unit (service_unit_ended (if begun then if_fits (reassembled (segment ∷ later)) else held) next)
   in_after true segment later next ending before held rest =
       let segments = segment ∷ (later ++ next ∷ []) in
       let together = if_fits (reassembled (segment ∷ later)) in
@@ -70,7 +70,7 @@ module _ {X : Type 0} (of : List ℕ → List X) where
             ap (λ b. flat_map has (if b then series_at before segments ∷ [] else ending)) test
             ∙ append-nil (in_segments segments) ∙ in_reassembled segments
             ∙ ap (λ l. in_unit (if_fits l)) (reassembled-push (segment ∷ later) next)
-            ∙ ap in_unit (sym (joined_fits (reassembled (segment ∷ later)) (octets_at next)) ∙ sym (ended_last together next is))
+            ∙ ap in_unit (sym (extended_fits (reassembled (segment ∷ later)) (octets_at next)) ∙ sym (ended_last together next is))
         | inr (test, not_2) ↦
             ap (λ b. flat_map has (if b then series_at before segments ∷ [] else ending)) test
             ∙ rest ∙ ap in_unit (ended_other held together next not_2)
@@ -78,7 +78,7 @@ module _ {X : Type 0} (of : List ℕ → List X) where
   in_after false segment later next ending before held rest = rest
 
   in_from : (before : ℕ) (list : List (List ℕ)) (next : List ℕ)
-      → flat_map (λ (s : SeriesAt). in_segments s.segments) (series_ending before list next) ≡ in_unit (unit_ended (incomplete_of list) next)
+      → flat_map (λ (s : SeriesAt). in_segments s.segments) (series_ending before list next) ≡ in_unit (service_unit_ended (incomplete_of list) next)
   in_from before [] next = in_first before next
   in_from before (segment ∷ later) next =
       in_after (flags_of segment == 1 && are_continuing later) segment later next (series_ending (before + 1) later next) before (incomplete_of later)
@@ -86,21 +86,21 @@ module _ {X : Type 0} (of : List ℕ → List X) where
 
   in_ended : (list : List (List ℕ)) (next : List ℕ)
       → flat_map (λ (s : SeriesAt). in_segments s.segments) (filter (λ (s : SeriesAt). past s == length list + 1) (series_of (list ++ next ∷ [])))
-      ≡ in_unit (unit_ended (incomplete_of list) next)
+      ≡ in_unit (service_unit_ended (incomplete_of list) next)
   in_ended list next = ap (flat_map (λ (s : SeriesAt). in_segments s.segments)) (ending_is list next) ∙ in_from 0 list next
 
 -- ---- its packets, and what is left after them
 
 pub ended_next : (list : List (List ℕ)) (next : List ℕ) → packets_ended list next ≡ packets_after (incomplete_of list) next
-ended_next list next = in_ended packets_of list next ∙ same (unit_ended (incomplete_of list) next)
+ended_next list next = in_ended packets_of list next ∙ same (service_unit_ended (incomplete_of list) next)
   where
-    same : (unit : Option (List ℕ)) → in_unit packets_of unit ≡ packets_of_unit unit
+    same : (unit : Option (List ℕ)) → in_unit packets_of unit ≡ packets_of_service_unit unit
     same None = refl
     same (Some octets) = refl
 
 pub tail_next : (list : List (List ℕ)) (next : List ℕ) → tail_of list next ≡ tail_after (incomplete_of list) next
-tail_next list next = ap length (in_ended rest_of list next ∙ same (unit_ended (incomplete_of list) next))
+tail_next list next = ap length (in_ended rest_of list next ∙ same (service_unit_ended (incomplete_of list) next))
   where
-    same : (unit : Option (List ℕ)) → in_unit rest_of unit ≡ rest_of_unit unit
+    same : (unit : Option (List ℕ)) → in_unit rest_of unit ≡ rest_of_service_unit unit
     same None = refl
     same (Some octets) = refl

@@ -7,7 +7,7 @@ use Rattle.std.proofs.lemmas.List.Elements.{filter-append}
 use Rattle.sl_cop.specs.Farm.{FarmState, FarmView, farm_start, farm_step, state_after}
 use Rattle.sl_tcframe.specs.TcFrame.{TcView}
 use Rattle.sl_tcflow.specs.AcceptedUnit.{channel_of, event_of, events_of, farm_after}
-use Rattle.sl_tcflow.specs.Receiving.{HaveStepped, HasReceived, channel_at, farm_at_start, farm_of}
+use Rattle.sl_tcflow.specs.Receiving.{HaveStepped, HasProcessed, channel_at, farm_at_start, farm_of}
 
 -- ---- one of the channels
 
@@ -76,9 +76,9 @@ module _ (w vr : ℕ) (farms : List FarmView) (views : List TcView) (next : TcVi
             ];
       }
 
-pub received_none : (w vr : ℕ) (farms : List FarmView) (incomplete : List (Option (List ℕ))) → farms ≡ replicate 64 (farm_at_start w vr) → incomplete ≡ []
-    → HasReceived w vr (record { farms = farms; incomplete = incomplete; has_failed = false }) []
-received_none w vr farms incomplete all none =
+pub processed_none : (w vr : ℕ) (farms : List FarmView) (incomplete : List (Option (List ℕ))) → farms ≡ replicate 64 (farm_at_start w vr) → incomplete ≡ []
+    → HasProcessed w vr (record { farms = farms; incomplete = incomplete; has_failed = false }) []
+processed_none w vr farms incomplete all none =
     record {
       working = refl;
       farms = subst (λ l. HaveStepped w vr l []) (sym all) (stepped_none w vr);

@@ -5,7 +5,7 @@ use Rattle.std.proofs.lemmas.Bool.Decides.{leb_tells}
 use Rattle.std.proofs.lemmas.List.{map-append}
 use Rattle.std.proofs.lemmas.List.Folds.{concat-append}
 use Rattle.sl_tcflow.specs.Incomplete.{if_fits}
-use Rattle.sl_tcflow.specs.NextSegment.{joined}
+use Rattle.sl_tcflow.specs.NextSegment.{extended}
 use Rattle.sl_tcflow.specs.Series.{octets_at, reassembled}
 
 pub reassembled-push : (segments : List (List ℕ)) (next : List ℕ) → reassembled (segments ++ next ∷ []) ≡ reassembled segments ++ octets_at next
@@ -24,12 +24,12 @@ fits_none octets many =
     ]
 
 -- octets that fit, with some more, are the octets together, where these fit
-pub joined_fits : (before octets : List ℕ) → joined (if_fits before) octets ≡ if_fits (before ++ octets)
-joined_fits before octets =
+pub extended_fits : (before octets : List ℕ) → extended (if_fits before) octets ≡ if_fits (before ++ octets)
+extended_fits before octets =
     elim (leb_tells (length before) 65542) [
-      | inl (test, few) ↦ ap (λ held. joined held octets) (fits_some before few)
+      | inl (test, few) ↦ ap (λ held. extended held octets) (fits_some before few)
       | inr (test, over) ↦
-          ap (λ held. joined held octets) (fits_none before over)
+          ap (λ held. extended held octets) (fits_none before over)
           ∙ sym (fits_none (before ++ octets) (omega (arith, over, length-append before octets)))
     ]
 

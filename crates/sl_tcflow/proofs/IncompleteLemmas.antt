@@ -1,7 +1,8 @@
 -- The series that is incomplete after the last segment of a list, as it is told: it is incomplete, and the only one.
-use Rattle.std.proofs.Common.{◌≡◌, ℕ, ◌==◌, ◌&&◌, Bool, true, false, if◌then◌else◌, List, [], ◌∷◌, ◌++◌, Some, refl, sym, ◌∙◌, ap, arith, append_assoc, eqb-true, eq-eqb, ne_eqb}
+use Rattle.std.proofs.Common.{◌≡◌, ℕ, ◌<◌, ◌==◌, ◌&&◌, Bool, true, false, if◌then◌else◌, List, [], ◌∷◌, ◌++◌, length, Some, inl, inr, refl, sym, ◌∙◌, ap, arith, append_assoc, eqb-true, eq-eqb, ne_eqb}
 use Rattle.std.specs.List.{AllByRecursion}
-use Rattle.sl_tcflow.specs.Incomplete.{IsIncomplete, if_fits, are_continuing, incomplete_of, WhatIsToldIsIncomplete, IncompleteIsTold, OneIsIncomplete, IncompleteFits}
+use Rattle.std.proofs.lemmas.Bool.{cases_lt}
+use Rattle.sl_tcflow.specs.Incomplete.{IsIncomplete, if_fits, are_continuing, incomplete_of, WhatIsToldIsIncomplete, IncompleteIsTold, OneBegins, OneIsIncomplete, IncompleteFits}
 use Rattle.sl_tcflow.specs.Series.{flags_of, reassembled}
 use Rattle.sl_tcflow.proofs.FitLemmas.{fits_some, fits_are}
 use Rattle.sl_tcflow.proofs.SeriesLemmas.{IsContinuing}
@@ -87,6 +88,32 @@ pub incomplete_is_told : IncompleteIsTold
 incomplete_is_told list octets x =
     ap incomplete_of x.in_order ∙ told_later x.earlier x.first x.later x.begins (each_continuing x.later x.goes_on)
     ∙ ap if_fits (sym x.together) ∙ fits_some octets x.fits
+
+-- a first segment is not among those that follow another one in its series
+first_is_not_later : (earlier later : List (List ℕ)) (first : List ℕ) (earlier' later' : List (List ℕ)) (first' : List ℕ)
+    → earlier ++ first ∷ later ≡ earlier' ++ first' ∷ later' → are_continuing later ≡ true → flags_of first' ≡ 1 → length earlier < length earlier' → ⊥
+first_is_not_later [] later first [] later' first' same continuing begins less = absurd (omega arith)
+first_is_not_later [] later first (segment ∷ earlier') later' first' same continuing begins less =
+    let rest : later ≡ earlier' ++ first' ∷ later' = cc in
+    let both : true ≡ false = sym continuing ∙ ap are_continuing rest ∙ not_continuing earlier' first' later' begins in cc
+first_is_not_later (segment ∷ earlier) later first [] later' first' same continuing begins less = absurd (omega arith)
+first_is_not_later (segment ∷ earlier) later first (other ∷ earlier') later' first' same continuing begins less =
+    first_is_not_later earlier later first earlier' later' first' (cc) continuing begins (omega arith)
+
+not_later : (list : List (List ℕ)) (octets others : List ℕ) (x : IsIncomplete list octets) (y : IsIncomplete list others)
+    → length x.earlier < length y.earlier → ⊥
+not_later list octets others x y less =
+    first_is_not_later x.earlier x.later x.first y.earlier y.later y.first (sym x.in_order ∙ y.in_order) (each_continuing x.later x.goes_on) y.begins less
+
+pub one_begins : OneBegins
+one_begins list octets others x y =
+    elim (cases_lt (length x.earlier) (length y.earlier)) [
+      | inl before ↦ absurd (not_later list octets others x y before)
+      | inr by_then ↦ elim (cases_lt (length y.earlier) (length x.earlier)) [
+        | inl after ↦ absurd (not_later list others octets y x after)
+        | inr same ↦ omega arith
+      ]
+    ]
 
 pub one_is_incomplete : OneIsIncomplete
 one_is_incomplete list octets others x y =

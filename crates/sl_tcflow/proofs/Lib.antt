@@ -1,6 +1,7 @@
 pub mod AnomalyFacts
 pub mod AnomalyLemmas
 pub mod CanonicalLemmas
+pub mod ChannelLemmas
 pub mod DividedLemmas
 pub mod DueLemmas
 pub mod EachLemmas

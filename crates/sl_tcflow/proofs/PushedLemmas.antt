@@ -181,9 +181,9 @@ next_map room vc mid lists inside below all =
     let left : 64 ≤ length (drop (64 * vc) lists) = omega (arith, length-drop (64 * vc) lists, all) in
     let size : length channel ≡ 64 = length-take-le 64 (drop (64 * vc) lists) left in
     let before : 0 + length (take mid channel) ≡ mid = omega (arith, length-take-le mid channel (omega (arith, size))) in
-    let place : 64 * vc + mid ≡ vc * 64 + mid = omega arith in
+    let index : 64 * vc + mid ≡ vc * 64 + mid = omega arith in
     let packets : slice_index_or channel mid [] ≡ slice_index_or lists (vc * 64 + mid) [] =
-    get_or-take 64 (drop (64 * vc) lists) mid [] below ∙ get_or-drop (64 * vc) lists mid [] ∙ ap (λ n. slice_index_or lists n []) place in
+    get_or-take 64 (drop (64 * vc) lists) mid [] below ∙ get_or-drop (64 * vc) lists mid [] ∙ ap (λ n. slice_index_or lists n []) index in
     ap (segments_of_maps room 0) (take-suc channel mid [] (omega (arith, size)))
     ∙ last_map room 0 (take mid channel) (slice_index_or channel mid [])
     ∙ ap (λ m. segments_of_maps room 0 (take mid channel) ++ flat_map (segments_of_packet room m) (slice_index_or channel mid [])) before

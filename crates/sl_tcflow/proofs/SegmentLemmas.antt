@@ -101,9 +101,9 @@ maps_parts room from (packets ∷ lists) few =
     (maps_parts room (from + 1) lists (omega arith)))
 
 -- the segments of a MAP are those of its packets
-pub parts_of_map : (room from mid place : ℕ) (lists : List (List (List ℕ))) → mid ≡ from + place → place < length lists → from + length lists ≤ 64
-    → segments_on mid (map unit_made (segments_of_maps room from lists)) ≡ map unit_made (flat_map (segments_of_packet room mid) (slice_index_or lists place []))
-parts_of_map room from mid place [] here inside few = absurd (omega arith)
+pub parts_of_map : (room from mid index : ℕ) (lists : List (List (List ℕ))) → mid ≡ from + index → index < length lists → from + length lists ≤ 64
+    → segments_on mid (map unit_made (segments_of_maps room from lists)) ≡ map unit_made (flat_map (segments_of_packet room mid) (slice_index_or lists index []))
+parts_of_map room from mid index [] here inside few = absurd (omega arith)
 parts_of_map room from mid zero (packets ∷ lists) here inside few =
     let segments = flat_map (segments_of_packet room from) packets in
     let later = segments_of_maps room (from + 1) lists in
@@ -115,11 +115,11 @@ parts_of_map room from mid zero (packets ∷ lists) here inside few =
     ∙ append-nil (segments_on mid (map unit_made segments))
     ∙ ap (λ m. segments_on mid (map unit_made (flat_map (segments_of_packet room m) packets))) same
     ∙ on_all room mid (flat_map (segments_of_packet room mid) packets) (packets_parts room mid (omega (arith, same)) packets)
-parts_of_map room from mid (suc place) (packets ∷ lists) here inside few =
+parts_of_map room from mid (suc index) (packets ∷ lists) here inside few =
     let segments = flat_map (segments_of_packet room from) packets in
     let later = segments_of_maps room (from + 1) lists in
     ap (segments_on mid) (map-append unit_made segments later)
     ∙ filter-append (λ unit. (header_at unit).map == mid) (map unit_made segments) (map unit_made later)
     ∙ ap (λ l. l ++ segments_on mid (map unit_made later))
     (on_none room mid (λ m. m ≡ from) (λ m is e. omega (arith, is, e, here)) segments (packets_parts room from (omega arith) packets))
-    ∙ parts_of_map room (from + 1) mid place lists (omega (arith, here)) (omega arith) (omega arith)
+    ∙ parts_of_map room (from + 1) mid index lists (omega (arith, here)) (omega arith) (omega arith)

@@ -74,23 +74,23 @@ incomplete_same w vr incomplete views next are none vc mid vc_fits mid_fits =
       | inr (test, other) ↦ segments_other w vr vc mid views next other
     ]))
 
-other_place : (place vc mid vc' mid' : ℕ) → place ≡ channel_at vc mid → mid < 64 → mid' < 64 → mid ≢ mid' → channel_at vc' mid' ≢ place
-other_place place vc mid vc' mid' is fits fits' other same = other (omega (arith, is, fits, fits', same))
+other_index : (index vc mid vc' mid' : ℕ) → index ≡ channel_at vc mid → mid < 64 → mid' < 64 → mid ≢ mid' → channel_at vc' mid' ≢ index
+other_index index vc mid vc' mid' is fits fits' other same = other (omega (arith, is, fits, fits', same))
 
-other_vc_place : (place vc mid vc' mid' : ℕ) → place ≡ channel_at vc mid → mid < 64 → mid' < 64 → vc ≢ vc' → channel_at vc' mid' ≢ place
-other_vc_place place vc mid vc' mid' is fits fits' other same = other (omega (arith, is, fits, fits', same))
+other_vc_index : (index vc mid vc' mid' : ℕ) → index ≡ channel_at vc mid → mid < 64 → mid' < 64 → vc ≢ vc' → channel_at vc' mid' ≢ index
+other_vc_index index vc mid vc' mid' is fits fits' other same = other (omega (arith, is, fits, fits', same))
 
--- with one, its place alone has what is incomplete after it
-module _ (w vr : ℕ) (old : List (Option (List ℕ))) (views : List TcView) (next : TcView) (unit : List ℕ) (place : ℕ) where
+-- with one, its index alone has what is incomplete after it
+module _ (w vr : ℕ) (old : List (Option (List ℕ))) (views : List TcView) (next : TcView) (unit : List ℕ) (index : ℕ) where
   pub incomplete_more : (new : List (Option (List ℕ))) → AreIncomplete w vr old views → next.vc < 64 → unit_by (verdict_on w vr views next) next.content ≡ unit ∷ []
-      → place ≡ channel_at next.vc (header_at unit).map → IsPlaced old place (incomplete_after (at old place) unit) new
+      → index ≡ channel_at next.vc (header_at unit).map → IsPlaced old index (incomplete_after (at old index) unit) new
       → AreIncomplete w vr new (views ++ next ∷ [])
   incomplete_more new are inside unit_is here placed vc mid vc_fits mid_fits =
       elim (eqb_tells next.vc vc) [
         | inl (test, same) ↦
             elim (eqb_tells (header_at unit).map mid) [
               | inl (test', same') ↦
-                  let there : place ≡ channel_at vc mid = here ∙ ap (λ n. channel_at n (header_at unit).map) same ∙ ap (channel_at vc) same' in
+                  let there : index ≡ channel_at vc mid = here ∙ ap (λ n. channel_at n (header_at unit).map) same ∙ ap (channel_at vc) same' in
                   let segments : segments_of w vr vc mid (views ++ next ∷ []) ≡ segments_of w vr vc mid views ++ unit ∷ [] =
                   subst (λ n. segments_of w vr n mid (views ++ next ∷ []) ≡ segments_of w vr n mid views ++ unit ∷ []) same
                   (segments_next w vr mid views next ∙ ap (λ l. segments_of w vr next.vc mid views ++ segments_on mid l) unit_is
@@ -104,19 +104,19 @@ module _ (w vr : ℕ) (old : List (Option (List ℕ))) (views : List TcView) (ne
                   subst (λ n. segments_of w vr n mid (views ++ next ∷ []) ≡ segments_of w vr n mid views) same
                   (segments_next w vr mid views next ∙ ap (λ l. segments_of w vr next.vc mid views ++ segments_on mid l) unit_is
                   ∙ ap (λ l. segments_of w vr next.vc mid views ++ l) (on_other_map mid unit other) ∙ append-nil (segments_of w vr next.vc mid views)) in
-                  placed.others (channel_at vc mid) (other_place place next.vc (header_at unit).map vc mid here (map_fits unit) mid_fits other)
+                  placed.others (channel_at vc mid) (other_index index next.vc (header_at unit).map vc mid here (map_fits unit) mid_fits other)
                   ∙ are vc mid vc_fits mid_fits ∙ ap incomplete_of (sym segments)
             ]
         | inr (test, other) ↦
-            placed.others (channel_at vc mid) (other_vc_place place next.vc (header_at unit).map vc mid here (map_fits unit) mid_fits other)
+            placed.others (channel_at vc mid) (other_vc_index index next.vc (header_at unit).map vc mid here (map_fits unit) mid_fits other)
             ∙ are vc mid vc_fits mid_fits ∙ ap incomplete_of (sym (segments_other w vr vc mid views next other))
       ]
 
   -- ---- the packets that end
 
   pub ended_more : AreIncomplete w vr old views → next.vc < 64 → unit_by (verdict_on w vr views next) next.content ≡ unit ∷ []
-      → map_of next.content ≡ (header_at unit).map → place ≡ channel_at next.vc (header_at unit).map
-      → ended_by w vr views next ≡ packets_after (at old place) unit
+      → map_of next.content ≡ (header_at unit).map → index ≡ channel_at next.vc (header_at unit).map
+      → ended_by w vr views next ≡ packets_after (at old index) unit
   ended_more are inside unit_is mid_is here =
       let list = segments_of w vr next.vc (header_at unit).map views in
       ap (flat_map (packets_ended (segments_of w vr next.vc (map_of next.content) views))) unit_is
@@ -129,12 +129,12 @@ module _ (w vr : ℕ) (old : List (Option (List ℕ))) (views : List TcView) (ne
   -- ---- where memory is wanted
 
   pub around_more : AreIncomplete w vr old views → next.vc < 64 → unit_by (verdict_on w vr views next) next.content ≡ unit ∷ []
-      → map_of next.content ≡ (header_at unit).map → place ≡ channel_at next.vc (header_at unit).map
-      → (at old place ≢ None) ⊎ (incomplete_after (at old place) unit ≢ None) → IsIncompleteAround w vr views next
+      → map_of next.content ≡ (header_at unit).map → index ≡ channel_at next.vc (header_at unit).map
+      → (at old index ≢ None) ⊎ (incomplete_after (at old index) unit ≢ None) → IsIncompleteAround w vr views next
   around_more are inside unit_is mid_is here around =
       let mid = map_of next.content in
       let list = segments_of w vr next.vc mid views in
-      let before : at old place ≡ incomplete_of list =
+      let before : at old index ≡ incomplete_of list =
       ap (at old) (here ∙ ap (channel_at next.vc) (sym mid_is)) ∙ are next.vc mid inside (omega (arith, mid_is, map_fits unit)) in
       let segments : segments_of w vr next.vc mid (views ++ next ∷ []) ≡ list ++ unit ∷ [] =
       segments_next w vr mid views next ∙ ap (λ l. list ++ segments_on mid l) unit_is ∙ ap (λ l. list ++ l) (on_map mid unit (sym mid_is)) in (

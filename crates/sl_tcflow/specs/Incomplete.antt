@@ -47,7 +47,13 @@ WhatIsToldIsIncomplete = (list : List (List ℕ)) (octets : List ℕ) → incomp
 abbrev pub IncompleteIsTold : Type 0
 IncompleteIsTold = (list : List (List ℕ)) (octets : List ℕ) → IsIncomplete list octets → incomplete_of list ≡ Some octets
 
--- At most one series is incomplete,
+-- At most one series is incomplete: two begin at the same segment,
+abbrev pub OneBegins : Type 0
+OneBegins =
+    (list : List (List ℕ)) (octets others : List ℕ) (one : IsIncomplete list octets) (other : IsIncomplete list others)
+    → length one.earlier ≡ length other.earlier
+
+-- and have the same octets so far,
 abbrev pub OneIsIncomplete : Type 0
 OneIsIncomplete = (list : List (List ℕ)) (octets others : List ℕ) → IsIncomplete list octets → IsIncomplete list others → octets ≡ others
 

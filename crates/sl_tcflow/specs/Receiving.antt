@@ -37,11 +37,15 @@ abbrev pub AreIncomplete : ℕ → ℕ → List (Option (List ℕ)) → List TcV
 AreIncomplete w vr incomplete views =
     (vc mid : ℕ) → vc < 64 → mid < 64 → slice_index_or incomplete (channel_at vc mid) None ≡ incomplete_of (segments_of w vr vc mid views)
 
--- These frames were received, and no fault came. Other frames may have left the same.
-pub record HasReceived (w vr : ℕ) (state : ReceiverState) (views : List TcView) : Type 0 where
+-- These frames were processed, and no fault came. Other frames may have left the same.
+pub record HasProcessed (w vr : ℕ) (state : ReceiverState) (views : List TcView) : Type 0 where
   pub working : state.has_failed ≡ false
   pub farms : HaveStepped w vr state.farms views
   pub series : AreIncomplete w vr state.incomplete views
+
+-- some frames were processed, and no fault came
+abbrev pub IsWorking : ReceiverState → Type 0
+IsWorking state = (w : ℕ) × (vr : ℕ) × (views : List TcView) × HasProcessed w vr state views
 
 -- A fault came at the last of these frames.
 pub record HasFailedAfter (w vr : ℕ) (state : ReceiverState) (views : List TcView) : Type 0 where
@@ -52,9 +56,9 @@ pub record HasFailedAfter (w vr : ℕ) (state : ReceiverState) (views : List TcV
 abbrev pub HasFailed : ReceiverState → Type 0
 HasFailed state = state.has_failed ≡ true
 
--- it holds whichever frames were received, with whichever window and initial V(R)
-abbrev pub ForReceived : ReceiverState → (ℕ → ℕ → List TcView → Type 0) → Type 0
-ForReceived state holds = (w vr : ℕ) (views : List TcView) → HasReceived w vr state views → holds w vr views
+-- it holds whichever frames were processed, with whichever window and initial V(R)
+abbrev pub ForProcessed : ReceiverState → (ℕ → ℕ → List TcView → Type 0) → Type 0
+ForProcessed state holds = (w vr : ℕ) (views : List TcView) → HasProcessed w vr state views → holds w vr views
 
 -- ---- what the next frame does
 

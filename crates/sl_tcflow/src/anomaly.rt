@@ -3,7 +3,7 @@ ghost use Rattle.std.specs.Prelude.{◌≡◌, ◌≤◌, ◌<◌, ◌&&◌, if�
 ghost use Rattle.sl_tcflow.specs.Anomaly.{begins, continues, passes};
 ghost use Rattle.sl_tcflow.specs.Series.{octets_at};
 
-use crate::incomplete::split_segment;
+use crate::incomplete::split_unit;
 
 /// What is amiss with a segment: it is out of sequence, or a series is dropped, with so many octets, or is too long.
 #[derive(Clone, Copy)]
@@ -29,7 +29,7 @@ pub fn anomaly_of(held: Option<u32>, unit: &[u8]) -> Anomaly
     ensures dropped { result.dropped ≡ (if begins unit.now then held else None) }
     ensures long { result.long ≡ (continues unit.now && passes held (length (octets_at unit.now))) }
 {
-    let (header, octets) = split_segment(unit);
+    let (header, octets) = split_unit(unit);
     match header.flags() {
         0 | 2 => Anomaly {
             stray: held.is_none(),

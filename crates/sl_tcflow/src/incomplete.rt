@@ -4,7 +4,7 @@ ghost use Rattle.sl_packet.specs.Packets.{only_idle, without_idle};
 ghost use Rattle.sl_packet.specs.Sink.{TakesAll};
 ghost use Rattle.sl_packet.specs.Stopping.{IsStopped};
 ghost use Rattle.sl_tcflow.specs.Incomplete.{if_fits};
-ghost use Rattle.sl_tcflow.specs.NextSegment.{incomplete_after, joined, packets_after, packets_of_unit, rest_of_unit, tail_after};
+ghost use Rattle.sl_tcflow.specs.NextSegment.{extended, incomplete_after, packets_after, packets_of_service_unit, rest_of_service_unit, tail_after};
 ghost use Rattle.sl_tcflow.specs.Series.{flags_of, header_at, octets_at};
 
 use crate::hand::{Handed, NOTHING, hand};
@@ -73,9 +73,9 @@ impl Incomplete {
         ensures stopped { IfErr result (λ flow. IsStopped S.taking S.failing S.failures sink.old channel (without_idle (packets_after self.old unit.now)) flow sink.new) }
         ensures memory { IfErr result (λ flow. flow ≡ FlowFault.Memory → (self.old ≢ None) ⊎ (incomplete_after self.old unit.now ≢ None)) }
     {
-        let (header, octets) = split_segment(unit);
+        let (header, octets) = split_unit(unit);
         match header.flags() {
-            0 => match self.join(octets) {
+            0 => match self.extend(octets) {
                 Ok(()) => Ok(NOTHING),
                 Err(_) => Err(FlowFault::Memory),
             },
@@ -83,7 +83,7 @@ impl Incomplete {
                 Ok(()) => Ok(NOTHING),
                 Err(_) => Err(FlowFault::Memory),
             },
-            2 => match self.join(octets) {
+            2 => match self.extend(octets) {
                 Ok(()) => self.end(channel, sink),
                 Err(_) => Err(FlowFault::Memory),
             },
@@ -105,9 +105,9 @@ impl Incomplete {
     }
 
     // Goes on with these octets, unless they are too many.
-    fn join(&mut self, octets: &[u8]) -> Result<(), AllocError>
+    fn extend(&mut self, octets: &[u8]) -> Result<(), AllocError>
         requires { length octets.now ≤ 1018 }
-        ensures joined { OnOk result (self.new ≡ joined self.old octets.now) }
+        ensures extended { OnOk result (self.new ≡ extended self.old octets.now) }
         ensures begun { OnErr result (self.old ≢ None) }
     {
         if !self.is_begun {
@@ -124,12 +124,12 @@ impl Incomplete {
     fn end<S: PacketSink>(&mut self, channel: u16, sink: &mut S) -> Result<Handed, FlowFault>
         requires channel { channel ≤ 4095 }
         ensures state { self.new ≡ None }
-        ensures accepted { OnOk result (TakesAll S.taking sink.old channel (without_idle (packets_of_unit self.old)) sink.new) }
+        ensures accepted { OnOk result (TakesAll S.taking sink.old channel (without_idle (packets_of_service_unit self.old)) sink.new) }
         ensures kept { OnOk result (S.failures sink.new ≡ S.failures sink.old) }
-        ensures packets { IfOk result (λ handed. handed.packets ≡ length (without_idle (packets_of_unit self.old))) }
-        ensures idle { IfOk result (λ handed. handed.idle ≡ length (only_idle (packets_of_unit self.old))) }
-        ensures tail { IfOk result (λ handed. handed.tail ≡ length (rest_of_unit self.old)) }
-        ensures stopped { IfErr result (λ flow. IsStopped S.taking S.failing S.failures sink.old channel (without_idle (packets_of_unit self.old)) flow sink.new) }
+        ensures packets { IfOk result (λ handed. handed.packets ≡ length (without_idle (packets_of_service_unit self.old))) }
+        ensures idle { IfOk result (λ handed. handed.idle ≡ length (only_idle (packets_of_service_unit self.old))) }
+        ensures tail { IfOk result (λ handed. handed.tail ≡ length (rest_of_service_unit self.old)) }
+        ensures stopped { IfErr result (λ flow. IsStopped S.taking S.failing S.failures sink.old channel (without_idle (packets_of_service_unit self.old)) flow sink.new) }
         ensures not_memory { IfErr result (λ flow. flow ≢ FlowFault.Memory) }
     {
         if !self.is_begun {
@@ -167,7 +167,7 @@ pub fn take_alone<S: PacketSink>(
 }
 
 // The segment header of a unit, and the octets after it.
-pub fn split_segment(unit: &[u8]) -> (SegmentHeader, &[u8])
+pub fn split_unit(unit: &[u8]) -> (SegmentHeader, &[u8])
     requires { 0 < length unit.now }
     ensures header { result.0 ≡ header_at unit.now }
     ensures octets { result.1.now ≡ octets_at unit.now }

@@ -1,4 +1,4 @@
-//! The series that are incomplete on the MAPs of all virtual channels. They are kept as far as the last place at which
+//! The series that are incomplete on the MAPs of all virtual channels. They are kept as far as the last index at which
 //! one began.
 ghost use Rattle.std.specs.Prelude.{◌≡◌, ◌≢◌, ◌⊎◌, ◌≤◌, ◌<◌, nat_lt, true, None, option_map, ℕ, length, OnOk, OnErr, IfOk, IfErr, IfSome};
 ghost use Rattle.std.specs.Vec.{vec_len};
@@ -11,7 +11,7 @@ ghost use Rattle.sl_tcflow.specs.Receiving.{channel_at};
 ghost use Rattle.sl_tcflow.specs.Series.{header_at};
 
 use crate::hand::Handed;
-use crate::incomplete::{Incomplete, split_segment, take_alone};
+use crate::incomplete::{Incomplete, split_unit, take_alone};
 use sl_packet::{FlowFault, PacketSink};
 use std::alloc::{AllocError, Global};
 
@@ -22,8 +22,8 @@ pub fn held_on(incomplete: &Vec<Incomplete>, vc: u8, mid: u8) -> Option<u32>
     ensures octets { result ≡ option_map length (at incomplete.now.items (channel_at vc mid)) }
     ensures most { IfSome result (λ octets. octets ≤ 65542) }
 {
-    let place = 64 * usize::from(vc) + usize::from(mid);
-    match incomplete.get(place) {
+    let index = 64 * usize::from(vc) + usize::from(mid);
+    match incomplete.get(index) {
         Some(series) => series.held(),
         None => None,
     }
@@ -40,20 +40,20 @@ pub fn take_unit<S: PacketSink>(
     requires vc { vc ≤ 63 }
     requires some { 0 < length unit.now }
     requires short { length unit.now ≤ 1019 }
-    ensures placed { OnOk result (let place : ℕ = channel_at vc (header_at unit.now).map in IsPlaced incomplete.old.items place (incomplete_after (at incomplete.old.items place) unit.now) incomplete.new.items) }
-    ensures accepted { OnOk result (let place : ℕ = channel_at vc (header_at unit.now).map in TakesAll S.taking sink.old place (without_idle (packets_after (at incomplete.old.items place) unit.now)) sink.new) }
+    ensures placed { OnOk result (let index : ℕ = channel_at vc (header_at unit.now).map in IsPlaced incomplete.old.items index (incomplete_after (at incomplete.old.items index) unit.now) incomplete.new.items) }
+    ensures accepted { OnOk result (let index : ℕ = channel_at vc (header_at unit.now).map in TakesAll S.taking sink.old index (without_idle (packets_after (at incomplete.old.items index) unit.now)) sink.new) }
     ensures packets { IfOk result (λ handed. handed.packets ≡ length (without_idle (packets_after (at incomplete.old.items (channel_at vc (header_at unit.now).map)) unit.now))) }
     ensures idle { IfOk result (λ handed. handed.idle ≡ length (only_idle (packets_after (at incomplete.old.items (channel_at vc (header_at unit.now).map)) unit.now))) }
     ensures tail { IfOk result (λ handed. handed.tail ≡ tail_after (at incomplete.old.items (channel_at vc (header_at unit.now).map)) unit.now) }
     ensures kept { OnOk result (S.failures sink.new ≡ S.failures sink.old) }
-    ensures stopped { IfErr result (λ flow. let place : ℕ = channel_at vc (header_at unit.now).map in IsStopped S.taking S.failing S.failures sink.old place (without_idle (packets_after (at incomplete.old.items place) unit.now)) flow sink.new) }
-    ensures memory { IfErr result (λ flow. let place : ℕ = channel_at vc (header_at unit.now).map in flow ≡ FlowFault.Memory → (at incomplete.old.items place ≢ None) ⊎ (incomplete_after (at incomplete.old.items place) unit.now ≢ None)) }
+    ensures stopped { IfErr result (λ flow. let index : ℕ = channel_at vc (header_at unit.now).map in IsStopped S.taking S.failing S.failures sink.old index (without_idle (packets_after (at incomplete.old.items index) unit.now)) flow sink.new) }
+    ensures memory { IfErr result (λ flow. let index : ℕ = channel_at vc (header_at unit.now).map in flow ≡ FlowFault.Memory → (at incomplete.old.items index ≢ None) ⊎ (incomplete_after (at incomplete.old.items index) unit.now ≢ None)) }
 {
-    let (header, _) = split_segment(unit);
+    let (header, _) = split_unit(unit);
     let channel = 64 * u16::from(vc) + u16::from(header.map());
-    let place = usize::from(channel);
-    match is_kept(alloc, incomplete, place, header.flags()) {
-        Ok(true) => match incomplete[place].take(unit, channel, sink) {
+    let index = usize::from(channel);
+    match reach_first(alloc, incomplete, index, header.flags()) {
+        Ok(true) => match incomplete[index].take(unit, channel, sink) {
             Ok(handed) => Ok(handed),
             Err(flow) => Err(flow),
         },
@@ -65,30 +65,30 @@ pub fn take_unit<S: PacketSink>(
     }
 }
 
-// Whether there is this place: for a first segment there is, as far as memory was found.
-fn is_kept(
+// Reaches this index for a first segment, and answers whether the index is reached.
+fn reach_first(
     alloc: Global,
     incomplete: &mut Vec<Incomplete>,
-    place: usize,
+    index: usize,
     flags: u8,
 ) -> Result<bool, AllocError>
-    ensures kept { IfOk result (λ kept. kept ≡ nat_lt place (vec_len incomplete.new)) }
-    ensures first { IfOk result (λ kept. flags ≡ 1 → kept ≡ true) }
+    ensures reached { IfOk result (λ reached. reached ≡ nat_lt index (vec_len incomplete.new)) }
+    ensures first { IfOk result (λ reached. flags ≡ 1 → reached ≡ true) }
     ensures refused { OnErr result (flags ≡ 1) }
     ensures same { (other : ℕ) → at incomplete.new.items other ≡ at incomplete.old.items other }
 {
     if flags == 1 {
-        reach(alloc, incomplete, place)?;
+        reach(alloc, incomplete, index)?;
     }
-    Ok(place < incomplete.len())
+    Ok(index < incomplete.len())
 }
 
-// Adds places up to one, at which nothing is incomplete.
-fn reach(alloc: Global, incomplete: &mut Vec<Incomplete>, place: usize) -> Result<(), AllocError>
-    ensures reached { OnOk result (place < vec_len incomplete.new) }
+// Adds to the list up to this index. Nothing is incomplete at what is added.
+fn reach(alloc: Global, incomplete: &mut Vec<Incomplete>, index: usize) -> Result<(), AllocError>
+    ensures reached { OnOk result (index < vec_len incomplete.new) }
     ensures same { (other : ℕ) → at incomplete.new.items other ≡ at incomplete.old.items other }
 {
-    while incomplete.len() <= place {
+    while incomplete.len() <= index {
         incomplete.push(Incomplete::new(alloc))?;
     }
     Ok(())

@@ -1,7 +1,7 @@
 //! What holds of the definitions alone. Each function does nothing; its clauses are the laws.
 ghost use Rattle.sl_tcflow.specs.Anomaly.{StrayIsTold, WhatIsToldIsStray, DroppedIsTold, WhatIsToldIsDropped, LongIsTold, WhatIsToldIsLong, TailIsTold, WhatIsToldIsTail};
 ghost use Rattle.sl_tcflow.specs.Canonical.{NormalFormIsFrames, NoFrameIsLong, NormalFormDelivers, RecordedListsAreDeliverable};
-ghost use Rattle.sl_tcflow.specs.Incomplete.{WhatIsToldIsIncomplete, IncompleteIsTold, OneIsIncomplete, IncompleteFits};
+ghost use Rattle.sl_tcflow.specs.Incomplete.{WhatIsToldIsIncomplete, IncompleteIsTold, OneBegins, OneIsIncomplete, IncompleteFits};
 ghost use Rattle.sl_tcflow.specs.Reception.{PacketsEndOnce};
 ghost use Rattle.sl_tcflow.specs.Series.{EachIsSeries, EachSeriesIsListed, SeriesAreApart};
 ghost use Rattle.sl_tcflow.specs.TcNormalForm.{EachIsDivided};
@@ -21,10 +21,11 @@ pub fn tc_packets_end_once()
 {}
 
 /// The series that is incomplete after the last segment of a list, told: what is told is one, each is told, and
-/// there is one at most, of 65,542 octets at most.
+/// there is one at most: it begins at one segment, and has 65,542 octets at most.
 pub fn tc_incomplete_series_is_told()
     ensures is { WhatIsToldIsIncomplete }
     ensures all { IncompleteIsTold }
+    ensures begins { OneBegins }
     ensures one { OneIsIncomplete }
     ensures fits { IncompleteFits }
 {}

@@ -9,13 +9,13 @@ ghost use Rattle.sl_tcframe.specs.TcFrame.{TcView, IsContent};
 ghost use Rattle.sl_tcflow.specs.AcceptedUnit.{channel_of, event_of, farm_after, unit_by};
 ghost use Rattle.sl_tcflow.specs.Anomaly.{dropped_by, held_of, long_by, stray_by, tail_by};
 ghost use Rattle.sl_tcflow.specs.Incomplete.{incomplete_of};
-ghost use Rattle.sl_tcflow.specs.Receiving.{ForReceived, HasReceived, HasFailed, HasFailedAfter, HaveStepped, ForIncomplete, IsIncompleteAround, AreIncomplete, map_of, ended_by, unit_channel, verdict_on};
+ghost use Rattle.sl_tcflow.specs.Receiving.{ForProcessed, HasProcessed, HasFailed, HasFailedAfter, HaveStepped, ForIncomplete, IsIncompleteAround, AreIncomplete, map_of, ended_by, unit_channel, verdict_on};
 ghost use Rattle.sl_tcflow.specs.Reception.{segments_of};
 ghost use Rattle.sl_tcflow.specs.Series.{header_at};
 
 use crate::anomaly::{Anomaly, NO_ANOMALY, anomaly_of};
 use crate::hand::{Handed, NOTHING};
-use crate::incomplete::{Incomplete, split_segment};
+use crate::incomplete::{Incomplete, split_unit};
 use crate::kept::{held_on, take_unit};
 use crate::step::TcStep;
 use sl_cop::{Farm, FarmEvent, Verdict, Window};
@@ -49,7 +49,7 @@ impl Receiver {
     /// A receiver that was given no frame: FARM-1 of each virtual channel is open, with this window and this
     /// V(R). It takes memory only as segments come.
     pub fn new(alloc: Global, window: Window, vr: u8) -> Receiver
-        ensures { HasReceived window vr result [] }
+        ensures { HasProcessed window vr result [] }
     {
         Receiver {
             alloc,
@@ -71,29 +71,29 @@ impl Receiver {
         frame: &TcFrame,
         sink: &mut S,
     ) -> Result<TcStep, FlowFault>
-        // Whichever frames were received before, now they and this one are,
-        ensures processed { OnOk result (ForReceived self.old (λ w vr views. HasReceived w vr self.new (views ++ frame.now ∷ []))) }
-        ensures verdict { IfOk result (λ step. ForReceived self.old (λ w vr views. step.verdict ≡ verdict_on w vr views frame.now)) }
+        // Whichever frames were processed before, now they and this one are,
+        ensures processed { OnOk result (ForProcessed self.old (λ w vr views. HasProcessed w vr self.new (views ++ frame.now ∷ []))) }
+        ensures verdict { IfOk result (λ step. ForProcessed self.old (λ w vr views. step.verdict ≡ verdict_on w vr views frame.now)) }
         // and the packets that end with its unit were accepted and counted.
-        ensures accepted { OnOk result (ForReceived self.old (λ w vr views. TakesAll S.taking sink.old (unit_channel frame.now) (without_idle (ended_by w vr views frame.now)) sink.new)) }
-        ensures packets { IfOk result (λ step. ForReceived self.old (λ w vr views. step.packets ≡ length (without_idle (ended_by w vr views frame.now)))) }
-        ensures idle { IfOk result (λ step. ForReceived self.old (λ w vr views. step.idle ≡ length (only_idle (ended_by w vr views frame.now)))) }
+        ensures accepted { OnOk result (ForProcessed self.old (λ w vr views. TakesAll S.taking sink.old (unit_channel frame.now) (without_idle (ended_by w vr views frame.now)) sink.new)) }
+        ensures packets { IfOk result (λ step. ForProcessed self.old (λ w vr views. step.packets ≡ length (without_idle (ended_by w vr views frame.now)))) }
+        ensures idle { IfOk result (λ step. ForProcessed self.old (λ w vr views. step.idle ≡ length (only_idle (ended_by w vr views frame.now)))) }
         ensures kept { OnOk result (S.failures sink.new ≡ S.failures sink.old) }
         // What is amiss with its unit is told, if it is accepted.
-        ensures stray { IfOk result (λ step. ForReceived self.old (λ w vr views. step.stray ≡ stray_by w vr views frame.now)) }
-        ensures dropped { IfOk result (λ step. ForReceived self.old (λ w vr views. step.dropped ≡ dropped_by w vr views frame.now)) }
-        ensures long { IfOk result (λ step. ForReceived self.old (λ w vr views. step.long ≡ long_by w vr views frame.now)) }
-        ensures tail { IfOk result (λ step. ForReceived self.old (λ w vr views. step.tail ≡ tail_by w vr views frame.now)) }
+        ensures stray { IfOk result (λ step. ForProcessed self.old (λ w vr views. step.stray ≡ stray_by w vr views frame.now)) }
+        ensures dropped { IfOk result (λ step. ForProcessed self.old (λ w vr views. step.dropped ≡ dropped_by w vr views frame.now)) }
+        ensures long { IfOk result (λ step. ForProcessed self.old (λ w vr views. step.long ≡ long_by w vr views frame.now)) }
+        ensures tail { IfOk result (λ step. ForProcessed self.old (λ w vr views. step.tail ≡ tail_by w vr views frame.now)) }
         // After a fault each call fails, and leaves all as it was; none fails before.
         ensures failed { HasFailed self.old → result ≡ Err FlowFault.Failed }
         ensures left { result ≡ Err FlowFault.Failed → HasFailed self.old × (self.new ≡ self.old) × (sink.new ≡ sink.old) }
         // At a fault some of the packets were accepted, the first ones, and FARM-1 has taken the frame.
         ensures stopped { IfErr result (λ flow. flow ≢ FlowFault.Failed → HasFailed self.new
-            × ForReceived self.old (λ w vr views. HasFailedAfter w vr self.new (views ++ frame.now ∷ [])
+            × ForProcessed self.old (λ w vr views. HasFailedAfter w vr self.new (views ++ frame.now ∷ [])
             × IsStopped S.taking S.failing S.failures sink.old (unit_channel frame.now) (without_idle (ended_by w vr views frame.now)) flow sink.new)) }
         // Memory is wanted only where the frame's unit is accepted and a series is incomplete on its MAP, before the
         // frame or after it.
-        ensures memory { IfErr result (λ flow. flow ≡ FlowFault.Memory → ForReceived self.old (λ w vr views. IsIncompleteAround w vr views frame.now)) }
+        ensures memory { IfErr result (λ flow. flow ≡ FlowFault.Memory → ForProcessed self.old (λ w vr views. IsIncompleteAround w vr views frame.now)) }
     {
         if self.has_failed {
             return Err(FlowFault::Failed);
@@ -121,7 +121,7 @@ impl Receiver {
     /// The Communications Link Control Word of a virtual channel.
     pub fn clcw(&self, vc: u8) -> Clcw
         requires { vc ≤ 63 }
-        ensures received { ForReceived self.now (λ w vr views. result ≡ clcw_of vc (farm_after w vr (channel_of vc views))) }
+        ensures processed { ForProcessed self.now (λ w vr views. result ≡ clcw_of vc (farm_after w vr (channel_of vc views))) }
         ensures failed { (w vr : ℕ) (views : List TcView) → HasFailedAfter w vr self.now views → result ≡ clcw_of vc (farm_after w vr (channel_of vc views)) }
     {
         self.farms[usize::from(vc)].clcw(vc)
@@ -132,7 +132,7 @@ impl Receiver {
     pub fn held(&self, vc: u8, map: u8) -> u32
         requires vc { vc ≤ 63 }
         requires map { map ≤ 63 }
-        ensures value { ForReceived self.now (λ w vr views. result ≡ held_of (segments_of w vr vc map views)) }
+        ensures value { ForProcessed self.now (λ w vr views. result ≡ held_of (segments_of w vr vc map views)) }
         ensures most { result ≤ 65542 }
     {
         held_on(&self.incomplete, vc, map).unwrap_or(0)
@@ -143,7 +143,7 @@ impl Receiver {
     pub fn is_open(&self, vc: u8, map: u8) -> bool
         requires vc { vc ≤ 63 }
         requires map { map ≤ 63 }
-        ensures value { ForReceived self.now (λ w vr views. result ≡ is_some (incomplete_of (segments_of w vr vc map views))) }
+        ensures value { ForProcessed self.now (λ w vr views. result ≡ is_some (incomplete_of (segments_of w vr vc map views))) }
     {
         held_on(&self.incomplete, vc, map).is_some()
     }
@@ -181,7 +181,7 @@ fn anomaly_by(incomplete: &Vec<Incomplete>, verdict: Verdict, frame: &TcFrame) -
 {
     match accepted_unit(verdict, &frame.content()) {
         Some(unit) => {
-            let (header, _) = split_segment(unit);
+            let (header, _) = split_unit(unit);
             let held = held_on(incomplete, frame.vc(), header.map());
             anomaly_of(held, unit)
         }

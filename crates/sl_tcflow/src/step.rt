@@ -36,20 +36,20 @@ impl TcStep {
         self.verdict
     }
 
-    /// Packets that end with the frame's unit, idle ones left out: together with those at most 9,363, as many as
-    /// a longest service data unit has.
+    /// Packets that end with the frame's unit, idle ones left out.
     pub fn packets(&self) -> u32
         ensures { result ≡ self.now.packets }
     {
         self.packets
     }
 
-    /// Idle packets that end with the frame's unit. See [`packets`](TcStep::packets) for how many there can be.
+    /// Idle packets that end with the frame's unit.
     pub fn idle(&self) -> u32
         ensures { result ≡ self.now.idle }
     {
         self.idle
     }
+
     /// Whether the frame's unit is out of sequence: a continuing or last segment where no series is incomplete.
     pub fn stray(&self) -> bool
         ensures { result ≡ self.now.stray }
@@ -73,8 +73,9 @@ impl TcStep {
         self.long
     }
 
-    /// The octets after the last whole packet of the service data unit that ends with the frame's unit, 0 where
-    /// there are none or where none ends.
+    /// The octets that are left after the packets of the service data unit that ends with the frame's unit, all of
+    /// them where it has none. 0 where none are left, and where no service data unit ends: a series that is given up
+    /// ends none.
     pub fn tail(&self) -> u32
         ensures { result ≡ self.now.tail }
     {

@@ -4,15 +4,15 @@ use Rattle.std.specs.List.{AllByRecursion, flat_map}
 use Rattle.std.proofs.lemmas.Grind.{flat_map-append}
 use Rattle.sl_tmframe.specs.TmFrame.{TmView, DataField, Packets, Idle, Opaque}
 use Rattle.sl_tmflow.specs.Among.{IsAmong}
-use Rattle.sl_tmflow.specs.Anomaly.{IsIncompleteAt, IsBrokenOff, broken_octets, frame_broken, broken_off, EachListedIsBrokenOff, EachBrokenOffIsListed, OneIsBrokenOff, BrokenOffIsShort}
+use Rattle.sl_tmflow.specs.Anomaly.{IsBrokenOff, broken_octets, frame_broken, broken_off, EachListedIsBrokenOff, EachBrokenOffIsListed, OneIsBrokenOff, BrokenOffIsShort, BrokenOffIsTold, WhatIsToldIsBrokenOff}
 use Rattle.sl_tmflow.specs.Channel.{data_of, packet_data}
 use Rattle.sl_tmflow.specs.Delivery.{Delivery, IsDelivery, Outcome, Completes, StillIncomplete, Undelivered, Continuation, Ends, Continues, Breaks, step_of, after_step, outcome_of, delivery_of}
-use Rattle.sl_tmflow.specs.Incomplete.{IsShort, incomplete_octets, frame_incomplete, incomplete_of}
+use Rattle.sl_tmflow.specs.Incomplete.{IsIncompleteAt, IsShort, incomplete_octets, frame_incomplete, incomplete_of}
 use Rattle.sl_tmflow.specs.PacketStart.{IsStart, starts_from, starts_of}
 use Rattle.sl_tmflow.proofs.AtStartsLemmas.{flat_map-pieces}
 use Rattle.sl_tmflow.proofs.DeliveryLemmas.{among-left, among-right, among-flat_map, delivery_with, start_delivery}
 use Rattle.sl_tmflow.proofs.EachIncompleteLemmas.{each_incomplete_is_listed, incomplete_at_start, incomplete_start_outcome}
-use Rattle.sl_tmflow.proofs.EachLemmas.{each-append, each-weaker, each-flat_map, has_last, same_place}
+use Rattle.sl_tmflow.proofs.EachLemmas.{each-append, each-weaker, each-flat_map, count_of_one, some_of_each, has_last, same_place}
 use Rattle.sl_tmflow.proofs.IncompleteLemmas.{last_of, last_of-push}
 use Rattle.sl_tmflow.proofs.IncompleteListLemmas.{incomplete_cases, incomplete_is_short}
 use Rattle.sl_tmflow.proofs.OneMoreLemmas.{with_next, outcome_of-push}
@@ -259,3 +259,13 @@ broken_off_is_short channel next =
     each-weaker (IsBrokenOff channel next) IsShort
     (λ octets x. short_among octets (incomplete_of channel) (incomplete_is_short channel) (each_incomplete_is_listed channel octets x.before.incomplete))
     (broken_off channel next) (each_listed_is_broken_off channel next)
+
+-- ---- how many octets they have
+
+pub broken_off_is_told : BrokenOffIsTold
+broken_off_is_told channel next octets x =
+    count_of_one octets (broken_off channel next) (one_is_broken_off channel next) (each_broken_off_is_listed channel next octets x)
+
+pub what_is_told_is_broken_off : WhatIsToldIsBrokenOff
+what_is_told_is_broken_off channel next some =
+    some_of_each (IsBrokenOff channel next) (broken_off channel next) (each_listed_is_broken_off channel next) some

@@ -9,15 +9,14 @@ use Rattle.sl_packet.proofs.FrontLemmas.{whole_is_a_packet, incomplete_may_becom
 use Rattle.sl_packet.proofs.PacketLemmas.{version_of-append}
 use Rattle.sl_tmframe.specs.TmFrame.{TmView, DataField, Packets, Idle, Opaque}
 use Rattle.sl_tmflow.specs.Among.{IsAmong}
-use Rattle.sl_tmflow.specs.Anomaly.{IsIncompleteAt}
 use Rattle.sl_tmflow.specs.Channel.{packet_data}
 use Rattle.sl_tmflow.specs.Delivery.{IsPrefix, Outcome, Completes, StillIncomplete, Undelivered, outcome_of}
-use Rattle.sl_tmflow.specs.Incomplete.{IsIncomplete, incomplete_octets, frame_incomplete, incomplete_of, EachListedIsIncomplete, EachIncompleteIsListed}
+use Rattle.sl_tmflow.specs.Incomplete.{IsIncomplete, IsIncompleteAt, incomplete_octets, frame_incomplete, incomplete_of, EachListedIsIncomplete, EachIncompleteIsListed, IncompleteIsCounted, WhatIsCountedIsIncomplete}
 use Rattle.sl_tmflow.specs.PacketStart.{IsStart, starts_from}
 use Rattle.sl_tmflow.proofs.DeliveryLemmas.{among-left, among-right, among-flat_map}
-use Rattle.sl_tmflow.proofs.EachLemmas.{each-append, each-weaker, each-flat_map}
+use Rattle.sl_tmflow.proofs.EachLemmas.{each-append, each-weaker, each-flat_map, count_of_one, some_of_each}
 use Rattle.sl_tmflow.proofs.IncompleteLemmas.{IsIncompleteAfter, last_of, outcome_incomplete, incomplete_outcome}
-use Rattle.sl_tmflow.proofs.IncompleteListLemmas.{field_incomplete}
+use Rattle.sl_tmflow.proofs.IncompleteListLemmas.{field_incomplete, one_is_incomplete}
 use Rattle.sl_tmflow.proofs.StartLemmas.{each_is_start, is_among}
 use Rattle.sl_tmflow.proofs.StepLemmas.{incomplete_is_no_packet}
 
@@ -146,3 +145,13 @@ listed_in_frame channel octets x =
 pub each_incomplete_is_listed : EachIncompleteIsListed
 each_incomplete_is_listed channel octets x =
     subst (λ l. IsAmong octets (incomplete_of l)) (sym x.in_order) (listed_from octets x.before x.view x.run (listed_in_frame channel octets x))
+
+-- ---- how many octets they have
+
+pub incomplete_is_counted : IncompleteIsCounted
+incomplete_is_counted channel octets x =
+    count_of_one octets (incomplete_of channel) (one_is_incomplete channel) (each_incomplete_is_listed channel octets x)
+
+pub what_is_counted_is_incomplete : WhatIsCountedIsIncomplete
+what_is_counted_is_incomplete channel some =
+    some_of_each (IsIncomplete channel) (incomplete_of channel) (each_listed_is_incomplete channel) some

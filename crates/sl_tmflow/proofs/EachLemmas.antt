@@ -1,6 +1,7 @@
 -- What holds of each element of a list, and where an element stands.
-use Rattle.std.proofs.Common.{◌≡◌, ◌⊎◌, Bool, true, false, List, [], ◌∷◌, ◌++◌, length, inl, inr, refl, ap, arith}
-use Rattle.std.specs.List.{AllByRecursion, filter, flat_map}
+use Rattle.std.proofs.Common.{◌≡◌, ◌⊎◌, ℕ, ◌<◌, ◌≤◌, Bool, true, false, List, [], ◌∷◌, ◌++◌, length, inl, inr, refl, sym, ◌∙◌, ap, arith, append-nil}
+use Rattle.std.specs.List.{AllByRecursion, concat, filter, flat_map}
+use Rattle.sl_tmflow.specs.Among.{IsAmong}
 
 pub each-append : {X : Type 0} (P : X → Type 0) (xs ys : List X) → AllByRecursion P xs → AllByRecursion P ys → AllByRecursion P (xs ++ ys)
 each-append P [] ys left right = right
@@ -13,6 +14,18 @@ each-weaker P Q weaker (x ∷ xs) each = (weaker x each.0, each-weaker P Q weake
 pub each-flat_map : {X A : Type 0} (P : A → Type 0) (f : X → List A) (xs : List X) → AllByRecursion (λ x. AllByRecursion P (f x)) xs → AllByRecursion P (flat_map f xs)
 each-flat_map P f [] each = tt
 each-flat_map P f (x ∷ xs) each = each-append P (f x) (flat_map f xs) each.0 (each-flat_map P f xs each.1)
+
+-- a list of octets that is among one at most has all of the octets
+pub count_of_one : (octets : List ℕ) (all : List (List ℕ)) → length all ≤ 1 → IsAmong octets all → length (concat all) ≡ length octets
+count_of_one octets [] few there = absurd there
+count_of_one octets (one ∷ []) few (inl here) = ap length (append-nil one) ∙ ap length (sym here)
+count_of_one octets (one ∷ []) few (inr there) = absurd there
+count_of_one octets (one ∷ two ∷ more) few there = absurd (omega arith)
+
+-- and where there are octets, there is one
+pub some_of_each : (P : List ℕ → Type 0) (all : List (List ℕ)) → AllByRecursion P all → 0 < length (concat all) → (octets : List ℕ) × P octets
+some_of_each P [] each some = absurd (omega arith)
+some_of_each P (one ∷ more) each some = (one, each.0)
 
 -- a test that each element passes keeps all of them, and one that none passes keeps none
 pub filter_all : {X : Type 0} (p : X → Bool) (xs : List X) → AllByRecursion (λ x. p x ≡ true) xs → filter p xs ≡ xs

@@ -11,7 +11,7 @@ use Rattle.sl_packet.proofs.PacketsLemmas.{rest_of-concat, rest_of-none}
 use Rattle.sl_tmframe.specs.TmFrame.{TmView, DataField, Packets}
 use Rattle.sl_tmflow.specs.Channel.{data_of, packet_data, reassembly}
 use Rattle.sl_tmflow.specs.PacketStart.{IsStart}
-use Rattle.sl_tmflow.specs.Delivery.{IsDeliveredBy, Delivery, IsDelivery, EndsAreInOrder, EachEndsByTheNextStart, start_place, NoneOverlap}
+use Rattle.sl_tmflow.specs.Delivery.{IsDeliveredBy, Delivery, IsDelivery, EndsAreInOrder, EachEndsByTheNextStart, start_offset, NoneOverlap}
 use Rattle.sl_tmflow.specs.Incomplete.{HasNoStart}
 use Rattle.sl_tmflow.proofs.EachLemmas.{head_same}
 use Rattle.sl_tmflow.proofs.IncompleteLemmas.{reassembly-append, reassembly-push}
@@ -20,7 +20,7 @@ use Rattle.sl_tmflow.proofs.OutcomeLemmas.{delivered_tail, incomplete_before_mor
 -- ---- lists that begin alike
 
 -- of two beginnings of a list the longer one begins with the other
-longer_begins : {X : Type 0} (xs zs ys ws : List X) → ys ++ ws ≡ xs ++ zs → length xs ≤ length ys → (more : List X) × (ys ≡ xs ++ more) × (zs ≡ more ++ ws)
+pub longer_begins : {X : Type 0} (xs zs ys ws : List X) → ys ++ ws ≡ xs ++ zs → length xs ≤ length ys → (more : List X) × (ys ≡ xs ++ more) × (zs ≡ more ++ ws)
 longer_begins xs zs ys ws same fewer =
     let n = length xs in
     let first : take n ys ≡ xs = sym (take-append-le n ys ws fewer) ∙ ap (take n) same ∙ take_at xs zs n refl in
@@ -51,7 +51,7 @@ rest_within : (octets : List ℕ) → length (rest_of octets) ≤ length octets
 rest_within octets = omega (arith, length-drop (length (concat (packets_of octets))) octets)
 
 -- where another packet starts later in the field, a packet is whole
-not_last_is_whole : (octets : List ℕ) (first : Option ℕ) (start later : ℕ)
+pub not_last_is_whole : (octets : List ℕ) (first : Option ℕ) (start later : ℕ)
     → IsStart octets first start → IsStart octets first later → start < later → front (drop start octets) ≡ Incomplete → ⊥
 not_last_is_whole octets first start later s t less incomplete =
     let none = λ (len : ℕ) (whole : front (drop start octets) ≡ Whole len). let both : Incomplete ≡ Whole len = sym incomplete ∙ whole in absurd (cc) in
@@ -80,7 +80,7 @@ no_start_before_last view octets (v ∷ earlier) next second run packet d =
 
 -- ---- of two deliveries
 
-at_start : (x : DataField) (first : Option ℕ) (octets : List ℕ) (first' : Option ℕ) (octets' : List ℕ)
+pub at_start : (x : DataField) (first : Option ℕ) (octets : List ℕ) (first' : Option ℕ) (octets' : List ℕ)
     → x ≡ Packets first octets → x ≡ Packets first' octets' → (first' ≡ first) × (octets' ≡ octets)
 at_start x first octets first' octets' is is' = let same : Packets first octets ≡ Packets first' octets' = sym is ∙ is' in (cc, cc)
 
@@ -191,7 +191,7 @@ begins_in_frame view octets run packet d none =
     d.ends.1 ∙ ap (reassembly octets) (nil_from_length run none) ∙ append-nil octets
 
 apart_in_one_frame : (channel : List TmView) (d e : Delivery) → IsDelivery channel d → IsDelivery channel e → d.frame ≡ e.frame → d.start < e.start
-    → start_place channel d + length d.packet ≤ start_place channel e
+    → start_offset channel d + length d.packet ≤ start_offset channel e
 apart_in_one_frame channel d e x y same less =
     let start = start_in_frame channel d e x y same in
     let here = ends_in_its_frame x.view x.octets x.first d.start e.start x.run d.packet x.start start less x.delivered in
@@ -199,9 +199,9 @@ apart_in_one_frame channel d e x y same less =
     (begins_in_frame x.view (drop d.start x.octets) x.run d.packet x.delivered here) in
     omega (arith, past, ap (λ n. length (reassembly [] (take n channel))) same)
 
--- the place of a delivery's start, by the frames before it
-place_is : (channel : List TmView) (d : Delivery) (x : IsDelivery channel d) → start_place channel d ≡ length (reassembly [] x.before) + d.start
-place_is channel d x =
+-- the offset of a delivery's start, by the frames before it
+offset_is : (channel : List TmView) (d : Delivery) (x : IsDelivery channel d) → start_offset channel d ≡ length (reassembly [] x.before) + d.start
+offset_is channel d x =
     let before : take d.frame channel ≡ x.before =
     ap (λ l. take d.frame l) (from_frame channel d x) ∙ ap (λ n. take n (x.before ++ x.view ∷ (x.run ++ x.after))) x.frame
     ∙ take_at x.before (x.view ∷ (x.run ++ x.after)) (length x.before) refl in
@@ -232,7 +232,7 @@ ends_by_pointer view octets run after packet earlier next later pointer field d 
     ]
 
 apart_in_later_frame : (channel : List TmView) (d e : Delivery) → IsDelivery channel d → IsDelivery channel e → d.frame < e.frame
-    → start_place channel d + length d.packet ≤ start_place channel e
+    → start_offset channel d + length d.packet ≤ start_offset channel e
 apart_in_later_frame channel d e x y less =
     let (earlier, is, rest) = frames_between channel d e x y less in
     let carried : length (packet_data x.view) ≡ length x.octets = ap (λ f. length (data_of f)) x.field in
@@ -248,8 +248,8 @@ apart_in_later_frame channel d e x y less =
     let inside = x.start.inside in
     let here = y.start.here in
     let dropped = length-drop d.start x.octets in
-    let from = place_is channel d x in
-    let to = place_is channel e y in
+    let from = offset_is channel d x in
+    let to = offset_is channel e y in
     omega arith
 
 pub none_overlap : NoneOverlap

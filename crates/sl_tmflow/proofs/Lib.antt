@@ -19,6 +19,7 @@ pub mod IncompleteLemmas
 pub mod IncompleteListLemmas
 pub mod LeastStartLemmas
 pub mod OneMoreLemmas
+pub mod OneStartLemmas
 pub mod OutcomeLemmas
 pub mod PushLemmas
 pub mod RecordingLemmas

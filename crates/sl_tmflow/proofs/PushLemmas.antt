@@ -11,7 +11,7 @@ use Rattle.sl_packet.proofs.FrontLemmas.{packet_is_whole}
 use Rattle.sl_tmframe.specs.TmFrame.{TmView, DataField, Packets, Idle, Opaque}
 use Rattle.sl_tmflow.specs.Channel.{channel_of, data_of, packet_data}
 use Rattle.sl_tmflow.specs.PacketStart.{starts_from, starts_of, whole_packets}
-use Rattle.sl_tmflow.specs.Delivery.{Delivery, Outcome, Completes, StillIncomplete, Undelivered, Continuation, Ends, Continues, Breaks, ended, step_of, after_step, outcome_of_front, outcome_of, delivery_of, frame_deliveries, deliveries_from, deliveries_of, packets_delivered, packets_ending}
+use Rattle.sl_tmflow.specs.Delivery.{Delivery, Outcome, Completes, StillIncomplete, Undelivered, Continuation, Ends, Continues, Breaks, ended, step_of, after_step, outcome_of_front, outcome_of, delivery_of, frame_deliveries, deliveries_from, deliveries_of, packets_delivered, packets_ending, PacketsEndOnce}
 use Rattle.sl_tmflow.specs.Incomplete.{HasNoStart, incomplete_octets, frame_incomplete, incomplete_of}
 use Rattle.sl_tmflow.proofs.AtStartsLemmas.{flat_map-pieces, at_rest, at_starts}
 use Rattle.sl_tmflow.proofs.ChannelLemmas.{same_seen, other_seen}
@@ -174,8 +174,7 @@ delivered_from number frame (view ∷ later) next here =
     ∙ ap (λ l. packets_delivered (now ++ rest) ++ l) (sym (packets_at-append number now' rest'))
 
 -- the packets of a channel with one frame more are those before, and then those that end in that frame
-pub delivered_push : (channel : List TmView) (next : TmView)
-    → packets_delivered (deliveries_of (channel ++ next ∷ [])) ≡ packets_delivered (deliveries_of channel) ++ packets_ending channel next
+pub delivered_push : PacketsEndOnce
 delivered_push channel next = delivered_from (length channel) 0 channel next (omega arith)
 
 -- and those of each channel of frames are, where the frame is one of its own, and else those before

@@ -1,7 +1,7 @@
 -- What is amiss in the next frame of a virtual channel, CCSDS 132.0-B: a gap in the virtual channel frame
 -- counts before it, an incomplete packet that it breaks off, and octets of another packet version than 0 at a
 -- packet start.
-use Rattle.std.specs.Prelude.{◌≡◌, ◌≢◌, ℕ, ◌+◌, ◌%◌, ◌≤◌, Bool, true, false, if◌then◌else◌, List, [], ◌∷◌, ◌++◌, length, drop, Option, None, Some}
+use Rattle.std.specs.Prelude.{◌≡◌, ◌≢◌, ℕ, ◌+◌, ◌%◌, ◌<◌, ◌≤◌, Bool, true, false, if◌then◌else◌, List, [], ◌∷◌, ◌++◌, length, drop, Option, None, Some}
 use Rattle.std.specs.List.{AllByRecursion, concat, flat_map, list_any}
 use Rattle.sl_packet.specs.Front.{is_foreign}
 use Rattle.sl_packet.specs.Packet.{version_of}
@@ -9,7 +9,7 @@ use Rattle.sl_tmframe.specs.TmFrame.{TmView, DataField, Packets}
 use Rattle.sl_tmflow.specs.Among.{IsAmong}
 use Rattle.sl_tmflow.specs.Channel.{data_of, follows, is_consecutive, last_count, packet_data}
 use Rattle.sl_tmflow.specs.Delivery.{Delivery, IsDelivery, Outcome, Completes, StillIncomplete, Undelivered, outcome_of}
-use Rattle.sl_tmflow.specs.Incomplete.{IsIncomplete, IsShort}
+use Rattle.sl_tmflow.specs.Incomplete.{IsIncompleteAt, IsShort}
 use Rattle.sl_tmflow.specs.PacketStart.{IsStart, starts_of}
 
 -- ---- gaps
@@ -33,13 +33,6 @@ abbrev pub gap_of : List TmView → TmView → Option ℕ
 gap_of channel next = gap_after (last_count channel) next.vc_count
 
 -- ---- packets that are broken off
-
--- the packet that starts in the frame of a number, counted from 0, and at this offset in its data field is
--- incomplete after the channel's last frame, with these octets so far
-pub record IsIncompleteAt (channel : List TmView) (frame start : ℕ) (octets : List ℕ) : Type 0 where
-  pub incomplete : IsIncomplete channel octets
-  pub in_frame : frame ≡ length incomplete.before
-  pub at : start ≡ incomplete.offset
 
 -- A packet is incomplete after the channel's last frame, with these octets so far; after the next frame it is
 -- not, and it isn't delivered with that frame.
@@ -115,6 +108,16 @@ OneIsBrokenOff = (channel : List TmView) (next : TmView) → length (broken_off 
 -- with one to 65,541 octets so far
 abbrev pub BrokenOffIsShort : Type 0
 BrokenOffIsShort = (channel : List TmView) (next : TmView) → AllByRecursion IsShort (broken_off channel next)
+
+-- as many octets are told as dropped as the packet has that is broken off,
+abbrev pub BrokenOffIsTold : Type 0
+BrokenOffIsTold =
+    (channel : List TmView) (next : TmView) (octets : List ℕ) → IsBrokenOff channel next octets → dropped_of channel next ≡ length octets
+
+-- and where some are told, there is such a packet
+abbrev pub WhatIsToldIsBrokenOff : Type 0
+WhatIsToldIsBrokenOff =
+    (channel : List TmView) (next : TmView) → 0 < dropped_of channel next → (octets : List ℕ) × IsBrokenOff channel next octets
 
 -- a data field is told to have octets of another version at a packet start where it does,
 abbrev pub EachForeignStartIsTold : Type 0

@@ -185,6 +185,12 @@ DeliveriesAreInOrder = (channel : List TmView) → AreInOrder (deliveries_of cha
 
 -- ---- where packets end
 
+-- the packets that a channel with one frame more delivers are those before, and those that end in that frame;
+abbrev pub PacketsEndOnce : Type 0
+PacketsEndOnce =
+    (channel : List TmView) (next : TmView)
+    → packets_delivered (deliveries_of (channel ++ next ∷ [])) ≡ packets_delivered (deliveries_of channel) ++ packets_ending channel next
+
 -- packets in the order of their starts are in the order of their ends:
 abbrev pub EndsAreInOrder : Type 0
 EndsAreInOrder =
@@ -195,12 +201,12 @@ abbrev pub EachEndsByTheNextStart : Type 0
 EachEndsByTheNextStart =
     (channel : List TmView) (d e : Delivery) → IsDelivery channel d → IsDelivery channel e → StartsBefore d e → d.ending ≤ e.frame
 
--- the place at which a packet starts in the packet data of the channel's frames, end to end
-abbrev pub start_place : List TmView → Delivery → ℕ
-start_place channel d = length (reassembly [] (take d.frame channel)) + d.start
+-- the offset at which a packet starts in the packet data of the channel's frames, end to end
+abbrev pub start_offset : List TmView → Delivery → ℕ
+start_offset channel d = length (reassembly [] (take d.frame channel)) + d.start
 
 -- and there it ends before that start, or at it: no two packets share an octet
 abbrev pub NoneOverlap : Type 0
 NoneOverlap =
     (channel : List TmView) (d e : Delivery) → IsDelivery channel d → IsDelivery channel e → StartsBefore d e
-    → start_place channel d + length d.packet ≤ start_place channel e
+    → start_offset channel d + length d.packet ≤ start_offset channel e

@@ -1,8 +1,8 @@
 -- Incomplete packets of a virtual channel, CCSDS 132.0-B: those that start in one of its frames and go on past
 -- the last one. That the first header pointer of a frame agrees with the packet is this project's mission
 -- profile.
-use Rattle.std.specs.Prelude.{◌≡◌, ◌≢◌, ℕ, ◌≤◌, List, [], ◌∷◌, ◌++◌, length, drop, Option, None}
-use Rattle.std.specs.List.{AllByRecursion, flat_map}
+use Rattle.std.specs.Prelude.{◌≡◌, ◌≢◌, ℕ, ◌<◌, ◌≤◌, List, [], ◌∷◌, ◌++◌, length, drop, Option, None}
+use Rattle.std.specs.List.{AllByRecursion, concat, flat_map}
 use Rattle.sl_packet.specs.Packet.{version_of, IsPacket}
 use Rattle.sl_tmframe.specs.TmFrame.{TmView, Packets, Opaque}
 use Rattle.sl_tmflow.specs.Among.{IsAmong}
@@ -40,6 +40,14 @@ pub record IsIncomplete (channel : List TmView) (octets : List ℕ) : Type 0 whe
   -- and the pointer of each frame of packets agrees with the packet, which covers the data field
   pub no_start : AllByRecursion HasNoStart run
 
+-- The packet that starts in the frame of a number, counted from 0, and at this offset in its data field is
+-- incomplete after the channel's last frame, with these octets so far. It adds the two numbers alone: each
+-- `IsIncomplete` is one at those of its own frame and start.
+pub record IsIncompleteAt (channel : List TmView) (frame start : ℕ) (octets : List ℕ) : Type 0 where
+  pub incomplete : IsIncomplete channel octets
+  pub in_frame : frame ≡ length incomplete.before
+  pub at : start ≡ incomplete.offset
+
 -- ---- the octets so far of each, listed
 
 -- of a packet start, by its outcome
@@ -68,7 +76,15 @@ EachListedIsIncomplete = (channel : List TmView) → AllByRecursion (IsIncomplet
 abbrev pub EachIncompleteIsListed : Type 0
 EachIncompleteIsListed = (channel : List TmView) (octets : List ℕ) → IsIncomplete channel octets → IsAmong octets (incomplete_of channel)
 
--- at most one packet is incomplete after a frame,
+-- at most one packet start of a channel is incomplete after its last frame: two are in the same frame and at the
+-- same offset, with the same octets so far;
+abbrev pub OneStartIsIncomplete : Type 0
+OneStartIsIncomplete =
+    (channel : List TmView) (frame start : ℕ) (octets : List ℕ) (other_frame other_start : ℕ) (others : List ℕ)
+    → IsIncompleteAt channel frame start octets → IsIncompleteAt channel other_frame other_start others
+    → (frame ≡ other_frame) × (start ≡ other_start) × (octets ≡ others)
+
+-- so at most one is listed,
 abbrev pub OneIsIncomplete : Type 0
 OneIsIncomplete = (channel : List TmView) → length (incomplete_of channel) ≤ 1
 
@@ -78,3 +94,13 @@ IsShort octets = (1 ≤ length octets) × (length octets ≤ 65541)
 
 abbrev pub IncompleteIsShort : Type 0
 IncompleteIsShort = (channel : List TmView) → AllByRecursion IsShort (incomplete_of channel)
+
+-- the octets of all that are listed are as many as the packet has that is incomplete,
+abbrev pub IncompleteIsCounted : Type 0
+IncompleteIsCounted =
+    (channel : List TmView) (octets : List ℕ) → IsIncomplete channel octets → length (concat (incomplete_of channel)) ≡ length octets
+
+-- and where there are some, there is such a packet
+abbrev pub WhatIsCountedIsIncomplete : Type 0
+WhatIsCountedIsIncomplete =
+    (channel : List TmView) → 0 < length (concat (incomplete_of channel)) → (octets : List ℕ) × IsIncomplete channel octets

@@ -24,10 +24,6 @@ pub struct Extractor {
 }
 
 impl Model for Extractor {
-    ghost use Rattle.std.specs.List.{concat};
-    ghost use Rattle.sl_tmflow.specs.Anomaly.{dropped_of, foreign_of, gap_of};
-    ghost use Rattle.sl_tmflow.specs.Channel.{channel_of};
-    ghost use Rattle.sl_tmflow.specs.Incomplete.{incomplete_of};
     ghost use Rattle.sl_tmflow.specs.Extraction.{ExtractorState};
 
     ghost Value = { ExtractorState };

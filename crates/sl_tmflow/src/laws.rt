@@ -1,10 +1,12 @@
 //! What holds of the definitions alone. Each function does nothing; its clauses are the laws.
 ghost use Rattle.sl_tmflow.specs.Anomaly.{EachGapIsTold, EachToldIsAGap, EachListedIsBrokenOff, EachBrokenOffIsListed, OneIsBrokenOff, BrokenOffIsShort};
+ghost use Rattle.sl_tmflow.specs.Anomaly.{BrokenOffIsTold, WhatIsToldIsBrokenOff};
 ghost use Rattle.sl_tmflow.specs.Anomaly.{EachForeignStartIsTold, EachToldIsAForeignStart};
 ghost use Rattle.sl_tmflow.specs.Canonical.{NormalFormIsFrames, NormalFormDelivers, RecordedListsAreDeliverable};
 ghost use Rattle.sl_tmflow.specs.Delivery.{EachIsDelivery, EachIsListed, DeliveriesAreInOrder};
-ghost use Rattle.sl_tmflow.specs.Delivery.{EndsAreInOrder, EachEndsByTheNextStart, NoneOverlap};
-ghost use Rattle.sl_tmflow.specs.Incomplete.{EachListedIsIncomplete, EachIncompleteIsListed, OneIsIncomplete, IncompleteIsShort};
+ghost use Rattle.sl_tmflow.specs.Delivery.{PacketsEndOnce, EndsAreInOrder, EachEndsByTheNextStart, NoneOverlap};
+ghost use Rattle.sl_tmflow.specs.Incomplete.{EachListedIsIncomplete, EachIncompleteIsListed, OneStartIsIncomplete, OneIsIncomplete, IncompleteIsShort};
+ghost use Rattle.sl_tmflow.specs.Incomplete.{IncompleteIsCounted, WhatIsCountedIsIncomplete};
 ghost use Rattle.sl_tmflow.specs.NormalForm.{EachFillIsLeast, EachPointerIsLeast};
 ghost use Rattle.sl_tmflow.specs.PacketStart.{EachIsStart, EachStartIsListed};
 
@@ -22,6 +24,12 @@ pub fn tm_deliveries_are_listed()
     ensures in_order { DeliveriesAreInOrder }
 {}
 
+/// The packets of a virtual channel, told one frame after another: those that end in a frame come after those before
+/// it.
+pub fn tm_packets_end_once()
+    ensures { PacketsEndOnce }
+{}
+
 /// Packets in the order of their starts are in the order of their ends: each has ended by the frame in which
 /// the next one starts, and no two share an octet. At most one is incomplete after a frame, of one to 65,541
 /// octets.
@@ -33,11 +41,15 @@ pub fn tm_packets_end_in_order()
     ensures short { IncompleteIsShort }
 {}
 
-/// The packets that are incomplete after the last frame of a virtual channel, listed: each is, and each that is
-/// is listed.
+/// The packets that are incomplete after the last frame of a virtual channel, listed by their octets so far: each is,
+/// each that is is listed, and it is the packet of one packet start at most. The octets of the list are as many as it
+/// has, and none where there is none.
 pub fn tm_incomplete_packets_are_listed()
     ensures each { EachListedIsIncomplete }
     ensures all { EachIncompleteIsListed }
+    ensures one { OneStartIsIncomplete }
+    ensures counted { IncompleteIsCounted }
+    ensures is_counted { WhatIsCountedIsIncomplete }
 {}
 
 /// A virtual channel frame count that doesn't come after the one of the channel's last frame is told with the
@@ -49,12 +61,14 @@ pub fn tm_gaps_are_told()
 
 /// The packets that were incomplete before a frame of a virtual channel, and that it neither ends nor goes on with,
 /// listed by their octets so far: each is broken off by the frame, each that is is listed, and it is one at most, with
-/// one to 65,541 octets.
+/// one to 65,541 octets. As many octets are told as dropped as it has, and none where there is none.
 pub fn tm_broken_packets_are_listed()
     ensures each { EachListedIsBrokenOff }
     ensures all { EachBrokenOffIsListed }
     ensures one { OneIsBrokenOff }
     ensures short { BrokenOffIsShort }
+    ensures told { BrokenOffIsTold }
+    ensures is_told { WhatIsToldIsBrokenOff }
 {}
 
 /// A data field is told to have octets of another packet version than 0 at a packet start where it does, and only

@@ -1,5 +1,5 @@
 //! The normal form of delivered packets.
-ghost use Rattle.std.specs.Prelude.{◌≡◌, ◌≢◌, ◌+◌, ◌-◌, ◌*◌, ◌%◌, ◌/◌, ◌<◌, ◌≤◌, ◌++◌, nat_lt, if◌then◌else◌, [], None, Some, length, take, drop, map, option_map, IfOk, OnOk, OnErr, IfSome};
+ghost use Rattle.std.specs.Prelude.{◌≡◌, ◌≢◌, ◌+◌, ◌*◌, ◌%◌, ◌/◌, ◌<◌, ◌≤◌, ◌++◌, nat_lt, if◌then◌else◌, [], None, Some, length, take, drop, map, IfOk, OnOk, OnErr, IfSome};
 ghost use Rattle.std.specs.List.{AllByRecursion, concat};
 ghost use Rattle.std.specs.Vec.{vec_items};
 ghost use Rattle.sl_packet.specs.Delivered.{FitsTm, HasNone, IsDeliverable};

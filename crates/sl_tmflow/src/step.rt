@@ -35,15 +35,14 @@ pub(crate) const NOTHING: TmStep = TmStep {
 };
 
 impl TmStep {
-    /// Packets that end in the frame, idle ones left out: together with those at most 2,043, one that began
-    /// in an earlier frame and those that begin in this one's data field.
+    /// Packets that end in the frame, idle ones left out.
     pub fn packets(&self) -> u32
         ensures { result ≡ self.now.packets }
     {
         self.packets
     }
 
-    /// Idle packets that end in the frame. See [`packets`](TmStep::packets) for how many there can be.
+    /// Idle packets that end in the frame.
     pub fn idle(&self) -> u32
         ensures { result ≡ self.now.idle }
     {

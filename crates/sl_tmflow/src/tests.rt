@@ -154,6 +154,18 @@ fn what_is_amiss_in_a_frame_is_told(rt: HostRuntime) -> Result<(), Fail> {
         (Some(3), 0, true)
     );
     assert_eq!(rt; (step.packets(), step.idle()), (1, 0));
+    // After count 255 count 0 is expected. An idle packet isn't foreign.
+    let step = made(&mut extractor, &FOREIGN, &mut delivered)?;
+    assert_eq!(rt;
+        (step.gap(), step.dropped(), step.foreign()),
+        (Some(0), 0, true)
+    );
+    let step = made(&mut extractor, &FILLED, &mut delivered)?;
+    assert_eq!(rt;
+        (step.gap(), step.dropped(), step.foreign()),
+        (None, 0, false)
+    );
+    assert_eq!(rt; (step.packets(), step.idle()), (1, 1));
     Ok(())
 }
 

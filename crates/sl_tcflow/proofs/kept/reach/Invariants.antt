@@ -7,4 +7,4 @@ abbrev pub invariant-loop-alloc : goal.invariant-loop-alloc
 invariant-loop-alloc l = (other : ℕ) → at l.incomplete.items other ≡ at l.initial.incomplete.items other
 
 abbrev pub decreases-loop-alloc : goal.decreases-loop-alloc
-decreases-loop-alloc l = l.place + 1 - vec_len l.incomplete
+decreases-loop-alloc l = l.index + 1 - vec_len l.incomplete

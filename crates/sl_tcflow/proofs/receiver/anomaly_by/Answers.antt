@@ -15,7 +15,7 @@ returns-in-Some-clause-stray c w vr views are is =
     c.vc.result c.map.result c.held_on-held.result are (omega (arith, c.vc.ensures.value, c.vc.ensures.fits))
     (unit_on c.args.verdict _ w vr views c.args.frame.now (unit ∷ []) is c.content.ensures.value c.in-Some.ensures.unit)
     (ap map_of (sym c.content.ensures.value) ∙ c.in-Some.ensures.map) c.vc.ensures.value
-    (c.map.ensures.value ∙ ap (λ h. h.map) c.split_segment-header.ensures.header) c.held_on-held.ensures.octets
+    (c.map.ensures.value ∙ ap (λ h. h.map) c.split_unit-header.ensures.header) c.held_on-held.ensures.octets
 
 pub returns-in-Some-clause-dropped : goal.returns-in-Some-clause-dropped
 returns-in-Some-clause-dropped c w vr views are is =
@@ -25,7 +25,7 @@ returns-in-Some-clause-dropped c w vr views are is =
     c.vc.result c.map.result c.held_on-held.result are (omega (arith, c.vc.ensures.value, c.vc.ensures.fits))
     (unit_on c.args.verdict _ w vr views c.args.frame.now (unit ∷ []) is c.content.ensures.value c.in-Some.ensures.unit)
     (ap map_of (sym c.content.ensures.value) ∙ c.in-Some.ensures.map) c.vc.ensures.value
-    (c.map.ensures.value ∙ ap (λ h. h.map) c.split_segment-header.ensures.header) c.held_on-held.ensures.octets
+    (c.map.ensures.value ∙ ap (λ h. h.map) c.split_unit-header.ensures.header) c.held_on-held.ensures.octets
 
 pub returns-in-Some-clause-long : goal.returns-in-Some-clause-long
 returns-in-Some-clause-long c w vr views are is =
@@ -35,7 +35,7 @@ returns-in-Some-clause-long c w vr views are is =
     c.vc.result c.map.result c.held_on-held.result are (omega (arith, c.vc.ensures.value, c.vc.ensures.fits))
     (unit_on c.args.verdict _ w vr views c.args.frame.now (unit ∷ []) is c.content.ensures.value c.in-Some.ensures.unit)
     (ap map_of (sym c.content.ensures.value) ∙ c.in-Some.ensures.map) c.vc.ensures.value
-    (c.map.ensures.value ∙ ap (λ h. h.map) c.split_segment-header.ensures.header) c.held_on-held.ensures.octets
+    (c.map.ensures.value ∙ ap (λ h. h.map) c.split_unit-header.ensures.header) c.held_on-held.ensures.octets
 
 pub returns-in-None-clause-stray : goal.returns-in-None-clause-stray
 returns-in-None-clause-stray c w vr views are is =

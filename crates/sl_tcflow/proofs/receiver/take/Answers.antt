@@ -58,27 +58,27 @@ returns-in-None-clause-tail g c w vr views are is =
 pub returns-in-Ok-clause-accepted : goal.returns-in-Ok-clause-accepted
 returns-in-Ok-clause-accepted g c w vr views are is =
     let unit = c.in-Some.unit.now in
-    let place = channel_at c.vc.result (header_at unit).map in
-    let ended = ended_more w vr c.args.incomplete.now.items views c.args.frame.now unit place
+    let index = channel_at c.vc.result (header_at unit).map in
+    let ended = ended_more w vr c.args.incomplete.now.items views c.args.frame.now unit index
     are (omega (arith, c.vc.ensures.value, c.vc.ensures.fits))
     (unit_on c.args.verdict _ w vr views c.args.frame.now (unit ∷ []) is c.content.ensures.value c.in-Some.ensures.unit)
     (ap map_of (sym c.content.ensures.value) ∙ c.in-Some.ensures.map) (ap (λ n. channel_at n (header_at unit).map) c.vc.ensures.value) in
     let channel = unit_channel_is c.vc.result _ unit c.args.frame.now c.vc.ensures.value c.content.ensures.value c.in-Some.ensures.map in
     subst (λ n. TakesAll g.S.PacketSink.taking c.args.sink.now n (without_idle (ended_by w vr views c.args.frame.now)) c.take_unit.new.sink) channel
-    (subst (λ l. TakesAll g.S.PacketSink.taking c.args.sink.now place (without_idle l) c.take_unit.new.sink) (sym ended) c.in-Ok.ensures.accepted)
+    (subst (λ l. TakesAll g.S.PacketSink.taking c.args.sink.now index (without_idle l) c.take_unit.new.sink) (sym ended) c.in-Ok.ensures.accepted)
 
 pub returns-in-Err-clause-stopped : goal.returns-in-Err-clause-stopped
 returns-in-Err-clause-stopped g c w vr views are is =
     let unit = c.in-Some.unit.now in
-    let place = channel_at c.vc.result (header_at unit).map in
-    let ended = ended_more w vr c.args.incomplete.now.items views c.args.frame.now unit place
+    let index = channel_at c.vc.result (header_at unit).map in
+    let ended = ended_more w vr c.args.incomplete.now.items views c.args.frame.now unit index
     are (omega (arith, c.vc.ensures.value, c.vc.ensures.fits))
     (unit_on c.args.verdict _ w vr views c.args.frame.now (unit ∷ []) is c.content.ensures.value c.in-Some.ensures.unit)
     (ap map_of (sym c.content.ensures.value) ∙ c.in-Some.ensures.map) (ap (λ n. channel_at n (header_at unit).map) c.vc.ensures.value) in
     let channel = unit_channel_is c.vc.result _ unit c.args.frame.now c.vc.ensures.value c.content.ensures.value c.in-Some.ensures.map in
     subst (λ n. IsStopped g.S.PacketSink.taking g.S.PacketSink.failing g.S.PacketSink.failures c.args.sink.now n
     (without_idle (ended_by w vr views c.args.frame.now)) c.in-Err.flow c.take_unit.new.sink) channel
-    (subst (λ l. IsStopped g.S.PacketSink.taking g.S.PacketSink.failing g.S.PacketSink.failures c.args.sink.now place
+    (subst (λ l. IsStopped g.S.PacketSink.taking g.S.PacketSink.failing g.S.PacketSink.failures c.args.sink.now index
     (without_idle l) c.in-Err.flow c.take_unit.new.sink) (sym ended) c.in-Err.ensures.stopped)
 
 pub returns-in-Err-clause-memory : goal.returns-in-Err-clause-memory

@@ -20,8 +20,8 @@ loop-mid-preserved c =
     let channel = take 64 (drop (64 * c.args.vc) lists) in
     let here = slice_index_or lists (c.args.vc * 64 + mid) [] in
     let segments = flat_map (segments_of_packet (room_of format) mid) in
-    let place : c.from.result * 64 + c.from-in-loop-mid.result ≡ c.args.vc * 64 + mid = omega (arith, c.from.ensures, c.from-in-loop-mid.ensures) in
-    let packets = c.list-packets.ensures.packets ∙ ap (λ n. list_at c.args.delivered.now n) place in
+    let index : c.from.result * 64 + c.from-in-loop-mid.result ≡ c.args.vc * 64 + mid = omega (arith, c.from.ensures, c.from-in-loop-mid.ensures) in
+    let packets = c.list-packets.ensures.packets ∙ ap (λ n. list_at c.args.delivered.now n) index in
     let all = next_map (room_of format) c.args.vc mid lists c.requires.vc c.loop-mid-test.true c.list-packets.ensures.channels in
     let pushed : IsPushed format c.args.spacecraft c.args.vc c.args.form.now.items c.args.vr (segments_of_maps (room_of format) 0 (take (mid + 1) channel)) c.in_ok-ns.ns c.push_packets.new.form.items =
     subst (λ l. IsPushed format c.args.spacecraft c.args.vc c.args.form.now.items c.args.vr l c.in_ok-ns.ns c.push_packets.new.form.items)
@@ -31,7 +31,7 @@ loop-mid-preserved c =
     (c.in_ok-ns.ensures.frames ∙ ap (λ ps. form ++ concat (frames_of_segments format c.args.spacecraft c.args.vc c.loop-mid.ns (segments ps))) packets)
     (c.in_ok-ns.ensures.next ∙ ap (λ ps. (c.loop-mid.ns + length (segments ps)) % 256) packets)) in
     let due = next_due c.args.vc mid lists here c.requires.vc c.loop-mid-test.true c.list-packets.ensures.channels refl c.loop-mid.invariant.1
-    (subst (AllByRecursion IsDeliverable) (ap (λ n. list_at c.args.delivered.now n) place) c.list-packets.ensures.deliverable) in
+    (subst (AllByRecursion IsDeliverable) (ap (λ n. list_at c.args.delivered.now n) index) c.list-packets.ensures.deliverable) in
     (pushed, due, λ some. c.list-packets.ensures.channels)
 
 pub returns-clause-frames : goal.returns-clause-frames

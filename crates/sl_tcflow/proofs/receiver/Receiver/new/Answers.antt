@@ -1,6 +1,6 @@
 use Rattle.std.proofs.Common.{ap, replicate}
-use Rattle.sl_tcflow.proofs.FarmLemmas.{received_none}
+use Rattle.sl_tcflow.proofs.FarmLemmas.{processed_none}
 use Rattle.sl_tcflow.proofs.receiver.Receiver.new.Goals as goal
 
 pub returns : goal.returns
-returns c = received_none c.args.window c.args.vr _ c.new-2.result.items (ap (replicate 64) c.new.ensures) c.new-2.ensures.items
+returns c = processed_none c.args.window c.args.vr _ c.new-2.result.items (ap (replicate 64) c.new.ensures) c.new-2.ensures.items

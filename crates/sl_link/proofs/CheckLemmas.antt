@@ -1,11 +1,8 @@
 -- What is amiss in the frames of a recording, frame by frame.
-use Rattle.std.proofs.Common.{◌≡◌, ℕ, ◌+◌, ◌*◌, ◌<◌, ◌≤◌, List, [], ◌∷◌, ◌++◌, length, Option, Result, Ok, Err, refl, sym, ◌∙◌, ap, subst, arith, append_assoc, append-nil, length-append}
-use Rattle.std.specs.Result.{result_ok}
-use Rattle.std.specs.List.{concat, cons_option}
+use Rattle.std.proofs.Common.{◌≡◌, ℕ, ◌+◌, ◌*◌, ◌<◌, ◌≤◌, List, [], ◌∷◌, ◌++◌, length, Option, refl, sym, ◌∙◌, ap, subst, arith, length-append}
+use Rattle.std.specs.List.{concat}
 use Rattle.std.proofs.lemmas.List.Folds.{concat-append}
-use Rattle.sl_tmframe.specs.declared.tm_frame.TmSkip.{TmSkip}
 use Rattle.sl_tmframe.specs.TmDelimited.{tm_frames_of}
-use Rattle.sl_tmframe.specs.TmFrame.{TmView}
 use Rattle.sl_tmflow.specs.Channel.{views_of}
 use Rattle.sl_tmflow.specs.Recording.{recorded_views}
 use Rattle.sl_tmflow.specs.Extraction.{ExtractorState, HasProcessed}
@@ -15,58 +12,21 @@ use Rattle.sl_link.specs.declared.link_fault.LinkFault.{LinkFault}
 use Rattle.sl_link.specs.Checking.{AreChecked}
 use Rattle.sl_link.specs.CheckTm.{tm_amiss, tm_amiss_from}
 use Rattle.sl_link.specs.Deliver.{as_read}
-use Rattle.sl_link.specs.Delivering.{with_frame}
 use Rattle.sl_link.specs.Managed.{Parameters, tm_format}
 use Rattle.sl_link.specs.Streams.{AddsText, StopsListing, WritesText}
 use Rattle.std.proofs.KnownBytes.{Appends-nil}
 use Rattle.sl_link.specs.Counted.{stream_of}
 use Rattle.sl_link.proofs.AddingLemmas.{AddsText-trans, all_written, stops_waiting}
+use Rattle.sl_link.proofs.DeliveringLemmas.{views_after}
+use Rattle.sl_link.proofs.FrameLinesLemmas.{from-append, from-last}
 use Rattle.sl_link.proofs.OverFramesLemmas.{AreTaken, all_taken, all_told, taken_first}
 
--- ---- the frames that were read
-
--- after more frames
-abbrev pub views_after : Parameters → List TmView → List (List ℕ) → List TmView
-views_after p views [] = views
-views_after p views (frame ∷ frames) = views_after p (with_frame views (as_read p frame)) frames
-
-one_seen : (views : List TmView) (r : Result TmView TmSkip) (later : List TmView) → with_frame views r ++ later ≡ views ++ cons_option (result_ok r) later
-one_seen views (Ok view) later = append_assoc views (view ∷ []) later
-one_seen views (Err reason) later = refl
-
-after_seen : (p : Parameters) (views : List TmView) (frames : List (List ℕ))
-    → views_after p views frames ≡ views ++ views_of (tm_format p) p.spacecraft frames
-after_seen p views [] = sym (append-nil views)
-after_seen p views (frame ∷ frames) =
-    after_seen p (with_frame views (as_read p frame)) frames ∙ one_seen views (as_read p frame) (views_of (tm_format p) p.spacecraft frames)
-
-pub all_seen : (p : Parameters) (frames : List (List ℕ)) → views_after p [] frames ≡ views_of (tm_format p) p.spacecraft frames
-all_seen p frames = after_seen p [] frames
-
 -- ---- their lines
-
-pub amiss-append : (p : Parameters) (offset : ℕ) (views : List TmView) (xs ys : List (List ℕ))
-    → tm_amiss_from p offset views (xs ++ ys) ≡ tm_amiss_from p offset views xs ++ tm_amiss_from p (offset + length (concat xs)) (views_after p views xs) ys
-amiss-append p offset views [] ys =
-    let e : offset ≡ offset + 0 = omega arith in ap (λ n. tm_amiss_from p n views ys) e
-amiss-append p offset views (x ∷ xs) ys =
-    let head = tm_amiss offset views (as_read p x) in
-    let seen = with_frame views (as_read p x) in
-    let first = tm_amiss_from p (offset + length x) seen xs in
-    let e : (offset + length x) + length (concat xs) ≡ offset + length (x ++ concat xs) = omega (arith, length-append x (concat xs)) in
-    ap (λ l. head ++ l) (amiss-append p (offset + length x) seen xs ys ∙ ap (λ n. first ++ tm_amiss_from p n (views_after p seen xs) ys) e)
-    ∙ sym (append_assoc head first (tm_amiss_from p (offset + length (x ++ concat xs)) (views_after p seen xs) ys))
 
 -- those of one frame more
 amiss-last : (p : Parameters) (done : List (List ℕ)) (frame : List ℕ) (octets : ℕ) → octets ≡ length (concat done)
     → tm_amiss_from p 0 [] (done ++ frame ∷ []) ≡ tm_amiss_from p 0 [] done ++ tm_amiss octets (views_of (tm_format p) p.spacecraft done) (as_read p frame)
-amiss-last p done frame octets e =
-    let before = tm_amiss_from p 0 [] done in
-    let at : 0 + length (concat done) ≡ octets = omega (arith, e) in
-    amiss-append p 0 [] done (frame ∷ [])
-    ∙ ap (λ l. before ++ l) (append-nil (tm_amiss (0 + length (concat done)) (views_after p [] done) (as_read p frame)))
-    ∙ ap (λ v. before ++ tm_amiss (0 + length (concat done)) v (as_read p frame)) (all_seen p done)
-    ∙ ap (λ n. before ++ tm_amiss n (views_of (tm_format p) p.spacecraft done) (as_read p frame)) at
+amiss-last p = from-last (as_read p) tm_amiss (tm_amiss_from p) (λ offset views. refl) (λ offset views frame frames. refl)
 
 -- ---- while they are checked
 
@@ -105,10 +65,11 @@ module _ {W : Type 0} (contents : W → Option (List ℕ)) (p : Parameters) (rec
       → StopsListing contents writer writer' (concat (tm_amiss_from p 0 [] (tm_frames_of p.tm_length recording))) fault
   checking_stops writer mid writer' extractor pending left t fault some c s =
       let before = tm_amiss_from p 0 [] c.done in
-      let later = tm_amiss_from p (0 + length (concat c.done)) (views_after p [] c.done) (tm_frames_of p.tm_length left) in
+      let later = tm_amiss_from p (0 + length (concat c.done)) (views_after (as_read p) [] c.done) (tm_frames_of p.tm_length left) in
       let first = taken_first p recording c.done extractor left t.delivery.tally.octets t.delivery.tally.frames t.delivery.tally.skipped t.delivery.packets t.delivery.idle some c.taken in
       let all : tm_amiss_from p 0 [] (tm_frames_of p.tm_length recording) ≡ before ++ later =
-      ap (tm_amiss_from p 0 []) first ∙ amiss-append p 0 [] c.done (tm_frames_of p.tm_length left) in
+      ap (tm_amiss_from p 0 []) first
+      ∙ from-append (as_read p) tm_amiss (tm_amiss_from p) (λ offset views. refl) (λ offset views frame frames. refl) 0 [] c.done (tm_frames_of p.tm_length left) in
       stops_waiting contents writer mid writer' [] pending (concat before) (concat later) (concat (tm_amiss_from p 0 [] (tm_frames_of p.tm_length recording))) fault c.lines s
       (sym (ap concat all ∙ concat-append before later))
 

@@ -1,5 +1,5 @@
 -- Lines of what is amiss, one group after another.
-use Rattle.std.proofs.Common.{◌≡◌, ℕ, List, [], ◌∷◌, ◌++◌, sym, ap, ◌∙◌, append_assoc}
+use Rattle.std.proofs.Common.{◌≡◌, ℕ, List, ◌++◌, sym, ap, ◌∙◌, append_assoc}
 use Rattle.std.specs.List.{concat}
 use Rattle.std.proofs.lemmas.List.Folds.{concat-append}
 
@@ -13,3 +13,9 @@ pub joined_four : (text : List ℕ) (ws xs ys zs : List (List ℕ))
 joined_four text ws xs ys zs =
     ap (λ l. (l ++ concat ys) ++ concat zs) (joined text ws xs) ∙ ap (λ l. l ++ concat zs) (joined text (ws ++ xs) ys)
     ∙ joined text (ws ++ xs ++ ys) zs
+
+-- five of them
+pub joined_five : (text : List ℕ) (vs ws xs ys zs : List (List ℕ))
+    → ((((text ++ concat vs) ++ concat ws) ++ concat xs) ++ concat ys) ++ concat zs ≡ text ++ concat (vs ++ ws ++ xs ++ ys ++ zs)
+joined_five text vs ws xs ys zs =
+    ap (λ l. l ++ concat zs) (joined_four text vs ws xs ys) ∙ joined text (vs ++ ws ++ xs ++ ys) zs

@@ -9,7 +9,7 @@ use Rattle.clap.proofs.OnLiterals.{clap_on_literals}
 use Rattle.sl_link.specs.CommandLine.{asked, refusals, request_in, sllink_app}
 use Rattle.sl_link.specs.Managed.{Parameters}
 use Rattle.sl_link.specs.declared.command_line.Engine.{Engine}
-use Rattle.sl_link.specs.declared.command_line.Engine.TheVariants.{ShowTm, ShowTc, NormaliseTm, NormaliseTc}
+use Rattle.sl_link.specs.declared.command_line.Engine.TheVariants.{ShowTm, ShowTc, CheckTm, CheckTc, PacketsTm, PacketsTc, NormaliseTm, NormaliseTc}
 use Rattle.sl_link.specs.declared.command_line.Request.{Request}
 
 -- why the words are refused, and what they ask for
@@ -41,6 +41,10 @@ pub record AreRead : Type 0 where
   pub of_all_options : read (codes "sllink" ∷ codes "show" ∷ codes "tc" ∷ codes "--scid" ∷ codes "1" ∷ codes "--tm-length" ∷ codes "32" ∷ codes "--tc-length" ∷ codes "16" ∷ codes "--tm-fecf" ∷ codes "--tc-fecf" ∷ codes "--window" ∷ codes "2" ∷ codes "--vr" ∷ codes "255" ∷ codes "--limit" ∷ codes "9" ∷ []) ≡ asks ShowTc 1 32 16 true true 2 255 9
   pub signed : read (codes "sllink" ∷ codes "show" ∷ codes "tm" ∷ codes "--scid" ∷ codes "+7" ∷ codes "--limit" ∷ codes "18446744073709551615" ∷ []) ≡ asks ShowTm 7 1115 1024 false false 10 0 18446744073709551615
   pub of_tc : read (codes "sllink" ∷ codes "show" ∷ codes "tc" ∷ codes "--scid" ∷ codes "1" ∷ []) ≡ asks ShowTc 1 1115 1024 false false 10 0 1073741824
+  pub of_check : read (codes "sllink" ∷ codes "check" ∷ codes "tm" ∷ codes "--scid" ∷ codes "1" ∷ codes "--tm-length" ∷ codes "32" ∷ []) ≡ asks CheckTm 1 32 1024 false false 10 0 1073741824
+  pub of_check_tc : read (codes "sllink" ∷ codes "check" ∷ codes "tc" ∷ codes "--scid" ∷ codes "1" ∷ []) ≡ asks CheckTc 1 1115 1024 false false 10 0 1073741824
+  pub of_packets : read (codes "sllink" ∷ codes "packets" ∷ codes "tm" ∷ codes "--scid" ∷ codes "1" ∷ []) ≡ asks PacketsTm 1 1115 1024 false false 10 0 1073741824
+  pub of_packets_tc : read (codes "sllink" ∷ codes "packets" ∷ codes "--tc-fecf" ∷ codes "tc" ∷ codes "--scid" ∷ codes "1" ∷ codes "--window" ∷ codes "2" ∷ []) ≡ asks PacketsTc 1 1115 1024 false true 2 0 1073741824
   pub of_normalise : read (codes "sllink" ∷ codes "normalise" ∷ codes "tm" ∷ codes "--scid" ∷ codes "1" ∷ codes "--tm-length" ∷ codes "32" ∷ []) ≡ asks NormaliseTm 1 32 1024 false false 10 0 1073741824
   pub of_normalise_tc : read (codes "sllink" ∷ codes "normalise" ∷ codes "tc" ∷ codes "--scid" ∷ codes "1" ∷ codes "--vr" ∷ codes "255" ∷ []) ≡ asks NormaliseTc 1 1115 1024 false false 10 255 1073741824
   pub with_tm_fecf : read (codes "sllink" ∷ codes "show" ∷ codes "tm" ∷ codes "--scid" ∷ codes "7" ∷ codes "--tm-fecf" ∷ []) ≡ asks ShowTm 7 1115 1024 true false 10 0 1073741824
@@ -80,6 +84,8 @@ pub record AskHelp : Type 0 where
   pub of_all : refusals (codes "sllink" ∷ codes "--help" ∷ []) ≡ DisplayHelp ∷ []
   pub of_a_verb : refusals (codes "sllink" ∷ codes "show" ∷ codes "-h" ∷ []) ≡ DisplayHelp ∷ []
   pub by_a_verb : refusals (codes "sllink" ∷ codes "help" ∷ []) ≡ DisplayHelp ∷ InvalidSubcommand ∷ []
+  pub of_check : refusals (codes "sllink" ∷ codes "check" ∷ codes "--help" ∷ []) ≡ DisplayHelp ∷ []
+  pub of_packets : refusals (codes "sllink" ∷ codes "packets" ∷ codes "-h" ∷ []) ≡ DisplayHelp ∷ []
   pub of_normalise : refusals (codes "sllink" ∷ codes "normalise" ∷ codes "--help" ∷ []) ≡ DisplayHelp ∷ []
 
 pub record AreRefusedFor : Type 0 where
@@ -87,6 +93,8 @@ pub record AreRefusedFor : Type 0 where
   pub unknown_verb : refusals (codes "sllink" ∷ codes "tell" ∷ codes "tm" ∷ codes "--scid" ∷ codes "1" ∷ []) ≡ UnknownArgument ∷ InvalidSubcommand ∷ []
   pub no_kind : refusals (codes "sllink" ∷ codes "show" ∷ codes "--scid" ∷ codes "1" ∷ []) ≡ MissingRequiredArgument ∷ []
   pub other_kind : refusals (codes "sllink" ∷ codes "show" ∷ codes "tx" ∷ codes "--scid" ∷ codes "1" ∷ []) ≡ InvalidValue ∷ []
+  pub no_kind_of_check : refusals (codes "sllink" ∷ codes "check" ∷ codes "--scid" ∷ codes "1" ∷ []) ≡ MissingRequiredArgument ∷ []
+  pub other_kind_of_packets : refusals (codes "sllink" ∷ codes "packets" ∷ codes "tx" ∷ codes "--scid" ∷ codes "1" ∷ []) ≡ InvalidValue ∷ []
   pub other_kind_of_normalise : refusals (codes "sllink" ∷ codes "normalise" ∷ codes "tx" ∷ codes "--scid" ∷ codes "1" ∷ []) ≡ InvalidValue ∷ []
   pub no_spacecraft_of_normalise : refusals (codes "sllink" ∷ codes "normalise" ∷ codes "tm" ∷ []) ≡ MissingRequiredArgument ∷ []
   pub two_kinds : refusals (codes "sllink" ∷ codes "show" ∷ codes "tm" ∷ codes "tc" ∷ codes "--scid" ∷ codes "1" ∷ []) ≡ UnknownArgument ∷ []
@@ -116,6 +124,10 @@ are_read = record {
   of_all_options = refl;
   signed = refl;
   of_tc = refl;
+  of_check = refl;
+  of_check_tc = refl;
+  of_packets = refl;
+  of_packets_tc = refl;
   of_normalise = refl;
   of_normalise_tc = refl;
   with_tm_fecf = refl;
@@ -136,6 +148,8 @@ ask_help = record {
   of_all = refl;
   of_a_verb = refl;
   by_a_verb = refl;
+  of_check = refl;
+  of_packets = refl;
   of_normalise = refl;
 }
 
@@ -146,6 +160,8 @@ are_refused = record {
   unknown_verb = refl;
   no_kind = refl;
   other_kind = refl;
+  no_kind_of_check = refl;
+  other_kind_of_packets = refl;
   other_kind_of_normalise = refl;
   no_spacecraft_of_normalise = refl;
   two_kinds = refl;

@@ -1,7 +1,7 @@
 -- Packets while they are delivered frame by frame, whatever kind the frames are: the frames that were read, and lists
 -- for the channels, what they are together and how many items they have.
-use Rattle.std.proofs.Common.{◌≡◌, ◌≢◌, ℕ, zero, suc, ◌+◌, ◌<◌, ◌≤◌, List, [], ◌∷◌, ◌++◌, length, take, map, inl, inr, refl, sym, ◌∙◌, ap, arith, add-one, append-nil, Result, Ok, Err}
-use Rattle.std.specs.List.{slice_index_or, range_with_len, cons_option}
+use Rattle.std.proofs.Common.{◌≡◌, ◌≢◌, ℕ, zero, suc, ◌+◌, ◌<◌, ◌≤◌, List, [], ◌∷◌, ◌++◌, length, take, map, inl, inr, refl, sym, ◌∙◌, ap, arith, add-one, append_assoc, append-nil, Result, Ok, Err}
+use Rattle.std.specs.List.{slice_index_or, range_with_len, cons_option, filter_map}
 use Rattle.std.specs.Result.{result_ok}
 use Rattle.std.proofs.lemmas.Bool.Decides.{eqb_tells}
 use Rattle.std.proofs.lemmas.List.{take_all}
@@ -16,6 +16,21 @@ use Rattle.sl_link.specs.Delivering.{count_of, with_frame}
 pub views_step : {View Skip : Type 0} (views : List View) (r : Result View Skip) → views ++ cons_option (result_ok r) [] ≡ with_frame views r
 views_step views (Ok view) = refl
 views_step views (Err reason) = append-nil views
+
+module _ {View Skip : Type 0} (read : List ℕ → Result View Skip) where
+  -- the frames that were read, after more frames
+  abbrev pub views_after : List View → List (List ℕ) → List View
+  views_after views [] = views
+  views_after views (frame ∷ frames) = views_after (with_frame views (read frame)) frames
+
+  one_seen : (views later : List View) (r : Result View Skip) → with_frame views r ++ later ≡ views ++ cons_option (result_ok r) later
+  one_seen views later (Ok view) = append_assoc views (view ∷ []) later
+  one_seen views later (Err reason) = refl
+
+  pub all_seen : (views : List View) (frames : List (List ℕ)) → views_after views frames ≡ views ++ filter_map (λ frame. result_ok (read frame)) frames
+  all_seen views [] = sym (append-nil views)
+  all_seen views (frame ∷ frames) =
+      all_seen (with_frame views (read frame)) frames ∙ one_seen views (filter_map (λ f. result_ok (read f)) frames) (read frame)
 
 -- ---- the lists
 
@@ -32,7 +47,7 @@ map_range f h from (suc n) same =
     rw (same from (omega arith), map_range f h (from + 1) n (λ i below. same i (omega arith))) refl
 
 -- the channels are so many, where a number stands for how many they are
-channels_are : (n : ℕ) → n ≡ channel_count → range_with_len 0 n ≡ map_channels
+pub channels_are : (n : ℕ) → n ≡ channel_count → range_with_len 0 n ≡ map_channels
 unfolding map_channels
 channels_are n all = ap (range_with_len 0) all
 

@@ -9,7 +9,8 @@ use Rattle.sl_tmflow.specs.Channel.{channel_of}
 use Rattle.sl_tmflow.specs.Extraction.{ExtractorState, ForProcessed}
 use Rattle.sl_tmflow.specs.Incomplete.{IsShort, incomplete_of}
 use Rattle.sl_tmflow.proofs.IncompleteListLemmas.{one_is_incomplete, incomplete_is_short}
-use Rattle.sl_link.specs.CheckTm.{held_amiss, tm_incomplete}
+use Rattle.sl_link.specs.CheckTm.{tm_incomplete}
+use Rattle.sl_link.specs.Checking.{held_amiss}
 use Rattle.sl_link.specs.Line.{line_at}
 use Rattle.sl_link.proofs.CheckLineLemmas.{joined}
 

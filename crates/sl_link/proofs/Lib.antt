@@ -2,6 +2,7 @@ pub mod AddingLemmas
 pub mod CheckEndLemmas
 pub mod CheckLemmas
 pub mod CheckLineLemmas
+pub mod CheckedTextLemmas
 pub mod CommandLineFacts
 pub mod CommandLineLemmas
 pub mod DeliverLemmas
@@ -9,6 +10,7 @@ pub mod DeliveringLemmas
 pub mod EngineLemmas
 pub mod FarmsLemmas
 pub mod FinishLemmas
+pub mod FrameLinesLemmas
 pub mod HandedLemmas
 pub mod IncompleteLineLemmas
 pub mod LineLemmas
@@ -22,6 +24,7 @@ pub mod ParseLemmas
 pub mod PlaceLemmas
 pub mod PrintLemmas
 pub mod PrinterLemmas
+pub mod PrintingLemmas
 pub mod RecordingLemmas
 pub mod RequestLemmas
 pub mod RestLemmas
@@ -31,9 +34,13 @@ pub mod SameWalkLemmas
 pub mod SeparationLemmas
 pub mod ShowLemmas
 pub mod StreamLemmas
+pub mod TcCheckEndLemmas
+pub mod TcCheckLemmas
 pub mod TcDeliverLemmas
 pub mod TcFormLemmas
-pub mod TcHandedLemmas
+pub mod TcIncompleteLineLemmas
 pub mod TcListingLemmas
+pub mod TcOverFramesLemmas
+pub mod TcPrintLemmas
 pub mod VerbLemmas
 pub mod WalkLemmas

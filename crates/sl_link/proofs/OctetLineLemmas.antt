@@ -80,20 +80,18 @@ module _ {W : Type 0} (contents : W → Option (List ℕ)) where
         (AddsText-more contents mid writer' pending' roomy ended end room ends)
 
   -- a line that begins once there is room for it
-  module _ (writer mid writer' : Counted W) (pending roomy first second : List ℕ) (front number line : List ℕ)
-      (room : AddsText contents writer mid pending roomy []) (begins : first ≡ roomy ++ front) (goes_on : second ≡ first ++ number) where
-    channel_first : AddsText contents writer mid pending second (front ++ number)
-    channel_first =
-        AddsText-more contents writer mid pending roomy second (front ++ number) room
-        (goes_on ∙ ap (λ l. l ++ number) begins ∙ append_assoc roomy front number)
+  module _ (writer mid writer' : Counted W) (pending roomy begun : List ℕ) (front line : List ℕ)
+      (room : AddsText contents writer mid pending roomy []) (begins : begun ≡ roomy ++ front) where
+    roomy_front : AddsText contents writer mid pending begun front
+    roomy_front = AddsText-more contents writer mid pending roomy begun front room begins
 
-    pub roomy_line : (ended : List ℕ) → AddsText contents mid writer' second ended line → AddsText contents writer writer' pending ended (front ++ number ++ line)
-    roomy_line ended adds = AddsText-trans contents writer mid writer' pending second ended (front ++ number) line channel_first adds
+    pub roomy_line : (ended : List ℕ) → AddsText contents mid writer' begun ended line → AddsText contents writer writer' pending ended (front ++ line)
+    roomy_line ended adds = AddsText-trans contents writer mid writer' pending begun ended front line roomy_front adds
 
-    pub roomy_line_stops : (fault : LinkFault) → StopsWriting contents mid writer' (second ++ line) fault → StopsWriting contents writer writer' (pending ++ (front ++ number ++ line)) fault
+    pub roomy_line_stops : (fault : LinkFault) → StopsWriting contents mid writer' (begun ++ line) fault → StopsWriting contents writer writer' (pending ++ (front ++ line)) fault
     roomy_line_stops fault s =
-        writer_stops_later contents writer mid writer' pending second (front ++ number) line [] (pending ++ (front ++ number ++ line)) fault channel_first s
-        (ap (λ l. pending ++ (front ++ number ++ l)) (append-nil line))
+        writer_stops_later contents writer mid writer' pending begun front line [] (pending ++ (front ++ line)) fault roomy_front s
+        (ap (λ l. pending ++ (front ++ l)) (append-nil line))
 
   -- a fault before it
   pub no_line : (writer writer' : Counted W) (pending line : List ℕ) (fault : LinkFault) → StopsWriting contents writer writer' pending fault

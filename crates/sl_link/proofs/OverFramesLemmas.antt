@@ -30,18 +30,19 @@ module _ (p : Parameters) (recording : List ℕ) where
     pub idle_are : idle ≡ count_of (map (λ vc. only_idle (packets_on (seen_in p recording done) vc)) virtual_channels)
     pub within : packets + idle ≤ octets
 
-  pub none_taken : (extractor : ExtractorState) → HasProcessed extractor [] → AreTaken [] extractor recording 0 0 0 0 0
-  none_taken extractor processed =
+  pub none_taken : (extractor : ExtractorState) (octets frames skipped packets idle : ℕ) → HasProcessed extractor []
+      → octets ≡ 0 → frames ≡ 0 → skipped ≡ 0 → packets ≡ 0 → idle ≡ 0 → AreTaken [] extractor recording octets frames skipped packets idle
+  none_taken extractor octets frames skipped packets idle processed o f s k i =
       record {
         whole = tt;
         parts = refl;
         processed = processed;
-        octets_are = refl;
-        frames_are = refl;
-        skipped_are = refl;
-        packets_are = refl;
-        idle_are = refl;
-        within = omega arith;
+        octets_are = o;
+        frames_are = f;
+        skipped_are = s;
+        packets_are = k;
+        idle_are = i;
+        within = omega (arith, k, i);
       }
 
   pub taken_next : (done : List (List ℕ)) (extractor extractor' : ExtractorState) (left frame after : List ℕ)

@@ -11,7 +11,7 @@ use Rattle.clap.specs.declared.builder.command.Command.{Command}
 use Rattle.clap.specs.declared.error.Error.{Error}
 use Rattle.clap.specs.declared.error.kind.ErrorKind.TheVariants.{OutOfMemory}
 use Rattle.clap.specs.declared.parser.matches.ArgMatches.{ArgMatches}
-use Rattle.sl_link.specs.CommandLine.{AskFor, IsRefusal, IsSllink, normalised_kinds, request_in, shown_kinds, sllink_app, sllink_with}
+use Rattle.sl_link.specs.CommandLine.{AskFor, IsRefusal, IsSllink, recording_kinds, request_in, sllink_app, sllink_with}
 use Rattle.sl_link.specs.declared.command_line.Request.{Request}
 use Rattle.sl_link.proofs.PlaceLemmas.{same_fault, same_subcommand}
 use Rattle.sl_link.proofs.RequestLemmas.{words_ask_something}
@@ -24,8 +24,8 @@ error_kept P (Err e) x h same = subst P (sym same) h
 module _ (words : List Text) (c : Command) (h : IsSllink (app_of c)) where
   faults : (r : Result ArgMatches Error) → (is_simple_and_free (app_of c) ≡ true → FailsBy (fault_of (app_of c) words) r) → FailsBy (fault_of sllink_app words) r
   faults r kinds =
-      let placed : FailsBy (fault_of (sllink_with h.shown h.normalised) words) r = subst (λ (a : App). is_simple_and_free a ≡ true → FailsBy (fault_of a words) r) h.same kinds refl in
-      subst (λ (ks : Kinds). FailsBy ks r) (same_fault h.shown shown_kinds h.normalised normalised_kinds h.shown_named h.normalised_named words) placed
+      let placed : FailsBy (fault_of (sllink_with h.kinds) words) r = subst (λ (a : App). is_simple_and_free a ≡ true → FailsBy (fault_of a words) r) h.same kinds refl in
+      subst (λ (ks : Kinds). FailsBy ks r) (same_fault h.kinds recording_kinds h.named words) placed
 
   -- an error is a refusal, or there was no memory
   pub error_refused : (r : Result ArgMatches Error) (e : Error) → r ≡ Err e → (is_simple_and_free (app_of c) ≡ true → FailsBy (fault_of (app_of c) words) r)
@@ -41,7 +41,7 @@ module _ (words : List Text) (c : Command) (h : IsSllink (app_of c)) where
     none = rw is at (faults r kinds)
 
     met : subcommand_rows_of m ≡ subcommand_of sllink_app words
-    met = (subst (λ (a : App). HasMatchesOf a words m) h.same has refl).1 ∙ same_subcommand h.shown shown_kinds h.normalised normalised_kinds h.shown_named h.normalised_named words
+    met = (subst (λ (a : App). HasMatchesOf a words m) h.same has refl).1 ∙ same_subcommand h.kinds recording_kinds h.named words
 
     -- the request that the matches give is what the words ask for
     pub words_ask : (request : Request) → Some request ≡ request_in (subcommand_rows_of m) → AskFor words request

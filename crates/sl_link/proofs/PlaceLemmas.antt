@@ -13,12 +13,12 @@ use Rattle.clap.specs.Walk.{Held, Names, Row, Rule, Text, Walk, answers_to, is_m
 use Rattle.clap.specs.declared.builder.value_parser.ValueParser.TheVariants.{Names as OneOf}
 use Rattle.clap.specs.declared.error.kind.ErrorKind.TheVariants as kind
 use Rattle.clap.proofs.WalkLemmas.{list_any-map}
-use Rattle.sl_link.specs.CommandLine.{kind_rule, normalised_kinds, sllink_with}
+use Rattle.sl_link.specs.CommandLine.{kind_rule, recording_kinds, sllink_with}
 use Rattle.sl_link.proofs.SameWalkLemmas.{SameFaults, SameWalk, walk_fault_is, walk_is}
 
--- a verb with the kinds that it takes, as it is built: verbs differ in their names and kinds alone
+-- a verb with the kinds that it takes, as it is built: verbs differ in their names alone
 abbrev pub verb_at : Text → Bor (List (Bor Text)) → Shape
-verb_at name kinds = record (unwrap_or (slice_get (built (sllink_with kinds normalised_kinds)).subs 0) (new_shape [])) { name = name }
+verb_at name kinds = record (unwrap_or (slice_get (built (sllink_with kinds)).subs 0) (new_shape [])) { name = name }
 
 abbrev pub rules_at : Bor (List (Bor Text)) → List Rule
 rules_at kinds = (verb_at [] kinds).rules
@@ -28,7 +28,7 @@ abbrev pub kind_at : Bor (List (Bor Text)) → Rule
 kind_at kinds = with_index 1 (filled (kind_rule kinds))
 
 abbrev others : List Rule
-others = drop 1 (rules_at normalised_kinds)
+others = drop 1 (rules_at recording_kinds)
 
 module _ (k l : Bor (List (Bor Text))) (named : texts k.now ≡ texts l.now) where
   value_is : (v : Text) → value_kinds false (OneOf k) v ≡ value_kinds false (OneOf l) v
@@ -126,38 +126,41 @@ module _ (k l : Bor (List (Bor Text))) (named : texts k.now ≡ texts l.now) whe
       ∙ ap₂ or_else (walk_fault_is (verb_at name k) (rules_at k) (rules_at l) (faults name) [] (walk_from nothing_held) words)
       (ap₂ or_else (settle_is end) (ap₂ or_else (defaults_is end) (ap (λ rs. check_fault (verb_at name k) rs false) (finished_is end))))
 
--- ---- the whole command line
+  -- ---- the whole command line
 
-module _ (shown shown' normalised normalised' : Bor (List (Bor Text))) (s_named : texts shown.now ≡ texts shown'.now) (n_named : texts normalised.now ≡ texts normalised'.now) where
   abbrev app : App
-  app = built (sllink_with shown normalised)
+  app = built (sllink_with k)
 
   abbrev app' : App
-  app' = built (sllink_with shown' normalised')
+  app' = built (sllink_with l)
+
+  entered_at : (p : Text × List Text) (b : Bool) (name : Text) (o o' : Option Shape) → option_map (λ s. rows_at s p.1) o ≡ option_map (λ s. rows_at s p.1) o'
+      → option_map (λ s. rows_at s p.1) (cond b (Some (verb_at name k)) o) ≡ option_map (λ s. rows_at s p.1) (cond b (Some (verb_at name l)) o')
+  entered_at p true name o o' later = ap (λ rs. Some (name, rs)) (rows_after_is p.1)
+  entered_at p false name o o' later = later
 
   entered_is : (stop : Option (Text × List Text)) → entered app stop ≡ entered app' stop
   entered_is None = refl
   entered_is (Some p) =
-      go (answers_to p.0 (codes "show", [])) (answers_to p.0 (codes "normalise", [])) (find (λ s. answers_to p.0 (label_of s)) (drop 2 app.subs))
-    where
-      go : (b b' : Bool) (rest : Option Shape)
-          → option_map (λ s. rows_at s p.1) (cond b (Some (verb_at (codes "show") shown)) (cond b' (Some (verb_at (codes "normalise") normalised)) rest))
-          ≡ option_map (λ s. rows_at s p.1) (cond b (Some (verb_at (codes "show") shown')) (cond b' (Some (verb_at (codes "normalise") normalised')) rest))
-      go true b' rest = ap (λ rs. Some (codes "show", rs)) (rows_after_is shown shown' s_named p.1)
-      go false true rest = ap (λ rs. Some (codes "normalise", rs)) (rows_after_is normalised normalised' n_named p.1)
-      go false false rest = refl
+      entered_at p (answers_to p.0 (codes "show", [])) (codes "show") _ _
+      (entered_at p (answers_to p.0 (codes "check", [])) (codes "check") _ _
+      (entered_at p (answers_to p.0 (codes "packets", [])) (codes "packets") _ _
+      (entered_at p (answers_to p.0 (codes "normalise", [])) (codes "normalise") _ _ refl)))
+
+  fault_at : (p : Text × List Text) (b : Bool) (name : Text) (o o' : Option Shape)
+      → option_map_or (λ s. level_fault s [] nothing_held p.1 false []) o [] ≡ option_map_or (λ s. level_fault s [] nothing_held p.1 false []) o' []
+      → option_map_or (λ s. level_fault s [] nothing_held p.1 false []) (cond b (Some (verb_at name k)) o) []
+      ≡ option_map_or (λ s. level_fault s [] nothing_held p.1 false []) (cond b (Some (verb_at name l)) o') []
+  fault_at p true name o o' later = level_is name p.1
+  fault_at p false name o o' later = later
 
   entered_fault_is : (stop : Option (Text × List Text)) → entered_fault app stop ≡ entered_fault app' stop
   entered_fault_is None = refl
   entered_fault_is (Some p) =
-      go (answers_to p.0 (codes "show", [])) (answers_to p.0 (codes "normalise", [])) (find (λ s. answers_to p.0 (label_of s)) (drop 2 app.subs))
-    where
-      go : (b b' : Bool) (rest : Option Shape)
-          → option_map_or (λ s. level_fault s [] nothing_held p.1 false []) (cond b (Some (verb_at (codes "show") shown)) (cond b' (Some (verb_at (codes "normalise") normalised)) rest)) []
-          ≡ option_map_or (λ s. level_fault s [] nothing_held p.1 false []) (cond b (Some (verb_at (codes "show") shown')) (cond b' (Some (verb_at (codes "normalise") normalised')) rest)) []
-      go true b' rest = level_is shown shown' s_named (codes "show") p.1
-      go false true rest = level_is normalised normalised' n_named (codes "normalise") p.1
-      go false false rest = refl
+      fault_at p (answers_to p.0 (codes "show", [])) (codes "show") _ _
+      (fault_at p (answers_to p.0 (codes "check", [])) (codes "check") _ _
+      (fault_at p (answers_to p.0 (codes "packets", [])) (codes "packets") _ _
+      (fault_at p (answers_to p.0 (codes "normalise", [])) (codes "normalise") _ _ refl)))
 
   abbrev top : Shape
   top = app.top
@@ -166,11 +169,11 @@ module _ (shown shown' normalised normalised' : Bor (List (Bor Text))) (s_named 
   names = names_of app
 
   -- the words name the same subcommand, with the same matches
-  pub same_subcommand : (words : List Text) → subcommand_of (sllink_with shown normalised) words ≡ subcommand_of (sllink_with shown' normalised') words
+  pub same_subcommand : (words : List Text) → subcommand_of (sllink_with k) words ≡ subcommand_of (sllink_with l) words
   same_subcommand words = entered_is (stop_after top.rules names (drop 1 words))
 
   -- and are refused for the same
-  pub same_fault : (words : List Text) → fault_of (sllink_with shown normalised) words ≡ fault_of (sllink_with shown' normalised') words
+  pub same_fault : (words : List Text) → fault_of (sllink_with k) words ≡ fault_of (sllink_with l) words
   same_fault words =
       let stop = (walk top.rules names nothing_held (drop 1 words)).stopped in
       ap₂ (λ (e : Option (Text × List Row)) (f : Kinds). level_fault top names nothing_held (drop 1 words) (is_some e) f) (entered_is stop) (entered_fault_is stop)

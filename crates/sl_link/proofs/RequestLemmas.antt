@@ -10,12 +10,12 @@ use Rattle.clap.specs.Lexer.{long_of, short_of}
 use Rattle.clap.specs.Simple.{Shape, built, entered, names_of, new_shape, rows_at, subcommand_of}
 use Rattle.clap.specs.Walk.{Held, Names, Outcome, Row, Rule, Step, Text, Waiting, Walk, after_flag, after_step, arg_by_index, arg_by_long, bundle, done, idle, long_met, long_or_other, next, option, plain, plain_word, positional, refused, short_or_plain, subcommand, subcommand_met, subcommand_or_other, to_positional, trailing, value, waits, walked, walked_from, word_met, finished, nothing_held, settled, walk, walk_from}
 use Rattle.clap.specs.declared.error.kind.ErrorKind.TheVariants as kind
-use Rattle.sl_link.specs.CommandLine.{normalised_kinds, request_in, shown_kinds, sllink_app}
+use Rattle.sl_link.specs.CommandLine.{recording_kinds, request_in, sllink_app}
 use Rattle.sl_link.specs.declared.command_line.Request.{Request}
 use Rattle.sl_link.proofs.PlaceLemmas.{verb_at}
 use Rattle.sl_link.proofs.RowLemmas.{never}
 use Rattle.sl_link.proofs.WalkLemmas.{neither}
-use Rattle.sl_link.proofs.VerbLemmas.{normalise_engines, show_engines, verb_level_asks}
+use Rattle.sl_link.proofs.VerbLemmas.{NamesEngines, check_engines, normalise_engines, packets_engines, show_engines, verb_level_asks}
 
 abbrev top : Shape
 top = (built sllink_app).top
@@ -115,26 +115,29 @@ verb_there false rows e = absurd (cc)
 verb_asks : (stop : Option (Text × List Text)) → NotAtHelp stop → is_some (entered (built sllink_app) stop) ≡ true → entered_fault (built sllink_app) stop ≡ []
     → (request : Request) × (request_in (entered (built sllink_app) stop) ≡ Some request)
 verb_asks None n has e = never has
-verb_asks (Some p) n has e = go (bytes_eq (codes "show") p.0 || false) (bytes_eq (codes "normalise") p.0 || false) (bytes_eq (codes "help") p.0) refl has e
+verb_asks (Some p) n has e =
+    asks_of (bytes_eq (codes "show") p.0 || false) (codes "show") show_engines _
+    (asks_of (bytes_eq (codes "check") p.0 || false) (codes "check") check_engines _
+    (asks_of (bytes_eq (codes "packets") p.0 || false) (codes "packets") packets_engines _
+    (asks_of (bytes_eq (codes "normalise") p.0 || false) (codes "normalise") normalise_engines _
+    (not_of_help (bytes_eq (codes "help") p.0) refl)))) has e
   where
+    Asks : Option Shape → Type 0
+    Asks o = is_some (option_map (λ s. rows_at s p.1) o) ≡ true → option_map_or (λ s. level_fault s [] nothing_held p.1 false []) o [] ≡ []
+        → (request : Request) × (request_in (option_map (λ s. rows_at s p.1) o) ≡ Some request)
+
+    asks_of : (b : Bool) (verb : Text) → NamesEngines verb recording_kinds → (o : Option Shape) → Asks o → Asks (cond b (Some (verb_at verb recording_kinds)) o)
+    asks_of true verb engines o later has e = verb_level_asks verb recording_kinds p.1 e engines
+    asks_of false verb engines o later has e = later has e
+
     help : Shape
-    help = unwrap_or (slice_get (built sllink_app).subs 2) (new_shape [])
+    help = unwrap_or (slice_get (built sllink_app).subs 4) (new_shape [])
 
-    rest : Bool → Option Shape
-    rest b = cond (b || false) (Some help) None
-
-    found : Bool → Bool → Bool → Option Shape
-    found b b' b'' = cond b (Some (verb_at (codes "show") shown_kinds)) (cond b' (Some (verb_at (codes "normalise") normalised_kinds)) (rest b''))
-
-    go : (b b' b'' : Bool) → bytes_eq (codes "help") p.0 ≡ b'' → is_some (option_map (λ s. rows_at s p.1) (found b b' b'')) ≡ true
-        → option_map_or (λ s. level_fault s [] nothing_held p.1 false []) (found b b' b'') [] ≡ []
-        → (request : Request) × (request_in (option_map (λ s. rows_at s p.1) (found b b' b'')) ≡ Some request)
-    go true b' b'' is has e = verb_level_asks (codes "show") shown_kinds p.1 e show_engines
-    go false true b'' is has e = verb_level_asks (codes "normalise") normalised_kinds p.1 e normalise_engines
-    go false false true is has e =
+    not_of_help : (b : Bool) → bytes_eq (codes "help") p.0 ≡ b → Asks (cond (b || false) (Some help) None)
+    not_of_help true is has e =
         let same : codes "help" ≡ p.0 = (bytes_eq-Decides (codes "help") p.0).0 is in
         never (sym n ∙ ap is_help (sym same))
-    go false false false is has e = never has
+    not_of_help false is has e = never has
 
 -- words of which nothing is refused ask for something
 pub words_ask_something : (words : List Text) → fault_of sllink_app words ≡ [] → (request : Request) × (request_in (subcommand_of sllink_app words) ≡ Some request)

@@ -1,17 +1,20 @@
 -- A run: the flush after an engine, and what the exit status says.
-use Rattle.std.proofs.Common.{◌≡◌, ◌≢◌, ℕ, Bool, true, false, List, [], Option, Result, Ok, Err, IfErr, sym, ◌∙◌, append-nil, rules}
-use Rattle.std.specs.Prelude.{if◌then◌else◌}
+use Rattle.std.proofs.Common.{◌≡◌, ◌≢◌, ℕ, zero, suc, Bool, true, false, List, [], Option, Result, Ok, Err, IfOk, IfErr, refl, sym, ap, ◌∙◌, append-nil, rules}
+use Rattle.std.specs.Prelude.{◌==◌, if◌then◌else◌}
 use Rattle.std.specs.Io.KnownBytes.{Keeps}
 use Rattle.std.proofs.KnownBytes.{Appends-kept}
+use Rattle.std.proofs.Math.Dec.{eqb-suc-zero}
 use Rattle.sl_link.specs.declared.counted.Counted.{Counted}
 use Rattle.sl_link.specs.declared.link_fault.LinkFault.{LinkFault}
 use Rattle.sl_link.specs.declared.link_fault.LinkFault.TheVariants.{Memory, Write}
+use Rattle.sl_link.specs.declared.command_line.Engine.{Engine}
+use Rattle.sl_link.specs.declared.command_line.Engine.TheVariants.{ShowTm, ShowTc, CheckTm, CheckTc, PacketsTm, PacketsTc, NormaliseTm, NormaliseTc}
 use Rattle.sl_link.specs.declared.command_line.Request.{Request}
 use Rattle.sl_link.specs.CommandLine.{asked}
 use Rattle.sl_link.specs.Counted.{stream_of, HasFailed}
-use Rattle.sl_link.specs.Engine.{text_of, buffer_of}
+use Rattle.sl_link.specs.Engine.{text_of, counts_of, buffer_of, is_check}
 use Rattle.sl_link.specs.Managed.{Parameters, managed_of}
-use Rattle.sl_link.specs.Run.{HasStopped, HasWritten, IsStoppedBy}
+use Rattle.sl_link.specs.Run.{HasMetAnomalies, HasStopped, HasSucceeded, HasWritten, IsStoppedBy}
 use Rattle.sl_link.specs.Status.{status}
 use Rattle.sl_link.specs.Totals.{Counts}
 use Rattle.sl_link.proofs.ShowLemmas.{caused_writing}
@@ -19,6 +22,27 @@ use Rattle.sl_link.proofs.ShowLemmas.{caused_writing}
 no_fault_status : (b : Bool) → ◌≢◌ {A = ℕ} (if b then 0 else 1) 3
 no_fault_status true = search rules
 no_fault_status false = search rules
+
+none_by_status : (anomalies : ℕ) → ◌≡◌ {A = ℕ} (if anomalies == 0 then 0 else 1) 0 → anomalies ≡ 0
+none_by_status zero is = refl
+none_by_status (suc n) is =
+    let bad : ◌≡◌ {A = ℕ} 1 0 = ap (λ (b : Bool). if◌then◌else◌ {A = ℕ} b 0 1) (sym (eqb-suc-zero n)) ∙ is in
+    absurd (cc)
+
+some_by_status : (anomalies : ℕ) → ◌≡◌ {A = ℕ} (if anomalies == 0 then 0 else 1) 1 → anomalies ≢ 0
+some_by_status zero is = absurd (cc)
+some_by_status (suc n) is = λ none. absurd (cc)
+
+-- only a check counts anomalies
+check_met : (engine : Engine) (p : Parameters) (octets : List ℕ) → (counts_of engine p octets).anomalies ≢ 0 → is_check engine ≡ true
+check_met ShowTm p octets some = absurd (some refl)
+check_met ShowTc p octets some = absurd (some refl)
+check_met CheckTm p octets some = refl
+check_met CheckTc p octets some = refl
+check_met PacketsTm p octets some = absurd (some refl)
+check_met PacketsTc p octets some = absurd (some refl)
+check_met NormaliseTm p octets some = absurd (some refl)
+check_met NormaliseTc p octets some = absurd (some refl)
 
 module _ {R W : Type 0} (remaining : R → Option (List ℕ)) (contents : W → Option (List ℕ)) where
   -- where the flush fails, all of the text is in its place, but the writer had a fault
@@ -42,6 +66,32 @@ module _ {R W : Type 0} (remaining : R → Option (List ℕ)) (contents : W → 
         all_read = λ form same. t.to_end;
         nothing = λ form other. absurd (other is_write);
       }
+
+  -- after the status of success the engine has met no anomaly
+  pub has_succeeded : (reader reader' : Counted R) (writer writer' : Counted W) (request : Request) (managed : Parameters) (outcome : Result Counts LinkFault)
+      → status outcome ≡ 0 → managed_of (asked request.options) ≡ Ok managed → IfOk outcome (HasWritten remaining contents reader reader' writer writer' request managed)
+      → HasSucceeded remaining contents reader reader' writer writer' request
+  has_succeeded reader reader' writer writer' request managed (Ok counts) is_success allowed written =
+      record {
+        totals = counts;
+        ended = record { managed = managed; allowed = allowed; written = written };
+        none = none_by_status counts.anomalies is_success;
+      }
+  has_succeeded reader reader' writer writer' request managed (Err fault) is_success allowed written = absurd (cc)
+
+  -- after that of anomalies a check has met some
+  pub has_met_anomalies : (reader reader' : Counted R) (writer writer' : Counted W) (request : Request) (managed : Parameters) (outcome : Result Counts LinkFault)
+      → status outcome ≡ 1 → managed_of (asked request.options) ≡ Ok managed → IfOk outcome (HasWritten remaining contents reader reader' writer writer' request managed)
+      → HasMetAnomalies remaining contents reader reader' writer writer' request
+  has_met_anomalies reader reader' writer writer' request managed (Ok counts) is_anomalies allowed written =
+      let some = some_by_status counts.anomalies is_anomalies in
+      record {
+        totals = counts;
+        ended = record { managed = managed; allowed = allowed; written = written };
+        some = some;
+        of_check = check_met request.engine managed written.octets (λ none. some (ap (λ (c : Counts). c.anomalies) written.counted ∙ none));
+      }
+  has_met_anomalies reader reader' writer writer' request managed (Err fault) is_anomalies allowed written = absurd (cc)
 
   -- after a fault's status the engine has stopped
   pub has_stopped : (reader reader' : Counted R) (writer writer' : Counted W) (request : Request) (managed : Parameters) (outcome : Result Counts LinkFault)

@@ -1,5 +1,5 @@
 -- What normal forms tell of the packets of recordings.
-use Rattle.std.proofs.Common.{sym, ◌∙◌, ap}
+use Rattle.std.proofs.Common.{ℕ, List, ◌≡◌, sym, ◌∙◌, ap, Ok}
 use Rattle.sl_tcflow.specs.Canonical as tc
 use Rattle.sl_tcflow.proofs.CanonicalLemmas.{normal_form_delivers}
 use Rattle.sl_tcflow.proofs.RecordingLemmas as tc_recording
@@ -7,21 +7,24 @@ use Rattle.sl_tmflow.specs.Canonical as tm
 use Rattle.sl_tmflow.specs.NormalForm.{normal_form}
 use Rattle.sl_tmflow.proofs.CanonicalLemmas.{delivers}
 use Rattle.sl_tmflow.proofs.RecordingLemmas as tm_recording
-use Rattle.sl_link.specs.Managed.{Parameters, tc_format, tm_format}
+use Rattle.sl_link.specs.Managed.{Parameters, managed_of, tc_format, tm_format}
 use Rattle.sl_link.specs.NormaliseTc.{tc_form_of, tc_packets}
-use Rattle.sl_link.specs.NormaliseTm.{tm_packets}
+use Rattle.sl_link.specs.NormaliseTm.{tm_normal_form, tm_packets}
 use Rattle.sl_link.specs.Separation.{AreAccepted, TmFormsDeliver, TmFormsTellPackets, TmFormsAreTheirOwn, TcFormsDeliver, TcFormsTellPackets, TcFormsAreTheirOwn}
 use Rattle.sl_link.proofs.ManagedLemmas.{managed_length, managed_greatest, managed_spacecraft}
 
 -- ---- TM
 
-tm_is : (p : Parameters) → AreAccepted p → tm.IsFormat (tm_format p)
+tm_is : (p : Parameters) → managed_of p ≡ Ok p → tm.IsFormat (tm_format p)
 tm_is p are = let range = managed_length p are in record { least = range.0; most = range.1 }
 
-pub tm_forms_deliver : TmFormsDeliver
-tm_forms_deliver p recording are =
+pub tm_form_delivers : (p : Parameters) (recording : List ℕ) → managed_of p ≡ Ok p → tm_packets p (tm_normal_form p recording) ≡ tm_packets p recording
+tm_form_delivers p recording are =
     delivers (tm_format p) p.spacecraft (tm_packets p recording) (tm_is p are) (managed_spacecraft p are)
     (tm_recording.recorded_lists_are_deliverable (tm_format p) p.spacecraft recording)
+
+pub tm_forms_deliver : TmFormsDeliver
+tm_forms_deliver p recording are = tm_form_delivers p recording are.allowed
 
 pub tm_forms_tell_packets : TmFormsTellPackets
 tm_forms_tell_packets p x y are = (
@@ -35,19 +38,19 @@ tm_forms_are_their_own p recording are = ap (normal_form (tm_format p) p.spacecr
 -- ---- TC
 
 tc_is : (p : Parameters) → AreAccepted p → tc.IsFormat (tc_format p)
-tc_is p are = let range = managed_greatest p are in record { least = range.0; most = range.1 }
+tc_is p are = let range = managed_greatest p are.allowed in record { least = range.0; most = range.1 }
 
 pub tc_forms_deliver : TcFormsDeliver
 unfolding tc_form_of
-tc_forms_deliver p recording are small =
-    normal_form_delivers (tc_format p) p.spacecraft p.window p.vr (tc_packets p recording) (tc_is p are) (managed_spacecraft p are) small
+tc_forms_deliver p recording are =
+    normal_form_delivers (tc_format p) p.spacecraft p.window p.vr (tc_packets p recording) (tc_is p are) (managed_spacecraft p are.allowed) are.octet
     (tc_recording.recorded_lists_are_deliverable (tc_format p) p.spacecraft p.window p.vr recording)
 
 pub tc_forms_tell_packets : TcFormsTellPackets
-tc_forms_tell_packets p x y are small = (
-  λ same. sym (tc_forms_deliver p x are small) ∙ ap (tc_packets p) same ∙ tc_forms_deliver p y are small,
+tc_forms_tell_packets p x y are = (
+  λ same. sym (tc_forms_deliver p x are) ∙ ap (tc_packets p) same ∙ tc_forms_deliver p y are,
   λ same. ap (tc_form_of p) same,
 )
 
 pub tc_forms_are_their_own : TcFormsAreTheirOwn
-tc_forms_are_their_own p recording are small = ap (tc_form_of p) (tc_forms_deliver p recording are small)
+tc_forms_are_their_own p recording are = ap (tc_form_of p) (tc_forms_deliver p recording are)

@@ -1,4 +1,4 @@
--- The lists of delivered packets, channel by channel, while TC frames are received one after another.
+-- The lists of delivered packets, channel by channel, while TC frames are processed one after another.
 use Rattle.std.proofs.Common.{◌≡◌, ℕ, ◌+◌, ◌/◌, ◌^◌, ◌<◌, ◌≤◌, ◌==◌, ◌&&◌, Bool, true, false, not, List, [], ◌∷◌, ◌++◌, length, take, drop, map, Option, None, Some, Result, Ok, Err, inl, inr, refl, sym, ◌∙◌, ap, subst, arith, append_assoc, append-nil, length-append, length-drop, if◌then◌else◌, is_err}
 use Rattle.std.specs.Prelude.{⊤}
 use Rattle.std.specs.Result.{result_ok}
@@ -19,7 +19,7 @@ use Rattle.sl_tcframe.specs.TcDelimited.{front_len, tc_frames_of, tc_remainder_o
 use Rattle.sl_tcframe.specs.TcFrame.{TcFormat, TcView, Content, Ad, Bd, Unlock, SetVr, command_of, content_of, early_reason, field_len, header_of, is_cut, parts_of, read_as, tc_frame, unit_of}
 use Rattle.sl_tcframe.proofs.DelimitedLemmas.{AreCuts, frames_of-concat, frames_of-none, remainder_of-concat, remainder_of-none}
 use Rattle.sl_tcflow.specs.AcceptedUnit.{views_of}
-use Rattle.sl_tcflow.specs.Receiving.{ReceiverState, HasReceived, ended_by, unit_channel}
+use Rattle.sl_tcflow.specs.Receiving.{ReceiverState, HasProcessed, ended_by, unit_channel}
 use Rattle.sl_tcflow.specs.Recording.{map_channels, packets_in_channel}
 use Rattle.sl_link.specs.DeliverTc.{as_read, ended_in, lists_after}
 use Rattle.sl_link.specs.Delivering.{with_frame}
@@ -27,13 +27,13 @@ use Rattle.sl_link.specs.Managed.{Parameters, tc_format}
 use Rattle.sl_link.specs.NormaliseTc.{tc_packets, tc_counts}
 use Rattle.sl_link.specs.ShowTc.{tc_skipped_of}
 use Rattle.sl_link.proofs.DeliveringLemmas.{items, items_change, lists_are, no_items, views_step}
-use Rattle.sl_link.proofs.TcHandedLemmas.{held_in, held_other, held_own, packets_other, packets_own, small_map, unit_len}
+use Rattle.sl_tcflow.proofs.ChannelLemmas.{held_in, held_other, held_own, packets_other, packets_own, small_map, unit_len}
 use Rattle.sl_link.proofs.TcListingLemmas.{tc_skipped_of-append}
 
 -- ---- a frame, as it is read
 
 -- it is of one of the channels
-abbrev IsOfChannel : Result TcView TcSkip → Type 0
+abbrev pub IsOfChannel : Result TcView TcSkip → Type 0
 IsOfChannel (Ok view) = unit_channel view < channel_count
 IsOfChannel (Err reason) = ⊤
 
@@ -44,7 +44,7 @@ read_channel None frame (Some content) =
     let vc : (header_of frame).vc < 64 = mod_below (number_of (take 5 frame) / 2 ^ 18) 64 (omega arith) in
     let small = small_map content in omega (arith, vc, small)
 
-of_channel : (p : Parameters) (frame : List ℕ) → IsOfChannel (as_read p frame)
+pub of_channel : (p : Parameters) (frame : List ℕ) → IsOfChannel (as_read p frame)
 of_channel p frame = read_channel (early_reason (tc_format p) p.spacecraft frame) frame (content_of (header_of frame) (parts_of (tc_format p) frame).field)
 
 pub channel_fits : (p : Parameters) (frame : List ℕ) (view : TcView) → as_read p frame ≡ Ok view → unit_channel view < channel_count
@@ -81,7 +81,7 @@ read_most None h field false bypass = unit_most h field
 read_most None h field true true = command_most h field
 read_most None h field true false = omega arith
 
-unit_within : (p : Parameters) (frame : List ℕ) → unit_len_of (as_read p frame) ≤ length frame
+pub unit_within : (p : Parameters) (frame : List ℕ) → unit_len_of (as_read p frame) ≤ length frame
 unit_within p frame =
     let h = header_of frame in
     let field = (parts_of (tc_format p) frame).field in
@@ -119,7 +119,7 @@ module _ (w vr : ℕ) where
   abbrev passing : (List ℕ → Bool) → List TcView → ℕ → List (List ℕ)
   passing test views channel = filter test (packets_in_channel w vr views channel)
 
-  count_next : (test : List ℕ → Bool) (views : List TcView) (r : Result TcView TcSkip) → IsOfChannel r
+  pub count_next : (test : List ℕ → Bool) (views : List TcView) (r : Result TcView TcSkip) → IsOfChannel r
       → items (passing test (with_frame views r)) ≡ items (passing test views) + length (filter test (ended_in w vr views r))
   count_next test views (Err reason) range = omega arith
   count_next test views (Ok view) range =
@@ -134,7 +134,7 @@ module _ (w vr : ℕ) where
       omega (arith, change, here)
 
   -- the packets that end and the octets that are held after them are no more than those held before and the frame's own
-  held_next : (views : List TcView) (r : Result TcView TcSkip) → IsOfChannel r
+  pub held_next : (views : List TcView) (r : Result TcView TcSkip) → IsOfChannel r
       → items (held_in w vr (with_frame views r)) + length (ended_in w vr views r) ≤ items (held_in w vr views) + unit_len_of r
   held_next views (Err reason) range = omega arith
   held_next views (Ok view) range =
@@ -147,11 +147,11 @@ module _ (w vr : ℕ) where
 
 -- ---- frame by frame
 
-cuts_last : (format : TcFormat) (frames : List (List ℕ)) (frame : List ℕ) → AreCuts format frames → is_cut format frame ≡ true → AreCuts format (frames ++ frame ∷ [])
+pub cuts_last : (format : TcFormat) (frames : List (List ℕ)) (frame : List ℕ) → AreCuts format frames → is_cut format frame ≡ true → AreCuts format (frames ++ frame ∷ [])
 cuts_last format [] frame cuts cut = (cut, tt)
 cuts_last format (first ∷ frames) frame cuts cut = (cuts.0, cuts_last format frames frame cuts.1 cut)
 
-views_next : (format : TcFormat) (spacecraft : ℕ) (frames : List (List ℕ)) (frame : List ℕ)
+pub views_next : (format : TcFormat) (spacecraft : ℕ) (frames : List (List ℕ)) (frame : List ℕ)
     → views_of format spacecraft (frames ++ frame ∷ []) ≡ with_frame (views_of format spacecraft frames) (tc_frame format spacecraft frame)
 views_next format spacecraft frames frame =
     filter_map-append (λ f. result_ok (tc_frame format spacecraft f)) frames (frame ∷ [])
@@ -161,15 +161,15 @@ module _ (p : Parameters) (recording : List ℕ) where
   abbrev pub seen_in : List (List ℕ) → List TcView
   seen_in frames = views_of (tc_format p) p.spacecraft frames
 
-  abbrev held : List (List ℕ) → ℕ
+  abbrev pub held : List (List ℕ) → ℕ
   held frames = items (held_in p.window p.vr (seen_in frames))
 
-  -- the frames before the octets that are left were received, and what FARM-1 let through is delivered and counted
+  -- the frames before the octets that are left were processed, and what FARM-1 let through is delivered and counted
   pub record IsTcDelivering (receiver : ReceiverState) (left : List ℕ) (lists : List (List (List ℕ))) (octets frames skipped packets idle : ℕ) : Type 0 where
     pub done : List (List ℕ)
     pub cuts : AreCuts (tc_format p) done
     pub parts : recording ≡ concat done ++ left
-    pub received : HasReceived p.window p.vr receiver (seen_in done)
+    pub processed : HasProcessed p.window p.vr receiver (seen_in done)
     pub size : length lists ≡ channel_count
     pub lists_are : (channel : ℕ) → channel < channel_count → slice_index_or lists channel [] ≡ without_idle (packets_in_channel p.window p.vr (seen_in done) channel)
     pub octets_are : octets + length left ≡ length recording
@@ -179,9 +179,9 @@ module _ (p : Parameters) (recording : List ℕ) where
     pub idle_are : idle ≡ items (λ channel. only_idle (packets_in_channel p.window p.vr (seen_in done) channel))
     pub within : packets + idle + held done ≤ octets
 
-  pub nothing_delivered : (receiver : ReceiverState) (lists : List (List (List ℕ))) → HasReceived p.window p.vr receiver [] → length lists ≡ channel_count
+  pub nothing_delivered : (receiver : ReceiverState) (lists : List (List (List ℕ))) → HasProcessed p.window p.vr receiver [] → length lists ≡ channel_count
       → ((channel : ℕ) → slice_index_or lists channel [] ≡ []) → IsTcDelivering receiver recording lists 0 0 0 0 0
-  nothing_delivered receiver lists received size none =
+  nothing_delivered receiver lists processed size none =
       let packets = no_items (λ channel. without_idle (packets_in_channel p.window p.vr [] channel)) (λ channel. refl) in
       let idle = no_items (λ channel. only_idle (packets_in_channel p.window p.vr [] channel)) (λ channel. refl) in
       let octets = no_items (held_in p.window p.vr []) (λ channel. refl) in
@@ -189,7 +189,7 @@ module _ (p : Parameters) (recording : List ℕ) where
         done = [];
         cuts = tt;
         parts = refl;
-        received = received;
+        processed = processed;
         size = size;
         lists_are = λ channel inside. none channel;
         octets_are = omega arith;
@@ -216,14 +216,14 @@ module _ (p : Parameters) (recording : List ℕ) where
   pub delivered_next : (receiver receiver' : ReceiverState) (left frame after : List ℕ) (lists lists' : List (List (List ℕ)))
       (octets frames skipped packets idle octets' frames' skipped' packets' idle' : ℕ)
       → left ≡ frame ++ after → is_cut (tc_format p) frame ≡ true → (d : IsTcDelivering receiver left lists octets frames skipped packets idle)
-      → HasReceived p.window p.vr receiver' (with_frame (seen_in d.done) (as_read p frame))
+      → HasProcessed p.window p.vr receiver' (with_frame (seen_in d.done) (as_read p frame))
       → lists' ≡ lists_after p.window p.vr (seen_in d.done) (as_read p frame) lists
       → octets' ≡ octets + length frame → frames' ≡ frames + 1 → skipped' ≡ skipped + (if is_err (as_read p frame) then 1 else 0)
       → packets' ≡ packets + length (without_idle (ended_in p.window p.vr (seen_in d.done) (as_read p frame)))
       → idle' ≡ idle + length (only_idle (ended_in p.window p.vr (seen_in d.done) (as_read p frame)))
       → IsTcDelivering receiver' after lists' octets' frames' skipped' packets' idle'
   delivered_next receiver receiver' left frame after lists lists' octets frames skipped packets idle octets' frames' skipped' packets' idle'
-      parts cut d received lists_by octets_by frames_by skipped_by packets_by idle_by =
+      parts cut d processed lists_by octets_by frames_by skipped_by packets_by idle_by =
       let seen = seen_in d.done in
       let r = as_read p frame in
       let next : seen_in (d.done ++ frame ∷ []) ≡ with_frame seen r = views_next (tc_format p) p.spacecraft d.done frame in
@@ -235,7 +235,7 @@ module _ (p : Parameters) (recording : List ℕ) where
         cuts = cuts_last (tc_format p) d.done frame d.cuts cut;
         parts = d.parts ∙ ap (λ l. concat d.done ++ l) parts ∙ sym (append_assoc (concat d.done) frame after)
             ∙ ap (λ l. concat d.done ++ l ++ after) (sym (append-nil frame)) ∙ ap (λ l. l ++ after) (sym (concat-append d.done (frame ∷ [])));
-        received = subst (λ l. HasReceived p.window p.vr receiver' l) (sym next) received;
+        processed = subst (λ l. HasProcessed p.window p.vr receiver' l) (sym next) processed;
         size = ap length lists_by ∙ length-lists_after p.window p.vr seen r lists ∙ d.size;
         lists_are = λ channel inside. ap (λ l. slice_index_or l channel []) lists_by
             ∙ list_step p.window p.vr seen r lists channel d.size inside (d.lists_are channel inside)

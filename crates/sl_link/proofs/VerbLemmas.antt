@@ -21,9 +21,9 @@ use Rattle.clap.specs.declared.error.kind.ErrorKind.TheVariants as kind
 use Rattle.clap.proofs.CallerReads.{signed_reads}
 use Rattle.clap.proofs.ValueTestLemmas.{accepts-Accepts}
 use Rattle.clap.proofs.WalkLemmas.{both}
-use Rattle.sl_link.specs.CommandLine.{bits_64, engine_named, is_set, normalised_kinds, number_in, number_read, request_with, shown_kinds}
+use Rattle.sl_link.specs.CommandLine.{bits_64, engine_named, is_set, number_in, number_read, recording_kinds, request_with}
 use Rattle.sl_link.specs.declared.command_line.Engine.{Engine}
-use Rattle.sl_link.specs.declared.command_line.Engine.TheVariants.{ShowTm, ShowTc, NormaliseTm, NormaliseTc}
+use Rattle.sl_link.specs.declared.command_line.Engine.TheVariants.{ShowTm, ShowTc, CheckTm, CheckTc, PacketsTm, PacketsTc, NormaliseTm, NormaliseTc}
 use Rattle.sl_link.specs.declared.command_line.Options.{Options}
 use Rattle.sl_link.specs.declared.command_line.Request.{Request}
 use Rattle.sl_link.proofs.CommandLineLemmas.{number_reads, options_are, some_request}
@@ -70,14 +70,14 @@ long_number_there rows a is h =
 
 -- the option of that name
 abbrev option_of : Text → Rule
-option_of id = unwrap_or (arg_by_id (rules_at normalised_kinds) id) (new_rule [])
+option_of id = unwrap_or (arg_by_id (rules_at recording_kinds) id) (new_rule [])
 
 -- the verb has an engine for the kind
 abbrev HasEngine : Text → Text → Type 0
 HasEngine verb kind = (engine : Engine) × (engine_named verb kind ≡ Some engine)
 
 -- and one for each word that is taken as a kind
-abbrev NamesEngines : Text → Bor (List (Bor Text)) → Type 0
+abbrev pub NamesEngines : Text → Bor (List (Bor Text)) → Type 0
 NamesEngines verb kinds = (v : Text) → Takes (kind_at kinds) v → HasEngine verb v
 
 module _ (verb : Text) (kinds : Bor (List (Bor Text))) where
@@ -216,8 +216,14 @@ engines_of verb (kind ∷ kinds) each v ok = go (bytes_eq kind v) refl ok (λ h.
     go true is h later = subst (HasEngine verb) ((bytes_eq-Decides kind v).0 is) each.0
     go false is h later = later h
 
-pub show_engines : NamesEngines (codes "show") shown_kinds
+pub show_engines : NamesEngines (codes "show") recording_kinds
 show_engines = engines_of (codes "show") (codes "tm" ∷ codes "tc" ∷ []) ((ShowTm, refl), ((ShowTc, refl), tt))
 
-pub normalise_engines : NamesEngines (codes "normalise") normalised_kinds
+pub check_engines : NamesEngines (codes "check") recording_kinds
+check_engines = engines_of (codes "check") (codes "tm" ∷ codes "tc" ∷ []) ((CheckTm, refl), ((CheckTc, refl), tt))
+
+pub packets_engines : NamesEngines (codes "packets") recording_kinds
+packets_engines = engines_of (codes "packets") (codes "tm" ∷ codes "tc" ∷ []) ((PacketsTm, refl), ((PacketsTc, refl), tt))
+
+pub normalise_engines : NamesEngines (codes "normalise") recording_kinds
 normalise_engines = engines_of (codes "normalise") (codes "tm" ∷ codes "tc" ∷ []) ((NormaliseTm, refl), ((NormaliseTc, refl), tt))

@@ -63,11 +63,6 @@ tm_amiss_from p offset views [] = []
 tm_amiss_from p offset views (frame ∷ frames) =
     tm_amiss offset views (as_read p frame) ++ tm_amiss_from p (offset + length frame) (with_frame views (as_read p frame)) frames
 
--- a packet of so many octets is incomplete after the last frame of its virtual channel
-abbrev pub held_amiss : ℕ → ℕ → ℕ → List (List ℕ)
-held_amiss offset vc octets =
-    if octets == 0 then [] else line_at offset (codes " open vc " ++ decimal vc ++ codes " octets " ++ decimal octets) ∷ []
-
 -- the packets that are incomplete after the last frame of their virtual channels, at the end of the recording
 abbrev pub tm_incomplete : ℕ → List TmView → List (List ℕ)
 tm_incomplete offset views =

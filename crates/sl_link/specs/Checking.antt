@@ -1,6 +1,6 @@
 -- What a TM recording comes to while it is checked, as the code says it. Contracts of private functions alone cite
 -- these.
-use Rattle.std.specs.Prelude.{◌≡◌, ◌≤◌, ℕ, ◌+◌, ◌-◌, ◌*◌, List, [], ◌++◌, length, Result, is_err}
+use Rattle.std.specs.Prelude.{◌≡◌, ◌≤◌, ℕ, ◌+◌, ◌-◌, ◌*◌, ◌==◌, if◌then◌else◌, List, [], ◌∷◌, ◌++◌, length, codes, decimal, Result, is_err}
 use Rattle.sl_packet.specs.Packets.{only_idle, without_idle}
 use Rattle.sl_tmframe.specs.declared.tm_frame.TmSkip.{TmSkip}
 use Rattle.sl_tmframe.specs.TmDelimited.{tm_frames_of}
@@ -9,11 +9,17 @@ use Rattle.sl_tmflow.specs.Extraction.{ExtractorState, HasProcessed}
 use Rattle.sl_link.specs.Amiss.{remainder_amiss}
 use Rattle.sl_link.specs.CheckTm.{tm_amiss, tm_amiss_from, tm_incomplete}
 use Rattle.sl_link.specs.Deliver.{ended_in}
+use Rattle.sl_link.specs.Line.{line_at}
 use Rattle.sl_link.specs.Managed.{Parameters}
 use Rattle.sl_link.specs.NormaliseTm.{tm_counts}
 use Rattle.sl_link.specs.Totals.{Counts}
 use Rattle.sl_link.specs.declared.check_tally.CheckReport.{CheckReport}
 use Rattle.sl_link.specs.declared.check_tally.CheckTally.{CheckTally}
+
+-- the octets of a packet that is incomplete after the last frame of its virtual channel, if any are held
+abbrev pub held_amiss : ℕ → ℕ → ℕ → List (List ℕ)
+held_amiss offset vc octets =
+    if octets == 0 then [] else line_at offset (codes " open vc " ++ decimal vc ++ codes " octets " ++ decimal octets) ∷ []
 
 -- what a frame brought that comes after these
 pub record TellsFrame (offset : ℕ) (views : List TmView) (r : Result TmView TmSkip) (report : CheckReport) : Type 0 where

@@ -17,7 +17,7 @@ use Rattle.clap.specs.declared.error.kind.ErrorKind.{ErrorKind}
 use Rattle.clap.specs.declared.error.kind.ErrorKind.TheVariants.{DisplayHelp}
 use Rattle.sl_link.specs.Managed.{Parameters}
 use Rattle.sl_link.specs.declared.command_line.Engine.{Engine}
-use Rattle.sl_link.specs.declared.command_line.Engine.TheVariants.{ShowTm, ShowTc, NormaliseTm, NormaliseTc}
+use Rattle.sl_link.specs.declared.command_line.Engine.TheVariants.{ShowTm, ShowTc, CheckTm, CheckTc, PacketsTm, PacketsTc, NormaliseTm, NormaliseTc}
 use Rattle.sl_link.specs.declared.command_line.Options.{Options}
 use Rattle.sl_link.specs.declared.command_line.Request.{Request}
 
@@ -81,36 +81,35 @@ with_link_options app = fold with_rule app link_options
 abbrev pub verb_app : Text → Bor (List (Bor Text)) → App
 verb_app name kinds = with_link_options (with_rule (new_app name) (kind_rule kinds))
 
--- `sllink VERB ..`, where `show` takes the kinds of the first names, and `normalise` those of the second
-abbrev pub sllink_with : Bor (List (Bor Text)) → Bor (List (Bor Text)) → App
-sllink_with shown normalised = record {
+-- `sllink VERB ..`, where each verb takes these kinds
+abbrev pub sllink_with : Bor (List (Bor Text)) → App
+sllink_with kinds = record {
   top = record (new_shape (codes "sllink")) { is_leaf = false; subcommand_required = true };
-  subs = (verb_app (codes "show") shown).top ∷ (verb_app (codes "normalise") normalised).top ∷ [];
+  subs =
+      (verb_app (codes "show") kinds).top
+      ∷ (verb_app (codes "check") kinds).top
+      ∷ (verb_app (codes "packets") kinds).top
+      ∷ (verb_app (codes "normalise") kinds).top
+      ∷ [];
 }
 
 -- a value at one place in memory: where the names lie makes no difference
 abbrev pub placed : {X : Type 0} → X → Bor X
 placed x = record { ref_ptr = (0, 0); now = x }
 
--- the names of the kinds that `show` takes
-abbrev pub shown_kinds : Bor (List (Bor Text))
-shown_kinds = placed (placed (codes "tm") ∷ placed (codes "tc") ∷ [])
-
--- and those that `normalise` takes
-abbrev pub normalised_kinds : Bor (List (Bor Text))
-normalised_kinds = placed (placed (codes "tm") ∷ placed (codes "tc") ∷ [])
+-- the names of the kinds of recording
+abbrev pub recording_kinds : Bor (List (Bor Text))
+recording_kinds = placed (placed (codes "tm") ∷ placed (codes "tc") ∷ [])
 
 -- the command line of `sllink`
 abbrev pub sllink_app : App
-sllink_app = sllink_with shown_kinds normalised_kinds
+sllink_app = sllink_with recording_kinds
 
 -- that command line, wherever in memory the names lie
 pub record IsSllink (app : App) : Type 0 where
-  pub shown : Bor (List (Bor Text))
-  pub shown_named : texts shown.now ≡ texts shown_kinds.now
-  pub normalised : Bor (List (Bor Text))
-  pub normalised_named : texts normalised.now ≡ texts normalised_kinds.now
-  pub same : app ≡ sllink_with shown normalised
+  pub kinds : Bor (List (Bor Text))
+  pub named : texts kinds.now ≡ texts recording_kinds.now
+  pub same : app ≡ sllink_with kinds
 
 -- ---- what the words ask for
 
@@ -124,6 +123,10 @@ abbrev pub engine_named : Text → Text → Option Engine
 engine_named verb kind =
     if bytes_eq verb (codes "show") && bytes_eq kind (codes "tm") then Some ShowTm
     else if bytes_eq verb (codes "show") && bytes_eq kind (codes "tc") then Some ShowTc
+    else if bytes_eq verb (codes "check") && bytes_eq kind (codes "tm") then Some CheckTm
+    else if bytes_eq verb (codes "check") && bytes_eq kind (codes "tc") then Some CheckTc
+    else if bytes_eq verb (codes "packets") && bytes_eq kind (codes "tm") then Some PacketsTm
+    else if bytes_eq verb (codes "packets") && bytes_eq kind (codes "tc") then Some PacketsTc
     else if bytes_eq verb (codes "normalise") && bytes_eq kind (codes "tm") then Some NormaliseTm
     else if bytes_eq verb (codes "normalise") && bytes_eq kind (codes "tc") then Some NormaliseTc
     else None

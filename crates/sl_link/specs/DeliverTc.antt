@@ -3,7 +3,7 @@ use Rattle.std.specs.Prelude.{ℕ, List, [], Result, Ok, Err}
 use Rattle.sl_packet.specs.Packets.{without_idle}
 use Rattle.sl_tcframe.specs.declared.tc_frame.TcSkip.{TcSkip}
 use Rattle.sl_tcframe.specs.TcFrame.{TcView, tc_frame}
-use Rattle.sl_tcflow.specs.Receiving.{ReceiverState, HasReceived, ended_by, unit_channel}
+use Rattle.sl_tcflow.specs.Receiving.{ended_by, unit_channel}
 use Rattle.sl_link.specs.Delivering.{with_packets}
 use Rattle.sl_link.specs.Managed.{Parameters, tc_format}
 
@@ -20,7 +20,3 @@ ended_in w vr views (Err reason) = []
 abbrev pub lists_after : ℕ → ℕ → List TcView → Result TcView TcSkip → List (List (List ℕ)) → List (List (List ℕ))
 lists_after w vr views (Ok view) lists = with_packets lists (unit_channel view) (without_idle (ended_by w vr views view))
 lists_after w vr views (Err reason) lists = lists
-
--- some frames were received, and no fault came
-abbrev pub IsReceiving : ReceiverState → Type 0
-IsReceiving state = (w : ℕ) × (vr : ℕ) × (views : List TcView) × HasReceived w vr state views

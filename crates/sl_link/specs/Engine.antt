@@ -1,18 +1,26 @@
 -- What an engine writes for a recording, what it counts in it, and how it reads it.
 use Rattle.std.specs.Prelude.{ℕ, Bool, true, false, List}
 use Rattle.sl_link.specs.declared.command_line.Engine.{Engine}
-use Rattle.sl_link.specs.declared.command_line.Engine.TheVariants.{ShowTm, ShowTc, NormaliseTm, NormaliseTc}
+use Rattle.sl_link.specs.declared.command_line.Engine.TheVariants.{ShowTm, ShowTc, CheckTm, CheckTc, PacketsTm, PacketsTc, NormaliseTm, NormaliseTc}
+use Rattle.sl_link.specs.CheckTc.{check_tc_text, check_tc_counts}
+use Rattle.sl_link.specs.CheckTm.{check_tm_text, check_tm_counts}
 use Rattle.sl_link.specs.Managed.{Parameters}
 use Rattle.sl_link.specs.NormaliseTc.{tc_normal_form, tc_counts}
 use Rattle.sl_link.specs.NormaliseTm.{tm_normal_form, tm_counts}
+use Rattle.sl_link.specs.PacketsTc.{packets_tc_text}
+use Rattle.sl_link.specs.PacketsTm.{packets_tm_text}
 use Rattle.sl_link.specs.ShowTc.{show_tc_text, show_tc_counts}
 use Rattle.sl_link.specs.ShowTm.{show_tm_text, show_tm_counts}
 use Rattle.sl_link.specs.Totals.{Counts}
 
--- the listing of its frames, or the normal form of its packets
+-- the listing of its frames, of what is amiss in it or of its packets, or the normal form of its packets
 abbrev pub text_of : Engine → Parameters → List ℕ → List ℕ
 text_of ShowTm p = show_tm_text p
 text_of ShowTc p = show_tc_text p
+text_of CheckTm p = check_tm_text p
+text_of CheckTc p = check_tc_text p
+text_of PacketsTm p = packets_tm_text p
+text_of PacketsTc p = packets_tc_text p
 text_of NormaliseTm p = tm_normal_form p
 text_of NormaliseTc p = tc_normal_form p
 
@@ -20,6 +28,10 @@ text_of NormaliseTc p = tc_normal_form p
 abbrev pub counts_of : Engine → Parameters → List ℕ → Counts
 counts_of ShowTm p = show_tm_counts p
 counts_of ShowTc p = show_tc_counts p
+counts_of CheckTm p = check_tm_counts p
+counts_of CheckTc p = check_tc_counts p
+counts_of PacketsTm p = tm_counts p
+counts_of PacketsTc p = tc_counts p
 counts_of NormaliseTm p = tm_counts p
 counts_of NormaliseTc p = tc_counts p
 
@@ -27,6 +39,10 @@ counts_of NormaliseTc p = tc_counts p
 abbrev pub buffer_of : Engine → ℕ
 buffer_of ShowTm = 0x20000
 buffer_of ShowTc = 0x20000
+buffer_of CheckTm = 0x10000
+buffer_of CheckTc = 0x10000
+buffer_of PacketsTm = 0x10000
+buffer_of PacketsTc = 0x10000
 buffer_of NormaliseTm = 0x10000
 buffer_of NormaliseTc = 0x10000
 
@@ -34,12 +50,31 @@ buffer_of NormaliseTc = 0x10000
 abbrev pub lists_frames : Engine → Bool
 lists_frames ShowTm = true
 lists_frames ShowTc = true
+lists_frames CheckTm = false
+lists_frames CheckTc = false
+lists_frames PacketsTm = false
+lists_frames PacketsTc = false
 lists_frames NormaliseTm = false
 lists_frames NormaliseTc = false
+
+-- the engine lists what is amiss, and alone counts anomalies
+abbrev pub is_check : Engine → Bool
+is_check ShowTm = false
+is_check ShowTc = false
+is_check CheckTm = true
+is_check CheckTc = true
+is_check PacketsTm = false
+is_check PacketsTc = false
+is_check NormaliseTm = false
+is_check NormaliseTc = false
 
 -- the engine writes a normal form, once all is read
 abbrev pub writes_normal_form : Engine → Bool
 writes_normal_form ShowTm = false
 writes_normal_form ShowTc = false
+writes_normal_form CheckTm = false
+writes_normal_form CheckTc = false
+writes_normal_form PacketsTm = false
+writes_normal_form PacketsTc = false
 writes_normal_form NormaliseTm = true
 writes_normal_form NormaliseTc = true

@@ -1,8 +1,9 @@
 pub mod Amiss
-pub mod ChannelFarm
+pub mod ChannelName
 pub mod CheckTc
 pub mod CheckTm
 pub mod Checking
+pub mod CheckingTc
 pub mod CommandLine
 pub mod Counted
 pub mod Deliver
@@ -32,11 +33,14 @@ pub use Rattle.sl_cop.specs.FarmClcw
 pub use Rattle.sl_fields.specs.Clcw
 pub use Rattle.sl_fields.specs.Fecf
 pub use Rattle.sl_fields.specs.Field
+pub use Rattle.sl_fields.specs.PacketHeader
 pub use Rattle.sl_fields.specs.Shape
 pub use Rattle.sl_fields.specs.SegmentHeader
 pub use Rattle.sl_fields.specs.TcHeader
 pub use Rattle.sl_fields.specs.TmHeader
+pub use Rattle.sl_packet.specs.Packets
 pub use Rattle.sl_tcflow.specs.AcceptedUnit
+pub use Rattle.sl_tcflow.specs.Receiving
 pub use Rattle.sl_tcflow.specs.Reception
 pub use Rattle.sl_tcflow.specs.Series
 pub use Rattle.sl_tcflow.specs.TcNormalForm
@@ -48,8 +52,11 @@ pub use Rattle.sl_tmframe.specs.PacketFrame
 pub use Rattle.sl_tmframe.specs.TmField
 pub use Rattle.sl_tmframe.specs.TmDelimited
 pub use Rattle.sl_tmframe.specs.TmFrame
+pub use Rattle.sl_tmflow.specs.Anomaly
 pub use Rattle.sl_tmflow.specs.Channel
 pub use Rattle.sl_tmflow.specs.Delivery
+pub use Rattle.sl_tmflow.specs.Extraction
+pub use Rattle.sl_tmflow.specs.Incomplete
 pub use Rattle.sl_tmflow.specs.NormalForm
 pub use Rattle.sl_tmflow.specs.PacketStart
 pub use Rattle.sl_tmflow.specs.Recording

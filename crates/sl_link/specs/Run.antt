@@ -6,7 +6,7 @@ use Rattle.sl_link.specs.declared.counted.Counted.{Counted}
 use Rattle.sl_link.specs.declared.link_fault.LinkFault.{LinkFault}
 use Rattle.sl_link.specs.declared.link_fault.LinkFault.TheVariants.{Memory, Write}
 use Rattle.sl_link.specs.CommandLine.{AskFor, asked}
-use Rattle.sl_link.specs.Engine.{text_of, counts_of, buffer_of, lists_frames, writes_normal_form}
+use Rattle.sl_link.specs.Engine.{text_of, counts_of, buffer_of, is_check, lists_frames, writes_normal_form}
 use Rattle.sl_link.specs.Managed.{Parameters, managed_of}
 use Rattle.sl_link.specs.Streams.{IsRead, Translates, Stops}
 use Rattle.sl_link.specs.Totals.{Counts}
@@ -17,7 +17,7 @@ module _ {R W : Type 0} (remaining : R → Option (List ℕ)) (contents : W → 
   HasWritten reader reader' writer writer' request managed =
       Translates remaining contents reader reader' writer writer' (text_of request.engine managed) (counts_of request.engine managed) managed.max_octets
 
-  -- A fault stopped the engine, or the flush after it. A listing needs no memory. Of a normal form
+  -- A fault stopped the engine, or the flush after it. A listing of frames needs no memory. Of a normal form
   -- anything is written only where the writer failed, and all is read then.
   pub record IsStoppedBy (reader reader' : Counted R) (writer writer' : Counted W) (request : Request) (managed : Parameters) (fault : LinkFault) : Type 0 where
     pub cause : Stops remaining contents reader reader' writer writer' (text_of request.engine managed) managed.max_octets (buffer_of request.engine) fault
@@ -26,11 +26,23 @@ module _ {R W : Type 0} (remaining : R → Option (List ℕ)) (contents : W → 
     pub nothing : writes_normal_form request.engine ≡ true → fault ≢ Write → writer' ≡ writer
 
   -- no managed parameter that is asked for is refused, and the engine's text of a recording was written
-  pub record HasSucceeded (reader reader' : Counted R) (writer writer' : Counted W) (request : Request) : Type 0 where
+  pub record HasEnded (reader reader' : Counted R) (writer writer' : Counted W) (request : Request) (totals : Counts) : Type 0 where
     pub managed : Parameters
     pub allowed : managed_of (asked request.options) ≡ Ok managed
-    pub totals : Counts
     pub written : HasWritten reader reader' writer writer' request managed totals
+
+  -- the engine came to its end, and met no anomaly
+  pub record HasSucceeded (reader reader' : Counted R) (writer writer' : Counted W) (request : Request) : Type 0 where
+    pub totals : Counts
+    pub ended : HasEnded reader reader' writer writer' request totals
+    pub none : totals.anomalies ≡ 0
+
+  -- a check came to its end, and met anomalies
+  pub record HasMetAnomalies (reader reader' : Counted R) (writer writer' : Counted W) (request : Request) : Type 0 where
+    pub totals : Counts
+    pub ended : HasEnded reader reader' writer writer' request totals
+    pub some : totals.anomalies ≢ 0
+    pub of_check : is_check request.engine ≡ true
 
   -- no managed parameter that is asked for is refused, and a fault stopped the engine
   pub record HasStopped (reader reader' : Counted R) (writer writer' : Counted W) (request : Request) : Type 0 where

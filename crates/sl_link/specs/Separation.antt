@@ -4,9 +4,10 @@ use Rattle.sl_link.specs.Managed.{Parameters, managed_of}
 use Rattle.sl_link.specs.NormaliseTc.{tc_normal_form, tc_packets}
 use Rattle.sl_link.specs.NormaliseTm.{tm_normal_form, tm_packets}
 
--- managed parameters that aren't refused
-abbrev pub AreAccepted : Parameters → Type 0
-AreAccepted p = managed_of p ≡ Ok p
+-- Managed parameters that aren't refused. V(R) has one octet.
+pub record AreAccepted (p : Parameters) : Type 0 where
+  pub allowed : managed_of p ≡ Ok p
+  pub octet : p.vr < 256
 
 -- ---- laws
 
@@ -24,17 +25,16 @@ abbrev pub TmFormsAreTheirOwn : Type 0
 TmFormsAreTheirOwn = (p : Parameters) (recording : List ℕ) → AreAccepted p → tm_normal_form p (tm_normal_form p recording) ≡ tm_normal_form p recording
 
 -- The normal form of a TC recording delivers the packets that the recording delivers, on each virtual channel and MAP.
--- V(R) has one octet.
 abbrev pub TcFormsDeliver : Type 0
 TcFormsDeliver =
-    (p : Parameters) (recording : List ℕ) → AreAccepted p → p.vr < 256 → tc_packets p (tc_normal_form p recording) ≡ tc_packets p recording
+    (p : Parameters) (recording : List ℕ) → AreAccepted p → tc_packets p (tc_normal_form p recording) ≡ tc_packets p recording
 
 -- So two normal forms are equal octet for octet exactly where the recordings deliver the same packets,
 abbrev pub TcFormsTellPackets : Type 0
 TcFormsTellPackets =
-    (p : Parameters) (x y : List ℕ) → AreAccepted p → p.vr < 256 → (tc_normal_form p x ≡ tc_normal_form p y) ↔ (tc_packets p x ≡ tc_packets p y)
+    (p : Parameters) (x y : List ℕ) → AreAccepted p → (tc_normal_form p x ≡ tc_normal_form p y) ↔ (tc_packets p x ≡ tc_packets p y)
 
 -- and a normal form is its own normal form.
 abbrev pub TcFormsAreTheirOwn : Type 0
 TcFormsAreTheirOwn =
-    (p : Parameters) (recording : List ℕ) → AreAccepted p → p.vr < 256 → tc_normal_form p (tc_normal_form p recording) ≡ tc_normal_form p recording
+    (p : Parameters) (recording : List ℕ) → AreAccepted p → tc_normal_form p (tc_normal_form p recording) ≡ tc_normal_form p recording

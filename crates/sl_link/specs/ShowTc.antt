@@ -1,5 +1,5 @@
 -- The listing of a TC recording's frames, a line for each, and then its remainder.
-use Rattle.std.specs.Prelude.{ℕ, ◌+◌, ◌-◌, ◌==◌, if◌then◌else◌, List, [], ◌∷◌, ◌++◌, length, take, codes, decimal, Result, Ok, Err, is_err}
+use Rattle.std.specs.Prelude.{ℕ, ◌+◌, ◌-◌, ◌==◌, if◌then◌else◌, List, [], ◌∷◌, ◌++◌, length, codes, decimal, Result, Ok, Err, is_err}
 use Rattle.std.specs.List.{concat}
 use Rattle.hex.specs.Hex.{encode_lower}
 use Rattle.sl_cop.specs.declared.verdict.Verdict.{Verdict}
@@ -8,12 +8,13 @@ use Rattle.sl_cop.specs.declared.verdict.Verdict.TheVariants as farm
 use Rattle.sl_cop.specs.Farm.{FarmState, FarmView, farm_step}
 use Rattle.sl_cop.specs.FarmClcw.{clcw_of}
 use Rattle.sl_fields.specs.Clcw.{clcw_octets}
-use Rattle.sl_fields.specs.SegmentHeader.{SegmentFields, segment_header}
 use Rattle.sl_tcframe.specs.declared.tc_frame.TcSkip.{TcSkip}
 use Rattle.sl_tcframe.specs.declared.tc_frame.TcSkip.TheVariants.{Fecf, Version, Spacecraft, Long, Kind, Empty, Command}
 use Rattle.sl_tcframe.specs.TcDelimited.{tc_frames_of, tc_remainder_of}
 use Rattle.sl_tcframe.specs.TcFrame.{TcView, Content, Ad, Bd, Unlock, SetVr, tc_frame}
-use Rattle.sl_link.specs.ChannelFarm.{event_of, farm_after}
+use Rattle.sl_tcflow.specs.AcceptedUnit.{channel_of, event_of, views_of}
+use Rattle.sl_tcflow.specs.Receiving.{farm_of}
+use Rattle.sl_tcflow.specs.Series.{header_at}
 use Rattle.sl_link.specs.Line.{line_at, remainder_line}
 use Rattle.sl_link.specs.Managed.{Parameters, tc_format}
 use Rattle.sl_link.specs.Totals.{Counts}
@@ -35,10 +36,6 @@ flags_word flags =
     else if flags == 0 then codes "middle"
     else if flags == 2 then codes "last"
     else codes "whole"
-
--- the segment header of a unit
-abbrev pub header_at : List ℕ → SegmentFields
-header_at unit = segment_header (take 1 unit)
 
 -- a unit: its segment header, and how many octets come after it
 abbrev pub unit_text : List ℕ → List ℕ
@@ -80,7 +77,7 @@ tc_frame_text farms (Err reason) = codes " skip " ++ tc_skip_word reason
 
 -- FARM-1 of a virtual channel after frames
 abbrev pub farm_view : Parameters → List (List ℕ) → ℕ → FarmView
-farm_view p before vc = record { window = p.window; state = farm_after p vc before }
+farm_view p before vc = farm_of p.window p.vr (channel_of vc (views_of (tc_format p) p.spacecraft before))
 
 -- the line of a frame that comes after these frames
 abbrev pub tc_line : Parameters → List (List ℕ) → List ℕ → List ℕ

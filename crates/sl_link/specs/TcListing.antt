@@ -1,15 +1,16 @@
 -- The frames of a TC recording shown one by one, while it is read: what private functions owe to each other.
-use Rattle.std.specs.Prelude.{◌≡◌, ℕ, ◌<◌, nat_lt, Bool, not, ◌&&◌, List, ◌++◌, length, Option, Result, Ok, Err}
+use Rattle.std.specs.Prelude.{◌≡◌, ℕ, nat_lt, Bool, not, ◌&&◌, List, ◌++◌, length, Option, Result, Ok, Err}
 use Rattle.std.specs.List.{concat, slice_index_or, slice_set}
 use Rattle.sl_cop.specs.declared.farm_event.FarmEvent.{FarmEvent}
 use Rattle.sl_cop.specs.Farm.{FarmState, FarmView, farm_start, farm_step}
 use Rattle.sl_tcframe.specs.declared.tc_frame.TcSkip.{TcSkip}
 use Rattle.sl_tcframe.specs.TcDelimited.{tc_frames_of}
 use Rattle.sl_tcframe.specs.TcFrame.{TcFormat, TcView, least_of, stated_len}
+use Rattle.sl_tcflow.specs.AcceptedUnit.{event_of, views_of}
+use Rattle.sl_tcflow.specs.Receiving.{HaveStepped}
 use Rattle.sl_link.specs.declared.counted.Counted.{Counted}
 use Rattle.sl_link.specs.declared.link_fault.LinkFault.{LinkFault}
 use Rattle.sl_link.specs.declared.tally.Tally.{Tally}
-use Rattle.sl_link.specs.ChannelFarm.{event_of, farm_after}
 use Rattle.sl_link.specs.Managed.{Parameters, tc_format}
 use Rattle.sl_link.specs.ShowTc.{tc_lines, tc_skipped_of}
 use Rattle.sl_link.specs.Streams.{ReadsAll, StopsWriting, WritesText}
@@ -46,10 +47,8 @@ farms_after farms (Ok view) = farms_with farms view.vc (event_of view.content)
 farms_after farms (Err reason) = farms
 
 -- each virtual channel's FARM-1 has had these frames
-pub record HasFarms (p : Parameters) (farms : List FarmView) (frames : List (List ℕ)) : Type 0 where
-  pub all : length farms ≡ 64
-  pub windows : (vc : ℕ) → vc < 64 → (farm_at farms vc).window ≡ p.window
-  pub states : (vc : ℕ) → vc < 64 → farm_states farms vc ≡ farm_after p vc frames
+abbrev pub HasFarms : Parameters → List FarmView → List (List ℕ) → Type 0
+HasFarms p farms frames = HaveStepped p.window p.vr farms (views_of (tc_format p) p.spacecraft frames)
 
 -- these frames were listed
 pub record HasListed (p : Parameters) (tally : Tally) (farms : List FarmView) (frames : List (List ℕ)) : Type 0 where

@@ -1,5 +1,5 @@
 //! What frames come to while a recording is checked.
-ghost use Rattle.std.specs.Prelude.{◌≡◌, ◌+◌, ◌*◌, ◌^◌, ◌<◌, ◌≤◌, if◌then◌else◌};
+ghost use Rattle.std.specs.Prelude.{◌≡◌, ◌+◌, ◌^◌, ◌<◌, ◌≤◌, if◌then◌else◌};
 ghost use Rattle.sl_link.specs.Totals.{Counts};
 
 use crate::delivery::{DeliveryTally, FrameReport};
@@ -12,13 +12,12 @@ pub struct CheckReport {
     pub anomalies: u64,
 }
 
-/// What the frames so far brought together. A frame has more octets than lines, and there are octets left for a line
-/// of each virtual channel.
+/// What the frames so far brought together. A frame has more octets than lines.
 #[derive(Clone, Copy)]
 pub struct CheckTally {
     pub delivery: DeliveryTally,
     pub anomalies: u64,
-    ghost anomalies_fit: { anomalies + 28 * delivery.tally.frames ≤ delivery.tally.octets },
+    ghost anomalies_fit: { anomalies + delivery.tally.frames ≤ delivery.tally.octets },
 }
 
 impl CheckTally {
@@ -37,12 +36,11 @@ impl CheckTally {
         }
     }
 
-    /// One frame more.
+    /// One frame more, of more octets than its lines are.
     pub fn add(&mut self, octets: u64, report: CheckReport)
-        requires some { 32 ≤ octets }
         requires fits { self.old.delivery.tally.octets + octets < 2 ^ 64 }
         requires within { self.old.delivery.packets + report.met.packets + (self.old.delivery.idle + report.met.idle) ≤ self.old.delivery.tally.octets + octets }
-        requires few { report.anomalies ≤ 4 }
+        requires few { report.anomalies < octets }
         ensures octets { self.new.delivery.tally.octets ≡ self.old.delivery.tally.octets + octets }
         ensures frames { self.new.delivery.tally.frames ≡ self.old.delivery.tally.frames + 1 }
         ensures skipped { self.new.delivery.tally.skipped ≡ self.old.delivery.tally.skipped + (if report.met.is_skipped then 1 else 0) }

@@ -21,6 +21,14 @@ pub(crate) enum Engine {
     ShowTm,
     /// TC transfer frames are listed.
     ShowTc,
+    /// What is amiss in TM transfer frames is listed.
+    CheckTm,
+    /// What is amiss in TC transfer frames is listed.
+    CheckTc,
+    /// The packets of TM transfer frames are listed.
+    PacketsTm,
+    /// The packets of TC transfer frames are listed.
+    PacketsTc,
     /// The normal form of TM transfer frames is written.
     NormaliseTm,
     /// The normal form of TC transfer frames is written.
@@ -65,11 +73,8 @@ const VR: &str = "vr";
 
 const LIMIT: &str = "limit";
 
-// The kinds that `show` takes.
-static SHOWN_KINDS: [&str; 2] = ["tm", "tc"];
-
-// The kinds that `normalise` takes.
-static NORMALISED_KINDS: [&str; 2] = ["tm", "tc"];
+// The kinds of recording.
+static KINDS: [&str; 2] = ["tm", "tc"];
 
 /// What the words ask for, of which the first is the program's name. Else why they are refused, or the
 /// help that they ask for.
@@ -90,14 +95,21 @@ pub(crate) fn parse(alloc: Global, words: &[String]) -> Result<Request, Error>
 fn sllink<'a>(alloc: Global) -> Result<Command<'a>, AllocError>
     ensures { IfOk result (λ command. IsSllink (app_of command)) }
 {
+    let kinds = &KINDS;
     let about = "List the frames of a recording";
-    let show = verb_command(alloc, "show", about, &SHOWN_KINDS)?;
+    let show = verb_command(alloc, "show", about, kinds)?;
+    let about = "List what is amiss in a recording";
+    let check = verb_command(alloc, "check", about, kinds)?;
+    let about = "List the packets of a recording";
+    let packets = verb_command(alloc, "packets", about, kinds)?;
     let about = "Write the normal form of a recording";
-    let normalise = verb_command(alloc, "normalise", about, &NORMALISED_KINDS)?;
+    let normalise = verb_command(alloc, "normalise", about, kinds)?;
     Command::new(alloc, "sllink")
         .about("Read recordings of a spacecraft's link")
         .subcommand_required(true)
         .subcommand(show)?
+        .subcommand(check)?
+        .subcommand(packets)?
         .subcommand(normalise)
 }
 
@@ -215,6 +227,10 @@ fn engine_of(verb: &str, kind: &str) -> Option<Engine>
     match (verb, kind) {
         ("show", "tm") => Some(Engine::ShowTm),
         ("show", "tc") => Some(Engine::ShowTc),
+        ("check", "tm") => Some(Engine::CheckTm),
+        ("check", "tc") => Some(Engine::CheckTc),
+        ("packets", "tm") => Some(Engine::PacketsTm),
+        ("packets", "tc") => Some(Engine::PacketsTc),
         ("normalise", "tm") => Some(Engine::NormaliseTm),
         ("normalise", "tc") => Some(Engine::NormaliseTc),
         _ => None,

@@ -38,7 +38,7 @@ impl<T> Counted<T> {
 }
 
 impl<R: Read> Read for Counted<R> {
-    ghost use Rattle.std.specs.Prelude.{◌≡◌, length, is_err, if◌then◌else◌};
+    ghost use Rattle.std.specs.Prelude.{◌≡◌, is_err, if◌then◌else◌};
     ghost use Rattle.std.specs.Io.{ReadsAtMost};
     ghost use Rattle.std.specs.Io.KnownBytes.{ReadConsumes};
     ghost use Rattle.sl_link.specs.Counted.{stream_of, faults_of};
@@ -61,7 +61,7 @@ impl<R: Read> Read for Counted<R> {
 }
 
 impl<W: Write> Write for Counted<W> {
-    ghost use Rattle.std.specs.Prelude.{◌≡◌, length, is_err, if◌then◌else◌};
+    ghost use Rattle.std.specs.Prelude.{◌≡◌, is_err, if◌then◌else◌};
     ghost use Rattle.std.specs.Io.{WritesAtMost};
     ghost use Rattle.std.specs.Io.KnownBytes.{WriteAppends, Keeps};
     ghost use Rattle.sl_link.specs.Counted.{stream_of, faults_of, is_write_fault};

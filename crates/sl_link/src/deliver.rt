@@ -1,5 +1,5 @@
 //! The packets that the frames of a TM recording deliver.
-ghost use Rattle.std.specs.Prelude.{◌≡◌, ◌+◌, ◌<◌, ◌≤◌, ◌^◌, length, take, IfOk, IfErr, OnOk, is_err};
+ghost use Rattle.std.specs.Prelude.{◌≡◌, ◌+◌, ◌≤◌, length, take, IfOk, IfErr, OnOk, is_err};
 ghost use Rattle.sl_packet.specs.Delivered.{no_lists, FitsTm};
 ghost use Rattle.sl_packet.specs.Packets.{only_idle, without_idle};
 ghost use Rattle.sl_link.specs.Deliver.{as_read, ended_in, lists_after};

@@ -15,7 +15,7 @@ pub struct Farms {
 }
 
 impl Model for Farms {
-    ghost use Rattle.std.specs.Prelude.{List, length, ◌≡◌};
+    ghost use Rattle.std.specs.Prelude.{List};
     ghost use Rattle.sl_cop.specs.Farm.{FarmView};
 
     ghost Value = { List FarmView };

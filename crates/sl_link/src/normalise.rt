@@ -1,5 +1,5 @@
 //! The normal form of a TM recording.
-ghost use Rattle.std.specs.Prelude.{◌≡◌, ◌≢◌, false, IfOk, IfErr, OnOk};
+ghost use Rattle.std.specs.Prelude.{◌≡◌, ◌≢◌, IfOk, IfErr, OnOk};
 ghost use Rattle.sl_link.specs.NormaliseTm.{tm_normal_form, tm_counts, tm_packets};
 ghost use Rattle.sl_link.specs.Streams.{IsRead, KeepsPackets, Translates, Stops};
 

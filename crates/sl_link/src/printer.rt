@@ -1,8 +1,9 @@
-//! A sink that prints the packets of TM frames.
-ghost use Rattle.std.specs.Prelude.{◌≡◌, ◌++◌, IfErr, OnOk};
+//! A sink that prints packets.
+ghost use Rattle.std.specs.Prelude.{◌≡◌, ◌+◌, ◌≤◌, ◌++◌, length, IfErr, OnOk};
 ghost use Rattle.sl_packet.specs.Packet.{IsPacket};
+ghost use Rattle.sl_link.specs.ChannelName.{channel_name};
 ghost use Rattle.sl_link.specs.PacketLine.{packet_line};
-ghost use Rattle.sl_link.specs.PacketsTm.{channel_text};
+ghost use Rattle.sl_link.specs.PacketsTc.{channel_text};
 ghost use Rattle.sl_link.specs.Streams.{AddsText, StopsWriting};
 
 use crate::counted::Counted;
@@ -13,32 +14,40 @@ use crate::packet_lines::packet_line;
 use sl_packet::{PacketSink, SinkFault};
 use std::io::Write;
 
-/// Prints each packet that it is handed, with the virtual channel that it is on.
+/// What the packets are told apart by: the virtual channel alone, or the MAP too.
+#[derive(Clone, Copy)]
+pub enum ChannelKind {
+    VirtualChannel,
+    Map,
+}
+
+/// Prints each packet that it is handed, with the channel that it is on.
 #[derive(Drop)]
 pub struct Printer<'a, W: Write> {
     pub writer: &'a mut Counted<W>,
     pub lines: &'a mut Lines,
+    pub kind: ChannelKind,
     pub failures: u64,
 }
 
 impl<'a, W: Write> PacketSink for Printer<'a, W> {
     ghost use Rattle.std.specs.Prelude.{◌≡◌, ◌++◌};
     ghost use Rattle.sl_packet.specs.declared.sink.SinkFault.TheVariants.{Device};
+    ghost use Rattle.sl_link.specs.ChannelName.{channel_name};
     ghost use Rattle.sl_link.specs.PacketLine.{packet_line};
-    ghost use Rattle.sl_link.specs.PacketsTm.{channel_text};
     ghost use Rattle.sl_link.specs.Streams.{AddsText, StopsWriting};
     ghost use Rattle.sl_link.specs.declared.link_fault.LinkFault.TheVariants.{Write};
 
-    ghost taking = { λ old channel packet new. (new.writer.ghost_name ≡ old.writer.ghost_name) × (new.lines.ghost_name ≡ old.lines.ghost_name)
-        × AddsText W.contents old.writer.now new.writer.now old.lines.now new.lines.now (packet_line (channel_text channel) packet) };
+    ghost taking = { λ old channel packet new. (new.kind ≡ old.kind) × (new.writer.ghost_name ≡ old.writer.ghost_name) × (new.lines.ghost_name ≡ old.lines.ghost_name)
+        × AddsText W.contents old.writer.now new.writer.now old.lines.now new.lines.now (packet_line (channel_name old.kind channel) packet) };
 
     ghost failing = { λ old channel packet fault new. (fault ≡ Device) × (new.writer.ghost_name ≡ old.writer.ghost_name)
-        × StopsWriting W.contents old.writer.now new.writer.now (old.lines.now ++ packet_line (channel_text channel) packet) Write };
+        × StopsWriting W.contents old.writer.now new.writer.now (old.lines.now ++ packet_line (channel_name old.kind channel) packet) Write };
 
     ghost failures = { λ printer. printer.failures };
 
     fn packet(&mut self, channel: u16, p: &[u8]) -> Result<(), SinkFault> {
-        match print_packet(self.writer, self.lines, channel, p) {
+        match print_packet(self.writer, self.lines, self.kind, channel, p) {
             Ok(()) => Ok(()),
             Err(_) => {
                 self.failures = self.failures.saturating_add(1);
@@ -48,20 +57,56 @@ impl<'a, W: Write> PacketSink for Printer<'a, W> {
     }
 }
 
-// Adds the line of a packet on a virtual channel.
+/// Why a packet wasn't printed: only because the writer failed.
+pub fn printing_fault(fault: SinkFault) -> LinkFault
+    requires { fault ≡ SinkFault.Device }
+    ensures { result ≡ LinkFault.Write }
+{
+    match fault {
+        SinkFault::Device => LinkFault::Write,
+        SinkFault::Memory | SinkFault::Refused => unreachable!(),
+    }
+}
+
+// Adds the line of a packet on a channel.
 fn print_packet<W: Write>(
     writer: &mut Counted<W>,
     lines: &mut Lines,
+    kind: ChannelKind,
     channel: u16,
     packet: &[u8],
 ) -> Result<(), LinkFault>
     requires packet { IsPacket packet.now }
-    ensures line { OnOk result (AddsText W.contents writer.old writer.new lines.old lines.new (packet_line (channel_text channel) packet.now)) }
-    ensures fault { IfErr result (StopsWriting W.contents writer.old writer.new (lines.old ++ packet_line (channel_text channel) packet.now)) }
+    ensures line { OnOk result (AddsText W.contents writer.old writer.new lines.old lines.new (packet_line (channel_name kind channel) packet.now)) }
+    ensures fault { IfErr result (StopsWriting W.contents writer.old writer.new (lines.old ++ packet_line (channel_name kind channel) packet.now)) }
 {
     make_room(writer, lines)?;
-    lines.push(b"vc ");
-    lines.push_number(u64::from(channel));
+    push_channel(lines, kind, channel);
     packet_line(writer, lines, packet)?;
     Ok(())
+}
+
+fn push_channel(lines: &mut Lines, kind: ChannelKind, channel: u16)
+    requires { length lines.old ≤ 3840 }
+    ensures text { lines.new ≡ lines.old ++ channel_name kind channel }
+    ensures short { length lines.new ≤ length lines.old + 50 }
+{
+    match kind {
+        ChannelKind::VirtualChannel => {
+            lines.push(b"vc ");
+            lines.push_number(u64::from(channel));
+        }
+        ChannelKind::Map => push_map(lines, channel / 64, channel % 64),
+    }
+}
+
+fn push_map(lines: &mut Lines, vc: u16, map: u16)
+    requires { length lines.old ≤ 3840 }
+    ensures text { lines.new ≡ lines.old ++ channel_text vc map }
+    ensures short { length lines.new ≤ length lines.old + 50 }
+{
+    lines.push(b"vc ");
+    lines.push_number(u64::from(vc));
+    lines.push(b" map ");
+    lines.push_number(u64::from(map));
 }

@@ -4,7 +4,7 @@ ghost use Rattle.std.specs.Io.KnownBytes.{Keeps};
 ghost use Rattle.clap.specs.Words.{kind_of};
 ghost use Rattle.sl_link.specs.CommandLine.{AreRefused, AskForHelp};
 ghost use Rattle.sl_link.specs.Counted.{stream_of, faults_of, HasFailed};
-ghost use Rattle.sl_link.specs.Run.{AsksForRefusedParameter, HasStopped, HasSucceeded, HasWritten, IsStoppedBy, WithAsked};
+ghost use Rattle.sl_link.specs.Run.{AsksForRefusedParameter, HasMetAnomalies, HasStopped, HasSucceeded, HasWritten, IsStoppedBy, WithAsked};
 ghost use Rattle.sl_link.specs.Status.{status};
 
 use crate::command_line::{Engine, Request, parse};
@@ -14,8 +14,12 @@ use crate::managed::Managed;
 use crate::normalise::normalise_tm;
 use crate::show::show_tm;
 use crate::streams::write_text;
+use crate::tc_check::check_tc;
 use crate::tc_listing::show_tc;
 use crate::tc_normalise::normalise_tc;
+use crate::tc_packets::packets_tc;
+use crate::tm_check::check_tm;
+use crate::tm_packets::packets_tm;
 use crate::totals::Totals;
 use clap::Error;
 use clap::error::ErrorKind;
@@ -43,12 +47,12 @@ pub fn run<R: Read, W: Write, E: Write>(
     errors: &mut E,
 ) -> u8
     ensures range { result ≤ 3 }
-    // After success the text that the words ask for is written, or they ask for help, nothing was read and
-    // the writer had no fault.
+    // After success the text that the words ask for is written and no anomaly was met, or they ask for help,
+    // nothing was read and the writer had no fault.
     ensures succeeded { result ≡ 0 → (AskForHelp (map string_bytes words.now) × (reader.new ≡ reader.old) × (faults_of writer.new ≡ faults_of writer.old))
         ⊎ WithAsked (map string_bytes words.now) (HasSucceeded R.remaining W.contents reader.old reader.new writer.old writer.new) }
-    // No engine meets an anomaly yet.
-    ensures no_anomaly { result ≢ 1 }
+    // A check that met anomalies has written all of its listing.
+    ensures anomalies { result ≡ 1 → WithAsked (map string_bytes words.now) (HasMetAnomalies R.remaining W.contents reader.old reader.new writer.old writer.new) }
     // A refused run has read and written nothing: the words are refused, or a managed parameter that they
     // ask for is.
     ensures refused { result ≡ 2 → (reader.new ≡ reader.old) × (writer.new ≡ writer.old)
@@ -75,7 +79,7 @@ fn run_request<R: Read, W: Write, E: Write>(
 ) -> u8
     ensures range { result ≤ 3 }
     ensures succeeded { result ≡ 0 → HasSucceeded R.remaining W.contents reader.old reader.new writer.old writer.new request.now }
-    ensures no_anomaly { result ≢ 1 }
+    ensures anomalies { result ≡ 1 → HasMetAnomalies R.remaining W.contents reader.old reader.new writer.old writer.new request.now }
     ensures refused { result ≡ 2 → (reader.new ≡ reader.old) × (writer.new ≡ writer.old) × AsksForRefusedParameter request.now }
     ensures stopped { result ≡ 3 → HasStopped R.remaining W.contents reader.old reader.new writer.old writer.new request.now }
 {
@@ -121,6 +125,10 @@ fn run_engine<R: Read, W: Write>(
     match request.engine {
         Engine::ShowTm => show_tm(managed, reader, writer),
         Engine::ShowTc => show_tc(managed, reader, writer),
+        Engine::CheckTm => check_tm(alloc, managed, reader, writer),
+        Engine::CheckTc => check_tc(alloc, managed, reader, writer),
+        Engine::PacketsTm => packets_tm(alloc, managed, reader, writer),
+        Engine::PacketsTc => packets_tc(alloc, managed, reader, writer),
         Engine::NormaliseTm => normalise_tm(alloc, managed, reader, writer),
         Engine::NormaliseTc => normalise_tc(alloc, managed, reader, writer),
     }

@@ -1,7 +1,7 @@
 //! The frames of a TM recording as lines.
-ghost use Rattle.std.specs.Prelude.{◌≡◌, ◌≢◌, ◌+◌, ◌*◌, ◌/◌, ◌^◌, ◌<◌, ◌≤◌, length, false, is_err, [], IfOk, IfErr, OnOk, Err};
+ghost use Rattle.std.specs.Prelude.{◌≡◌, ◌≢◌, ◌+◌, ◌*◌, ◌/◌, ◌^◌, ◌<◌, ◌≤◌, length, is_err, [], IfOk, IfErr, OnOk, Err};
 ghost use Rattle.sl_tmframe.specs.TmDelimited.{tm_frames_of};
-ghost use Rattle.sl_link.specs.Line.{line_at, remainder_line};
+ghost use Rattle.sl_link.specs.Line.{line_at};
 ghost use Rattle.sl_link.specs.Managed.{tm_format};
 ghost use Rattle.sl_link.specs.ShowTm.{show_tm_text, show_tm_counts, frame_lines, frame_text};
 ghost use Rattle.sl_link.specs.Streams.{Translates, Stops, AddsText, WritesText, StopsWriting};

@@ -1,5 +1,5 @@
 //! Single reads, and single writes until a text is written.
-ghost use Rattle.std.specs.Prelude.{◌≡◌, IfOk, IfErr, OnOk};
+ghost use Rattle.std.specs.Prelude.{IfOk, IfErr, OnOk};
 ghost use Rattle.sl_link.specs.Streams.{ReadsSome, StopsReading, WritesText, StopsWriting};
 
 use crate::counted::Counted;

@@ -2,9 +2,9 @@
 ghost use Rattle.std.specs.Prelude.{◌≡◌, true, length, IfOk, IfErr, OnOk, is_err};
 ghost use Rattle.sl_packet.specs.Delivered.{channel_count, no_lists};
 ghost use Rattle.sl_packet.specs.Packets.{only_idle, without_idle};
-ghost use Rattle.sl_tcflow.specs.Receiving.{ForReceived, HasReceived};
+ghost use Rattle.sl_tcflow.specs.Receiving.{ForProcessed, HasProcessed, IsWorking};
 ghost use Rattle.sl_tcframe.specs.TcFrame.{is_cut};
-ghost use Rattle.sl_link.specs.DeliverTc.{as_read, ended_in, lists_after, IsReceiving};
+ghost use Rattle.sl_link.specs.DeliverTc.{as_read, ended_in, lists_after};
 ghost use Rattle.sl_link.specs.Delivering.{with_frame};
 ghost use Rattle.sl_link.specs.Managed.{tc_format};
 ghost use Rattle.sl_link.specs.NormaliseTc.{tc_counts, tc_packets};
@@ -52,14 +52,14 @@ fn deliver_tc_frame(
 ) -> Result<FrameReport, LinkFault>
     requires one_frame { is_cut (tc_format managed.now) frame.now ≡ true }
     requires channels { length delivered.old.lists ≡ channel_count }
-    requires working { IsReceiving receiver.old }
-    // Whichever frames were received before, now they and this one are,
-    ensures received { OnOk result (ForReceived receiver.old (λ w vr views. HasReceived w vr receiver.new (with_frame views (as_read managed.now frame.now)))) }
+    requires working { IsWorking receiver.old }
+    // Whichever frames were processed before, now they and this one are,
+    ensures processed { OnOk result (ForProcessed receiver.old (λ w vr views. HasProcessed w vr receiver.new (with_frame views (as_read managed.now frame.now)))) }
     // and the packets that end with its unit are delivered and counted.
-    ensures lists { OnOk result (ForReceived receiver.old (λ w vr views. delivered.new.lists ≡ lists_after w vr views (as_read managed.now frame.now) delivered.old.lists)) }
+    ensures lists { OnOk result (ForProcessed receiver.old (λ w vr views. delivered.new.lists ≡ lists_after w vr views (as_read managed.now frame.now) delivered.old.lists)) }
     ensures skipped { IfOk result (λ met. met.is_skipped ≡ is_err (as_read managed.now frame.now)) }
-    ensures packets { IfOk result (λ met. ForReceived receiver.old (λ w vr views. met.packets ≡ length (without_idle (ended_in w vr views (as_read managed.now frame.now))))) }
-    ensures idle { IfOk result (λ met. ForReceived receiver.old (λ w vr views. met.idle ≡ length (only_idle (ended_in w vr views (as_read managed.now frame.now))))) }
+    ensures packets { IfOk result (λ met. ForProcessed receiver.old (λ w vr views. met.packets ≡ length (without_idle (ended_in w vr views (as_read managed.now frame.now))))) }
+    ensures idle { IfOk result (λ met. ForProcessed receiver.old (λ w vr views. met.idle ≡ length (only_idle (ended_in w vr views (as_read managed.now frame.now))))) }
     ensures fault { IfErr result (λ fault. fault ≡ LinkFault.Memory) }
 {
     let view = match TcFrame::read(&managed.tc, managed.spacecraft, frame) {

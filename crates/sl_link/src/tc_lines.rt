@@ -3,9 +3,10 @@ ghost use Rattle.std.specs.Prelude.{◌≡◌, ◌+◌, ◌≤◌, ◌<◌, ◌-
 ghost use Rattle.sl_tcframe.specs.TcContent.{content};
 ghost use Rattle.sl_tcframe.specs.TcFrame.{IsContent};
 ghost use Rattle.sl_cop.specs.Farm.{farm_step};
-ghost use Rattle.sl_link.specs.ChannelFarm.{event_of};
+ghost use Rattle.sl_tcflow.specs.AcceptedUnit.{event_of};
+ghost use Rattle.sl_tcflow.specs.Series.{header_at};
 ghost use Rattle.sl_link.specs.Line.{line_at};
-ghost use Rattle.sl_link.specs.ShowTc.{tc_skip_word, flags_word, header_at, unit_text, content_text, verdict_word, step_text, tc_view_text, tc_frame_text};
+ghost use Rattle.sl_link.specs.ShowTc.{tc_skip_word, flags_word, unit_text, content_text, verdict_word, step_text, tc_view_text, tc_frame_text};
 ghost use Rattle.sl_link.specs.TcListing.{farm_at, farm_states, farms_after, farms_with};
 
 use crate::farms::Farms;
@@ -33,7 +34,8 @@ pub fn tc_frame_line(
     lines.push(b"\n");
 }
 
-fn push_skip(lines: &mut Lines, reason: TcSkip)
+/// Adds why a frame is skipped.
+pub fn push_skip(lines: &mut Lines, reason: TcSkip)
     requires { length lines.old ≤ 3860 }
     ensures text { lines.new ≡ lines.old ++ (codes " skip " ++ tc_skip_word reason) }
     ensures short { length lines.new ≤ length lines.old + 16 }
@@ -135,7 +137,7 @@ fn push_unit(lines: &mut Lines, unit: &[u8])
     ensures text { lines.new ≡ lines.old ++ unit_text unit.now }
     ensures short { length lines.new ≤ length lines.old + 60 }
 {
-    let (header, octets) = split_segment(unit);
+    let (header, octets) = split_unit(unit);
     push_flags(lines, header.flags());
     lines.push_octet(header.map());
     lines.push(b" octets ");
@@ -155,8 +157,8 @@ fn push_octet_count(lines: &mut Lines, octets: usize)
     }
 }
 
-// The segment header of a unit, and the octets after it.
-fn split_segment(unit: &[u8]) -> (SegmentHeader, &[u8])
+/// The segment header of a unit, and the octets after it.
+pub fn split_unit(unit: &[u8]) -> (SegmentHeader, &[u8])
     requires { 0 < length unit.now }
     ensures header { result.0 ≡ header_at unit.now }
     ensures octets { length result.1.now ≡ length unit.now - 1 }

@@ -1,5 +1,5 @@
 //! The frames of a TC recording as lines.
-ghost use Rattle.std.specs.Prelude.{◌≡◌, ◌≢◌, ◌+◌, ◌-◌, ◌^◌, ◌<◌, ◌≤◌, List, ℕ, length, true, is_err, [], IfOk, IfErr, OnOk, Err};
+ghost use Rattle.std.specs.Prelude.{◌≡◌, ◌≢◌, ◌+◌, ◌^◌, ◌<◌, ◌≤◌, List, ℕ, length, true, is_err, [], IfOk, IfErr, OnOk, Err};
 ghost use Rattle.sl_tcframe.specs.TcFrame.{is_cut, tc_frame};
 ghost use Rattle.sl_link.specs.Line.{line_at, remainder_line};
 ghost use Rattle.sl_link.specs.Managed.{tc_format};

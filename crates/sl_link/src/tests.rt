@@ -1,5 +1,9 @@
+mod command_line;
 mod faulty;
+mod listing_faults;
+mod listings_tc;
 mod listings_tm;
+mod longest;
 mod normalise;
 mod normalise_tc;
 mod outcome;

@@ -14,10 +14,10 @@ use crate::lines::Lines;
 use crate::link_fault::LinkFault;
 use crate::listing::flush;
 use crate::managed::Managed;
-use crate::printer::Printer;
+use crate::printer::{ChannelKind, Printer, printing_fault};
 use crate::recording::read_all;
 use crate::totals::Totals;
-use sl_packet::{FlowFault, SinkFault};
+use sl_packet::FlowFault;
 use sl_tmflow::Extractor;
 use sl_tmframe::TmFrame;
 use std::alloc::Global;
@@ -123,6 +123,7 @@ fn print_view<W: Write>(
     let mut printer = Printer {
         writer,
         lines,
+        kind: ChannelKind::VirtualChannel,
         failures: 0,
     };
     match extractor.frame(view, &mut printer) {
@@ -134,16 +135,5 @@ fn print_view<W: Write>(
         Err(FlowFault::Memory) => Err(LinkFault::Memory),
         Err(FlowFault::Sink(fault)) => Err(printing_fault(fault)),
         Err(FlowFault::Failed) => unreachable!(),
-    }
-}
-
-// Why a packet wasn't printed: only because the writer failed.
-fn printing_fault(fault: SinkFault) -> LinkFault
-    requires { fault ≡ SinkFault.Device }
-    ensures { result ≡ LinkFault.Write }
-{
-    match fault {
-        SinkFault::Device => LinkFault::Write,
-        SinkFault::Memory | SinkFault::Refused => unreachable!(),
     }
 }

@@ -118,6 +118,25 @@ fn what_is_amiss_in_recordings(rt: HostRuntime) -> Result<(), Fail> {
     Ok(())
 }
 
+// A frame whose error control field is wrong, before one whose field is right.
+#[test]
+fn a_frame_with_a_wrong_error_control_field_is_amiss(rt: HostRuntime) -> Result<(), Fail> {
+    let parts = [
+        "0010000018000001c0000003abbbccdd07ffc0000009000000000000000000005e0c",
+        "0010000018000001c0000003aabbccdd07ffc0000009000000000000000000005e0c",
+    ];
+    let recording = octets(rt.alloc(), &parts)?;
+    let managed = Managed::new(1, 34, true, 1024, false, 10, 0, 1000)?;
+    let mut reader = Counted::new(recording.as_slice());
+    let mut writer = Counted::new(Vec::new(rt.alloc()));
+    check_tm(rt.alloc(), &managed, &mut reader, &mut writer)?;
+    assert_eq!(rt;
+        text(writer.into_inner().as_slice()),
+        "0 skip fecf\nframes 2 skipped 1 packets 1 idle 1 anomalies 1\n"
+    );
+    Ok(())
+}
+
 #[test]
 fn packets_of_recordings(rt: HostRuntime) -> Result<(), Fail> {
     let cases: [(&[&str], &str); 3] = [

@@ -32,6 +32,11 @@ const WITH_IDLE: &str = "0001001300c01002c0010000ee07ffc000000000";
 
 const WITHOUT_IDLE: &str = "0001000c00c01002c0010000ee";
 
+// The same with an error control field, one that is right and one that is wrong.
+const GOOD_FIELD: &str = "0001001100c01001c0000003aabbccdd0552";
+
+const WRONG_FIELD: &str = "0001001100c01001c0000003aabbccdd0553";
+
 // Octets that state the length of a frame as 3, and two more.
 const BAD_LENGTH: &str = "00010002000000";
 
@@ -54,7 +59,7 @@ fn cases() -> [(
             ],
             &[],
         ),
-        // A packet that Unlock and Set V(R) let through.
+        // A packet of type BD, accepted in lockout, among Set V(R) and Unlock.
         (
             NORMALISE,
             &[
@@ -191,19 +196,25 @@ fn packets_of_units_are_counted(rt: HostRuntime) -> Result<(), Fail> {
     Ok(())
 }
 
-// A frame whose error control field is wrong isn't read, and frames are written with theirs.
+// A frame whose error control field is wrong, or that has none, isn't read, and frames are written with theirs.
 #[test]
 fn tc_frames_with_error_control(rt: HostRuntime) -> Result<(), Fail> {
     let managed = Managed::new(1, 32, false, 18, true, 10, 0, 1000)?;
-    let recording = octets(rt.alloc(), &[WHOLE])?;
-    let mut reader = Counted::new(recording.as_slice());
-    let mut writer = Counted::new(Vec::new(rt.alloc()));
-    let totals = normalise_tc(rt.alloc(), &managed, &mut reader, &mut writer)?;
-    assert_eq!(rt;
-        (totals.frames(), totals.skipped(), totals.packets()),
-        (1, 1, 0)
-    );
-    assert!(rt; writer.into_inner().is_empty());
+    let cases: [(&[&str], [u64; 3], &[&str]); 2] = [
+        (&[WRONG_FIELD, GOOD_FIELD], [2, 1, 1], &[GOOD_FIELD]),
+        (&[WHOLE], [1, 1, 0], &[]),
+    ];
+    for (parts, counted, wanted) in cases {
+        let recording = octets(rt.alloc(), parts)?;
+        let mut reader = Counted::new(recording.as_slice());
+        let mut writer = Counted::new(Vec::new(rt.alloc()));
+        let totals = normalise_tc(rt.alloc(), &managed, &mut reader, &mut writer)?;
+        assert_eq!(rt;
+            [totals.frames(), totals.skipped(), totals.packets()],
+            counted
+        );
+        assert_eq!(rt; writer.into_inner(), octets(rt.alloc(), wanted)?);
+    }
     Ok(())
 }
 

@@ -1,13 +1,31 @@
 use super::faulty::{Interrupted, Unflushed, Unreadable, Unwritable};
 use super::normalise::{FIRST, TEN, TEN_FILLED, octets};
 use super::outcome::{Outcome, text, words};
-use crate::command_line::{Engine, Options, Request, parse};
 use crate::{Counted, run};
 use std::test::Fail;
+
+const ENGINES: [&str; 8] = [
+    "show tm",
+    "show tc",
+    "check tm",
+    "check tc",
+    "packets tm",
+    "packets tc",
+    "normalise tm",
+    "normalise tc",
+];
 
 const HELP: &str = "sllink --help";
 
 const SHOW: &str = "sllink show tm --scid 1";
+
+const CHECK: &str = "sllink check tm --scid 1 --tm-length 32";
+
+const PACKETS: &str = "sllink packets tm --scid 1 --tm-length 32";
+
+const CHECK_TC: &str = "sllink check tc --scid 1";
+
+const PACKETS_TC: &str = "sllink packets tc --scid 1";
 
 const NORMALISE: &str = "sllink normalise tm --scid 1 --tm-length 32";
 
@@ -16,125 +34,6 @@ const WITH_FECF: &str = "sllink show tm --scid 1 --tm-length 34 --tm-fecf";
 const NORMALISE_WITH_FECF: &str = "sllink normalise tm --scid 1 --tm-length 34 --tm-fecf";
 
 const RECORDING: &[u8] = &[0, 0];
-
-// The options where only a spacecraft identifier is given.
-const LEAST: Options = Options {
-    spacecraft: 7,
-    tm_length: 1115,
-    tc_length: 1024,
-    tm_fecf: false,
-    tc_fecf: false,
-    window: 10,
-    vr: 0,
-    max_octets: 1_073_741_824,
-};
-
-#[test]
-fn command_lines_are_read(rt: HostRuntime) -> Result<(), Fail> {
-    let cases = [
-        ("sllink show tm --scid 7", Engine::ShowTm, LEAST),
-        ("sllink show tc --scid 7", Engine::ShowTc, LEAST),
-        ("sllink normalise tm --scid 7", Engine::NormaliseTm, LEAST),
-        ("sllink normalise tc --scid 7", Engine::NormaliseTc, LEAST),
-        (
-            "any show --limit=9 --tm-length 0 tm --scid=65535",
-            Engine::ShowTm,
-            Options {
-                spacecraft: 65_535,
-                tm_length: 0,
-                max_octets: 9,
-                ..LEAST
-            },
-        ),
-        (
-            WITH_FECF,
-            Engine::ShowTm,
-            Options {
-                spacecraft: 1,
-                tm_length: 34,
-                tm_fecf: true,
-                ..LEAST
-            },
-        ),
-        (
-            "sllink show --tc-fecf tc --scid 7",
-            Engine::ShowTc,
-            Options {
-                tc_fecf: true,
-                ..LEAST
-            },
-        ),
-        (
-            "sllink show tc --scid 7 --tc-length 16",
-            Engine::ShowTc,
-            Options {
-                tc_length: 16,
-                ..LEAST
-            },
-        ),
-        (
-            "sllink show tc --scid 7 --window 11",
-            Engine::ShowTc,
-            Options {
-                window: 11,
-                ..LEAST
-            },
-        ),
-        (
-            "sllink normalise tm --scid 7 --vr=255",
-            Engine::NormaliseTm,
-            Options { vr: 255, ..LEAST },
-        ),
-    ];
-    for (line, engine, options) in cases {
-        let words = words(rt.alloc(), line)?;
-        let request = Request { engine, options };
-        assert_eq!(rt; parse(rt.alloc(), words.as_slice())?, request, "{line}");
-    }
-    Ok(())
-}
-
-#[test]
-fn wrong_command_lines_are_refused(rt: HostRuntime) -> Result<(), Fail> {
-    let lines = [
-        "",
-        "sllink",
-        "sllink tell tm --scid 1",
-        "sllink help tell",
-        "sllink show --scid 1",
-        "sllink show tx --scid 1",
-        "sllink normalise --scid 1",
-        "sllink normalise tx --scid 1",
-        "sllink normalise tm",
-        "sllink show tm tm --scid 1",
-        "sllink show tm",
-        "sllink show tm --scid",
-        "sllink show tm --scid one",
-        "sllink show tm --scid 65536",
-        "sllink show tm --scid -1",
-        "sllink show tm --scid=-1",
-        "sllink show tm --scid 1 --scid 1",
-        "sllink show tm --scid 1 --tm-length 65536",
-        "sllink show tm --scid 1 --limit 18446744073709551616",
-        "sllink show tm --scid 1 --spare 10",
-        "sllink show tc --scid 1 --tc-length 65536",
-        "sllink show tc --scid 1 --window 256",
-        "sllink show tc --scid 1 --vr 256",
-        "sllink show tc --scid 1 --vr=-1",
-        "sllink show tm --scid 1 --tm-fecf --tm-fecf",
-        "sllink show tm --scid 1 --tm-fecf=1",
-        "sllink show tc --scid 1 --tc-fecf=1",
-        "sllink show tc --scid 1 --tc-fecf --tc-fecf",
-        "sllink show tm --scid 1 --tm-fecf yes",
-    ];
-    for line in lines {
-        let outcome = Outcome::of(rt.alloc(), line, RECORDING)?;
-        assert_eq!(rt; outcome.status, 2, "{line}");
-        assert!(rt; outcome.output.is_empty(), "{line}");
-        assert!(rt; outcome.errors.starts_with(b"error: "), "{line}");
-    }
-    Ok(())
-}
 
 #[test]
 fn refused_parameters_are_named(rt: HostRuntime) -> Result<(), Fail> {
@@ -149,7 +48,7 @@ fn refused_parameters_are_named(rt: HostRuntime) -> Result<(), Fail> {
         ("--scid 1 --limit 0", "sllink: managed: limit\n"),
     ];
     for (options, said) in cases {
-        for engine in ["show tm", "show tc", "normalise tm", "normalise tc"] {
+        for engine in ENGINES {
             let line = format!(in rt.alloc(); "sllink {engine} {options}")?;
             // A read would be a fault.
             let mut writer = Counted::new(Unwritable);
@@ -161,52 +60,41 @@ fn refused_parameters_are_named(rt: HostRuntime) -> Result<(), Fail> {
     Ok(())
 }
 
-#[test]
-fn help_is_printed(rt: HostRuntime) -> Result<(), Fail> {
-    let all = "\nUsage: sllink <COMMAND>\n";
-    let show = "\nUsage: sllink show [OPTIONS] --scid <ID> <KIND>\n";
-    let normalise = "\nUsage: sllink normalise [OPTIONS] --scid <ID> <KIND>\n";
-    let cases = [
-        (HELP, all),
-        ("sllink help", all),
-        ("sllink show -h", show),
-        ("sllink help show", show),
-        ("sllink help normalise", normalise),
-    ];
-    for (line, usage) in cases {
-        let outcome = Outcome::of(rt.alloc(), line, RECORDING)?;
-        assert!(rt; outcome.says(0, ""), "{line}");
-        assert!(rt; text(outcome.output.as_slice()).contains(usage), "{line}");
-    }
-    Ok(())
-}
+// The listing of the packet in `TEN`.
+const TEN_LISTED: &str =
+    "vc 0 apid 1 type 0 secondary 0 flags 3 count 0 octets 10 0001c0000003aabbccdd\n";
+
+// A TC frame with a packet of ten octets, and the listing of the packet.
+const TC_FRAME: &str = "0001000f00c01001c0000003aabbccdd";
+
+const TC_LISTED: &str =
+    "vc 0 map 0 apid 1 type 1 secondary 0 flags 3 count 0 octets 10 1001c0000003aabbccdd\n";
 
 #[test]
-fn help_names_each_option(rt: HostRuntime) -> Result<(), Fail> {
-    let options = [
-        "--scid <ID>",
-        "--tm-length <OCTETS>",
-        "--tc-length <OCTETS>",
-        "--tm-fecf",
-        "--tc-fecf",
-        "--window <WIDTH>",
-        "--vr <NUMBER>",
-        "--limit <OCTETS>",
+fn a_check_says_by_its_status_whether_it_met_anomalies(rt: HostRuntime) -> Result<(), Fail> {
+    let alloc = rt.alloc();
+    let none = "frames 0 skipped 0 packets 0 idle 0 anomalies 0\n";
+    let whole = "frames 1 skipped 0 packets 1 idle 1 anomalies 0\n";
+    let rest = "32 rest 1\nframes 1 skipped 0 packets 1 idle 1 anomalies 1\n";
+    let skip = "0 skip spacecraft\nframes 1 skipped 1 packets 0 idle 0 anomalies 1\n";
+    let tc_whole = "frames 1 skipped 0 packets 1 idle 0 anomalies 0\n";
+    let tc_rest = "16 rest 1\nframes 1 skipped 0 packets 1 idle 0 anomalies 1\n";
+    let cases: [(&str, &[&str], u8, &str); 8] = [
+        (CHECK, &[], 0, none),
+        (CHECK, &[FIRST, TEN_FILLED], 0, whole),
+        (CHECK, &[FIRST, TEN_FILLED, "00"], 1, rest),
+        (CHECK, &["002000001800", TEN_FILLED], 1, skip),
+        (CHECK_TC, &[TC_FRAME], 0, tc_whole),
+        (CHECK_TC, &[TC_FRAME, "00"], 1, tc_rest),
+        // Other verbs count no anomalies.
+        (PACKETS, &[FIRST, TEN_FILLED, "00"], 0, TEN_LISTED),
+        (PACKETS_TC, &[TC_FRAME, "00"], 0, TC_LISTED),
     ];
-    let cases = [
-        ("sllink show --help", "[possible values: tm, tc]"),
-        ("sllink normalise --help", "[possible values: tm, tc]"),
-    ];
-    for (line, kinds) in cases {
-        let outcome = Outcome::of(rt.alloc(), line, RECORDING)?;
-        let mut left = text(outcome.output.as_slice());
-        assert!(rt; left.contains(kinds), "{left}");
-        // In this order.
-        for option in options {
-            let (_, behind) = left.split_once(option).unwrap_or(("", ""));
-            assert!(rt; !behind.is_empty(), "{line} {option}");
-            left = behind;
-        }
+    for (line, parts, status, listing) in cases {
+        let recording = octets(alloc, parts)?;
+        let outcome = Outcome::of(alloc, line, recording.as_slice())?;
+        assert!(rt; outcome.says(status, ""), "{line} {outcome:?}");
+        assert_eq!(rt; text(outcome.output.as_slice()), listing);
     }
     Ok(())
 }
@@ -257,7 +145,7 @@ fn the_frame_error_control_field_is_checked(rt: HostRuntime) -> Result<(), Fail>
 #[test]
 fn faults_of_reading_are_named(rt: HostRuntime) -> Result<(), Fail> {
     let alloc = rt.alloc();
-    for line in [SHOW, NORMALISE] {
+    for line in [SHOW, CHECK, PACKETS, NORMALISE] {
         let mut writer = Counted::new(Vec::new(alloc));
         let outcome = Outcome::with(alloc, line, Unreadable, &mut writer)?;
         assert!(rt; outcome.says(3, "sllink: read\n"), "{line}");
@@ -271,9 +159,11 @@ fn faults_of_reading_are_named(rt: HostRuntime) -> Result<(), Fail> {
 fn faults_of_writing_are_named(rt: HostRuntime) -> Result<(), Fail> {
     let alloc = rt.alloc();
     let normal = octets(alloc, &[FIRST, TEN_FILLED])?;
-    let cases: [(&str, &[u8]); 3] = [
+    let cases: [(&str, &[u8]); 5] = [
         (SHOW, RECORDING),
         (HELP, RECORDING),
+        (CHECK, RECORDING),
+        (PACKETS, normal.as_slice()),
         (NORMALISE, normal.as_slice()),
     ];
     for (line, recording) in cases {

@@ -4,8 +4,7 @@ use Rattle.sl_link.specs.Managed.{Parameters, managed_of, tm_format}
 use Rattle.sl_tmflow.specs.NormalForm.{normal_form}
 use Rattle.sl_link.specs.NormaliseTm.{tm_normal_form, tm_counts, tm_packets}
 use Rattle.sl_link.proofs.NormaliseLemmas.{keeps_packets, stops_at_reading, stops_for_memory, stops_at_writing, translates_whole}
-use Rattle.sl_link.proofs.SeparationLemmas.{tm_forms_deliver}
-use Rattle.sl_link.specs.Separation.{AreAccepted}
+use Rattle.sl_link.proofs.SeparationLemmas.{tm_form_delivers}
 use Rattle.sl_link.proofs.normalise.normalise_tm.Goals as goal
 
 pub returns-in_err-recording-clause-fault : goal.returns-in_err-recording-clause-fault
@@ -52,6 +51,6 @@ returns-clause-packets g c =
     let form : c.as_slice-2.result.now ≡ tm_normal_form p recording =
     c.as_slice-2.ensures.value ∙ c.in-Ok.ensures.form ∙ ap (λ (q : Parameters). normal_form (tm_format q) q.spacecraft (take 8 c.deliver.new.delivered.lists)) c.managed.view_is
     ∙ ap (normal_form (tm_format p) p.spacecraft) (c.in_ok-totals.ensures.packets ∙ ap (tm_packets p) c.as_slice.ensures.value) in
-    let accepted : AreAccepted p = ap managed_of (sym c.managed.view_is) ∙ c.managed.invariant ∙ ap Ok c.managed.view_is in
+    let accepted : managed_of p ≡ Ok p = ap managed_of (sym c.managed.view_is) ∙ c.managed.invariant ∙ ap Ok c.managed.view_is in
     keeps_packets g.R.Read.remaining g.W.Write.contents c.args.reader.now c.read_all.new.reader (tm_normal_form p) _ 65536 c.args.writer.now c.write_text.new.writer (tm_packets p) recording c.as_slice-2.result.now c.in_ok-recording.ensures.came
-    (ap (tm_packets p) form ∙ tm_forms_deliver p recording accepted) c.in_ok-write_text.ensures.written
+    (ap (tm_packets p) form ∙ tm_form_delivers p recording accepted) c.in_ok-write_text.ensures.written

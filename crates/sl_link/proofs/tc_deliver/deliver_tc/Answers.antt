@@ -5,7 +5,7 @@ use Rattle.sl_packet.proofs.DeliveredLemmas.{length-no_lists, list_at-no_lists}
 use Rattle.sl_tcframe.specs.TcDelimited.{front_len}
 use Rattle.sl_tcframe.specs.TcFrame.{is_cut}
 use Rattle.sl_tcframe.proofs.DelimitedLemmas.{front_is_cut}
-use Rattle.sl_tcflow.specs.Receiving.{HasReceived}
+use Rattle.sl_tcflow.specs.Receiving.{HasProcessed}
 use Rattle.sl_link.specs.Totals.{Counts}
 use Rattle.sl_link.specs.Managed.{Parameters, tc_format}
 use Rattle.sl_link.proofs.DeliverLemmas.{same_counts}
@@ -16,7 +16,7 @@ pub loop-len-init : goal.loop-len-init
 loop-len-init c =
     rw (c.new-so_far.ensures.octets, c.new-so_far.ensures.frames, c.new-so_far.ensures.skipped, c.new-so_far.ensures.packets, c.new-so_far.ensures.idle)
     (nothing_delivered c.args.managed.now c.args.recording.now c.new-receiver.result c.args.delivered.now.lists
-    (subst (λ (p : Parameters). HasReceived p.window p.vr c.new-receiver.result []) c.managed.view_is c.new-receiver.ensures)
+    (subst (λ (p : Parameters). HasProcessed p.window p.vr c.new-receiver.result []) c.managed.view_is c.new-receiver.ensures)
     (ap length c.requires.none ∙ length-no_lists)
     (λ channel. ap (λ l. slice_index_or {A = List (List ℕ)} l channel []) c.requires.none ∙ list_at-no_lists channel))
 
@@ -30,7 +30,7 @@ pub deliver_tc_frame-requires-clause-channels : goal.deliver_tc_frame-requires-c
 deliver_tc_frame-requires-clause-channels c = c.loop-len.invariant.size
 
 pub deliver_tc_frame-requires-clause-working : goal.deliver_tc_frame-requires-clause-working
-deliver_tc_frame-requires-clause-working c = (_, _, _, c.loop-len.invariant.received)
+deliver_tc_frame-requires-clause-working c = (_, _, _, c.loop-len.invariant.processed)
 
 pub add-requires-clause-within : goal.add-requires-clause-within
 add-requires-clause-within c =
@@ -40,7 +40,7 @@ add-requires-clause-within c =
     let met = c.in_ok-met.ensures in
     let few = counted_within p c.args.recording.now c.loop-len.receiver c.loop-len.left.now c.split_at.result.0.now c.loop-len.delivered.lists
     c.loop-len.so_far.tally.octets c.loop-len.so_far.tally.frames c.loop-len.so_far.tally.skipped c.loop-len.so_far.packets c.loop-len.so_far.idle d in
-    omega (arith, few, met.packets p.window p.vr seen d.received, met.idle p.window p.vr seen d.received)
+    omega (arith, few, met.packets p.window p.vr seen d.processed, met.idle p.window p.vr seen d.processed)
 
 pub loop-len-preserved : goal.loop-len-preserved
 loop-len-preserved c =
@@ -57,10 +57,10 @@ loop-len-preserved c =
     delivered_next p c.args.recording.now c.loop-len.receiver c.deliver_tc_frame.new.receiver left frame c.split_at.result.1.now
     c.loop-len.delivered.lists c.deliver_tc_frame.new.delivered.lists
     c.loop-len.so_far.tally.octets c.loop-len.so_far.tally.frames c.loop-len.so_far.tally.skipped c.loop-len.so_far.packets c.loop-len.so_far.idle _ _ _ _ _
-    parts cut d (met.received p.window p.vr seen d.received) (met.lists p.window p.vr seen d.received) c.add.ensures.octets c.add.ensures.frames
+    parts cut d (met.processed p.window p.vr seen d.processed) (met.lists p.window p.vr seen d.processed) c.add.ensures.octets c.add.ensures.frames
     (c.add.ensures.skipped ∙ ap (λ (b : Bool). c.loop-len.so_far.tally.skipped + (if◌then◌else◌ {A = ℕ} b 1 0)) met.skipped)
-    (c.add.ensures.packets ∙ ap (λ n. c.loop-len.so_far.packets + n) (met.packets p.window p.vr seen d.received))
-    (c.add.ensures.idle ∙ ap (λ n. c.loop-len.so_far.idle + n) (met.idle p.window p.vr seen d.received))
+    (c.add.ensures.packets ∙ ap (λ n. c.loop-len.so_far.packets + n) (met.packets p.window p.vr seen d.processed))
+    (c.add.ensures.idle ∙ ap (λ n. c.loop-len.so_far.idle + n) (met.idle p.window p.vr seen d.processed))
 
 pub returns-clause-packets : goal.returns-clause-packets
 returns-clause-packets c =

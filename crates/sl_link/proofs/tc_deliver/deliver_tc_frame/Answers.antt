@@ -7,8 +7,8 @@ use Rattle.sl_link.proofs.HandedLemmas.{takes_all, why_refused}
 use Rattle.sl_link.proofs.TcDeliverLemmas.{channel_fits}
 use Rattle.sl_link.proofs.tc_deliver.deliver_tc_frame.Goals as goal
 
-pub returns-in-Ok-frame-clause-received : goal.returns-in-Ok-frame-clause-received
-returns-in-Ok-frame-clause-received c =
+pub returns-in-Ok-frame-clause-processed : goal.returns-in-Ok-frame-clause-processed
+returns-in-Ok-frame-clause-processed c =
     let seen : as_read c.args.managed.now c.args.frame.now ≡ Ok c.in-Ok.view = search rules in
     rw (seen) c.in-Ok-frame.ensures.processed
 

@@ -1,6 +1,5 @@
-use Rattle.std.proofs.Common.{rules, ◌≡◌, ◌≢◌, subst, sym}
+use Rattle.std.proofs.Common.{rules, ◌≡◌, ◌≢◌, refl}
 use Rattle.sl_packet.specs.declared.flow_fault.FlowFault.TheVariants.{Failed}
-use Rattle.sl_link.specs.Streams.{StopsListing}
 use Rattle.sl_link.proofs.PrinterLemmas.{all_printed, some_of, some_printed, stopped_of, stopped_printing}
 use Rattle.sl_link.proofs.tm_packets.print_view.Goals as goal
 
@@ -12,17 +11,17 @@ printing_fault-requires g c =
 
 pub returns-in-Ok-clause-lines : goal.returns-in-Ok-clause-lines
 returns-in-Ok-clause-lines g c = λ views processed.
-    all_printed g.W.Write.contents _ _ c.frame.new.sink _ _ (search rules) _ (search rules) (c.in-Ok.ensures.accepted views processed)
+    all_printed g.W.Write.contents _ _ c.frame.new.sink _ _ (search rules) _ (search rules) (c.in-Ok.ensures.accepted views processed) _ refl
 
 pub returns-in-Err-Memory-clause-fault : goal.returns-in-Err-Memory-clause-fault
 returns-in-Err-Memory-clause-fault g c = λ views processed.
     let ne : c.in-Err-Memory.field-0 ≢ Failed = search rules in
     let stopped = (c.in-Err-Memory.ensures.stopped ne).1 views processed in
-    some_printed g.W.Write.contents _ _ c.frame.new.sink _ _ (search rules) (some_of g.W.Write.contents _ _ _ c.frame.new.sink _ _ c.in-Err-Memory.field-0-is stopped)
+    some_printed g.W.Write.contents _ _ c.frame.new.sink _ _ (search rules) (some_of g.W.Write.contents _ _ _ c.frame.new.sink _ _ c.in-Err-Memory.field-0-is stopped) _ refl
 
 pub returns-in-Err-Sink-clause-fault : goal.returns-in-Err-Sink-clause-fault
 returns-in-Err-Sink-clause-fault g c = λ views processed.
     let ne : c.in-Err-Sink.field-0 ≢ Failed = search rules in
     let stopped = (c.in-Err-Sink.ensures.stopped ne).1 views processed in
     rw (c.printing_fault.ensures) (stopped_printing g.W.Write.contents _ _ c.frame.new.sink _ _ (search rules) c.in-Err-Sink.fault
-    (stopped_of g.W.Write.contents _ _ _ c.frame.new.sink _ _ c.in-Err-Sink.fault c.in-Err-Sink.field-0-is stopped))
+    (stopped_of g.W.Write.contents _ _ _ c.frame.new.sink _ _ c.in-Err-Sink.fault c.in-Err-Sink.field-0-is stopped) _ refl)

@@ -1,0 +1,140 @@
+//! The packets of a TC recording.
+ghost use Rattle.std.specs.Prelude.{◌≡◌, ◌++◌, ◌∷◌, [], true, false, length, IfOk, IfErr, OnOk, Ok, is_err};
+ghost use Rattle.sl_packet.specs.Packets.{only_idle, without_idle};
+ghost use Rattle.sl_tcflow.specs.Receiving.{ForProcessed, HasProcessed, IsWorking, ended_by};
+ghost use Rattle.sl_tcframe.specs.TcFrame.{is_cut};
+ghost use Rattle.sl_link.specs.DeliverTc.{as_read, ended_in};
+ghost use Rattle.sl_link.specs.Delivering.{with_frame};
+ghost use Rattle.sl_link.specs.Managed.{tc_format};
+ghost use Rattle.sl_link.specs.NormaliseTc.{tc_counts};
+ghost use Rattle.sl_link.specs.PacketsTc.{packets_tc_text, tc_packet_lines};
+ghost use Rattle.sl_link.specs.Streams.{AddsText, Stops, StopsListing, Translates, WritesText};
+
+use crate::counted::Counted;
+use crate::delivery::{DeliveryTally, FrameReport, SKIPPED};
+use crate::lines::Lines;
+use crate::link_fault::LinkFault;
+use crate::listing::flush;
+use crate::managed::Managed;
+use crate::printer::{ChannelKind, Printer, printing_fault};
+use crate::recording::read_all;
+use crate::tc_front::frame_len;
+use crate::totals::Totals;
+use sl_packet::FlowFault;
+use sl_tcflow::Receiver;
+use sl_tcframe::TcFrame;
+use std::alloc::Global;
+use std::io::{Read, Write};
+
+/// Reads a recording of TC transfer frames to its end, and writes a line for each packet that its frames deliver, in
+/// the order of the frames with whose units they end (docs/listings.md).
+///
+/// The fault is `Read` where the reader had one, `TooLong` where more octets came than the managed limit, `Memory`
+/// where memory was refused, and `Write` where the writer had one.
+pub fn packets_tc<R: Read, W: Write>(
+    alloc: Global,
+    managed: &Managed,
+    reader: &mut Counted<R>,
+    writer: &mut Counted<W>,
+) -> Result<Totals, LinkFault>
+    // All is read, and its listing is written and nothing else.
+    ensures listing { IfOk result (Translates R.remaining W.contents reader.old reader.new writer.old writer.new (packets_tc_text managed.now) (tc_counts managed.now) managed.now.max_octets) }
+    // After a fault, whose cause is there, a prefix of the listing of what was read is written.
+    ensures fault { IfErr result (Stops R.remaining W.contents reader.old reader.new writer.old writer.new (packets_tc_text managed.now) managed.now.max_octets 0x10000) }
+{
+    let recording = read_all(alloc, reader, managed.max_octets)?;
+    let mut receiver = Receiver::new(alloc, managed.window, managed.vr);
+    let mut lines = Lines::new();
+    let totals = print_frames(
+        managed,
+        recording.as_slice(),
+        &mut receiver,
+        writer,
+        &mut lines,
+    )?;
+    Ok(totals)
+}
+
+// The packets of a recording that was read.
+fn print_frames<W: Write>(
+    managed: &Managed,
+    recording: &[u8],
+    receiver: &mut Receiver,
+    writer: &mut Counted<W>,
+    lines: &mut Lines,
+) -> Result<Totals, LinkFault>
+    requires none { HasProcessed managed.now.window managed.now.vr receiver.old [] }
+    requires empty { lines.old ≡ [] }
+    ensures listing { OnOk result (WritesText W.contents writer.old writer.new (packets_tc_text managed.now recording.now)) }
+    ensures counts { IfOk result (λ totals. totals ≡ tc_counts managed.now recording.now) }
+    ensures fault { IfErr result (StopsListing W.contents writer.old writer.new (packets_tc_text managed.now recording.now)) }
+{
+    let mut so_far = DeliveryTally::new();
+    let mut left = recording;
+    while let Some(len) = frame_len(&managed.tc, left) {
+        let (frame, after) = left.split_at(len);
+        let met = print_frame(managed, frame, receiver, writer, lines)?;
+        so_far.add(frame.len() as u64, met);
+        left = after;
+    }
+    flush(writer, lines)?;
+    Ok(so_far.totals(left.len() as u64))
+}
+
+// The packets that end with a frame's unit, unless the frame is skipped.
+fn print_frame<W: Write>(
+    managed: &Managed,
+    frame: &[u8],
+    receiver: &mut Receiver,
+    writer: &mut Counted<W>,
+    lines: &mut Lines,
+) -> Result<FrameReport, LinkFault>
+    requires one_frame { is_cut (tc_format managed.now) frame.now ≡ true }
+    requires working { IsWorking receiver.old }
+    ensures processed { OnOk result (ForProcessed receiver.old (λ w vr views. HasProcessed w vr receiver.new (with_frame views (as_read managed.now frame.now)))) }
+    ensures lines { OnOk result (ForProcessed receiver.old (λ w vr views. AddsText W.contents writer.old writer.new lines.old lines.new (tc_packet_lines w vr views (as_read managed.now frame.now)))) }
+    ensures skipped { IfOk result (λ met. met.is_skipped ≡ is_err (as_read managed.now frame.now)) }
+    ensures packets { IfOk result (λ met. ForProcessed receiver.old (λ w vr views. met.packets ≡ length (without_idle (ended_in w vr views (as_read managed.now frame.now))))) }
+    ensures idle { IfOk result (λ met. ForProcessed receiver.old (λ w vr views. met.idle ≡ length (only_idle (ended_in w vr views (as_read managed.now frame.now))))) }
+    ensures fault { IfErr result (λ fault. ForProcessed receiver.old (λ w vr views. StopsListing W.contents writer.old writer.new (lines.old ++ tc_packet_lines w vr views (as_read managed.now frame.now)) fault)) }
+{
+    let view = match TcFrame::read(&managed.tc, managed.spacecraft, frame) {
+        Ok(view) => view,
+        Err(_) => return Ok(SKIPPED),
+    };
+    let met = print_view(&view, receiver, writer, lines)?;
+    Ok(met)
+}
+
+// The packets that end with the unit of a frame that is not skipped.
+fn print_view<W: Write>(
+    view: &TcFrame,
+    receiver: &mut Receiver,
+    writer: &mut Counted<W>,
+    lines: &mut Lines,
+) -> Result<FrameReport, LinkFault>
+    requires working { IsWorking receiver.old }
+    ensures processed { OnOk result (ForProcessed receiver.old (λ w vr views. HasProcessed w vr receiver.new (views ++ view.now ∷ []))) }
+    ensures lines { OnOk result (ForProcessed receiver.old (λ w vr views. AddsText W.contents writer.old writer.new lines.old lines.new (tc_packet_lines w vr views (Ok view.now)))) }
+    ensures read { IfOk result (λ met. met.is_skipped ≡ false) }
+    ensures packets { IfOk result (λ met. ForProcessed receiver.old (λ w vr views. met.packets ≡ length (without_idle (ended_by w vr views view.now)))) }
+    ensures idle { IfOk result (λ met. ForProcessed receiver.old (λ w vr views. met.idle ≡ length (only_idle (ended_by w vr views view.now)))) }
+    ensures fault { IfErr result (λ fault. ForProcessed receiver.old (λ w vr views. StopsListing W.contents writer.old writer.new (lines.old ++ tc_packet_lines w vr views (Ok view.now)) fault)) }
+{
+    let mut printer = Printer {
+        writer,
+        lines,
+        kind: ChannelKind::Map,
+        failures: 0,
+    };
+    match receiver.frame(view, &mut printer) {
+        Ok(step) => Ok(FrameReport {
+            is_skipped: false,
+            packets: step.packets(),
+            idle: step.idle(),
+        }),
+        Err(FlowFault::Memory) => Err(LinkFault::Memory),
+        Err(FlowFault::Sink(fault)) => Err(printing_fault(fault)),
+        Err(FlowFault::Failed) => unreachable!(),
+    }
+}

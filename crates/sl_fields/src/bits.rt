@@ -1,5 +1,5 @@
 //! Fields within the number that a header's octets are.
-ghost use Rattle.std.specs.Prelude.{◌≡◌, ℕ, ◌+◌, ◌*◌, ◌/◌, ◌%◌, ◌^◌, ◌<◌, ◌≤◌, ◌==◌};
+ghost use Rattle.std.specs.Prelude.{◌≡◌, ◌/◌, ◌%◌, ◌^◌, ◌<◌, ◌==◌};
 ghost use Rattle.sl_fields.specs.Field.{width_of, packed, FitWidths};
 
 /// The field of `width` bits that has `below` bits below it.

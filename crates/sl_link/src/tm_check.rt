@@ -1,13 +1,12 @@
 //! What is amiss in a TM recording.
-ghost use Rattle.std.specs.Prelude.{◌≡◌, ◌+◌, ◌^◌, ◌<◌, ◌≤◌, ◌++◌, ◌∷◌, [], length, IfOk, IfErr, OnOk, Ok, is_err};
+ghost use Rattle.std.specs.Prelude.{◌≡◌, ◌+◌, ◌<◌, ◌≤◌, ◌++◌, ◌∷◌, [], length, IfOk, IfErr, OnOk, Ok};
 ghost use Rattle.std.specs.List.{concat};
-ghost use Rattle.sl_packet.specs.Packets.{only_idle, without_idle};
 ghost use Rattle.sl_tmframe.specs.TmDelimited.{tm_frames_of};
-ghost use Rattle.sl_tmflow.specs.Extraction.{ForProcessed, HasProcessed, IsWorking, ended_by};
+ghost use Rattle.sl_tmflow.specs.Extraction.{ForProcessed, HasProcessed, IsWorking};
 ghost use Rattle.sl_tmflow.specs.Recording.{recorded_views};
 ghost use Rattle.sl_link.specs.Checking.{AreChecked, HasRoom, TellsFrame, end_amiss, end_counts};
 ghost use Rattle.sl_link.specs.CheckTm.{check_tm_counts, check_tm_text, tm_amiss, tm_amiss_from, tm_incomplete};
-ghost use Rattle.sl_link.specs.Deliver.{as_read, ended_in};
+ghost use Rattle.sl_link.specs.Deliver.{as_read};
 ghost use Rattle.sl_link.specs.Delivering.{with_frame};
 ghost use Rattle.sl_link.specs.Managed.{tm_format};
 ghost use Rattle.sl_link.specs.Streams.{AddsText, Stops, StopsListing, Translates, WritesText};

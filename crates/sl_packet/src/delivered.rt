@@ -1,5 +1,5 @@
 //! Delivered packets, kept.
-ghost use Rattle.std.specs.Prelude.{◌≡◌, ◌≤◌, ◌<◌, ◌≢◌, ◌+◌, max, ℕ, [], map, length, IfSome, IfNone, IsTrue, ◌↔◌, OnOk, OnErr};
+ghost use Rattle.std.specs.Prelude.{◌≡◌, ◌≤◌, ◌<◌, ◌+◌, max, [], map, length, IfSome, IfNone, IsTrue, ◌↔◌, OnOk, OnErr};
 ghost use Rattle.std.specs.List.{AllByRecursion};
 ghost use Rattle.std.specs.Vec.{vec_items, vec_len};
 ghost use Rattle.sl_packet.specs.Delivered.{AddsPacket, list_at, with_packet, no_lists, HasNone, IsLeast, IsDeliverable, FitsTm, channel_count};

@@ -1,5 +1,5 @@
 //! Where delivered packets go.
-ghost use Rattle.std.specs.Prelude.{◌≡◌, ◌≤◌, ◌<◌, ◌^◌, ℕ, List, length, false, OnOk, OnErr, IfOk, IfErr};
+ghost use Rattle.std.specs.Prelude.{◌≡◌, ◌≤◌, ◌<◌, ℕ, List, length, false, OnOk, OnErr, IfOk, IfErr};
 ghost use Rattle.sl_packet.specs.Packet.{IsPacket, is_idle_packet};
 ghost use Rattle.sl_packet.specs.Packets.{packets_of, rest_of, without_idle, only_idle};
 ghost use Rattle.sl_packet.specs.Sink.{TakesAll, StopsTaking, one_more};

@@ -1,5 +1,5 @@
 //! The TC transfer frame, as it is read.
-ghost use Rattle.std.specs.Prelude.{◌≡◌, ◌+◌, ◌-◌, ◌<◌, ◌≤◌, true, length, drop, option_map, IfSome};
+ghost use Rattle.std.specs.Prelude.{◌≡◌, ◌-◌, ◌<◌, ◌≤◌, true, length, drop, option_map, IfSome};
 ghost use Rattle.sl_tcframe.specs.TcFrame.{header_of, command_of, content_of, early_reason, is_cut, parts_of, IsContent};
 ghost use Rattle.sl_tcframe.specs.TcContent.{content};
 

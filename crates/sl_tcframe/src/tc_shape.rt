@@ -1,7 +1,7 @@
 //! The managed format of TC transfer frames.
 ghost use Rattle.std.specs.Prelude.{◌≡◌, ◌+◌, ◌≤◌, length};
 ghost use Rattle.sl_tcframe.specs.AdFrame.{room_of};
-ghost use Rattle.sl_tcframe.specs.TcFrame.{header_of, is_cut, least_of};
+ghost use Rattle.sl_tcframe.specs.TcFrame.{is_cut, least_of};
 
 use sl_fields::{ShapeFault, TcHeader};
 use std::marker::Model;

@@ -1,5 +1,5 @@
 //! The TM transfer frame of packets, as it is written.
-ghost use Rattle.std.specs.Prelude.{◌≡◌, ◌<◌, ◌≤◌, ◌++◌, [], ◌∷◌, length, IfSome, OnOk, OnErr};
+ghost use Rattle.std.specs.Prelude.{◌≡◌, ◌<◌, ◌≤◌, ◌++◌, length, IfSome, OnOk, OnErr};
 ghost use Rattle.sl_fields.specs.TmHeader.{tm_octets};
 ghost use Rattle.sl_tmframe.specs.PacketFrame.{packet_frame, packet_frame_header, room_of};
 

@@ -1,5 +1,5 @@
 //! The TM transfer frame, as it is read.
-ghost use Rattle.std.specs.Prelude.{◌≡◌, ◌+◌, ◌-◌, ◌^◌, ◌<◌, ◌≤◌, length, take, drop, false, if◌then◌else◌, Some, None};
+ghost use Rattle.std.specs.Prelude.{◌≡◌, ◌-◌, ◌<◌, ◌≤◌, length, take, drop, if◌then◌else◌, Some, None};
 ghost use Rattle.sl_tmframe.specs.TmFrame.{header_of, class_of, skip_reason, IsInField};
 ghost use Rattle.sl_tmframe.specs.TmField.{data_field};
 

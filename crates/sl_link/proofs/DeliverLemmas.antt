@@ -34,7 +34,7 @@ abbrev pub passing : (List ℕ → Bool) → List TmView → ℕ → List (List 
 passing test views vc = filter test (packets_on views vc)
 
 -- a frame adds those that end in it to its own channel,
-on_same : (test : List ℕ → Bool) (vc : ℕ) (views : List TmView) (view : TmView) → view.vc ≡ vc
+pub on_same : (test : List ℕ → Bool) (vc : ℕ) (views : List TmView) (view : TmView) → view.vc ≡ vc
     → passing test (views ++ view ∷ []) vc ≡ passing test views vc ++ filter test (ended_by views view)
 on_same test vc views view same =
     elim (eqb_tells view.vc vc) [
@@ -48,7 +48,7 @@ on_same test vc views view same =
     ]
 
 -- and none to another
-on_other : (test : List ℕ → Bool) (vc : ℕ) (views : List TmView) (view : TmView) → (view.vc ≡ vc → ⊥)
+pub on_other : (test : List ℕ → Bool) (vc : ℕ) (views : List TmView) (view : TmView) → (view.vc ≡ vc → ⊥)
     → passing test (views ++ view ∷ []) vc ≡ passing test views vc
 on_other test vc views view other =
     elim (eqb_tells view.vc vc) [

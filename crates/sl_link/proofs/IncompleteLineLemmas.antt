@@ -1,5 +1,5 @@
 -- The lines of packets that are incomplete at the end of a recording, one virtual channel after another.
-use Rattle.std.proofs.Common.{◌≡◌, Bool, if◌then◌else◌, ℕ, zero, suc, ◌+◌, ◌<◌, ◌≤◌, List, [], ◌∷◌, ◌++◌, length, map, refl, sym, ◌∙◌, ap, subst, add-one, arith, append-nil, length-append, codes, decimal}
+use Rattle.std.proofs.Common.{◌≡◌, Bool, if◌then◌else◌, ℕ, zero, suc, ◌+◌, ◌≤◌, List, [], ◌∷◌, ◌++◌, length, map, refl, sym, ◌∙◌, ap, subst, add-one, arith, append-nil, length-append, codes, decimal}
 use Rattle.std.specs.Prelude.{flat_map}
 use Rattle.std.specs.List.{AllByRecursion, concat, range_with_len}
 use Rattle.std.proofs.Math.Dec.{eqb-suc-zero}
@@ -9,7 +9,6 @@ use Rattle.sl_tmflow.specs.Channel.{channel_of}
 use Rattle.sl_tmflow.specs.Extraction.{ExtractorState, ForProcessed}
 use Rattle.sl_tmflow.specs.Incomplete.{IsShort, incomplete_of}
 use Rattle.sl_tmflow.proofs.IncompleteListLemmas.{one_is_incomplete, incomplete_is_short}
-use Rattle.sl_link.specs.CheckTm.{tm_incomplete}
 use Rattle.sl_link.specs.Checking.{held_amiss}
 use Rattle.sl_link.specs.Line.{line_at}
 use Rattle.sl_link.proofs.CheckLineLemmas.{joined}

@@ -14,12 +14,14 @@ pub mod FrameLinesLemmas
 pub mod HandedLemmas
 pub mod IncompleteLineLemmas
 pub mod LineLemmas
+pub mod ListedLemmas
 pub mod ListingFacts
 pub mod ManagedLemmas
 pub mod NormalFormFacts
 pub mod NormaliseLemmas
 pub mod OctetLineLemmas
 pub mod OverFramesLemmas
+pub mod PacketListingLemmas
 pub mod ParseLemmas
 pub mod PlaceLemmas
 pub mod PrintLemmas

@@ -1,9 +1,8 @@
 -- The frames of a TM recording taken one by one, whatever is done with what they bring.
-use Rattle.std.proofs.Common.{◌≡◌, ℕ, ◌+◌, ◌<◌, ◌≤◌, List, [], ◌∷◌, ◌++◌, length, map, Result, Ok, Err, is_err, if◌then◌else◌, refl, sym, ◌∙◌, ap, subst, arith, append_assoc, append-nil, length-append}
+use Rattle.std.proofs.Common.{◌≡◌, ℕ, ◌+◌, ◌<◌, ◌≤◌, List, [], ◌∷◌, ◌++◌, length, map, is_err, if◌then◌else◌, refl, sym, ◌∙◌, ap, subst, arith, append_assoc, append-nil, length-append}
 use Rattle.std.specs.List.{concat}
 use Rattle.sl_packet.specs.Packet.{is_idle_packet}
 use Rattle.sl_packet.specs.Packets.{without_idle, only_idle}
-use Rattle.sl_tmframe.specs.TmFrame.{TmView}
 use Rattle.sl_tmflow.specs.Extraction.{ExtractorState, HasProcessed}
 use Rattle.sl_tmflow.specs.Recording.{packets_on, virtual_channels}
 use Rattle.sl_tmframe.specs.TmDelimited.{IsTmDelimited, tm_frames_of}

@@ -1,13 +1,13 @@
 -- Where the names of the kinds lie in memory makes no difference to a parse.
 use Rattle.std.proofs.Common.{◌≡◌, ◌∙◌, ◌==◌, ◌&&◌, ◌||◌, option_map, ℕ, Bool, true, false, cond, refl, sym, ap, ap₂, List, [], ◌∷◌, drop, length, Option, Some, None, codes, is_some}
-use Rattle.std.specs.Prelude.{find, fold, slice_get, unwrap_or}
+use Rattle.std.specs.Prelude.{fold, slice_get, unwrap_or}
 use Rattle.std.specs.List.{list_any}
 use Rattle.std.specs.Borrow.{Bor}
 use Rattle.std.specs.Option.{option_map_or}
 use Rattle.std.specs.Str.{bytes_eq}
 use Rattle.clap.specs.Faults.{entered_fault, fault_of, repeat_fault, check_fault, defaults_fault, level_fault, positional_fault, settle_fault, stray_fault, use_fault, walk_fault}
 use Rattle.clap.specs.Kinds.{Kinds, or_else, range_kinds, value_kinds, values_kinds}
-use Rattle.clap.specs.Simple.{App, Shape, built, entered, filled, label_of, names_of, new_shape, rows_at, subcommand_of, with_index}
+use Rattle.clap.specs.Simple.{App, Shape, built, entered, filled, names_of, new_shape, rows_at, subcommand_of, with_index}
 use Rattle.clap.specs.Values.{same_text}
 use Rattle.clap.specs.Walk.{Held, Names, Row, Rule, Text, Walk, answers_to, is_multiple, is_pending, next_position, nothing_held, pushed, rows_after, stop_after, takes_several, texts, used_by_id, values_or_missing, with_default, arg_by_id, arg_by_index, finished, idle, option_word, positional, settled, settled_rows, to_positional, walk, walk_from}
 use Rattle.clap.specs.declared.builder.value_parser.ValueParser.TheVariants.{Names as OneOf}

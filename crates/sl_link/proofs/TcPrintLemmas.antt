@@ -1,11 +1,10 @@
 -- The packets of a TC recording, printed frame by frame.
-use Rattle.std.proofs.Common.{◌≡◌, ℕ, ◌+◌, ◌*◌, ◌/◌, ◌%◌, ◌<◌, List, [], ◌∷◌, ◌++◌, length, map, None, Some, true, refl, sym, ◌∙◌, ap, ap₂, arith, append_assoc, append-nil}
+use Rattle.std.proofs.Common.{◌≡◌, ℕ, ◌/◌, ◌%◌, List, [], ◌∷◌, ◌++◌, map, None, true, refl, sym, ◌∙◌, ap, ap₂, arith, append_assoc, append-nil}
 use Rattle.std.specs.List.{concat}
-use Rattle.sl_packet.specs.Packets.{without_idle}
 use Rattle.sl_tcframe.specs.TcDelimited.{front_len, tc_frames_of}
 use Rattle.sl_tcframe.specs.TcFrame.{TcView, is_cut}
 use Rattle.sl_tcframe.proofs.DelimitedLemmas.{frames_of-concat}
-use Rattle.sl_tcflow.specs.Receiving.{ReceiverState, ended_by, map_of, unit_channel}
+use Rattle.sl_tcflow.specs.Receiving.{ReceiverState, map_of, unit_channel}
 use Rattle.sl_link.specs.declared.delivery.DeliveryTally.{DeliveryTally}
 use Rattle.sl_link.specs.declared.printer.ChannelKind.TheVariants.{Map}
 use Rattle.sl_link.specs.DeliverTc.{as_read}

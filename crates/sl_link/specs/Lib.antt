@@ -16,6 +16,7 @@ pub mod ManagedModel
 pub mod NormaliseTc
 pub mod NormaliseTm
 pub mod PacketLine
+pub mod PacketListing
 pub mod PacketsTc
 pub mod PacketsTm
 pub mod Run

@@ -1,4 +1,5 @@
--- The packets of a TC recording, as `packets tc` lists them: by the units with which they end, idle ones left out.
+-- The packets of a TC recording, as `packets tc` lists them: by the accepted units that end the series they are of, idle
+-- ones left out.
 use Rattle.std.specs.Prelude.{ℕ, List, [], ◌∷◌, ◌++◌, map, codes, decimal, Result, Ok, Err}
 use Rattle.std.specs.List.{concat}
 use Rattle.sl_packet.specs.Packets.{without_idle}
@@ -15,7 +16,7 @@ use Rattle.sl_link.specs.PacketLine.{packet_line}
 abbrev pub channel_text : ℕ → ℕ → List ℕ
 channel_text vc mid = codes "vc " ++ decimal vc ++ codes " map " ++ decimal mid
 
--- the lines of the packets that end with the unit of a frame, as it is read, that comes after these frames
+-- the lines of the packets of the series that the unit of a frame ends, as it is read, that comes after these frames
 abbrev pub tc_packet_lines : ℕ → ℕ → List TcView → Result TcView TcSkip → List ℕ
 tc_packet_lines w vr views (Ok view) =
     concat (map (packet_line (channel_text view.vc (map_of view.content))) (without_idle (ended_by w vr views view)))

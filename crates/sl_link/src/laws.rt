@@ -1,4 +1,5 @@
 //! What holds of the definitions alone. Each function does nothing; its clauses are the laws.
+ghost use Rattle.sl_link.specs.PacketListing.{TmPacketsAreListed, TcPacketsAreListed};
 ghost use Rattle.sl_link.specs.Separation.{TmFormsDeliver, TmFormsTellPackets, TmFormsAreTheirOwn};
 ghost use Rattle.sl_link.specs.Separation.{TcFormsDeliver, TcFormsTellPackets, TcFormsAreTheirOwn};
 
@@ -18,4 +19,16 @@ pub fn tc_normal_forms_tell_packets()
     ensures deliver { TcFormsDeliver }
     ensures exactly { TcFormsTellPackets }
     ensures once { TcFormsAreTheirOwn }
+{}
+
+/// The listing of the packets of a TM recording is lines of packets, which are, on each virtual channel, exactly those
+/// that the recording delivers there, idle ones left out, in their order.
+pub fn tm_packets_are_listed()
+    ensures { TmPacketsAreListed }
+{}
+
+/// The listing of the packets of a TC recording is lines of packets, which are, on each virtual channel and MAP,
+/// exactly those that the recording delivers there, idle ones left out, in their order.
+pub fn tc_packets_are_listed()
+    ensures { TcPacketsAreListed }
 {}

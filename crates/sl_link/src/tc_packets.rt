@@ -27,7 +27,7 @@ use std::alloc::Global;
 use std::io::{Read, Write};
 
 /// Reads a recording of TC transfer frames to its end, and writes a line for each packet that its frames deliver, in
-/// the order of the frames with whose units they end (docs/listings.md).
+/// the order of the frames whose accepted units end the series that they are of (docs/listings.md).
 ///
 /// The fault is `Read` where the reader had one, `TooLong` where more octets came than the managed limit, `Memory`
 /// where memory was refused, and `Write` where the writer had one.

@@ -1,7 +1,7 @@
-use Rattle.std.proofs.Common.{◌≡◌, ◌++◌, ◌∙◌, sym, [], arith}
-use Rattle.std.proofs.lemmas.List.{take-append-drop, nil_from_length}
+use Rattle.std.proofs.Common.{◌≡◌, ◌++◌, sym}
+use Rattle.std.proofs.lemmas.List.{take-append-drop}
 use Rattle.std.proofs.lemmas.Result.{err_from_is_err_and}
-use Rattle.sl_link.proofs.OctetLineLemmas.{pushing_none, pushing_next, pushing_stops, pushed_all}
+use Rattle.sl_link.proofs.OctetLineLemmas.{pushing_none, pushing_next, pushing_stops}
 use Rattle.sl_link.proofs.packet_lines.push_octets.Goals as goal
 
 pub loop-left-init : goal.loop-left-init

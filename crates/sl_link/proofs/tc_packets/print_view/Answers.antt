@@ -1,4 +1,4 @@
-use Rattle.std.proofs.Common.{rules, ◌≡◌, ◌≢◌}
+use Rattle.std.proofs.Common.{rules, ◌≢◌}
 use Rattle.sl_packet.specs.declared.flow_fault.FlowFault.TheVariants.{Failed}
 use Rattle.sl_packet.specs.Packets.{without_idle}
 use Rattle.sl_tcflow.specs.Receiving.{ended_by}

@@ -1,4 +1,4 @@
-use Rattle.std.proofs.Common.{rules, ◌≡◌, ◌≢◌}
+use Rattle.std.proofs.Common.{rules, ◌≢◌}
 use Rattle.sl_packet.specs.declared.flow_fault.FlowFault.TheVariants.{Failed}
 use Rattle.sl_link.proofs.PrinterLemmas.{never_refused}
 use Rattle.sl_link.proofs.tm_check.check_view.Goals as goal

@@ -1,6 +1,5 @@
-use Rattle.std.proofs.Common.{◌≡◌, ◌+◌, ◌≤◌, ◌++◌, ◌∙◌, arith, ap, subst, length}
+use Rattle.std.proofs.Common.{◌≡◌, ◌++◌, ◌∙◌, arith, ap, length}
 use Rattle.std.specs.List.{concat}
-use Rattle.sl_link.specs.Checking.{held_amiss}
 use Rattle.sl_link.proofs.IncompleteLineLemmas.{incomplete_to, none_held, held_next}
 use Rattle.sl_link.proofs.tm_check.incomplete_lines.Goals as goal
 

@@ -1,8 +1,6 @@
-use Rattle.std.proofs.Common.{rules, ◌≡◌, ◌+◌, ◌≤◌, ◌∙◌, arith, length, Ok, ap}
+use Rattle.std.proofs.Common.{rules, ◌≡◌, ◌+◌, ◌≤◌, arith, length, Ok, ap}
 use Rattle.sl_packet.specs.Packets.{without_idle, only_idle}
-use Rattle.sl_link.specs.Checking.{TellsFrame}
 use Rattle.sl_link.specs.Deliver.{as_read, ended_in}
-use Rattle.sl_link.specs.Delivering.{with_frame}
 use Rattle.sl_link.specs.Managed.{Parameters, tm_format}
 use Rattle.sl_link.specs.ManagedModel.{parameters_of}
 use Rattle.sl_link.proofs.HandedLemmas.{counts_within}

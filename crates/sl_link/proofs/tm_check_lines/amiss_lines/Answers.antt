@@ -1,7 +1,6 @@
-use Rattle.std.proofs.Common.{◌≡◌, ◌++◌, ◌∙◌, ℕ, List, ap, Option, Bool}
+use Rattle.std.proofs.Common.{◌++◌, ◌∙◌, ℕ, ap, Option, Bool}
 use Rattle.std.specs.List.{concat}
 use Rattle.sl_tmframe.specs.TmField.{data_field}
-use Rattle.sl_tmframe.specs.TmFrame.{DataField}
 use Rattle.sl_link.specs.CheckTm.{gap_amiss, dropped_amiss, opaque_amiss, foreign_amiss, view_amiss}
 use Rattle.sl_link.proofs.CheckLineLemmas.{joined_four}
 use Rattle.sl_link.proofs.tm_check_lines.amiss_lines.Goals as goal

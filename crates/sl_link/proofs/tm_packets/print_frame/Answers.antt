@@ -1,4 +1,4 @@
-use Rattle.std.proofs.Common.{rules, ◌≡◌, ◌+◌, ◌≤◌, ◌∙◌, arith, length, Ok, Err, ap}
+use Rattle.std.proofs.Common.{rules, ◌≡◌, ◌+◌, ◌≤◌, arith, length, Ok, Err, ap}
 use Rattle.sl_packet.specs.Packets.{without_idle, only_idle}
 use Rattle.sl_link.specs.Deliver.{as_read, ended_in}
 use Rattle.sl_link.specs.Managed.{Parameters, tm_format}

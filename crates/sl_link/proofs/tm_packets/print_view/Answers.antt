@@ -1,4 +1,4 @@
-use Rattle.std.proofs.Common.{rules, ◌≡◌, ◌≢◌, refl}
+use Rattle.std.proofs.Common.{rules, ◌≢◌, refl}
 use Rattle.sl_packet.specs.declared.flow_fault.FlowFault.TheVariants.{Failed}
 use Rattle.sl_link.proofs.PrinterLemmas.{all_printed, some_of, some_printed, stopped_of, stopped_printing}
 use Rattle.sl_link.proofs.tm_packets.print_view.Goals as goal

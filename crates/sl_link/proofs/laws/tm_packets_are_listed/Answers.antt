@@ -1,0 +1,5 @@
+use Rattle.sl_link.proofs.ListedLemmas.{tm_packets_are_listed}
+use Rattle.sl_link.proofs.laws.tm_packets_are_listed.Goals as goal
+
+pub returns : goal.returns
+returns c = tm_packets_are_listed

@@ -1,6 +1,7 @@
 -- Frame error control fields that are known from outside, so that a wrong definition doesn't check.
 use Rattle.std.proofs.Common.{◌≡◌, true, false, [], ◌∷◌, codes, replicate, refl}
 use Rattle.sl_fields.specs.Fecf.{fecf_of, fecf_is_good, register_of}
+use Rattle.sl_fields.specs.FecfWords.{word_of}
 
 pub record AreVectors : Type 0 where
   pub empty : fecf_of [] ≡ 0xFFFF
@@ -43,3 +44,14 @@ cases = record {
   two_octets = refl;
   none = refl;
 }
+
+-- words of octets after which none comes
+pub record AreKnownWords : Type 0 where
+  pub of_0 : word_of 0 0 ≡ 0x0000
+  pub of_1 : word_of 0 1 ≡ 0x1021
+  pub of_225 : word_of 0 225 ≡ 0xED0F
+  pub of_255 : word_of 0 255 ≡ 0x1EF0
+
+pub known_words : AreKnownWords
+unfolding word_of
+known_words = record { of_0 = refl; of_1 = refl; of_225 = refl; of_255 = refl }

@@ -1,8 +1,9 @@
 -- Octets that end with their error control field.
-use Rattle.std.proofs.Common.{◌≡◌, ℕ, ◌+◌, ◌-◌, ◌≤◌, ◌<◌, ◌==◌, nat_lt, Bool, true, false, ◌&&◌, List, [], ◌∷◌, ◌++◌, length, take, drop, if◌then◌else◌, refl, sym, ◌∙◌, ap, arith, length-append}
+use Rattle.std.proofs.Common.{◌≡◌, ℕ, ◌+◌, ◌-◌, ◌≤◌, ◌<◌, Bool, true, false, List, [], ◌∷◌, ◌++◌, length, take, drop, refl, ◌∙◌, ap, arith, length-append}
 use Rattle.std.proofs.Math.Seq.{take-append_seam, drop-append_seam}
 use Rattle.std.proofs.lemmas.Bool.{eq-eqb, lt-ltb}
-use Rattle.sl_fields.specs.Fecf.{fecf_of, fecf_octets, fecf_part, fecf_len, fecf_is_good, with_fecf}
+use Rattle.sl_fields.specs.Fecf.{fecf_of, fecf_is_good}
+use Rattle.sl_fields.specs.FecfField.{fecf_octets, fecf_part, fecf_len, with_fecf}
 use Rattle.sl_fields.specs.Field.{number_of, packed}
 use Rattle.sl_fields.proofs.Division.{fecf_of_lt}
 use Rattle.sl_fields.proofs.Octets.{length-octets_of, number_of-bytes}

@@ -1,6 +1,10 @@
 pub mod ClcwLemmas
 pub mod FecfFacts
 pub mod FecfLemmas
+pub mod FecfSliceLemmas
+pub mod FecfSums
+pub mod FecfTables
+pub mod FecfWordLemmas
 pub mod Division
 pub mod Flags
 pub mod HeaderFacts
@@ -8,6 +12,7 @@ pub mod HeaderLayout
 pub mod Octets
 pub mod PacketHeaderLemmas
 pub mod Packing
+pub mod RemainderLemmas
 pub mod SegmentHeaderLemmas
 pub mod TcHeaderLemmas
 pub mod TmHeaderLemmas

@@ -1,6 +1,6 @@
 -- The frame error control field, CCSDS 132.0-B and 232.0-B: the remainder of a division of bit lists.
-use Rattle.std.specs.Prelude.{ℕ, zero, suc, ◌+◌, ◌-◌, ◌*◌, ◌/◌, ◌%◌, ◌^◌, ◌==◌, nat_lt, ◌&&◌, Bool, true, false, not, cond, if◌then◌else◌, List, [], ◌∷◌, ◌++◌, length, take, drop, map, flat_map, replicate}
-use Rattle.sl_fields.specs.Field.{bit_of, number_of, octets_of}
+use Rattle.std.specs.Prelude.{ℕ, zero, suc, ◌+◌, ◌-◌, ◌*◌, ◌/◌, ◌%◌, ◌^◌, ◌==◌, nat_lt, ◌&&◌, Bool, true, false, not, cond, List, [], ◌∷◌, ◌++◌, length, take, drop, map, flat_map, replicate}
+use Rattle.sl_fields.specs.Field.{bit_of, number_of}
 
 -- an octet's bits, the most significant first
 abbrev pub octet_bits : ℕ → List Bool
@@ -63,20 +63,3 @@ abbrev pub fecf_is_good : List ℕ → Bool
 fecf_is_good octets =
     nat_lt 2 (length octets)
     && number_of (drop (length octets - 2) octets) == fecf_of (take (length octets - 2) octets)
-
--- ---- where frames end with it
-
--- its octets
-abbrev pub fecf_octets : List ℕ → List ℕ
-fecf_octets octets = octets_of 2 ((16, fecf_of octets) ∷ [])
-
--- its octets where frames have one, and how many they are
-abbrev pub fecf_part : Bool → List ℕ → List ℕ
-fecf_part has octets = if has then fecf_octets octets else []
-
-abbrev pub fecf_len : Bool → ℕ
-fecf_len has = if has then 2 else 0
-
--- octets, and their error control field where frames have one
-abbrev pub with_fecf : Bool → List ℕ → List ℕ
-with_fecf has octets = octets ++ fecf_part has octets

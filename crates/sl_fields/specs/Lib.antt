@@ -1,9 +1,13 @@
 pub mod Clcw
 pub mod ClcwModel
 pub mod Fecf
+pub mod FecfField
+pub mod FecfRegister
+pub mod FecfWords
 pub mod Field
 pub mod PacketHeader
 pub mod PacketHeaderModel
+pub mod Remainder
 pub mod SegmentHeader
 pub mod SegmentHeaderModel
 pub mod Shape

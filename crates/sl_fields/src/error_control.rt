@@ -1,24 +1,30 @@
 //! The frame error control field.
-ghost use Rattle.std.specs.Prelude.{◌≡◌, ℕ, ◌-◌, ◌≤◌, List, [], ◌∷◌, ◌++◌, length, take, Bool};
-ghost use Rattle.sl_fields.specs.Fecf.{fecf_of, fecf_octets, fecf_len, register_of, fecf_is_good};
+ghost use Rattle.std.specs.Prelude.{◌≡◌, ◌-◌, ◌<◌, ◌≤◌, [], ◌∷◌, length, take, drop};
+ghost use Rattle.std.specs.List.{concat};
+ghost use Rattle.sl_fields.specs.Fecf.{fecf_of, fecf_is_good};
+ghost use Rattle.sl_fields.specs.FecfField.{fecf_octets, fecf_len};
+ghost use Rattle.sl_fields.specs.FecfRegister.{register_number, TakesIn};
+ghost use Rattle.sl_fields.specs.FecfWords.{word_of, words_sum};
+ghost use Rattle.sl_fields.specs.Field.{number_of};
 
+use crate::slices::SLICES;
+use crate::words::WORDS;
 use byteorder::{BigEndian, ByteOrder};
-
-/// The generator x^16 + x^12 + x^5 + 1 without its first term.
-const GENERATOR: u16 = 0x1021;
 
 /// The frame error control field of CCSDS 132.0-B and 232.0-B that stands after these octets of a frame.
 ///
 /// It is the remainder by the generator x^16 + x^12 + x^5 + 1 with the register preset to all ones, each
 /// octet taken from its most significant bit on, and it isn't inverted. Of no octets it is 0xFFFF.
+#[inline(never)]
 pub fn fecf(octets: &[u8]) -> u16
     ensures { result ≡ fecf_of octets.now }
 {
-    let mut register = 0xFFFF;
-    for &octet in octets {
-        register = after_octet(register, octet);
-    }
-    register
+    let preset = Register {
+        high: 0xFF,
+        low: 0xFF,
+    };
+    let (slices, rest) = octets.as_chunks::<16>();
+    number(after_octets(after_slices(preset, slices), rest))
 }
 
 /// Whether there are three octets or more and the last two, the most significant first, are the frame
@@ -59,26 +65,101 @@ pub fn without_fecf(has_fecf: bool, octets: &[u8]) -> &[u8]
     }
 }
 
-// The register after one octet more.
-fn after_octet(register: u16, octet: u8) -> u16
-    ensures { (before : List ℕ) → register ≡ fecf_of before → result ≡ fecf_of (before ++ octet ∷ []) }
+// The register of the division, as its two octets.
+#[derive(Clone, Copy)]
+struct Register {
+    high: u8,
+    low: u8,
+}
+
+#[inline(always)]
+fn number(register: Register) -> u16
+    ensures { result ≡ register_number register }
+{
+    u16::from_be_bytes([register.high, register.low])
+}
+
+#[inline(always)]
+fn halves(number: u16) -> Register
+    ensures { register_number result ≡ number }
+{
+    Register {
+        high: (number >> 8) as u8,
+        low: (number & 0xFF) as u8,
+    }
+}
+
+#[inline(always)]
+fn after_octets(register: Register, octets: &[u8]) -> Register
+    ensures { TakesIn register octets.now result }
 {
     let mut after = register;
-    for bit in 0..8u32 {
-        after = after_bit(after, (octet >> (7 - bit)) & 1 == 1);
+    for &octet in octets {
+        after = after_octet(after, octet);
     }
     after
 }
 
-// The register after one bit more: moved up by one, and with the generator added where the bit that leaves
-// it isn't the message's.
-fn after_bit(register: u16, bit: bool) -> u16
-    ensures { (before : List Bool) → register ≡ register_of before → result ≡ register_of (before ++ bit ∷ []) }
+// The register after one octet more: what is left of it, moved up by an octet, with the word of its first
+// octet and the message's added.
+#[inline(always)]
+fn after_octet(register: Register, octet: u8) -> Register
+    ensures { TakesIn register (octet ∷ []) result }
 {
-    let moved = register << 1;
-    if (register >= 0x8000) == bit {
-        moved
-    } else {
-        moved ^ GENERATOR
+    let word = word(register.high ^ octet);
+    Register {
+        high: register.low ^ word[0],
+        low: word[1],
     }
+}
+
+#[inline(always)]
+fn after_slices(register: Register, slices: &[[u8; 16]]) -> Register
+    ensures { TakesIn register (concat slices.now) result }
+{
+    let mut after = register;
+    for slice in slices {
+        after = after_slice(after, slice);
+    }
+    after
+}
+
+// The register after sixteen octets more: the words of all of them added, with the register added to the first
+// two.
+#[inline(always)]
+fn after_slice(register: Register, slice: &[u8; 16]) -> Register
+    ensures { TakesIn register slice.now result }
+{
+    let first = slice_word(15, register.high ^ slice[0]);
+    let second = slice_word(14, register.low ^ slice[1]);
+    halves(first ^ second ^ later_words(slice))
+}
+
+// The sum of the words that want no register, so that it can be had before the register is.
+#[inline(always)]
+fn later_words(slice: &[u8; 16]) -> u16
+    ensures { result ≡ words_sum (drop 2 slice.now) }
+{
+    let mut sum = 0;
+    for place in 2..16usize {
+        sum ^= slice_word(15 - place, slice[place]);
+    }
+    sum
+}
+
+// The word of a message's last octet.
+#[inline(always)]
+fn word(octet: u8) -> [u8; 2]
+    ensures { number_of result ≡ word_of 0 octet }
+{
+    WORDS[usize::from(octet)]
+}
+
+// The word of an octet after which so many octets come.
+#[inline(always)]
+fn slice_word(later: usize, octet: u8) -> u16
+    requires { later < 16 }
+    ensures { result ≡ word_of later octet }
+{
+    SLICES[later][usize::from(octet)]
 }

@@ -8,11 +8,14 @@
 mod bits;
 mod clcw;
 mod error_control;
+pub mod laws;
 mod packet_header;
 mod segment_header;
 mod shape_fault;
+mod slices;
 mod tc_header;
 mod tm_header;
+mod words;
 
 pub use clcw::Clcw;
 pub use error_control::{fecf, fecf_field, fecf_good, without_fecf};

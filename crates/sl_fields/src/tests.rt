@@ -1,5 +1,7 @@
 //! Headers of known octets: their fields follow from the tables of bits. Error control fields are known
 //! from outside.
+use crate::slices::SLICES;
+use crate::words::WORDS;
 use crate::{
     Clcw, PacketHeader, SegmentHeader, ShapeFault, TcHeader, TmHeader, fecf, fecf_field, fecf_good,
     without_fecf,
@@ -340,6 +342,45 @@ fn error_control_fields_of_known_octets(rt: HostRuntime) {
     assert_eq!(rt; fecf(&[0xAB, 0xCD, 0xEF, 0x01]), 0x04A2);
     assert_eq!(rt; fecf(b"123456789"), 0x29B1);
     assert_eq!(rt; fecf(&[0x30, 0x01, 0x00, 0x07, 0x00, 0x00]), 0x0E5D);
+}
+
+// The division goes on by eight bits.
+fn after_eight_bits(mut register: u16) -> u16 {
+    for _ in 0..8 {
+        let moved = register << 1;
+        register = if register < 0x8000 {
+            moved
+        } else {
+            moved ^ 0x1021
+        };
+    }
+    register
+}
+
+#[test]
+fn words_of_octets_bit_by_bit(rt: HostRuntime) {
+    for octet in 0..256usize {
+        let mut word = (octet as u16) << 8;
+        for words in &SLICES {
+            word = after_eight_bits(word);
+            assert_eq!(rt; words[octet], word);
+        }
+        assert_eq!(rt; u16::from_be_bytes(WORDS[octet]), SLICES[0][octet]);
+    }
+    for (octet, word) in [(0, 0x0000), (1, 0x1021), (225, 0xED0F), (255, 0x1EF0)] {
+        assert_eq!(rt; u16::from_be_bytes(WORDS[octet]), word);
+    }
+}
+
+#[test]
+fn error_control_fields_bit_by_bit_of_messages_of_up_to_three_slices(rt: HostRuntime) {
+    let mut message = [0; 50];
+    let mut register = 0xFFFF;
+    for place in 0..50usize {
+        assert_eq!(rt; fecf(&message[..place]), register);
+        message[place] = (place * 83 % 251) as u8;
+        register = after_eight_bits(register ^ (u16::from(message[place]) << 8));
+    }
 }
 
 #[test]

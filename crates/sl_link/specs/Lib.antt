@@ -33,6 +33,7 @@ pub use Rattle.sl_cop.specs.Farm
 pub use Rattle.sl_cop.specs.FarmClcw
 pub use Rattle.sl_fields.specs.Clcw
 pub use Rattle.sl_fields.specs.Fecf
+pub use Rattle.sl_fields.specs.FecfField
 pub use Rattle.sl_fields.specs.Field
 pub use Rattle.sl_fields.specs.PacketHeader
 pub use Rattle.sl_fields.specs.Shape

@@ -4,7 +4,7 @@ use Rattle.std.specs.List.{AllByRecursion, concat}
 use Rattle.std.proofs.lemmas.List.{drop-drop, drop_all, drop_at, take_at, take-append-drop, length-take-le}
 use Rattle.sl_packet.specs.Packet.{IsPacket}
 use Rattle.sl_packet.specs.Front.{Front, Foreign, Incomplete, Whole, front}
-use Rattle.sl_packet.specs.Packets.{whole_at, passed_at, packets_from, packets_of, rest_of, ArePacketsOf, EachHasPackets, HasPacketsOnce}
+use Rattle.sl_packet.specs.Packets.{whole_at, passed_at, packets_from, packets_of, rest_of, ArePacketsOf, EachHasPackets, HasPacketsOnce, OthersArePrefixes}
 use Rattle.sl_packet.proofs.FrontLemmas.{whole_front, whole_is_a_packet, packet_is_whole}
 
 packets_from-drop : (skip : ℕ) (octets : List ℕ) → packets_from skip octets ≡ packets_of (drop skip octets)
@@ -124,3 +124,6 @@ has_packets_once octets packets rest a =
       ap packets_of a.end_to_end ∙ packets_of-concat packets rest a.each ∙ ap (λ later. packets ++ later) (packets_of-none rest none) ∙ append-nil packets,
       ap rest_of a.end_to_end ∙ rest_of-concat packets rest a.each ∙ rest_of-none rest none,
     )
+
+pub others_are_prefixes : OthersArePrefixes
+others_are_prefixes octets more others same each = (packets_of more, ap packets_of same ∙ packets_of-concat others more each)

@@ -4,7 +4,7 @@ use Rattle.sl_packet.specs.Sink.{TakesAll, one_more}
 use Rattle.sl_packet.specs.declared.flow_fault.FlowFault.{FlowFault}
 use Rattle.sl_packet.specs.declared.flow_fault.FlowFault.TheVariants.{Memory, Sink, Failed}
 use Rattle.sl_packet.specs.declared.sink.SinkFault.{SinkFault}
-use Rattle.sl_packet.specs.Stopping.{IsStopped}
+use Rattle.sl_packet.specs.Stopping.{CountsFault, IsStopped}
 
 module _ {S : Type 0} (taking : S → ℕ → List ℕ → S → Type 0) where
   -- one list after another is all of them
@@ -63,3 +63,10 @@ module _ {S : Type 0} (taking : S → ℕ → List ℕ → S → Type 0) where
       s.1 ∙ ap one_more kept,
     )
     stops_after xs ys old mid new channel Failed first kept s = absurd s
+
+    -- and its fault is counted
+    pub counts_stopped : (old : S) (channel : ℕ) (packets : List (List ℕ)) (flow : FlowFault) (new : S) → IsStopped taking failing failures old channel packets flow new
+        → CountsFault failures old flow new
+    counts_stopped old channel packets Memory new s = s.1
+    counts_stopped old channel packets (Sink fault) new s = s.1
+    counts_stopped old channel packets Failed new s = absurd s

@@ -6,6 +6,20 @@ use Rattle.std.specs.List.{AllByRecursion, concat, filter}
 use Rattle.sl_packet.specs.Packet.{IsPacket, is_idle_packet}
 use Rattle.sl_packet.specs.Front.{Front, Foreign, Incomplete, Whole, front, first_packet_of}
 
+-- ---- what they are
+
+-- The packets of octets lie end to end from the first octet on, up to the first offset at which no
+-- packet begins. The octets from there on are left.
+pub record ArePacketsOf (octets : List ℕ) (packets : List (List ℕ)) (rest : List ℕ) : Type 0 where
+  pub end_to_end : octets ≡ concat packets ++ rest
+  pub each : AllByRecursion IsPacket packets
+  pub no_more : (packet more : List ℕ) → IsPacket packet → rest ≡ packet ++ more → ⊥
+
+-- ---- the same, as functions of the octets
+
+-- The law `octets_have_packets` says that `packets_of` and `rest_of` are the packets and what is left, and that there
+-- are no others; `front_packets_are_longest`, that no list of packets end to end at the front is longer.
+
 -- the packet of a front, as a list of one or of none
 abbrev pub whole_at : Front → List ℕ → List (List ℕ)
 whole_at Foreign octets = []
@@ -25,12 +39,15 @@ packets_from (suc skip) (octet ∷ octets) = packets_from skip octets
 packets_from zero (octet ∷ octets) =
     whole_at (front (octet ∷ octets)) (octet ∷ octets) ++ packets_from (passed_at (front (octet ∷ octets)) (octet ∷ octets)) octets
 
+-- the packets of octets
 abbrev pub packets_of : List ℕ → List (List ℕ)
 packets_of octets = packets_from 0 octets
 
 -- what is left of the octets after their packets
 abbrev pub rest_of : List ℕ → List ℕ
 rest_of octets = drop (length (concat (packets_of octets))) octets
+
+-- ---- idle packets among them
 
 -- those that are idle
 abbrev pub only_idle : List (List ℕ) → List (List ℕ)
@@ -40,13 +57,7 @@ only_idle packets = filter is_idle_packet packets
 abbrev pub without_idle : List (List ℕ) → List (List ℕ)
 without_idle packets = filter (λ packet. not (is_idle_packet packet)) packets
 
--- ---- what they are
-
--- the longest list of packets that lie end to end at the front of the octets, and the octets that are left
-pub record ArePacketsOf (octets : List ℕ) (packets : List (List ℕ)) (rest : List ℕ) : Type 0 where
-  pub end_to_end : octets ≡ concat packets ++ rest
-  pub each : AllByRecursion IsPacket packets
-  pub no_more : (packet more : List ℕ) → IsPacket packet → rest ≡ packet ++ more → ⊥
+-- ---- laws
 
 -- these are the packets and what is left,
 abbrev pub EachHasPackets : Type 0
@@ -57,6 +68,12 @@ abbrev pub HasPacketsOnce : Type 0
 HasPacketsOnce =
     (octets : List ℕ) (packets : List (List ℕ)) (rest : List ℕ) → ArePacketsOf octets packets rest
     → (packets_of octets ≡ packets) × (rest_of octets ≡ rest)
+
+-- Every list of packets whose octets, end to end, are a prefix of these octets is a prefix of their packets.
+abbrev pub OthersArePrefixes : Type 0
+OthersArePrefixes =
+    (octets more : List ℕ) (others : List (List ℕ)) → octets ≡ concat others ++ more → AllByRecursion IsPacket others
+    → (later : List (List ℕ)) × (packets_of octets ≡ others ++ later)
 
 -- ---- one after another
 

@@ -5,6 +5,12 @@ use Rattle.sl_packet.specs.declared.flow_fault.FlowFault.{FlowFault}
 use Rattle.sl_packet.specs.declared.flow_fault.FlowFault.TheVariants.{Memory, Sink, Failed}
 use Rattle.sl_packet.specs.declared.sink.SinkFault.{SinkFault}
 
+-- The sink's count of failures rises where it refused a packet, unless it is at its greatest, and else stays.
+abbrev pub CountsFault : {S : Type 0} → (S → ℕ) → S → FlowFault → S → Type 0
+CountsFault failures old Memory new = failures new ≡ failures old
+CountsFault failures old (Sink fault) new = failures new ≡ one_more (failures old)
+CountsFault failures old Failed new = failures new ≡ failures old
+
 module _ {S : Type 0} (taking : S → ℕ → List ℕ → S → Type 0) where
   -- some of the packets were accepted, the first ones
   pub record TakesSome (old : S) (channel : ℕ) (packets : List (List ℕ)) (new : S) : Type 0 where

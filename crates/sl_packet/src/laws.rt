@@ -2,7 +2,7 @@
 ghost use Rattle.sl_packet.specs.Front.{WholeIsAPacket, APacketIsWhole, ForeignIsNoPacket, IncompleteMayBecomeWhole};
 ghost use Rattle.sl_packet.specs.IdlePacket.{IdlePacketsAreIdle};
 ghost use Rattle.sl_packet.specs.Packet.{PacketsArePrefixFree, OnePacketIsPrefix, HeaderFieldsStandFirst};
-ghost use Rattle.sl_packet.specs.Packets.{EachHasPackets, HasPacketsOnce};
+ghost use Rattle.sl_packet.specs.Packets.{EachHasPackets, HasPacketsOnce, OthersArePrefixes};
 ghost use Rattle.sl_packet.specs.Partial.{ForeignIsForeign, WholeIsWhole, HeaderHasSixOctets, OctetsMakeAPacket};
 
 /// No packet is a proper prefix of another, so at most one packet is a prefix of given octets.
@@ -34,10 +34,16 @@ pub fn needs_tell_packets()
     ensures octets { OctetsMakeAPacket }
 {}
 
-/// Octets begin with one longest list of packets.
+/// Octets begin with packets that lie end to end, up to the first offset at which none begins, in one way.
 pub fn octets_have_packets()
     ensures each { EachHasPackets }
     ensures once { HasPacketsOnce }
+{}
+
+/// The list of these packets is the longest: every list of packets whose octets, end to end, are a prefix of the
+/// octets is a prefix of that list.
+pub fn front_packets_are_longest()
+    ensures { OthersArePrefixes }
 {}
 
 /// The idle packet of 7 to 65,542 octets is a packet, idle, and of that length.

@@ -4,8 +4,8 @@ use Rattle.std.specs.Prelude.{is_some}
 use Rattle.sl_tcframe.specs.TcDelimited.{tc_frames_of}
 use Rattle.sl_tcframe.specs.TcFrame.{TcFormat, TcView, Ad, Bd}
 use Rattle.sl_tcflow.specs.AcceptedUnit.{views_of}
-use Rattle.sl_tcflow.specs.Anomaly.{dropped_by, dropped_of, held_of, long_by, long_of, passes, stray_by, stray_of, tail_by, tail_of}
-use Rattle.sl_tcflow.specs.Incomplete.{incomplete_of}
+use Rattle.sl_tcflow.specs.Anomaly.{dropped_by, dropped_of, held_of, long_by, long_of, stray_by, stray_of, tail_by, tail_of}
+use Rattle.sl_tcflow.specs.Incomplete.{incomplete_of, passes}
 use Rattle.sl_tcflow.specs.Reception.{segments_of}
 
 -- ---- segments of MAP 0

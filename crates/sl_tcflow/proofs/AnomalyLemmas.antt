@@ -6,8 +6,8 @@ use Rattle.std.proofs.lemmas.Bool.Decides.{eqb_tells}
 use Rattle.std.specs.Prelude.{is_none, option_map}
 use Rattle.sl_tcframe.specs.TcFrame.{TcView}
 use Rattle.sl_tcflow.specs.AcceptedUnit.{unit_by}
-use Rattle.sl_tcflow.specs.Anomaly.{begins, continues, octets_held, passes, stray_of, of_unit, of_accepted, StrayIsTold, WhatIsToldIsStray, DroppedIsTold, WhatIsToldIsDropped, LongIsTold, WhatIsToldIsLong}
-use Rattle.sl_tcflow.specs.Incomplete.{IsIncomplete, incomplete_of}
+use Rattle.sl_tcflow.specs.Anomaly.{begins, continues, octets_held, of_unit, of_accepted, StrayIsTold, WhatIsToldIsStray, DroppedIsTold, WhatIsToldIsDropped, LongIsTold, WhatIsToldIsLong}
+use Rattle.sl_tcflow.specs.Incomplete.{IsIncomplete, incomplete_of, passes}
 use Rattle.sl_tcflow.specs.Placed.{at}
 use Rattle.sl_tcflow.specs.Receiving.{AreIncomplete, channel_at, map_of, verdict_on}
 use Rattle.sl_tcflow.specs.Reception.{segments_of}
@@ -43,24 +43,6 @@ module _ (w vr : ℕ) (old : List (Option (List ℕ))) (views : List TcView) (ne
       → answer ≡ of_accepted none told w vr views next
   told_at none told from same vc answer are inside unit_is mid_is same_vc is =
       is ∙ ap (λ n. from (at old (channel_at n (header_at unit).map)) unit) same_vc ∙ sym (told_more none told from same are inside unit_is mid_is)
-
-  -- or from how many octets are held there
-  pub told_held : {X : Type 0} (none : X) (told : List (List ℕ) → List ℕ → X) (from : Option ℕ → List ℕ → X)
-      → ((list : List (List ℕ)) (segment : List ℕ) → told list segment ≡ from (octets_held list) segment)
-      → (vc mid : ℕ) (held : Option ℕ) → AreIncomplete w vr old views → next.vc < 64 → unit_by (verdict_on w vr views next) next.content ≡ unit ∷ []
-      → map_of next.content ≡ (header_at unit).map → vc ≡ next.vc → mid ≡ (header_at unit).map → held ≡ option_map length (at old (channel_at vc mid))
-      → from held unit ≡ of_accepted none told w vr views next
-  told_held none told from same vc mid held are inside unit_is mid_is same_vc same_mid here =
-      ap (λ h. from h unit) (here ∙ ap (λ n. option_map length (at old (channel_at n mid))) same_vc ∙ ap (λ n. option_map length (at old (channel_at next.vc n))) same_mid)
-      ∙ sym (told_more none told (λ h segment. from (option_map length h) segment) same are inside unit_is mid_is)
-
--- whether a series is incomplete, by its octets
-none_held : (held : Option (List ℕ)) → is_none (option_map length held) ≡ is_none held
-none_held None = refl
-none_held (Some octets) = refl
-
-pub stray_held : (list : List (List ℕ)) (segment : List ℕ) → stray_of list segment ≡ (continues segment && is_none (octets_held list))
-stray_held list segment = ap (λ b. continues segment && b) (sym (none_held (incomplete_of list)))
 
 -- ---- by the sequence flags
 

@@ -14,6 +14,7 @@ pub mod OneMoreLemmas
 pub mod PartLemmas
 pub mod PushedLemmas
 pub mod ReceptionFacts
+pub mod ReportLemmas
 pub mod RecordingLemmas
 pub mod SegmentLemmas
 pub mod SeriesLemmas

@@ -1,25 +1,26 @@
 -- What is amiss with the segments that FARM-1 accepts, CCSDS 232.0-B: one is out of sequence, an incomplete series is
 -- dropped or given up, or octets are left after the last whole packet of a service data unit. When a service data unit
 -- is too long, and that what follows its last whole packet is dropped, are the mission profile's.
-use Rattle.std.specs.Prelude.{◌≡◌, ◌⊎◌, ℕ, ◌+◌, ◌<◌, ◌≤◌, ◌==◌, ◌&&◌, ◌||◌, nat_le, nat_lt, Bool, true, false, if◌then◌else◌, List, [], ◌∷◌, ◌++◌, length, flat_map, Option, None, Some, is_none, option_map, unwrap_or}
+use Rattle.std.specs.Prelude.{◌≡◌, ◌⊎◌, ℕ, ◌+◌, ◌<◌, ◌≤◌, ◌==◌, ◌&&◌, nat_le, Bool, true, false, if◌then◌else◌, List, [], ◌∷◌, ◌++◌, length, flat_map, Option, None, Some, is_none, option_map, unwrap_or}
 use Rattle.std.specs.List.{filter}
-use Rattle.sl_packet.specs.Packets.{ArePacketsOf, rest_of}
+use Rattle.sl_packet.specs.Packets.{ArePacketsOf, only_idle, rest_of, without_idle}
 use Rattle.sl_tcframe.specs.TcFrame.{TcView}
 use Rattle.sl_tcflow.specs.AcceptedUnit.{unit_by}
-use Rattle.sl_tcflow.specs.Incomplete.{IsIncomplete, incomplete_of}
-use Rattle.sl_tcflow.specs.Receiving.{map_of, verdict_on}
+use Rattle.sl_tcflow.specs.Incomplete.{IsIncomplete, incomplete_of, passes}
+use Rattle.sl_tcflow.specs.Receiving.{ended_by, map_of, verdict_on}
 use Rattle.sl_tcflow.specs.Reception.{segments_of}
-use Rattle.sl_tcflow.specs.Series.{IsSeriesOf, SeriesAt, flags_of, octets_at, past, reassembled, series_of}
+use Rattle.sl_tcflow.specs.Series.{begins_by, continues_by, IsSeriesOf, SeriesAt, flags_of, octets_at, past, reassembled, series_of}
+use Rattle.sl_tcflow.specs.StepReport.{StepReport}
 
 -- ---- the next segment of a MAP, after those of a list
 
 -- a continuing or a last segment
 abbrev pub continues : List ℕ → Bool
-continues segment = flags_of segment == 0 || flags_of segment == 2
+continues segment = continues_by (flags_of segment)
 
 -- a first segment, or one with no segmentation
 abbrev pub begins : List ℕ → Bool
-begins segment = flags_of segment == 1 || flags_of segment == 3
+begins segment = begins_by (flags_of segment)
 
 -- how many octets the incomplete series has so far, if one is incomplete
 abbrev pub octets_held : List (List ℕ) → Option ℕ
@@ -28,11 +29,6 @@ octets_held list = option_map length (incomplete_of list)
 -- and 0 where none is
 abbrev pub held_of : List (List ℕ) → ℕ
 held_of list = unwrap_or (octets_held list) 0
-
--- whether so many octets, if there are any, pass the greatest service data unit together with so many more
-abbrev pub passes : Option ℕ → ℕ → Bool
-passes None more = false
-passes (Some octets) more = nat_lt 65542 (octets + more)
 
 -- whether it is out of sequence: it continues a series where none is incomplete
 abbrev pub stray_of : List (List ℕ) → List ℕ → Bool
@@ -114,6 +110,16 @@ long_by w vr views next = of_accepted false long_of w vr views next
 -- how many octets are left of the service data unit that ends with its unit, if it is accepted
 abbrev pub tail_by : ℕ → ℕ → List TcView → TcView → ℕ
 tail_by w vr views next = of_accepted 0 tail_of w vr views next
+
+-- The report of the next frame: the verdict on it, the packets that end with its unit, and what is amiss with that.
+pub record IsReportedOf (w vr : ℕ) (views : List TcView) (next : TcView) (step : StepReport) : Type 0 where
+  pub verdict : step.verdict ≡ verdict_on w vr views next
+  pub packets : step.packets ≡ length (without_idle (ended_by w vr views next))
+  pub idle : step.idle ≡ length (only_idle (ended_by w vr views next))
+  pub stray : step.stray ≡ stray_by w vr views next
+  pub dropped : step.dropped ≡ dropped_by w vr views next
+  pub long : step.long ≡ long_by w vr views next
+  pub tail : step.tail ≡ tail_by w vr views next
 
 -- ---- laws
 

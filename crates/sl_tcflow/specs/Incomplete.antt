@@ -1,6 +1,6 @@
 -- A series of segments that is incomplete, CCSDS 232.0-B: it began, and its last segment didn't come yet. How long
 -- a reassembled service data unit may be is the mission profile's.
-use Rattle.std.specs.Prelude.{◌≡◌, ℕ, ◌≤◌, ◌==◌, ◌&&◌, Bool, true, nat_le, if◌then◌else◌, List, [], ◌∷◌, ◌++◌, length, Option, None, Some}
+use Rattle.std.specs.Prelude.{◌≡◌, ℕ, ◌+◌, ◌≤◌, ◌==◌, ◌&&◌, Bool, true, false, nat_le, nat_lt, if◌then◌else◌, List, [], ◌∷◌, ◌++◌, length, Option, None, Some}
 use Rattle.std.specs.List.{AllByRecursion}
 use Rattle.sl_tcflow.specs.Series.{flags_of, reassembled}
 
@@ -26,6 +26,12 @@ pub record IsIncomplete (list : List (List ℕ)) (octets : List ℕ) : Type 0 wh
 abbrev pub if_fits : List ℕ → Option (List ℕ)
 if_fits octets = if nat_le (length octets) 65542 then Some octets else None
 
+-- whether a series with this many octets so far, if one is incomplete, passes the greatest service data unit with more
+abbrev pub passes : Option ℕ → ℕ → Bool
+passes None more = false
+passes (Some octets) more = nat_lt 65542 (octets + more)
+
+-- whether all of them are continuing segments
 abbrev pub are_continuing : List (List ℕ) → Bool
 are_continuing [] = true
 are_continuing (segment ∷ later) = flags_of segment == 0 && are_continuing later

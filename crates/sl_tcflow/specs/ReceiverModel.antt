@@ -1,6 +1,6 @@
 -- An `Incomplete` is the octets so far of a series, if one is incomplete; a `Receiver` is its FARMs, these, and
 -- whether a fault came.
-use Rattle.std.specs.Prelude.{ℕ, ◌≤◌, if◌then◌else◌, List, length, Option, None, Some}
+use Rattle.std.specs.Prelude.{◌≡◌, ℕ, ◌≤◌, false, if◌then◌else◌, List, [], length, Option, None, Some}
 use Rattle.sl_tcflow.specs.Receiving.{ReceiverState}
 use Rattle.sl_tcflow.specs.declared.incomplete.Incomplete.TheInside as incomplete
 use Rattle.sl_tcflow.specs.declared.receiver.Receiver.TheInside as receiver
@@ -8,8 +8,10 @@ use Rattle.sl_tcflow.specs.declared.receiver.Receiver.TheInside as receiver
 abbrev pub octets_so_far : incomplete.Inside → Option (List ℕ)
 octets_so_far s = if s.is_begun then Some s.octets.items else None
 
+-- no octet is kept where no series is incomplete
 pub record IsKept (s : incomplete.Inside) : Type 0 where
   pub fits : length s.octets.items ≤ 65542
+  pub none : s.is_begun ≡ false → s.octets.items ≡ []
 
 abbrev pub receiver_state : receiver.Inside → ReceiverState
 receiver_state r = record { farms = r.farms; incomplete = r.incomplete.items; has_failed = r.has_failed }

@@ -1,6 +1,6 @@
 -- Segments and the series of them that carry one service data unit, CCSDS 232.0-B. How long a reassembled
 -- service data unit may be is the mission profile's.
-use Rattle.std.specs.Prelude.{◌≡◌, ℕ, ◌+◌, ◌==◌, nat_le, Bool, if◌then◌else◌, List, [], ◌∷◌, ◌++◌, length, take, drop, map, Contains}
+use Rattle.std.specs.Prelude.{◌≡◌, ℕ, ◌+◌, ◌==◌, ◌||◌, nat_le, Bool, if◌then◌else◌, List, [], ◌∷◌, ◌++◌, length, take, drop, map, Contains}
 use Rattle.std.specs.List.{AllByRecursion, concat, filter}
 use Rattle.sl_fields.specs.SegmentHeader.{SegmentFields, segment_header}
 
@@ -18,6 +18,14 @@ segments_on mid units = filter (λ unit. (header_at unit).map == mid) units
 -- the sequence flags: first 1, continuing 0, last 2, no segmentation 3
 abbrev pub flags_of : List ℕ → ℕ
 flags_of segment = (header_at segment).flags
+
+-- a segment with these flags continues a series, as a continuing or a last one
+abbrev pub continues_by : ℕ → Bool
+continues_by flags = flags == 0 || flags == 2
+
+-- or begins one, as a first segment or one with no segmentation
+abbrev pub begins_by : ℕ → Bool
+begins_by flags = flags == 1 || flags == 3
 
 -- A series is one segment with no segmentation, or a first one, continuing ones or none, and a last one.
 pub data IsSeries : List (List ℕ) → Type 0 where

@@ -1,17 +1,20 @@
 //! The series of segments that is incomplete on a MAP.
-ghost use Rattle.std.specs.Prelude.{◌≡◌, ◌≢◌, ◌⊎◌, ◌≤◌, ◌<◌, length, None, option_map, OnOk, OnErr, IfOk, IfErr, IfSome};
-ghost use Rattle.sl_packet.specs.Packets.{only_idle, without_idle};
+ghost use Rattle.std.specs.Prelude.{◌≡◌, ◌≢◌, ◌⊎◌, ◌≤◌, length, None, option_map, OnOk, OnErr, IfOk, IfErr, IfSome};
+ghost use Rattle.sl_packet.specs.Packets.{without_idle};
 ghost use Rattle.sl_packet.specs.Sink.{TakesAll};
 ghost use Rattle.sl_packet.specs.Stopping.{IsStopped};
 ghost use Rattle.sl_tcflow.specs.Incomplete.{if_fits};
-ghost use Rattle.sl_tcflow.specs.NextSegment.{extended, incomplete_after, packets_after, packets_of_service_unit, rest_of_service_unit, tail_after};
-ghost use Rattle.sl_tcflow.specs.Series.{flags_of, header_at, octets_at};
+ghost use Rattle.sl_tcflow.specs.NextSegment.{IsReported, continued_report, extended, incomplete_with, packets_with, quiet_report};
 
-use crate::hand::{Handed, NOTHING, hand};
-use sl_fields::SegmentHeader;
+use crate::hand::hand;
+use crate::segment::{CONTINUING, FIRST, LAST, Segment};
+use crate::step::{QUIET, TcStep};
 use sl_packet::{FlowFault, PacketSink};
-use std::alloc::{AllocError, Global};
+use std::alloc::Global;
 use std::marker::Model;
+
+/// The longest service data unit, as long as the longest packet.
+const MOST_OCTETS: usize = 65542;
 
 /// The octets so far of the series that is incomplete, if one is.
 #[derive(Drop)]
@@ -54,126 +57,119 @@ impl Incomplete {
         Some(self.octets.len() as u32)
     }
 
-    /// Takes the next segment, and hands the sink the packets that end with it.
+    /// Takes the next segment, hands the sink the packets that end with it, and reports these and what is amiss.
     pub fn take<S: PacketSink>(
         &mut self,
-        unit: &[u8],
+        segment: &Segment,
         channel: u16,
         sink: &mut S,
-    ) -> Result<Handed, FlowFault>
-        requires some { 0 < length unit.now }
-        requires short { length unit.now ≤ 1019 }
+    ) -> Result<TcStep, FlowFault>
+        requires flags { segment.now.flags ≤ 3 }
+        requires short { length segment.now.octets.now ≤ 1018 }
         requires channel { channel ≤ 4095 }
-        ensures state { OnOk result (self.new ≡ incomplete_after self.old unit.now) }
-        ensures accepted { OnOk result (TakesAll S.taking sink.old channel (without_idle (packets_after self.old unit.now)) sink.new) }
+        ensures state { OnOk result (self.new ≡ incomplete_with self.old segment.now.flags segment.now.octets.now) }
+        ensures accepted { OnOk result (TakesAll S.taking sink.old channel (without_idle (packets_with self.old segment.now.flags segment.now.octets.now)) sink.new) }
         ensures kept { OnOk result (S.failures sink.new ≡ S.failures sink.old) }
-        ensures packets { IfOk result (λ handed. handed.packets ≡ length (without_idle (packets_after self.old unit.now))) }
-        ensures idle { IfOk result (λ handed. handed.idle ≡ length (only_idle (packets_after self.old unit.now))) }
-        ensures tail { IfOk result (λ handed. handed.tail ≡ tail_after self.old unit.now) }
-        ensures stopped { IfErr result (λ flow. IsStopped S.taking S.failing S.failures sink.old channel (without_idle (packets_after self.old unit.now)) flow sink.new) }
-        ensures memory { IfErr result (λ flow. flow ≡ FlowFault.Memory → (self.old ≢ None) ⊎ (incomplete_after self.old unit.now ≢ None)) }
+        ensures step { IfOk result (IsReported self.old segment.now.flags segment.now.octets.now) }
+        ensures stopped { IfErr result (λ flow. IsStopped S.taking S.failing S.failures sink.old channel (without_idle (packets_with self.old segment.now.flags segment.now.octets.now)) flow sink.new) }
+        ensures memory { IfErr result (λ flow. flow ≡ FlowFault.Memory → (self.old ≢ None) ⊎ (incomplete_with self.old segment.now.flags segment.now.octets.now ≢ None)) }
     {
-        let (header, octets) = split_unit(unit);
-        match header.flags() {
-            0 => match self.extend(octets) {
-                Ok(()) => Ok(NOTHING),
-                Err(_) => Err(FlowFault::Memory),
-            },
-            1 => match self.begin(octets) {
-                Ok(()) => Ok(NOTHING),
-                Err(_) => Err(FlowFault::Memory),
-            },
-            2 => match self.extend(octets) {
-                Ok(()) => self.end(channel, sink),
-                Err(_) => Err(FlowFault::Memory),
-            },
+        match segment.flags {
+            CONTINUING => self.go_on(segment.octets),
+            FIRST => self.begin(segment.octets),
+            LAST => self.end(segment.octets, channel, sink),
+            // no segmentation
             _ => {
-                self.is_begun = false;
-                hand(sink, channel, octets)
+                let given_up = self.give_up();
+                match hand(sink, channel, segment.octets) {
+                    Ok(step) => Ok(TcStep {
+                        dropped: given_up,
+                        ..step
+                    }),
+                    Err(flow) => Err(flow),
+                }
             }
         }
     }
 
-    // Begins with these octets, whatever was incomplete.
-    fn begin(&mut self, octets: &[u8]) -> Result<(), AllocError>
+    // Begins with these octets, and gives up what was incomplete.
+    fn begin(&mut self, octets: &[u8]) -> Result<TcStep, FlowFault>
         requires { length octets.now ≤ 1018 }
-        ensures { OnOk result (self.new ≡ if_fits octets.now) }
+        ensures state { OnOk result (self.new ≡ if_fits octets.now) }
+        ensures step { IfOk result (λ step. step ≡ record quiet_report { dropped = option_map length self.old }) }
+        ensures only_memory { IfErr result (λ flow. flow ≡ FlowFault.Memory) }
     {
-        self.octets.clear();
+        let dropped = self.give_up();
         self.is_begun = true;
-        self.octets.extend_from_slice(octets)
+        match self.octets.extend_from_slice(octets) {
+            Ok(()) => Ok(TcStep { dropped, ..QUIET }),
+            Err(_) => Err(FlowFault::Memory),
+        }
     }
 
-    // Goes on with these octets, unless they are too many.
-    fn extend(&mut self, octets: &[u8]) -> Result<(), AllocError>
+    // Goes on with these octets, and gives the series up where it is too long with them.
+    fn go_on(&mut self, octets: &[u8]) -> Result<TcStep, FlowFault>
         requires { length octets.now ≤ 1018 }
-        ensures extended { OnOk result (self.new ≡ extended self.old octets.now) }
+        ensures state { OnOk result (self.new ≡ extended self.old octets.now) }
+        ensures step { IfOk result (λ step. step ≡ continued_report self.old octets.now) }
+        ensures only_memory { IfErr result (λ flow. flow ≡ FlowFault.Memory) }
         ensures begun { OnErr result (self.old ≢ None) }
     {
         if !self.is_begun {
-            return Ok(());
+            return Ok(TcStep {
+                stray: true,
+                ..QUIET
+            });
         }
-        if self.octets.len() + octets.len() > 65542 {
-            self.is_begun = false;
-            return Ok(());
+        if self.octets.len() + octets.len() > MOST_OCTETS {
+            self.give_up();
+            return Ok(TcStep {
+                long: true,
+                ..QUIET
+            });
         }
-        self.octets.extend_from_slice(octets)
+        match self.octets.extend_from_slice(octets) {
+            Ok(()) => Ok(QUIET),
+            Err(_) => Err(FlowFault::Memory),
+        }
     }
 
-    // Ends the series, if one was incomplete, and hands the sink its packets.
-    fn end<S: PacketSink>(&mut self, channel: u16, sink: &mut S) -> Result<Handed, FlowFault>
+    // Ends the series with these octets, if one is incomplete, and hands the sink its packets.
+    fn end<S: PacketSink>(
+        &mut self,
+        octets: &[u8],
+        channel: u16,
+        sink: &mut S,
+    ) -> Result<TcStep, FlowFault>
+        requires short { length octets.now ≤ 1018 }
         requires channel { channel ≤ 4095 }
-        ensures state { self.new ≡ None }
-        ensures accepted { OnOk result (TakesAll S.taking sink.old channel (without_idle (packets_of_service_unit self.old)) sink.new) }
+        ensures state { OnOk result (self.new ≡ None) }
+        ensures accepted { OnOk result (TakesAll S.taking sink.old channel (without_idle (packets_with self.old 2 octets.now)) sink.new) }
         ensures kept { OnOk result (S.failures sink.new ≡ S.failures sink.old) }
-        ensures packets { IfOk result (λ handed. handed.packets ≡ length (without_idle (packets_of_service_unit self.old))) }
-        ensures idle { IfOk result (λ handed. handed.idle ≡ length (only_idle (packets_of_service_unit self.old))) }
-        ensures tail { IfOk result (λ handed. handed.tail ≡ length (rest_of_service_unit self.old)) }
-        ensures stopped { IfErr result (λ flow. IsStopped S.taking S.failing S.failures sink.old channel (without_idle (packets_of_service_unit self.old)) flow sink.new) }
-        ensures not_memory { IfErr result (λ flow. flow ≢ FlowFault.Memory) }
+        ensures step { IfOk result (IsReported self.old 2 octets.now) }
+        ensures stopped { IfErr result (λ flow. IsStopped S.taking S.failing S.failures sink.old channel (without_idle (packets_with self.old 2 octets.now)) flow sink.new) }
+        ensures memory { IfErr result (λ flow. flow ≡ FlowFault.Memory → self.old ≢ None) }
     {
+        let step = match self.go_on(octets) {
+            Ok(step) => step,
+            Err(flow) => return Err(flow),
+        };
         if !self.is_begun {
-            return Ok(NOTHING);
+            return Ok(step);
         }
+        let ended = hand(sink, channel, self.octets.as_slice());
+        self.give_up();
+        ended
+    }
+
+    // Gives up the series that is incomplete, and answers how many octets it had, if one was.
+    fn give_up(&mut self) -> Option<u32>
+        ensures none { self.new ≡ None }
+        ensures held { result ≡ option_map length self.old }
+    {
+        let held = self.held();
         self.is_begun = false;
-        hand(sink, channel, self.octets.as_slice())
-    }
-}
-
-/// Takes a segment where nothing is incomplete, which begins no series.
-pub fn take_alone<S: PacketSink>(
-    alloc: Global,
-    unit: &[u8],
-    channel: u16,
-    sink: &mut S,
-) -> Result<Handed, FlowFault>
-    requires some { 0 < length unit.now }
-    requires short { length unit.now ≤ 1019 }
-    requires channel { channel ≤ 4095 }
-    requires not_first { flags_of unit.now ≢ 1 }
-    ensures accepted { OnOk result (TakesAll S.taking sink.old channel (without_idle (packets_after None unit.now)) sink.new) }
-    ensures kept { OnOk result (S.failures sink.new ≡ S.failures sink.old) }
-    ensures packets { IfOk result (λ handed. handed.packets ≡ length (without_idle (packets_after None unit.now))) }
-    ensures idle { IfOk result (λ handed. handed.idle ≡ length (only_idle (packets_after None unit.now))) }
-    ensures tail { IfOk result (λ handed. handed.tail ≡ tail_after None unit.now) }
-    ensures stopped { IfErr result (λ flow. IsStopped S.taking S.failing S.failures sink.old channel (without_idle (packets_after None unit.now)) flow sink.new) }
-    ensures not_memory { IfErr result (λ flow. flow ≢ FlowFault.Memory) }
-{
-    let mut none = Incomplete::new(alloc);
-    match none.take(unit, channel, sink) {
-        Ok(handed) => Ok(handed),
-        Err(flow) => Err(flow),
-    }
-}
-
-// The segment header of a unit, and the octets after it.
-pub fn split_unit(unit: &[u8]) -> (SegmentHeader, &[u8])
-    requires { 0 < length unit.now }
-    ensures header { result.0 ≡ header_at unit.now }
-    ensures octets { result.1.now ≡ octets_at unit.now }
-{
-    match unit.split_first_chunk::<1>() {
-        Some((header, octets)) => (SegmentHeader::read(header), octets),
-        None => unreachable!(),
+        self.octets.clear();
+        held
     }
 }

@@ -1,17 +1,18 @@
-//! The series that are incomplete on the MAPs of all virtual channels. They are kept as far as the last index at which
-//! one began.
-ghost use Rattle.std.specs.Prelude.{◌≡◌, ◌≢◌, ◌⊎◌, ◌≤◌, ◌<◌, nat_lt, true, None, option_map, ℕ, length, OnOk, OnErr, IfOk, IfErr, IfSome};
+//! The series that are incomplete on the MAPs of all virtual channels. The list reaches the greatest channel on which
+//! one has begun.
+ghost use Rattle.std.specs.Prelude.{◌≡◌, ◌≢◌, ◌⊎◌, ◌≤◌, ◌<◌, None, option_map, ℕ, length, OnOk, IfOk, IfErr, IfSome};
 ghost use Rattle.std.specs.Vec.{vec_len};
-ghost use Rattle.sl_packet.specs.Packets.{only_idle, without_idle};
+ghost use Rattle.sl_packet.specs.Packets.{without_idle};
 ghost use Rattle.sl_packet.specs.Sink.{TakesAll};
 ghost use Rattle.sl_packet.specs.Stopping.{IsStopped};
-ghost use Rattle.sl_tcflow.specs.NextSegment.{incomplete_after, packets_after, tail_after};
+ghost use Rattle.sl_tcflow.specs.NextSegment.{IsReported, incomplete_after, packets_after};
 ghost use Rattle.sl_tcflow.specs.Placed.{at, IsPlaced};
 ghost use Rattle.sl_tcflow.specs.Receiving.{channel_at};
-ghost use Rattle.sl_tcflow.specs.Series.{header_at};
+ghost use Rattle.sl_tcflow.specs.Series.{flags_of, header_at, octets_at};
 
-use crate::hand::Handed;
-use crate::incomplete::{Incomplete, split_unit, take_alone};
+use crate::incomplete::Incomplete;
+use crate::segment::{FIRST, segment_of};
+use crate::step::TcStep;
 use sl_packet::{FlowFault, PacketSink};
 use std::alloc::{AllocError, Global};
 
@@ -36,51 +37,28 @@ pub fn take_unit<S: PacketSink>(
     vc: u8,
     unit: &[u8],
     sink: &mut S,
-) -> Result<Handed, FlowFault>
+) -> Result<TcStep, FlowFault>
     requires vc { vc ≤ 63 }
     requires some { 0 < length unit.now }
     requires short { length unit.now ≤ 1019 }
     ensures placed { OnOk result (let index : ℕ = channel_at vc (header_at unit.now).map in IsPlaced incomplete.old.items index (incomplete_after (at incomplete.old.items index) unit.now) incomplete.new.items) }
     ensures accepted { OnOk result (let index : ℕ = channel_at vc (header_at unit.now).map in TakesAll S.taking sink.old index (without_idle (packets_after (at incomplete.old.items index) unit.now)) sink.new) }
-    ensures packets { IfOk result (λ handed. handed.packets ≡ length (without_idle (packets_after (at incomplete.old.items (channel_at vc (header_at unit.now).map)) unit.now))) }
-    ensures idle { IfOk result (λ handed. handed.idle ≡ length (only_idle (packets_after (at incomplete.old.items (channel_at vc (header_at unit.now).map)) unit.now))) }
-    ensures tail { IfOk result (λ handed. handed.tail ≡ tail_after (at incomplete.old.items (channel_at vc (header_at unit.now).map)) unit.now) }
+    ensures step { IfOk result (IsReported (at incomplete.old.items (channel_at vc (header_at unit.now).map)) (flags_of unit.now) (octets_at unit.now)) }
     ensures kept { OnOk result (S.failures sink.new ≡ S.failures sink.old) }
     ensures stopped { IfErr result (λ flow. let index : ℕ = channel_at vc (header_at unit.now).map in IsStopped S.taking S.failing S.failures sink.old index (without_idle (packets_after (at incomplete.old.items index) unit.now)) flow sink.new) }
     ensures memory { IfErr result (λ flow. let index : ℕ = channel_at vc (header_at unit.now).map in flow ≡ FlowFault.Memory → (at incomplete.old.items index ≢ None) ⊎ (incomplete_after (at incomplete.old.items index) unit.now ≢ None)) }
 {
-    let (header, _) = split_unit(unit);
-    let channel = 64 * u16::from(vc) + u16::from(header.map());
+    let segment = segment_of(unit);
+    let channel = 64 * u16::from(vc) + u16::from(segment.map);
     let index = usize::from(channel);
-    match reach_first(alloc, incomplete, index, header.flags()) {
-        Ok(true) => match incomplete[index].take(unit, channel, sink) {
-            Ok(handed) => Ok(handed),
-            Err(flow) => Err(flow),
-        },
-        Ok(false) => match take_alone(alloc, unit, channel, sink) {
-            Ok(handed) => Ok(handed),
-            Err(flow) => Err(flow),
-        },
-        Err(_) => Err(FlowFault::Memory),
+    if segment.flags == FIRST && reach(alloc, incomplete, index).is_err() {
+        return Err(FlowFault::Memory);
     }
-}
-
-// Reaches this index for a first segment, and answers whether the index is reached.
-fn reach_first(
-    alloc: Global,
-    incomplete: &mut Vec<Incomplete>,
-    index: usize,
-    flags: u8,
-) -> Result<bool, AllocError>
-    ensures reached { IfOk result (λ reached. reached ≡ nat_lt index (vec_len incomplete.new)) }
-    ensures first { IfOk result (λ reached. flags ≡ 1 → reached ≡ true) }
-    ensures refused { OnErr result (flags ≡ 1) }
-    ensures same { (other : ℕ) → at incomplete.new.items other ≡ at incomplete.old.items other }
-{
-    if flags == 1 {
-        reach(alloc, incomplete, index)?;
+    if index < incomplete.len() {
+        return incomplete[index].take(&segment, channel, sink);
     }
-    Ok(index < incomplete.len())
+    let mut none = Incomplete::new(alloc);
+    none.take(&segment, channel, sink)
 }
 
 // Adds to the list up to this index. Nothing is incomplete at what is added.

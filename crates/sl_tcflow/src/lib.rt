@@ -4,13 +4,13 @@
 //! A service data unit is a series of segments on a multiplexer access point (MAP) ([`laws`]).
 #![tactic(auto)]
 
-mod anomaly;
 mod hand;
 mod incomplete;
 mod kept;
 pub mod laws;
 mod receiver;
 mod reframe;
+mod segment;
 mod step;
 
 pub use receiver::Receiver;

@@ -3,21 +3,19 @@ ghost use Rattle.std.specs.Prelude.{◌≡◌, ◌≢◌, ◌≤◌, ◌<◌, �
 ghost use Rattle.sl_cop.specs.FarmClcw.{clcw_of};
 ghost use Rattle.sl_packet.specs.Packets.{only_idle, without_idle};
 ghost use Rattle.sl_packet.specs.Sink.{TakesAll};
-ghost use Rattle.sl_packet.specs.Stopping.{IsStopped};
+ghost use Rattle.sl_packet.specs.Stopping.{CountsFault, IsStopped};
 ghost use Rattle.sl_tcframe.specs.TcContent.{content};
 ghost use Rattle.sl_tcframe.specs.TcFrame.{TcView, IsContent};
 ghost use Rattle.sl_tcflow.specs.AcceptedUnit.{channel_of, event_of, farm_after, unit_by};
-ghost use Rattle.sl_tcflow.specs.Anomaly.{dropped_by, held_of, long_by, stray_by, tail_by};
+ghost use Rattle.sl_tcflow.specs.Anomaly.{IsReportedOf, dropped_by, held_of, long_by, stray_by, tail_by};
 ghost use Rattle.sl_tcflow.specs.Incomplete.{incomplete_of};
 ghost use Rattle.sl_tcflow.specs.Receiving.{ForProcessed, HasProcessed, HasFailed, HasFailedAfter, HaveStepped, ForIncomplete, IsIncompleteAround, AreIncomplete, map_of, ended_by, unit_channel, verdict_on};
 ghost use Rattle.sl_tcflow.specs.Reception.{segments_of};
 ghost use Rattle.sl_tcflow.specs.Series.{header_at};
 
-use crate::anomaly::{Anomaly, NO_ANOMALY, anomaly_of};
-use crate::hand::{Handed, NOTHING};
-use crate::incomplete::{Incomplete, split_unit};
+use crate::incomplete::Incomplete;
 use crate::kept::{held_on, take_unit};
-use crate::step::TcStep;
+use crate::step::{QUIET, TcStep};
 use sl_cop::{Farm, FarmEvent, Verdict, Window};
 use sl_fields::Clcw;
 use sl_packet::{FlowFault, PacketSink};
@@ -63,9 +61,11 @@ impl Receiver {
     /// unit, if it is accepted, but for idle ones. Their channel is 64 times the virtual channel, plus the MAP. The
     /// step says what is amiss with the unit.
     ///
-    /// The fault is `Memory` where memory was refused, and `Sink` where the sink refused a packet: it has
-    /// accepted the packets before that one, and none after it, and FARM-1 has taken the frame. After either
-    /// each call is `Failed`, and hands over nothing.
+    /// The fault is `Memory` where memory was refused, which is wanted only where the unit is accepted and a series
+    /// is incomplete on its MAP, before the frame or after it, and `Sink` where the sink refused a packet: it has
+    /// accepted the packets before that one, and none after it. At `Sink` the sink's count of failures has risen by
+    /// one, unless it was at its greatest. At either FARM-1 has taken the frame, and after it each call is `Failed`,
+    /// and hands over nothing.
     pub fn frame<S: PacketSink>(
         &mut self,
         frame: &TcFrame,
@@ -91,6 +91,8 @@ impl Receiver {
         ensures stopped { IfErr result (λ flow. flow ≢ FlowFault.Failed → HasFailed self.new
             × ForProcessed self.old (λ w vr views. HasFailedAfter w vr self.new (views ++ frame.now ∷ [])
             × IsStopped S.taking S.failing S.failures sink.old (unit_channel frame.now) (without_idle (ended_by w vr views frame.now)) flow sink.new)) }
+        // Whatever was processed before, the sink failed exactly where the fault says so.
+        ensures counted { IfErr result (λ flow. CountsFault S.failures sink.old flow sink.new) }
         // Memory is wanted only where the frame's unit is accepted and a series is incomplete on its MAP, before the
         // frame or after it.
         ensures memory { IfErr result (λ flow. flow ≡ FlowFault.Memory → ForProcessed self.old (λ w vr views. IsIncompleteAround w vr views frame.now)) }
@@ -101,21 +103,12 @@ impl Receiver {
         // A fault leaves it set.
         self.has_failed = true;
         let verdict = step(&mut self.farms, frame);
-        let anomaly = anomaly_by(&self.incomplete, verdict, frame);
-        let handed = match take(self.alloc, &mut self.incomplete, verdict, frame, sink) {
-            Ok(handed) => handed,
+        let reported = match take(self.alloc, &mut self.incomplete, verdict, frame, sink) {
+            Ok(step) => step,
             Err(flow) => return Err(flow),
         };
         self.has_failed = false;
-        Ok(TcStep {
-            verdict,
-            packets: handed.packets,
-            idle: handed.idle,
-            stray: anomaly.stray,
-            dropped: anomaly.dropped,
-            long: anomaly.long,
-            tail: handed.tail,
-        })
+        Ok(reported)
     }
 
     /// The Communications Link Control Word of a virtual channel.
@@ -173,22 +166,6 @@ fn event_in(carried: &TcContent) -> FarmEvent
     }
 }
 
-// What is amiss with the unit of a frame, if it carries one and this verdict accepts it.
-fn anomaly_by(incomplete: &Vec<Incomplete>, verdict: Verdict, frame: &TcFrame) -> Anomaly
-    ensures stray { ForIncomplete incomplete.now.items verdict frame.now (λ w vr views. result.stray ≡ stray_by w vr views frame.now) }
-    ensures dropped { ForIncomplete incomplete.now.items verdict frame.now (λ w vr views. result.dropped ≡ dropped_by w vr views frame.now) }
-    ensures long { ForIncomplete incomplete.now.items verdict frame.now (λ w vr views. result.long ≡ long_by w vr views frame.now) }
-{
-    match accepted_unit(verdict, &frame.content()) {
-        Some(unit) => {
-            let (header, _) = split_unit(unit);
-            let held = held_on(incomplete, frame.vc(), header.map());
-            anomaly_of(held, unit)
-        }
-        None => NO_ANOMALY,
-    }
-}
-
 // Takes the unit of a frame, if it carries one and this verdict accepts it.
 fn take<S: PacketSink>(
     alloc: Global,
@@ -196,23 +173,22 @@ fn take<S: PacketSink>(
     verdict: Verdict,
     frame: &TcFrame,
     sink: &mut S,
-) -> Result<Handed, FlowFault>
+) -> Result<TcStep, FlowFault>
     ensures series { OnOk result (ForIncomplete incomplete.old.items verdict frame.now (λ w vr views. AreIncomplete w vr incomplete.new.items (views ++ frame.now ∷ []))) }
     ensures accepted { OnOk result (ForIncomplete incomplete.old.items verdict frame.now (λ w vr views. TakesAll S.taking sink.old (unit_channel frame.now) (without_idle (ended_by w vr views frame.now)) sink.new)) }
-    ensures packets { IfOk result (λ handed. ForIncomplete incomplete.old.items verdict frame.now (λ w vr views. handed.packets ≡ length (without_idle (ended_by w vr views frame.now)))) }
-    ensures idle { IfOk result (λ handed. ForIncomplete incomplete.old.items verdict frame.now (λ w vr views. handed.idle ≡ length (only_idle (ended_by w vr views frame.now)))) }
-    ensures tail { IfOk result (λ handed. ForIncomplete incomplete.old.items verdict frame.now (λ w vr views. handed.tail ≡ tail_by w vr views frame.now)) }
+    ensures step { IfOk result (λ step. ForIncomplete incomplete.old.items verdict frame.now (λ w vr views. IsReportedOf w vr views frame.now step)) }
     ensures kept { OnOk result (S.failures sink.new ≡ S.failures sink.old) }
+    ensures counted { IfErr result (λ flow. CountsFault S.failures sink.old flow sink.new) }
     ensures stopped { IfErr result (λ flow. ForIncomplete incomplete.old.items verdict frame.now (λ w vr views. IsStopped S.taking S.failing S.failures sink.old (unit_channel frame.now) (without_idle (ended_by w vr views frame.now)) flow sink.new)) }
     ensures not_failed { IfErr result (λ flow. flow ≢ FlowFault.Failed) }
     ensures memory { IfErr result (λ flow. flow ≡ FlowFault.Memory → ForIncomplete incomplete.old.items verdict frame.now (λ w vr views. IsIncompleteAround w vr views frame.now)) }
 {
     match accepted_unit(verdict, &frame.content()) {
         Some(unit) => match take_unit(alloc, incomplete, frame.vc(), unit, sink) {
-            Ok(handed) => Ok(handed),
+            Ok(step) => Ok(step),
             Err(flow) => Err(flow),
         },
-        None => Ok(NOTHING),
+        None => Ok(TcStep { verdict, ..QUIET }),
     }
 }
 
@@ -223,6 +199,7 @@ fn accepted_unit<'a>(verdict: Verdict, carried: &TcContent<'a>) -> Option<&'a [u
     ensures map { IfSome result (λ unit. map_of (content carried.now) ≡ (header_at unit.now).map) }
     ensures some { IfSome result (λ unit. 0 < length unit.now) }
     ensures short { IfSome result (λ unit. length unit.now ≤ 1019) }
+    ensures accepted { IfSome result (λ unit. verdict ≡ Verdict.Accept) }
     ensures none { IfNone result (unit_by verdict (content carried.now) ≡ []) }
 {
     match verdict {

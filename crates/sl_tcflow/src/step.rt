@@ -16,6 +16,17 @@ pub struct TcStep {
     pub(crate) tail: u32,
 }
 
+/// What an accepted frame brings where nothing ends with its unit and nothing is amiss with it.
+pub(crate) const QUIET: TcStep = TcStep {
+    verdict: Verdict::Accept,
+    packets: 0,
+    idle: 0,
+    stray: false,
+    dropped: None,
+    long: false,
+    tail: 0,
+};
+
 impl Model for TcStep {
     ghost use Rattle.sl_tcflow.specs.StepReport.{StepReport};
 

@@ -1,4 +1,5 @@
 mod anomaly;
+mod counting_sink;
 mod long_series;
 mod receiver;
 mod reframe;

@@ -1,7 +1,8 @@
 -- A frame of type AD as it is made, and as it is read back.
 use Rattle.std.proofs.Common.{◌≡◌, ℕ, ◌+◌, ◌<◌, ◌≤◌, ◌==◌, nat_lt, Bool, true, false, not, ◌&&◌, List, [], ◌∷◌, ◌++◌, length, Option, Some, None, Ok, if◌then◌else◌, refl, sym, ◌∙◌, ap, arith, append_assoc, length-append}
 use Rattle.std.proofs.lemmas.Bool.{eq-eqb, ne_eqb, le-ltb}
-use Rattle.sl_fields.specs.Fecf.{fecf_part, fecf_is_good, with_fecf}
+use Rattle.sl_fields.specs.Fecf.{fecf_is_good}
+use Rattle.sl_fields.specs.FecfField.{fecf_part, with_fecf}
 use Rattle.sl_fields.specs.Field.{packed}
 use Rattle.sl_fields.specs.SegmentHeader.{SegmentFields, segment_fields, segment_octets}
 use Rattle.sl_fields.specs.TcHeader.{TcFields, FitsTcHeader, tc_header, tc_fields, tc_octets}

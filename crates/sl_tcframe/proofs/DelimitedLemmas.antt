@@ -114,7 +114,7 @@ frames_of-none format (octet ∷ octets) h =
 pub remainder_of-none : (format : TcFormat) (octets : List ℕ) → front_len format octets ≡ None → tc_remainder_of format octets ≡ octets
 remainder_of-none format octets h = ap (λ frames. drop (length (concat frames)) octets) (frames_of-none format octets h)
 
-front_is : (format : TcFormat) (octets : List ℕ) (len : ℕ) → IsFront format octets len → front_len format octets ≡ Some len
+pub front_is : (format : TcFormat) (octets : List ℕ) (len : ℕ) → IsFront format octets len → front_len format octets ≡ Some len
 front_is format octets len f = rw (facts_front format octets len f) (ap Some (sym f.stated))
 
 -- a frame and what follows it

@@ -1,6 +1,10 @@
 pub mod PartLemmas
+pub mod ChunkLemmas
 pub mod ReadLemmas
 pub mod DelimitedLemmas
+pub mod FramingFacts
+pub mod FramingLemmas
+pub mod BecomeLemmas
 pub mod AdFrameLemmas
 pub mod TcFrameLemmas
 pub mod TcFrameFacts

@@ -3,7 +3,7 @@ use Rattle.std.proofs.Common.{◌≡◌, ℕ, ◌+◌, ◌-◌, ◌≤◌, ◌==
 use Rattle.std.proofs.Math.Seq.{take-append_seam, drop-append_seam, drop-append-add}
 use Rattle.std.proofs.lemmas.Bool.{not-true, ltb-false, eqb-true, le-ltb, eq-eqb}
 use Rattle.std.proofs.lemmas.List.{take-append-drop, drop-drop}
-use Rattle.sl_fields.specs.Fecf.{fecf_len}
+use Rattle.sl_fields.specs.FecfField.{fecf_len}
 use Rattle.sl_fields.specs.TcHeader.{tc_header}
 use Rattle.sl_tcframe.specs.TcFrame.{TcFormat, TcParts, ArePartsOf, field_len, is_cut, least_of, parts_of, stated_len}
 

@@ -7,10 +7,10 @@ use Rattle.sl_tcframe.specs.TcFrame.{TcFormat, TcView, Content, Ad, Bd, Unlock, 
 use Rattle.sl_tcframe.specs.AdFrame.{FitAdFrame, ad_frame}
 use Rattle.sl_tcframe.specs.TcDelimited.{tc_frames_of, tc_remainder_of}
 
-abbrev format : ℕ → TcFormat
+abbrev pub format : ℕ → TcFormat
 format max = record { max = max; fecf = false }
 
-abbrev with_error_control : ℕ → TcFormat
+abbrev pub with_error_control : ℕ → TcFormat
 with_error_control max = record { max = max; fecf = true }
 
 abbrev shows : ℕ → Content → TcView
@@ -20,7 +20,7 @@ shows vc content = record { vc = vc; content = content }
 abbrev unit : List ℕ
 unit = 0xC0 ∷ 0x10 ∷ 0x01 ∷ 0xC0 ∷ 0x00 ∷ 0x00 ∷ 0x03 ∷ 0xAA ∷ 0xBB ∷ 0xCC ∷ 0xDD ∷ []
 
-abbrev carrier : List ℕ
+abbrev pub carrier : List ℕ
 carrier = 0x00 ∷ 0x01 ∷ 0x00 ∷ 0x0F ∷ 0x00 ∷ unit
 
 -- frames of seven octets with this first octet

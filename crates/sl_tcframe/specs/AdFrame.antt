@@ -1,6 +1,6 @@
 -- The TC transfer frame of type AD that is written.
 use Rattle.std.specs.Prelude.{◌≡◌, ℕ, ◌+◌, ◌-◌, ◌<◌, ◌≤◌, true, false, List, ◌++◌, length, Ok}
-use Rattle.sl_fields.specs.Fecf.{fecf_len, with_fecf}
+use Rattle.sl_fields.specs.FecfField.{fecf_len, with_fecf}
 use Rattle.sl_fields.specs.SegmentHeader.{SegmentFields, FitsSegmentHeader, segment_octets}
 use Rattle.sl_fields.specs.TcHeader.{TcFields, tc_octets}
 use Rattle.sl_tcframe.specs.TcFrame.{TcFormat, Ad, is_cut, tc_frame}

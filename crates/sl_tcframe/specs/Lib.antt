@@ -3,9 +3,11 @@ pub mod TcContent
 pub mod TcDelimited
 pub mod TcFrame
 pub mod TcFrameModel
+pub mod TcFraming
 pub mod TcShape
 pub mod TcShapeModel
 pub use Rattle.sl_fields.specs.Fecf
+pub use Rattle.sl_fields.specs.FecfField
 pub use Rattle.sl_fields.specs.Field
 pub use Rattle.sl_fields.specs.SegmentHeader
 pub use Rattle.sl_fields.specs.Shape

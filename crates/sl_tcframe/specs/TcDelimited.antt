@@ -10,11 +10,17 @@ abbrev pub begin_no_frame : TcFormat → List ℕ → Bool
 begin_no_frame format octets =
     nat_lt (length octets) 5 || (nat_lt (stated_len octets) (least_of format) || nat_lt (length octets) (stated_len octets))
 
--- frames end to end, up to the first offset from which no frame begins
+-- The frames of a recording lie end to end from the first octet on, each as long as its frame length field says, up to
+-- the first offset at which no frame begins. The octets from there on are the remainder.
 pub record IsTcDelimited (format : TcFormat) (recording : List ℕ) (frames : List (List ℕ)) (remainder : List ℕ) : Type 0 where
   pub end_to_end : recording ≡ concat frames ++ remainder
   pub each : AllByRecursion (λ frame. is_cut format frame ≡ true) frames
   pub no_more : begin_no_frame format remainder ≡ true
+
+-- ---- the same, as functions of the recording
+
+-- The law `tc_recordings_are_delimited` says that `tc_frames_of` and `tc_remainder_of` are the frames and the
+-- remainder, and that there are no others.
 
 -- the length of the frame that octets begin with
 abbrev pub front_len : TcFormat → List ℕ → Option ℕ
@@ -38,10 +44,11 @@ tc_frames_from format zero (octet ∷ octets) =
     frame_at (front_len format (octet ∷ octets)) (octet ∷ octets)
     ++ tc_frames_from format (passed_at (front_len format (octet ∷ octets)) (octet ∷ octets)) octets
 
--- the frames of a recording, and what is left
+-- the frames of a recording
 abbrev pub tc_frames_of : TcFormat → List ℕ → List (List ℕ)
 tc_frames_of format recording = tc_frames_from format 0 recording
 
+-- and what is left
 abbrev pub tc_remainder_of : TcFormat → List ℕ → List ℕ
 tc_remainder_of format recording = drop (length (concat (tc_frames_of format recording))) recording
 

@@ -1,6 +1,7 @@
 -- The TC transfer frame, CCSDS 232.0-B: its parts, why one is skipped, and what it carries.
 use Rattle.std.specs.Prelude.{◌≡◌, ◌≢◌, ⊤, ℕ, ◌+◌, ◌-◌, ◌<◌, ◌≤◌, ◌==◌, nat_lt, Bool, true, false, not, ◌&&◌, if◌then◌else◌, List, [], ◌∷◌, ◌++◌, length, take, drop, Option, None, Some, Result, Ok, Err}
-use Rattle.sl_fields.specs.Fecf.{fecf_is_good, fecf_len}
+use Rattle.sl_fields.specs.Fecf.{fecf_is_good}
+use Rattle.sl_fields.specs.FecfField.{fecf_len}
 use Rattle.sl_fields.specs.TcHeader.{TcFields, tc_header}
 use Rattle.sl_tcframe.specs.declared.tc_frame.TcSkip.{TcSkip}
 use Rattle.sl_tcframe.specs.declared.tc_frame.TcSkip.TheVariants.{Fecf, Version, Spacecraft, Long, Kind, Empty, Command}

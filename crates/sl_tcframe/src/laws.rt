@@ -1,6 +1,7 @@
 //! What holds of the definitions alone. Each function does nothing; its clauses are the laws.
 ghost use Rattle.sl_tcframe.specs.AdFrame.{AdFramesAreWhole, AdFramesAreReadBack};
 ghost use Rattle.sl_tcframe.specs.TcDelimited.{EachIsTcDelimited, IsTcDelimitedOnce};
+ghost use Rattle.sl_tcframe.specs.TcFraming.{AnyChunksAreTaken, ChunksAreDelimited, FrontsAreFrames, IncompleteBecomesFrame, NoneFollowsBelowLeast};
 ghost use Rattle.sl_tcframe.specs.TcFrame.{EachHasParts, HasPartsOnce, OnlyFramesHaveParts, EachIsRead, IsReadOnce};
 
 /// Octets that are one frame by their frame length field have the parts of a TC frame, in one way, and no
@@ -29,4 +30,21 @@ pub fn tc_recordings_are_delimited()
 pub fn ad_frames_are_read_back()
     ensures whole { AdFramesAreWhole }
     ensures read_back { AdFramesAreReadBack }
+{}
+
+/// What four octets tell of a frame is what it is: a frame is whole at the front of octets exactly where they begin
+/// with one, after a stated length below the least of a frame none begins here, whatever follows, and octets that are
+/// incomplete become a frame by others that follow.
+pub fn tc_fronts_tell_frames()
+    ensures whole { FrontsAreFrames }
+    ensures below { NoneFollowsBelowLeast }
+    ensures incomplete { IncompleteBecomesFrame }
+{}
+
+/// A recording that a framer is given in chunks, whatever the chunks and each until no frame is yielded, is delimited
+/// into the frames that are yielded and a remainder: the octets that are taken after the last one, and those that
+/// aren't taken since they come after a stated length below the least of a frame.
+pub fn tc_chunks_are_delimited()
+    ensures any { AnyChunksAreTaken }
+    ensures delimited { ChunksAreDelimited }
 {}

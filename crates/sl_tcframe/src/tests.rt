@@ -1,5 +1,7 @@
 //! Frames of known octets, as they are read and written. What is expected follows from the standard's table of
 //! bits, and from its division for the error control fields.
+mod framer;
+
 use crate::{TcContent, TcFrame, TcShape, TcSkip, push_tc};
 use sl_fields::{SegmentHeader, ShapeFault};
 use std::test::Fail;

@@ -1,14 +1,15 @@
 -- What the next frame of a channel has amiss, and what is held of the channel, by what is kept of it.
-use Rattle.std.proofs.Common.{◌≡◌, ℕ, List, [], ◌∷◌, ◌++◌, length, Some, refl, sym, ◌∙◌, ap, subst, append-nil}
+use Rattle.std.proofs.Common.{◌≡◌, ◌≢◌, ◌⊎◌, inl, inr, ℕ, List, [], ◌∷◌, ◌++◌, length, Some, refl, sym, ◌∙◌, ap, subst, append-nil}
 use Rattle.std.specs.List.{concat, flat_map}
 use Rattle.sl_tmframe.specs.TmFrame.{TmView}
 use Rattle.sl_tmflow.specs.Anomaly.{broken_off, dropped_of, gap_after, gap_of}
-use Rattle.sl_tmflow.specs.ChannelState.{ChannelState, held_step, lost_of, lost_by}
+use Rattle.sl_tmflow.specs.Channel.{channel_of}
+use Rattle.sl_tmflow.specs.ChannelState.{ChannelState, held_step, lost_of, lost_by, state_after}
 use Rattle.sl_tmflow.specs.Delivery.{Continuation, Ends, Continues, Breaks, step_of}
-use Rattle.sl_tmflow.specs.Extraction.{HasSeen, held_as}
+use Rattle.sl_tmflow.specs.Extraction.{HasSeen, IsIncompleteAround, held_as}
 use Rattle.sl_tmflow.specs.Incomplete.{incomplete_of}
 use Rattle.sl_tmflow.proofs.BrokenOffLemmas.{broken_next, lost, lost_in}
-use Rattle.sl_tmflow.proofs.ChannelLemmas.{last_count-push}
+use Rattle.sl_tmflow.proofs.ChannelLemmas.{last_count-push, same_seen, seen_more}
 use Rattle.sl_tmflow.proofs.EachLemmas.{has_last}
 
 -- ---- gaps
@@ -52,3 +53,16 @@ dropped_seen state [] next s =
 dropped_seen state (view ∷ later) next s =
     let (before, last, same) = has_last view later in
     ap (λ l. dropped_of l next) same ∙ ap length (dropped_after state before last next (subst (HasSeen state) same s))
+
+-- ---- where a packet is incomplete
+
+some_held : (held : List ℕ) → held ≢ [] → held_as held ≢ []
+some_held held some none = some (none_held held none)
+
+-- what a channel's state holds, before the next frame or after it
+pub incomplete_around : (state : ChannelState) (views : List TmView) (next : TmView) → HasSeen state (channel_of next.vc views)
+    → (state.held ≢ []) ⊎ ((state_after state next).held ≢ []) → IsIncompleteAround views next
+incomplete_around state views next s (inl before) = inl (λ none. some_held state.held before (s.held ∙ none))
+incomplete_around state views next s (inr after) =
+    let seen = seen_more state (channel_of next.vc views) next s in
+    inr (λ none. some_held (state_after state next).held after (seen.held ∙ ap incomplete_of (sym (same_seen next.vc views next refl)) ∙ none))

@@ -1,5 +1,5 @@
 -- What an extractor has made of the frames of virtual channels, CCSDS 132.0-B, that it was given.
-use Rattle.std.specs.Prelude.{◌≡◌, ℕ, ◌<◌, Bool, true, false, List, [], ◌∷◌}
+use Rattle.std.specs.Prelude.{◌≡◌, ◌≢◌, ◌⊎◌, ℕ, ◌<◌, Bool, true, false, List, [], ◌∷◌, ◌++◌}
 use Rattle.std.specs.List.{slice_index_or}
 use Rattle.sl_tmframe.specs.TmFrame.{TmView}
 use Rattle.sl_tmflow.specs.Channel.{channel_of, last_count}
@@ -41,3 +41,7 @@ HasFailed state = state.has_failed ≡ true
 -- the packets that end in the next frame, idle ones included
 abbrev pub ended_by : List TmView → TmView → List (List ℕ)
 ended_by views next = packets_ending (channel_of next.vc views) next
+
+-- a packet is incomplete on the next frame's virtual channel, before that frame or after it
+abbrev pub IsIncompleteAround : List TmView → TmView → Type 0
+IsIncompleteAround views next = (incomplete_of (channel_of next.vc views) ≢ []) ⊎ (incomplete_of (channel_of next.vc (views ++ next ∷ [])) ≢ [])

@@ -1,5 +1,5 @@
 //! A virtual channel and the packet that is incomplete on it.
-ghost use Rattle.std.specs.Prelude.{◌≡◌, ◌≤◌, ◌+◌, ◌++◌, [], length, OnOk, IfOk, IfErr};
+ghost use Rattle.std.specs.Prelude.{◌≡◌, ◌≢◌, ◌⊎◌, ◌≤◌, ◌+◌, ◌++◌, [], length, OnOk, IfOk, IfErr};
 ghost use Rattle.sl_packet.specs.Front.{front, is_foreign};
 ghost use Rattle.sl_packet.specs.Packets.{only_idle, packets_of, rest_of, without_idle};
 ghost use Rattle.sl_packet.specs.Sink.{TakesAll};
@@ -66,6 +66,8 @@ impl Channel {
         ensures dropped { IfOk result (λ step. step.dropped ≡ length (lost_by self.old frame.now)) }
         ensures foreign { IfOk result (λ step. step.foreign ≡ foreign_in frame.now.field) }
         ensures stopped { IfErr result (λ flow. IsStopped S.taking S.failing S.failures sink.old frame.now.vc (without_idle (packets_after self.old frame.now)) flow sink.new) }
+        // Memory is wanted only where a packet is incomplete, before the frame or after it.
+        ensures memory { IfErr result (λ flow. flow ≡ FlowFault.Memory → (self.old.held ≢ []) ⊎ ((state_after self.old frame.now).held ≢ [])) }
     {
         let gap = self.gap_at(frame.vc_count());
         let ended = match self.go_on(frame, sink) {
@@ -117,6 +119,7 @@ impl Channel {
         ensures few { IfOk result (λ step. step.packets + step.idle ≤ 1) }
         ensures dropped { IfOk result (λ step. step.dropped ≡ length (lost_by self.old frame.now)) }
         ensures stopped { IfErr result (λ flow. IsStopped S.taking S.failing S.failures sink.old frame.now.vc (without_idle (ended (step_in self.old frame.now))) flow sink.new) }
+        ensures memory { IfErr result (λ flow. flow ≡ FlowFault.Memory → self.old.held ≢ []) }
     {
         if self.held.is_empty() || !self.is_followed_by(frame.vc_count()) {
             return Ok(self.break_off());
@@ -208,6 +211,7 @@ impl Channel {
         ensures few { IfOk result (λ step. step.packets + step.idle ≤ 2042) }
         ensures foreign { IfOk result (λ step. step.foreign ≡ foreign_in (data_field field.now)) }
         ensures stopped { IfErr result (λ flow. IsStopped S.taking S.failing S.failures sink.old vc (without_idle (whole_packets (data_field field.now))) flow sink.new) }
+        ensures memory { IfErr result (λ flow. flow ≡ FlowFault.Memory → held_after (data_field field.now) self.old.held ≢ []) }
     {
         match *field {
             TmField::Packets {
@@ -236,13 +240,15 @@ impl Channel {
         ensures few { IfOk result (λ step. step.packets + step.idle ≤ 2042) }
         ensures foreign { IfOk result (λ step. step.foreign ≡ is_foreign (rest_of octets.now)) }
         ensures stopped { IfErr result (λ flow. IsStopped S.taking S.failing S.failures sink.old vc (without_idle (packets_of octets.now)) flow sink.new) }
+        ensures memory { IfErr result (λ flow. flow ≡ FlowFault.Memory → incomplete_in (front (rest_of octets.now)) (rest_of octets.now) ≢ []) }
     {
         let (step, remainder) = match hand(sink, vc, octets) {
             Ok(handed) => handed,
             Err(flow) => return Err(flow),
         };
+        let begun = incomplete(remainder);
         self.held.clear();
-        if self.held.extend_from_slice(incomplete(remainder)).is_err() {
+        if !begun.is_empty() && self.held.extend_from_slice(begun).is_err() {
             return Err(FlowFault::Memory);
         }
         Ok(TmStep {

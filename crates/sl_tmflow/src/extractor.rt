@@ -6,8 +6,8 @@ ghost use Rattle.std.specs.List.{concat};
 ghost use Rattle.sl_tmflow.specs.Anomaly.{dropped_of, foreign_of, gap_of};
 ghost use Rattle.sl_tmflow.specs.Channel.{channel_of};
 ghost use Rattle.sl_tmflow.specs.Incomplete.{incomplete_of};
-ghost use Rattle.sl_tmflow.specs.Extraction.{ForProcessed, HasProcessed, HasFailed, ended_by};
-ghost use Rattle.sl_packet.specs.Stopping.{IsStopped};
+ghost use Rattle.sl_tmflow.specs.Extraction.{ForProcessed, HasProcessed, HasFailed, IsIncompleteAround, ended_by};
+ghost use Rattle.sl_packet.specs.Stopping.{CountsFault, IsStopped};
 
 use crate::channel::Channel;
 use crate::step::TmStep;
@@ -47,9 +47,10 @@ impl Extractor {
     /// Hands the sink the packets that end in the next frame, but for idle ones, in the order of their starts
     /// and on the channel of the frame's virtual channel.
     ///
-    /// The fault is `Memory` where memory was refused, and `Sink` where the sink refused a packet: it has
-    /// accepted the packets before that one, and none after it. After either each call is `Failed`, and hands
-    /// over nothing.
+    /// The fault is `Memory` where memory was refused, which is wanted only where a packet is incomplete on the
+    /// frame's virtual channel, before the frame or after it, and `Sink` where the sink refused a packet: it has
+    /// accepted the packets before that one, and none after it, and its count of failures has risen by one, unless it
+    /// was at its greatest. After either each call is `Failed`, and hands over nothing.
     pub fn frame<S: PacketSink>(
         &mut self,
         frame: &TmFrame,
@@ -73,6 +74,10 @@ impl Extractor {
         // At a fault some of the packets were accepted, the first ones.
         ensures stopped { IfErr result (λ flow. flow ≢ FlowFault.Failed → HasFailed self.new
             × ForProcessed self.old (λ views. IsStopped S.taking S.failing S.failures sink.old frame.now.vc (without_idle (ended_by views frame.now)) flow sink.new)) }
+        // Whatever was processed before, the sink failed exactly where the fault says so.
+        ensures counted { IfErr result (λ flow. CountsFault S.failures sink.old flow sink.new) }
+        // Memory is wanted only where a packet is incomplete on the frame's virtual channel, before the frame or after it.
+        ensures memory { IfErr result (λ flow. flow ≡ FlowFault.Memory → ForProcessed self.old (λ views. IsIncompleteAround views frame.now)) }
     {
         if self.has_failed {
             return Err(FlowFault::Failed);

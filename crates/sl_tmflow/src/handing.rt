@@ -1,5 +1,5 @@
 //! Packets that a sink is handed.
-ghost use Rattle.std.specs.Prelude.{◌≡◌, ◌≤◌, ◌+◌, ◌∷◌, [], length, OnOk, IfOk, IfErr};
+ghost use Rattle.std.specs.Prelude.{◌≡◌, ◌≢◌, ◌≤◌, ◌+◌, ◌∷◌, [], length, OnOk, IfOk, IfErr};
 ghost use Rattle.sl_packet.specs.Packet.{IsPacket};
 ghost use Rattle.sl_packet.specs.Packets.{only_idle, packets_of, rest_of, without_idle};
 ghost use Rattle.sl_packet.specs.Sink.{TakesAll};
@@ -22,6 +22,7 @@ pub(crate) fn hand_packet<S: PacketSink>(
     ensures idle { IfOk result (λ step. step.idle ≡ length (only_idle (packet.now ∷ []))) }
     ensures dropped { IfOk result (λ step. step.dropped ≡ 0) }
     ensures stopped { IfErr result (λ flow. IsStopped S.taking S.failing S.failures sink.old vc (without_idle (packet.now ∷ [])) flow sink.new) }
+    ensures not_memory { IfErr result (λ flow. flow ≢ FlowFault.Memory) }
 {
     match hand(sink, vc, packet) {
         Ok(handed) => Ok(handed.0),
@@ -45,6 +46,7 @@ pub(crate) fn hand<'a, S: PacketSink>(
     ensures dropped { IfOk result (λ handed. handed.0.dropped ≡ 0) }
     ensures remainder { IfOk result (λ handed. handed.1.now ≡ rest_of octets.now) }
     ensures stopped { IfErr result (λ flow. IsStopped S.taking S.failing S.failures sink.old vc (without_idle (packets_of octets.now)) flow sink.new) }
+    ensures not_memory { IfErr result (λ flow. flow ≢ FlowFault.Memory) }
 {
     match hand_over(sink, vc, octets) {
         Ok(handed) => {

@@ -1,6 +1,6 @@
 //! Frames of known octets, and the packets that end in them. The expected packets follow from the standard's
 //! bits.
-ghost use Rattle.std.specs.Prelude.{◌≡◌};
+ghost use Rattle.std.specs.Prelude.{◌≡◌, ⊤};
 
 use crate::{Extractor, TmStep, reframe_tm};
 use sl_packet::{Delivered, FlowFault, PacketSink, SinkFault, hand_over};
@@ -250,5 +250,34 @@ fn an_extractor_stops_at_a_fault(rt: HostRuntime) -> Result<(), Fail> {
     let fault = extractor.frame(&frame, &mut sink).err();
     assert_eq!(rt; fault, Some(FlowFault::Failed));
     assert_eq!(rt; sink.refused, 1);
+    Ok(())
+}
+
+// A sink that keeps only how many packets it was handed.
+#[derive(Drop)]
+struct Counts {
+    packets: u32,
+}
+
+impl PacketSink for Counts {
+    ghost taking = { λ old channel packet new. ⊤ };
+
+    ghost failing = { λ old channel packet fault new. ⊥ };
+
+    ghost failures = { λ sink. 0 };
+
+    fn packet(&mut self, _channel: u16, _p: &[u8]) -> Result<(), SinkFault> {
+        self.packets = self.packets.saturating_add(1);
+        Ok(())
+    }
+}
+
+// Packets that lie in their frame are handed over from there.
+#[test]
+fn packets_of_one_frame_take_no_memory(rt: HostRuntime) -> Result<(), Fail> {
+    let mut extractor = Extractor::new(rt.alloc());
+    let mut sink = Counts { packets: 0 };
+    assert_eq!(rt; ended(&mut extractor, &FILLED, &mut sink)?, (1, 1));
+    assert_eq!(rt; sink.packets, 1);
     Ok(())
 }

@@ -1,8 +1,9 @@
 -- A frame of packets as it is made, and as it is read back.
-use Rattle.std.proofs.Common.{◌≡◌, ℕ, ◌-◌, ◌<◌, ◌≤◌, ◌==◌, Bool, true, false, not, ◌&&◌, List, [], ◌∷◌, ◌++◌, length, take, Option, Some, None, IfSome, Ok, unwrap_or, if◌then◌else◌, refl, sym, ◌∙◌, ap, arith, append-nil, length-append}
+use Rattle.std.proofs.Common.{◌≡◌, ℕ, ◌-◌, ◌<◌, ◌≤◌, ◌==◌, Bool, true, false, not, ◌&&◌, List, [], ◌++◌, length, take, Option, Some, None, IfSome, Ok, unwrap_or, if◌then◌else◌, refl, sym, ◌∙◌, ap, arith, append-nil, length-append}
 use Rattle.std.proofs.Math.Seq.{take-append_seam}
 use Rattle.std.proofs.lemmas.Bool.{eq-eqb, ne_eqb, lt-ltb}
-use Rattle.sl_fields.specs.Fecf.{fecf_of, fecf_part, fecf_len, with_fecf}
+use Rattle.sl_fields.specs.Fecf.{fecf_of}
+use Rattle.sl_fields.specs.FecfField.{fecf_part, fecf_len, with_fecf}
 use Rattle.sl_fields.specs.Field.{number_of, packed}
 use Rattle.sl_fields.specs.TmHeader.{TmFields, FitsTmHeader, tm_header, tm_fields, tm_octets}
 use Rattle.sl_fields.proofs.FecfLemmas.{fecf_len_le, length-fecf_part, number_of-fecf}

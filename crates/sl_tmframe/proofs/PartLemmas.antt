@@ -2,7 +2,7 @@
 use Rattle.std.proofs.Common.{◌≡◌, ℕ, ◌+◌, ◌-◌, ◌≤◌, Bool, true, false, if◌then◌else◌, List, ◌++◌, length, take, drop, refl, sym, ◌∙◌, ap, arith, append_assoc, length-append, length-drop, length-take-le}
 use Rattle.std.proofs.Math.Seq.{take-append_seam, drop-append_seam, drop-append-add}
 use Rattle.std.proofs.lemmas.List.{take-append-drop, drop-drop}
-use Rattle.sl_fields.specs.Fecf.{fecf_len}
+use Rattle.sl_fields.specs.FecfField.{fecf_len}
 use Rattle.sl_fields.specs.TmHeader.{tm_header}
 use Rattle.sl_fields.proofs.FecfLemmas.{fecf_len_le}
 use Rattle.sl_tmframe.specs.TmFrame.{TmFormat, TmParts, ArePartsOf, header_of, control_len, field_len, parts_of}

@@ -1,5 +1,5 @@
 -- Frames of known octets, read and written, so that a wrong definition doesn't check.
-use Rattle.std.proofs.Common.{◌≡◌, ℕ, true, false, arith, List, [], ◌∷◌, ◌++◌, replicate, Option, Some, None, Result, Ok, Err, refl}
+use Rattle.std.proofs.Common.{◌≡◌, ℕ, true, false, arith, List, [], ◌∷◌, ◌++◌, replicate, Option, Some, None, Ok, Err, refl}
 use Rattle.sl_fields.specs.Fecf.{fecf_of, register_of}
 use Rattle.sl_tmframe.specs.declared.tm_frame.TmSkip.TheVariants.{Fecf, Version, Spacecraft}
 use Rattle.sl_tmframe.specs.TmFrame.{TmFormat, TmView, DataField, Packets, Idle, Opaque, tm_frame}
@@ -37,6 +37,8 @@ pub record AreRead : Type 0 where
   pub packet_start : tm_frame (format 32) 1 (header 0x18 0x00 ++ field) ≡ Ok (shows None (Packets (Some 0) field))
   pub no_start : tm_frame (format 32) 1 (header 0x1F 0xFF ++ field) ≡ Ok (shows None (Packets None field))
   pub idle : tm_frame (format 32) 1 (header 0x1F 0xFE ++ field) ≡ Ok (shows None Idle)
+  pub secondary_header_alone : tm_frame (format 32) 1 (header 0x98 0x00 ++ field) ≡ Ok (shows None Opaque)
+  pub synchronisation_flag_alone : tm_frame (format 32) 1 (header 0x58 0x00 ++ field) ≡ Ok (shows None Opaque)
   pub opaque_before_idle : tm_frame (format 32) 1 (header 0x9F 0xFE ++ field) ≡ Ok (shows None Opaque)
   pub last_offset : tm_frame (format 32) 1 (header 0x18 0x19 ++ field) ≡ Ok (shows None (Packets (Some 25) field))
   pub past_the_field : tm_frame (format 32) 1 (header 0x18 0x1A ++ field) ≡ Ok (shows None Opaque)
@@ -53,6 +55,8 @@ frames_are_read = record {
   packet_start = refl;
   no_start = refl;
   idle = refl;
+  secondary_header_alone = refl;
+  synchronisation_flag_alone = refl;
   opaque_before_idle = refl;
   last_offset = refl;
   past_the_field = refl;

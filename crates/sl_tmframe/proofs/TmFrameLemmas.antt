@@ -1,10 +1,9 @@
 -- A frame read from its octets, part by part.
 use Rattle.std.proofs.Common.{◌≡◌, ℕ, ◌+◌, ◌-◌, ◌≤◌, Bool, true, false, List, length, take, drop, Option, Some, None, Ok, refl, sym, ◌∙◌, ap, arith, if◌then◌else◌, length-drop, length-take-le}
 use Rattle.std.proofs.lemmas.List.{drop-drop, drop-take, take-take}
-use Rattle.sl_fields.specs.Fecf.{fecf_len}
+use Rattle.sl_fields.specs.FecfField.{fecf_len}
 use Rattle.sl_fields.specs.TmHeader.{TmFields}
 use Rattle.sl_fields.proofs.FecfLemmas.{fecf_len_le}
-use Rattle.sl_tmframe.proofs.PartLemmas.{either_le}
 use Rattle.sl_tmframe.specs.TmFrame.{TmFormat, TmView, DataField, header_of, class_of, view_of, skip_reason, read_as, tm_frame}
 
 -- Octets in which `last` come last and `word` before them, all after the first six: those between are the

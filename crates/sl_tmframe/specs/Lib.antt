@@ -1,11 +1,13 @@
 pub mod PacketFrame
 pub mod TmDelimited
 pub mod TmField
+pub mod TmFraming
 pub mod TmFrame
 pub mod TmFrameModel
 pub mod TmShape
 pub mod TmShapeModel
 pub use Rattle.sl_fields.specs.Fecf
+pub use Rattle.sl_fields.specs.FecfField
 pub use Rattle.sl_fields.specs.Field
 pub use Rattle.sl_fields.specs.Shape
 pub use Rattle.sl_fields.specs.TmHeader

@@ -1,7 +1,7 @@
 -- The TM transfer frame of packets that is written: without an operational control field, a secondary
 -- header or the synchronisation flag.
-use Rattle.std.specs.Prelude.{◌≡◌, ℕ, ◌-◌, ◌<◌, ◌≤◌, false, if◌then◌else◌, List, [], ◌∷◌, ◌++◌, length, Option, None, Some, IfSome, Ok}
-use Rattle.sl_fields.specs.Fecf.{fecf_len, with_fecf}
+use Rattle.std.specs.Prelude.{◌≡◌, ℕ, ◌-◌, ◌<◌, ◌≤◌, false, List, ◌++◌, length, Option, None, Some, IfSome, Ok}
+use Rattle.sl_fields.specs.FecfField.{fecf_len, with_fecf}
 use Rattle.sl_fields.specs.TmHeader.{TmFields, tm_octets}
 use Rattle.sl_tmframe.specs.TmFrame.{TmFormat, TmView, Packets, tm_frame}
 

@@ -2,12 +2,19 @@
 use Rattle.std.specs.Prelude.{◌≡◌, ℕ, zero, suc, ◌*◌, ◌/◌, ◌<◌, List, [], ◌∷◌, ◌++◌, length, take, drop}
 use Rattle.std.specs.List.{AllByRecursion, concat}
 
+-- The frames of a recording lie end to end from the first octet on, each of the managed length. The octets after them,
+-- fewer than a frame has, are the remainder.
 pub record IsTmDelimited (len : ℕ) (recording : List ℕ) (frames : List (List ℕ)) (remainder : List ℕ) : Type 0 where
   pub end_to_end : recording ≡ concat frames ++ remainder
   pub whole : AllByRecursion (λ frame. length frame ≡ len) frames
   pub short : length remainder < len
 
--- so many frames from the front on
+-- ---- the same, as functions of the recording
+
+-- The law `tm_recordings_are_delimited` says that `tm_frames_of` and `tm_remainder_of` are the frames and the
+-- remainder, and that there are no others.
+
+-- this many frames from the front on
 abbrev pub tm_frames_from : ℕ → ℕ → List ℕ → List (List ℕ)
 tm_frames_from len zero recording = []
 tm_frames_from len (suc count) recording = take len recording ∷ tm_frames_from len count (drop len recording)

@@ -1,7 +1,8 @@
 -- The TM transfer frame, CCSDS 132.0-B: its parts, why one is skipped, and what it carries.
-use Rattle.std.specs.Prelude.{◌≡◌, ⊤, ℕ, ◌+◌, ◌-◌, ◌<◌, ◌≤◌, ◌==◌, nat_lt, Bool, not, ◌&&◌, ◌||◌, if◌then◌else◌, List, ◌++◌, length, take, drop, Option, None, Some, IfSome, Result, Ok, Err}
+use Rattle.std.specs.Prelude.{◌≡◌, ◌≢◌, ◌⊎◌, ⊤, ℕ, ◌+◌, ◌-◌, ◌<◌, ◌≤◌, ◌==◌, nat_lt, Bool, true, false, not, ◌&&◌, ◌||◌, if◌then◌else◌, List, ◌++◌, length, take, drop, Option, None, Some, IfSome, Result, Ok, Err}
 use Rattle.sl_fields.specs.Field.{number_of}
-use Rattle.sl_fields.specs.Fecf.{fecf_of, fecf_len}
+use Rattle.sl_fields.specs.Fecf.{fecf_of}
+use Rattle.sl_fields.specs.FecfField.{fecf_len}
 use Rattle.sl_fields.specs.TmHeader.{TmFields, tm_header}
 use Rattle.sl_tmframe.specs.declared.tm_frame.TmSkip.{TmSkip}
 use Rattle.sl_tmframe.specs.declared.tm_frame.TmSkip.TheVariants.{Fecf, Version, Spacecraft}
@@ -54,19 +55,18 @@ parts_of format frame =
 
 -- ---- whether a frame is skipped
 
--- the error control field is that of the octets before it
-abbrev pub is_fecf_good : TmFormat → List ℕ → Bool
-is_fecf_good format frame =
-    number_of (parts_of format frame).fecf == fecf_of (take (length frame - 2) frame)
+-- Why a frame of these parts is skipped: its error control field isn't that of the octets before it, where the
+-- format has one; its transfer frame version number isn't 0; it is another spacecraft's.
+abbrev pub HasReason : TmFormat → ℕ → TmParts → TmSkip → Type 0
+HasReason format spacecraft p Fecf = (format.fecf ≡ true) × (number_of p.fecf ≢ fecf_of (p.header ++ p.field ++ p.control))
+HasReason format spacecraft p Version = (tm_header p.header).version ≢ 0
+HasReason format spacecraft p Spacecraft = (tm_header p.header).spacecraft ≢ spacecraft
 
--- the first reason, in this order, to skip a frame: a wrong error control field where the format has
--- one, another version than 0, and another spacecraft
-abbrev pub skip_reason : TmFormat → ℕ → List ℕ → Option TmSkip
-skip_reason format spacecraft frame =
-    if format.fecf && not (is_fecf_good format frame) then Some Fecf
-    else if not ((header_of frame).version == 0) then Some Version
-    else if not ((header_of frame).spacecraft == spacecraft) then Some Spacecraft
-    else None
+-- the reasons in their order
+abbrev pub order_of : TmSkip → ℕ
+order_of Fecf = 1
+order_of Version = 2
+order_of Spacecraft = 3
 
 -- ---- what a frame carries
 
@@ -77,20 +77,24 @@ pub data DataField : Type 0 where
   Idle : DataField
   Opaque : DataField
 
--- A frame is opaque with a secondary header or the synchronisation flag, and where its pointer is neither
--- 2046 nor 2047 and is at or past the end of the data field.
-abbrev pub is_opaque : TmFields → List ℕ → Bool
-is_opaque header field =
-    (header.secondary || header.sync)
-    || (not (header.first == 2046) && not (header.first == 2047) && not (nat_lt header.first (length field)))
+-- First header pointers 2046 and 2047 have a meaning of their own. Any other is an offset in the data field.
+abbrev pub IsOffset : ℕ → Type 0
+IsOffset pointer = (pointer ≢ 2046) × (pointer ≢ 2047)
 
--- Of the others, pointer 2046 says that the frame has only idle data, and 2047 that no packet starts in it.
-abbrev pub class_of : TmFields → List ℕ → DataField
-class_of header field =
-    if is_opaque header field then Opaque
-    else if header.first == 2046 then Idle
-    else if header.first == 2047 then Packets None field
-    else Packets (Some header.first) field
+-- A data field of packets: pointer 2047 says that no packet starts in it, and an offset before its end that the first
+-- one starts there.
+abbrev pub PointsTo : ℕ → List ℕ → Option ℕ → Type 0
+PointsTo pointer field None = pointer ≡ 2047
+PointsTo pointer field (Some start) = IsOffset pointer × (pointer < length field) × (start ≡ pointer)
+
+-- What a data field under this header is. The frame is opaque where its secondary header flag or its synchronisation
+-- flag is 1, or its pointer is an offset at or past the end of the data field. Where both flags are 0, pointer 2046
+-- says that there is only idle data; with 2047, and with an offset before the end, the data field is of packets.
+abbrev pub HasClass : TmFields → List ℕ → DataField → Type 0
+HasClass h field Opaque = (h.secondary ≡ true) ⊎ (h.sync ≡ true) ⊎ (IsOffset h.first × (length field ≤ h.first))
+HasClass h field Idle = (h.secondary ≡ false) × (h.sync ≡ false) × (h.first ≡ 2046)
+HasClass h field (Packets first octets) =
+    (h.secondary ≡ false) × (h.sync ≡ false) × PointsTo h.first field first × (octets ≡ field)
 
 -- what a frame shows to whoever reads it
 pub record TmView : Type 0 where
@@ -99,6 +103,89 @@ pub record TmView : Type 0 where
   pub vc_count : ℕ
   pub control : Option (List ℕ)
   pub field : DataField
+
+-- the operational control field is shown where the header's own flag says that there is one
+abbrev pub ShowsControl : Bool → List ℕ → Option (List ℕ) → Type 0
+ShowsControl flag control None = flag ≡ false
+ShowsControl flag control (Some shown) = (flag ≡ true) × (shown ≡ control)
+
+-- what a frame of these parts shows
+pub record Shows (p : TmParts) (view : TmView) : Type 0 where
+  pub vc : view.vc ≡ (tm_header p.header).vc
+  pub mc_count : view.mc_count ≡ (tm_header p.header).mc
+  pub vc_count : view.vc_count ≡ (tm_header p.header).vcc
+  pub control : ShowsControl (tm_header p.header).control p.control view.control
+  pub field : HasClass (tm_header p.header) p.field view.field
+
+-- ---- a frame as it is read for a spacecraft
+
+-- A frame of these parts is skipped for the first reason that holds, and is read where none does.
+abbrev pub AreReadAs : TmFormat → ℕ → TmParts → Result TmView TmSkip → Type 0
+AreReadAs format spacecraft p (Ok view) = ((reason : TmSkip) → HasReason format spacecraft p reason → ⊥) × Shows p view
+AreReadAs format spacecraft p (Err reason) =
+    HasReason format spacecraft p reason
+    × ((earlier : TmSkip) → order_of earlier < order_of reason → HasReason format spacecraft p earlier → ⊥)
+
+-- The octets have these parts, and are read as this. The law `tm_frames_are_read` says that the parts are those of
+-- `parts_of` and the reading is that of `tm_frame`, and that there are no others.
+pub record IsReadAs (format : TmFormat) (spacecraft : ℕ) (frame : List ℕ) (p : TmParts) (read : Result TmView TmSkip) : Type 0 where
+  pub parts : ArePartsOf format frame p
+  pub reading : AreReadAs format spacecraft p read
+
+-- ---- the same, as functions of the octets
+
+-- the error control field is that of the octets before it
+abbrev pub is_fecf_good : TmFormat → List ℕ → Bool
+is_fecf_good format frame =
+    number_of (parts_of format frame).fecf == fecf_of (take (length frame - 2) frame)
+
+-- the first reason that holds
+abbrev pub skip_reason : TmFormat → ℕ → List ℕ → Option TmSkip
+skip_reason format spacecraft frame =
+    if format.fecf && not (is_fecf_good format frame) then Some Fecf
+    else if not ((header_of frame).version == 0) then Some Version
+    else if not ((header_of frame).spacecraft == spacecraft) then Some Spacecraft
+    else None
+
+-- a frame with this header and this data field is opaque
+abbrev pub is_opaque : TmFields → List ℕ → Bool
+is_opaque header field =
+    (header.secondary || header.sync)
+    || (not (header.first == 2046) && not (header.first == 2047) && not (nat_lt header.first (length field)))
+
+-- the class that it has
+abbrev pub class_of : TmFields → List ℕ → DataField
+class_of header field =
+    if is_opaque header field then Opaque
+    else if header.first == 2046 then Idle
+    else if header.first == 2047 then Packets None field
+    else Packets (Some header.first) field
+
+-- the operational control field, where there is one
+abbrev pub control_of : TmFormat → List ℕ → Option (List ℕ)
+control_of format frame = if (header_of frame).control then Some (parts_of format frame).control else None
+
+-- what the frame shows
+abbrev pub view_of : TmFormat → List ℕ → TmView
+view_of format frame =
+    record {
+      vc = (header_of frame).vc;
+      mc_count = (header_of frame).mc;
+      vc_count = (header_of frame).vcc;
+      control = control_of format frame;
+      field = class_of (header_of frame) (parts_of format frame).field;
+    }
+
+-- what it shows, or why it is skipped
+abbrev pub read_as : Option TmSkip → TmView → Result TmView TmSkip
+read_as None view = Ok view
+read_as (Some reason) view = Err reason
+
+-- the frame as it is read for a spacecraft
+abbrev pub tm_frame : TmFormat → ℕ → List ℕ → Result TmView TmSkip
+tm_frame format spacecraft frame = read_as (skip_reason format spacecraft frame) (view_of format frame)
+
+-- ---- what is so of each frame that is read
 
 -- the first packet start lies in the data field, which has at most 2042 octets
 abbrev pub IsInField : DataField → Type 0
@@ -111,29 +198,7 @@ pub record IsInRange (view : TmView) : Type 0 where
   pub vc : view.vc ≤ 7
   pub field : IsInField view.field
 
--- the operational control field, where there is one
-abbrev pub control_of : TmFormat → List ℕ → Option (List ℕ)
-control_of format frame = if (header_of frame).control then Some (parts_of format frame).control else None
-
-abbrev pub view_of : TmFormat → List ℕ → TmView
-view_of format frame =
-    record {
-      vc = (header_of frame).vc;
-      mc_count = (header_of frame).mc;
-      vc_count = (header_of frame).vcc;
-      control = control_of format frame;
-      field = class_of (header_of frame) (parts_of format frame).field;
-    }
-
--- a frame as it is read for a spacecraft: its view, or why it is skipped
-abbrev pub read_as : Option TmSkip → TmView → Result TmView TmSkip
-read_as None view = Ok view
-read_as (Some reason) view = Err reason
-
-abbrev pub tm_frame : TmFormat → ℕ → List ℕ → Result TmView TmSkip
-tm_frame format spacecraft frame = read_as (skip_reason format spacecraft frame) (view_of format frame)
-
--- ---- what the parts are
+-- ---- laws
 
 -- octets of the format's length have these parts
 abbrev pub EachHasParts : Type 0
@@ -142,3 +207,16 @@ EachHasParts = (format : TmFormat) (frame : List ℕ) → 12 ≤ format.len → 
 -- and no others
 abbrev pub HasPartsOnce : Type 0
 HasPartsOnce = (format : TmFormat) (frame : List ℕ) (p : TmParts) → ArePartsOf format frame p → parts_of format frame ≡ p
+
+-- octets of the format's length are read, or skipped, as this says,
+abbrev pub EachIsRead : Type 0
+EachIsRead =
+    (format : TmFormat) (spacecraft : ℕ) (frame : List ℕ) → 12 ≤ format.len → length frame ≡ format.len
+    → IsReadAs format spacecraft frame (parts_of format frame) (tm_frame format spacecraft frame)
+
+-- and in no other way
+abbrev pub IsReadOnce : Type 0
+IsReadOnce =
+    (format : TmFormat) (spacecraft : ℕ) (frame : List ℕ) (p : TmParts) (read : Result TmView TmSkip)
+    → IsReadAs format spacecraft frame p read
+    → (parts_of format frame ≡ p) × (tm_frame format spacecraft frame ≡ read)

@@ -1,4 +1,5 @@
-//! TM transfer frames of CCSDS 132.0-B: how one is read, and how a frame of packets is written.
+//! TM transfer frames of CCSDS 132.0-B: how one is read, how a frame of packets is written, and how a recording that
+//! comes in chunks is delimited into frames.
 //!
 //! Octets of the managed length are a frame or are skipped for a reason, whatever they are. A frame that is
 //! read borrows its data field from them. What [`push_tm`] adds is read back as it was given ([`laws`]).
@@ -7,10 +8,12 @@
 pub mod laws;
 mod packet_frame;
 mod tm_frame;
+mod tm_framer;
 mod tm_shape;
 
 pub use packet_frame::push_tm;
 pub use tm_frame::{TmField, TmFrame, TmSkip};
+pub use tm_framer::TmFramer;
 pub use tm_shape::TmShape;
 
 #[cfg(test)]

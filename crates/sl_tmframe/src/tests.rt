@@ -1,5 +1,7 @@
 //! Frames of known octets, as they are read and written. The headers follow from the table of bits; the error
 //! control fields are known from outside.
+mod framer;
+
 use crate::{TmField, TmFrame, TmShape, TmSkip, push_tm};
 use sl_fields::ShapeFault;
 use std::test::Fail;

@@ -1,13 +1,11 @@
-use Rattle.std.proofs.Common.{◌∷◌, [], ◌∙◌, ap, sym, subst, arith, length}
-use Rattle.sl_packet.specs.Packets.{only_idle, without_idle}
+use Rattle.std.proofs.Common.{◌∷◌, [], ◌∙◌, ap, sym, subst, arith}
+use Rattle.sl_packet.specs.Packets.{without_idle}
 use Rattle.sl_packet.specs.Sink.{TakesAll}
 use Rattle.sl_packet.specs.Stopping.{IsStopped}
-use Rattle.sl_tcflow.specs.Anomaly.{tail_of}
-use Rattle.sl_tcflow.specs.NextSegment.{tail_after}
 use Rattle.sl_tcflow.specs.Receiving.{channel_at, ended_by, map_of}
 use Rattle.sl_tcflow.specs.Series.{header_at}
-use Rattle.sl_tcflow.proofs.AnomalyLemmas.{told_at, told_none}
-use Rattle.sl_tcflow.proofs.EndedLemmas.{tail_next}
+use Rattle.sl_packet.proofs.StoppingLemmas.{counts_stopped}
+use Rattle.sl_tcflow.proofs.ReportLemmas.{reported_more, reported_none}
 use Rattle.sl_tcflow.proofs.UnitLemmas.{unit_on, incomplete_same, incomplete_more, around_more, ended_more, unit_channel_is}
 use Rattle.sl_tcflow.proofs.receiver.take.Goals as goal
 
@@ -24,36 +22,21 @@ returns-in-Ok-clause-series g c w vr views are is =
     (unit_on c.args.verdict _ w vr views c.args.frame.now (unit ∷ []) is c.content.ensures.value c.in-Some.ensures.unit)
     (ap (λ n. channel_at n (header_at unit).map) c.vc.ensures.value) c.in-Ok.ensures.placed
 
-pub returns-in-Ok-clause-packets : goal.returns-in-Ok-clause-packets
-returns-in-Ok-clause-packets g c w vr views are is =
+pub returns-in-Ok-clause-step : goal.returns-in-Ok-clause-step
+returns-in-Ok-clause-step g c w vr views are is =
     let unit = c.in-Some.unit.now in
-    let ended = ended_more w vr c.args.incomplete.now.items views c.args.frame.now unit (channel_at c.vc.result (header_at unit).map)
-    are (omega (arith, c.vc.ensures.value, c.vc.ensures.fits))
+    reported_more w vr c.args.incomplete.now.items views c.args.frame.now unit c.vc.result c.in-Ok.step are (omega (arith, c.vc.ensures.value, c.vc.ensures.fits))
     (unit_on c.args.verdict _ w vr views c.args.frame.now (unit ∷ []) is c.content.ensures.value c.in-Some.ensures.unit)
-    (ap map_of (sym c.content.ensures.value) ∙ c.in-Some.ensures.map) (ap (λ n. channel_at n (header_at unit).map) c.vc.ensures.value) in
-    c.in-Ok.ensures.packets ∙ ap (λ l. length (without_idle l)) (sym ended)
+    (ap map_of (sym c.content.ensures.value) ∙ c.in-Some.ensures.map) c.vc.ensures.value (sym is ∙ c.in-Some.ensures.accepted) c.in-Ok.ensures.step
 
-pub returns-in-Ok-clause-idle : goal.returns-in-Ok-clause-idle
-returns-in-Ok-clause-idle g c w vr views are is =
-    let unit = c.in-Some.unit.now in
-    let ended = ended_more w vr c.args.incomplete.now.items views c.args.frame.now unit (channel_at c.vc.result (header_at unit).map)
-    are (omega (arith, c.vc.ensures.value, c.vc.ensures.fits))
-    (unit_on c.args.verdict _ w vr views c.args.frame.now (unit ∷ []) is c.content.ensures.value c.in-Some.ensures.unit)
-    (ap map_of (sym c.content.ensures.value) ∙ c.in-Some.ensures.map) (ap (λ n. channel_at n (header_at unit).map) c.vc.ensures.value) in
-    c.in-Ok.ensures.idle ∙ ap (λ l. length (only_idle l)) (sym ended)
+pub returns-in-None-clause-step : goal.returns-in-None-clause-step
+returns-in-None-clause-step g c w vr views are is =
+    reported_none w vr views c.args.frame.now c.args.verdict is
+    (unit_on c.args.verdict _ w vr views c.args.frame.now [] is c.content.ensures.value c.in-None.ensures.none)
 
-pub returns-in-Ok-clause-tail : goal.returns-in-Ok-clause-tail
-returns-in-Ok-clause-tail g c w vr views are is =
-    let unit = c.in-Some.unit.now in
-    told_at w vr c.args.incomplete.now.items views c.args.frame.now unit 0 tail_of tail_after tail_next c.vc.result c.in-Ok.handed.tail
-    are (omega (arith, c.vc.ensures.value, c.vc.ensures.fits))
-    (unit_on c.args.verdict _ w vr views c.args.frame.now (unit ∷ []) is c.content.ensures.value c.in-Some.ensures.unit)
-    (ap map_of (sym c.content.ensures.value) ∙ c.in-Some.ensures.map) c.vc.ensures.value c.in-Ok.ensures.tail
-
-pub returns-in-None-clause-tail : goal.returns-in-None-clause-tail
-returns-in-None-clause-tail g c w vr views are is =
-    sym (told_none 0 tail_of w vr views c.args.frame.now
-    (unit_on c.args.verdict _ w vr views c.args.frame.now [] is c.content.ensures.value c.in-None.ensures.none))
+pub returns-in-Err-clause-counted : goal.returns-in-Err-clause-counted
+returns-in-Err-clause-counted g c =
+    counts_stopped g.S.PacketSink.taking g.S.PacketSink.failing g.S.PacketSink.failures c.args.sink.now _ _ c.in-Err.flow c.take_unit.new.sink c.in-Err.ensures.stopped
 
 pub returns-in-Ok-clause-accepted : goal.returns-in-Ok-clause-accepted
 returns-in-Ok-clause-accepted g c w vr views are is =

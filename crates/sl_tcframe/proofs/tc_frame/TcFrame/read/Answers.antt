@@ -1,5 +1,5 @@
 use Rattle.std.proofs.Common.{◌-◌, ◌∙◌, List, length, take, drop, sym, ap, ℕ}
-use Rattle.sl_fields.specs.Fecf.{fecf_len}
+use Rattle.sl_fields.specs.FecfField.{fecf_len}
 use Rattle.sl_tcframe.specs.TcContent.{content}
 use Rattle.sl_tcframe.specs.TcFrame.{TcFormat}
 use Rattle.sl_tcframe.proofs.TcFrameLemmas.{field_lies, read_content, read_none}

@@ -2,11 +2,12 @@ use Rattle.std.proofs.Common.{length, refl, sym, ◌∙◌, ap, subst, arith}
 use Rattle.sl_packet.specs.Packets.{only_idle, without_idle}
 use Rattle.sl_packet.specs.Sink.{TakesAll}
 use Rattle.sl_packet.specs.Stopping.{IsStopped}
+use Rattle.sl_packet.proofs.StoppingLemmas.{counts_stopped}
 use Rattle.std.specs.List.{slice_index_or}
 use Rattle.sl_tmflow.specs.Channel.{channel_of}
 use Rattle.sl_tmflow.proofs.AnomalyLemmas.{foreign_is}
 use Rattle.sl_tmflow.proofs.ChannelLemmas.{ended_now, processed_more, seen_at}
-use Rattle.sl_tmflow.proofs.SeenLemmas.{dropped_seen, gap_seen}
+use Rattle.sl_tmflow.proofs.SeenLemmas.{dropped_seen, gap_seen, incomplete_around}
 use Rattle.sl_tmflow.proofs.extractor.Extractor.frame.Goals as goal
 
 pub returns-in-Err-clause-stopped : goal.returns-in-Err-clause-stopped
@@ -46,3 +47,13 @@ returns-clause-dropped g c =
 
 pub returns-clause-foreign : goal.returns-clause-foreign
 returns-clause-foreign g c = c.in-Ok.ensures.foreign ∙ sym (foreign_is c.args.frame.now.field)
+
+pub returns-in-Err-clause-memory : goal.returns-in-Err-clause-memory
+returns-in-Err-clause-memory g c =
+    λ memory views p. incomplete_around (slice_index_or c.self.inside.channels c.from.result c.index-self-from.result) views c.args.frame.now
+    (seen_at c.args.self.now views c.self.inside.channels c.from.result c.args.frame.now.vc c.index-self-from.result p (ap (λ s. s.channels) c.self.view_is) (omega arith) (omega arith) (omega arith))
+    (c.in-Err.ensures.memory memory)
+
+pub returns-in-Err-clause-counted : goal.returns-in-Err-clause-counted
+returns-in-Err-clause-counted g c =
+    counts_stopped g.S.PacketSink.taking g.S.PacketSink.failing g.S.PacketSink.failures c.args.sink.now _ _ c.in-Err.fault c.take.new.sink c.in-Err.ensures.stopped

@@ -1,6 +1,6 @@
-use Rattle.std.proofs.Common.{ℕ, ◌-◌, ◌∙◌, List, length, take, drop, sym, ap, arith, if◌then◌else◌}
+use Rattle.std.proofs.Common.{ℕ, ◌-◌, ◌∙◌, List, length, take, drop, sym, ap, arith}
 use Rattle.sl_tmframe.specs.TmField.{data_field}
-use Rattle.sl_fields.specs.Fecf.{fecf_len}
+use Rattle.sl_fields.specs.FecfField.{fecf_len}
 use Rattle.sl_tmframe.specs.TmFrame.{TmFormat}
 use Rattle.sl_tmframe.proofs.TmFrameLemmas.{read_parts}
 use Rattle.sl_tmframe.proofs.tm_frame.TmFrame.read.Goals as goal

@@ -1,0 +1,49 @@
+-- The report of the next frame, from what is incomplete at the index of its unit.
+use Rattle.std.proofs.Common.{◌≡◌, ℕ, ◌<◌, false, List, [], ◌∷◌, length, Option, None, refl, sym, ◌∙◌, ap}
+use Rattle.sl_cop.specs.declared.verdict.Verdict.{Verdict}
+use Rattle.sl_cop.specs.declared.verdict.Verdict.TheVariants.{Accept}
+use Rattle.sl_packet.specs.Packets.{only_idle, without_idle}
+use Rattle.sl_tcframe.specs.TcFrame.{TcView}
+use Rattle.sl_tcflow.specs.AcceptedUnit.{unit_by}
+use Rattle.sl_tcflow.specs.Anomaly.{IsReportedOf, dropped_of, long_of, stray_of, tail_of}
+use Rattle.sl_tcflow.specs.NextSegment.{IsReported, dropped_with, long_with, quiet_report, stray_with, tail_after}
+use Rattle.sl_tcflow.specs.Placed.{at}
+use Rattle.sl_tcflow.specs.Receiving.{AreIncomplete, channel_at, map_of, verdict_on}
+use Rattle.sl_tcflow.specs.Series.{flags_of, header_at, octets_at}
+use Rattle.sl_tcflow.specs.StepReport.{StepReport}
+use Rattle.sl_tcflow.proofs.AnomalyLemmas.{told_at, told_none}
+use Rattle.sl_tcflow.proofs.EndedLemmas.{tail_next}
+use Rattle.sl_tcflow.proofs.UnitLemmas.{ended_more, ended_none}
+
+-- of a frame whose unit is accepted
+pub reported_more : (w vr : ℕ) (old : List (Option (List ℕ))) (views : List TcView) (next : TcView) (unit : List ℕ) (vc : ℕ) (step : StepReport)
+    → AreIncomplete w vr old views → next.vc < 64 → unit_by (verdict_on w vr views next) next.content ≡ unit ∷ []
+    → map_of next.content ≡ (header_at unit).map → vc ≡ next.vc → verdict_on w vr views next ≡ Accept
+    → IsReported (at old (channel_at vc (header_at unit).map)) (flags_of unit) (octets_at unit) step → IsReportedOf w vr views next step
+reported_more w vr old views next unit vc step are inside unit_is mid_is same_vc accepted r =
+    let mid = (header_at unit).map in
+    let ended = ended_more w vr old views next unit (channel_at vc mid) are inside unit_is mid_is (ap (λ n. channel_at n mid) same_vc) in
+    record {
+      verdict = r.verdict ∙ sym accepted;
+      packets = r.packets ∙ ap (λ l. length (without_idle l)) (sym ended);
+      idle = r.idle ∙ ap (λ l. length (only_idle l)) (sym ended);
+      stray = told_at w vr old views next unit false stray_of (λ held segment. stray_with held (flags_of segment)) (λ list segment. refl) vc step.stray are inside unit_is mid_is same_vc r.stray;
+      dropped = told_at w vr old views next unit None dropped_of (λ held segment. dropped_with held (flags_of segment)) (λ list segment. refl) vc step.dropped are inside unit_is mid_is same_vc r.dropped;
+      long = told_at w vr old views next unit false long_of (λ held segment. long_with held (flags_of segment) (octets_at segment)) (λ list segment. refl) vc step.long are inside unit_is mid_is same_vc r.long;
+      tail = told_at w vr old views next unit 0 tail_of tail_after tail_next vc step.tail are inside unit_is mid_is same_vc r.tail;
+    }
+
+-- and of one without an accepted unit
+pub reported_none : (w vr : ℕ) (views : List TcView) (next : TcView) (verdict : Verdict) → verdict ≡ verdict_on w vr views next
+    → unit_by (verdict_on w vr views next) next.content ≡ [] → IsReportedOf w vr views next (record quiet_report { verdict = verdict })
+reported_none w vr views next verdict is none =
+    let ended = ended_none w vr views next none in
+    record {
+      verdict = is;
+      packets = ap (λ l. length (without_idle l)) (sym ended);
+      idle = ap (λ l. length (only_idle l)) (sym ended);
+      stray = sym (told_none false stray_of w vr views next none);
+      dropped = sym (told_none None dropped_of w vr views next none);
+      long = sym (told_none false long_of w vr views next none);
+      tail = sym (told_none 0 tail_of w vr views next none);
+    }

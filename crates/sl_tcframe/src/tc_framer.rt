@@ -1,0 +1,187 @@
+//! TC frames out of a recording that comes in chunks.
+ghost use Rattle.std.specs.Prelude.{◌≡◌, ◌↔◌, IsTrue, ◌-◌, ◌≤◌, ◌<◌, ◌++◌, nat_lt, true, false, length, take, drop, Some, None, IfSome, IfNone, if◌then◌else◌};
+ghost use Rattle.std.specs.Borrow.{sem};
+ghost use Rattle.std.specs.Io.BufRead.{Rests};
+ghost use Rattle.sl_tcframe.specs.TcFrame.{is_cut, stated_len};
+ghost use Rattle.sl_tcframe.specs.TcFraming.{BeginsWithFrame, BelowLeast, IsRest, TakesUpToFrame, front_of, is_below_least, len_by_four};
+
+use crate::tc_shape::TcShape;
+use arrayvec::ArrayVec;
+use sl_fields::TcHeader;
+use std::marker::Model;
+
+/// Takes the octets of a recording in chunks, and lends each TC transfer frame (CCSDS 232.0-B) that they complete. It
+/// keeps one frame at most, and takes no memory.
+#[derive(Drop)]
+pub struct TcFramer {
+    shape: TcShape,
+    is_lent: bool,
+    taken: ArrayVec<u8, 1024>,
+}
+
+impl Model for TcFramer {
+    ghost use Rattle.sl_tcframe.specs.TcFraming.{TcFraming, framing_of, IsTcFramer};
+
+    ghost Value = { TcFraming };
+
+    ghost view = { framing_of };
+
+    ghost invariant = { IsTcFramer };
+}
+
+impl TcFramer {
+    ghost use Rattle.sl_tcframe.specs.TcFraming.{Answers, IsStuck, HasTaken, StaysStuck, YieldsFrame, YieldsNone, at_start};
+    ghost use Rattle.sl_tcframe.specs.contracts.tc_framer.TcFramer.{the_row};
+
+    /// A framer for frames of this format that has taken no octet yet.
+    pub fn new(shape: &TcShape) -> TcFramer
+        ensures { result ≡ at_start shape.now }
+    {
+        TcFramer {
+            shape: *shape,
+            is_lent: false,
+            taken: ArrayVec::new(),
+        }
+    }
+
+    /// The octets that were taken after the last frame: fewer than are wanted for one, or four that state a length
+    /// below the least of a frame.
+    pub fn rest(&self) -> &[u8]
+        ensures octets { result.now ≡ self.now.rest }
+        ensures part { IsRest self.now.format result.now }
+    {
+        if self.is_lent {
+            return &[];
+        }
+        self.taken.as_slice()
+    }
+
+    /// Whether the first four octets of [`rest`](TcFramer::rest) state a length below the least of a frame. No frame
+    /// is lent from then on.
+    pub fn stuck(&self) -> bool
+        ensures { IsTrue result ↔ IsStuck self.now }
+    {
+        match len_by_four(self.rest()) {
+            Some(len) => len < usize::from(self.shape.least()),
+            None => false,
+        }
+    }
+
+    /// Takes octets from the front of the chunk, and lends the frame that they complete with those taken before, also
+    /// where it is longer than the managed greatest length. `None` comes where the chunk is used up before a frame is
+    /// whole, and where four octets state a length below the least of a frame: no octet after these is ever taken.
+    pub fn next(&mut self, piece: &mut &[u8]) -> Option<&[u8]>
+        ensures* taken { sem 𝓛 (Rests the_row self.entry (HasTaken self.old piece.old.now result)) }
+        // A frame has the octets that were taken after the last one, and then those from the front of the chunk.
+        ensures frame { IfSome result (λ frame. YieldsFrame self.old piece.old.now frame.now piece.new.now) }
+        ensures cut { IfSome result (λ frame. is_cut self.old.format frame.now ≡ true) }
+        ensures none { IfNone result (YieldsNone self.old piece.old.now piece.new.now) }
+        // Once it is stuck it stays so, whatever comes.
+        ensures stuck { StaysStuck self.old piece.old.now result piece.new.now }
+    {
+        if self.is_lent {
+            self.taken.clear();
+            self.is_lent = false;
+        }
+        if !complete(&self.shape, &mut self.taken, piece) {
+            return None;
+        }
+        self.is_lent = true;
+        Some(self.taken.as_slice())
+    }
+
+    /// As [`next`](TcFramer::next), for octets that outlive the frame: one that lies whole in the chunk is lent from
+    /// there, and only one that lies in several chunks is copied.
+    #[inline]
+    pub fn next_from<'a, 'p: 'a>(&'a mut self, piece: &mut &'p [u8]) -> Option<&'a [u8]>
+        ensures* taken { sem 𝓛 (Rests the_row self.entry (HasTaken self.old piece.old.now result)) }
+        ensures frame { IfSome result (λ frame. YieldsFrame self.old piece.old.now frame.now piece.new.now) }
+        ensures cut { IfSome result (λ frame. is_cut self.old.format frame.now ≡ true) }
+        ensures none { IfNone result (YieldsNone self.old piece.old.now piece.new.now) }
+        ensures stuck { StaysStuck self.old piece.old.now result piece.new.now }
+    {
+        // The caller's own reference isn't lent to the cold call, so it may stay in registers.
+        let mut octets: &'p [u8] = *piece;
+        if self.rest().is_empty() {
+            if let Some((frame, later)) = split_frame(&self.shape, octets) {
+                *piece = later;
+                return Some(frame);
+            }
+        }
+        let frame = self.next_across(&mut octets);
+        *piece = octets;
+        frame
+    }
+
+    // Lends a frame that lies in several chunks, if one is whole then.
+    #[cold]
+    fn next_across(&mut self, piece: &mut &[u8]) -> Option<&[u8]>
+        ensures* taken { sem 𝓛 (Rests the_row self.entry (HasTaken self.old piece.old.now result)) }
+        ensures answer { Answers self.old piece.old.now result piece.new.now }
+        ensures stuck { StaysStuck self.old piece.old.now result piece.new.now }
+    {
+        self.next(piece)
+    }
+}
+
+// The frame that octets begin with, where one is whole, and those after it.
+#[inline]
+fn split_frame<'p>(shape: &TcShape, octets: &'p [u8]) -> Option<(&'p [u8], &'p [u8])>
+    ensures { IfSome result (λ parts. BeginsWithFrame shape.now octets.now parts.0.now parts.1.now) }
+{
+    let len = len_by_four(octets)?;
+    if len < usize::from(shape.least()) || octets.len() < len {
+        return None;
+    }
+    Some(octets.split_at(len))
+}
+
+// Takes octets from the front of the chunk until a frame is whole, and answers whether one is.
+fn complete(shape: &TcShape, taken: &mut ArrayVec<u8, 1024>, chunk: &mut &[u8]) -> bool
+    requires { IsRest shape.now taken.old.items }
+    ensures taken { TakesUpToFrame shape.now taken.old.items chunk.old.now result taken.new.items chunk.new.now }
+    ensures stuck { front_of shape.now taken.old.items ≡ BelowLeast → (result ≡ false) × (taken.new.items ≡ taken.old.items) × (chunk.new.now ≡ chunk.old.now) }
+{
+    fill(taken, chunk, 4);
+    let len = match len_by_four(taken.as_slice()) {
+        Some(len) => len,
+        None => return false,
+    };
+    if len < usize::from(shape.least()) {
+        return false;
+    }
+    fill(taken, chunk, len);
+    is_whole(taken.as_slice(), len)
+}
+
+// Whether there are as many octets as the first four state.
+fn is_whole(octets: &[u8], len: usize) -> bool
+    requires stated { len ≡ len_by_four octets.now }
+    requires header { 5 ≤ len }
+    ensures whole { result ≡ true → (len ≤ length octets.now) × (len ≡ stated_len octets.now) }
+    ensures part { result ≡ false → length octets.now < len }
+{
+    octets.len() >= len
+}
+
+// The octets of the frame that begins here, where four state them.
+fn len_by_four(octets: &[u8]) -> Option<usize>
+    ensures value { result ≡ (if nat_lt (length octets.now) 4 then None else Some (len_by_four octets.now)) }
+    ensures most { IfSome result (λ len. len ≤ 1024) }
+{
+    let &[first, second, third, fourth] = octets.first_chunk::<4>()?;
+    let header = TcHeader::read(&[first, second, third, fourth, 0]);
+    Some(usize::from(header.length()) + 1)
+}
+
+// Takes octets from the front of the chunk until there are so many, or none is left.
+fn fill(taken: &mut ArrayVec<u8, 1024>, chunk: &mut &[u8], count: usize)
+    requires { count ≤ 1024 }
+    ensures taken { taken.new.items ≡ taken.old.items ++ take (count - length taken.old.items) chunk.old.now }
+    ensures left { chunk.new.now ≡ drop (count - length taken.old.items) chunk.old.now }
+{
+    let wanted = count.saturating_sub(taken.len()).min(chunk.len());
+    let (front, behind) = chunk.split_at(wanted);
+    let _ = taken.try_extend_from_slice(front);
+    *chunk = behind;
+}

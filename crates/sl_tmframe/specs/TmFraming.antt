@@ -1,0 +1,94 @@
+-- Delimiting TM frames in a recording that comes in chunks.
+use Rattle.std.specs.Prelude.{◌≡◌, ⊤, ℕ, ◌<◌, ◌≤◌, Bool, true, false, List, [], ◌∷◌, ◌++◌, length, Option, None, Some}
+use Rattle.std.specs.Borrow.{Bor}
+use Rattle.std.specs.List.{concat}
+use Rattle.sl_fields.specs.Field.{IsOctets}
+use Rattle.sl_tmframe.specs.TmDelimited.{IsTmDelimited, tm_frames_of}
+use Rattle.sl_tmframe.specs.declared.tm_framer.TmFramer.TheInside.{Inside}
+
+-- the length of each frame, and the octets that were taken after the last one
+pub record TmFraming : Type 0 where
+  pub len : ℕ
+  pub rest : List ℕ
+
+-- no octet was taken
+abbrev pub at_start : ℕ → TmFraming
+at_start len = record { len = len; rest = [] }
+
+-- a frame that is lent is no longer among the octets
+abbrev pub rest_of : Bool → List ℕ → List ℕ
+rest_of true taken = []
+rest_of false taken = taken
+
+abbrev pub framing_of : Inside → TmFraming
+framing_of f = record { len = f.len; rest = rest_of f.is_lent f.taken.items }
+
+-- unless a frame is lent, fewer octets are taken than a frame has
+abbrev pub FitsLen : Bool → ℕ → ℕ → Type 0
+FitsLen true taken len = ⊤
+FitsLen false taken len = taken < len
+
+pub record IsTmFramer (f : Inside) : Type 0 where
+  pub least : 32 ≤ f.len
+  pub most : f.len ≤ 2048
+  pub fits : FitsLen f.is_lent (length f.taken.items) f.len
+
+-- ---- one call, with a chunk
+
+-- The frame has the octets that were taken after the last one, and then those from the front of the chunk, of which
+-- the others are left.
+pub record YieldsFrame (old : TmFraming) (chunk frame left : List ℕ) : Type 0 where
+  pub parts : old.rest ++ chunk ≡ frame ++ left
+  pub whole : length frame ≡ old.len
+
+-- The octets are too few for a frame, and all of the chunk is taken.
+pub record UsesUpChunk (old : TmFraming) (chunk left : List ℕ) : Type 0 where
+  pub short : length (old.rest ++ chunk) < old.len
+  pub none_left : left ≡ []
+
+-- after it: nothing was taken after a frame that is lent
+abbrev pub after_call : TmFraming → List ℕ → Option (List ℕ) → TmFraming
+after_call old chunk (Some frame) = record { len = old.len; rest = [] }
+after_call old chunk None = record { len = old.len; rest = old.rest ++ chunk }
+
+abbrev pub lent_octets : Option (Bor (List ℕ)) → Option (List ℕ)
+lent_octets None = None
+lent_octets (Some octets) = Some octets.now
+
+-- what stands after a call with this chunk that gave this answer
+abbrev pub HasTaken : TmFraming → List ℕ → Option (Bor (List ℕ)) → TmFraming → Type 0
+HasTaken old chunk answer new = new ≡ after_call old chunk (lent_octets answer)
+
+-- what the answer says of the chunk: a frame is lent, or it was used up first
+abbrev pub Answers : TmFraming → List ℕ → Option (Bor (List ℕ)) → List ℕ → Type 0
+Answers old chunk None left = UsesUpChunk old chunk left
+Answers old chunk (Some frame) left = YieldsFrame old chunk frame.now left
+
+-- ---- calls with chunks, one after another
+
+-- A chunk is given until it is used up, then the next one. These frames are yielded, and this is left.
+pub data YieldsFrames : TmFraming → List (List ℕ) → List (List ℕ) → TmFraming → Type 0 where
+  ended : (f : TmFraming) → YieldsFrames f [] [] f
+  yielded : (f new : TmFraming) (chunk frame left : List ℕ) (chunks frames : List (List ℕ)) → YieldsFrame f chunk frame left
+      → YieldsFrames (after_call f chunk (Some frame)) (left ∷ chunks) frames new → YieldsFrames f (chunk ∷ chunks) (frame ∷ frames) new
+  used_up : (f new : TmFraming) (chunk left : List ℕ) (chunks frames : List (List ℕ)) → UsesUpChunk f chunk left
+      → YieldsFrames (after_call f chunk None) chunks frames new → YieldsFrames f (chunk ∷ chunks) frames new
+
+-- ---- laws
+
+-- The frames that are yielded are those of the recording that the chunks are end to end, and its remainder is left.
+abbrev pub ChunksAreDelimited : Type 0
+ChunksAreDelimited =
+    (len : ℕ) (chunks frames : List (List ℕ)) (new : TmFraming) → 0 < len → YieldsFrames (at_start len) chunks frames new
+    → IsTmDelimited len (concat chunks) frames new.rest
+
+-- Octets that are too few for a frame become one by others that follow.
+abbrev pub ShortBecomesFrame : Type 0
+ShortBecomesFrame =
+    (len : ℕ) (octets : List ℕ) → length octets < len
+    → (more : List ℕ) × IsOctets more × (tm_frames_of len (octets ++ more) ≡ (octets ++ more) ∷ [])
+
+-- Any chunks are taken so.
+abbrev pub AnyChunksAreTaken : Type 0
+AnyChunksAreTaken =
+    (len : ℕ) (chunks : List (List ℕ)) → 0 < len → (frames : List (List ℕ)) × (new : TmFraming) × YieldsFrames (at_start len) chunks frames new

@@ -1,0 +1,110 @@
+//! TM frames out of a recording that comes in chunks.
+ghost use Rattle.std.specs.Prelude.{◌≡◌, ◌<◌, [], length, IfSome, IfNone};
+ghost use Rattle.std.specs.Borrow.{sem};
+ghost use Rattle.std.specs.Io.BufRead.{Rests};
+
+use crate::tm_shape::TmShape;
+use arrayvec::ArrayVec;
+use std::marker::Model;
+
+/// Takes the octets of a recording in chunks, and lends each TM transfer frame (CCSDS 132.0-B) that they complete. It
+/// keeps one frame at most, and takes no memory.
+#[derive(Drop)]
+pub struct TmFramer {
+    len: u16,
+    is_lent: bool,
+    taken: ArrayVec<u8, 2048>,
+}
+
+impl Model for TmFramer {
+    ghost use Rattle.sl_tmframe.specs.TmFraming.{TmFraming, framing_of, IsTmFramer};
+
+    ghost Value = { TmFraming };
+
+    ghost view = { framing_of };
+
+    ghost invariant = { IsTmFramer };
+}
+
+impl TmFramer {
+    ghost use Rattle.sl_tmframe.specs.TmFraming.{Answers, HasTaken, UsesUpChunk, YieldsFrame, at_start};
+    ghost use Rattle.sl_tmframe.specs.contracts.tm_framer.TmFramer.{the_row};
+
+    /// A framer for frames of this format that has taken no octet yet.
+    pub fn new(shape: &TmShape) -> TmFramer
+        ensures { result ≡ at_start shape.now.len }
+    {
+        TmFramer {
+            len: shape.len(),
+            is_lent: false,
+            taken: ArrayVec::new(),
+        }
+    }
+
+    /// The octets that were taken after the last frame, fewer than a frame has.
+    pub fn rest(&self) -> &[u8]
+        ensures octets { result.now ≡ self.now.rest }
+        ensures short { length result.now < self.now.len }
+    {
+        if self.is_lent {
+            return &[];
+        }
+        self.taken.as_slice()
+    }
+
+    /// Takes octets from the front of the chunk, and lends the frame that they complete with those taken before.
+    /// `None` comes where the chunk is used up before a frame is whole.
+    pub fn next(&mut self, piece: &mut &[u8]) -> Option<&[u8]>
+        ensures* taken { sem 𝓛 (Rests the_row self.entry (HasTaken self.old piece.old.now result)) }
+        // A frame has the octets that were taken after the last one, and then those from the front of the chunk.
+        ensures frame { IfSome result (λ frame. YieldsFrame self.old piece.old.now frame.now piece.new.now) }
+        // Without one the chunk was used up first.
+        ensures used_up { IfNone result (UsesUpChunk self.old piece.old.now piece.new.now) }
+    {
+        if self.is_lent {
+            self.taken.clear();
+            self.is_lent = false;
+        }
+        let wanted = usize::from(self.len) - self.taken.len();
+        if piece.len() < wanted {
+            let _ = self.taken.try_extend_from_slice(piece);
+            *piece = &[];
+            return None;
+        }
+        let (front, behind) = piece.split_at(wanted);
+        let _ = self.taken.try_extend_from_slice(front);
+        *piece = behind;
+        self.is_lent = true;
+        Some(self.taken.as_slice())
+    }
+
+    /// As [`next`](TmFramer::next), for octets that outlive the frame: one that lies whole in the chunk is lent from
+    /// there, and only one that lies in several chunks is copied.
+    #[inline]
+    pub fn next_from<'a, 'p: 'a>(&'a mut self, piece: &mut &'p [u8]) -> Option<&'a [u8]>
+        ensures* taken { sem 𝓛 (Rests the_row self.entry (HasTaken self.old piece.old.now result)) }
+        ensures frame { IfSome result (λ frame. YieldsFrame self.old piece.old.now frame.now piece.new.now) }
+        ensures used_up { IfNone result (UsesUpChunk self.old piece.old.now piece.new.now) }
+    {
+        // The caller's own reference isn't lent to the cold call, so it may stay in registers.
+        let mut octets: &'p [u8] = *piece;
+        if self.rest().is_empty() {
+            if let Some((frame, later)) = octets.split_at_checked(usize::from(self.len)) {
+                *piece = later;
+                return Some(frame);
+            }
+        }
+        let frame = self.next_across(&mut octets);
+        *piece = octets;
+        frame
+    }
+
+    // Lends a frame that lies in several chunks.
+    #[cold]
+    fn next_across(&mut self, piece: &mut &[u8]) -> Option<&[u8]>
+        ensures* taken { sem 𝓛 (Rests the_row self.entry (HasTaken self.old piece.old.now result)) }
+        ensures answer { Answers self.old piece.old.now result piece.new.now }
+    {
+        self.next(piece)
+    }
+}

@@ -1,2 +1,4 @@
 pub mod FarmLemmas
 pub mod FarmFacts
+pub mod ReorderedLemmas
+pub mod ReorderedFacts

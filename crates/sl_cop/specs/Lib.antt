@@ -1,4 +1,6 @@
+pub mod Accepted
 pub mod Farm
 pub mod FarmClcw
 pub mod FarmModel
+pub mod Reordered
 pub use Rattle.sl_fields.specs.Clcw

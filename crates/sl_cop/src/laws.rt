@@ -2,6 +2,7 @@
 ghost use Rattle.sl_cop.specs.Farm.{EachHasStep, HasStepOnce};
 ghost use Rattle.sl_cop.specs.Farm.{EachHasRun, HasRunOnce, RunsGoOn, RunsEndInAStep, RunsAreSteps};
 ghost use Rattle.sl_cop.specs.Farm.{CopiesAreAcceptedOnce, LockoutRefuses, OnlyUnlockEndsLockout, LockoutLastsUntilUnlock, VrHasACause};
+ghost use Rattle.sl_cop.specs.Reordered.{AcceptedInOrder, VrCountsAccepted, InWindowAreNear, WindowKeepsOpen, ExpectedIsAccepted};
 
 /// The table of FARM-1 has one case for each state and event: one verdict and one state after it.
 pub fn events_have_one_step()
@@ -37,4 +38,18 @@ pub fn lockout_lasts_until_unlock()
 /// V(R) changes only by an accepted frame of type AD, or by Set V(R) in the open state.
 pub fn vr_has_a_cause()
     ensures { VrHasACause }
+{}
+
+/// Frames of type AD are sent with N(S) counting from the initial V(R) on, modulo 256. Copies of them arrive in any
+/// order, any of them lost or repeated, with frames of type BD and Unlock between them, and no Set V(R). Where each copy
+/// is less than 256 away from the frame that is expected when it arrives, the accepted copies are those of a prefix of
+/// what was sent, in order, each frame once, and V(R) is at each moment the initial one plus their number, modulo 256.
+/// That holds whatever the window. Where each copy is in a window of at most 256 numbers then, it is less than 256 away,
+/// the Lockout flag is never set, and each copy of the frame that is expected is accepted.
+pub fn copies_are_accepted_in_order()
+    ensures order { AcceptedInOrder }
+    ensures vr { VrCountsAccepted }
+    ensures near { InWindowAreNear }
+    ensures open { WindowKeepsOpen }
+    ensures expected { ExpectedIsAccepted }
 {}

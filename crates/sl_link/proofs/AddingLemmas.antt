@@ -32,19 +32,6 @@ module _ {W : Type 0} (contents : W → Option (List ℕ)) where
         no_fault = w.no_fault ∙ a.no_fault;
       }
 
-  -- a text, and then another
-  pub WritesText-trans : (old mid new : Counted W) (text more : List ℕ) → WritesText contents old mid text → WritesText contents mid new more
-      → WritesText contents old new (text ++ more)
-  WritesText-trans old mid new text more a w =
-      record {
-        writes = Appends-trans (contents (stream_of old)) (contents (stream_of mid)) (contents (stream_of new)) text more a.writes w.writes;
-        no_fault = w.no_fault ∙ a.no_fault;
-      }
-
-  -- a text that is written whole was added to nothing that waited
-  pub added_whole : (old new : Counted W) (text : List ℕ) → WritesText contents old new text → AddsText contents old new [] [] text
-  added_whole old new text w = record { written = text; parts = sym (append-nil text); writes = w.writes; no_fault = w.no_fault }
-
   -- a failed writer is a fault of a listing
   pub stops_at_writer : (old new : Counted W) (text : List ℕ) (fault : LinkFault) → StopsWriting contents old new text fault → StopsListing contents old new text fault
   stops_at_writer old new text fault s =

@@ -1,63 +1,74 @@
--- What is amiss after the frames of a recording, and the totals.
-use Rattle.std.proofs.Common.{◌≡◌, ℕ, ◌+◌, ◌-◌, ◌≤◌, List, [], ◌∷◌, ◌++◌, length, Option, refl, ◌∙◌, ap, arith, length-append}
+-- TM frames that are checked one after another, and what is amiss after the last one.
+use Rattle.std.proofs.Common.{◌≡◌, ℕ, ◌+◌, ◌-◌, ◌*◌, ◌≤◌, List, [], ◌∷◌, ◌++◌, length, Option, refl, ◌∙◌, ap, sym, arith, length-append}
 use Rattle.std.specs.List.{concat}
-use Rattle.sl_tmframe.specs.TmDelimited.{tm_frames_of, tm_remainder_of}
-use Rattle.sl_tmframe.specs.TmFrame.{TmView}
 use Rattle.sl_tmflow.specs.Channel.{views_of}
-use Rattle.sl_tmflow.specs.Extraction.{ExtractorState, HasProcessed}
-use Rattle.sl_tmflow.specs.Recording.{recorded_views}
+use Rattle.sl_tmflow.specs.Extraction.{ExtractorState}
 use Rattle.sl_link.specs.declared.counted.Counted.{Counted}
 use Rattle.sl_link.specs.declared.check_tally.CheckTally.{CheckTally}
 use Rattle.sl_link.specs.Amiss.{remainder_amiss}
-use Rattle.sl_link.specs.Checking.{AreChecked, HasRoom, end_amiss, end_counts}
-use Rattle.sl_link.specs.CheckTm.{check_tm_counts, tm_amiss_from, tm_incomplete}
+use Rattle.sl_link.specs.Checking.{HasChecked, HasRoom, end_amiss, end_counts}
+use Rattle.sl_link.specs.CheckTm.{check_tm_counted, tm_amiss, tm_amiss_after, tm_end_amiss, tm_incomplete}
+use Rattle.sl_link.specs.Deliver.{as_read}
+use Rattle.sl_link.specs.DeliveringTm.{HasDelivered}
 use Rattle.sl_link.specs.Managed.{Parameters, tm_format}
-use Rattle.sl_link.specs.Streams.{AddsText}
-use Rattle.sl_link.proofs.StreamLemmas.{AddsText-more, AddsText-nil}
+use Rattle.sl_link.specs.Streams.{AddsText, WritesText}
+use Rattle.sl_link.specs.Verb.{lines_from}
 use Rattle.sl_link.proofs.DeliverLemmas.{same_counts}
 use Rattle.sl_link.proofs.IncompleteLineLemmas.{few_incomplete}
+use Rattle.sl_link.proofs.ListerLemmas.{lines_from-last}
 
-module _ (p : Parameters) (recording : List ℕ) (t : CheckTally) (checked : AreChecked p recording t) where
-  abbrev views : List TmView
-  views = recorded_views (tm_format p) p.spacecraft recording
+-- one frame more
+pub checked_more : (p : Parameters) (frames : List (List ℕ)) (frame : List ℕ) (e e' : ExtractorState) (t t' : CheckTally) → HasChecked p frames e t
+    → HasDelivered p (frames ++ frame ∷ []) e' t'.delivery
+    → t'.anomalies ≡ t.anomalies + length (tm_amiss_after p frames frame)
+    → t'.anomalies + 28 * t'.delivery.tally.frames ≤ t'.delivery.tally.octets
+    → HasChecked p (frames ++ frame ∷ []) e' t'
+checked_more p frames frame e e' t t' h delivered more room = record {
+  delivered = delivered;
+  anomalies = omega (
+    arith,
+    more,
+    h.anomalies,
+    ap length (lines_from-last (tm_amiss_after p) frames frame),
+    length-append (lines_from (tm_amiss_after p) [] frames) (tm_amiss_after p frames frame),
+  );
+  room = room;
+}
 
+-- its lines, at the offset that was counted
+pub amiss_is : (p : Parameters) (frames : List (List ℕ)) (frame : List ℕ) (e : ExtractorState) (t : CheckTally) → HasChecked p frames e t
+    → tm_amiss t.delivery.tally.octets (views_of (tm_format p) p.spacecraft frames) (as_read p frame) ≡ tm_amiss_after p frames frame
+amiss_is p frames frame e t h = ap (λ n. tm_amiss n (views_of (tm_format p) p.spacecraft frames) (as_read p frame)) h.delivered.counted.octets
+
+-- text that is added once what waited was written
+pub flushed_and : {W : Type 0} (contents : W → Option (List ℕ)) (old new : Counted W) (pending pending' text : List ℕ) → WritesText contents old new pending → pending' ≡ text
+    → AddsText contents old new pending pending' text
+flushed_and contents old new pending pending' text w e =
+    record { written = pending; parts = ap (λ l. pending ++ l) (sym e); writes = w.writes; no_fault = w.no_fault }
+
+module _ (p : Parameters) (frames : List (List ℕ)) (e : ExtractorState) (t : CheckTally) (h : HasChecked p frames e t) (octets : ℕ) (inside : length (concat frames) ≤ octets) where
   abbrev rest : ℕ
-  rest = length (tm_remainder_of p.tm_length recording)
+  rest = octets - length (concat frames)
 
-  abbrev lines : List (List ℕ)
-  lines = tm_amiss_from p 0 [] (tm_frames_of p.tm_length recording)
+  few_by : (fs : List (List ℕ)) → frames ≡ fs → t.anomalies + length (tm_incomplete octets (views_of (tm_format p) p.spacecraft frames)) ≤ t.delivery.tally.octets
+  few_by [] is =
+      let none : length (tm_incomplete octets []) ≡ 0 = refl in
+      let all = ap (λ fs. length (tm_incomplete octets (views_of (tm_format p) p.spacecraft fs))) is in
+      omega (arith, h.room, all, none)
+  few_by (frame ∷ fs) is = omega (arith, h.room, h.delivered.counted.number, ap length is, few_incomplete octets 8 (views_of (tm_format p) p.spacecraft frames))
 
-  abbrev after : List (List ℕ)
-  after = remainder_amiss (length recording - rest) rest ++ tm_incomplete (length recording) views
+  pub has_room : HasRoom e octets t
+  has_room = record { views = views_of (tm_format p) p.spacecraft frames; processed = h.delivered.processed; room = few_by frames refl }
 
-  few_by : (frames : List (List ℕ)) → tm_frames_of p.tm_length recording ≡ frames
-      → t.anomalies + length (tm_incomplete (length recording) views) ≤ t.delivery.tally.octets
-  few_by [] e =
-      let none : length (tm_incomplete (length recording) []) ≡ 0 = refl in
-      let all = ap (λ fs. length (tm_incomplete (length recording) (views_of (tm_format p) p.spacecraft fs))) e in
-      omega (arith, checked.room, all, none)
-  few_by (frame ∷ frames) e = omega (arith, checked.room, checked.frames, ap length e, few_incomplete (length recording) 8 views)
-
-  pub has_room : (state : ExtractorState) → HasProcessed state views → HasRoom state (length recording) t
-  has_room state processed = record { views = views; processed = processed; room = few_by (tm_frames_of p.tm_length recording) refl }
-
-  end_is : end_amiss (length recording) t views ≡ after
+  pub end_is : end_amiss octets t (views_of (tm_format p) p.spacecraft frames) ≡ tm_end_amiss p frames rest
   end_is =
-      let before : t.delivery.tally.octets ≡ length recording - rest = omega (arith, checked.octets) in
-      let left : length recording - (length recording - rest) ≡ rest = omega (arith, checked.octets) in
-      ap (λ n. remainder_amiss n (length recording - n) ++ tm_incomplete (length recording) views) before
-      ∙ ap (λ n. remainder_amiss (length recording - rest) n ++ tm_incomplete (length recording) views) left
+      let views = views_of (tm_format p) p.spacecraft frames in
+      let whole : octets ≡ length (concat frames) + rest = omega (arith, inside) in
+      ap (λ n. remainder_amiss n (octets - n) ++ tm_incomplete octets views) h.delivered.counted.octets
+      ∙ ap (λ n. remainder_amiss (length (concat frames)) rest ++ tm_incomplete n views) whole
 
-  pub all_counted : end_counts (length recording) t views ≡ check_tm_counts p recording
+  pub all_counted : end_counts octets t (views_of (tm_format p) p.spacecraft frames) ≡ check_tm_counted p frames rest
   all_counted =
-      let remainder = remainder_amiss (length recording - rest) rest in
-      let incomplete = tm_incomplete (length recording) views in
       same_counts _ _ _ _ _ _ _ _ _ _ _ _ _ _
-      refl checked.frames checked.skipped (omega (arith, checked.octets)) checked.packets checked.idle
-      (omega (arith, checked.anomalies, ap length end_is, length-append (lines ++ remainder) incomplete, length-append lines remainder, length-append remainder incomplete))
-
-  -- the lines after the frames, where nothing waited before them
-  pub ends_added : {W : Type 0} (contents : W → Option (List ℕ)) (writer : Counted W) (ended : List ℕ) → ended ≡ concat (end_amiss (length recording) t views)
-      → AddsText contents writer writer [] ended (concat after)
-  ends_added contents writer ended ends =
-      AddsText-more contents writer writer [] [] ended (concat after) (AddsText-nil contents writer []) (ends ∙ ap concat end_is)
+      (omega (arith, inside)) h.delivered.counted.number h.delivered.counted.skipped (ap (λ n. octets - n) h.delivered.counted.octets) h.delivered.packets h.delivered.idle
+      (omega (arith, h.anomalies, ap length end_is))

@@ -1,5 +1,5 @@
 -- The packets that end in one frame, as they are handed to the store of delivered packets.
-use Rattle.std.proofs.Common.{◌≡◌, ℕ, ◌+◌, ◌-◌, ◌*◌, ◌/◌, ◌^◌, ◌<◌, ◌≤◌, ◌==◌, Bool, true, false, Option, Some, None, List, [], ◌∷◌, ◌++◌, length, take, drop, Result, Ok, Err, refl, sym, ◌∙◌, ap, subst, arith, append_assoc, append-nil, length-drop, if◌then◌else◌}
+use Rattle.std.proofs.Common.{◌≡◌, ℕ, ◌+◌, ◌-◌, ◌*◌, ◌/◌, ◌^◌, ◌<◌, ◌≤◌, ◌==◌, Bool, true, false, Option, Some, None, List, [], ◌∷◌, ◌++◌, length, take, drop, Result, Ok, Err, refl, sym, ◌∙◌, ap, subst, arith, append_assoc, append-nil, length-append, length-drop, if◌then◌else◌}
 use Rattle.std.specs.List.{slice_index_or, slice_set}
 use Rattle.std.proofs.lemmas.List.{length-set, length-take, set-get_or, set-set}
 use Rattle.std.proofs.lemmas.Nat.{mod_below}
@@ -42,6 +42,14 @@ pub why_refused : (failing : PacketLists → ℕ → List ℕ → SinkFault → 
 why_refused failing failures why only packets old new channel flow fault is stopped =
     let s = (subst (λ f. IsStopped AddsPacket failing failures old channel packets f new) is stopped).0 in
     only s.before channel s.refused fault new s.fails
+
+-- and there was one
+pub some_refused : (failing : PacketLists → ℕ → List ℕ → SinkFault → PacketLists → Type 0) (failures : PacketLists → ℕ)
+    → (packets : List (List ℕ)) (old new : PacketLists) (channel : ℕ) (flow : FlowFault) (fault : SinkFault) → flow ≡ Sink fault
+    → IsStopped AddsPacket failing failures old channel packets flow new → 0 < length packets
+some_refused failing failures packets old new channel flow fault is stopped =
+    let s = (subst (λ f. IsStopped AddsPacket failing failures old channel packets f new) is stopped).0 in
+    omega (arith, ap length s.in_order, length-append s.accepted (s.refused ∷ s.later))
 
 -- ---- the virtual channel of a frame
 

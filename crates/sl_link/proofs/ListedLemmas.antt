@@ -1,5 +1,5 @@
 -- The listings of packets, TM and TC, have the packets that a recording delivers.
-use Rattle.std.proofs.Common.{◌≡◌, ◌/◌, ◌%◌, ◌<◌, ℕ, List, [], map, not, Result, Ok, Err, refl, sym, ◌∙◌, ap, ap₂, arith}
+use Rattle.std.proofs.Common.{◌≡◌, ◌/◌, ◌%◌, ◌<◌, ℕ, List, [], map, not, Result, Ok, Err, refl, sym, ◌∙◌, ap, ap₂, arith, append-nil}
 use Rattle.std.specs.List.{concat, slice_index_or}
 use Rattle.std.proofs.lemmas.List.Elements.{filter-append}
 use Rattle.sl_packet.specs.Delivered.{channel_count}
@@ -8,12 +8,14 @@ use Rattle.sl_packet.specs.Packets.{without_idle}
 use Rattle.sl_tcframe.specs.declared.tc_frame.TcSkip.{TcSkip}
 use Rattle.sl_tcframe.specs.TcDelimited.{tc_frames_of}
 use Rattle.sl_tcframe.specs.TcFrame.{TcView}
+use Rattle.sl_tcflow.specs.AcceptedUnit as accepted
 use Rattle.sl_tcflow.specs.Receiving as received
 use Rattle.sl_tcflow.specs.Recording.{map_channels, packets_in_channel}
 use Rattle.sl_tcflow.proofs.ChannelLemmas.{packets_other, packets_own, small_map}
 use Rattle.sl_tmframe.specs.declared.tm_frame.TmSkip.{TmSkip}
 use Rattle.sl_tmframe.specs.TmDelimited.{tm_frames_of}
 use Rattle.sl_tmframe.specs.TmFrame.{TmView}
+use Rattle.sl_tmflow.specs.Channel.{views_of}
 use Rattle.sl_tmflow.specs.Extraction as extracted
 use Rattle.sl_tmflow.specs.Recording.{packets_on, virtual_channels}
 use Rattle.sl_link.specs.declared.printer.ChannelKind.TheVariants.{VirtualChannel, Map}
@@ -24,11 +26,13 @@ use Rattle.sl_link.specs.PacketLine.{packet_line}
 use Rattle.sl_link.specs.PacketListing.{ListedPacket, line_of, TmPacketsAreListed, TcPacketsAreListed}
 use Rattle.sl_link.specs.PacketsTc as tc
 use Rattle.sl_link.specs.PacketsTm as tm
-use Rattle.sl_link.proofs.DeliverLemmas.{on_other, on_same}
+use Rattle.sl_link.specs.Verb.{lines_from}
+use Rattle.sl_link.proofs.DeliverLemmas.{on_other, on_same, views_next}
 use Rattle.sl_link.proofs.DeliveringLemmas.{all_seen, channels_are, views_after}
 use Rattle.sl_link.proofs.HandedLemmas.{small_vc, vc_or_none}
-use Rattle.sl_link.proofs.PacketListingLemmas.{AreDelivered, lines_at, listed_each, listed_from, listed_in, lines_from}
+use Rattle.sl_link.proofs.PacketListingLemmas.{AreDelivered, lines_at, listed_each, listed_from, listed_in, lines_are}
 use Rattle.sl_link.proofs.TcDeliverLemmas.{channel_fits}
+use Rattle.sl_link.proofs.TcDeliverLemmas as tc_delivering
 
 -- ---- TM
 
@@ -58,11 +62,11 @@ tm_one p views (Err reason) = refl
 tm_one p views (Ok view) =
     sym (lines_at (line_of VirtualChannel) (packet_line (tm.channel_text view.vc)) view.vc (tm_ended views view) (λ packet. refl))
 
-tm_lines : (p : Parameters) (views : List TmView) (frames : List (List ℕ))
-    → tm.tm_packet_lines_from p views frames ≡ concat (map (line_of VirtualChannel) (tm_listed p views frames))
-tm_lines p =
-    lines_from (tm_deliver.as_read p) tm_at tm_ended (line_of VirtualChannel) tm.tm_packet_lines (tm.tm_packet_lines_from p)
-    (λ views. refl) (λ views frame frames. refl) (tm_one p)
+tm_lines : (p : Parameters) (frames : List (List ℕ))
+    → lines_from (tm.packets_tm_listing p).line [] frames ≡ concat (map (line_of VirtualChannel) (tm_listed p [] frames))
+tm_lines p frames =
+    lines_are (tm_deliver.as_read p) tm_at tm_ended (line_of VirtualChannel) tm.tm_packet_lines (views_of (tm_format p) p.spacecraft)
+    (views_next (tm_format p) p.spacecraft) (tm_one p) [] frames
 
 tm_within : (p : Parameters) (frame : List ℕ) (view : TmView) → tm_deliver.as_read p frame ≡ Ok view → view.vc < 8
 tm_within p frame view is = let small = small_vc (tm_format p) p.spacecraft frame in omega (arith, small, ap vc_or_none is)
@@ -72,7 +76,7 @@ tm_packets_are_listed p recording =
     let frames = tm_frames_of p.tm_length recording in
     record {
       listed = tm_listed p [] frames;
-      lines = tm_lines p [] frames;
+      lines = append-nil (lines_from (tm.packets_tm_listing p).line [] frames) ∙ tm_lines p frames;
       each = λ channel.
           listed_each (tm_deliver.as_read p) tm_at tm_ended tm_on tm_delivered 8 frames (tm_within p) channel
           ∙ ap (λ views. slice_index_or (map (tm_on views) virtual_channels) channel []) (all_seen (tm_deliver.as_read p) [] frames);
@@ -111,18 +115,18 @@ tc_one p views (Ok view) =
     sym (lines_at (line_of Map) (packet_line (tc.channel_text view.vc mid)) (received.unit_channel view) (tc_ended p views view)
     (λ packet. ap₂ (λ v m. packet_line (tc.channel_text v m) packet) vc is))
 
-tc_lines : (p : Parameters) (views : List TcView) (frames : List (List ℕ))
-    → tc.tc_packet_lines_from p views frames ≡ concat (map (line_of Map) (tc_listed p views frames))
-tc_lines p =
-    lines_from (tc_deliver.as_read p) received.unit_channel (tc_ended p) (line_of Map) (tc.tc_packet_lines p.window p.vr) (tc.tc_packet_lines_from p)
-    (λ views. refl) (λ views frame frames. refl) (tc_one p)
+tc_lines : (p : Parameters) (frames : List (List ℕ))
+    → lines_from (tc.packets_tc_listing p).line [] frames ≡ concat (map (line_of Map) (tc_listed p [] frames))
+tc_lines p frames =
+    lines_are (tc_deliver.as_read p) received.unit_channel (tc_ended p) (line_of Map) (tc.tc_packet_lines p.window p.vr)
+    (accepted.views_of (tc_format p) p.spacecraft) (tc_delivering.views_next (tc_format p) p.spacecraft) (tc_one p) [] frames
 
 pub tc_packets_are_listed : TcPacketsAreListed
 tc_packets_are_listed p recording =
     let frames = tc_frames_of (tc_format p) recording in
     record {
       listed = tc_listed p [] frames;
-      lines = tc_lines p [] frames;
+      lines = append-nil (lines_from (tc.packets_tc_listing p).line [] frames) ∙ tc_lines p frames;
       each = λ channel.
           listed_each (tc_deliver.as_read p) received.unit_channel (tc_ended p) (tc_on p) (tc_delivered p) channel_count frames (channel_fits p) channel
           ∙ ap (λ channels. slice_index_or (map (tc_on p (views_after (tc_deliver.as_read p) [] frames)) channels) channel []) (channels_are channel_count refl)

@@ -1,16 +1,11 @@
 -- What holds of parameters that aren't refused.
-use Rattle.std.proofs.Common.{◌≡◌, ◌<◌, ◌≤◌, Ok, arith, ap}
+use Rattle.std.proofs.Common.{◌≡◌, ◌≤◌, Ok, arith}
 use Rattle.std.proofs.lemmas.Bool.Decides.{nat_tests}
 use Rattle.sl_link.specs.Managed.{Parameters, managed_of}
 
 -- a TM frame has 32 to 2048 octets
 pub managed_length : (p : Parameters) → managed_of p ≡ Ok p → (32 ≤ p.tm_length) × (p.tm_length ≤ 2048)
 managed_length p h = (grind (arith, nat_tests), grind (arith, nat_tests))
-
--- so it has some
-pub some_octets : (p q : Parameters) → managed_of p ≡ Ok p → p ≡ q → 0 < q.tm_length
-some_octets p q h e =
-    let long = (managed_length p h).0 in omega (arith, ap (λ (r : Parameters). r.tm_length) e)
 
 -- a TC frame has 16 to 1024 octets at most
 pub managed_greatest : (p : Parameters) → managed_of p ≡ Ok p → (16 ≤ p.tc_max) × (p.tc_max ≤ 1024)

@@ -8,6 +8,7 @@ use Rattle.std.proofs.lemmas.List.Folds.{concat-append}
 use Rattle.std.proofs.lemmas.List.FromFn.{get_or-map-range_with_len, length-map-range_with_len}
 use Rattle.sl_link.specs.Delivering.{with_frame}
 use Rattle.sl_link.specs.PacketListing.{ListedPacket, packets_listed_on}
+use Rattle.sl_link.specs.Verb.{lines_from}
 use Rattle.sl_link.proofs.DeliveringLemmas.{views_after}
 
 -- packets, all on one channel
@@ -51,18 +52,19 @@ module _ {View Skip : Type 0} (read : List ℕ → Result View Skip) (at : View 
   listed_from views [] = []
   listed_from views (frame ∷ frames) = listed_in views (read frame) ++ listed_from (with_frame views (read frame)) frames
 
-  -- Where each frame has a text, and it is their lines, the texts of frames are the lines of those that end in them.
-  pub lines_from : (line : ListedPacket → List ℕ) (text : List View → Result View Skip → List ℕ) (texts : List View → List (List ℕ) → List ℕ)
-      → ((views : List View) → texts views [] ≡ [])
-      → ((views : List View) (frame : List ℕ) (frames : List (List ℕ)) → texts views (frame ∷ frames) ≡ text views (read frame) ++ texts (with_frame views (read frame)) frames)
+  -- Where each frame has a text, by the frames before it, and it is their lines, the texts of frames are the lines of
+  -- those that end in them.
+  pub lines_are : (line : ListedPacket → List ℕ) (text : List View → Result View Skip → List ℕ) (seen : List (List ℕ) → List View)
+      → ((before : List (List ℕ)) (frame : List ℕ) → seen (before ++ frame ∷ []) ≡ with_frame (seen before) (read frame))
       → ((views : List View) (r : Result View Skip) → text views r ≡ concat (map line (listed_in views r)))
-      → (views : List View) (frames : List (List ℕ)) → texts views frames ≡ concat (map line (listed_from views frames))
-  lines_from line text texts none next one views [] = none views
-  lines_from line text texts none next one views (frame ∷ frames) =
+      → (before frames : List (List ℕ)) → lines_from (λ earlier frame. text (seen earlier) (read frame)) before frames ≡ concat (map line (listed_from (seen before) frames))
+  lines_are line text seen next one before [] = refl
+  lines_are line text seen next one before (frame ∷ frames) =
       let r = read frame in
-      let first = listed_in views r in
-      let later = listed_from (with_frame views r) frames in
-      next views frame frames ∙ ap₂ (λ a b. a ++ b) (one views r) (lines_from line text texts none next one (with_frame views r) frames)
+      let first = listed_in (seen before) r in
+      let later = listed_from (with_frame (seen before) r) frames in
+      ap₂ (λ a b. a ++ b) (one (seen before) r)
+      (lines_are line text seen next one (before ++ frame ∷ []) frames ∙ ap (λ v. concat (map line (listed_from v frames))) (next before frame))
       ∙ sym (ap concat (map-append line first later) ∙ concat-append (map line first) (map line later))
 
 module _ {View Skip : Type 0} (read : List ℕ → Result View Skip) (at : View → ℕ) (ended : List View → View → List (List ℕ))

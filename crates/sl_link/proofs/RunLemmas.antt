@@ -12,7 +12,7 @@ use Rattle.sl_link.specs.declared.command_line.Engine.TheVariants.{ShowTm, ShowT
 use Rattle.sl_link.specs.declared.command_line.Request.{Request}
 use Rattle.sl_link.specs.CommandLine.{asked}
 use Rattle.sl_link.specs.Counted.{stream_of, HasFailed}
-use Rattle.sl_link.specs.Engine.{text_of, counts_of, buffer_of, is_check}
+use Rattle.sl_link.specs.Engine.{text_of, counts_of, buffer, is_check}
 use Rattle.sl_link.specs.Managed.{Parameters, managed_of}
 use Rattle.sl_link.specs.Run.{HasMetAnomalies, HasStopped, HasSucceeded, HasWritten, IsStoppedBy}
 use Rattle.sl_link.specs.Status.{status}
@@ -60,7 +60,7 @@ module _ {R W : Type 0} (remaining : R → Option (List ℕ)) (contents : W → 
             front = append-nil (text_of request.engine managed t.octets);
             writes = Appends-kept (contents (stream_of writer)) (contents (stream_of mid)) (contents (stream_of writer')) (text_of request.engine managed t.octets) t.written kept;
           };
-          cause = caused_writing remaining contents reader reader' writer mid writer' t.octets managed.max_octets (buffer_of request.engine) fault is_write t.reader_kept t.writer_kept failed t.within;
+          cause = caused_writing remaining contents reader reader' writer mid writer' t.octets managed.max_octets buffer fault is_write t.reader_kept t.writer_kept failed t.within;
         };
         not_memory = λ lists is_memory. let bad : Memory ≡ Write = sym is_memory ∙ is_write in cc;
         all_read = λ form same. t.to_end;

@@ -1,12 +1,11 @@
 -- The lists of delivered packets, channel by channel, while TC frames are processed one after another.
-use Rattle.std.proofs.Common.{◌≡◌, ℕ, ◌+◌, ◌/◌, ◌^◌, ◌<◌, ◌≤◌, ◌==◌, ◌&&◌, Bool, true, false, not, List, [], ◌∷◌, ◌++◌, length, take, drop, map, Option, None, Some, Result, Ok, Err, inl, inr, refl, sym, ◌∙◌, ap, subst, arith, append_assoc, append-nil, length-append, length-drop, if◌then◌else◌, is_err}
+use Rattle.std.proofs.Common.{◌≡◌, ℕ, ◌+◌, ◌/◌, ◌^◌, ◌<◌, ◌≤◌, ◌==◌, ◌&&◌, Bool, true, false, not, List, [], ◌∷◌, ◌++◌, length, take, drop, Option, None, Some, Result, Ok, Err, inl, inr, refl, sym, ◌∙◌, ap, subst, arith, append_assoc, append-nil, length-append, length-drop, if◌then◌else◌}
 use Rattle.std.specs.Prelude.{⊤}
 use Rattle.std.specs.Result.{result_ok}
 use Rattle.std.specs.List.{slice_index_or, slice_set, concat, filter}
 use Rattle.std.proofs.lemmas.Bool.Decides.{eqb_tells}
 use Rattle.std.proofs.lemmas.List.{length-set, length-take, get_or-set_same, get_or-set_other}
 use Rattle.std.proofs.lemmas.List.Elements.{filter-append, filter_map-append}
-use Rattle.std.proofs.lemmas.List.Folds.{concat-append}
 use Rattle.std.proofs.lemmas.Nat.{mod_below}
 use Rattle.sl_fields.specs.Field.{number_of}
 use Rattle.sl_fields.specs.TcHeader.{TcFields}
@@ -15,20 +14,21 @@ use Rattle.sl_packet.specs.Packet.{is_idle_packet}
 use Rattle.sl_packet.specs.Packets.{without_idle, only_idle}
 use Rattle.sl_packet.proofs.CountLemmas.{split_count}
 use Rattle.sl_tcframe.specs.declared.tc_frame.TcSkip.{TcSkip}
-use Rattle.sl_tcframe.specs.TcDelimited.{front_len, tc_frames_of, tc_remainder_of}
-use Rattle.sl_tcframe.specs.TcFrame.{TcFormat, TcView, Content, Ad, Bd, Unlock, SetVr, command_of, content_of, early_reason, field_len, header_of, is_cut, parts_of, read_as, tc_frame, unit_of}
-use Rattle.sl_tcframe.proofs.DelimitedLemmas.{AreCuts, frames_of-concat, frames_of-none, remainder_of-concat, remainder_of-none}
+use Rattle.sl_tcframe.specs.TcFrame.{TcFormat, TcView, Content, Ad, Bd, Unlock, SetVr, command_of, content_of, early_reason, field_len, header_of, parts_of, read_as, tc_frame, unit_of}
 use Rattle.sl_tcflow.specs.AcceptedUnit.{views_of}
 use Rattle.sl_tcflow.specs.Receiving.{ReceiverState, HasProcessed, ended_by, unit_channel}
-use Rattle.sl_tcflow.specs.Recording.{map_channels, packets_in_channel}
-use Rattle.sl_link.specs.DeliverTc.{as_read, ended_in, lists_after}
+use Rattle.sl_tcflow.specs.Recording.{packets_in_channel}
+use Rattle.sl_link.specs.DeliverTc.{as_read, ended_in, is_incomplete_around, lists_after}
 use Rattle.sl_link.specs.Delivering.{with_frame}
 use Rattle.sl_link.specs.Managed.{Parameters, tc_format}
-use Rattle.sl_link.specs.NormaliseTc.{tc_packets, tc_counts}
-use Rattle.sl_link.specs.ShowTc.{tc_skipped_of}
-use Rattle.sl_link.proofs.DeliveringLemmas.{items, items_change, lists_are, no_items, views_step}
+use Rattle.sl_link.specs.DeliveringTc.{HasTcDelivered}
+use Rattle.sl_link.specs.NormaliseTc.{tc_idle_in, tc_packets_in}
+use Rattle.sl_link.specs.PacketsTc.{WantsMemoryTc}
+use Rattle.sl_link.specs.TcListing.{HasCounted}
+use Rattle.sl_link.specs.declared.delivery.DeliveryTally.{DeliveryTally}
+use Rattle.sl_tmframe.proofs.DelimitedLemmas.{concat-last}
+use Rattle.sl_link.proofs.DeliveringLemmas.{items, items_change, no_items, views_step}
 use Rattle.sl_tcflow.proofs.ChannelLemmas.{held_in, held_other, held_own, packets_other, packets_own, small_map, unit_len}
-use Rattle.sl_link.proofs.TcListingLemmas.{tc_skipped_of-append}
 
 -- ---- a frame, as it is read
 
@@ -91,7 +91,7 @@ unit_within p frame =
 -- ---- one frame more
 
 module _ (w vr : ℕ) where
-  list_step : (views : List TcView) (r : Result TcView TcSkip) (lists : List (List (List ℕ))) (channel : ℕ) → length lists ≡ channel_count → channel < channel_count
+  pub list_step : (views : List TcView) (r : Result TcView TcSkip) (lists : List (List (List ℕ))) (channel : ℕ) → length lists ≡ channel_count → channel < channel_count
       → slice_index_or lists channel [] ≡ without_idle (packets_in_channel w vr views channel)
       → slice_index_or (lists_after w vr views r lists) channel [] ≡ without_idle (packets_in_channel w vr (with_frame views r) channel)
   list_step views (Err reason) lists channel all inside are = are
@@ -111,7 +111,7 @@ module _ (w vr : ℕ) where
             ∙ are ∙ ap without_idle (sym (packets_other w vr views view channel (λ e. other (sym e))))
       ]
 
-  length-lists_after : (views : List TcView) (r : Result TcView TcSkip) (lists : List (List (List ℕ))) → length (lists_after w vr views r lists) ≡ length lists
+  pub length-lists_after : (views : List TcView) (r : Result TcView TcSkip) (lists : List (List (List ℕ))) → length (lists_after w vr views r lists) ≡ length lists
   length-lists_after views (Ok view) lists = length-set lists (unit_channel view) (slice_index_or lists (unit_channel view) [] ++ without_idle (ended_by w vr views view))
   length-lists_after views (Err reason) lists = refl
 
@@ -147,139 +147,124 @@ module _ (w vr : ℕ) where
 
 -- ---- frame by frame
 
-pub cuts_last : (format : TcFormat) (frames : List (List ℕ)) (frame : List ℕ) → AreCuts format frames → is_cut format frame ≡ true → AreCuts format (frames ++ frame ∷ [])
-cuts_last format [] frame cuts cut = (cut, tt)
-cuts_last format (first ∷ frames) frame cuts cut = (cuts.0, cuts_last format frames frame cuts.1 cut)
-
 pub views_next : (format : TcFormat) (spacecraft : ℕ) (frames : List (List ℕ)) (frame : List ℕ)
     → views_of format spacecraft (frames ++ frame ∷ []) ≡ with_frame (views_of format spacecraft frames) (tc_frame format spacecraft frame)
 views_next format spacecraft frames frame =
     filter_map-append (λ f. result_ok (tc_frame format spacecraft f)) frames (frame ∷ [])
     ∙ views_step (views_of format spacecraft frames) (tc_frame format spacecraft frame)
 
-module _ (p : Parameters) (recording : List ℕ) where
-  abbrev pub seen_in : List (List ℕ) → List TcView
-  seen_in frames = views_of (tc_format p) p.spacecraft frames
+-- ---- what is counted of frames
 
-  abbrev pub held : List (List ℕ) → ℕ
-  held frames = items (held_in p.window p.vr (seen_in frames))
+-- the octets of the series that are incomplete after them
+abbrev held_after : Parameters → List (List ℕ) → ℕ
+held_after p frames = items (held_in p.window p.vr (views_of (tc_format p) p.spacecraft frames))
 
-  -- the frames before the octets that are left were processed, and what FARM-1 let through is delivered and counted
-  pub record IsTcDelivering (receiver : ReceiverState) (left : List ℕ) (lists : List (List (List ℕ))) (octets frames skipped packets idle : ℕ) : Type 0 where
-    pub done : List (List ℕ)
-    pub cuts : AreCuts (tc_format p) done
-    pub parts : recording ≡ concat done ++ left
-    pub processed : HasProcessed p.window p.vr receiver (seen_in done)
-    pub size : length lists ≡ channel_count
-    pub lists_are : (channel : ℕ) → channel < channel_count → slice_index_or lists channel [] ≡ without_idle (packets_in_channel p.window p.vr (seen_in done) channel)
-    pub octets_are : octets + length left ≡ length recording
-    pub frames_are : frames ≡ length done
-    pub skipped_are : skipped ≡ tc_skipped_of p done
-    pub packets_are : packets ≡ items (λ channel. without_idle (packets_in_channel p.window p.vr (seen_in done) channel))
-    pub idle_are : idle ≡ items (λ channel. only_idle (packets_in_channel p.window p.vr (seen_in done) channel))
-    pub within : packets + idle + held done ≤ octets
+-- the packets that end with them, idle ones too, and the octets that are held, are no more than their octets
+abbrev AreWithin : Parameters → List (List ℕ) → Type 0
+AreWithin p frames = tc_packets_in p frames + tc_idle_in p frames + held_after p frames ≤ length (concat frames)
 
-  pub nothing_delivered : (receiver : ReceiverState) (lists : List (List (List ℕ))) → HasProcessed p.window p.vr receiver [] → length lists ≡ channel_count
-      → ((channel : ℕ) → slice_index_or lists channel [] ≡ []) → IsTcDelivering receiver recording lists 0 0 0 0 0
-  nothing_delivered receiver lists processed size none =
-      let packets = no_items (λ channel. without_idle (packets_in_channel p.window p.vr [] channel)) (λ channel. refl) in
-      let idle = no_items (λ channel. only_idle (packets_in_channel p.window p.vr [] channel)) (λ channel. refl) in
-      let octets = no_items (held_in p.window p.vr []) (λ channel. refl) in
-      record {
-        done = [];
-        cuts = tt;
-        parts = refl;
-        processed = processed;
-        size = size;
-        lists_are = λ channel inside. none channel;
-        octets_are = omega arith;
-        frames_are = refl;
-        skipped_are = refl;
-        packets_are = sym packets;
-        idle_are = sym idle;
-        within = omega (arith, octets);
-      }
+pub packets_more : (p : Parameters) (frames : List (List ℕ)) (frame : List ℕ)
+    → tc_packets_in p (frames ++ frame ∷ [])
+    ≡ tc_packets_in p frames + length (without_idle (ended_in p.window p.vr (views_of (tc_format p) p.spacecraft frames) (as_read p frame)))
+packets_more p frames frame =
+    let seen = views_of (tc_format p) p.spacecraft frames in
+    ap (λ l. items (λ channel. without_idle (packets_in_channel p.window p.vr l channel))) (views_next (tc_format p) p.spacecraft frames frame)
+    ∙ count_next p.window p.vr (λ packet. not (is_idle_packet packet)) seen (as_read p frame) (of_channel p frame)
 
-  -- what is counted after the next frame is no more than the octets of the frames so far
-  pub counted_within : (receiver : ReceiverState) (left frame : List ℕ) (lists : List (List (List ℕ))) (octets frames skipped packets idle : ℕ)
-      → (d : IsTcDelivering receiver left lists octets frames skipped packets idle)
-      → packets + length (without_idle (ended_in p.window p.vr (seen_in d.done) (as_read p frame)))
-      + (idle + length (only_idle (ended_in p.window p.vr (seen_in d.done) (as_read p frame))))
-      + items (held_in p.window p.vr (with_frame (seen_in d.done) (as_read p frame))) ≤ octets + length frame
-  counted_within receiver left frame lists octets frames skipped packets idle d =
-      let seen = seen_in d.done in
-      let r = as_read p frame in
-      let next = held_next p.window p.vr seen r (of_channel p frame) in
-      let whole = d.within in
-      omega (arith, whole, next, unit_within p frame, split_count (ended_in p.window p.vr seen r))
+pub idle_more : (p : Parameters) (frames : List (List ℕ)) (frame : List ℕ)
+    → tc_idle_in p (frames ++ frame ∷ [])
+    ≡ tc_idle_in p frames + length (only_idle (ended_in p.window p.vr (views_of (tc_format p) p.spacecraft frames) (as_read p frame)))
+idle_more p frames frame =
+    let seen = views_of (tc_format p) p.spacecraft frames in
+    ap (λ l. items (λ channel. only_idle (packets_in_channel p.window p.vr l channel))) (views_next (tc_format p) p.spacecraft frames frame)
+    ∙ count_next p.window p.vr is_idle_packet seen (as_read p frame) (of_channel p frame)
 
-  pub delivered_next : (receiver receiver' : ReceiverState) (left frame after : List ℕ) (lists lists' : List (List (List ℕ)))
-      (octets frames skipped packets idle octets' frames' skipped' packets' idle' : ℕ)
-      → left ≡ frame ++ after → is_cut (tc_format p) frame ≡ true → (d : IsTcDelivering receiver left lists octets frames skipped packets idle)
-      → HasProcessed p.window p.vr receiver' (with_frame (seen_in d.done) (as_read p frame))
-      → lists' ≡ lists_after p.window p.vr (seen_in d.done) (as_read p frame) lists
-      → octets' ≡ octets + length frame → frames' ≡ frames + 1 → skipped' ≡ skipped + (if is_err (as_read p frame) then 1 else 0)
-      → packets' ≡ packets + length (without_idle (ended_in p.window p.vr (seen_in d.done) (as_read p frame)))
-      → idle' ≡ idle + length (only_idle (ended_in p.window p.vr (seen_in d.done) (as_read p frame)))
-      → IsTcDelivering receiver' after lists' octets' frames' skipped' packets' idle'
-  delivered_next receiver receiver' left frame after lists lists' octets frames skipped packets idle octets' frames' skipped' packets' idle'
-      parts cut d processed lists_by octets_by frames_by skipped_by packets_by idle_by =
-      let seen = seen_in d.done in
-      let r = as_read p frame in
-      let next : seen_in (d.done ++ frame ∷ []) ≡ with_frame seen r = views_next (tc_format p) p.spacecraft d.done frame in
-      let range = of_channel p frame in
-      let few = counted_within receiver left frame lists octets frames skipped packets idle d in
-      let held_is = ap (λ l. items (held_in p.window p.vr l)) next in
-      record {
-        done = d.done ++ frame ∷ [];
-        cuts = cuts_last (tc_format p) d.done frame d.cuts cut;
-        parts = d.parts ∙ ap (λ l. concat d.done ++ l) parts ∙ sym (append_assoc (concat d.done) frame after)
-            ∙ ap (λ l. concat d.done ++ l ++ after) (sym (append-nil frame)) ∙ ap (λ l. l ++ after) (sym (concat-append d.done (frame ∷ [])));
-        processed = subst (λ l. HasProcessed p.window p.vr receiver' l) (sym next) processed;
-        size = ap length lists_by ∙ length-lists_after p.window p.vr seen r lists ∙ d.size;
-        lists_are = λ channel inside. ap (λ l. slice_index_or l channel []) lists_by
-            ∙ list_step p.window p.vr seen r lists channel d.size inside (d.lists_are channel inside)
-            ∙ ap (λ l. without_idle (packets_in_channel p.window p.vr l channel)) (sym next);
-        octets_are = omega (arith, octets_by, d.octets_are, ap length parts, length-append frame after);
-        frames_are = omega (arith, frames_by, d.frames_are, length-append d.done (frame ∷ []));
-        skipped_are = omega (arith, skipped_by, d.skipped_are, tc_skipped_of-append p d.done (frame ∷ []));
-        packets_are = packets_by ∙ ap (λ n. n + length (without_idle (ended_in p.window p.vr seen r))) d.packets_are
-            ∙ sym (count_next p.window p.vr (λ packet. not (is_idle_packet packet)) seen r range)
-            ∙ ap (λ l. items (λ channel. without_idle (packets_in_channel p.window p.vr l channel))) (sym next);
-        idle_are = idle_by ∙ ap (λ n. n + length (only_idle (ended_in p.window p.vr seen r))) d.idle_are
-            ∙ sym (count_next p.window p.vr is_idle_packet seen r range)
-            ∙ ap (λ l. items (λ channel. only_idle (packets_in_channel p.window p.vr l channel))) (sym next);
-        within = omega (arith, few, octets_by, packets_by, idle_by, held_is);
-      }
+within_next : (p : Parameters) (frames : List (List ℕ)) (frame : List ℕ) → AreWithin p frames → AreWithin p (frames ++ frame ∷ [])
+within_next p frames frame within =
+    let seen = views_of (tc_format p) p.spacecraft frames in
+    let r = as_read p frame in
+    let held = held_next p.window p.vr seen r (of_channel p frame) in
+    let held_is = ap (λ l. items (held_in p.window p.vr l)) (views_next (tc_format p) p.spacecraft frames frame) in
+    omega (
+      arith,
+      within,
+      held,
+      held_is,
+      unit_within p frame,
+      split_count (ended_in p.window p.vr seen r),
+      packets_more p frames frame,
+      idle_more p frames frame,
+      ap length (concat-last frames frame),
+      length-append (concat frames) frame,
+    )
 
-  -- where no frame begins, the frames are all of the recording
-  module _ (receiver : ReceiverState) (left : List ℕ) (lists : List (List (List ℕ))) (octets frames skipped packets idle : ℕ)
-      (none : front_len (tc_format p) left ≡ None) (d : IsTcDelivering receiver left lists octets frames skipped packets idle) where
-    all_frames : tc_frames_of (tc_format p) recording ≡ d.done
-    all_frames =
-        ap (tc_frames_of (tc_format p)) d.parts ∙ frames_of-concat (tc_format p) d.done left d.cuts
-        ∙ ap (λ l. d.done ++ l) (frames_of-none (tc_format p) left none) ∙ append-nil d.done
+within_from : (p : Parameters) (before frames : List (List ℕ)) → AreWithin p before → AreWithin p (before ++ frames)
+within_from p before [] within = subst (AreWithin p) (sym (append-nil before)) within
+within_from p before (frame ∷ frames) within =
+    subst (AreWithin p) (append_assoc before (frame ∷ []) frames) (within_from p (before ++ frame ∷ []) frames (within_next p before frame within))
 
-    remainder : tc_remainder_of (tc_format p) recording ≡ left
-    remainder =
-        ap (tc_remainder_of (tc_format p)) d.parts ∙ remainder_of-concat (tc_format p) d.done left d.cuts ∙ remainder_of-none (tc_format p) left none
+pub all_within : (p : Parameters) (frames : List (List ℕ)) → tc_packets_in p frames + tc_idle_in p frames ≤ length (concat frames)
+all_within p frames =
+    let packets = no_items (λ channel. without_idle (packets_in_channel p.window p.vr [] channel)) (λ channel. refl) in
+    let idle = no_items (λ channel. only_idle (packets_in_channel p.window p.vr [] channel)) (λ channel. refl) in
+    let octets = no_items (held_in p.window p.vr []) (λ channel. refl) in
+    let all : AreWithin p frames = within_from p [] frames (omega (arith, packets, idle, octets)) in
+    omega (arith, all)
 
-    -- so the lists have all of its packets,
-    pub all_delivered : lists ≡ tc_packets p recording
-    all_delivered =
-        lists_are (λ channel. without_idle (packets_in_channel p.window p.vr (seen_in d.done) channel)) lists d.size d.lists_are
-        ∙ ap (λ fs. map (λ channel. without_idle (packets_in_channel p.window p.vr (seen_in fs) channel)) map_channels) (sym all_frames)
+-- ---- frames that are processed one after another
 
-    -- and all is counted
-    pub all_counted :
-        (octets + length left ≡ (tc_counts p recording).octets) × (frames ≡ (tc_counts p recording).frames) × (skipped ≡ (tc_counts p recording).skipped)
-        × (length left ≡ (tc_counts p recording).rest) × (packets ≡ (tc_counts p recording).packets) × (idle ≡ (tc_counts p recording).idle)
-    all_counted =
-        let all = sym all_frames in (
-          d.octets_are,
-          d.frames_are ∙ ap length all,
-          d.skipped_are ∙ ap (tc_skipped_of p) all,
-          ap length (sym remainder),
-          d.packets_are ∙ ap (λ fs. items (λ channel. without_idle (packets_in_channel p.window p.vr (seen_in fs) channel))) all,
-          d.idle_are ∙ ap (λ fs. items (λ channel. only_idle (packets_in_channel p.window p.vr (seen_in fs) channel))) all,
-        )
+-- none yet
+pub none_delivered : (p : Parameters) (receiver : ReceiverState) (t : DeliveryTally) → HasProcessed p.window p.vr receiver [] → HasCounted p t.tally []
+    → t.packets ≡ 0 → t.idle ≡ 0 → HasTcDelivered p [] receiver t
+none_delivered p receiver t processed counted packets idle =
+    let no_packets = no_items (λ channel. without_idle (packets_in_channel p.window p.vr [] channel)) (λ channel. refl) in
+    let no_idle = no_items (λ channel. only_idle (packets_in_channel p.window p.vr [] channel)) (λ channel. refl) in
+    record { processed = processed; counted = counted; packets = packets ∙ sym no_packets; idle = idle ∙ sym no_idle }
+
+-- one more
+pub delivered_more : (p : Parameters) (frames : List (List ℕ)) (frame : List ℕ) (receiver receiver' : ReceiverState) (t t' : DeliveryTally) → HasTcDelivered p frames receiver t
+    → HasProcessed p.window p.vr receiver' (with_frame (views_of (tc_format p) p.spacecraft frames) (as_read p frame)) → HasCounted p t'.tally (frames ++ frame ∷ [])
+    → t'.packets ≡ t.packets + length (without_idle (ended_in p.window p.vr (views_of (tc_format p) p.spacecraft frames) (as_read p frame)))
+    → t'.idle ≡ t.idle + length (only_idle (ended_in p.window p.vr (views_of (tc_format p) p.spacecraft frames) (as_read p frame)))
+    → HasTcDelivered p (frames ++ frame ∷ []) receiver' t'
+delivered_more p frames frame receiver receiver' t t' d processed counted packets idle =
+    record {
+      processed = subst (HasProcessed p.window p.vr receiver') (sym (views_next (tc_format p) p.spacecraft frames frame)) processed;
+      counted = counted;
+      packets = packets ∙ ap (λ n. n + length (without_idle (ended_in p.window p.vr (views_of (tc_format p) p.spacecraft frames) (as_read p frame)))) d.packets
+          ∙ sym (packets_more p frames frame);
+      idle = idle ∙ ap (λ n. n + length (only_idle (ended_in p.window p.vr (views_of (tc_format p) p.spacecraft frames) (as_read p frame)))) d.idle
+          ∙ sym (idle_more p frames frame);
+    }
+
+-- what is counted after it fits
+pub counted_fits : (p : Parameters) (frames : List (List ℕ)) (frame : List ℕ) (receiver : ReceiverState) (t : DeliveryTally) (packets idle : ℕ) → HasTcDelivered p frames receiver t
+    → packets ≡ length (without_idle (ended_in p.window p.vr (views_of (tc_format p) p.spacecraft frames) (as_read p frame)))
+    → idle ≡ length (only_idle (ended_in p.window p.vr (views_of (tc_format p) p.spacecraft frames) (as_read p frame)))
+    → t.packets + packets + (t.idle + idle) ≤ t.tally.octets + length frame
+counted_fits p frames frame receiver t packets idle d packets_are idle_are =
+    let all = all_within p (frames ++ frame ∷ []) in
+    omega (
+      arith,
+      all,
+      d.packets,
+      d.idle,
+      d.counted.octets,
+      packets_are,
+      idle_are,
+      packets_more p frames frame,
+      idle_more p frames frame,
+      ap length (concat-last frames frame),
+      length-append (concat frames) frame,
+    )
+
+-- a series is incomplete around a frame
+wants_as_read : (p : Parameters) (before : List (List ℕ)) (frame : List ℕ) (r : Result TcView TcSkip) → as_read p frame ≡ r
+    → is_incomplete_around p.window p.vr (views_of (tc_format p) p.spacecraft before) r → WantsMemoryTc p (before ++ frame ∷ [])
+wants_as_read p before frame (Ok view) e incomplete =
+    record { before = before; frame = frame; in_order = refl; view = view; is_read = e; incomplete = incomplete }
+wants_as_read p before frame (Err reason) e incomplete = absurd incomplete
+
+pub wants_memory : (p : Parameters) (before : List (List ℕ)) (frame : List ℕ)
+    → is_incomplete_around p.window p.vr (views_of (tc_format p) p.spacecraft before) (as_read p frame) → WantsMemoryTc p (before ++ frame ∷ [])
+wants_memory p before frame incomplete = wants_as_read p before frame (as_read p frame) refl incomplete

@@ -1,17 +1,15 @@
 -- The lines of series that are incomplete at the end of a recording, one channel after another.
-use Rattle.std.proofs.Common.{◌≡◌, ℕ, zero, suc, ◌+◌, ◌-◌, ◌/◌, ◌%◌, ◌≤◌, List, [], ◌∷◌, ◌++◌, length, Option, refl, sym, ◌∙◌, ap, subst, arith, append-nil, length-append}
+use Rattle.std.proofs.Common.{◌≡◌, ℕ, zero, suc, ◌+◌, ◌-◌, ◌≤◌, List, [], ◌∷◌, ◌++◌, length, Option, refl, sym, ◌∙◌, ap, subst, arith, append-nil, length-append}
 use Rattle.std.specs.Prelude.{flat_map}
 use Rattle.std.specs.List.{concat, range_with_len}
 use Rattle.std.proofs.lemmas.Grind.{flat_map-append}
 use Rattle.std.proofs.lemmas.List.Folds.{concat-append}
 use Rattle.sl_packet.specs.Delivered.{channel_count}
 use Rattle.sl_tcframe.specs.TcFrame.{TcView}
-use Rattle.sl_tcflow.specs.Incomplete.{incomplete_of}
 use Rattle.sl_tcflow.specs.Receiving.{ReceiverState, ForProcessed}
-use Rattle.sl_tcflow.specs.Reception.{segments_of}
 use Rattle.sl_link.specs.declared.counted.Counted.{Counted}
 use Rattle.sl_link.specs.declared.link_fault.LinkFault.{LinkFault}
-use Rattle.sl_link.specs.CheckTc.{incomplete_amiss, tc_incomplete}
+use Rattle.sl_link.specs.CheckTc.{open_on, tc_incomplete}
 use Rattle.sl_link.specs.Streams.{AddsText, StopsWriting}
 use Rattle.sl_link.proofs.AddingLemmas.{AddsText-trans, writer_stops_waiting}
 use Rattle.sl_link.proofs.DeliveringLemmas.{channels_are}
@@ -28,11 +26,6 @@ range_split from (suc m) n =
     let e : suc m + n ≡ suc (m + n) = omega arith in
     let e' : (from + 1) + m ≡ from + suc m = omega arith in
     ap (range_with_len from) e ∙ ap (λ l. from ∷ l) (range_split (from + 1) m n ∙ ap (λ k. range_with_len (from + 1) m ++ range_with_len k n) e')
-
--- the line of a channel
-abbrev pub open_on : ℕ → ℕ → ℕ → List TcView → ℕ → List (List ℕ)
-open_on w vr offset views channel =
-    incomplete_amiss offset (channel / 64) (channel % 64) (incomplete_of (segments_of w vr (channel / 64) (channel % 64) views))
 
 -- the lines of channels from one on
 abbrev open_from : ℕ → ℕ → ℕ → List TcView → ℕ → ℕ → List (List ℕ)

@@ -1,24 +1,25 @@
 -- What is amiss in a TC recording, as `check tc` lists it: a line for each, and then the totals.
-use Rattle.std.specs.Prelude.{ℕ, ◌+◌, ◌-◌, ◌/◌, ◌%◌, ◌==◌, Bool, if◌then◌else◌, List, [], ◌∷◌, ◌++◌, length, flat_map, codes, decimal, Option, None, Some, Result, Ok, Err}
+use Rattle.std.specs.Prelude.{ℕ, ◌+◌, ◌/◌, ◌%◌, ◌==◌, Bool, if◌then◌else◌, List, [], ◌∷◌, ◌++◌, length, flat_map, codes, decimal, Option, None, Some, Result, Ok, Err}
 use Rattle.std.specs.List.{concat}
 use Rattle.sl_cop.specs.declared.verdict.Verdict.{Verdict}
 use Rattle.sl_cop.specs.declared.verdict.Verdict.TheVariants.{Accept, Early, Late, Outside, Refused, Command}
 use Rattle.sl_tcframe.specs.declared.tc_frame.TcSkip.{TcSkip}
-use Rattle.sl_tcframe.specs.TcDelimited.{tc_frames_of, tc_remainder_of}
+use Rattle.sl_tcframe.specs.TcDelimited.{tc_frames_of}
 use Rattle.sl_tcframe.specs.TcFrame.{TcView, Content, Ad, Bd, Unlock, SetVr}
+use Rattle.sl_tcflow.specs.AcceptedUnit.{views_of}
 use Rattle.sl_tcflow.specs.Anomaly.{dropped_by, long_by, stray_by, tail_by}
 use Rattle.sl_tcflow.specs.Incomplete.{incomplete_of}
 use Rattle.sl_tcflow.specs.Receiving.{map_of, verdict_on}
 use Rattle.sl_tcflow.specs.Reception.{segments_of}
-use Rattle.sl_tcflow.specs.Recording.{map_channels, recorded_views}
+use Rattle.sl_tcflow.specs.Recording.{map_channels}
 use Rattle.sl_link.specs.Amiss.{remainder_amiss, totals_line, with_anomalies}
 use Rattle.sl_link.specs.DeliverTc.{as_read}
-use Rattle.sl_link.specs.Delivering.{with_frame}
 use Rattle.sl_link.specs.Line.{line_at}
 use Rattle.sl_link.specs.Managed.{Parameters, tc_format}
-use Rattle.sl_link.specs.NormaliseTc.{tc_counts}
+use Rattle.sl_link.specs.NormaliseTc.{tc_counted}
 use Rattle.sl_link.specs.ShowTc.{tc_skip_word, verdict_word}
 use Rattle.sl_link.specs.Totals.{Counts}
+use Rattle.sl_link.specs.Verb.{Listing, counts_of, lines_from, text_of}
 
 -- ---- a frame
 
@@ -73,34 +74,49 @@ tc_amiss w vr offset views (Err reason) = line_at offset (codes " skip " ++ tc_s
 
 -- ---- a recording
 
--- the lines of frames that lie end to end from an offset on, and come after these frames
-abbrev pub tc_amiss_from : Parameters → ℕ → List TcView → List (List ℕ) → List (List ℕ)
-tc_amiss_from p offset views [] = []
-tc_amiss_from p offset views (frame ∷ frames) =
-    tc_amiss p.window p.vr offset views (as_read p frame) ++ tc_amiss_from p (offset + length frame) (with_frame views (as_read p frame)) frames
+-- those of a frame that comes after these
+abbrev pub tc_amiss_after : Parameters → List (List ℕ) → List ℕ → List (List ℕ)
+tc_amiss_after p before frame =
+    tc_amiss p.window p.vr (length (concat before)) (views_of (tc_format p) p.spacecraft before) (as_read p frame)
 
 -- a series that is incomplete after the last frame, with the octets so far, if one is
 abbrev pub incomplete_amiss : ℕ → ℕ → ℕ → Option (List ℕ) → List (List ℕ)
 incomplete_amiss offset vc mid None = []
 incomplete_amiss offset vc mid (Some octets) = line_at offset (codes " open" ++ map_text vc mid ++ codes " octets " ++ decimal (length octets)) ∷ []
 
+-- that of a virtual channel and a MAP, by the number of their channel
+abbrev pub open_on : ℕ → ℕ → ℕ → List TcView → ℕ → List (List ℕ)
+open_on w vr offset views channel =
+    incomplete_amiss offset (channel / 64) (channel % 64) (incomplete_of (segments_of w vr (channel / 64) (channel % 64) views))
+
 -- those of all virtual channels and MAPs, at the end of the recording
 abbrev pub tc_incomplete : ℕ → ℕ → ℕ → List TcView → List (List ℕ)
-tc_incomplete w vr offset views =
-    flat_map (λ channel. incomplete_amiss offset (channel / 64) (channel % 64) (incomplete_of (segments_of w vr (channel / 64) (channel % 64) views))) map_channels
+tc_incomplete w vr offset views = flat_map (open_on w vr offset views) map_channels
 
--- all that is amiss
-abbrev pub tc_anomalies : Parameters → List ℕ → List (List ℕ)
-tc_anomalies p recording =
-    let rest : ℕ = length (tc_remainder_of (tc_format p) recording) in
-    tc_amiss_from p 0 [] (tc_frames_of (tc_format p) recording)
-    ++ remainder_amiss (length recording - rest) rest
-    ++ tc_incomplete p.window p.vr (length recording) (recorded_views (tc_format p) p.spacecraft recording)
+-- the lines after frames, and a remainder of so many octets
+abbrev pub tc_end_amiss : Parameters → List (List ℕ) → ℕ → List (List ℕ)
+tc_end_amiss p frames rest =
+    remainder_amiss (length (concat frames)) rest
+    ++ tc_incomplete p.window p.vr (length (concat frames) + rest) (views_of (tc_format p) p.spacecraft frames)
 
--- what is counted
-abbrev pub check_tc_counts : Parameters → List ℕ → Counts
-check_tc_counts p recording = with_anomalies (tc_counts p recording) (length (tc_anomalies p recording))
+-- what is counted: each line is one of what is amiss
+abbrev pub check_tc_counted : Parameters → List (List ℕ) → ℕ → Counts
+check_tc_counted p frames rest =
+    with_anomalies (tc_counted p frames rest) (length (lines_from (tc_amiss_after p) [] frames) + length (tc_end_amiss p frames rest))
 
--- the listing
+-- the listing: the lines of each frame, those after the last one, and the totals
+abbrev pub check_tc_listing : Parameters → Listing
+check_tc_listing p =
+    record {
+      line = λ before frame. concat (tc_amiss_after p before frame);
+      last = λ frames rest. concat (tc_end_amiss p frames rest) ++ totals_line (check_tc_counted p frames rest);
+      counts = check_tc_counted p;
+    }
+
+-- the text of a recording
 abbrev pub check_tc_text : Parameters → List ℕ → List ℕ
-check_tc_text p recording = concat (tc_anomalies p recording) ++ totals_line (check_tc_counts p recording)
+check_tc_text p = text_of (tc_frames_of (tc_format p)) (check_tc_listing p)
+
+-- and what is counted in it
+abbrev pub check_tc_counts : Parameters → List ℕ → Counts
+check_tc_counts p = counts_of (tc_frames_of (tc_format p)) (check_tc_listing p)

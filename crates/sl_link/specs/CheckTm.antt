@@ -1,21 +1,21 @@
 -- What is amiss in a TM recording, as `check tm` lists it: a line for each, and then the totals.
-use Rattle.std.specs.Prelude.{ℕ, Bool, ◌+◌, ◌-◌, ◌==◌, if◌then◌else◌, List, [], ◌∷◌, ◌++◌, length, map, flat_map, codes, decimal, Option, None, Some, Result, Ok, Err}
+use Rattle.std.specs.Prelude.{ℕ, Bool, ◌+◌, ◌==◌, if◌then◌else◌, List, [], ◌∷◌, ◌++◌, length, map, flat_map, codes, decimal, Option, None, Some, Result, Ok, Err}
 use Rattle.std.specs.List.{concat}
 use Rattle.sl_tmframe.specs.declared.tm_frame.TmSkip.{TmSkip}
-use Rattle.sl_tmframe.specs.TmDelimited.{tm_frames_of, tm_remainder_of}
+use Rattle.sl_tmframe.specs.TmDelimited.{tm_frames_of}
 use Rattle.sl_tmframe.specs.TmFrame.{TmView, DataField, Packets, Idle, Opaque}
 use Rattle.sl_tmflow.specs.Anomaly.{dropped_of, foreign_of, gap_of}
-use Rattle.sl_tmflow.specs.Channel.{channel_of}
+use Rattle.sl_tmflow.specs.Channel.{channel_of, views_of}
 use Rattle.sl_tmflow.specs.Incomplete.{incomplete_of}
-use Rattle.sl_tmflow.specs.Recording.{recorded_views, virtual_channels}
+use Rattle.sl_tmflow.specs.Recording.{virtual_channels}
 use Rattle.sl_link.specs.Amiss.{remainder_amiss, totals_line, with_anomalies}
 use Rattle.sl_link.specs.Deliver.{as_read}
-use Rattle.sl_link.specs.Delivering.{with_frame}
 use Rattle.sl_link.specs.Line.{line_at}
 use Rattle.sl_link.specs.Managed.{Parameters, tm_format}
-use Rattle.sl_link.specs.NormaliseTm.{tm_counts}
+use Rattle.sl_link.specs.NormaliseTm.{tm_counted}
 use Rattle.sl_link.specs.ShowTm.{skip_word}
 use Rattle.sl_link.specs.Totals.{Counts}
+use Rattle.sl_link.specs.Verb.{Listing, counts_of, lines_from, text_of}
 
 -- ---- a frame
 
@@ -57,11 +57,9 @@ tm_amiss offset views (Err reason) = line_at offset (codes " skip " ++ skip_word
 
 -- ---- a recording
 
--- the lines of frames that lie end to end from an offset on, and come after these frames
-abbrev pub tm_amiss_from : Parameters → ℕ → List TmView → List (List ℕ) → List (List ℕ)
-tm_amiss_from p offset views [] = []
-tm_amiss_from p offset views (frame ∷ frames) =
-    tm_amiss offset views (as_read p frame) ++ tm_amiss_from p (offset + length frame) (with_frame views (as_read p frame)) frames
+-- those of a frame that comes after these
+abbrev pub tm_amiss_after : Parameters → List (List ℕ) → List ℕ → List (List ℕ)
+tm_amiss_after p before frame = tm_amiss (length (concat before)) (views_of (tm_format p) p.spacecraft before) (as_read p frame)
 
 -- the packets that are incomplete after the last frame of their virtual channels, at the end of the recording
 abbrev pub tm_incomplete : ℕ → List TmView → List (List ℕ)
@@ -69,18 +67,30 @@ tm_incomplete offset views =
     flat_map (λ vc. map (λ octets. line_at offset (codes " open vc " ++ decimal vc ++ codes " octets " ++ decimal (length octets))) (incomplete_of (channel_of vc views)))
     virtual_channels
 
--- all that is amiss
-abbrev pub tm_anomalies : Parameters → List ℕ → List (List ℕ)
-tm_anomalies p recording =
-    let rest : ℕ = length (tm_remainder_of p.tm_length recording) in
-    tm_amiss_from p 0 [] (tm_frames_of p.tm_length recording)
-    ++ remainder_amiss (length recording - rest) rest
-    ++ tm_incomplete (length recording) (recorded_views (tm_format p) p.spacecraft recording)
+-- the lines after frames, and a remainder of so many octets
+abbrev pub tm_end_amiss : Parameters → List (List ℕ) → ℕ → List (List ℕ)
+tm_end_amiss p frames rest =
+    remainder_amiss (length (concat frames)) rest
+    ++ tm_incomplete (length (concat frames) + rest) (views_of (tm_format p) p.spacecraft frames)
 
--- what is counted
-abbrev pub check_tm_counts : Parameters → List ℕ → Counts
-check_tm_counts p recording = with_anomalies (tm_counts p recording) (length (tm_anomalies p recording))
+-- what is counted: each line is one of what is amiss
+abbrev pub check_tm_counted : Parameters → List (List ℕ) → ℕ → Counts
+check_tm_counted p frames rest =
+    with_anomalies (tm_counted p frames rest) (length (lines_from (tm_amiss_after p) [] frames) + length (tm_end_amiss p frames rest))
 
--- the listing
+-- the listing: the lines of each frame, those after the last one, and the totals
+abbrev pub check_tm_listing : Parameters → Listing
+check_tm_listing p =
+    record {
+      line = λ before frame. concat (tm_amiss_after p before frame);
+      last = λ frames rest. concat (tm_end_amiss p frames rest) ++ totals_line (check_tm_counted p frames rest);
+      counts = check_tm_counted p;
+    }
+
+-- the text of a recording
 abbrev pub check_tm_text : Parameters → List ℕ → List ℕ
-check_tm_text p recording = concat (tm_anomalies p recording) ++ totals_line (check_tm_counts p recording)
+check_tm_text p = text_of (tm_frames_of p.tm_length) (check_tm_listing p)
+
+-- and what is counted in it
+abbrev pub check_tm_counts : Parameters → List ℕ → Counts
+check_tm_counts p = counts_of (tm_frames_of p.tm_length) (check_tm_listing p)

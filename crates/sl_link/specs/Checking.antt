@@ -3,16 +3,16 @@
 use Rattle.std.specs.Prelude.{◌≡◌, ◌≤◌, ℕ, ◌+◌, ◌-◌, ◌*◌, ◌==◌, if◌then◌else◌, List, [], ◌∷◌, ◌++◌, length, codes, decimal, Result, is_err}
 use Rattle.sl_packet.specs.Packets.{only_idle, without_idle}
 use Rattle.sl_tmframe.specs.declared.tm_frame.TmSkip.{TmSkip}
-use Rattle.sl_tmframe.specs.TmDelimited.{tm_frames_of}
 use Rattle.sl_tmframe.specs.TmFrame.{TmView}
 use Rattle.sl_tmflow.specs.Extraction.{ExtractorState, HasProcessed}
 use Rattle.sl_link.specs.Amiss.{remainder_amiss}
-use Rattle.sl_link.specs.CheckTm.{tm_amiss, tm_amiss_from, tm_incomplete}
+use Rattle.sl_link.specs.CheckTm.{tm_amiss, tm_amiss_after, tm_incomplete}
 use Rattle.sl_link.specs.Deliver.{ended_in}
+use Rattle.sl_link.specs.DeliveringTm.{HasDelivered}
 use Rattle.sl_link.specs.Line.{line_at}
 use Rattle.sl_link.specs.Managed.{Parameters}
-use Rattle.sl_link.specs.NormaliseTm.{tm_counts}
 use Rattle.sl_link.specs.Totals.{Counts}
+use Rattle.sl_link.specs.Verb.{lines_from}
 use Rattle.sl_link.specs.declared.check_tally.CheckReport.{CheckReport}
 use Rattle.sl_link.specs.declared.check_tally.CheckTally.{CheckTally}
 
@@ -28,14 +28,10 @@ pub record TellsFrame (offset : ℕ) (views : List TmView) (r : Result TmView Tm
   pub idle : report.met.idle ≡ length (only_idle (ended_in views r))
   pub anomalies : report.anomalies ≡ length (tm_amiss offset views r)
 
--- the whole frames of a recording were counted, and what is amiss in them
-pub record AreChecked (p : Parameters) (recording : List ℕ) (t : CheckTally) : Type 0 where
-  pub octets : t.delivery.tally.octets + (tm_counts p recording).rest ≡ length recording
-  pub frames : t.delivery.tally.frames ≡ (tm_counts p recording).frames
-  pub skipped : t.delivery.tally.skipped ≡ (tm_counts p recording).skipped
-  pub packets : t.delivery.packets ≡ (tm_counts p recording).packets
-  pub idle : t.delivery.idle ≡ (tm_counts p recording).idle
-  pub anomalies : t.anomalies ≡ length (tm_amiss_from p 0 [] (tm_frames_of p.tm_length recording))
+-- these frames were processed and counted, and what is amiss in them
+pub record HasChecked (p : Parameters) (frames : List (List ℕ)) (extractor : ExtractorState) (t : CheckTally) : Type 0 where
+  pub delivered : HasDelivered p frames extractor t.delivery
+  pub anomalies : t.anomalies ≡ length (lines_from (tm_amiss_after p) [] frames)
   pub room : t.anomalies + 28 * t.delivery.tally.frames ≤ t.delivery.tally.octets
 
 -- the lines of packets that are incomplete after these frames, of which some list was processed, have room among the

@@ -3,17 +3,17 @@
 use Rattle.std.specs.Prelude.{◌≡◌, ◌≤◌, ℕ, ◌+◌, ◌-◌, Bool, if◌then◌else◌, List, [], ◌∷◌, ◌++◌, length, codes, Result, is_err}
 use Rattle.sl_packet.specs.Packets.{only_idle, without_idle}
 use Rattle.sl_tcframe.specs.declared.tc_frame.TcSkip.{TcSkip}
-use Rattle.sl_tcframe.specs.TcDelimited.{tc_frames_of, tc_remainder_of}
 use Rattle.sl_tcframe.specs.TcFrame.{TcView}
-use Rattle.sl_tcflow.specs.Receiving.{map_of}
-use Rattle.sl_tcflow.specs.Recording.{recorded_views}
+use Rattle.sl_tcflow.specs.Receiving.{HasProcessed, ReceiverState, map_of}
 use Rattle.sl_tcflow.specs.StepReport.{StepReport}
 use Rattle.sl_link.specs.Amiss.{remainder_amiss}
-use Rattle.sl_link.specs.CheckTc.{dropped_amiss, map_text, tail_amiss, tc_amiss, tc_amiss_from, tc_incomplete, verdict_amiss}
+use Rattle.sl_link.specs.CheckTc.{dropped_amiss, map_text, tail_amiss, tc_amiss, tc_amiss_after, tc_incomplete, verdict_amiss}
 use Rattle.sl_link.specs.DeliverTc.{ended_in}
+use Rattle.sl_link.specs.DeliveringTc.{HasTcDelivered}
 use Rattle.sl_link.specs.Line.{line_at}
-use Rattle.sl_link.specs.Managed.{Parameters, tc_format}
-use Rattle.sl_link.specs.NormaliseTc.{tc_counts}
+use Rattle.sl_link.specs.Managed.{Parameters}
+use Rattle.sl_link.specs.Totals.{Counts}
+use Rattle.sl_link.specs.Verb.{lines_from}
 use Rattle.sl_link.specs.declared.check_tally.CheckReport.{CheckReport}
 use Rattle.sl_link.specs.declared.check_tally.CheckTally.{CheckTally}
 
@@ -38,20 +38,34 @@ pub record TellsTcFrame (w vr offset : ℕ) (views : List TcView) (r : Result Tc
   pub idle : report.met.idle ≡ length (only_idle (ended_in w vr views r))
   pub anomalies : report.anomalies ≡ length (tc_amiss w vr offset views r)
 
--- the lines of the remainder of a recording, and of the series that are incomplete at its end
-abbrev pub tc_end_amiss : Parameters → List ℕ → List (List ℕ)
-tc_end_amiss p recording =
-    let rest : ℕ = length (tc_remainder_of (tc_format p) recording) in
-    remainder_amiss (length recording - rest) rest
-    ++ tc_incomplete p.window p.vr (length recording) (recorded_views (tc_format p) p.spacecraft recording)
+-- these frames were processed and counted, and what is amiss in them
+pub record HasTcChecked (p : Parameters) (frames : List (List ℕ)) (receiver : ReceiverState) (t : CheckTally) : Type 0 where
+  pub delivered : HasTcDelivered p frames receiver t.delivery
+  pub anomalies : t.anomalies ≡ length (lines_from (tc_amiss_after p) [] frames)
 
--- the whole frames of a recording were counted, and what is amiss in them, and the lines of incomplete series have room
--- among the octets
-pub record AreTcChecked (p : Parameters) (recording : List ℕ) (t : CheckTally) : Type 0 where
-  pub octets : t.delivery.tally.octets + (tc_counts p recording).rest ≡ length recording
-  pub frames : t.delivery.tally.frames ≡ (tc_counts p recording).frames
-  pub skipped : t.delivery.tally.skipped ≡ (tc_counts p recording).skipped
-  pub packets : t.delivery.packets ≡ (tc_counts p recording).packets
-  pub idle : t.delivery.idle ≡ (tc_counts p recording).idle
-  pub anomalies : t.anomalies ≡ length (tc_amiss_from p 0 [] (tc_frames_of (tc_format p) recording))
-  pub room : t.anomalies + length (tc_incomplete p.window p.vr (length recording) (recorded_views (tc_format p) p.spacecraft recording)) ≤ t.delivery.tally.octets
+-- the lines of series that are incomplete after these frames, of which some list was processed, have room among the
+-- octets
+pub record HasTcRoom (state : ReceiverState) (octets : ℕ) (t : CheckTally) : Type 0 where
+  pub w : ℕ
+  pub vr : ℕ
+  pub views : List TcView
+  pub processed : HasProcessed w vr state views
+  pub room : t.anomalies + length (tc_incomplete w vr octets views) ≤ t.delivery.tally.octets
+
+-- the lines after those of the frames, in a recording of so many octets
+abbrev pub end_amiss : ℕ → ℕ → ℕ → CheckTally → List TcView → List (List ℕ)
+end_amiss w vr octets t views =
+    remainder_amiss t.delivery.tally.octets (octets - t.delivery.tally.octets) ++ tc_incomplete w vr octets views
+
+-- the totals of a recording of so many octets, all of whose frames were counted
+abbrev pub end_counts : ℕ → ℕ → ℕ → CheckTally → List TcView → Counts
+end_counts w vr octets t views =
+    record {
+      octets = octets;
+      frames = t.delivery.tally.frames;
+      skipped = t.delivery.tally.skipped;
+      rest = octets - t.delivery.tally.octets;
+      packets = t.delivery.packets;
+      idle = t.delivery.idle;
+      anomalies = t.anomalies + length (end_amiss w vr octets t views);
+    }

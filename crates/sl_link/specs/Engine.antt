@@ -36,15 +36,8 @@ counts_of NormaliseTm p = tm_counts p
 counts_of NormaliseTc p = tc_counts p
 
 -- the octets that are read at once, at most
-abbrev pub buffer_of : Engine → ℕ
-buffer_of ShowTm = 0x20000
-buffer_of ShowTc = 0x20000
-buffer_of CheckTm = 0x10000
-buffer_of CheckTc = 0x10000
-buffer_of PacketsTm = 0x10000
-buffer_of PacketsTc = 0x10000
-buffer_of NormaliseTm = 0x10000
-buffer_of NormaliseTc = 0x10000
+abbrev pub buffer : ℕ
+buffer = 0x10000
 
 -- the engine lists frames, for which it needs no memory
 abbrev pub lists_frames : Engine → Bool

@@ -9,6 +9,8 @@ pub mod Counted
 pub mod Deliver
 pub mod DeliverTc
 pub mod Delivering
+pub mod DeliveringTc
+pub mod DeliveringTm
 pub mod Engine
 pub mod Line
 pub mod Managed
@@ -19,6 +21,7 @@ pub mod PacketLine
 pub mod PacketListing
 pub mod PacketsTc
 pub mod PacketsTm
+pub mod Pass
 pub mod Run
 pub mod Separation
 pub mod ShowTc
@@ -26,9 +29,12 @@ pub mod ShowTm
 pub mod Status
 pub mod Streams
 pub mod Tally
+pub mod TcPass
+pub mod TmPass
 pub mod TcListing
 pub mod Totals
 pub mod TotalsModel
+pub mod Verb
 pub use Rattle.sl_cop.specs.Farm
 pub use Rattle.sl_cop.specs.FarmClcw
 pub use Rattle.sl_fields.specs.Clcw

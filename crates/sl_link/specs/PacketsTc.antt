@@ -1,16 +1,18 @@
 -- The packets of a TC recording, as `packets tc` lists them: by the accepted units that end the series they are of, idle
 -- ones left out.
-use Rattle.std.specs.Prelude.{ℕ, List, [], ◌∷◌, ◌++◌, map, codes, decimal, Result, Ok, Err}
+use Rattle.std.specs.Prelude.{◌≡◌, ℕ, List, [], ◌∷◌, ◌++◌, map, codes, decimal, Result, Ok, Err}
 use Rattle.std.specs.List.{concat}
 use Rattle.sl_packet.specs.Packets.{without_idle}
 use Rattle.sl_tcframe.specs.declared.tc_frame.TcSkip.{TcSkip}
 use Rattle.sl_tcframe.specs.TcDelimited.{tc_frames_of}
 use Rattle.sl_tcframe.specs.TcFrame.{TcView}
-use Rattle.sl_tcflow.specs.Receiving.{ended_by, map_of}
+use Rattle.sl_tcflow.specs.AcceptedUnit.{views_of}
+use Rattle.sl_tcflow.specs.Receiving.{IsIncompleteAround, ended_by, map_of}
 use Rattle.sl_link.specs.DeliverTc.{as_read}
-use Rattle.sl_link.specs.Delivering.{with_frame}
 use Rattle.sl_link.specs.Managed.{Parameters, tc_format}
+use Rattle.sl_link.specs.NormaliseTc.{tc_counted}
 use Rattle.sl_link.specs.PacketLine.{packet_line}
+use Rattle.sl_link.specs.Verb.{Listing, text_of}
 
 -- a virtual channel and a MAP
 abbrev pub channel_text : ℕ → ℕ → List ℕ
@@ -22,12 +24,24 @@ tc_packet_lines w vr views (Ok view) =
     concat (map (packet_line (channel_text view.vc (map_of view.content))) (without_idle (ended_by w vr views view)))
 tc_packet_lines w vr views (Err reason) = []
 
--- of frames that come after these
-abbrev pub tc_packet_lines_from : Parameters → List TcView → List (List ℕ) → List ℕ
-tc_packet_lines_from p views [] = []
-tc_packet_lines_from p views (frame ∷ frames) =
-    tc_packet_lines p.window p.vr views (as_read p frame) ++ tc_packet_lines_from p (with_frame views (as_read p frame)) frames
+-- the listing: the lines of the packets that end with each frame's unit
+abbrev pub packets_tc_listing : Parameters → Listing
+packets_tc_listing p =
+    record {
+      line = λ before frame. tc_packet_lines p.window p.vr (views_of (tc_format p) p.spacecraft before) (as_read p frame);
+      last = λ frames rest. [];
+      counts = tc_counted p;
+    }
 
--- the listing
+-- the text of a recording
 abbrev pub packets_tc_text : Parameters → List ℕ → List ℕ
-packets_tc_text p recording = tc_packet_lines_from p [] (tc_frames_of (tc_format p) recording)
+packets_tc_text p = text_of (tc_frames_of (tc_format p)) (packets_tc_listing p)
+
+-- a series is incomplete around the last of these frames, on the MAP of its unit, which is accepted
+pub record WantsMemoryTc (p : Parameters) (frames : List (List ℕ)) : Type 0 where
+  pub before : List (List ℕ)
+  pub frame : List ℕ
+  pub in_order : frames ≡ before ++ frame ∷ []
+  pub view : TcView
+  pub is_read : as_read p frame ≡ Ok view
+  pub incomplete : IsIncompleteAround p.window p.vr (views_of (tc_format p) p.spacecraft before) view

@@ -6,7 +6,7 @@ use Rattle.sl_link.specs.declared.counted.Counted.{Counted}
 use Rattle.sl_link.specs.declared.link_fault.LinkFault.{LinkFault}
 use Rattle.sl_link.specs.declared.link_fault.LinkFault.TheVariants.{Memory, Write}
 use Rattle.sl_link.specs.CommandLine.{AskFor, asked}
-use Rattle.sl_link.specs.Engine.{text_of, counts_of, buffer_of, is_check, lists_frames, writes_normal_form}
+use Rattle.sl_link.specs.Engine.{text_of, counts_of, buffer, is_check, lists_frames, writes_normal_form}
 use Rattle.sl_link.specs.Managed.{Parameters, managed_of}
 use Rattle.sl_link.specs.Streams.{IsRead, Translates, Stops}
 use Rattle.sl_link.specs.Totals.{Counts}
@@ -20,7 +20,7 @@ module _ {R W : Type 0} (remaining : R → Option (List ℕ)) (contents : W → 
   -- A fault stopped the engine, or the flush after it. A listing of frames needs no memory. Of a normal form
   -- anything is written only where the writer failed, and all is read then.
   pub record IsStoppedBy (reader reader' : Counted R) (writer writer' : Counted W) (request : Request) (managed : Parameters) (fault : LinkFault) : Type 0 where
-    pub cause : Stops remaining contents reader reader' writer writer' (text_of request.engine managed) managed.max_octets (buffer_of request.engine) fault
+    pub cause : Stops remaining contents reader reader' writer writer' (text_of request.engine managed) managed.max_octets buffer fault
     pub not_memory : lists_frames request.engine ≡ true → fault ≢ Memory
     pub all_read : writes_normal_form request.engine ≡ true → fault ≡ Write → IsRead remaining reader'
     pub nothing : writes_normal_form request.engine ≡ true → fault ≢ Write → writer' ≡ writer

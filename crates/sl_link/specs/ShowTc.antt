@@ -10,7 +10,7 @@ use Rattle.sl_cop.specs.FarmClcw.{clcw_of}
 use Rattle.sl_fields.specs.Clcw.{clcw_octets}
 use Rattle.sl_tcframe.specs.declared.tc_frame.TcSkip.{TcSkip}
 use Rattle.sl_tcframe.specs.declared.tc_frame.TcSkip.TheVariants.{Fecf, Version, Spacecraft, Long, Kind, Empty, Command}
-use Rattle.sl_tcframe.specs.TcDelimited.{tc_frames_of, tc_remainder_of}
+use Rattle.sl_tcframe.specs.TcDelimited.{tc_frames_of}
 use Rattle.sl_tcframe.specs.TcFrame.{TcView, Content, Ad, Bd, Unlock, SetVr, tc_frame}
 use Rattle.sl_tcflow.specs.AcceptedUnit.{channel_of, event_of, views_of}
 use Rattle.sl_tcflow.specs.Receiving.{farm_of}
@@ -18,6 +18,7 @@ use Rattle.sl_tcflow.specs.Series.{header_at}
 use Rattle.sl_link.specs.Line.{line_at, remainder_line}
 use Rattle.sl_link.specs.Managed.{Parameters, tc_format}
 use Rattle.sl_link.specs.Totals.{Counts}
+use Rattle.sl_link.specs.Verb.{Listing, counts_of, text_of}
 
 -- why a frame is skipped
 abbrev pub tc_skip_word : TcSkip → List ℕ
@@ -84,32 +85,38 @@ abbrev pub tc_line : Parameters → List (List ℕ) → List ℕ → List ℕ
 tc_line p before frame =
     line_at (length (concat before)) (tc_frame_text (farm_view p before) (tc_frame (tc_format p) p.spacecraft frame))
 
--- the lines of frames that come after these frames
-abbrev pub tc_lines : Parameters → List (List ℕ) → List (List ℕ) → List ℕ
-tc_lines p before [] = []
-tc_lines p before (frame ∷ frames) = tc_line p before frame ++ tc_lines p (before ++ frame ∷ []) frames
-
--- the listing of a recording
-abbrev pub show_tc_text : Parameters → List ℕ → List ℕ
-show_tc_text p recording =
-    let frames : List (List ℕ) = tc_frames_of (tc_format p) recording in
-    tc_lines p [] frames ++ remainder_line (length (concat frames)) (length (tc_remainder_of (tc_format p) recording))
-
 -- how many frames are skipped
 abbrev pub tc_skipped_of : Parameters → List (List ℕ) → ℕ
 tc_skipped_of p [] = 0
 tc_skipped_of p (frame ∷ frames) =
     (if is_err (tc_frame (tc_format p) p.spacecraft frame) then 1 else 0) + tc_skipped_of p frames
 
--- what is counted
-abbrev pub show_tc_counts : Parameters → List ℕ → Counts
-show_tc_counts p recording =
+-- what is counted in frames, and a remainder of this many octets
+abbrev pub show_tc_counted : Parameters → List (List ℕ) → ℕ → Counts
+show_tc_counted p frames rest =
     record {
-      octets = length recording;
-      frames = length (tc_frames_of (tc_format p) recording);
-      skipped = tc_skipped_of p (tc_frames_of (tc_format p) recording);
-      rest = length (tc_remainder_of (tc_format p) recording);
+      octets = length (concat frames) + rest;
+      frames = length frames;
+      skipped = tc_skipped_of p frames;
+      rest = rest;
       packets = 0;
       idle = 0;
       anomalies = 0;
     }
+
+-- the listing: a line for each frame, and one for a remainder
+abbrev pub show_tc_listing : Parameters → Listing
+show_tc_listing p =
+    record {
+      line = tc_line p;
+      last = λ frames rest. remainder_line (length (concat frames)) rest;
+      counts = show_tc_counted p;
+    }
+
+-- the text of a recording
+abbrev pub show_tc_text : Parameters → List ℕ → List ℕ
+show_tc_text p = text_of (tc_frames_of (tc_format p)) (show_tc_listing p)
+
+-- and what is counted in it
+abbrev pub show_tc_counts : Parameters → List ℕ → Counts
+show_tc_counts p = counts_of (tc_frames_of (tc_format p)) (show_tc_listing p)

@@ -1,15 +1,17 @@
 -- The listing of a TM recording's frames, a line for each, and then its remainder.
-use Rattle.std.specs.Prelude.{ℕ, ◌+◌, ◌-◌, if◌then◌else◌, List, [], ◌∷◌, ◌++◌, length, codes, decimal, Option, None, Some, Result, Ok, Err, is_err}
+use Rattle.std.specs.Prelude.{ℕ, ◌+◌, if◌then◌else◌, List, [], ◌∷◌, ◌++◌, length, codes, decimal, Option, None, Some, Result, Ok, Err, is_err}
+use Rattle.std.specs.List.{concat}
 use Rattle.hex.specs.Hex.{encode_lower}
 use Rattle.sl_fields.specs.Field.{flag, bit_of}
 use Rattle.sl_fields.specs.Clcw.{ClcwFields, clcw_word}
 use Rattle.sl_tmframe.specs.declared.tm_frame.TmSkip.{TmSkip}
 use Rattle.sl_tmframe.specs.declared.tm_frame.TmSkip.TheVariants.{Fecf, Version, Spacecraft}
 use Rattle.sl_tmframe.specs.TmFrame.{TmFormat, TmView, DataField, Packets, Idle, Opaque, tm_frame}
-use Rattle.sl_tmframe.specs.TmDelimited.{tm_frames_of, tm_remainder_of}
+use Rattle.sl_tmframe.specs.TmDelimited.{tm_frames_of}
 use Rattle.sl_link.specs.Line.{line_at, remainder_line}
 use Rattle.sl_link.specs.Managed.{Parameters, tm_format}
 use Rattle.sl_link.specs.Totals.{Counts}
+use Rattle.sl_link.specs.Verb.{Listing, counts_of, text_of}
 
 -- why a frame is skipped
 abbrev pub skip_word : TmSkip → List ℕ
@@ -60,19 +62,7 @@ abbrev pub frame_text : Result TmView TmSkip → List ℕ
 frame_text (Ok view) = view_text view
 frame_text (Err reason) = codes " skip " ++ skip_word reason
 
--- the lines of frames that lie end to end from an offset on
-abbrev pub frame_lines : TmFormat → ℕ → ℕ → List (List ℕ) → List ℕ
-frame_lines format spacecraft offset [] = []
-frame_lines format spacecraft offset (frame ∷ frames) =
-    line_at offset (frame_text (tm_frame format spacecraft frame))
-    ++ frame_lines format spacecraft (offset + length frame) frames
-
--- the listing of a recording
-abbrev pub show_tm_text : Parameters → List ℕ → List ℕ
-show_tm_text p recording =
-    let rest : ℕ = length (tm_remainder_of p.tm_length recording) in
-    frame_lines (tm_format p) p.spacecraft 0 (tm_frames_of p.tm_length recording)
-    ++ remainder_line (length recording - rest) rest
+-- ---- a recording
 
 -- how many frames are skipped
 abbrev pub skipped_of : TmFormat → ℕ → List (List ℕ) → ℕ
@@ -80,15 +70,32 @@ skipped_of format spacecraft [] = 0
 skipped_of format spacecraft (frame ∷ frames) =
     (if is_err (tm_frame format spacecraft frame) then 1 else 0) + skipped_of format spacecraft frames
 
--- what is counted
-abbrev pub show_tm_counts : Parameters → List ℕ → Counts
-show_tm_counts p recording =
+-- what is counted in frames, and a remainder of this many octets
+abbrev pub show_tm_counted : Parameters → List (List ℕ) → ℕ → Counts
+show_tm_counted p frames rest =
     record {
-      octets = length recording;
-      frames = length (tm_frames_of p.tm_length recording);
-      skipped = skipped_of (tm_format p) p.spacecraft (tm_frames_of p.tm_length recording);
-      rest = length (tm_remainder_of p.tm_length recording);
+      octets = length (concat frames) + rest;
+      frames = length frames;
+      skipped = skipped_of (tm_format p) p.spacecraft frames;
+      rest = rest;
       packets = 0;
       idle = 0;
       anomalies = 0;
     }
+
+-- the listing: a line for each frame at its offset, and one for a remainder
+abbrev pub show_tm_listing : Parameters → Listing
+show_tm_listing p =
+    record {
+      line = λ before frame. line_at (length (concat before)) (frame_text (tm_frame (tm_format p) p.spacecraft frame));
+      last = λ frames rest. remainder_line (length (concat frames)) rest;
+      counts = show_tm_counted p;
+    }
+
+-- the text of a recording
+abbrev pub show_tm_text : Parameters → List ℕ → List ℕ
+show_tm_text p = text_of (tm_frames_of p.tm_length) (show_tm_listing p)
+
+-- and what is counted in it
+abbrev pub show_tm_counts : Parameters → List ℕ → Counts
+show_tm_counts p = counts_of (tm_frames_of p.tm_length) (show_tm_listing p)

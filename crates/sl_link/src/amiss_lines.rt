@@ -10,7 +10,7 @@ use crate::totals::Totals;
 /// Adds the line of a remainder of so many octets at this offset, where there is one, and answers how many lines
 /// that is.
 pub fn remainder_lines(lines: &mut Lines, offset: u64, octets: u64) -> u64
-    requires { length lines.old ≤ 3840 }
+    requires { length lines.old ≤ 65280 }
     ensures text { lines.new ≡ lines.old ++ concat (remainder_amiss offset octets) }
     ensures number { result ≡ length (remainder_amiss offset octets) }
     ensures few { result ≤ octets }
@@ -25,7 +25,7 @@ pub fn remainder_lines(lines: &mut Lines, offset: u64, octets: u64) -> u64
 
 /// Adds the line of the totals.
 pub fn push_totals(lines: &mut Lines, totals: &Totals)
-    requires { length lines.old ≤ 3840 }
+    requires { length lines.old ≤ 65280 }
     ensures { lines.new ≡ lines.old ++ totals_line totals.now }
 {
     push_frames(lines, totals);
@@ -36,7 +36,7 @@ pub fn push_totals(lines: &mut Lines, totals: &Totals)
 }
 
 fn push_frames(lines: &mut Lines, totals: &Totals)
-    requires { length lines.old ≤ 3840 }
+    requires { length lines.old ≤ 65280 }
     ensures text { lines.new ≡ lines.old ++ frames_text totals.now }
     ensures short { length lines.new ≤ length lines.old + 56 }
 {
@@ -47,7 +47,7 @@ fn push_frames(lines: &mut Lines, totals: &Totals)
 }
 
 fn push_packets(lines: &mut Lines, totals: &Totals)
-    requires { length lines.old ≤ 3900 }
+    requires { length lines.old ≤ 65340 }
     ensures text { lines.new ≡ lines.old ++ packets_text totals.now }
     ensures short { length lines.new ≤ length lines.old + 55 }
 {

@@ -6,10 +6,10 @@ use arrayvec::ArrayVec;
 use itoa::Buffer;
 use std::marker::Model;
 
-/// Lines of a listing that are not written yet, 4096 octets at most.
+/// Lines of a listing that are not written yet, 65536 octets at most.
 #[derive(Drop)]
 pub struct Lines {
-    text: ArrayVec<u8, 4096>,
+    text: ArrayVec<u8, 65536>,
 }
 
 impl Model for Lines {
@@ -19,7 +19,7 @@ impl Model for Lines {
 
     ghost view = { λ l. l.text.items };
 
-    ghost invariant = { λ l. length l.text.items ≤ 4096 };
+    ghost invariant = { λ l. length l.text.items ≤ 65536 };
 }
 
 impl Lines {
@@ -48,15 +48,15 @@ impl Lines {
 
     /// There may be no room for one line more.
     pub fn is_full(&self) -> bool
-        ensures { result ≡ nat_lt 3840 (length self.now) }
+        ensures { result ≡ nat_lt 65280 (length self.now) }
     {
-        self.text.len() > 3840
+        self.text.len() > 65280
     }
 
     /// Adds a text, for which there is room.
     #[inline(always)]
     pub fn push(&mut self, text: &[u8])
-        requires { length self.old + length text.now ≤ 4096 }
+        requires { length self.old + length text.now ≤ 65536 }
         ensures { self.new ≡ self.old ++ text.now }
     {
         let _ = self.text.try_extend_from_slice(text);
@@ -64,7 +64,7 @@ impl Lines {
 
     /// Adds a number in decimal.
     pub fn push_number(&mut self, number: u64)
-        requires { length self.old + 20 ≤ 4096 }
+        requires { length self.old + 20 ≤ 65536 }
         ensures text { self.new ≡ self.old ++ decimal number }
         ensures long { length self.new ≤ length self.old + 20 }
     {
@@ -74,7 +74,7 @@ impl Lines {
     /// Adds a number of one octet in decimal. Most numbers of a listing are such, and this is faster.
     #[inline(always)]
     pub fn push_octet(&mut self, number: u8)
-        requires { length self.old + 3 ≤ 4096 }
+        requires { length self.old + 3 ≤ 65536 }
         ensures text { self.new ≡ self.old ++ decimal number }
         ensures short { length self.new ≤ length self.old + 3 }
     {
@@ -94,7 +94,7 @@ impl Lines {
     /// Adds octets in hexadecimal, 128 at most.
     pub fn push_hexadecimal(&mut self, octets: &[u8])
         requires short { length octets.now ≤ 128 }
-        requires room { length self.old + 2 * length octets.now ≤ 4096 }
+        requires room { length self.old + 2 * length octets.now ≤ 65536 }
         ensures { self.new ≡ self.old ++ encode_lower octets.now }
     {
         let mut digits = [0; 256];
@@ -105,7 +105,7 @@ impl Lines {
 
     /// Adds a word in hexadecimal.
     pub fn push_hex(&mut self, word: &[u8; 4])
-        requires { length self.old + 8 ≤ 4096 }
+        requires { length self.old + 8 ≤ 65536 }
         ensures text { self.new ≡ self.old ++ encode_lower word.now }
         ensures len { length self.new ≡ length self.old + 8 }
     {

@@ -13,7 +13,7 @@ use std::io::Write;
 #[inline(always)]
 pub fn make_room<W: Write>(writer: &mut Counted<W>, lines: &mut Lines) -> Result<(), LinkFault>
     ensures kept { OnOk result (AddsText W.contents writer.old writer.new lines.old lines.new []) }
-    ensures room { OnOk result (length lines.new ≤ 3840) }
+    ensures room { OnOk result (length lines.new ≤ 65280) }
     ensures fault { IfErr result (StopsWriting W.contents writer.old writer.new lines.old) }
 {
     if !lines.is_full() {
@@ -34,27 +34,9 @@ pub fn flush<W: Write>(writer: &mut Counted<W>, lines: &mut Lines) -> Result<(),
     Ok(())
 }
 
-/// The remainder, where there is one.
-pub fn show_rest<W: Write>(
-    writer: &mut Counted<W>,
-    lines: &mut Lines,
-    offset: u64,
-    octets: u64,
-) -> Result<(), LinkFault>
-    requires { lines.old ≡ [] }
-    ensures line { OnOk result (WritesText W.contents writer.old writer.new (remainder_line offset octets)) }
-    ensures fault { IfErr result (StopsWriting W.contents writer.old writer.new (remainder_line offset octets)) }
-{
-    if octets == 0 {
-        return Ok(());
-    }
-    rest_line(lines, offset, octets);
-    flush(writer, lines)
-}
-
 /// Adds the line of a remainder of so many octets at this offset.
 pub fn rest_line(lines: &mut Lines, offset: u64, octets: u64)
-    requires { length lines.old ≤ 3840 }
+    requires { length lines.old ≤ 65280 }
     ensures text { lines.new ≡ lines.old ++ line_at offset (codes " rest " ++ decimal octets) }
     ensures short { length lines.new ≤ length lines.old + 50 }
 {

@@ -19,7 +19,7 @@ pub fn packet_line<W: Write>(
     packet: &[u8],
 ) -> Result<(), LinkFault>
     requires packet { 6 ≤ length packet.now }
-    requires room { length lines.old ≤ 3900 }
+    requires room { length lines.old ≤ 65340 }
     ensures line { OnOk result (AddsText W.contents writer.old writer.new lines.old lines.new (packet_text packet.now)) }
     ensures fault { IfErr result (StopsWriting W.contents writer.old writer.new (lines.old ++ packet_text packet.now)) }
 {
@@ -33,7 +33,7 @@ pub fn packet_line<W: Write>(
 // Adds the fields of the primary header, and how many octets there are.
 fn push_fields(lines: &mut Lines, packet: &[u8])
     requires packet { 6 ≤ length packet.now }
-    requires room { length lines.old ≤ 3900 }
+    requires room { length lines.old ≤ 65340 }
     ensures { lines.new ≡ lines.old ++ fields_text packet.now }
 {
     let header = match packet.first_chunk::<6>() {
@@ -45,7 +45,7 @@ fn push_fields(lines: &mut Lines, packet: &[u8])
 }
 
 fn push_size(lines: &mut Lines, octets: u64)
-    requires { length lines.old ≤ 4060 }
+    requires { length lines.old ≤ 65500 }
     ensures { lines.new ≡ lines.old ++ size_text octets }
 {
     lines.push(b" octets ");
@@ -54,7 +54,7 @@ fn push_size(lines: &mut Lines, octets: u64)
 }
 
 fn push_header(lines: &mut Lines, header: &PacketHeader)
-    requires { length lines.old ≤ 3900 }
+    requires { length lines.old ≤ 65340 }
     ensures text { lines.new ≡ lines.old ++ header_text header.now }
     ensures short { length lines.new ≤ length lines.old + 110 }
 {
@@ -66,7 +66,7 @@ fn push_header(lines: &mut Lines, header: &PacketHeader)
 }
 
 fn push_numbers(lines: &mut Lines, header: &PacketHeader)
-    requires { length lines.old ≤ 3950 }
+    requires { length lines.old ≤ 65390 }
     ensures text { lines.new ≡ lines.old ++ numbers_text header.now }
     ensures short { length lines.new ≤ length lines.old + 75 }
 {

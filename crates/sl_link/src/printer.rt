@@ -87,7 +87,7 @@ fn print_packet<W: Write>(
 }
 
 fn push_channel(lines: &mut Lines, kind: ChannelKind, channel: u16)
-    requires { length lines.old ≤ 3840 }
+    requires { length lines.old ≤ 65280 }
     ensures text { lines.new ≡ lines.old ++ channel_name kind channel }
     ensures short { length lines.new ≤ length lines.old + 50 }
 {
@@ -101,7 +101,7 @@ fn push_channel(lines: &mut Lines, kind: ChannelKind, channel: u16)
 }
 
 fn push_map(lines: &mut Lines, vc: u16, map: u16)
-    requires { length lines.old ≤ 3840 }
+    requires { length lines.old ≤ 65280 }
     ensures text { lines.new ≡ lines.old ++ channel_text vc map }
     ensures short { length lines.new ≤ length lines.old + 50 }
 {

@@ -17,7 +17,7 @@ use sl_tcframe::{TcContent, TcFrame, TcSkip};
 
 /// Adds the line of a frame that is skipped.
 pub fn skip_line(lines: &mut Lines, offset: u64, reason: TcSkip)
-    requires { length lines.old ≤ 3840 }
+    requires { length lines.old ≤ 65280 }
     ensures { lines.new ≡ lines.old ++ line_at offset (codes " skip " ++ tc_skip_word reason) }
 {
     lines.push_number(offset);
@@ -27,7 +27,7 @@ pub fn skip_line(lines: &mut Lines, offset: u64, reason: TcSkip)
 
 /// Adds the lines of what is amiss with a frame that is read, and answers how many they are.
 pub fn amiss_lines(lines: &mut Lines, offset: u64, view: &TcFrame, step: &TcStep) -> u64
-    requires { length lines.old ≤ 3840 }
+    requires { length lines.old ≤ 65280 }
     ensures text { lines.new ≡ lines.old ++ concat (view_amiss offset view.now step.now) }
     ensures number { result ≡ length (view_amiss offset view.now step.now) }
     ensures few { result ≤ 5 }
@@ -55,7 +55,7 @@ fn map_in(carried: &TcContent) -> u8
 
 // FARM-1 answers this verdict.
 fn verdict_lines(lines: &mut Lines, offset: u64, view: &TcFrame, verdict: Verdict) -> u64
-    requires { length lines.old ≤ 3840 }
+    requires { length lines.old ≤ 65280 }
     ensures text { lines.new ≡ lines.old ++ concat (verdict_amiss offset view.now.vc verdict view.now.content) }
     ensures number { result ≡ length (verdict_amiss offset view.now.vc verdict view.now.content) }
     ensures few { result ≤ 1 }
@@ -71,7 +71,7 @@ fn verdict_lines(lines: &mut Lines, offset: u64, view: &TcFrame, verdict: Verdic
 
 // FARM-1 discards a frame, if it is of type AD.
 fn discarded_lines(lines: &mut Lines, offset: u64, view: &TcFrame, verdict: Verdict) -> u64
-    requires { length lines.old ≤ 3840 }
+    requires { length lines.old ≤ 65280 }
     ensures text { lines.new ≡ lines.old ++ concat (discarded_amiss offset view.now.vc verdict view.now.content) }
     ensures number { result ≡ length (discarded_amiss offset view.now.vc verdict view.now.content) }
     ensures few { result ≤ 1 }
@@ -87,7 +87,7 @@ fn discarded_lines(lines: &mut Lines, offset: u64, view: &TcFrame, verdict: Verd
 }
 
 fn discarded_line(lines: &mut Lines, offset: u64, vc: u8, verdict: Verdict, ns: u8)
-    requires { length lines.old ≤ 3840 }
+    requires { length lines.old ≤ 65280 }
     ensures text { lines.new ≡ lines.old ++ line_at offset (codes " " ++ verdict_word verdict ++ codes " vc " ++ decimal vc ++ codes " ad " ++ decimal ns) }
     ensures short { length lines.new ≤ length lines.old + 43 }
 {
@@ -101,7 +101,7 @@ fn discarded_line(lines: &mut Lines, offset: u64, vc: u8, verdict: Verdict, ns: 
 }
 
 fn push_verdict(lines: &mut Lines, verdict: Verdict)
-    requires { length lines.old ≤ 4000 }
+    requires { length lines.old ≤ 65440 }
     ensures text { lines.new ≡ lines.old ++ (codes " " ++ verdict_word verdict) }
     ensures short { length lines.new ≤ length lines.old + 8 }
 {
@@ -117,7 +117,7 @@ fn push_verdict(lines: &mut Lines, verdict: Verdict)
 
 // This is told of a virtual channel and a MAP, if it holds.
 fn told_lines(lines: &mut Lines, offset: u64, what: &[u8], vc: u8, map: u8, holds: bool) -> u64
-    requires room { length lines.old ≤ 4000 }
+    requires room { length lines.old ≤ 65440 }
     requires what { length what.now ≤ 6 }
     ensures text { lines.new ≡ lines.old ++ concat (told_amiss offset what.now vc map holds) }
     ensures number { result ≡ length (told_amiss offset what.now vc map holds) }
@@ -136,7 +136,7 @@ fn told_lines(lines: &mut Lines, offset: u64, what: &[u8], vc: u8, map: u8, hold
 
 // An incomplete series of so many octets is dropped, if one is.
 fn dropped_lines(lines: &mut Lines, offset: u64, vc: u8, map: u8, octets: Option<u32>) -> u64
-    requires { length lines.old ≤ 4000 }
+    requires { length lines.old ≤ 65440 }
     ensures text { lines.new ≡ lines.old ++ concat (dropped_amiss offset vc map octets) }
     ensures number { result ≡ length (dropped_amiss offset vc map octets) }
     ensures few { result ≤ 1 }
@@ -153,7 +153,7 @@ fn dropped_lines(lines: &mut Lines, offset: u64, vc: u8, map: u8, octets: Option
 
 // So many octets are left after the last packet of a service data unit.
 fn tail_lines(lines: &mut Lines, offset: u64, vc: u8, map: u8, octets: u32) -> u64
-    requires { length lines.old ≤ 4028 }
+    requires { length lines.old ≤ 65468 }
     ensures text { lines.new ≡ lines.old ++ concat (tail_amiss offset vc map octets) }
     ensures number { result ≡ length (tail_amiss offset vc map octets) }
     ensures few { result ≤ 1 }
@@ -167,7 +167,7 @@ fn tail_lines(lines: &mut Lines, offset: u64, vc: u8, map: u8, octets: u32) -> u
 
 /// Adds the line of a series of so many octets that is incomplete at the end of the recording.
 pub fn open_line(lines: &mut Lines, offset: u64, vc: u8, map: u8, octets: u32)
-    requires { length lines.old ≤ 3840 }
+    requires { length lines.old ≤ 65280 }
     ensures { lines.new ≡ lines.old ++ line_at offset (codes " open" ++ map_text vc map ++ codes " octets " ++ decimal octets) }
 {
     octets_line(lines, offset, b" open", vc, map, octets);
@@ -175,7 +175,7 @@ pub fn open_line(lines: &mut Lines, offset: u64, vc: u8, map: u8, octets: u32)
 
 // What became of so many octets of a virtual channel and a MAP.
 fn octets_line(lines: &mut Lines, offset: u64, fate: &[u8], vc: u8, map: u8, octets: u32)
-    requires room { length lines.old + length fate.now ≤ 4033 }
+    requires room { length lines.old + length fate.now ≤ 65473 }
     requires fate { length fate.now ≤ 8 }
     ensures text { lines.new ≡ lines.old ++ line_at offset (fate.now ++ map_text vc map ++ codes " octets " ++ decimal octets) }
     ensures short { length lines.new ≤ length lines.old + (54 + length fate.now) }
@@ -190,7 +190,7 @@ fn octets_line(lines: &mut Lines, offset: u64, fate: &[u8], vc: u8, map: u8, oct
 
 // A number of 32 bits has ten digits at most.
 fn push_count(lines: &mut Lines, count: u32)
-    requires { length lines.old + 20 ≤ 4096 }
+    requires { length lines.old + 20 ≤ 65536 }
     ensures text { lines.new ≡ lines.old ++ decimal count }
     ensures short { length lines.new ≤ length lines.old + 10 }
 {
@@ -198,7 +198,7 @@ fn push_count(lines: &mut Lines, count: u32)
 }
 
 fn push_map(lines: &mut Lines, vc: u8, map: u8)
-    requires { length lines.old ≤ 4060 }
+    requires { length lines.old ≤ 65500 }
     ensures text { lines.new ≡ lines.old ++ map_text vc map }
     ensures short { length lines.new ≤ length lines.old + 15 }
 {

@@ -22,7 +22,7 @@ pub fn tc_frame_line(
     farms: &mut Farms,
     read: &Result<TcFrame, TcSkip>,
 )
-    requires { length lines.old ≤ 3840 }
+    requires { length lines.old ≤ 65280 }
     ensures line { lines.new ≡ lines.old ++ line_at offset (tc_frame_text (farm_at farms.old) read.now) }
     ensures farms { farms.new ≡ farms_after farms.old read.now }
 {
@@ -36,7 +36,7 @@ pub fn tc_frame_line(
 
 /// Adds why a frame is skipped.
 pub fn push_skip(lines: &mut Lines, reason: TcSkip)
-    requires { length lines.old ≤ 3860 }
+    requires { length lines.old ≤ 65300 }
     ensures text { lines.new ≡ lines.old ++ (codes " skip " ++ tc_skip_word reason) }
     ensures short { length lines.new ≤ length lines.old + 16 }
 {
@@ -53,7 +53,7 @@ pub fn push_skip(lines: &mut Lines, reason: TcSkip)
 }
 
 fn push_view(lines: &mut Lines, farms: &mut Farms, frame: &TcFrame)
-    requires { length lines.old ≤ 3860 }
+    requires { length lines.old ≤ 65300 }
     ensures text { lines.new ≡ lines.old ++ tc_view_text (farm_at farms.old frame.now.vc) frame.now }
     ensures farms { farms.new ≡ farms_with farms.old frame.now.vc (event_of frame.now.content) }
     ensures short { length lines.new ≤ length lines.old + 120 }
@@ -79,7 +79,7 @@ fn event(carried: &TcContent) -> FarmEvent
 
 // Takes a frame of the virtual channel, and adds what became of it and the CLCW after it.
 fn push_step(lines: &mut Lines, farms: &mut Farms, vc: u8, event: FarmEvent)
-    requires room { length lines.old ≤ 3960 }
+    requires room { length lines.old ≤ 65400 }
     requires vc { vc ≤ 63 }
     ensures text { lines.new ≡ lines.old ++ (codes " " ++ step_text vc (farm_step (farm_at farms.old vc).window (farm_states farms.old vc) event)) }
     ensures farms { farms.new ≡ farms_with farms.old vc event }
@@ -93,7 +93,7 @@ fn push_step(lines: &mut Lines, farms: &mut Farms, vc: u8, event: FarmEvent)
 // Nearly all are accepted, so each text is pushed where it is known. Of the sequence flags nothing is known before,
 // so their text is chosen first and pushed then: both are measured.
 fn push_verdict(lines: &mut Lines, verdict: Verdict)
-    requires { length lines.old ≤ 4000 }
+    requires { length lines.old ≤ 65440 }
     ensures text { lines.new ≡ lines.old ++ (codes " " ++ verdict_word verdict ++ codes " clcw ") }
     ensures short { length lines.new ≤ length lines.old + 16 }
 {
@@ -108,7 +108,7 @@ fn push_verdict(lines: &mut Lines, verdict: Verdict)
 }
 
 fn push_content(lines: &mut Lines, carried: TcContent)
-    requires room { length lines.old ≤ 3880 }
+    requires room { length lines.old ≤ 65320 }
     requires unit { IsContent (content carried) }
     ensures text { lines.new ≡ lines.old ++ (codes " " ++ content_text (content carried.entry)) }
     ensures short { length lines.new ≤ length lines.old + 70 }
@@ -132,7 +132,7 @@ fn push_content(lines: &mut Lines, carried: TcContent)
 }
 
 fn push_unit(lines: &mut Lines, unit: &[u8])
-    requires room { length lines.old ≤ 3900 }
+    requires room { length lines.old ≤ 65340 }
     requires some { 0 < length unit.now }
     ensures text { lines.new ≡ lines.old ++ unit_text unit.now }
     ensures short { length lines.new ≤ length lines.old + 60 }
@@ -146,7 +146,7 @@ fn push_unit(lines: &mut Lines, unit: &[u8])
 
 // Most units are short.
 fn push_octet_count(lines: &mut Lines, octets: usize)
-    requires { length lines.old ≤ 4000 }
+    requires { length lines.old ≤ 65440 }
     ensures text { lines.new ≡ lines.old ++ decimal octets }
     ensures short { length lines.new ≤ length lines.old + 20 }
 {
@@ -170,7 +170,7 @@ pub fn split_unit(unit: &[u8]) -> (SegmentHeader, &[u8])
 }
 
 fn push_flags(lines: &mut Lines, flags: u8)
-    requires room { length lines.old ≤ 4000 }
+    requires room { length lines.old ≤ 65440 }
     requires fits { flags < 4 }
     ensures text { lines.new ≡ lines.old ++ (codes " segment " ++ flags_word flags ++ codes " map ") }
     ensures short { length lines.new ≤ length lines.old + 20 }

@@ -14,7 +14,7 @@ use sl_tmframe::{TmField, TmFrame, TmSkip};
 
 /// Adds the line of a frame that is skipped.
 pub fn skip_line(lines: &mut Lines, offset: u64, reason: TmSkip)
-    requires { length lines.old ≤ 3840 }
+    requires { length lines.old ≤ 65280 }
     ensures { lines.new ≡ lines.old ++ line_at offset (codes " skip " ++ skip_word reason) }
 {
     lines.push_number(offset);
@@ -24,7 +24,7 @@ pub fn skip_line(lines: &mut Lines, offset: u64, reason: TmSkip)
 
 /// Adds the lines of what is amiss in a frame that is read, and answers how many they are.
 pub fn amiss_lines(lines: &mut Lines, offset: u64, view: &TmFrame, step: &TmStep) -> u64
-    requires { length lines.old ≤ 3840 }
+    requires { length lines.old ≤ 65280 }
     ensures text { lines.new ≡ lines.old ++ concat (view_amiss offset view.now step.now.gap step.now.dropped step.now.foreign) }
     ensures number { result ≡ length (view_amiss offset view.now step.now.gap step.now.dropped step.now.foreign) }
     ensures few { result ≤ 4 }
@@ -39,7 +39,7 @@ pub fn amiss_lines(lines: &mut Lines, offset: u64, view: &TmFrame, step: &TmStep
 
 // Another virtual channel frame count was expected.
 fn gap_lines(lines: &mut Lines, offset: u64, view: &TmFrame, gap: Option<u8>) -> u64
-    requires { length lines.old ≤ 3900 }
+    requires { length lines.old ≤ 65340 }
     ensures text { lines.new ≡ lines.old ++ concat (gap_amiss offset view.now gap) }
     ensures number { result ≡ length (gap_amiss offset view.now gap) }
     ensures few { result ≤ 1 }
@@ -55,7 +55,7 @@ fn gap_lines(lines: &mut Lines, offset: u64, view: &TmFrame, gap: Option<u8>) ->
 }
 
 fn gap_line(lines: &mut Lines, offset: u64, view: &TmFrame, expected: u8)
-    requires { length lines.old ≤ 3900 }
+    requires { length lines.old ≤ 65340 }
     ensures text { lines.new ≡ lines.old ++ line_at offset (gap_text view.now expected) }
     ensures short { length lines.new ≤ length lines.old + 55 }
 {
@@ -65,7 +65,7 @@ fn gap_line(lines: &mut Lines, offset: u64, view: &TmFrame, expected: u8)
 }
 
 fn push_gap(lines: &mut Lines, view: &TmFrame, expected: u8)
-    requires { length lines.old ≤ 3920 }
+    requires { length lines.old ≤ 65360 }
     ensures text { lines.new ≡ lines.old ++ gap_text view.now expected }
     ensures short { length lines.new ≤ length lines.old + 34 }
 {
@@ -79,7 +79,7 @@ fn push_gap(lines: &mut Lines, view: &TmFrame, expected: u8)
 
 // An incomplete packet of so many octets is broken off.
 fn dropped_lines(lines: &mut Lines, offset: u64, vc: u8, octets: u32) -> u64
-    requires { length lines.old ≤ 3900 }
+    requires { length lines.old ≤ 65340 }
     ensures text { lines.new ≡ lines.old ++ concat (dropped_amiss offset vc octets) }
     ensures number { result ≡ length (dropped_amiss offset vc octets) }
     ensures few { result ≤ 1 }
@@ -95,7 +95,7 @@ fn dropped_lines(lines: &mut Lines, offset: u64, vc: u8, octets: u32) -> u64
 /// Adds the line of a packet of so many octets that is incomplete after the last frame of its virtual channel, where
 /// there is one, and answers how many lines that is.
 pub fn held_lines(lines: &mut Lines, offset: u64, vc: u8, octets: u32) -> u64
-    requires { length lines.old ≤ 3900 }
+    requires { length lines.old ≤ 65340 }
     ensures text { lines.new ≡ lines.old ++ concat (held_amiss offset vc octets) }
     ensures number { result ≡ length (held_amiss offset vc octets) }
     ensures few { result ≤ 1 }
@@ -110,7 +110,7 @@ pub fn held_lines(lines: &mut Lines, offset: u64, vc: u8, octets: u32) -> u64
 
 // What became of a packet of so many octets.
 fn octets_line(lines: &mut Lines, offset: u64, fate: &[u8], vc: u8, octets: u32)
-    requires room { length lines.old ≤ 3900 }
+    requires room { length lines.old ≤ 65340 }
     requires fate { length fate.now ≤ 12 }
     ensures text { lines.new ≡ lines.old ++ line_at offset (fate.now ++ decimal vc ++ codes " octets " ++ decimal octets) }
     ensures short { length lines.new ≤ length lines.old + 64 }
@@ -125,7 +125,7 @@ fn octets_line(lines: &mut Lines, offset: u64, fate: &[u8], vc: u8, octets: u32)
 
 // The frame is opaque.
 fn opaque_lines(lines: &mut Lines, offset: u64, vc: u8, field: TmField) -> u64
-    requires { length lines.old ≤ 4000 }
+    requires { length lines.old ≤ 65440 }
     ensures text { lines.new ≡ lines.old ++ concat (opaque_amiss offset vc (data_field field.entry)) }
     ensures number { result ≡ length (opaque_amiss offset vc (data_field field.entry)) }
     ensures few { result ≤ 1 }
@@ -142,7 +142,7 @@ fn opaque_lines(lines: &mut Lines, offset: u64, vc: u8, field: TmField) -> u64
 
 // Octets of another packet version stand at a packet start.
 fn foreign_lines(lines: &mut Lines, offset: u64, vc: u8, is_foreign: bool) -> u64
-    requires { length lines.old ≤ 4000 }
+    requires { length lines.old ≤ 65440 }
     ensures text { lines.new ≡ lines.old ++ concat (foreign_amiss offset vc is_foreign) }
     ensures number { result ≡ length (foreign_amiss offset vc is_foreign) }
     ensures few { result ≤ 1 }
@@ -157,7 +157,7 @@ fn foreign_lines(lines: &mut Lines, offset: u64, vc: u8, is_foreign: bool) -> u6
 
 // What holds of a frame of the virtual channel.
 fn vc_line(lines: &mut Lines, offset: u64, what: &[u8], vc: u8)
-    requires room { length lines.old ≤ 4000 }
+    requires room { length lines.old ≤ 65440 }
     requires what { length what.now ≤ 12 }
     ensures text { lines.new ≡ lines.old ++ line_at offset (what.now ++ decimal vc) }
     ensures short { length lines.new ≤ length lines.old + 36 }

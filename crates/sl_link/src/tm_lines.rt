@@ -11,7 +11,7 @@ use sl_tmframe::{TmField, TmFrame, TmSkip};
 
 /// Adds the line of a frame at this offset.
 pub fn frame_line(lines: &mut Lines, offset: u64, read: &Result<TmFrame, TmSkip>)
-    requires { length lines.old ≤ 3840 }
+    requires { length lines.old ≤ 65280 }
     ensures { lines.new ≡ lines.old ++ line_at offset (frame_text read.now) }
 {
     lines.push_number(offset);
@@ -24,7 +24,7 @@ pub fn frame_line(lines: &mut Lines, offset: u64, read: &Result<TmFrame, TmSkip>
 
 /// Adds why a frame is skipped.
 pub fn push_skip(lines: &mut Lines, reason: TmSkip)
-    requires { length lines.old ≤ 3860 }
+    requires { length lines.old ≤ 65300 }
     ensures text { lines.new ≡ lines.old ++ (codes " skip " ++ skip_word reason) }
     ensures short { length lines.new ≤ length lines.old + 16 }
 {
@@ -37,7 +37,7 @@ pub fn push_skip(lines: &mut Lines, reason: TmSkip)
 }
 
 fn push_view(lines: &mut Lines, frame: &TmFrame)
-    requires { length lines.old ≤ 3860 }
+    requires { length lines.old ≤ 65300 }
     ensures text { lines.new ≡ lines.old ++ view_text frame.now }
     ensures short { length lines.new ≤ length lines.old + 135 }
 {
@@ -48,7 +48,7 @@ fn push_view(lines: &mut Lines, frame: &TmFrame)
 }
 
 fn push_counts(lines: &mut Lines, frame: &TmFrame)
-    requires { length lines.old ≤ 3860 }
+    requires { length lines.old ≤ 65300 }
     ensures text { lines.new ≡ lines.old ++ counts_text frame.now }
     ensures short { length lines.new ≤ length lines.old + 28 }
 {
@@ -61,7 +61,7 @@ fn push_counts(lines: &mut Lines, frame: &TmFrame)
 }
 
 fn push_field(lines: &mut Lines, field: TmField)
-    requires { length lines.old ≤ 3900 }
+    requires { length lines.old ≤ 65340 }
     ensures text { lines.new ≡ lines.old ++ field_text (data_field field.entry) }
     ensures short { length lines.new ≤ length lines.old + 26 }
 {
@@ -80,7 +80,7 @@ fn push_field(lines: &mut Lines, field: TmField)
 }
 
 fn push_control(lines: &mut Lines, control: Option<[u8; 4]>)
-    requires { length lines.old ≤ 3920 }
+    requires { length lines.old ≤ 65360 }
     ensures text { lines.new ≡ lines.old ++ control_text control }
     ensures short { length lines.new ≤ length lines.old + 80 }
 {
@@ -90,7 +90,7 @@ fn push_control(lines: &mut Lines, control: Option<[u8; 4]>)
 }
 
 fn push_word(lines: &mut Lines, word: &[u8; 4])
-    requires { length lines.old ≤ 3920 }
+    requires { length lines.old ≤ 65360 }
     ensures text { lines.new ≡ lines.old ++ word_text word.now }
     ensures short { length lines.new ≤ length lines.old + 80 }
 {
@@ -106,7 +106,7 @@ fn push_word(lines: &mut Lines, word: &[u8; 4])
 }
 
 fn push_clcw(lines: &mut Lines, clcw: &Clcw)
-    requires { length lines.old ≤ 3934 }
+    requires { length lines.old ≤ 65374 }
     ensures text { lines.new ≡ lines.old ++ clcw_fields_text clcw.now }
     ensures short { length lines.new ≤ length lines.old + 60 }
 {
@@ -126,7 +126,7 @@ fn push_clcw(lines: &mut Lines, clcw: &Clcw)
 
 /// Adds a flag as 0 or 1.
 pub fn push_flag(lines: &mut Lines, is_set: bool)
-    requires { length lines.old ≤ 4094 }
+    requires { length lines.old ≤ 65534 }
     ensures text { lines.new ≡ lines.old ++ decimal (bit_of is_set) }
     ensures short { length lines.new ≡ length lines.old + 1 }
 {

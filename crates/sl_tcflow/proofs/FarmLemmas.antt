@@ -4,10 +4,12 @@ use Rattle.std.specs.List.{slice_index_or}
 use Rattle.std.proofs.lemmas.Bool.Decides.{eqb_tells}
 use Rattle.std.proofs.lemmas.List.{get_or_default, get_or-set_same, get_or-set_other, get_or-replicate, length-set, length-replicate}
 use Rattle.std.proofs.lemmas.List.Elements.{filter-append}
-use Rattle.sl_cop.specs.Farm.{FarmState, FarmView, farm_start, farm_step, state_after}
+use Rattle.sl_cop.specs.declared.verdict.Verdict.{Verdict}
+use Rattle.sl_cop.specs.Farm.{FarmView, farm_start, farm_step}
+use Rattle.sl_cop.proofs.ReorderedLemmas.{state_more}
 use Rattle.sl_tcframe.specs.TcFrame.{TcView}
-use Rattle.sl_tcflow.specs.AcceptedUnit.{channel_of, event_of, events_of, farm_after}
-use Rattle.sl_tcflow.specs.Receiving.{HaveStepped, HasProcessed, channel_at, farm_at_start, farm_of}
+use Rattle.sl_tcflow.specs.AcceptedUnit.{channel_of, event_of, farm_after}
+use Rattle.sl_tcflow.specs.Receiving.{AreIncomplete, ForIncomplete, ForProcessed, HasProcessed, HaveStepped, ReceiverState, channel_at, farm_at_start, farm_of, verdict_on}
 
 -- ---- one of the channels
 
@@ -29,14 +31,9 @@ other_channel vc views next other =
 
 -- ---- FARM-1 of a channel
 
-state_from : (w : ℕ) (s : FarmState) (channel : List TcView) (next : TcView)
-    → state_after w s (events_of (channel ++ next ∷ [])) ≡ (farm_step w (state_after w s (events_of channel)) (event_of next.content)).1
-state_from w s [] next = refl
-state_from w s (view ∷ channel) next = state_from w (farm_step w s (event_of view.content)).1 channel next
-
 pub farm_after-push : (w vr : ℕ) (channel : List TcView) (next : TcView)
     → farm_after w vr (channel ++ next ∷ []) ≡ (farm_step w (farm_after w vr channel) (event_of next.content)).1
-farm_after-push w vr channel next = state_from w (farm_start vr) channel next
+farm_after-push w vr channel next = state_more (λ (view : TcView). event_of view.content) w (farm_start vr) channel next
 
 -- ---- all of them
 
@@ -84,3 +81,14 @@ processed_none w vr farms incomplete all none =
       farms = subst (λ l. HaveStepped w vr l []) (sym all) (stepped_none w vr);
       series = λ vc mid vc_fits mid_fits. ap (λ l. slice_index_or l (channel_at vc mid) None) none;
     }
+
+-- ---- the next frame
+
+-- what is known of the frames that left these series, by the verdict on the next one, is known of those that were processed
+pub of_processed : (holds : ℕ → ℕ → List TcView → Type 0) (inside state : ReceiverState) (verdict : Verdict) (next : TcView) → inside ≡ state
+    → ((w vr : ℕ) (views : List TcView) → HaveStepped w vr inside.farms views → verdict ≡ verdict_on w vr views next)
+    → ForIncomplete inside.incomplete verdict next holds → ForProcessed state holds
+of_processed holds inside state verdict next same verdict_is known w vr views processed =
+    let farms = subst (λ (s : ReceiverState). HaveStepped w vr s.farms views) (sym same) processed.farms in
+    let series = subst (λ (s : ReceiverState). AreIncomplete w vr s.incomplete views) (sym same) processed.series in
+    known w vr views series (verdict_is w vr views farms)

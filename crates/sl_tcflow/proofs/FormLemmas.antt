@@ -7,11 +7,12 @@ use Rattle.sl_fields.specs.SegmentHeader.{SegmentFields}
 use Rattle.sl_fields.proofs.FecfLemmas.{fecf_len_le}
 use Rattle.sl_cop.specs.declared.farm_event.FarmEvent.TheVariants as event
 use Rattle.sl_cop.specs.declared.verdict.Verdict.TheVariants.{Accept}
+use Rattle.sl_cop.specs.Accepted.{accepted_by}
 use Rattle.sl_cop.specs.Farm.{area_of, distance, farm_start, farm_step, state_in, verdict_in, verdicts_of}
 use Rattle.sl_tcframe.specs.AdFrame.{FitAdFrame, room_of, ad_frame}
 use Rattle.sl_tcframe.specs.TcFrame.{TcFormat, TcView, Ad, is_cut, tc_frame}
 use Rattle.sl_tcframe.proofs.AdFrameLemmas.{ad_frame_back, ad_frame_cut, length-ad_frame, within}
-use Rattle.sl_tcflow.specs.AcceptedUnit.{views_of, channel_of, events_of, unit_by, units_by, accepted_units}
+use Rattle.sl_tcflow.specs.AcceptedUnit.{views_of, channel_of, events_of, unit_of, unit_by, accepted_units}
 use Rattle.sl_tcflow.specs.Canonical.{IsFormat}
 use Rattle.sl_tcflow.specs.TcNormalForm.{segments_of_maps, frames_of_segments, channel_frames, tc_frames_form}
 use Rattle.sl_tcflow.proofs.EachLemmas.{each-flat_map_range, own_part}
@@ -44,7 +45,7 @@ all_accepted w vc ns vr (segment ∷ segments) small same =
     let next = (vr + 1) % 256 in
     let step : farm_step w (farm_start vr) (event.Ad (ns % 256)) ≡ (Accept, farm_start next) =
     ap (λ n. farm_step w (farm_start vr) (event.Ad n)) same ∙ expected w vr small in
-    ap (λ s. unit_by s.0 (Ad (ns % 256) (unit_made segment)) ++ units_by (verdicts_of w s.1 (events_of later)) later) step
+    ap (λ s. unit_by s.0 (Ad (ns % 256) (unit_made segment)) ++ accepted_by (λ (view : TcView). unit_of view.content) (verdicts_of w s.1 (events_of later)) later) step
     ∙ ap (λ l. unit_made segment ∷ l) (all_accepted w vc (ns + 1) next segments (omega arith) (omega (arith, same)))
 
 -- ---- the segments of a virtual channel

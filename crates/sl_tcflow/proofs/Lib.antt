@@ -16,6 +16,8 @@ pub mod PushedLemmas
 pub mod ReceptionFacts
 pub mod ReportLemmas
 pub mod RecordingLemmas
+pub mod ReorderedFacts
+pub mod ReorderedLemmas
 pub mod SegmentLemmas
 pub mod SeriesLemmas
 pub mod TailLemmas

@@ -1,12 +1,13 @@
 -- The accepted unit of the next frame among the segments of its virtual channel and MAP.
-use Rattle.std.proofs.Common.{None, ◌⊎◌, ◌≡◌, ◌≢◌, ℕ, ◌<◌, ◌==◌, List, [], ◌∷◌, ◌++◌, Option, inl, inr, refl, sym, ◌∙◌, ap, subst, arith, append-nil, append_assoc, cond, eq-eqb, ne_eqb}
+use Rattle.std.proofs.Common.{None, ◌⊎◌, ◌≡◌, ◌≢◌, ℕ, ◌<◌, ◌==◌, List, [], ◌∷◌, ◌++◌, Option, inl, inr, refl, sym, ◌∙◌, ap, subst, arith, append-nil, cond, eq-eqb, ne_eqb}
 use Rattle.std.specs.List.{flat_map}
 use Rattle.std.proofs.lemmas.Bool.Decides.{eqb_tells}
 use Rattle.std.proofs.lemmas.List.Elements.{filter-append}
 use Rattle.sl_cop.specs.declared.verdict.Verdict.{Verdict}
-use Rattle.sl_cop.specs.Farm.{FarmState, farm_start, farm_step, state_after, verdicts_of}
+use Rattle.sl_cop.specs.Farm.{farm_start, farm_step}
+use Rattle.sl_cop.proofs.ReorderedLemmas.{accepted_more}
 use Rattle.sl_tcframe.specs.TcFrame.{TcView, Content}
-use Rattle.sl_tcflow.specs.AcceptedUnit.{channel_of, event_of, events_of, unit_by, units_by, accepted_units}
+use Rattle.sl_tcflow.specs.AcceptedUnit.{channel_of, event_of, farm_after, unit_of, unit_by, accepted_units}
 use Rattle.sl_tcflow.specs.Incomplete.{incomplete_of}
 use Rattle.sl_tcflow.specs.NextSegment.{incomplete_after, packets_after}
 use Rattle.sl_tcflow.specs.Placed.{at, IsPlaced}
@@ -19,17 +20,10 @@ use Rattle.sl_tcflow.proofs.OneMoreLemmas.{incomplete_next}
 
 -- ---- accepted units
 
-units_from : (w : ℕ) (s : FarmState) (channel : List TcView) (next : TcView)
-    → units_by (verdicts_of w s (events_of (channel ++ next ∷ []))) (channel ++ next ∷ [])
-    ≡ units_by (verdicts_of w s (events_of channel)) channel
-    ++ unit_by (farm_step w (state_after w s (events_of channel)) (event_of next.content)).0 next.content
-units_from w s [] next = append-nil (unit_by (farm_step w s (event_of next.content)).0 next.content)
-units_from w s (view ∷ channel) next =
-    let step = farm_step w s (event_of view.content) in
-    let here = unit_by step.0 view.content in
-    let later = units_by (verdicts_of w step.1 (events_of channel)) channel in
-    ap (λ l. here ++ l) (units_from w step.1 channel next)
-    ∙ sym (append_assoc here later (unit_by (farm_step w (state_after w step.1 (events_of channel)) (event_of next.content)).0 next.content))
+units_from : (w vr : ℕ) (channel : List TcView) (next : TcView)
+    → accepted_units w vr (channel ++ next ∷ [])
+    ≡ accepted_units w vr channel ++ unit_by (farm_step w (farm_after w vr channel) (event_of next.content)).0 next.content
+units_from w vr channel next = accepted_more (λ (view : TcView). event_of view.content) (λ (view : TcView). unit_of view.content) w (farm_start vr) channel next
 
 -- the unit of what a frame carries, by the verdict on it
 pub unit_on : (verdict : Verdict) (carried : Content) (w vr : ℕ) (views : List TcView) (next : TcView) (units : List (List ℕ))
@@ -43,7 +37,7 @@ pub segments_next : (w vr mid : ℕ) (views : List TcView) (next : TcView)
 segments_next w vr mid views next =
     let channel = channel_of next.vc views in
     ap (λ l. segments_on mid (accepted_units w vr l)) (same_channel next.vc views next refl)
-    ∙ ap (segments_on mid) (units_from w (farm_start vr) channel next)
+    ∙ ap (segments_on mid) (units_from w vr channel next)
     ∙ filter-append (λ unit. (header_at unit).map == mid) (accepted_units w vr channel) (unit_by (verdict_on w vr views next) next.content)
 
 segments_other : (w vr vc mid : ℕ) (views : List TcView) (next : TcView) → (next.vc ≡ vc → ⊥)

@@ -1,11 +1,11 @@
 -- The frame data units that FARM-1 accepts on a virtual channel, CCSDS 232.0-B and 232.1-B.
-use Rattle.std.specs.Prelude.{ℕ, ◌==◌, List, [], ◌∷◌, ◌++◌, map}
+use Rattle.std.specs.Prelude.{ℕ, ◌==◌, List, [], ◌∷◌, map}
 use Rattle.std.specs.Result.{result_ok}
 use Rattle.std.specs.List.{filter, filter_map}
 use Rattle.sl_cop.specs.declared.farm_event.FarmEvent.{FarmEvent}
 use Rattle.sl_cop.specs.declared.farm_event.FarmEvent.TheVariants as event
 use Rattle.sl_cop.specs.declared.verdict.Verdict.{Verdict}
-use Rattle.sl_cop.specs.declared.verdict.Verdict.TheVariants.{Accept, Early, Late, Outside, Refused, Command}
+use Rattle.sl_cop.specs.Accepted.{if_accepted, accepted_by}
 use Rattle.sl_cop.specs.Farm.{FarmState, farm_start, state_after, verdicts_of}
 use Rattle.sl_tcframe.specs.TcFrame.{TcFormat, TcView, Content, Ad, Bd, Unlock, SetVr, tc_frame}
 
@@ -38,21 +38,25 @@ unit_of (Bd unit) = unit ∷ []
 unit_of Unlock = []
 unit_of (SetVr vr) = []
 
+-- that of a frame of type AD alone
+abbrev pub ad_unit_of : Content → List (List ℕ)
+ad_unit_of (Ad ns unit) = unit ∷ []
+ad_unit_of (Bd unit) = []
+ad_unit_of Unlock = []
+ad_unit_of (SetVr vr) = []
+
 -- a frame's unit, where the frame is accepted
 abbrev pub unit_by : Verdict → Content → List (List ℕ)
-unit_by Accept content = unit_of content
-unit_by Early content = []
-unit_by Late content = []
-unit_by Outside content = []
-unit_by Refused content = []
-unit_by Command content = []
+unit_by verdict content = if_accepted verdict (unit_of content)
 
--- the units of the frames with these verdicts
-abbrev pub units_by : List Verdict → List TcView → List (List ℕ)
-units_by [] channel = []
-units_by (verdict ∷ verdicts) [] = []
-units_by (verdict ∷ verdicts) (view ∷ channel) = unit_by verdict view.content ++ units_by verdicts channel
+-- of the frames that FARM-1 with this window and this initial V(R) accepts, these units, in the order of acceptance
+abbrev pub accepted_of : (Content → List (List ℕ)) → ℕ → ℕ → List TcView → List (List ℕ)
+accepted_of units w vr channel = accepted_by (λ (view : TcView). units view.content) (verdicts_of w (farm_start vr) (events_of channel)) channel
 
--- the units that FARM-1 with this window and this initial V(R) accepts, of types AD and BD in one order
+-- the units that it accepts, of types AD and BD in one order
 abbrev pub accepted_units : ℕ → ℕ → List TcView → List (List ℕ)
-accepted_units w vr channel = units_by (verdicts_of w (farm_start vr) (events_of channel)) channel
+accepted_units w vr channel = accepted_of unit_of w vr channel
+
+-- those of type AD alone
+abbrev pub accepted_ad_units : ℕ → ℕ → List TcView → List (List ℕ)
+accepted_ad_units w vr channel = accepted_of ad_unit_of w vr channel

@@ -8,12 +8,14 @@ pub mod ReceiverModel
 pub mod Recording
 pub mod Receiving
 pub mod Reception
+pub mod ReorderedUnits
 pub mod Series
 pub mod StepReport
 pub mod StepReportModel
 pub mod TcNormalForm
 pub use Rattle.sl_cop.specs.Farm
 pub use Rattle.sl_cop.specs.FarmClcw
+pub use Rattle.sl_cop.specs.Reordered
 pub use Rattle.sl_fields.specs.SegmentHeader
 pub use Rattle.sl_packet.specs.Delivered
 pub use Rattle.sl_packet.specs.Packets

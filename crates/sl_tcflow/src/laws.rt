@@ -3,6 +3,8 @@ ghost use Rattle.sl_tcflow.specs.Anomaly.{StrayIsTold, WhatIsToldIsStray, Droppe
 ghost use Rattle.sl_tcflow.specs.Canonical.{NormalFormIsFrames, NoFrameIsLong, NormalFormDelivers, RecordedListsAreDeliverable};
 ghost use Rattle.sl_tcflow.specs.Incomplete.{WhatIsToldIsIncomplete, IncompleteIsTold, OneBegins, OneIsIncomplete, IncompleteFits};
 ghost use Rattle.sl_tcflow.specs.Reception.{PacketsEndOnce};
+ghost use Rattle.sl_tcflow.specs.ReorderedUnits.{AdUnitsAreAll, ExpectedUnitIsAccepted, PacketsInOrder, ReceiverCountsUnits, RecordedPacketsInOrder};
+ghost use Rattle.sl_tcflow.specs.ReorderedUnits.{UnitsInOrder, VrCountsUnits, WindowIsNear, WindowNeverLocks};
 ghost use Rattle.sl_tcflow.specs.Series.{EachIsSeries, EachSeriesIsListed, SeriesAreApart};
 ghost use Rattle.sl_tcflow.specs.TcNormalForm.{EachIsDivided};
 
@@ -63,4 +65,29 @@ pub fn normal_form_delivers_its_packets()
     ensures frames { NormalFormIsFrames }
     ensures within { NoFrameIsLong }
     ensures packets { NormalFormDelivers }
+{}
+
+/// Units are sent on a virtual channel in frames of type AD with N(S) counting from the initial V(R) on, modulo 256. These
+/// frames arrive in any order, any of them lost or repeated, with frames of type BD and Unlock between them, and no
+/// Set V(R). Where each copy is less than 256 away from the frame that is expected when it arrives, the accepted units of
+/// type AD are a prefix of those that were sent, and V(R) is at each moment the initial one plus their number, modulo 256,
+/// also in the CLCW of a receiver. That holds whatever the window. Where each copy is in a window of at most 256 numbers
+/// then, it is less than 256 away, the Lockout flag is never set, and each copy of the frame that is expected is accepted.
+pub fn units_are_accepted_in_order()
+    ensures order { UnitsInOrder }
+    ensures vr { VrCountsUnits }
+    ensures receiver { ReceiverCountsUnits }
+    ensures near { WindowIsNear }
+    ensures open { WindowNeverLocks }
+    ensures expected { ExpectedUnitIsAccepted }
+{}
+
+/// Under the same conditions, and where no frame of type BD comes, the accepted units are those of type AD, and the packets
+/// of each MAP are a prefix of the packets that all the units that were sent make: however many frames are lost, no other
+/// packet is delivered, none more often than it was sent, and none before one that was sent earlier. So are the packets
+/// that a recording of these frames delivers on the virtual channel and MAP, idle ones left out on both sides.
+pub fn packets_are_delivered_in_order()
+    ensures all { AdUnitsAreAll }
+    ensures packets { PacketsInOrder }
+    ensures recording { RecordedPacketsInOrder }
 {}

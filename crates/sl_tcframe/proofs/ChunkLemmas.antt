@@ -66,14 +66,14 @@ no_frame format octets each not_so =
       | inr (none, is) ↦ is
     ]
 
-rest_is_no_frame : (format : TcFormat) (octets : List ℕ) → IsOctets octets → IsRest format octets → front_len format octets ≡ None
+pub rest_is_no_frame : (format : TcFormat) (octets : List ℕ) → IsOctets octets → IsRest format octets → front_len format octets ≡ None
 rest_is_no_frame format octets each is_rest =
     no_frame format octets each (λ f same. elim (rest_fits format octets is_rest) [
       | inl few ↦ let five = f.header in absurd (omega (arith, few, five))
       | inr (enough, more) ↦ let inside = f.inside in absurd (omega (arith, same, more, inside))
     ])
 
-none_below : (format : TcFormat) (octets more : List ℕ) → IsOctets (octets ++ more) → front_of format octets ≡ BelowLeast → front_len format (octets ++ more) ≡ None
+pub none_below : (format : TcFormat) (octets more : List ℕ) → IsOctets (octets ++ more) → front_of format octets ≡ BelowLeast → front_len format (octets ++ more) ≡ None
 none_below format octets more each below =
     let facts = front_tells format octets BelowLeast below in
     no_frame format (octets ++ more) each
@@ -101,7 +101,7 @@ whole_is_cut format octets frame left parts each w =
 below_taken : (format : TcFormat) (octets : List ℕ) → front_of format octets ≡ BelowLeast → length (take 4 octets) ≡ 4
 below_taken format octets below = length-take-le 4 octets (front_tells format octets BelowLeast below).0
 
-below_again : (format : TcFormat) (octets : List ℕ) → front_of format octets ≡ BelowLeast → front_of format (take 4 octets) ≡ BelowLeast
+pub below_again : (format : TcFormat) (octets : List ℕ) → front_of format octets ≡ BelowLeast → front_of format (take 4 octets) ≡ BelowLeast
 below_again format octets below =
     let facts = front_tells format octets BelowLeast below in
     let four = below_taken format octets below in
@@ -113,7 +113,7 @@ rest_after : (format : TcFormat) (octets : List ℕ) → IsRest format octets �
 rest_after format octets (inl more) = rw more (inl more)
 rest_after format octets (inr below) = rw below.0 (inr (below_again format octets below.0, below_taken format octets below.0))
 
-pause_rest : (f : TcFraming) (chunk left : List ℕ) → YieldsNone f chunk left → IsRest f.format (after_call f chunk None).rest
+pub pause_rest : (f : TcFraming) (chunk left : List ℕ) → YieldsNone f chunk left → IsRest f.format (after_call f chunk None).rest
 pause_rest f chunk left p =
     let octets = f.rest ++ chunk in
     elim p.front [
@@ -122,7 +122,7 @@ pause_rest f chunk left p =
     ]
 
 -- what is taken, and what is left, are the octets
-pause_parts : (f : TcFraming) (chunk left : List ℕ) → YieldsNone f chunk left → f.rest ++ chunk ≡ (after_call f chunk None).rest ++ left
+pub pause_parts : (f : TcFraming) (chunk left : List ℕ) → YieldsNone f chunk left → f.rest ++ chunk ≡ (after_call f chunk None).rest ++ left
 pause_parts f chunk left p =
     let octets = f.rest ++ chunk in
     elim p.front [
@@ -236,7 +236,7 @@ abbrev Others : TcFraming → List (List ℕ) → Type 0
 Others f chunks = (g : TcFraming) → g.format ≡ f.format → IsRest g.format g.rest → Taken g chunks
 
 -- a whole frame has more octets than were taken before
-less_than_whole : (format : TcFormat) (rest chunk : List ℕ) (len : ℕ) → IsRest format rest → FrontIs format (rest ++ chunk) (Whole len) → length rest < len
+pub less_than_whole : (format : TcFormat) (rest chunk : List ℕ) (len : ℕ) → IsRest format rest → FrontIs format (rest ++ chunk) (Whole len) → length rest < len
 less_than_whole format rest chunk len is_rest w =
     elim (leb_tells (length rest) 4) [
       | inl (is, few) ↦ omega (arith, few, w.1, w.3)

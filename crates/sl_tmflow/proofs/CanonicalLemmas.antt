@@ -138,7 +138,7 @@ module _ (format : TmFormat) (spacecraft vc mc : ℕ) (packets : List (List ℕ)
 
 -- ---- the frames of all virtual channels
 
-of_none : (vc : ℕ) (views : List TmView) → AllByRecursion (λ view. view.vc ≡ vc → ⊥) views → channel_of vc views ≡ []
+pub of_none : (vc : ℕ) (views : List TmView) → AllByRecursion (λ view. view.vc ≡ vc → ⊥) views → channel_of vc views ≡ []
 of_none vc views others =
     filter_none (λ view. view.vc == vc) views (each-weaker (λ view. view.vc ≡ vc → ⊥) (λ view. (view.vc == vc) ≡ false) (λ view other. ne_eqb view.vc vc other) views others)
 

@@ -3,6 +3,7 @@ use Rattle.std.proofs.Common.{◌≡◌, ℕ, ◌≤◌, ◌==◌, ◌&&◌, nat
 use Rattle.std.specs.List.{AllByRecursion, concat}
 use Rattle.std.proofs.lemmas.Bool.Decides.{nat_tests}
 use Rattle.std.proofs.lemmas.List.{take-append-drop}
+use mathlib.Core.List.{IsPrefix}
 use Rattle.sl_packet.specs.Packet.{version_of, stated_len, IsPacket}
 use Rattle.sl_packet.specs.Front.{Front, Foreign, Incomplete, Whole, is_foreign, front}
 use Rattle.sl_packet.proofs.FrontLemmas.{whole_is_a_packet, incomplete_may_become_whole}
@@ -10,7 +11,7 @@ use Rattle.sl_packet.proofs.PacketLemmas.{version_of-append}
 use Rattle.sl_tmframe.specs.TmFrame.{TmView, DataField, Packets, Idle, Opaque}
 use Rattle.sl_tmflow.specs.Among.{IsAmong}
 use Rattle.sl_tmflow.specs.Channel.{packet_data}
-use Rattle.sl_tmflow.specs.Delivery.{IsPrefix, Outcome, Completes, StillIncomplete, Undelivered, outcome_of}
+use Rattle.sl_tmflow.specs.Delivery.{Outcome, Completes, StillIncomplete, Undelivered, outcome_of}
 use Rattle.sl_tmflow.specs.Incomplete.{IsIncomplete, IsIncompleteAt, incomplete_octets, frame_incomplete, incomplete_of, EachListedIsIncomplete, EachIncompleteIsListed, IncompleteIsCounted, WhatIsCountedIsIncomplete}
 use Rattle.sl_tmflow.specs.PacketStart.{IsStart, starts_from}
 use Rattle.sl_tmflow.proofs.DeliveryLemmas.{among-left, among-right, among-flat_map}

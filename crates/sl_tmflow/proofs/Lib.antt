@@ -14,10 +14,19 @@ pub mod EndLemmas
 pub mod FieldStartLemmas
 pub mod FillLemmas
 pub mod FramingLemmas
+pub mod HandedLemmas
 pub mod IncompleteFacts
 pub mod IncompleteLemmas
 pub mod IncompleteListLemmas
+pub mod KeptListLemmas
+pub mod KeptPacketLemmas
+pub mod KeptRecordingLemmas
+pub mod KeptRunLemmas
 pub mod LeastStartLemmas
+pub mod LocalLemmas
+pub mod LossEdgeFacts
+pub mod LossFacts
+pub mod LossLemmas
 pub mod OneMoreLemmas
 pub mod OneStartLemmas
 pub mod OutcomeLemmas
@@ -26,3 +35,4 @@ pub mod RecordingLemmas
 pub mod SeenLemmas
 pub mod StartLemmas
 pub mod StepLemmas
+pub mod SublistLemmas

@@ -1,13 +1,14 @@
 -- What the next frame does to an incomplete packet: it ends there, or goes on, or never ends.
 use Rattle.std.proofs.Common.{◌≡◌, ◌≢◌, ℕ, ◌+◌, ◌-◌, ◌<◌, ◌≤◌, Bool, true, false, if◌then◌else◌, List, [], ◌++◌, length, take, drop, Option, None, Some, is_some, refl, sym, ◌∙◌, ap, subst, arith, append-nil, append_assoc, eqb-true, eq-eqb, le-ltb}
 use Rattle.std.proofs.lemmas.List.{take-append-drop, take-append-le, take_at, length-take-le}
+use mathlib.Core.List.{IsPrefix}
 use Rattle.sl_packet.specs.Packet.{IsPacket}
 use Rattle.sl_packet.specs.Front.{Front, Foreign, Incomplete, Whole, front}
 use Rattle.sl_packet.proofs.PacketLemmas.{one_packet}
 use Rattle.sl_packet.proofs.FrontLemmas.{whole_is_a_packet, packet_is_whole, foreign_is_no_packet, incomplete_may_become_whole}
 use Rattle.sl_tmframe.specs.TmFrame.{TmView, DataField, Packets, Idle, Opaque}
 use Rattle.sl_tmflow.specs.Channel.{is_consecutive, data_of}
-use Rattle.sl_tmflow.specs.Delivery.{IsPrefix, agreeing_pointer, same_pointer, Ends, Continues, Breaks, front_step, field_step, step_of}
+use Rattle.sl_tmflow.specs.Delivery.{agreeing_pointer, same_pointer, Ends, Continues, Breaks, front_step, field_step, step_of}
 
 -- ---- octets that begin a packet
 

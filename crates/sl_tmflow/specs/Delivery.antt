@@ -3,6 +3,7 @@
 -- packet (`agreeing_pointer`) is this project's mission profile.
 use Rattle.std.specs.Prelude.{◌≡◌, ◌≢◌, ⊤, ◌⊎◌, ℕ, ◌+◌, ◌-◌, ◌<◌, ◌≤◌, ◌==◌, nat_lt, Bool, true, false, if◌then◌else◌, List, [], ◌∷◌, ◌++◌, length, take, drop, map, Option, None, Some, is_some}
 use Rattle.std.specs.List.{AllByRecursion, filter, flat_map}
+use mathlib.Core.List.{IsPrefix}
 use Rattle.sl_packet.specs.Packet.{IsPacket}
 use Rattle.sl_packet.specs.Front.{Front, Foreign, Incomplete, Whole, front}
 use Rattle.sl_tmflow.specs.Among.{IsAmong}
@@ -11,9 +12,6 @@ use Rattle.sl_tmflow.specs.Channel.{follows, AreConsecutive, packet_data, reasse
 use Rattle.sl_tmflow.specs.PacketStart.{IsStart, starts_of}
 
 -- ---- the relation
-
-abbrev pub IsPrefix : List ℕ → List ℕ → Type 0
-IsPrefix octets all = (more : List ℕ) × (octets ++ more ≡ all)
 
 -- the first header pointer that agrees with a packet of so many octets, of which so many came before the
 -- frame: none where the packet covers the data field to its end, and else where it ends

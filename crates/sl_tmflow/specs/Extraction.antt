@@ -1,11 +1,13 @@
 -- What an extractor has made of the frames of virtual channels, CCSDS 132.0-B, that it was given.
-use Rattle.std.specs.Prelude.{◌≡◌, ◌≢◌, ◌⊎◌, ℕ, ◌<◌, Bool, true, false, List, [], ◌∷◌, ◌++◌}
+use Rattle.std.specs.Prelude.{◌≡◌, ◌≢◌, ◌⊎◌, ℕ, ◌<◌, ◌==◌, Bool, true, false, if◌then◌else◌, List, [], ◌∷◌, ◌++◌}
 use Rattle.std.specs.List.{slice_index_or}
+use Rattle.sl_packet.specs.Packets.{without_idle}
 use Rattle.sl_tmframe.specs.TmFrame.{TmView}
 use Rattle.sl_tmflow.specs.Channel.{channel_of, last_count}
 use Rattle.sl_tmflow.specs.ChannelState.{ChannelState, no_frame}
 use Rattle.sl_tmflow.specs.Delivery.{packets_ending}
 use Rattle.sl_tmflow.specs.Incomplete.{incomplete_of}
+use Rattle.sl_tmflow.specs.Recording.{packets_on}
 
 pub record ExtractorState : Type 0 where
   pub channels : List ChannelState
@@ -45,3 +47,14 @@ ended_by views next = packets_ending (channel_of next.vc views) next
 -- a packet is incomplete on the next frame's virtual channel, before that frame or after it
 abbrev pub IsIncompleteAround : List TmView → TmView → Type 0
 IsIncompleteAround views next = (incomplete_of (channel_of next.vc views) ≢ []) ⊎ (incomplete_of (channel_of next.vc (views ++ next ∷ [])) ≢ [])
+
+-- the packets that an extractor hands over for a virtual channel when it is given these frames one after another, where
+-- each call answers Ok, and has processed others before
+abbrev pub handed_over : ℕ → List TmView → List TmView → List (List ℕ)
+handed_over vc views [] = []
+handed_over vc views (next ∷ later) =
+    (if next.vc == vc then without_idle (ended_by views next) else []) ++ handed_over vc (views ++ next ∷ []) later
+
+-- From the first frame on they are the packets of the virtual channel, idle ones left out.
+abbrev pub DeliveredAreHandedOver : Type 0
+DeliveredAreHandedOver = (vc : ℕ) (views : List TmView) → handed_over vc [] views ≡ without_idle (packets_on views vc)

@@ -8,12 +8,14 @@ pub mod Extraction
 pub mod ExtractorModel
 pub mod FieldStart
 pub mod Incomplete
+pub mod Loss
 pub mod NormalForm
 pub mod PacketStart
 pub mod Progress
 pub mod Recording
 pub mod StepReport
 pub mod StepReportModel
+pub mod Sublist
 pub use Rattle.sl_packet.specs.Delivered
 pub use Rattle.sl_packet.specs.Front
 pub use Rattle.sl_packet.specs.Packet

@@ -5,8 +5,12 @@ ghost use Rattle.sl_tmflow.specs.Anomaly.{EachForeignStartIsTold, EachToldIsAFor
 ghost use Rattle.sl_tmflow.specs.Canonical.{NormalFormIsFrames, NormalFormDelivers, RecordedListsAreDeliverable};
 ghost use Rattle.sl_tmflow.specs.Delivery.{EachIsDelivery, EachIsListed, DeliveriesAreInOrder};
 ghost use Rattle.sl_tmflow.specs.Delivery.{PacketsEndOnce, EndsAreInOrder, EachEndsByTheNextStart, NoneOverlap};
+ghost use Rattle.sl_tmflow.specs.Extraction.{DeliveredAreHandedOver};
 ghost use Rattle.sl_tmflow.specs.Incomplete.{EachListedIsIncomplete, EachIncompleteIsListed, OneStartIsIncomplete, OneIsIncomplete, IncompleteIsShort};
 ghost use Rattle.sl_tmflow.specs.Incomplete.{IncompleteIsCounted, WhatIsCountedIsIncomplete};
+ghost use Rattle.sl_tmflow.specs.Loss.{NoneIsNew, EachIsLeft, RunsAreKept, KeptRunsAreLeft};
+ghost use Rattle.sl_tmflow.specs.Loss.{TestTellsRun, PacketsAreKept, PacketsAreSublist};
+ghost use Rattle.sl_tmflow.specs.Loss.{HandedOverAreKept, HandedOverAreSublist, RecordedAreKept, RecordedAreSublist};
 ghost use Rattle.sl_tmflow.specs.NormalForm.{EachFillIsLeast, EachPointerIsLeast};
 ghost use Rattle.sl_tmflow.specs.PacketStart.{EachIsStart, EachStartIsListed};
 
@@ -28,6 +32,12 @@ pub fn tm_deliveries_are_listed()
 /// it.
 pub fn tm_packets_end_once()
     ensures { PacketsEndOnce }
+{}
+
+/// What an [`Extractor`](crate::Extractor) hands over for a virtual channel, given frames one after another, where each
+/// call answers Ok, are the packets that the channel delivers, idle ones left out.
+pub fn tm_packets_are_handed_over()
+    ensures { DeliveredAreHandedOver }
 {}
 
 /// Packets in the order of their starts are in the order of their ends: each has ended by the frame in which
@@ -76,6 +86,33 @@ pub fn tm_broken_packets_are_listed()
 pub fn tm_foreign_starts_are_told()
     ensures each { EachForeignStartIsTold }
     ensures only { EachToldIsAForeignStart }
+{}
+
+/// Where frames are lost of a virtual channel whose frame counts have no gap, fewer than 256 in a row between two that are
+/// kept, those that are kept deliver exactly the packets of which all frames were kept. Each delivery from them is one from
+/// the whole channel, the same packet from the same start in the same frame, to the same frame, and none of its frames was
+/// lost; and each from the whole channel of which no frame was lost is one from them.
+pub fn tm_loss_is_local()
+    ensures none_new { NoneIsNew }
+    ensures each_left { EachIsLeft }
+    ensures all_kept { RunsAreKept }
+    ensures kept_left { KeptRunsAreLeft }
+{}
+
+/// Under the same conditions the packets that the kept frames deliver are those of the whole channel of which all frames
+/// were kept, in their order. So what a station that lost frames delivers on a virtual channel is a sublist of what all
+/// frames deliver there. That holds of what an [`Extractor`](crate::Extractor) hands over, given the kept frames one after
+/// another, where each call answers Ok; and of a recording that has the kept frames of the virtual channel, whatever it
+/// has on the others: it delivers there a sublist of what the recording of all frames delivers. Idle packets are left out
+/// in both.
+pub fn tm_lost_frames_leave_a_sublist()
+    ensures run { TestTellsRun }
+    ensures exactly { PacketsAreKept }
+    ensures channel { PacketsAreSublist }
+    ensures handed_over_exactly { HandedOverAreKept }
+    ensures handed_over { HandedOverAreSublist }
+    ensures recording_exactly { RecordedAreKept }
+    ensures recording { RecordedAreSublist }
 {}
 
 /// Packets are filled up by the least number of octets that is none or an idle packet's, and the pointer to a

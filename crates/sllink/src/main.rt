@@ -2,12 +2,9 @@
 #![tactic(auto)]
 
 use sl_link::{Counted, run};
-use std::io::{BufReader, BufWriter, ErrorKind, Write};
+use std::io::{ErrorKind, Write};
 use std::process::ExitCode;
 use std::{env, io};
-
-// The octets that each stream is buffered by.
-const BUFFER: usize = 0x10000;
 
 // The exit status where the command line is no text.
 const REFUSED: u8 = 2;
@@ -22,13 +19,13 @@ fn main(rt: HostRuntime) -> ExitCode {
     }
 }
 
-// Runs the library over the standard streams. It fails where memory is refused for its words or its
-// streams, or where the words are no text.
+// Runs the library over the standard streams. It fails where memory is refused for its words, or where the words
+// are no text.
 fn start(rt: &HostRuntime) -> io::Result<u8> {
     let alloc = rt.alloc();
     let words: Vec<String> = env::args(rt)?.collect(alloc)?;
-    let mut reader = Counted::new(BufReader::with_capacity(alloc, BUFFER, rt.stdin())?);
-    let mut writer = Counted::new(BufWriter::with_capacity(alloc, BUFFER, rt.stdout())?);
+    let mut reader = Counted::new(rt.stdin());
+    let mut writer = Counted::new(rt.stdout());
     Ok(run(
         alloc,
         words.as_slice(),

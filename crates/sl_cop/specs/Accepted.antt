@@ -1,0 +1,15 @@
+-- What is accepted of a list whose elements are events of FARM-1, CCSDS 232.1-B, one after another.
+use Rattle.std.specs.Prelude.{List, [], ◌∷◌, ◌++◌}
+use Rattle.sl_cop.specs.declared.verdict.Verdict.{Verdict}
+use Rattle.sl_cop.specs.declared.verdict.Verdict.TheVariants.{Accept}
+
+-- all of it under the verdict Accept, and none of it under any other
+abbrev pub if_accepted : {A : Type 0} → Verdict → List A → List A
+if_accepted Accept carried = carried
+if_accepted verdict carried = []
+
+-- of elements with these verdicts, what the accepted ones carry, in order
+abbrev pub accepted_by : {A B : Type 0} → (A → List B) → List Verdict → List A → List B
+accepted_by carried [] elements = []
+accepted_by carried (verdict ∷ verdicts) [] = []
+accepted_by carried (verdict ∷ verdicts) (element ∷ elements) = if_accepted verdict (carried element) ++ accepted_by carried verdicts elements

@@ -1,0 +1,13 @@
+-- What follows from what a call answers.
+use Rattle.std.proofs.Common.{Option, None, Some}
+use Rattle.std.specs.Prelude.{IfNone, IfSome}
+
+-- from what holds where there is no value
+pub none_then : {X P Q : Type 0} (o : Option X) → IfNone o P → (P → Q) → IfNone o Q
+none_then None p f = f p
+none_then (Some x) p f = tt
+
+-- from two things that hold of the value
+pub both_some : {X : Type 0} {P Q T : X → Type 0} (o : Option X) → IfSome o P → IfSome o Q → ((x : X) → P x → Q x → T x) → IfSome o T
+both_some None p q f = tt
+both_some (Some x) p q f = f x p q

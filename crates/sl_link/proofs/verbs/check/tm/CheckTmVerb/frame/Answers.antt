@@ -1,0 +1,39 @@
+use Rattle.std.proofs.Common.{◌+◌, ◌∙◌, ap, subst, arith, Bool, ℕ, if◌then◌else◌, length, [], refl}
+use Rattle.std.specs.List.{concat}
+use Rattle.std.proofs.lemmas.Result.{err_from_is_err_and}
+use Rattle.sl_link.specs.Streams.{AddsText}
+use Rattle.sl_link.proofs.AddingLemmas.{stops_waiting}
+use Rattle.sl_link.proofs.CheckEndLemmas.{amiss_is, checked_more}
+use Rattle.sl_link.proofs.DeliveringTmLemmas.{delivered_more, wants_memory}
+use Rattle.sl_link.proofs.ShowTmLemmas.{counted_more}
+use Rattle.sl_link.proofs.StreamLemmas.{AddsText-nil}
+use Rattle.sl_link.proofs.verbs.check.tm.CheckTmVerb.frame.Goals as goal
+
+pub returns-in_err-met-clause-fault : goal.returns-in_err-met-clause-fault
+returns-in_err-met-clause-fault g c =
+    let out = err_from_is_err_and c.from_residual.result c.from_residual.ensures.1 in
+    rw (out.1, out.2) (λ before h. record {
+      front = stops_waiting g.W.Write.contents c.args.writer.now c.args.writer.now c.check_frame.new.writer c.args.lines.now c.args.lines.now [] _ _ _
+          (AddsText-nil g.W.Write.contents c.args.writer.now c.args.lines.now) c.in_err-met.ensures.fault refl;
+      memory = λ e. wants_memory c.args.managed.now before c.args.frame.now (c.in_err-met.ensures.memory e _ h.delivered.processed);
+    })
+
+pub returns-clause-lines : goal.returns-clause-lines
+returns-clause-lines g c = λ before h.
+    subst (λ l. AddsText g.W.Write.contents c.args.writer.now c.check_frame.new.writer c.args.lines.now c.check_frame.new.lines (concat l))
+    (amiss_is c.args.managed.now before c.args.frame.now _ _ h) (c.in_ok-met.ensures.lines _ h.delivered.processed)
+
+pub returns-clause-has_listed : goal.returns-clause-has_listed
+returns-clause-has_listed g c = λ before h.
+    let p = c.args.managed.now in
+    let old = c.args.self.now.so_far in
+    let d = h.delivered in
+    let tells = c.in_ok-met.ensures.counts _ d.processed in
+    checked_more p before c.args.frame.now _ _ _ _ h
+    (delivered_more p before c.args.frame.now _ _ _ _ d (c.in_ok-met.ensures.processed _ d.processed)
+    (counted_more p before c.args.frame.now _ _ d.counted c.add.ensures.octets c.add.ensures.frames
+    (c.add.ensures.skipped ∙ ap (λ (b : Bool). old.delivery.tally.skipped + (if◌then◌else◌ {A = ℕ} b 1 0)) tells.skipped))
+    (c.add.ensures.packets ∙ ap (λ n. old.delivery.packets + n) tells.packets)
+    (c.add.ensures.idle ∙ ap (λ n. old.delivery.idle + n) tells.idle))
+    (c.add.ensures.anomalies ∙ ap (λ n. old.anomalies + n) (tells.anomalies ∙ ap length (amiss_is p before c.args.frame.now _ _ h)))
+    (omega (arith, h.room, c.in_ok-met.ensures.few, c.add.ensures.anomalies, c.add.ensures.frames, c.add.ensures.octets))

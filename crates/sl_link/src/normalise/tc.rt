@@ -1,0 +1,179 @@
+//! The normal form of a TC recording.
+ghost use Rattle.std.specs.Prelude.{◌≡◌, ◌≢◌, ◌<◌, true, length, IfOk, IfErr, OnOk, OnErr, is_err};
+ghost use Rattle.sl_packet.specs.Delivered.{channel_count};
+ghost use Rattle.sl_packet.specs.Packets.{only_idle, without_idle};
+ghost use Rattle.sl_tcflow.specs.Receiving.{ForProcessed, HasProcessed, IsWorking};
+ghost use Rattle.sl_tcframe.specs.TcDelimited.{tc_frames_of};
+ghost use Rattle.sl_tcframe.specs.TcFrame.{is_cut};
+ghost use Rattle.sl_link.specs.DeliverTc.{as_read, ended_in, lists_after, may_want_memory};
+ghost use Rattle.sl_link.specs.Delivering.{DeliversAll, count_of, with_frame};
+ghost use Rattle.sl_link.specs.DeliveringTc.{MayWantMemoryTc};
+ghost use Rattle.sl_link.specs.Managed.{tc_format};
+ghost use Rattle.sl_link.specs.NormaliseTc.{tc_counts, tc_form_of, tc_normal_form, tc_packets};
+ghost use Rattle.sl_link.specs.Streams.{IsRead, KeepsPackets, Stops, StopsReadingAll, Translates};
+ghost use Rattle.sl_link.specs.Verb.{WantedMemory};
+
+use crate::counted::Counted;
+use crate::delivery::{DeliveryTally, FrameReport, SKIPPED, store_fault};
+use crate::link_fault::LinkFault;
+use crate::managed::Managed;
+use crate::pass::{CHUNK, FrameSink, pass_over};
+use crate::streams::write_text;
+use crate::totals::Totals;
+use sl_packet::{Delivered, FlowFault};
+use sl_tcflow::{Receiver, reframe_tc};
+use sl_tcframe::{TcFrame, TcFramer};
+use std::alloc::Global;
+use std::io::{Read, Write};
+
+/// Reads a recording of TC transfer frames to its end, and then writes the normal form of the packets that its
+/// frames deliver, on each virtual channel and MAP (docs/normal-form.md). It keeps these packets, one frame at most, and
+/// the series that is incomplete on each MAP.
+///
+/// The fault is `Read` where the reader had one, `TooLong` where more octets came than the managed limit, and
+/// `Memory` where memory was refused, which is wanted only where a frame's unit is accepted and a series is incomplete on
+/// its MAP, before the frame or after it, or where a packet was delivered; nothing is written then. Or it is `Write`, where
+/// the writer had one; it then has a prefix of the normal form.
+pub fn normalise_tc<R: Read, W: Write>(
+    alloc: Global,
+    managed: &Managed,
+    reader: &mut Counted<R>,
+    writer: &mut Counted<W>,
+) -> Result<Totals, LinkFault>
+    // All is read, and the normal form of it is written and nothing else.
+    ensures normal_form { IfOk result (Translates R.remaining W.contents reader.old reader.new writer.old writer.new (tc_normal_form managed.now) (tc_counts managed.now) managed.now.max_octets) }
+    // The normal form delivers the packets of the recording.
+    ensures packets { OnOk result (KeepsPackets R.remaining W.contents reader.old reader.new writer.old writer.new (tc_packets managed.now)) }
+    // After a fault its cause is there, and a prefix of the normal form of what was read is written.
+    ensures fault { IfErr result (Stops R.remaining W.contents reader.old reader.new writer.old writer.new (tc_normal_form managed.now) managed.now.max_octets 0x10000) }
+    // Only where the writer failed is anything written, and all is read then.
+    ensures all_read { IfErr result (λ fault. fault ≡ LinkFault.Write → IsRead R.remaining reader.new) }
+    ensures nothing { IfErr result (λ fault. fault ≢ LinkFault.Write → writer.new ≡ writer.old) }
+    // Memory is refused only where a series is incomplete around a frame, or a packet was delivered.
+    ensures memory { IfErr result (λ fault. fault ≡ LinkFault.Memory → WantedMemory R.remaining reader.old reader.new (tc_frames_of (tc_format managed.now)) (MayWantMemoryTc managed.now)) }
+{
+    let (delivered, totals) = deliver(alloc, managed, reader)?;
+    let form = reframe(alloc, managed, &delivered)?;
+    write_text(writer, form.as_slice())?;
+    Ok(totals)
+}
+
+// Reads a recording to its end, and keeps the packets that its frames deliver.
+fn deliver<R: Read>(
+    alloc: Global,
+    managed: &Managed,
+    reader: &mut Counted<R>,
+) -> Result<(Delivered, Totals), LinkFault>
+    ensures all { IfOk result (λ kept. DeliversAll R.remaining reader.old reader.new (tc_packets managed.now) (tc_counts managed.now) managed.now.max_octets kept.0.lists kept.1) }
+    ensures size { IfOk result (λ kept. length kept.0.lists ≡ channel_count) }
+    ensures fault { IfErr result (StopsReadingAll R.remaining reader.old reader.new managed.now.max_octets 0x10000) }
+    ensures memory { IfErr result (λ fault. fault ≡ LinkFault.Memory → WantedMemory R.remaining reader.old reader.new (tc_frames_of (tc_format managed.now)) (MayWantMemoryTc managed.now)) }
+{
+    let mut buffer = [0; CHUNK];
+    let mut framer = TcFramer::new(&managed.tc);
+    let mut store = TcStore {
+        managed: *managed,
+        receiver: Receiver::new(alloc, managed.window, managed.vr),
+        so_far: DeliveryTally::new(),
+        delivered: Delivered::new(alloc),
+    };
+    let octets = pass_over(managed, &mut framer, &mut store, reader, &mut buffer)?;
+    let TcStore {
+        so_far,
+        delivered,
+        ..
+    } = store;
+    Ok((delivered, so_far.totals(octets - so_far.tally.octets)))
+}
+
+// The normal form of the packets that were delivered.
+fn reframe(alloc: Global, managed: &Managed, delivered: &Delivered) -> Result<Vec<u8>, LinkFault>
+    ensures form { IfOk result (λ form. form.items ≡ tc_form_of managed.now delivered.now.lists) }
+    ensures delivers { IfOk result (λ form. tc_packets managed.now form.items ≡ delivered.now.lists) }
+    ensures fault { IfErr result (λ fault. fault ≡ LinkFault.Memory) }
+    ensures packets { OnErr result (length delivered.now.lists ≡ channel_count → 0 < count_of delivered.now.lists) }
+{
+    match reframe_tc(
+        alloc,
+        &managed.tc,
+        managed.spacecraft,
+        managed.vr,
+        delivered,
+    ) {
+        Ok(form) => Ok(form),
+        Err(_) => Err(LinkFault::Memory),
+    }
+}
+
+// Keeps the packets that frames deliver.
+#[derive(Drop)]
+struct TcStore {
+    managed: Managed,
+    receiver: Receiver,
+    so_far: DeliveryTally,
+    delivered: Delivered,
+}
+
+impl FrameSink for TcStore {
+    ghost use Rattle.std.specs.Prelude.{◌≡◌};
+    ghost use Rattle.sl_link.specs.Delivering.{IsRefused};
+    ghost use Rattle.sl_link.specs.DeliveringTc.{HasTcKept, MayWantMemoryTc};
+    ghost use Rattle.sl_link.specs.TcPass.{is_tc_frame};
+
+    ghost is_frame = { λ store frame. is_tc_frame store.managed frame };
+
+    ghost took = { λ start now frames. (now.managed ≡ start.managed) × HasTcKept start.managed frames now.receiver now.so_far now.delivered.lists };
+
+    ghost stopped = { λ start now frames fault. IsRefused (MayWantMemoryTc start.managed frames) fault };
+
+    fn frame(&mut self, frame: &[u8]) -> Result<(), LinkFault> {
+        let met = deliver_frame(
+            &self.managed,
+            frame,
+            &mut self.receiver,
+            &mut self.delivered,
+        )?;
+        self.so_far.add(frame.len() as u64, met);
+        Ok(())
+    }
+
+    fn pause(&mut self) -> Result<(), LinkFault> {
+        Ok(())
+    }
+}
+
+// Delivers the packets that end with a frame's unit, unless the frame is skipped.
+fn deliver_frame(
+    managed: &Managed,
+    frame: &[u8],
+    receiver: &mut Receiver,
+    delivered: &mut Delivered,
+) -> Result<FrameReport, LinkFault>
+    requires one_frame { is_cut (tc_format managed.now) frame.now ≡ true }
+    requires channels { length delivered.old.lists ≡ channel_count }
+    requires working { IsWorking receiver.old }
+    // Whichever frames were processed before, now they and this one are,
+    ensures processed { OnOk result (ForProcessed receiver.old (λ w vr views. HasProcessed w vr receiver.new (with_frame views (as_read managed.now frame.now)))) }
+    // and the packets that end with its unit are delivered and counted.
+    ensures lists { OnOk result (ForProcessed receiver.old (λ w vr views. delivered.new.lists ≡ lists_after w vr views (as_read managed.now frame.now) delivered.old.lists)) }
+    ensures skipped { IfOk result (λ met. met.is_skipped ≡ is_err (as_read managed.now frame.now)) }
+    ensures packets { IfOk result (λ met. ForProcessed receiver.old (λ w vr views. met.packets ≡ length (without_idle (ended_in w vr views (as_read managed.now frame.now))))) }
+    ensures idle { IfOk result (λ met. ForProcessed receiver.old (λ w vr views. met.idle ≡ length (only_idle (ended_in w vr views (as_read managed.now frame.now))))) }
+    ensures fault { IfErr result (λ fault. fault ≡ LinkFault.Memory) }
+    ensures memory { OnErr result (ForProcessed receiver.old (λ w vr views. may_want_memory w vr views (as_read managed.now frame.now))) }
+{
+    let view = match TcFrame::read(&managed.tc, managed.spacecraft, frame) {
+        Ok(view) => view,
+        Err(_) => return Ok(SKIPPED),
+    };
+    match receiver.frame(&view, delivered) {
+        Ok(step) => Ok(FrameReport {
+            is_skipped: false,
+            packets: step.packets(),
+            idle: step.idle(),
+        }),
+        Err(FlowFault::Memory) => Err(LinkFault::Memory),
+        Err(FlowFault::Sink(fault)) => Err(store_fault(fault)),
+        Err(FlowFault::Failed) => unreachable!(),
+    }
+}

@@ -1,0 +1,254 @@
+//! What is amiss in a TC recording as lines.
+ghost use Rattle.std.specs.Prelude.{◌≡◌, ◌<◌, ◌≤◌, ◌++◌, ◌∷◌, [], true, length, IfOk, IfErr, OnOk, Ok};
+ghost use Rattle.std.specs.List.{concat};
+ghost use Rattle.sl_tcframe.specs.TcDelimited.{tc_frames_of};
+ghost use Rattle.sl_tcframe.specs.TcFrame.{is_cut};
+ghost use Rattle.sl_tcflow.specs.Receiving.{ForProcessed, HasProcessed, IsIncompleteAround, IsWorking};
+ghost use Rattle.sl_link.specs.CheckTc.{check_tc_counts, check_tc_text, open_on, tc_amiss, tc_incomplete};
+ghost use Rattle.sl_link.specs.CheckingTc.{HasTcRoom, TellsTcFrame, end_amiss, end_counts};
+ghost use Rattle.sl_link.specs.DeliverTc.{as_read, is_incomplete_around};
+ghost use Rattle.sl_link.specs.Delivering.{with_frame};
+ghost use Rattle.sl_link.specs.Managed.{tc_format};
+ghost use Rattle.sl_link.specs.PacketsTc.{WantsMemoryTc};
+ghost use Rattle.sl_link.specs.Streams.{AddsText, Stops, StopsListing, StopsWriting, Translates};
+ghost use Rattle.sl_link.specs.Verb.{WantedMemory};
+
+use crate::amiss_lines::{push_totals, remainder_lines};
+use crate::check_tally::{CheckReport, CheckTally};
+use crate::counted::Counted;
+use crate::delivery::{FrameReport, SKIPPED};
+use crate::lines::Lines;
+use crate::link_fault::LinkFault;
+use crate::listing::make_room;
+use crate::managed::Managed;
+use crate::pass::CHUNK;
+use crate::tc_check_lines::{amiss_lines, open_line, skip_line};
+use crate::totals::Totals;
+use crate::uncounted::Uncounted;
+use crate::verbs::{Verb, list};
+use sl_packet::FlowFault;
+use sl_tcflow::Receiver;
+use sl_tcframe::{TcFrame, TcFramer};
+use std::alloc::Global;
+use std::io::{Read, Write};
+
+/// Reads a recording of TC transfer frames to its end, and writes a line for each thing that is amiss in it, and
+/// then one of its totals (docs/listings.md). It keeps one frame at most, the FARM-1 of 64 virtual channels, and the
+/// series that is incomplete on each MAP.
+///
+/// The fault is `Read` where the reader had one, `TooLong` where more octets came than the managed limit, `Memory`
+/// where memory was refused, which is wanted only where the unit of a frame is accepted and a series is incomplete on
+/// its MAP, before the frame or after it, and `Write` where the writer had one.
+pub fn check_tc<R: Read, W: Write>(
+    alloc: Global,
+    managed: &Managed,
+    reader: &mut Counted<R>,
+    writer: &mut Counted<W>,
+) -> Result<Totals, LinkFault>
+    // All is read, and its listing is written and nothing else.
+    ensures listing { IfOk result (Translates R.remaining W.contents reader.old reader.new writer.old writer.new (check_tc_text managed.now) (check_tc_counts managed.now) managed.now.max_octets) }
+    // After a fault, whose cause is there, a prefix of the listing of what was read is written.
+    ensures fault { IfErr result (Stops R.remaining W.contents reader.old reader.new writer.old writer.new (check_tc_text managed.now) managed.now.max_octets 0x10000) }
+    // Memory is refused only where the unit of some frame of what was read is accepted, and a series is incomplete
+    // around it on its MAP.
+    ensures memory { IfErr result (λ fault. fault ≡ LinkFault.Memory → WantedMemory R.remaining reader.old reader.new (tc_frames_of (tc_format managed.now)) (WantsMemoryTc managed.now)) }
+{
+    let mut buffer = [0; CHUNK];
+    let mut framer = TcFramer::new(&managed.tc);
+    let mut verb = CheckTc {
+        receiver: Receiver::new(alloc, managed.window, managed.vr),
+        so_far: CheckTally::new(),
+    };
+    list(managed, &mut framer, &mut verb, reader, writer, &mut buffer)
+}
+
+// Lists what is amiss in the frames and after them.
+#[derive(Drop)]
+struct CheckTc {
+    receiver: Receiver,
+    so_far: CheckTally,
+}
+
+impl Verb for CheckTc {
+    ghost use Rattle.sl_link.specs.CheckTc.{check_tc_listing};
+    ghost use Rattle.sl_link.specs.CheckingTc.{HasTcChecked};
+    ghost use Rattle.sl_link.specs.PacketsTc.{WantsMemoryTc};
+    ghost use Rattle.sl_link.specs.TcPass.{is_tc_frame};
+
+    ghost is_frame = { is_tc_frame };
+
+    ghost listing = { check_tc_listing };
+
+    ghost has_listed = { λ verb p frames. HasTcChecked p frames verb.receiver verb.so_far };
+
+    ghost wants_memory = { WantsMemoryTc };
+
+    fn frame<W: Write>(
+        &mut self,
+        managed: &Managed,
+        frame: &[u8],
+        writer: &mut Counted<W>,
+        lines: &mut Lines,
+    ) -> Result<(), LinkFault> {
+        let offset = self.so_far.delivery.tally.octets;
+        let met = check_frame(managed, frame, offset, &mut self.receiver, writer, lines)?;
+        self.so_far.add(frame.len() as u64, met);
+        Ok(())
+    }
+
+    fn finish<W: Write>(
+        &self,
+        _managed: &Managed,
+        octets: u64,
+        writer: &mut Counted<W>,
+        lines: &mut Lines,
+    ) -> Result<Totals, LinkFault> {
+        make_room(writer, lines)?;
+        let totals = check_end(octets, &self.receiver, self.so_far, writer, lines)?;
+        push_totals(lines, &totals);
+        Ok(totals)
+    }
+}
+
+// One frame, at its offset.
+fn check_frame<W: Write>(
+    managed: &Managed,
+    frame: &[u8],
+    offset: u64,
+    receiver: &mut Receiver,
+    writer: &mut Counted<W>,
+    lines: &mut Lines,
+) -> Result<CheckReport, LinkFault>
+    requires one_frame { is_cut (tc_format managed.now) frame.now ≡ true }
+    requires working { IsWorking receiver.old }
+    ensures processed { OnOk result (ForProcessed receiver.old (λ w vr views. HasProcessed w vr receiver.new (with_frame views (as_read managed.now frame.now)))) }
+    ensures lines { OnOk result (ForProcessed receiver.old (λ w vr views. AddsText W.contents writer.old writer.new lines.old lines.new (concat (tc_amiss w vr offset views (as_read managed.now frame.now))))) }
+    ensures counts { IfOk result (λ report. ForProcessed receiver.old (λ w vr views. TellsTcFrame w vr offset views (as_read managed.now frame.now) report)) }
+    ensures fault { IfErr result (StopsListing W.contents writer.old writer.new lines.old) }
+    ensures memory { IfErr result (λ fault. fault ≡ LinkFault.Memory → ForProcessed receiver.old (λ w vr views. is_incomplete_around w vr views (as_read managed.now frame.now))) }
+{
+    make_room(writer, lines)?;
+    let report = read_frame(managed, frame, offset, receiver, lines)?;
+    Ok(report)
+}
+
+// One frame, for whose lines there is room.
+fn read_frame(
+    managed: &Managed,
+    frame: &[u8],
+    offset: u64,
+    receiver: &mut Receiver,
+    lines: &mut Lines,
+) -> Result<CheckReport, LinkFault>
+    requires one_frame { is_cut (tc_format managed.now) frame.now ≡ true }
+    requires working { IsWorking receiver.old }
+    requires room { length lines.old ≤ 65280 }
+    ensures processed { OnOk result (ForProcessed receiver.old (λ w vr views. HasProcessed w vr receiver.new (with_frame views (as_read managed.now frame.now)))) }
+    ensures lines { OnOk result (ForProcessed receiver.old (λ w vr views. lines.new ≡ lines.old ++ concat (tc_amiss w vr offset views (as_read managed.now frame.now)))) }
+    ensures counts { IfOk result (λ report. ForProcessed receiver.old (λ w vr views. TellsTcFrame w vr offset views (as_read managed.now frame.now) report)) }
+    ensures fault { IfErr result (λ fault. fault ≡ LinkFault.Memory) }
+    ensures memory { IfErr result (λ fault. ForProcessed receiver.old (λ w vr views. is_incomplete_around w vr views (as_read managed.now frame.now))) }
+{
+    let view = match TcFrame::read(&managed.tc, managed.spacecraft, frame) {
+        Ok(view) => view,
+        Err(reason) => {
+            skip_line(lines, offset, reason);
+            return Ok(CheckReport {
+                met: SKIPPED,
+                anomalies: 1,
+            });
+        }
+    };
+    let report = check_view(&view, offset, receiver, lines)?;
+    Ok(report)
+}
+
+// One frame that is not skipped.
+fn check_view(
+    view: &TcFrame,
+    offset: u64,
+    receiver: &mut Receiver,
+    lines: &mut Lines,
+) -> Result<CheckReport, LinkFault>
+    requires working { IsWorking receiver.old }
+    requires room { length lines.old ≤ 65280 }
+    ensures processed { OnOk result (ForProcessed receiver.old (λ w vr views. HasProcessed w vr receiver.new (views ++ view.now ∷ []))) }
+    ensures lines { OnOk result (ForProcessed receiver.old (λ w vr views. lines.new ≡ lines.old ++ concat (tc_amiss w vr offset views (Ok view.now)))) }
+    ensures counts { IfOk result (λ report. ForProcessed receiver.old (λ w vr views. TellsTcFrame w vr offset views (Ok view.now) report)) }
+    ensures fault { IfErr result (λ fault. fault ≡ LinkFault.Memory) }
+    ensures memory { IfErr result (λ fault. ForProcessed receiver.old (λ w vr views. IsIncompleteAround w vr views view.now)) }
+{
+    match receiver.frame(view, &mut Uncounted) {
+        Ok(step) => Ok(CheckReport {
+            met: FrameReport {
+                is_skipped: false,
+                packets: step.packets(),
+                idle: step.idle(),
+            },
+            anomalies: amiss_lines(lines, offset, view, &step),
+        }),
+        Err(FlowFault::Memory) => Err(LinkFault::Memory),
+        Err(FlowFault::Sink(_)) => unreachable!(),
+        Err(FlowFault::Failed) => unreachable!(),
+    }
+}
+
+// The remainder and the incomplete series, after the frames of so many octets of a recording.
+fn check_end<W: Write>(
+    octets: u64,
+    receiver: &Receiver,
+    so_far: CheckTally,
+    writer: &mut Counted<W>,
+    lines: &mut Lines,
+) -> Result<Totals, LinkFault>
+    requires inside { so_far.delivery.tally.octets ≤ octets }
+    requires room { HasTcRoom receiver.now octets so_far }
+    requires short { length lines.old ≤ 65280 }
+    ensures short { OnOk result (length lines.new ≤ 65280) }
+    ensures lines { OnOk result (ForProcessed receiver.now (λ w vr views. AddsText W.contents writer.old writer.new lines.old lines.new (concat (end_amiss w vr octets so_far views)))) }
+    ensures counts { IfOk result (λ totals. ForProcessed receiver.now (λ w vr views. totals ≡ end_counts w vr octets so_far views)) }
+    ensures fault { IfErr result (λ fault. ForProcessed receiver.now (λ w vr views. StopsWriting W.contents writer.old writer.new (lines.old ++ concat (end_amiss w vr octets so_far views)) fault)) }
+{
+    let rest = octets - so_far.delivery.tally.octets;
+    let remainders = remainder_lines(lines, so_far.delivery.tally.octets, rest);
+    let incomplete = incomplete_lines(octets, receiver, writer, lines)?;
+    make_room(writer, lines)?;
+    Ok(so_far.totals(rest, remainders + incomplete))
+}
+
+// The series that are incomplete at the end of a recording, and how many they are.
+fn incomplete_lines<W: Write>(
+    offset: u64,
+    receiver: &Receiver,
+    writer: &mut Counted<W>,
+    lines: &mut Lines,
+) -> Result<u64, LinkFault>
+    ensures lines { OnOk result (ForProcessed receiver.now (λ w vr views. AddsText W.contents writer.old writer.new lines.old lines.new (concat (tc_incomplete w vr offset views)))) }
+    ensures number { IfOk result (λ number. ForProcessed receiver.now (λ w vr views. number ≡ length (tc_incomplete w vr offset views))) }
+    ensures few { IfOk result (λ number. number ≤ 4096) }
+    ensures fault { IfErr result (λ fault. ForProcessed receiver.now (λ w vr views. StopsWriting W.contents writer.old writer.new (lines.old ++ concat (tc_incomplete w vr offset views)) fault)) }
+{
+    let mut number = 0;
+    for channel in 0..4096u16 {
+        make_room(writer, lines)?;
+        number += open_lines(lines, offset, receiver, channel);
+    }
+    Ok(number)
+}
+
+// The series that is incomplete on a channel, if one is.
+fn open_lines(lines: &mut Lines, offset: u64, receiver: &Receiver, channel: u16) -> u64
+    requires channel { channel < 4096 }
+    requires room { length lines.old ≤ 65280 }
+    ensures text { ForProcessed receiver.now (λ w vr views. lines.new ≡ lines.old ++ concat (open_on w vr offset views channel)) }
+    ensures number { ForProcessed receiver.now (λ w vr views. result ≡ length (open_on w vr offset views channel)) }
+    ensures few { result ≤ 1 }
+{
+    let vc = (channel / 64) as u8;
+    let map = (channel % 64) as u8;
+    if !receiver.is_open(vc, map) {
+        return 0;
+    }
+    open_line(lines, offset, vc, map, receiver.held(vc, map));
+    1
+}

@@ -1,0 +1,6 @@
+//! The packets of a recording as lines.
+mod tc;
+mod tm;
+
+pub use tc::packets_tc;
+pub use tm::packets_tm;

@@ -1,0 +1,161 @@
+//! The packets of a TC recording as lines.
+ghost use Rattle.std.specs.Prelude.{◌≡◌, ◌++◌, ◌∷◌, [], true, false, length, IfOk, IfErr, OnOk, Ok, is_err};
+ghost use Rattle.sl_packet.specs.Packets.{only_idle, without_idle};
+ghost use Rattle.sl_tcflow.specs.Receiving.{ForProcessed, HasProcessed, IsIncompleteAround, IsWorking, ended_by};
+ghost use Rattle.sl_tcframe.specs.TcDelimited.{tc_frames_of};
+ghost use Rattle.sl_tcframe.specs.TcFrame.{is_cut};
+ghost use Rattle.sl_link.specs.DeliverTc.{as_read, ended_in, is_incomplete_around};
+ghost use Rattle.sl_link.specs.Delivering.{with_frame};
+ghost use Rattle.sl_link.specs.Managed.{tc_format};
+ghost use Rattle.sl_link.specs.NormaliseTc.{tc_counts};
+ghost use Rattle.sl_link.specs.PacketsTc.{WantsMemoryTc, packets_tc_text, tc_packet_lines};
+ghost use Rattle.sl_link.specs.Streams.{AddsText, Stops, StopsListing, Translates};
+ghost use Rattle.sl_link.specs.Verb.{WantedMemory};
+
+use crate::counted::Counted;
+use crate::delivery::{DeliveryTally, FrameReport, SKIPPED};
+use crate::lines::Lines;
+use crate::link_fault::LinkFault;
+use crate::managed::Managed;
+use crate::pass::CHUNK;
+use crate::printer::{ChannelKind, Printer, printing_fault};
+use crate::totals::Totals;
+use crate::verbs::{Verb, list};
+use sl_packet::FlowFault;
+use sl_tcflow::Receiver;
+use sl_tcframe::{TcFrame, TcFramer};
+use std::alloc::Global;
+use std::io::{Read, Write};
+
+/// Reads a recording of TC transfer frames to its end, and writes a line for each packet that its frames deliver, in
+/// the order of the frames whose accepted units end the series that they are of (docs/listings.md). It keeps one frame at
+/// most, the FARM-1 of 64 virtual channels, and the series that is incomplete on each MAP.
+///
+/// The fault is `Read` where the reader had one, `TooLong` where more octets came than the managed limit, `Memory`
+/// where memory was refused, which is wanted only where the unit of a frame is accepted and a series is incomplete on
+/// its MAP, before the frame or after it, and `Write` where the writer had one.
+pub fn packets_tc<R: Read, W: Write>(
+    alloc: Global,
+    managed: &Managed,
+    reader: &mut Counted<R>,
+    writer: &mut Counted<W>,
+) -> Result<Totals, LinkFault>
+    // All is read, and its listing is written and nothing else.
+    ensures listing { IfOk result (Translates R.remaining W.contents reader.old reader.new writer.old writer.new (packets_tc_text managed.now) (tc_counts managed.now) managed.now.max_octets) }
+    // After a fault, whose cause is there, a prefix of the listing of what was read is written.
+    ensures fault { IfErr result (Stops R.remaining W.contents reader.old reader.new writer.old writer.new (packets_tc_text managed.now) managed.now.max_octets 0x10000) }
+    // Memory is refused only where the unit of some frame of what was read is accepted, and a series is incomplete
+    // around it on its MAP.
+    ensures memory { IfErr result (λ fault. fault ≡ LinkFault.Memory → WantedMemory R.remaining reader.old reader.new (tc_frames_of (tc_format managed.now)) (WantsMemoryTc managed.now)) }
+{
+    let mut buffer = [0; CHUNK];
+    let mut framer = TcFramer::new(&managed.tc);
+    let mut verb = PacketsTc {
+        receiver: Receiver::new(alloc, managed.window, managed.vr),
+        so_far: DeliveryTally::new(),
+    };
+    list(managed, &mut framer, &mut verb, reader, writer, &mut buffer)
+}
+
+// Lists the packets that end with the frames' units.
+#[derive(Drop)]
+struct PacketsTc {
+    receiver: Receiver,
+    so_far: DeliveryTally,
+}
+
+impl Verb for PacketsTc {
+    ghost use Rattle.sl_link.specs.DeliveringTc.{HasTcDelivered};
+    ghost use Rattle.sl_link.specs.PacketsTc.{WantsMemoryTc, packets_tc_listing};
+    ghost use Rattle.sl_link.specs.TcPass.{is_tc_frame};
+
+    ghost is_frame = { is_tc_frame };
+
+    ghost listing = { packets_tc_listing };
+
+    ghost has_listed = { λ verb p frames. HasTcDelivered p frames verb.receiver verb.so_far };
+
+    ghost wants_memory = { WantsMemoryTc };
+
+    fn frame<W: Write>(
+        &mut self,
+        managed: &Managed,
+        frame: &[u8],
+        writer: &mut Counted<W>,
+        lines: &mut Lines,
+    ) -> Result<(), LinkFault> {
+        let met = print_frame(managed, frame, &mut self.receiver, writer, lines)?;
+        self.so_far.add(frame.len() as u64, met);
+        Ok(())
+    }
+
+    fn finish<W: Write>(
+        &self,
+        _managed: &Managed,
+        octets: u64,
+        _writer: &mut Counted<W>,
+        _lines: &mut Lines,
+    ) -> Result<Totals, LinkFault> {
+        Ok(self.so_far.totals(octets - self.so_far.tally.octets))
+    }
+}
+
+// The packets that end with a frame's unit, unless the frame is skipped.
+fn print_frame<W: Write>(
+    managed: &Managed,
+    frame: &[u8],
+    receiver: &mut Receiver,
+    writer: &mut Counted<W>,
+    lines: &mut Lines,
+) -> Result<FrameReport, LinkFault>
+    requires one_frame { is_cut (tc_format managed.now) frame.now ≡ true }
+    requires working { IsWorking receiver.old }
+    ensures processed { OnOk result (ForProcessed receiver.old (λ w vr views. HasProcessed w vr receiver.new (with_frame views (as_read managed.now frame.now)))) }
+    ensures lines { OnOk result (ForProcessed receiver.old (λ w vr views. AddsText W.contents writer.old writer.new lines.old lines.new (tc_packet_lines w vr views (as_read managed.now frame.now)))) }
+    ensures skipped { IfOk result (λ met. met.is_skipped ≡ is_err (as_read managed.now frame.now)) }
+    ensures packets { IfOk result (λ met. ForProcessed receiver.old (λ w vr views. met.packets ≡ length (without_idle (ended_in w vr views (as_read managed.now frame.now))))) }
+    ensures idle { IfOk result (λ met. ForProcessed receiver.old (λ w vr views. met.idle ≡ length (only_idle (ended_in w vr views (as_read managed.now frame.now))))) }
+    ensures fault { IfErr result (λ fault. ForProcessed receiver.old (λ w vr views. StopsListing W.contents writer.old writer.new (lines.old ++ tc_packet_lines w vr views (as_read managed.now frame.now)) fault)) }
+    ensures memory { IfErr result (λ fault. fault ≡ LinkFault.Memory → ForProcessed receiver.old (λ w vr views. is_incomplete_around w vr views (as_read managed.now frame.now))) }
+{
+    let view = match TcFrame::read(&managed.tc, managed.spacecraft, frame) {
+        Ok(view) => view,
+        Err(_) => return Ok(SKIPPED),
+    };
+    let met = print_view(&view, receiver, writer, lines)?;
+    Ok(met)
+}
+
+// The packets that end with the unit of a frame that is not skipped.
+fn print_view<W: Write>(
+    view: &TcFrame,
+    receiver: &mut Receiver,
+    writer: &mut Counted<W>,
+    lines: &mut Lines,
+) -> Result<FrameReport, LinkFault>
+    requires working { IsWorking receiver.old }
+    ensures processed { OnOk result (ForProcessed receiver.old (λ w vr views. HasProcessed w vr receiver.new (views ++ view.now ∷ []))) }
+    ensures lines { OnOk result (ForProcessed receiver.old (λ w vr views. AddsText W.contents writer.old writer.new lines.old lines.new (tc_packet_lines w vr views (Ok view.now)))) }
+    ensures read { IfOk result (λ met. met.is_skipped ≡ false) }
+    ensures packets { IfOk result (λ met. ForProcessed receiver.old (λ w vr views. met.packets ≡ length (without_idle (ended_by w vr views view.now)))) }
+    ensures idle { IfOk result (λ met. ForProcessed receiver.old (λ w vr views. met.idle ≡ length (only_idle (ended_by w vr views view.now)))) }
+    ensures fault { IfErr result (λ fault. ForProcessed receiver.old (λ w vr views. StopsListing W.contents writer.old writer.new (lines.old ++ tc_packet_lines w vr views (Ok view.now)) fault)) }
+    ensures memory { IfErr result (λ fault. fault ≡ LinkFault.Memory → ForProcessed receiver.old (λ w vr views. IsIncompleteAround w vr views view.now)) }
+{
+    let mut printer = Printer {
+        writer,
+        lines,
+        kind: ChannelKind::Map,
+        failures: 0,
+    };
+    match receiver.frame(view, &mut printer) {
+        Ok(step) => Ok(FrameReport {
+            is_skipped: false,
+            packets: step.packets(),
+            idle: step.idle(),
+        }),
+        Err(FlowFault::Memory) => Err(LinkFault::Memory),
+        Err(FlowFault::Sink(fault)) => Err(printing_fault(fault)),
+        Err(FlowFault::Failed) => unreachable!(),
+    }
+}

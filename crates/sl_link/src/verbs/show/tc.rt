@@ -1,0 +1,125 @@
+//! The frames of a TC recording as lines.
+ghost use Rattle.std.specs.Prelude.{◌≡◌, ◌≢◌, true, is_err, IfOk, IfErr, OnOk, Err};
+ghost use Rattle.sl_tcframe.specs.TcFrame.{is_cut, tc_frame};
+ghost use Rattle.sl_link.specs.Line.{line_at};
+ghost use Rattle.sl_link.specs.Managed.{tc_format};
+ghost use Rattle.sl_link.specs.ShowTc.{show_tc_counts, show_tc_text, tc_frame_text};
+ghost use Rattle.sl_link.specs.Streams.{AddsText, Stops, StopsWriting, Translates};
+ghost use Rattle.sl_link.specs.TcListing.{farm_at, farms_after};
+
+use crate::counted::Counted;
+use crate::farms::Farms;
+use crate::lines::Lines;
+use crate::link_fault::LinkFault;
+use crate::listing::{make_room, rest_line};
+use crate::managed::Managed;
+use crate::pass::CHUNK;
+use crate::tally::Tally;
+use crate::tc_lines::tc_frame_line;
+use crate::totals::Totals;
+use crate::verbs::{Verb, list};
+use sl_tcframe::{TcFrame, TcFramer};
+use std::io::{Read, Write};
+
+/// Reads a recording of TC transfer frames (CCSDS 232.0-B) to its end and writes a line for each frame, with
+/// what FARM-1 of its virtual channel makes of it and the CLCW after it, and one for a remainder: a last frame
+/// that isn't whole, or all octets from the first stated length on that no frame can have.
+///
+/// It keeps one frame at most and the FARM-1 of 64 virtual channels, and takes no memory: a fault is
+/// `Read`, `TooLong` or `Write`.
+pub fn show_tc<R: Read, W: Write>(
+    managed: &Managed,
+    reader: &mut Counted<R>,
+    writer: &mut Counted<W>,
+) -> Result<Totals, LinkFault>
+    // All is read, and its listing is written and nothing else.
+    ensures listing { IfOk result (Translates R.remaining W.contents reader.old reader.new writer.old writer.new (show_tc_text managed.now) (show_tc_counts managed.now) managed.now.max_octets) }
+    // After a fault, whose cause is there, a prefix of the listing of what was read is written.
+    ensures fault { IfErr result (Stops R.remaining W.contents reader.old reader.new writer.old writer.new (show_tc_text managed.now) managed.now.max_octets 0x10000) }
+    ensures no_memory { result ≢ Err LinkFault.Memory }
+{
+    let mut buffer = [0; CHUNK];
+    let mut framer = TcFramer::new(&managed.tc);
+    let mut verb = ShowTc {
+        tally: Tally::new(),
+        farms: Farms::new(managed.window, managed.vr),
+    };
+    list(managed, &mut framer, &mut verb, reader, writer, &mut buffer)
+}
+
+// Lists the frames.
+#[derive(Drop)]
+struct ShowTc {
+    tally: Tally,
+    farms: Farms,
+}
+
+impl Verb for ShowTc {
+    ghost use Rattle.sl_link.specs.ShowTc.{show_tc_listing};
+    ghost use Rattle.sl_link.specs.TcListing.{HasListed};
+    ghost use Rattle.sl_link.specs.TcPass.{is_tc_frame};
+
+    ghost is_frame = { is_tc_frame };
+
+    ghost listing = { show_tc_listing };
+
+    ghost has_listed = { λ verb p frames. HasListed p verb.tally verb.farms frames };
+
+    ghost wants_memory = { λ p frames. ⊥ };
+
+    fn frame<W: Write>(
+        &mut self,
+        managed: &Managed,
+        frame: &[u8],
+        writer: &mut Counted<W>,
+        lines: &mut Lines,
+    ) -> Result<(), LinkFault> {
+        let is_skipped = show_frame(
+            managed,
+            writer,
+            frame,
+            lines,
+            self.tally.octets,
+            &mut self.farms,
+        )?;
+        self.tally.add(frame.len() as u64, is_skipped);
+        Ok(())
+    }
+
+    fn finish<W: Write>(
+        &self,
+        managed: &Managed,
+        octets: u64,
+        writer: &mut Counted<W>,
+        lines: &mut Lines,
+    ) -> Result<Totals, LinkFault> {
+        make_room(writer, lines)?;
+        let rest = octets - self.tally.octets;
+        if rest > 0 {
+            rest_line(lines, self.tally.octets, rest);
+        }
+        Ok(self.tally.totals(rest))
+    }
+}
+
+// One frame, at its offset. The answer is whether it is skipped.
+#[inline(always)]
+fn show_frame<W: Write>(
+    managed: &Managed,
+    writer: &mut Counted<W>,
+    frame: &[u8],
+    lines: &mut Lines,
+    offset: u64,
+    farms: &mut Farms,
+) -> Result<bool, LinkFault>
+    requires one_frame { is_cut (tc_format managed.now) frame.now ≡ true }
+    ensures skipped { IfOk result (λ is_skipped. is_skipped ≡ is_err (tc_frame (tc_format managed.now) managed.now.spacecraft frame.now)) }
+    ensures line { OnOk result (AddsText W.contents writer.old writer.new lines.old lines.new (line_at offset (tc_frame_text (farm_at farms.old) (tc_frame (tc_format managed.now) managed.now.spacecraft frame.now)))) }
+    ensures farms { OnOk result (farms.new ≡ farms_after farms.old (tc_frame (tc_format managed.now) managed.now.spacecraft frame.now)) }
+    ensures fault { IfErr result (StopsWriting W.contents writer.old writer.new lines.old) }
+{
+    make_room(writer, lines)?;
+    let read = TcFrame::read(&managed.tc, managed.spacecraft, frame);
+    tc_frame_line(lines, offset, farms, &read);
+    Ok(read.is_err())
+}

@@ -1,0 +1,126 @@
+-- Units that are sent on a virtual channel in frames of type AD, CCSDS 232.0-B and 232.1-B, with N(S) counting from the
+-- initial V(R) on, modulo 256. The frames arrive in any order, any of them lost or repeated, and no Set V(R) comes.
+use Rattle.std.specs.Prelude.{◌≡◌, ◌≢◌, ℕ, ◌+◌, ◌<◌, ◌≤◌, false, List, [], ◌∷◌, ◌++◌, length}
+use Rattle.std.specs.List.{AllByRecursion, AllZip, slice_index_or}
+use mathlib.Core.List.{IsPrefix}
+use Rattle.sl_cop.specs.declared.verdict.Verdict.TheVariants.{Accept}
+use Rattle.sl_cop.specs.Farm.{FarmView, farm_step, negative_width, positive_width}
+use Rattle.sl_cop.specs.FarmClcw.{clcw_of}
+use Rattle.sl_cop.specs.Reordered.{Arrival, Copy, OfTypeBd, UnlockCommand, AreInWindow, AreNear, AtEachMoment, ns_of}
+use Rattle.sl_packet.specs.Packets.{without_idle}
+use Rattle.sl_tcframe.specs.TcFrame.{TcFormat, TcView, Ad, Bd, Unlock}
+use Rattle.sl_tcflow.specs.AcceptedUnit.{accepted_ad_units, accepted_units, channel_of, event_of, farm_after}
+use Rattle.sl_tcflow.specs.Receiving.{HaveStepped, channel_at, farm_at_start}
+use Rattle.sl_tcflow.specs.Reception.{packets_on, segments_of}
+use Rattle.sl_tcflow.specs.Recording.{recorded_views, tc_lists}
+use Rattle.sl_tcflow.specs.Series.{segments_on}
+
+-- the unit with this index among those that were sent
+abbrev pub unit_at : List (List ℕ) → ℕ → List ℕ
+unit_at sent index = slice_index_or sent index []
+
+-- What a frame is: a copy of the frame of type AD with the unit of this index, of type BD, or Unlock.
+abbrev pub IsArrival : ℕ → List (List ℕ) → TcView → Arrival → Type 0
+IsArrival vr sent view (Copy index) = (index < length sent) × (view.content ≡ Ad (ns_of vr index) (unit_at sent index))
+IsArrival vr sent view OfTypeBd = (unit : List ℕ) × (view.content ≡ Bd unit)
+IsArrival vr sent view UnlockCommand = view.content ≡ Unlock
+
+-- the frames of a virtual channel, one after another
+abbrev pub AreArrivals : ℕ → List (List ℕ) → List TcView → List Arrival → Type 0
+AreArrivals vr sent channel arrivals = AllZip (IsArrival vr sent) channel arrivals
+
+-- no frame is of type BD
+abbrev pub HaveNoBd : List TcView → Type 0
+HaveNoBd channel = AllByRecursion (λ (view : TcView). (unit : List ℕ) → view.content ≢ Bd unit) channel
+
+-- the number of units of type AD that are accepted, which is the index of the unit that is expected next
+abbrev pub accepted_ad_count : ℕ → ℕ → List TcView → ℕ
+accepted_ad_count w vr channel = length (accepted_ad_units w vr channel)
+
+-- the N(S) of its frame
+abbrev pub expected_ns : ℕ → ℕ → List TcView → ℕ
+expected_ns w vr channel = ns_of vr (accepted_ad_count w vr channel)
+
+-- the frames of a recording on a virtual channel; those that are skipped are on none
+abbrev pub recorded_channel : TcFormat → ℕ → ℕ → List ℕ → List TcView
+recorded_channel format spacecraft vc recording = channel_of vc (recorded_views format spacecraft recording)
+
+-- the packets that it delivers on a virtual channel and MAP, idle ones left out
+abbrev pub recorded_packets : TcFormat → ℕ → ℕ → ℕ → ℕ → ℕ → List ℕ → List (List ℕ)
+recorded_packets format spacecraft w vr vc mid recording =
+    slice_index_or (tc_lists format spacecraft w vr recording) (channel_at vc mid) []
+
+-- The frames of a virtual channel are copies of what was sent, each less than 256 away from the frame that is expected
+-- when it arrives, and between them frames of type BD and Unlock, but no Set V(R).
+pub record AreReordered (w vr : ℕ) (sent : List (List ℕ)) (channel : List TcView) (arrivals : List Arrival) : Type 0 where
+  pub initial : vr < 256
+  pub arrive : AreArrivals vr sent channel arrivals
+  pub near : AreNear w vr arrivals
+
+-- Each copy is in the window when it arrives, which is at most all 256 sequence numbers.
+pub record AreReorderedInWindow (w vr : ℕ) (sent : List (List ℕ)) (channel : List TcView) (arrivals : List Arrival) : Type 0 where
+  pub initial : vr < 256
+  pub most : positive_width w + negative_width w ≤ 256
+  pub arrive : AreArrivals vr sent channel arrivals
+  pub within : AreInWindow w vr arrivals
+
+-- ---- laws
+
+-- Copies in the window are less than 256 away from the frame that is expected.
+abbrev pub WindowIsNear : Type 0
+WindowIsNear =
+    (w vr : ℕ) (sent : List (List ℕ)) (channel : List TcView) (arrivals : List Arrival) → AreReorderedInWindow w vr sent channel arrivals
+    → AreReordered w vr sent channel arrivals
+
+-- Whatever the window, the accepted units of type AD are a prefix of the units that were sent,
+abbrev pub UnitsInOrder : Type 0
+UnitsInOrder =
+    (w vr : ℕ) (sent : List (List ℕ)) (channel : List TcView) (arrivals : List Arrival) → AreReordered w vr sent channel arrivals
+    → IsPrefix (accepted_ad_units w vr channel) sent
+
+-- and V(R) is at each moment the initial one and their number, modulo 256.
+abbrev pub VrCountsUnits : Type 0
+VrCountsUnits =
+    (w vr : ℕ) (sent : List (List ℕ)) (channel : List TcView) (arrivals : List Arrival) → AreReordered w vr sent channel arrivals
+    → AtEachMoment channel (λ before. (farm_after w vr before).vr ≡ expected_ns w vr before)
+
+-- Where no frame is of type BD, these are all the accepted units,
+abbrev pub AdUnitsAreAll : Type 0
+AdUnitsAreAll = (w vr : ℕ) (channel : List TcView) → HaveNoBd channel → accepted_ad_units w vr channel ≡ accepted_units w vr channel
+
+-- and the packets of each MAP are a prefix of those of the units that were sent.
+abbrev pub PacketsInOrder : Type 0
+PacketsInOrder =
+    (w vr vc mid : ℕ) (sent : List (List ℕ)) (views : List TcView) (arrivals : List Arrival) → AreReordered w vr sent (channel_of vc views) arrivals
+    → HaveNoBd (channel_of vc views)
+    → IsPrefix (packets_on (segments_of w vr vc mid views)) (packets_on (segments_on mid sent))
+
+-- On a virtual channel and MAP a recording then delivers a prefix of them, idle ones left out. Of the other virtual
+-- channels nothing is said.
+abbrev pub RecordedPacketsInOrder : Type 0
+RecordedPacketsInOrder =
+    (format : TcFormat) (spacecraft w vr vc mid : ℕ) (sent : List (List ℕ)) (recording : List ℕ) (arrivals : List Arrival) → vc < 64 → mid < 64
+    → AreReordered w vr sent (recorded_channel format spacecraft vc recording) arrivals → HaveNoBd (recorded_channel format spacecraft vc recording)
+    → IsPrefix (recorded_packets format spacecraft w vr vc mid recording) (without_idle (packets_on (segments_on mid sent)))
+
+-- In the window the Lockout flag is never set,
+abbrev pub WindowNeverLocks : Type 0
+WindowNeverLocks =
+    (w vr : ℕ) (sent : List (List ℕ)) (channel : List TcView) (arrivals : List Arrival) → AreReorderedInWindow w vr sent channel arrivals
+    → AtEachMoment channel (λ before. (farm_after w vr before).lockout ≡ false)
+
+-- and each copy of the frame that is expected is accepted.
+abbrev pub ExpectedUnitIsAccepted : Type 0
+ExpectedUnitIsAccepted =
+    (w vr : ℕ) (sent : List (List ℕ)) (channel : List TcView) (arrivals : List Arrival) → AreReorderedInWindow w vr sent channel arrivals
+    → (before after : List TcView) (view : TcView) → channel ≡ before ++ view ∷ after
+    → view.content ≡ Ad (expected_ns w vr before) (unit_at sent (accepted_ad_count w vr before))
+    → (farm_step w (farm_after w vr before) (event_of view.content)).0 ≡ Accept
+
+-- A receiver whose FARMs had these frames, also one that has failed, has FARM-1 of the virtual channel with that V(R):
+-- its CLCW, which reports V(R), reports this.
+abbrev pub ReceiverCountsUnits : Type 0
+ReceiverCountsUnits =
+    (w vr vc : ℕ) (sent : List (List ℕ)) (farms : List FarmView) (views : List TcView) (arrivals : List Arrival) → vc < 64
+    → HaveStepped w vr farms views → AreReordered w vr sent (channel_of vc views) arrivals
+    → (clcw_of vc (slice_index_or farms vc (farm_at_start w vr)).state).report ≡ expected_ns w vr (channel_of vc views)

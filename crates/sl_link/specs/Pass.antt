@@ -1,13 +1,19 @@
 -- A recording that is read chunk by chunk, whose frames are handed over one by one.
+pub mod Tc
+pub mod Tm
 use Rattle.std.specs.Prelude.{◌≡◌, ℕ, ◌+◌, ◌^◌, ◌<◌, ◌≤◌, ◌⊎◌, List, [], ◌∷◌, ◌++◌, length, Option, None, Some}
 use Rattle.std.specs.Borrow.{Bor}
 use Rattle.std.specs.List.{concat}
-use Rattle.sl_link.specs.declared.counted.Counted.{Counted}
-use Rattle.sl_link.specs.declared.link_fault.LinkFault.{LinkFault}
-use Rattle.sl_link.specs.declared.link_fault.LinkFault.TheVariants.{Read, TooLong, Memory, Write}
-use Rattle.sl_link.specs.Counted.{faults_of, HasFailed}
-use Rattle.sl_link.specs.Managed.{Parameters}
-use Rattle.sl_link.specs.Streams.{Reads, IsRead}
+use Rattle.sl_link.specs.declared.link.counted.Counted.{Counted}
+use Rattle.sl_link.specs.declared.link.fault.LinkFault.{LinkFault}
+use Rattle.sl_link.specs.declared.link.fault.LinkFault.TheVariants.{Read, TooLong, Memory, Write}
+use Rattle.sl_link.specs.Link.Counted.{faults_of, HasFailed}
+use Rattle.sl_link.specs.Link.Managed.{Parameters}
+use Rattle.sl_link.specs.Io.Streams.{Reads, IsRead}
+
+-- the octets that are read at once, at most
+abbrev pub chunk_size : ℕ
+chunk_size = 0x10000
 
 -- ---- framers
 

@@ -1,7 +1,7 @@
 //! What holds of the definitions alone. Each function does nothing; its clauses are the laws.
-ghost use Rattle.sl_link.specs.PacketListing.{TmPacketsAreListed, TcPacketsAreListed};
-ghost use Rattle.sl_link.specs.Separation.{TmFormsDeliver, TmFormsTellPackets, TmFormsAreTheirOwn};
-ghost use Rattle.sl_link.specs.Separation.{TcFormsDeliver, TcFormsTellPackets, TcFormsAreTheirOwn};
+ghost use Rattle.sl_link.specs.Verbs.Packets.Listed.{TmPacketsAreListed, TcPacketsAreListed};
+ghost use Rattle.sl_link.specs.Normalise.Separation.{TmFormsDeliver, TmFormsTellPackets, TmFormsAreTheirOwn};
+ghost use Rattle.sl_link.specs.Normalise.Separation.{TcFormsDeliver, TcFormsTellPackets, TcFormsAreTheirOwn};
 
 /// Under the same managed parameters, normal forms of two TM recordings are equal octet for octet exactly where the
 /// recordings deliver the same packets on each virtual channel, idle ones left out. A normal form delivers the

@@ -1,4 +1,5 @@
 //! The normal form of a recording.
+mod form;
 mod tc;
 mod tm;
 

@@ -8,19 +8,19 @@ mod framer;
 mod tc;
 mod tm;
 
-use crate::counted::Counted;
-use crate::link_fault::LinkFault;
-use crate::managed::Managed;
-use crate::streams::read_some;
+use crate::io::streams::read_some;
+use crate::link::counted::Counted;
+use crate::link::fault::LinkFault;
+use crate::link::managed::Managed;
 pub use frame_sink::FrameSink;
 pub use framer::Framer;
 use std::io::Read;
 
 /// How many octets are read at once, at most.
-pub const CHUNK: usize = 0x10000;
+pub const CHUNK_SIZE: usize = 0x10000;
 
 /// Reads a recording to its end and hands over each frame of it. The answer is how many octets were read.
-pub fn pass_over<F: Framer, S: FrameSink, R: Read>(
+pub fn read_recording<F: Framer, S: FrameSink, R: Read>(
     managed: &Managed,
     framer: &mut F,
     sink: &mut S,
@@ -31,8 +31,11 @@ pub fn pass_over<F: Framer, S: FrameSink, R: Read>(
     requires none { F.waits framer.old managed.now [] }
     requires same { (frame : List ℕ) → F.is_frame managed.now frame → S.is_frame sink.old frame }
     requires begun { S.took sink.old sink.old [] }
-    ensures all { IfOk result (PassesOver R.remaining reader.old reader.new (F.frames_of managed.now) (S.took sink.old sink.new) managed.now.max_octets) }
-    ensures fault { IfErr result (StopsPassing R.remaining reader.old reader.new (F.frames_of managed.now) (S.took sink.old sink.new) (S.stopped sink.old sink.new) managed.now.max_octets (length buffer.old)) }
+    ensures all { IfOk result (PassesOver R.remaining reader.old reader.new
+        (F.frames_of managed.now) (S.took sink.old sink.new) managed.now.max_octets) }
+    ensures fault { IfErr result (StopsPassing R.remaining reader.old reader.new
+        (F.frames_of managed.now) (S.took sink.old sink.new) (S.stopped sink.old sink.new)
+        managed.now.max_octets (length buffer.old)) }
 {
     let limit = managed.max_octets;
     let mut octets = 0;
@@ -54,13 +57,18 @@ fn hand_over<F: Framer, S: FrameSink>(
     sink: &mut S,
     chunk: &[u8],
 ) -> Result<(), LinkFault>
-    requires ready { (start : S) × (before : List (List ℕ)) × (rest : List ℕ) × F.waits framer.old managed.now rest × S.took start sink.old before
+    requires ready { (start : S) × (before : List (List ℕ)) × (rest : List ℕ)
+        × F.waits framer.old managed.now rest × S.took start sink.old before
         × ((frame : List ℕ) → F.is_frame managed.now frame → S.is_frame start frame)
         × (length (concat before ++ rest) + length chunk.now < 2 ^ 64) }
-    ensures taken { OnOk result ((start : S) (before : List (List ℕ)) (rest : List ℕ) → F.waits framer.old managed.now rest → S.took start sink.old before
-        → TakesChunk (F.is_frame managed.now) (λ f. F.waits f managed.now) (F.frames_of managed.now) S.took framer.new start sink.new before (rest ++ chunk.now)) }
-    ensures fault { IfErr result (λ fault. (start : S) (before : List (List ℕ)) (rest : List ℕ) → F.waits framer.old managed.now rest → S.took start sink.old before
-        → StopsInChunk (F.frames_of managed.now) S.stopped start sink.new before (rest ++ chunk.now) fault) }
+    ensures taken { OnOk result ((start : S) (before : List (List ℕ)) (rest : List ℕ)
+        → F.waits framer.old managed.now rest → S.took start sink.old before
+        → TakesChunk (F.is_frame managed.now) (λ f. F.waits f managed.now) (F.frames_of managed.now)
+        S.took framer.new start sink.new before (rest ++ chunk.now)) }
+    ensures fault { IfErr result (λ fault. (start : S) (before : List (List ℕ)) (rest : List ℕ)
+        → F.waits framer.old managed.now rest → S.took start sink.old before
+        → StopsInChunk (F.frames_of managed.now) S.stopped start sink.new before
+        (rest ++ chunk.now) fault) }
 {
     let mut left = chunk;
     while let Some(frame) = framer.next_frame(&mut left) {

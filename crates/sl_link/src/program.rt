@@ -2,21 +2,23 @@
 ghost use Rattle.std.specs.Prelude.{◌≡◌, ◌≢◌, ◌≤◌, ◌⊎◌, map, string_bytes, OnOk, IfOk, IfErr};
 ghost use Rattle.std.specs.Io.KnownBytes.{Keeps};
 ghost use Rattle.clap.specs.Words.{kind_of};
-ghost use Rattle.sl_link.specs.CommandLine.{AreRefused, AskForHelp};
-ghost use Rattle.sl_link.specs.Counted.{stream_of, faults_of, HasFailed};
-ghost use Rattle.sl_link.specs.Run.{AsksForRefusedParameter, HasMetAnomalies, HasStopped, HasSucceeded, HasWritten, IsStoppedBy, WithAsked};
-ghost use Rattle.sl_link.specs.Status.{status};
+ghost use Rattle.sl_link.specs.Program.CommandLine.{AreRefused, AskForHelp};
+ghost use Rattle.sl_link.specs.Link.Counted.{stream_of, faults_of, HasFailed};
+ghost use Rattle.sl_link.specs.Program.Run.{AsksForRefusedParameter, HasMetAnomalies, HasStopped, HasSucceeded, HasWritten, IsStoppedBy, WithAsked};
+ghost use Rattle.sl_link.specs.Program.Status.{status};
 
-use crate::command_line::{Engine, Request, parse};
-use crate::counted::Counted;
-use crate::link_fault::LinkFault;
-use crate::managed::Managed;
+pub mod command_line;
+
+use crate::io::streams::write_text;
+use crate::link::counted::Counted;
+use crate::link::fault::LinkFault;
+use crate::link::managed::Managed;
+use crate::link::totals::Totals;
 use crate::normalise::{normalise_tc, normalise_tm};
-use crate::streams::write_text;
-use crate::totals::Totals;
 use crate::verbs::{check_tc, check_tm, packets_tc, packets_tm, show_tc, show_tm};
 use clap::Error;
 use clap::error::ErrorKind;
+use command_line::{Engine, Request, parse};
 use std::alloc::Global;
 use std::io::{Read, Write};
 
@@ -43,19 +45,24 @@ pub fn run<R: Read, W: Write, E: Write>(
     ensures range { result ≤ 3 }
     // After success the text that the words ask for is written and no anomaly was met, or they ask for help,
     // nothing was read and the writer had no fault.
-    ensures succeeded { result ≡ 0 → (AskForHelp (map string_bytes words.now) × (reader.new ≡ reader.old) × (faults_of writer.new ≡ faults_of writer.old))
-        ⊎ WithAsked (map string_bytes words.now) (HasSucceeded R.remaining W.contents reader.old reader.new writer.old writer.new) }
+    ensures succeeded { result ≡ 0 → (AskForHelp (map string_bytes words.now)
+        × (reader.new ≡ reader.old) × (faults_of writer.new ≡ faults_of writer.old))
+        ⊎ WithAsked (map string_bytes words.now) (HasSucceeded R.remaining W.contents
+        reader.old reader.new writer.old writer.new) }
     // A check that met anomalies has written all of its listing.
-    ensures anomalies { result ≡ 1 → WithAsked (map string_bytes words.now) (HasMetAnomalies R.remaining W.contents reader.old reader.new writer.old writer.new) }
+    ensures anomalies { result ≡ 1 → WithAsked (map string_bytes words.now)
+        (HasMetAnomalies R.remaining W.contents reader.old reader.new writer.old writer.new) }
     // A refused run has read and written nothing: the words are refused, or a managed parameter that they
     // ask for is.
     ensures refused { result ≡ 2 → (reader.new ≡ reader.old) × (writer.new ≡ writer.old)
-        × (AreRefused (map string_bytes words.now) ⊎ WithAsked (map string_bytes words.now) AsksForRefusedParameter) }
+        × (AreRefused (map string_bytes words.now) ⊎ WithAsked (map string_bytes words.now)
+        AsksForRefusedParameter) }
     // After a fault its cause is there, with what the words ask for; or nothing was read, and nothing
     // written unless they ask for help and the writer failed.
     ensures stopped { result ≡ 3 → ((reader.new ≡ reader.old) × ((writer.new ≡ writer.old)
         ⊎ (AskForHelp (map string_bytes words.now) × HasFailed writer.old writer.new)))
-        ⊎ WithAsked (map string_bytes words.now) (HasStopped R.remaining W.contents reader.old reader.new writer.old writer.new) }
+        ⊎ WithAsked (map string_bytes words.now)
+        (HasStopped R.remaining W.contents reader.old reader.new writer.old writer.new) }
 {
     match parse(alloc, words) {
         Ok(request) => run_request(alloc, &request, reader, writer, errors),
@@ -72,10 +79,14 @@ fn run_request<R: Read, W: Write, E: Write>(
     errors: &mut E,
 ) -> u8
     ensures range { result ≤ 3 }
-    ensures succeeded { result ≡ 0 → HasSucceeded R.remaining W.contents reader.old reader.new writer.old writer.new request.now }
-    ensures anomalies { result ≡ 1 → HasMetAnomalies R.remaining W.contents reader.old reader.new writer.old writer.new request.now }
-    ensures refused { result ≡ 2 → (reader.new ≡ reader.old) × (writer.new ≡ writer.old) × AsksForRefusedParameter request.now }
-    ensures stopped { result ≡ 3 → HasStopped R.remaining W.contents reader.old reader.new writer.old writer.new request.now }
+    ensures succeeded { result ≡ 0 → HasSucceeded R.remaining W.contents reader.old reader.new
+        writer.old writer.new request.now }
+    ensures anomalies { result ≡ 1 → HasMetAnomalies R.remaining W.contents reader.old reader.new
+        writer.old writer.new request.now }
+    ensures refused { result ≡ 2 → (reader.new ≡ reader.old) × (writer.new ≡ writer.old)
+        × AsksForRefusedParameter request.now }
+    ensures stopped { result ≡ 3 → HasStopped R.remaining W.contents reader.old reader.new
+        writer.old writer.new request.now }
 {
     match request.options.managed() {
         Ok(managed) => {
@@ -97,8 +108,10 @@ fn run_and_flush<R: Read, W: Write>(
     reader: &mut Counted<R>,
     writer: &mut Counted<W>,
 ) -> Result<Totals, LinkFault>
-    ensures written { IfOk result (HasWritten R.remaining W.contents reader.old reader.new writer.old writer.new request.now managed.now) }
-    ensures stopped { IfErr result (IsStoppedBy R.remaining W.contents reader.old reader.new writer.old writer.new request.now managed.now) }
+    ensures written { IfOk result (HasWritten R.remaining W.contents reader.old reader.new
+        writer.old writer.new request.now managed.now) }
+    ensures stopped { IfErr result (IsStoppedBy R.remaining W.contents reader.old reader.new
+        writer.old writer.new request.now managed.now) }
 {
     let totals = run_engine(alloc, request, managed, reader, writer)?;
     flush(writer)?;
@@ -113,8 +126,10 @@ fn run_engine<R: Read, W: Write>(
     reader: &mut Counted<R>,
     writer: &mut Counted<W>,
 ) -> Result<Totals, LinkFault>
-    ensures written { IfOk result (HasWritten R.remaining W.contents reader.old reader.new writer.old writer.new request.now managed.now) }
-    ensures stopped { IfErr result (IsStoppedBy R.remaining W.contents reader.old reader.new writer.old writer.new request.now managed.now) }
+    ensures written { IfOk result (HasWritten R.remaining W.contents reader.old reader.new
+        writer.old writer.new request.now managed.now) }
+    ensures stopped { IfErr result (IsStoppedBy R.remaining W.contents reader.old reader.new
+        writer.old writer.new request.now managed.now) }
 {
     match request.engine {
         Engine::ShowTm => show_tm(managed, reader, writer),
@@ -171,8 +186,10 @@ fn report_refusal<W: Write, E: Write>(
 ) -> u8
     ensures range { result ≤ 3 }
     ensures no_anomaly { result ≢ 1 }
-    ensures helped { result ≡ 0 → (kind_of refusal.now ≡ ErrorKind.DisplayHelp) × (faults_of writer.new ≡ faults_of writer.old) }
-    ensures refused { result ≡ 2 → (writer.new ≡ writer.old) × (kind_of refusal.now ≢ ErrorKind.DisplayHelp)
+    ensures helped { result ≡ 0 → (kind_of refusal.now ≡ ErrorKind.DisplayHelp)
+        × (faults_of writer.new ≡ faults_of writer.old) }
+    ensures refused { result ≡ 2 → (writer.new ≡ writer.old)
+        × (kind_of refusal.now ≢ ErrorKind.DisplayHelp)
         × (kind_of refusal.now ≢ ErrorKind.OutOfMemory) }
     ensures stopped { result ≡ 3 → (writer.new ≡ writer.old)
         ⊎ ((kind_of refusal.now ≡ ErrorKind.DisplayHelp) × HasFailed writer.old writer.new) }
@@ -197,7 +214,8 @@ fn write_help<W: Write>(
     writer: &mut Counted<W>,
 ) -> Result<(), LinkFault>
     ensures ok { OnOk result (faults_of writer.new ≡ faults_of writer.old) }
-    ensures fault { IfErr result (λ fault. (writer.new ≡ writer.old) ⊎ HasFailed writer.old writer.new) }
+    ensures fault { IfErr result (λ fault. (writer.new ≡ writer.old)
+        ⊎ HasFailed writer.old writer.new) }
 {
     let text = match format!(in alloc; "{help}") {
         Ok(text) => text,

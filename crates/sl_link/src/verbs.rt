@@ -1,21 +1,21 @@
 //! Listings of a recording, written while it is read.
 ghost use Rattle.std.specs.Prelude.{◌≡◌, ◌+◌, ◌-◌, ◌^◌, ◌<◌, ◌≤◌, ◌++◌, ◌∷◌, [], ℕ, List, length, IfOk, IfErr, OnOk};
 ghost use Rattle.std.specs.List.{concat};
-ghost use Rattle.sl_link.specs.Streams.{AddsText, Translates, Stops};
-ghost use Rattle.sl_link.specs.Verb.{lines_from, counts_of, text_of, StopsListingFrames, WantedMemory, ListsFrames};
+ghost use Rattle.sl_link.specs.Io.Streams.{AddsText, Translates, Stops};
+ghost use Rattle.sl_link.specs.Verbs.Listing.{lines_from, counts_of, text_of, StopsListingFrames, WantedMemory, ListsFrames};
 ghost use Rattle.sl_link.specs.Pass.{PassesOver, StopsPassing};
 
 mod check;
 mod packets;
 mod show;
 
-use crate::counted::Counted;
-use crate::lines::Lines;
-use crate::link_fault::LinkFault;
-use crate::listing::flush;
-use crate::managed::Managed;
-use crate::pass::{FrameSink, Framer, pass_over};
-use crate::totals::Totals;
+use crate::io::lines::Lines;
+use crate::io::room::flush;
+use crate::link::counted::Counted;
+use crate::link::fault::LinkFault;
+use crate::link::managed::Managed;
+use crate::link::totals::Totals;
+use crate::pass::{FrameSink, Framer, read_recording};
 pub use check::{check_tc, check_tm};
 pub use packets::{packets_tc, packets_tm};
 pub use show::{show_tc, show_tm};
@@ -23,8 +23,8 @@ use std::io::{Read, Write};
 
 /// What is listed of each frame of a kind, and what it is told by.
 pub trait Verb {
-    ghost use Rattle.sl_link.specs.Managed.{Parameters};
-    ghost use Rattle.sl_link.specs.Verb.{Listing};
+    ghost use Rattle.sl_link.specs.Link.Managed.{Parameters};
+    ghost use Rattle.sl_link.specs.Verbs.Listing.{Listing};
 
     /// Octets are a frame.
     ghost is_frame: { Parameters → List ℕ → Type 0 };
@@ -46,13 +46,21 @@ pub trait Verb {
         writer: &mut Counted<W>,
         lines: &mut Lines,
     ) -> Result<(), LinkFault>
-        requires { (before : List (List ℕ)) × has_listed self.old managed.now before × is_frame managed.now frame.now × (length (concat before) + length frame.now < 2 ^ 64) }
-        ensures has_listed { OnOk result ((before : List (List ℕ)) → has_listed self.old managed.now before → has_listed self.new managed.now (before ++ frame.now ∷ [])) }
-        ensures lines { OnOk result ((before : List (List ℕ)) → has_listed self.old managed.now before → AddsText W.contents writer.old writer.new lines.old lines.new ((listing managed.now).line before frame.now)) }
-        ensures fault { IfErr result (λ fault. (before : List (List ℕ)) → has_listed self.old managed.now before
-            → StopsListingFrames W.contents writer.old writer.new (lines.old ++ (listing managed.now).line before frame.now) (wants_memory managed.now (before ++ frame.now ∷ [])) fault) };
+        requires { (before : List (List ℕ)) × has_listed self.old managed.now before
+            × is_frame managed.now frame.now
+            × (length (concat before) + length frame.now < 2 ^ 64) }
+        ensures has_listed { OnOk result ((before : List (List ℕ)) → has_listed self.old managed.now
+            before → has_listed self.new managed.now (before ++ frame.now ∷ [])) }
+        ensures lines { OnOk result ((before : List (List ℕ)) → has_listed self.old managed.now
+            before → AddsText W.contents writer.old writer.new lines.old lines.new
+            ((listing managed.now).line before frame.now)) }
+        ensures fault { IfErr result (λ fault. (before : List (List ℕ))
+            → has_listed self.old managed.now before
+            → StopsListingFrames W.contents writer.old writer.new (lines.old
+            ++ (listing managed.now).line before frame.now) (wants_memory managed.now (before
+            ++ frame.now ∷ [])) fault) };
 
-    /// Lists what comes after the frames of a recording of so many octets.
+    /// Lists what comes after the last frame of a recording, all of whose octets are given.
     fn finish<W: Write>(
         &self,
         managed: &Managed,
@@ -60,11 +68,18 @@ pub trait Verb {
         writer: &mut Counted<W>,
         lines: &mut Lines,
     ) -> Result<Totals, LinkFault>
-        requires { (frames : List (List ℕ)) × has_listed self.now managed.now frames × (length (concat frames) ≤ octets) }
-        ensures lines { OnOk result ((frames : List (List ℕ)) → has_listed self.now managed.now frames → AddsText W.contents writer.old writer.new lines.old lines.new ((listing managed.now).last frames (octets - length (concat frames)))) }
-        ensures counts { IfOk result (λ totals. (frames : List (List ℕ)) → has_listed self.now managed.now frames → totals ≡ (listing managed.now).counts frames (octets - length (concat frames))) }
-        ensures fault { IfErr result (λ fault. (frames : List (List ℕ)) → has_listed self.now managed.now frames
-            → StopsListingFrames W.contents writer.old writer.new (lines.old ++ (listing managed.now).last frames (octets - length (concat frames))) ⊥ fault) };
+        requires { (frames : List (List ℕ)) × has_listed self.now managed.now frames
+            × (length (concat frames) ≤ octets) }
+        ensures lines { OnOk result ((frames : List (List ℕ)) → has_listed self.now managed.now
+            frames → AddsText W.contents writer.old writer.new lines.old lines.new
+            ((listing managed.now).last frames (octets - length (concat frames)))) }
+        ensures counts { IfOk result (λ totals. (frames : List (List ℕ))
+            → has_listed self.now managed.now frames → totals ≡ (listing managed.now).counts frames
+            (octets - length (concat frames))) }
+        ensures fault { IfErr result (λ fault. (frames : List (List ℕ))
+            → has_listed self.now managed.now frames
+            → StopsListingFrames W.contents writer.old writer.new (lines.old
+            ++ (listing managed.now).last frames (octets - length (concat frames))) ⊥ fault) };
 }
 
 /// A verb at work.
@@ -78,17 +93,23 @@ pub struct Lister<'a, W: Write, V: Verb> {
 
 impl<'a, W: Write, V: Verb> FrameSink for Lister<'a, W, V> {
     ghost use Rattle.std.specs.Prelude.{◌≡◌, ◌++◌, []};
-    ghost use Rattle.sl_link.specs.Streams.{AddsText};
-    ghost use Rattle.sl_link.specs.Verb.{lines_from, StopsListingFrames};
+    ghost use Rattle.sl_link.specs.Io.Streams.{AddsText};
+    ghost use Rattle.sl_link.specs.Verbs.Listing.{lines_from, StopsListingFrames};
 
     ghost is_frame = { λ s frame. V.is_frame s.managed frame };
 
-    ghost took = { λ start now frames. (now.managed ≡ start.managed) × (now.verb.ghost_name ≡ start.verb.ghost_name) × (now.writer.ghost_name ≡ start.writer.ghost_name) × (now.lines.ghost_name ≡ start.lines.ghost_name)
+    ghost took = { λ start now frames. (now.managed ≡ start.managed)
+        × (now.verb.ghost_name ≡ start.verb.ghost_name)
+        × (now.writer.ghost_name ≡ start.writer.ghost_name)
+        × (now.lines.ghost_name ≡ start.lines.ghost_name)
         × V.has_listed now.verb.now start.managed frames
-        × AddsText W.contents start.writer.now now.writer.now start.lines.now now.lines.now (lines_from (V.listing start.managed).line [] frames) };
+        × AddsText W.contents start.writer.now now.writer.now start.lines.now now.lines.now
+        (lines_from (V.listing start.managed).line [] frames) };
 
     ghost stopped = { λ start now frames fault. (now.writer.ghost_name ≡ start.writer.ghost_name)
-        × StopsListingFrames W.contents start.writer.now now.writer.now (start.lines.now ++ lines_from (V.listing start.managed).line [] frames) (V.wants_memory start.managed frames) fault };
+        × StopsListingFrames W.contents start.writer.now now.writer.now (start.lines.now
+        ++ lines_from (V.listing start.managed).line [] frames)
+        (V.wants_memory start.managed frames) fault };
 
     fn frame(&mut self, frame: &[u8]) -> Result<(), LinkFault> {
         self.verb
@@ -113,9 +134,15 @@ pub fn list<F: Framer, V: Verb, R: Read, W: Write>(
     requires none { F.waits framer.old managed.now [] }
     requires same { (frame : List ℕ) → F.is_frame managed.now frame → V.is_frame managed.now frame }
     requires begun { V.has_listed verb.old managed.now [] }
-    ensures listing { IfOk result (Translates R.remaining W.contents reader.old reader.new writer.old writer.new (text_of (F.frames_of managed.now) (V.listing managed.now)) (counts_of (F.frames_of managed.now) (V.listing managed.now)) managed.now.max_octets) }
-    ensures fault { IfErr result (Stops R.remaining W.contents reader.old reader.new writer.old writer.new (text_of (F.frames_of managed.now) (V.listing managed.now)) managed.now.max_octets (length buffer.old)) }
-    ensures memory { IfErr result (λ fault. fault ≡ LinkFault.Memory → WantedMemory R.remaining reader.old reader.new (F.frames_of managed.now) (V.wants_memory managed.now)) }
+    ensures listing { IfOk result (Translates R.remaining W.contents reader.old reader.new
+        writer.old writer.new (text_of (F.frames_of managed.now) (V.listing managed.now))
+        (counts_of (F.frames_of managed.now) (V.listing managed.now)) managed.now.max_octets) }
+    ensures fault { IfErr result (Stops R.remaining W.contents reader.old reader.new
+        writer.old writer.new (text_of (F.frames_of managed.now) (V.listing managed.now))
+        managed.now.max_octets (length buffer.old)) }
+    ensures memory { IfErr result (λ fault. fault ≡ LinkFault.Memory
+        → WantedMemory R.remaining reader.old reader.new (F.frames_of managed.now)
+        (V.wants_memory managed.now)) }
 {
     let mut lines = Lines::new();
     let octets = list_frames(managed, framer, verb, reader, writer, buffer, &mut lines)?;
@@ -139,9 +166,15 @@ fn list_frames<F: Framer, V: Verb, R: Read, W: Write>(
     requires same { (frame : List ℕ) → F.is_frame managed.now frame → V.is_frame managed.now frame }
     requires begun { V.has_listed verb.old managed.now [] }
     requires empty { lines.old ≡ [] }
-    ensures all { IfOk result (PassesOver R.remaining reader.old reader.new (F.frames_of managed.now) (ListsFrames W.contents (V.has_listed verb.new managed.now) (V.listing managed.now).line writer.old writer.new lines.new) managed.now.max_octets) }
-    ensures fault { IfErr result (StopsPassing R.remaining reader.old reader.new (F.frames_of managed.now) (ListsFrames W.contents (V.has_listed verb.new managed.now) (V.listing managed.now).line writer.old writer.new lines.new)
-        (λ frames. StopsListingFrames W.contents writer.old writer.new (lines_from (V.listing managed.now).line [] frames) (V.wants_memory managed.now frames)) managed.now.max_octets (length buffer.old)) }
+    ensures all { IfOk result (PassesOver R.remaining reader.old reader.new
+        (F.frames_of managed.now) (ListsFrames W.contents (V.has_listed verb.new managed.now)
+        (V.listing managed.now).line writer.old writer.new lines.new) managed.now.max_octets) }
+    ensures fault { IfErr result (StopsPassing R.remaining reader.old reader.new
+        (F.frames_of managed.now) (ListsFrames W.contents (V.has_listed verb.new managed.now)
+        (V.listing managed.now).line writer.old writer.new lines.new)
+        (λ frames. StopsListingFrames W.contents writer.old writer.new
+        (lines_from (V.listing managed.now).line [] frames) (V.wants_memory managed.now frames))
+        managed.now.max_octets (length buffer.old)) }
 {
     let mut lister = Lister {
         managed: *managed,
@@ -149,5 +182,5 @@ fn list_frames<F: Framer, V: Verb, R: Read, W: Write>(
         writer,
         lines,
     };
-    pass_over(managed, framer, &mut lister, reader, buffer)
+    read_recording(managed, framer, &mut lister, reader, buffer)
 }

@@ -1,10 +1,10 @@
 -- The list of a channel among those that are kept, and what each packet in them is.
-use Rattle.std.proofs.Common.{◌≡◌, ℕ, zero, suc, ◌+◌, ◌-◌, max, ◌<◌, ◌≤◌, List, [], ◌∷◌, ◌++◌, length, map, replicate, get_or, set, sym, ◌∙◌, ap, subst, arith, length-append, append-nil, append_assoc}
+use Rattle.std.proofs.Common.{◌≡◌, ℕ, zero, suc, ◌+◌, ◌-◌, max, ◌<◌, ◌≤◌, List, [], ◌∷◌, ◌++◌, length, map, take, replicate, get_or, set, refl, sym, ◌∙◌, ap, subst, arith, length-append, append-nil, append_assoc}
 use Rattle.std.proofs.lemmas.List.{get_or-map, get_or_past, length-map, map_push, map-set, set-get_or, length-replicate, replicate_more}
 use Rattle.std.specs.List.{AllByRecursion}
 use Rattle.std.specs.Vec.{vec_items}
 use Rattle.std.specs.declared.vec.Vec.{Vec}
-use Rattle.sl_packet.specs.Delivered.{channel_count, IsDeliverable, with_packet}
+use Rattle.sl_packet.specs.Delivered.{channel_count, no_lists, IsDeliverable, with_packet}
 use Rattle.sl_packet.specs.KeptLists.{with_empty_lists, IsGrown}
 use Rattle.sl_packet.proofs.PaddedLemmas.{get_or-with_empty_lists}
 
@@ -87,11 +87,33 @@ AllByRecursion-replicate : {X : Type 0} (P : X → Type 0) (n : ℕ) (x : X) →
 AllByRecursion-replicate P zero x one = tt
 AllByRecursion-replicate P (suc n) x one = (one, AllByRecursion-replicate P n x one)
 
+AllByRecursion-take : {X : Type 0} (P : X → Type 0) (n : ℕ) (xs : List X) → AllByRecursion P xs → AllByRecursion P (take n xs)
+AllByRecursion-take P zero xs all = tt
+AllByRecursion-take P (suc n) [] all = tt
+AllByRecursion-take P (suc n) (x ∷ xs) all = (all.0, AllByRecursion-take P n xs all.1)
+
 abbrev AllDeliverable : List (List ℕ) → Type 0
 AllDeliverable packets = AllByRecursion IsDeliverable packets
 
 pub due_at : (kept : List (List (List ℕ))) (i : ℕ) → length kept ≤ channel_count → AllByRecursion AllDeliverable kept → AllDeliverable (get_or (with_empty_lists kept) i [])
 due_at kept i fit all = subst AllDeliverable (sym (get_or-with_empty_lists kept i fit)) (AllByRecursion-get_or AllDeliverable kept i [] tt all)
+
+-- and so is each of the lists with empty ones after them
+filled_due : (n k : ℕ) (kept empty lists : List (List (List ℕ))) → empty ≡ replicate k [] → lists ≡ take n (kept ++ empty) → AllByRecursion AllDeliverable kept → AllByRecursion AllDeliverable lists
+filled_due n k kept empty lists none is all =
+    let after : AllByRecursion AllDeliverable empty = subst (AllByRecursion AllDeliverable) (sym none) (AllByRecursion-replicate AllDeliverable k [] tt) in
+    subst (AllByRecursion AllDeliverable) (sym is) (AllByRecursion-take AllDeliverable n (kept ++ empty) (AllByRecursion-append AllDeliverable kept empty all after))
+
+no_lists_are : no_lists ≡ replicate channel_count []
+unfolding no_lists
+no_lists_are = refl
+
+with_empty_lists_are : (kept : List (List (List ℕ))) → with_empty_lists kept ≡ take channel_count (kept ++ no_lists)
+unfolding with_empty_lists
+with_empty_lists_are kept = refl
+
+pub all_due : (kept : List (List (List ℕ))) → AllByRecursion AllDeliverable kept → AllByRecursion AllDeliverable (with_empty_lists kept)
+all_due kept all = filled_due channel_count channel_count kept no_lists (with_empty_lists kept) no_lists_are (with_empty_lists_are kept) all
 
 pub grown_due : (old new : List (List (List ℕ))) → IsGrown old new → AllByRecursion AllDeliverable old → AllByRecursion AllDeliverable new
 grown_due old new grown all =

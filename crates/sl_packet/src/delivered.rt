@@ -48,6 +48,7 @@ impl Delivered {
         ensures none_above { 4095 < channel → list_at self.now channel ≡ [] }
         ensures channels { length self.now.lists ≡ channel_count }
         ensures deliverable { AllByRecursion IsDeliverable (list_at self.now channel) }
+        ensures each_deliverable { AllByRecursion (AllByRecursion IsDeliverable) self.now.lists }
     {
         match self.lists.get(usize::from(channel)) {
             Some(list) => list.as_slice(),

@@ -1,5 +1,6 @@
 //! Idle packets.
-ghost use Rattle.std.specs.Prelude.{◌≡◌, ◌≤◌, ◌+◌, ◌++◌, OnOk, OnErr};
+ghost use Rattle.std.specs.Prelude.{◌≡◌, ◌<◌, ◌≤◌, ◌+◌, ◌++◌, OnOk, OnErr};
+ghost use Rattle.std.specs.Vec.{vec_len, vec_capacity};
 ghost use Rattle.sl_fields.specs.PacketHeader.{packet_octets};
 ghost use Rattle.sl_packet.specs.IdlePacket.{idle_header, idle_packet};
 ghost use Rattle.sl_packet.specs.Packet.{is_idle_packet};
@@ -28,6 +29,9 @@ pub fn push_idle(out: &mut Vec<u8>, len: u32) -> Result<(), AllocError>
     requires most { len ≤ 65542 }
     ensures added { OnOk result (out.new.items ≡ out.old.items ++ idle_packet len) }
     ensures unchanged { OnErr result (out.new.items ≡ out.old.items) }
+    // Memory is refused only where there was no room for the packet.
+    ensures full { OnErr result (vec_capacity out.old < vec_len out.old + len) }
+    ensures capacity { vec_capacity out.old ≤ vec_capacity out.new }
 {
     let header = idle_header((len - 7) as u16);
     out.reserve(len as usize)?;

@@ -1,5 +1,5 @@
 -- What holds of each element of a list, and lists that are filtered by it.
-use Rattle.std.proofs.Common.{◌≡◌, ◌≢◌, ℕ, zero, suc, ◌+◌, ◌<◌, ◌≤◌, ◌==◌, Bool, true, false, cond, List, [], ◌∷◌, ◌++◌, map, flat_map, filter, inl, inr, refl, sym, ◌∙◌, ap, arith, append-nil, eq-eqb, ne_eqb}
+use Rattle.std.proofs.Common.{◌≡◌, ◌≢◌, ℕ, zero, suc, ◌+◌, ◌<◌, ◌≤◌, ◌==◌, Bool, true, false, cond, List, [], ◌∷◌, ◌++◌, length, map, flat_map, filter, inl, inr, refl, sym, ◌∙◌, ap, arith, append-nil, eq-eqb, ne_eqb}
 use Rattle.std.specs.List.{AllByRecursion, range_with_len, slice_index_or}
 use Rattle.std.proofs.lemmas.Bool.Decides.{eqb_tells}
 use Rattle.std.proofs.lemmas.List.Elements.{filter-append}
@@ -34,6 +34,11 @@ pub each-at : {X : Type 0} (P : X → Type 0) (xs : List X) (i : ℕ) (d : X) �
 each-at P [] i d one each = one
 each-at P (x ∷ xs) zero d one each = each.0
 each-at P (x ∷ xs) (suc i) d one each = each-at P xs i d one each.1
+
+pub each-within : {X : Type 0} (P : X → Type 0) (xs : List X) (i : ℕ) (d : X) → i < length xs → AllByRecursion P xs → P (slice_index_or xs i d)
+each-within P [] i d inside each = absurd (omega arith)
+each-within P (x ∷ xs) zero d inside each = each.0
+each-within P (x ∷ xs) (suc i) d inside each = each-within P xs i d (omega arith) each.1
 
 -- ---- filters
 

@@ -3,11 +3,11 @@ pub mod AnomalyLemmas
 pub mod CanonicalLemmas
 pub mod ChannelLemmas
 pub mod DividedLemmas
-pub mod DueLemmas
 pub mod EachLemmas
 pub mod EndedLemmas
 pub mod FarmLemmas
 pub mod FitLemmas
+pub mod FormLeftLemmas
 pub mod FormLemmas
 pub mod IncompleteLemmas
 pub mod OneMoreLemmas
@@ -16,6 +16,7 @@ pub mod PushedLemmas
 pub mod ReceptionFacts
 pub mod ReportLemmas
 pub mod RecordingLemmas
+pub mod RefusedLemmas
 pub mod ReorderedFacts
 pub mod ReorderedLemmas
 pub mod SegmentLemmas

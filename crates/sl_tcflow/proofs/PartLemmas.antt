@@ -117,7 +117,7 @@ series_first n k segments later here (divided first last middle begins goes_on e
 -- ---- packets
 
 -- a packet has 7 to 65,542 octets
-packet_size : (packet : List ℕ) → IsPacket packet → (0 < length packet) × (length packet ≤ 65542)
+pub packet_size : (packet : List ℕ) → IsPacket packet → (0 < length packet) × (length packet ≤ 65542)
 packet_size packet is = let long = is.len in (omega (arith, long), omega (arith, long))
 
 packet_carried : (room mid : ℕ) (packet : List ℕ) → 0 < room → IsPacket packet → packets_in (map unit_made (segments_of_packet room mid packet)) ≡ packet ∷ []

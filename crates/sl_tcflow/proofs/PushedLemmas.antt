@@ -1,17 +1,15 @@
 -- The frames of segments, one after another.
-use Rattle.std.proofs.Common.{◌≡◌, ℕ, zero, suc, ◌+◌, ◌-◌, ◌*◌, ◌%◌, ◌<◌, ◌≤◌, ◌==◌, Bool, if◌then◌else◌, List, [], ◌∷◌, ◌++◌, length, take, drop, map, flat_map, inl, inr, refl, sym, subst, ◌∙◌, ap, arith, length-append, length-take-le, append_assoc, append-nil, add-one}
-use Rattle.std.specs.List.{concat, range_with_len, slice_index_or}
+use Rattle.std.proofs.Common.{◌≡◌, ℕ, zero, suc, ◌+◌, ◌-◌, ◌*◌, ◌%◌, ◌<◌, ◌≤◌, min, ◌==◌, Bool, if◌then◌else◌, List, [], ◌∷◌, ◌++◌, length, take, drop, map, inl, inr, refl, sym, subst, ◌∙◌, ap, arith, length-append, append_assoc, append-nil, add-one}
+use Rattle.std.specs.List.{concat, range_with_len}
 use Rattle.std.proofs.lemmas.Bool.Decides.{leb_tells, nat_tests}
-use Rattle.std.proofs.lemmas.Grind.{flat_map-append}
-use Rattle.std.proofs.lemmas.List.{drop-drop, length-drop, get_or-drop, get_or-take}
-use Rattle.std.proofs.lemmas.List.Folds.{concat-append, flat_map-map}
+use Rattle.std.proofs.lemmas.List.{drop-drop, length-drop}
+use Rattle.std.proofs.lemmas.List.Folds.{concat-append}
 use Rattle.std.proofs.lemmas.List.FromFn.{map-range_with_len_more}
-use Rattle.std.proofs.Math.Seq.{take-suc}
 use Rattle.std.proofs.Math.Nat.{suc-mul, zero-mul, div-lt_iff_lt-mul, le-div_iff_mul-le}
 use Rattle.sl_fields.specs.SegmentHeader.{SegmentFields}
 use Rattle.sl_tcframe.specs.AdFrame.{ad_frame}
 use Rattle.sl_tcframe.specs.TcFrame.{TcFormat}
-use Rattle.sl_tcflow.specs.TcNormalForm.{segment_count, segment_octets_at, flags_at, segments_of_packet, segments_of_maps, frames_of_segments}
+use Rattle.sl_tcflow.specs.TcNormalForm.{segment_count, segment_octets_at, flags_at, segments_of_packet, frames_of_segments}
 
 module _ (format : TcFormat) (spacecraft vc : ℕ) where
   abbrev frames_from : ℕ → List (SegmentFields × List ℕ) → List (List ℕ)
@@ -151,52 +149,25 @@ module _ (format : TcFormat) (spacecraft vc mid : ℕ) (base : List ℕ) (ns roo
       let count : s.number ≡ segment_count room packet = omega (arith, s.so_far, all) in
       subst (λ n. IsPushed format spacecraft vc base ns (map segment_at (range_with_len 0 n)) next form) count s.pushed
 
--- ---- the packets of a MAP
+-- ---- how many octets they have
 
-pub next_packet : (room mid : ℕ) (packets : List (List ℕ)) (packet : List ℕ)
-    → flat_map (segments_of_packet room mid) (packets ++ packet ∷ []) ≡ flat_map (segments_of_packet room mid) packets ++ segments_of_packet room mid packet
-next_packet room mid packets packet =
-    flat_map-append (segments_of_packet room mid) packets (packet ∷ []) ∙ ap (λ l. flat_map (segments_of_packet room mid) packets ++ l) (append-nil (segments_of_packet room mid packet))
+-- octets of the frames of a packet of this size, added to so many octets: not more than twice those of the packet where
+-- some of it is left, and 7 more at its end
+pub record AreFew (base size len left : ℕ) : Type 0 where
+  pub before_end : 0 < left → len + 2 * left ≤ base + 2 * size
+  pub most : len ≤ base + 2 * size + 7
 
--- ---- the MAPs of a virtual channel
+pub none_few : (base size : ℕ) → AreFew base size base size
+none_few base size = record { before_end = λ some. omega arith; most = omega arith }
 
-last_map : (room mid : ℕ) (lists : List (List (List ℕ))) (packets : List (List ℕ))
-    → segments_of_maps room mid (lists ++ packets ∷ []) ≡ segments_of_maps room mid lists ++ flat_map (segments_of_packet room (mid + length lists)) packets
-last_map room mid [] packets =
-    let same : mid ≡ mid + 0 = omega arith in
-    append-nil (flat_map (segments_of_packet room mid) packets) ∙ ap (λ m. flat_map (segments_of_packet room m) packets) same
-last_map room mid (first ∷ lists) packets =
-    let same : mid + 1 + length lists ≡ mid + length (first ∷ lists) = omega arith in
-    let here = flat_map (segments_of_packet room mid) first in
-    ap (λ l. here ++ l) (last_map room (mid + 1) lists packets)
-    ∙ sym (append_assoc here (segments_of_maps room (mid + 1) lists) (flat_map (segments_of_packet room (mid + 1 + length lists)) packets))
-    ∙ ap (λ m. (here ++ segments_of_maps room (mid + 1) lists) ++ flat_map (segments_of_packet room m) packets) same
+-- with a frame more
+pub few_next : (base size len len' left left' octets around room : ℕ) → 8 ≤ room → around ≤ 8 → 0 < left → octets ≡ min room left → left' ≡ left - room
+    → len' ≡ len + (octets + around) → AreFew base size len left → AreFew base size len' left'
+few_next base size len len' left left' octets around room wide thin some taken rest added few =
+    let before = few.before_end some in
+    record { before_end = λ more. omega (arith, before); most = omega (arith, before) }
 
--- the next one of a virtual channel, among the lists of all
-pub next_map : (room vc mid : ℕ) (lists : List (List (List ℕ))) → vc ≤ 63 → mid < 64 → length lists ≡ 4096
-    → segments_of_maps room 0 (take (suc mid) (take 64 (drop (64 * vc) lists)))
-    ≡ segments_of_maps room 0 (take mid (take 64 (drop (64 * vc) lists))) ++ flat_map (segments_of_packet room mid) (slice_index_or lists (vc * 64 + mid) [])
-next_map room vc mid lists inside below all =
-    let channel = take 64 (drop (64 * vc) lists) in
-    let left : 64 ≤ length (drop (64 * vc) lists) = omega (arith, length-drop (64 * vc) lists, all) in
-    let size : length channel ≡ 64 = length-take-le 64 (drop (64 * vc) lists) left in
-    let before : 0 + length (take mid channel) ≡ mid = omega (arith, length-take-le mid channel (omega (arith, size))) in
-    let index : 64 * vc + mid ≡ vc * 64 + mid = omega arith in
-    let packets : slice_index_or channel mid [] ≡ slice_index_or lists (vc * 64 + mid) [] =
-    get_or-take 64 (drop (64 * vc) lists) mid [] below ∙ get_or-drop (64 * vc) lists mid [] ∙ ap (λ n. slice_index_or lists n []) index in
-    ap (segments_of_maps room 0) (take-suc channel mid [] (omega (arith, size)))
-    ∙ last_map room 0 (take mid channel) (slice_index_or channel mid [])
-    ∙ ap (λ m. segments_of_maps room 0 (take mid channel) ++ flat_map (segments_of_packet room m) (slice_index_or channel mid [])) before
-    ∙ ap (λ ps. segments_of_maps room 0 (take mid channel) ++ flat_map (segments_of_packet room mid) ps) packets
-
--- ---- the virtual channels
-
-pub next_number : {X : Type 0} (f : ℕ → List X) (number : ℕ) → flat_map f (range_with_len 0 (suc number)) ≡ flat_map f (range_with_len 0 number) ++ f number
-next_number f number =
-    let id : ℕ → ℕ = λ n. n in
-    ap (λ n. flat_map f (range_with_len 0 n)) (sym (add-one number))
-    ∙ sym (flat_map-map f id (range_with_len 0 (number + 1)))
-    ∙ ap (flat_map f) (map-range_with_len_more id 0 number number (omega arith))
-    ∙ flat_map-append f (map id (range_with_len 0 number)) (number ∷ [])
-    ∙ ap (λ l. l ++ (f number ++ [])) (flat_map-map f id (range_with_len 0 number))
-    ∙ ap (λ l. flat_map f (range_with_len 0 number) ++ l) (append-nil (f number))
+-- and there is room for it
+pub few_fit : (base size len left octets around room : ℕ) → around ≤ 8 → 0 < left → octets ≡ min room left → AreFew base size len left
+    → len + (octets + around) ≤ base + 2 * size + 7
+few_fit base size len left octets around room thin some taken few = let before = few.before_end some in omega (arith, before)

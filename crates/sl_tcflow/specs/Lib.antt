@@ -1,6 +1,8 @@
 pub mod AcceptedUnit
 pub mod Anomaly
 pub mod Canonical
+pub mod FormLeft
+pub mod FormPiece
 pub mod Incomplete
 pub mod NextSegment
 pub mod Placed
@@ -12,6 +14,7 @@ pub mod ReorderedUnits
 pub mod Series
 pub mod StepReport
 pub mod StepReportModel
+pub mod TcFormModel
 pub mod TcNormalForm
 pub use Rattle.sl_cop.specs.Farm
 pub use Rattle.sl_cop.specs.FarmClcw

@@ -3,7 +3,7 @@
 use Rattle.std.specs.Prelude.{ℕ, ◌/◌, ◌%◌, List, map}
 use Rattle.std.specs.List.{range_with_len}
 use Rattle.sl_packet.specs.Delivered.{channel_count}
-use Rattle.sl_packet.specs.Packets.{without_idle, only_idle}
+use Rattle.sl_packet.specs.Packets.{without_idle}
 use Rattle.sl_tcframe.specs.TcDelimited.{tc_frames_of}
 use Rattle.sl_tcframe.specs.TcFrame.{TcFormat, TcView}
 use Rattle.sl_tcflow.specs.AcceptedUnit.{views_of}
@@ -25,8 +25,3 @@ packets_in_channel w vr views channel = packets_on (segments_of w vr (channel / 
 abbrev pub tc_lists : TcFormat → ℕ → ℕ → ℕ → List ℕ → List (List (List ℕ))
 tc_lists format spacecraft w vr recording =
     map (λ channel. without_idle (packets_in_channel w vr (recorded_views format spacecraft recording) channel)) map_channels
-
--- and the idle ones alone
-abbrev pub tc_idle_lists : TcFormat → ℕ → ℕ → ℕ → List ℕ → List (List (List ℕ))
-tc_idle_lists format spacecraft w vr recording =
-    map (λ channel. only_idle (packets_in_channel w vr (recorded_views format spacecraft recording) channel)) map_channels

@@ -9,6 +9,7 @@ use crate::step::{QUIET, TcStep};
 use sl_packet::{FlowFault, PacketSink, hand_over};
 
 /// Hands the sink the packets at the front of a service data unit.
+#[inline(always)]
 pub fn hand<S: PacketSink>(sink: &mut S, channel: u16, octets: &[u8]) -> Result<TcStep, FlowFault>
     requires channel { channel ≤ 4095 }
     requires short { length octets.now ≤ 65542 }

@@ -47,6 +47,7 @@ impl Incomplete {
     }
 
     /// How many octets it has so far, if a series is incomplete.
+    #[inline(always)]
     pub fn held(&self) -> Option<u32>
         ensures octets { result ≡ option_map length self.now }
         ensures most { IfSome result (λ octets. octets ≤ 65542) }
@@ -58,6 +59,7 @@ impl Incomplete {
     }
 
     /// Takes the next segment, hands the sink the packets that end with it, and reports these and what is amiss.
+    #[inline(always)]
     pub fn take<S: PacketSink>(
         &mut self,
         segment: &Segment,
@@ -93,6 +95,7 @@ impl Incomplete {
     }
 
     // Begins with these octets, and gives up what was incomplete.
+    #[inline(always)]
     fn begin(&mut self, octets: &[u8]) -> Result<TcStep, FlowFault>
         requires { length octets.now ≤ 1018 }
         ensures state { OnOk result (self.new ≡ if_fits octets.now) }
@@ -108,6 +111,7 @@ impl Incomplete {
     }
 
     // Goes on with these octets, and gives the series up where it is too long with them.
+    #[inline(always)]
     fn go_on(&mut self, octets: &[u8]) -> Result<TcStep, FlowFault>
         requires { length octets.now ≤ 1018 }
         ensures state { OnOk result (self.new ≡ extended self.old octets.now) }
@@ -135,6 +139,7 @@ impl Incomplete {
     }
 
     // Ends the series with these octets, if one is incomplete, and hands the sink its packets.
+    #[inline(always)]
     fn end<S: PacketSink>(
         &mut self,
         octets: &[u8],
@@ -163,6 +168,7 @@ impl Incomplete {
     }
 
     // Gives up the series that is incomplete, and answers how many octets it had, if one was.
+    #[inline(always)]
     fn give_up(&mut self) -> Option<u32>
         ensures none { self.new ≡ None }
         ensures held { result ≡ option_map length self.old }

@@ -4,6 +4,8 @@
 //! A service data unit is a series of segments on a multiplexer access point (MAP) ([`laws`]).
 #![tactic(auto)]
 
+mod form;
+mod frames;
 mod hand;
 mod incomplete;
 mod kept;
@@ -13,6 +15,7 @@ mod reframe;
 mod segment;
 mod step;
 
+pub use form::{PIECE_ROOM, TcForm};
 pub use receiver::Receiver;
 pub use reframe::reframe_tc;
 pub use step::TcStep;

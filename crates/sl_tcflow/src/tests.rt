@@ -1,5 +1,6 @@
 mod anomaly;
 mod counting_sink;
+mod form;
 mod long_series;
 mod receiver;
 mod reframe;

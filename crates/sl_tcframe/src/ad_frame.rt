@@ -1,5 +1,6 @@
 //! The TC transfer frame of type AD, as it is written.
-ghost use Rattle.std.specs.Prelude.{◌≡◌, ◌≤◌, ◌++◌, length, OnOk, OnErr};
+ghost use Rattle.std.specs.Prelude.{◌≡◌, ◌+◌, ◌<◌, ◌≤◌, ◌++◌, length, vec_len, OnOk, OnErr};
+ghost use Rattle.std.specs.Vec.{vec_capacity};
 ghost use Rattle.sl_fields.specs.TcHeader.{tc_octets};
 ghost use Rattle.sl_tcframe.specs.AdFrame.{ad_frame, ad_header, ad_len, room_of};
 
@@ -11,7 +12,8 @@ use std::alloc::AllocError;
 /// format has room for. `spacecraft` is 0 to 1023 and `vc` 0 to 63; `ns` is the frame sequence number N(S).
 ///
 /// The frame has version 0, bypass flag 0, control command flag 0 and spare bits 0, and its error control
-/// field where the format has one. It leaves `out` as it was where memory is refused.
+/// field where the format has one. It leaves `out` as it was where memory is refused, which can be only where
+/// the capacity of `out` has no room for the frame.
 pub fn push_tc(
     out: &mut Vec<u8>,
     shape: &TcShape,
@@ -25,7 +27,10 @@ pub fn push_tc(
     requires vc { vc ≤ 63 }
     requires segment { length octets.now ≤ room_of shape.now }
     ensures added { OnOk result (out.new.items ≡ out.old.items ++ ad_frame shape.now spacecraft vc ns header octets.now) }
+    ensures len { OnOk result (vec_len out.new ≡ vec_len out.old + ad_len shape.now (length octets.now)) }
     ensures unchanged { OnErr result (out.new.items ≡ out.old.items) }
+    ensures capacity { vec_capacity out.old ≤ vec_capacity out.new }
+    ensures full { OnErr result (vec_capacity out.old < vec_len out.old + ad_len shape.now (length octets.now)) }
 {
     let start = out.len();
     let len = frame_len(shape, octets);

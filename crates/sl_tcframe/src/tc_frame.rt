@@ -71,6 +71,7 @@ impl<'a> TcFrame<'a> {
 
     /// Reads a frame of this format and spacecraft from octets that are one by their frame length field, or
     /// tells why it is skipped. Its unit is borrowed from the octets.
+    #[inline(always)]
     pub fn read(shape: &TcShape, spacecraft: u16, octets: &'a [u8]) -> Result<TcFrame<'a>, TcSkip>
         requires cut { is_cut shape.now octets.now ≡ true }
         ensures { result ≡ tc_frame shape.now spacecraft octets.now }

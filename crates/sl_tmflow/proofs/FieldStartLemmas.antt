@@ -28,7 +28,7 @@ lies_elsewhere room number other start inside less =
     let e = div-mul-add number room start inside in ne_eqb ((number * room + start) / room) other (λ h. absurd (omega arith))
 
 -- offsets beyond a data field aren't in it
-no_later : (room number offset : ℕ) (packets : List (List ℕ)) → 0 < room → number * room + room ≤ offset → found_in room number offset packets ≡ None
+pub no_later : (room number offset : ℕ) (packets : List (List ℕ)) → 0 < room → number * room + room ≤ offset → found_in room number offset packets ≡ None
 no_later room number offset [] some beyond = refl
 no_later room number offset (packet ∷ packets) some beyond =
     let rooms = suc-mul number room in

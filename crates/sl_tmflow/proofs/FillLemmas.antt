@@ -40,7 +40,7 @@ whole_rooms room (suc q) zero s e some = let z = zero-mul room in absurd (omega 
 whole_rooms room (suc q) (suc k) s e some =
     let p = suc-mul q room in let o = suc-mul k room in whole_rooms room q k s (omega arith) some
 
-none_left : (room k : ℕ) → k * room % room ≡ 0
+pub none_left : (room k : ℕ) → k * room % room ≡ 0
 none_left room k =
     let e : k * room ≡ k * room + 0 = omega arith in
     ap (λ n. n % room) e ∙ mul-add-mod_self_right k room 0 ∙ zero-mod room
@@ -129,7 +129,7 @@ no_fill room =
 pub no_filling : (room : ℕ) → filling room 0 ≡ []
 no_filling room = ap (λ n. if◌then◌else◌ {A = List (List ℕ)} (n == 0) [] (idle_packet n ∷ [])) (no_fill room)
 
-fill_inside : (room len : ℕ) → 7 ≤ room → fill_of room len ≤ room + 6
+pub fill_inside : (room len : ℕ) → 7 ≤ room → fill_of room len ≤ room + 6
 fill_inside room len some =
     let gap : (room - len % room) % room < room = mod_below (room - len % room) room (omega arith) in
     elim (leb_tells ((room - len % room) % room) 6) [

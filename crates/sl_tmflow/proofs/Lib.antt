@@ -13,7 +13,9 @@ pub mod EachLemmas
 pub mod EndLemmas
 pub mod FieldStartLemmas
 pub mod FillLemmas
-pub mod FramingLemmas
+pub mod FormLeftLemmas
+pub mod FormLemmas
+pub mod FormPushLemmas
 pub mod HandedLemmas
 pub mod IncompleteFacts
 pub mod IncompleteLemmas

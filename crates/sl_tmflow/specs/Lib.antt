@@ -7,6 +7,7 @@ pub mod Delivery
 pub mod Extraction
 pub mod ExtractorModel
 pub mod FieldStart
+pub mod FormLeft
 pub mod Incomplete
 pub mod Loss
 pub mod NormalForm
@@ -16,6 +17,7 @@ pub mod Recording
 pub mod StepReport
 pub mod StepReportModel
 pub mod Sublist
+pub mod TmFormModel
 pub use Rattle.sl_packet.specs.Delivered
 pub use Rattle.sl_packet.specs.Front
 pub use Rattle.sl_packet.specs.Packet

@@ -1,7 +1,7 @@
 -- The packets that a recording of TM frames delivers, CCSDS 132.0-B and 133.0-B, on each virtual channel.
 use Rattle.std.specs.Prelude.{ℕ, List, map}
 use Rattle.std.specs.List.{range_with_len}
-use Rattle.sl_packet.specs.Packets.{without_idle, only_idle}
+use Rattle.sl_packet.specs.Packets.{without_idle}
 use Rattle.sl_tmframe.specs.TmDelimited.{tm_frames_of}
 use Rattle.sl_tmframe.specs.TmFrame.{TmFormat, TmView}
 use Rattle.sl_tmflow.specs.Channel.{views_of, channel_of}
@@ -23,8 +23,3 @@ packets_on views vc = packets_delivered (deliveries_of (channel_of vc views))
 abbrev pub tm_lists : TmFormat → ℕ → List ℕ → List (List (List ℕ))
 tm_lists format spacecraft recording =
     map (λ vc. without_idle (packets_on (recorded_views format spacecraft recording) vc)) virtual_channels
-
--- and the idle ones alone
-abbrev pub tm_idle_lists : TmFormat → ℕ → List ℕ → List (List (List ℕ))
-tm_idle_lists format spacecraft recording =
-    map (λ vc. only_idle (packets_on (recorded_views format spacecraft recording) vc)) virtual_channels

@@ -6,6 +6,7 @@
 
 mod channel;
 mod extractor;
+mod form;
 mod handing;
 pub mod laws;
 mod progress;
@@ -13,6 +14,7 @@ mod reframe;
 mod step;
 
 pub use extractor::Extractor;
+pub use form::TmForm;
 pub use reframe::reframe_tm;
 pub use step::TmStep;
 

@@ -2,7 +2,7 @@
 //! bits.
 ghost use Rattle.std.specs.Prelude.{◌≡◌, ⊤};
 
-use crate::{Extractor, TmStep, reframe_tm};
+use crate::{Extractor, TmForm, TmStep, reframe_tm};
 use sl_packet::{Delivered, FlowFault, PacketSink, SinkFault, hand_over};
 use sl_tmframe::{TmFrame, TmShape};
 use std::test::Fail;
@@ -180,6 +180,33 @@ fn a_packet_of_one_frame(rt: HostRuntime) -> Result<(), Fail> {
     assert!(rt; delivered.fits_tm());
     let form = reframe_tm(rt.alloc(), &TmShape::new(32, false)?, 1, &delivered)?;
     assert_eq!(rt; form.as_slice(), &FILLED[..]);
+    Ok(())
+}
+
+// Two packets on channel 0, of which the second completes a frame, one on channel 3, and what fills up each.
+#[test]
+fn the_pieces_of_a_form_follow_one_another(rt: HostRuntime) -> Result<(), Fail> {
+    let shape = TmShape::new(32, false)?;
+    let mut delivered = Delivered::new(rt.alloc());
+    hand_over(&mut delivered, 0, &BEGUN[6..29])?;
+    hand_over(&mut delivered, 0, &FILLED[6..16])?;
+    hand_over(&mut delivered, 3, &SPLIT)?;
+    assert!(rt; delivered.fits_tm());
+    let mut pieces = TmForm::new(rt.alloc(), &shape, 1, &delivered);
+    let mut piece = Vec::new(rt.alloc());
+    let mut form = Vec::new(rt.alloc());
+    pieces.reserve(&mut piece)?;
+    for octets in [0, 32, 32, 0, 32] {
+        piece.clear();
+        assert!(rt; pieces.next(&mut piece)?);
+        assert_eq!(rt; piece.len(), octets);
+        form.extend_from_slice(&piece)?;
+    }
+    piece.clear();
+    assert!(rt; !pieces.next(&mut piece)?);
+    assert!(rt; piece.is_empty());
+    assert!(rt; form.starts_with(&NORMAL_FORM));
+    assert_eq!(rt; form, reframe_tm(rt.alloc(), &shape, 1, &delivered)?);
     Ok(())
 }
 

@@ -1,5 +1,6 @@
 //! The TM transfer frame of packets, as it is written.
-ghost use Rattle.std.specs.Prelude.{◌≡◌, ◌<◌, ◌≤◌, ◌++◌, length, IfSome, OnOk, OnErr};
+ghost use Rattle.std.specs.Prelude.{◌≡◌, ◌+◌, ◌<◌, ◌≤◌, ◌++◌, length, IfSome, OnOk, OnErr};
+ghost use Rattle.std.specs.Vec.{vec_len, vec_capacity};
 ghost use Rattle.sl_fields.specs.TmHeader.{tm_octets};
 ghost use Rattle.sl_tmframe.specs.PacketFrame.{packet_frame, packet_frame_header, room_of};
 
@@ -32,6 +33,9 @@ pub fn push_tm(
     requires field { length octets.now ≡ room_of shape.now }
     ensures added { OnOk result (out.new.items ≡ out.old.items ++ packet_frame shape.now spacecraft vc mc vcc first octets.now) }
     ensures unchanged { OnErr result (out.new.items ≡ out.old.items) }
+    // Memory is refused only where there was no room for the frame.
+    ensures full { OnErr result (vec_capacity out.old < vec_len out.old + shape.now.len) }
+    ensures capacity { vec_capacity out.old ≤ vec_capacity out.new }
 {
     let start = out.len();
     out.reserve(usize::from(shape.len))?;

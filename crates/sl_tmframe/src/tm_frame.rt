@@ -59,6 +59,7 @@ impl<'a> TmFrame<'a> {
 
     /// Reads a frame of this format and spacecraft, from as many octets as the format has, or tells why it
     /// is skipped. The data field is borrowed from the octets.
+    #[inline(always)]
     pub fn read(shape: &TmShape, spacecraft: u16, octets: &'a [u8]) -> Result<TmFrame<'a>, TmSkip>
         requires whole { length octets.now ≡ shape.now.len }
         ensures { result ≡ tm_frame shape.now spacecraft octets.now }

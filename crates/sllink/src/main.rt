@@ -44,3 +44,6 @@ fn explain(error: &io::Error, errors: &mut impl Write) -> u8 {
     let _ = writeln!(errors, "error: the command line is no UTF-8 text");
     REFUSED
 }
+
+#[cfg(test)]
+mod tests;

@@ -5,23 +5,25 @@ ghost use Rattle.sl_packet.specs.Packets.{only_idle, without_idle};
 ghost use Rattle.sl_tcflow.specs.Receiving.{ForProcessed, HasProcessed, IsWorking};
 ghost use Rattle.sl_tcframe.specs.TcDelimited.{tc_frames_of};
 ghost use Rattle.sl_tcframe.specs.TcFrame.{is_cut};
-ghost use Rattle.sl_link.specs.DeliverTc.{as_read, ended_in, lists_after, may_want_memory};
-ghost use Rattle.sl_link.specs.Delivering.{DeliversAll, count_of, with_frame};
-ghost use Rattle.sl_link.specs.DeliveringTc.{MayWantMemoryTc};
-ghost use Rattle.sl_link.specs.Managed.{tc_format};
-ghost use Rattle.sl_link.specs.NormaliseTc.{tc_counts, tc_form_of, tc_normal_form, tc_packets};
-ghost use Rattle.sl_link.specs.Streams.{IsRead, KeepsPackets, Stops, StopsReadingAll, Translates};
-ghost use Rattle.sl_link.specs.Verb.{WantedMemory};
+ghost use Rattle.sl_link.specs.Deliver.Tc.{as_read, ended_in, lists_after, may_want_memory};
+ghost use Rattle.sl_link.specs.Deliver.Lists.{DeliversAll, count_of, with_frame};
+ghost use Rattle.sl_link.specs.Deliver.DeliveringTc.{MayWantMemoryTc};
+ghost use Rattle.sl_link.specs.Link.Managed.{tc_format};
+ghost use Rattle.sl_link.specs.Normalise.Form.{StopsForm};
+ghost use Rattle.sl_link.specs.Normalise.Tc.{tc_counts, tc_form_of, tc_normal_form, tc_packets};
+ghost use Rattle.sl_link.specs.Io.Streams.{IsRead, KeepsPackets, Stops, StopsReadingAll, Translates, WritesText};
+ghost use Rattle.sl_link.specs.Verbs.Listing.{WantedMemory};
+ghost use Rattle.sl_link.specs.Pass.{chunk_size};
 
-use crate::counted::Counted;
-use crate::delivery::{DeliveryTally, FrameReport, SKIPPED, store_fault};
-use crate::link_fault::LinkFault;
-use crate::managed::Managed;
-use crate::pass::{CHUNK, FrameSink, pass_over};
-use crate::streams::write_text;
-use crate::totals::Totals;
-use sl_packet::{Delivered, FlowFault};
-use sl_tcflow::{Receiver, reframe_tc};
+use crate::link::counted::Counted;
+use crate::link::fault::{LinkFault, of_flow};
+use crate::link::managed::Managed;
+use crate::link::totals::Totals;
+use crate::normalise::form::write_form;
+use crate::pass::{CHUNK_SIZE, FrameSink, read_recording};
+use crate::tally::{FrameReport, SKIPPED, Tally};
+use sl_packet::Delivered;
+use sl_tcflow::{Receiver, TcForm};
 use sl_tcframe::{TcFrame, TcFramer};
 use std::alloc::Global;
 use std::io::{Read, Write};
@@ -41,20 +43,26 @@ pub fn normalise_tc<R: Read, W: Write>(
     writer: &mut Counted<W>,
 ) -> Result<Totals, LinkFault>
     // All is read, and the normal form of it is written and nothing else.
-    ensures normal_form { IfOk result (Translates R.remaining W.contents reader.old reader.new writer.old writer.new (tc_normal_form managed.now) (tc_counts managed.now) managed.now.max_octets) }
+    ensures normal_form { IfOk result (Translates R.remaining W.contents reader.old reader.new
+        writer.old writer.new (tc_normal_form managed.now) (tc_counts managed.now)
+        managed.now.max_octets) }
     // The normal form delivers the packets of the recording.
-    ensures packets { OnOk result (KeepsPackets R.remaining W.contents reader.old reader.new writer.old writer.new (tc_packets managed.now)) }
+    ensures packets { OnOk result (KeepsPackets R.remaining W.contents reader.old reader.new
+        writer.old writer.new (tc_packets managed.now)) }
     // After a fault its cause is there, and a prefix of the normal form of what was read is written.
-    ensures fault { IfErr result (Stops R.remaining W.contents reader.old reader.new writer.old writer.new (tc_normal_form managed.now) managed.now.max_octets 0x10000) }
+    ensures fault { IfErr result (Stops R.remaining W.contents reader.old reader.new
+        writer.old writer.new (tc_normal_form managed.now) managed.now.max_octets chunk_size) }
     // Only where the writer failed is anything written, and all is read then.
-    ensures all_read { IfErr result (λ fault. fault ≡ LinkFault.Write → IsRead R.remaining reader.new) }
+    ensures all_read { IfErr result (λ fault. fault ≡ LinkFault.Write
+        → IsRead R.remaining reader.new) }
     ensures nothing { IfErr result (λ fault. fault ≢ LinkFault.Write → writer.new ≡ writer.old) }
     // Memory is refused only where a series is incomplete around a frame, or a packet was delivered.
-    ensures memory { IfErr result (λ fault. fault ≡ LinkFault.Memory → WantedMemory R.remaining reader.old reader.new (tc_frames_of (tc_format managed.now)) (MayWantMemoryTc managed.now)) }
+    ensures memory { IfErr result (λ fault. fault ≡ LinkFault.Memory
+        → WantedMemory R.remaining reader.old reader.new (tc_frames_of (tc_format managed.now))
+        (MayWantMemoryTc managed.now)) }
 {
     let (delivered, totals) = deliver(alloc, managed, reader)?;
-    let form = reframe(alloc, managed, &delivered)?;
-    write_text(writer, form.as_slice())?;
+    write_packets(alloc, managed, &delivered, writer)?;
     Ok(totals)
 }
 
@@ -64,45 +72,49 @@ fn deliver<R: Read>(
     managed: &Managed,
     reader: &mut Counted<R>,
 ) -> Result<(Delivered, Totals), LinkFault>
-    ensures all { IfOk result (λ kept. DeliversAll R.remaining reader.old reader.new (tc_packets managed.now) (tc_counts managed.now) managed.now.max_octets kept.0.lists kept.1) }
+    ensures all { IfOk result (λ kept. DeliversAll R.remaining reader.old reader.new
+        (tc_packets managed.now) (tc_counts managed.now) managed.now.max_octets
+        kept.0.lists kept.1) }
     ensures size { IfOk result (λ kept. length kept.0.lists ≡ channel_count) }
-    ensures fault { IfErr result (StopsReadingAll R.remaining reader.old reader.new managed.now.max_octets 0x10000) }
-    ensures memory { IfErr result (λ fault. fault ≡ LinkFault.Memory → WantedMemory R.remaining reader.old reader.new (tc_frames_of (tc_format managed.now)) (MayWantMemoryTc managed.now)) }
+    ensures fault { IfErr result (StopsReadingAll R.remaining reader.old reader.new
+        managed.now.max_octets chunk_size) }
+    ensures memory { IfErr result (λ fault. fault ≡ LinkFault.Memory
+        → WantedMemory R.remaining reader.old reader.new (tc_frames_of (tc_format managed.now))
+        (MayWantMemoryTc managed.now)) }
 {
-    let mut buffer = [0; CHUNK];
+    let mut buffer = [0; CHUNK_SIZE];
     let mut framer = TcFramer::new(&managed.tc);
     let mut store = TcStore {
         managed: *managed,
         receiver: Receiver::new(alloc, managed.window, managed.vr),
-        so_far: DeliveryTally::new(),
+        so_far: Tally::new(),
         delivered: Delivered::new(alloc),
     };
-    let octets = pass_over(managed, &mut framer, &mut store, reader, &mut buffer)?;
+    let octets = read_recording(managed, &mut framer, &mut store, reader, &mut buffer)?;
     let TcStore {
         so_far,
         delivered,
         ..
     } = store;
-    Ok((delivered, so_far.totals(octets - so_far.tally.octets)))
+    Ok((delivered, so_far.totals(octets - so_far.octets, 0)))
 }
 
-// The normal form of the packets that were delivered.
-fn reframe(alloc: Global, managed: &Managed, delivered: &Delivered) -> Result<Vec<u8>, LinkFault>
-    ensures form { IfOk result (λ form. form.items ≡ tc_form_of managed.now delivered.now.lists) }
-    ensures delivers { IfOk result (λ form. tc_packets managed.now form.items ≡ delivered.now.lists) }
-    ensures fault { IfErr result (λ fault. fault ≡ LinkFault.Memory) }
-    ensures packets { OnErr result (length delivered.now.lists ≡ channel_count → 0 < count_of delivered.now.lists) }
+// Writes the normal form of the packets that were delivered.
+fn write_packets<W: Write>(
+    alloc: Global,
+    managed: &Managed,
+    delivered: &Delivered,
+    writer: &mut Counted<W>,
+) -> Result<(), LinkFault>
+    ensures written { OnOk result (WritesText W.contents writer.old writer.new
+        (tc_form_of managed.now delivered.now.lists)) }
+    ensures delivers { tc_packets managed.now (tc_form_of managed.now delivered.now.lists)
+        ≡ delivered.now.lists }
+    ensures fault { IfErr result (StopsForm W.contents writer.old writer.new
+        (tc_form_of managed.now delivered.now.lists) (0 < count_of delivered.now.lists)) }
 {
-    match reframe_tc(
-        alloc,
-        &managed.tc,
-        managed.spacecraft,
-        managed.vr,
-        delivered,
-    ) {
-        Ok(form) => Ok(form),
-        Err(_) => Err(LinkFault::Memory),
-    }
+    let mut form = TcForm::new(managed.tc, managed.spacecraft, managed.vr, delivered);
+    write_form(alloc, &mut form, writer)
 }
 
 // Keeps the packets that frames deliver.
@@ -110,21 +122,23 @@ fn reframe(alloc: Global, managed: &Managed, delivered: &Delivered) -> Result<Ve
 struct TcStore {
     managed: Managed,
     receiver: Receiver,
-    so_far: DeliveryTally,
+    so_far: Tally,
     delivered: Delivered,
 }
 
 impl FrameSink for TcStore {
     ghost use Rattle.std.specs.Prelude.{◌≡◌};
-    ghost use Rattle.sl_link.specs.Delivering.{IsRefused};
-    ghost use Rattle.sl_link.specs.DeliveringTc.{HasTcKept, MayWantMemoryTc};
-    ghost use Rattle.sl_link.specs.TcPass.{is_tc_frame};
+    ghost use Rattle.sl_link.specs.Deliver.Lists.{IsRefused};
+    ghost use Rattle.sl_link.specs.Deliver.DeliveringTc.{HasKeptTc, MayWantMemoryTc};
+    ghost use Rattle.sl_link.specs.Pass.Tc.{is_tc_frame};
 
     ghost is_frame = { λ store frame. is_tc_frame store.managed frame };
 
-    ghost took = { λ start now frames. (now.managed ≡ start.managed) × HasTcKept start.managed frames now.receiver now.so_far now.delivered.lists };
+    ghost took = { λ start now frames. (now.managed ≡ start.managed)
+        × HasKeptTc start.managed frames now.receiver now.so_far now.delivered.lists };
 
-    ghost stopped = { λ start now frames fault. IsRefused (MayWantMemoryTc start.managed frames) fault };
+    ghost stopped = { λ start now frames fault. IsRefused
+        (MayWantMemoryTc start.managed frames) fault };
 
     fn frame(&mut self, frame: &[u8]) -> Result<(), LinkFault> {
         let met = deliver_frame(
@@ -153,14 +167,21 @@ fn deliver_frame(
     requires channels { length delivered.old.lists ≡ channel_count }
     requires working { IsWorking receiver.old }
     // Whichever frames were processed before, now they and this one are,
-    ensures processed { OnOk result (ForProcessed receiver.old (λ w vr views. HasProcessed w vr receiver.new (with_frame views (as_read managed.now frame.now)))) }
+    ensures processed { OnOk result (ForProcessed receiver.old
+        (λ w vr views. HasProcessed w vr receiver.new
+        (with_frame views (as_read managed.now frame.now)))) }
     // and the packets that end with its unit are delivered and counted.
-    ensures lists { OnOk result (ForProcessed receiver.old (λ w vr views. delivered.new.lists ≡ lists_after w vr views (as_read managed.now frame.now) delivered.old.lists)) }
+    ensures lists { OnOk result (ForProcessed receiver.old (λ w vr views. delivered.new.lists
+        ≡ lists_after w vr views (as_read managed.now frame.now) delivered.old.lists)) }
     ensures skipped { IfOk result (λ met. met.is_skipped ≡ is_err (as_read managed.now frame.now)) }
-    ensures packets { IfOk result (λ met. ForProcessed receiver.old (λ w vr views. met.packets ≡ length (without_idle (ended_in w vr views (as_read managed.now frame.now))))) }
-    ensures idle { IfOk result (λ met. ForProcessed receiver.old (λ w vr views. met.idle ≡ length (only_idle (ended_in w vr views (as_read managed.now frame.now))))) }
+    ensures packets { IfOk result (λ met. ForProcessed receiver.old (λ w vr views. met.packets
+        ≡ length (without_idle (ended_in w vr views (as_read managed.now frame.now))))) }
+    ensures idle { IfOk result (λ met. ForProcessed receiver.old (λ w vr views. met.idle
+        ≡ length (only_idle (ended_in w vr views (as_read managed.now frame.now))))) }
+    ensures no_anomalies { IfOk result (λ met. met.anomalies ≡ 0) }
     ensures fault { IfErr result (λ fault. fault ≡ LinkFault.Memory) }
-    ensures memory { OnErr result (ForProcessed receiver.old (λ w vr views. may_want_memory w vr views (as_read managed.now frame.now))) }
+    ensures memory { OnErr result (ForProcessed receiver.old
+        (λ w vr views. may_want_memory w vr views (as_read managed.now frame.now))) }
 {
     let view = match TcFrame::read(&managed.tc, managed.spacecraft, frame) {
         Ok(view) => view,
@@ -171,9 +192,8 @@ fn deliver_frame(
             is_skipped: false,
             packets: step.packets(),
             idle: step.idle(),
+            anomalies: 0,
         }),
-        Err(FlowFault::Memory) => Err(LinkFault::Memory),
-        Err(FlowFault::Sink(fault)) => Err(store_fault(fault)),
-        Err(FlowFault::Failed) => unreachable!(),
+        Err(fault) => Err(of_flow(fault)),
     }
 }

@@ -4,22 +4,24 @@ ghost use Rattle.sl_packet.specs.Delivered.{FitsTm, channel_count};
 ghost use Rattle.sl_packet.specs.Packets.{only_idle, without_idle};
 ghost use Rattle.sl_tmflow.specs.Extraction.{ForProcessed, HasProcessed, IsWorking};
 ghost use Rattle.sl_tmframe.specs.TmDelimited.{tm_frames_of};
-ghost use Rattle.sl_link.specs.Deliver.{as_read, ended_in, lists_after, may_want_memory};
-ghost use Rattle.sl_link.specs.Delivering.{DeliversAll, count_of, with_frame};
-ghost use Rattle.sl_link.specs.DeliveringTm.{MayWantMemory};
-ghost use Rattle.sl_link.specs.NormaliseTm.{tm_counts, tm_form_of, tm_normal_form, tm_packets};
-ghost use Rattle.sl_link.specs.Streams.{IsRead, KeepsPackets, Stops, StopsReadingAll, Translates};
-ghost use Rattle.sl_link.specs.Verb.{WantedMemory};
+ghost use Rattle.sl_link.specs.Deliver.Tm.{as_read, ended_in, lists_after, may_want_memory};
+ghost use Rattle.sl_link.specs.Deliver.Lists.{DeliversAll, count_of, with_frame};
+ghost use Rattle.sl_link.specs.Deliver.DeliveringTm.{MayWantMemoryTm};
+ghost use Rattle.sl_link.specs.Normalise.Form.{StopsForm};
+ghost use Rattle.sl_link.specs.Normalise.Tm.{tm_counts, tm_form_of, tm_normal_form, tm_packets};
+ghost use Rattle.sl_link.specs.Io.Streams.{IsRead, KeepsPackets, Stops, StopsReadingAll, Translates, WritesText};
+ghost use Rattle.sl_link.specs.Verbs.Listing.{WantedMemory};
+ghost use Rattle.sl_link.specs.Pass.{chunk_size};
 
-use crate::counted::Counted;
-use crate::delivery::{DeliveryTally, FrameReport, SKIPPED, store_fault};
-use crate::link_fault::LinkFault;
-use crate::managed::Managed;
-use crate::pass::{CHUNK, FrameSink, pass_over};
-use crate::streams::write_text;
-use crate::totals::Totals;
-use sl_packet::{Delivered, FlowFault};
-use sl_tmflow::{Extractor, reframe_tm};
+use crate::link::counted::Counted;
+use crate::link::fault::{LinkFault, of_flow};
+use crate::link::managed::Managed;
+use crate::link::totals::Totals;
+use crate::normalise::form::write_form;
+use crate::pass::{CHUNK_SIZE, FrameSink, read_recording};
+use crate::tally::{FrameReport, SKIPPED, Tally};
+use sl_packet::Delivered;
+use sl_tmflow::{Extractor, TmForm};
 use sl_tmframe::{TmFrame, TmFramer};
 use std::alloc::Global;
 use std::io::{Read, Write};
@@ -39,20 +41,26 @@ pub fn normalise_tm<R: Read, W: Write>(
     writer: &mut Counted<W>,
 ) -> Result<Totals, LinkFault>
     // All is read, and the normal form of it is written and nothing else.
-    ensures normal_form { IfOk result (Translates R.remaining W.contents reader.old reader.new writer.old writer.new (tm_normal_form managed.now) (tm_counts managed.now) managed.now.max_octets) }
+    ensures normal_form { IfOk result (Translates R.remaining W.contents reader.old reader.new
+        writer.old writer.new (tm_normal_form managed.now) (tm_counts managed.now)
+        managed.now.max_octets) }
     // The normal form delivers the packets of the recording.
-    ensures packets { OnOk result (KeepsPackets R.remaining W.contents reader.old reader.new writer.old writer.new (tm_packets managed.now)) }
+    ensures packets { OnOk result (KeepsPackets R.remaining W.contents reader.old reader.new
+        writer.old writer.new (tm_packets managed.now)) }
     // After a fault its cause is there, and a prefix of the normal form of what was read is written.
-    ensures fault { IfErr result (Stops R.remaining W.contents reader.old reader.new writer.old writer.new (tm_normal_form managed.now) managed.now.max_octets 0x10000) }
+    ensures fault { IfErr result (Stops R.remaining W.contents reader.old reader.new
+        writer.old writer.new (tm_normal_form managed.now) managed.now.max_octets chunk_size) }
     // Only where the writer failed is anything written, and all is read then.
-    ensures all_read { IfErr result (λ fault. fault ≡ LinkFault.Write → IsRead R.remaining reader.new) }
+    ensures all_read { IfErr result (λ fault. fault ≡ LinkFault.Write
+        → IsRead R.remaining reader.new) }
     ensures nothing { IfErr result (λ fault. fault ≢ LinkFault.Write → writer.new ≡ writer.old) }
     // Memory is refused only where a packet is incomplete around a frame, or was delivered.
-    ensures memory { IfErr result (λ fault. fault ≡ LinkFault.Memory → WantedMemory R.remaining reader.old reader.new (tm_frames_of managed.now.tm_length) (MayWantMemory managed.now)) }
+    ensures memory { IfErr result (λ fault. fault ≡ LinkFault.Memory
+        → WantedMemory R.remaining reader.old reader.new (tm_frames_of managed.now.tm_length)
+        (MayWantMemoryTm managed.now)) }
 {
     let (delivered, totals) = deliver(alloc, managed, reader)?;
-    let form = reframe(alloc, managed, &delivered)?;
-    write_text(writer, form.as_slice())?;
+    write_packets(alloc, managed, &delivered, writer)?;
     Ok(totals)
 }
 
@@ -62,41 +70,52 @@ fn deliver<R: Read>(
     managed: &Managed,
     reader: &mut Counted<R>,
 ) -> Result<(Delivered, Totals), LinkFault>
-    ensures all { IfOk result (λ kept. DeliversAll R.remaining reader.old reader.new (tm_packets managed.now) (tm_counts managed.now) managed.now.max_octets (take 8 kept.0.lists) kept.1) }
+    ensures all { IfOk result (λ kept. DeliversAll R.remaining reader.old reader.new
+        (tm_packets managed.now) (tm_counts managed.now) managed.now.max_octets
+        (take 8 kept.0.lists) kept.1) }
     ensures fits { IfOk result (λ kept. FitsTm kept.0) }
     ensures size { IfOk result (λ kept. length kept.0.lists ≡ channel_count) }
-    ensures fault { IfErr result (StopsReadingAll R.remaining reader.old reader.new managed.now.max_octets 0x10000) }
-    ensures memory { IfErr result (λ fault. fault ≡ LinkFault.Memory → WantedMemory R.remaining reader.old reader.new (tm_frames_of managed.now.tm_length) (MayWantMemory managed.now)) }
+    ensures fault { IfErr result (StopsReadingAll R.remaining reader.old reader.new
+        managed.now.max_octets chunk_size) }
+    ensures memory { IfErr result (λ fault. fault ≡ LinkFault.Memory
+        → WantedMemory R.remaining reader.old reader.new (tm_frames_of managed.now.tm_length)
+        (MayWantMemoryTm managed.now)) }
 {
-    let mut buffer = [0; CHUNK];
+    let mut buffer = [0; CHUNK_SIZE];
     let mut framer = TmFramer::new(&managed.tm);
     let mut store = TmStore {
         managed: *managed,
         extractor: Extractor::new(alloc),
-        so_far: DeliveryTally::new(),
+        so_far: Tally::new(),
         delivered: Delivered::new(alloc),
     };
-    let octets = pass_over(managed, &mut framer, &mut store, reader, &mut buffer)?;
+    let octets = read_recording(managed, &mut framer, &mut store, reader, &mut buffer)?;
     let TmStore {
         so_far,
         delivered,
         ..
     } = store;
-    Ok((delivered, so_far.totals(octets - so_far.tally.octets)))
+    Ok((delivered, so_far.totals(octets - so_far.octets, 0)))
 }
 
-// The normal form of the packets that were delivered.
-fn reframe(alloc: Global, managed: &Managed, delivered: &Delivered) -> Result<Vec<u8>, LinkFault>
-    requires fits { FitsTm delivered.now }
-    ensures form { IfOk result (λ form. form.items ≡ tm_form_of managed.now (take 8 delivered.now.lists)) }
-    ensures delivers { IfOk result (λ form. tm_packets managed.now form.items ≡ take 8 delivered.now.lists) }
-    ensures fault { IfErr result (λ fault. fault ≡ LinkFault.Memory) }
-    ensures packets { OnErr result (length delivered.now.lists ≡ channel_count → 0 < count_of (take 8 delivered.now.lists)) }
+// Writes the normal form of the packets that were delivered.
+fn write_packets<W: Write>(
+    alloc: Global,
+    managed: &Managed,
+    delivered: &Delivered,
+    writer: &mut Counted<W>,
+) -> Result<(), LinkFault>
+    requires size { length delivered.now.lists ≡ channel_count }
+    ensures written { OnOk result (WritesText W.contents writer.old writer.new
+        (tm_form_of managed.now (take 8 delivered.now.lists))) }
+    ensures delivers { tm_packets managed.now (tm_form_of managed.now (take 8 delivered.now.lists))
+        ≡ take 8 delivered.now.lists }
+    ensures fault { IfErr result (StopsForm W.contents writer.old writer.new
+        (tm_form_of managed.now (take 8 delivered.now.lists))
+        (0 < count_of (take 8 delivered.now.lists))) }
 {
-    match reframe_tm(alloc, &managed.tm, managed.spacecraft, delivered) {
-        Ok(form) => Ok(form),
-        Err(_) => Err(LinkFault::Memory),
-    }
+    let mut form = TmForm::new(alloc, &managed.tm, managed.spacecraft, delivered);
+    write_form(alloc, &mut form, writer)
 }
 
 // Keeps the packets that frames deliver.
@@ -104,21 +123,23 @@ fn reframe(alloc: Global, managed: &Managed, delivered: &Delivered) -> Result<Ve
 struct TmStore {
     managed: Managed,
     extractor: Extractor,
-    so_far: DeliveryTally,
+    so_far: Tally,
     delivered: Delivered,
 }
 
 impl FrameSink for TmStore {
     ghost use Rattle.std.specs.Prelude.{◌≡◌};
-    ghost use Rattle.sl_link.specs.Delivering.{IsRefused};
-    ghost use Rattle.sl_link.specs.DeliveringTm.{HasKept, MayWantMemory};
-    ghost use Rattle.sl_link.specs.TmPass.{is_tm_frame};
+    ghost use Rattle.sl_link.specs.Deliver.Lists.{IsRefused};
+    ghost use Rattle.sl_link.specs.Deliver.DeliveringTm.{HasKeptTm, MayWantMemoryTm};
+    ghost use Rattle.sl_link.specs.Pass.Tm.{is_tm_frame};
 
     ghost is_frame = { λ store frame. is_tm_frame store.managed frame };
 
-    ghost took = { λ start now frames. (now.managed ≡ start.managed) × HasKept start.managed frames now.extractor now.so_far now.delivered.lists };
+    ghost took = { λ start now frames. (now.managed ≡ start.managed)
+        × HasKeptTm start.managed frames now.extractor now.so_far now.delivered.lists };
 
-    ghost stopped = { λ start now frames fault. IsRefused (MayWantMemory start.managed frames) fault };
+    ghost stopped = { λ start now frames fault. IsRefused
+        (MayWantMemoryTm start.managed frames) fault };
 
     fn frame(&mut self, frame: &[u8]) -> Result<(), LinkFault> {
         let met = deliver_frame(
@@ -147,15 +168,21 @@ fn deliver_frame(
     requires channels { 8 ≤ length delivered.old.lists }
     requires working { IsWorking extractor.old }
     // Whichever frames were processed before, now they and this one are,
-    ensures processed { OnOk result (ForProcessed extractor.old (λ views. HasProcessed extractor.new (with_frame views (as_read managed.now frame.now)))) }
+    ensures processed { OnOk result (ForProcessed extractor.old (λ views. HasProcessed extractor.new
+        (with_frame views (as_read managed.now frame.now)))) }
     // and the packets that end in it are delivered and counted.
-    ensures lists { OnOk result (ForProcessed extractor.old (λ views. delivered.new.lists ≡ lists_after views (as_read managed.now frame.now) delivered.old.lists)) }
+    ensures lists { OnOk result (ForProcessed extractor.old (λ views. delivered.new.lists
+        ≡ lists_after views (as_read managed.now frame.now) delivered.old.lists)) }
     ensures skipped { IfOk result (λ met. met.is_skipped ≡ is_err (as_read managed.now frame.now)) }
-    ensures packets { IfOk result (λ met. ForProcessed extractor.old (λ views. met.packets ≡ length (without_idle (ended_in views (as_read managed.now frame.now))))) }
-    ensures idle { IfOk result (λ met. ForProcessed extractor.old (λ views. met.idle ≡ length (only_idle (ended_in views (as_read managed.now frame.now))))) }
+    ensures packets { IfOk result (λ met. ForProcessed extractor.old (λ views. met.packets
+        ≡ length (without_idle (ended_in views (as_read managed.now frame.now))))) }
+    ensures idle { IfOk result (λ met. ForProcessed extractor.old (λ views. met.idle
+        ≡ length (only_idle (ended_in views (as_read managed.now frame.now))))) }
+    ensures no_anomalies { IfOk result (λ met. met.anomalies ≡ 0) }
     ensures within { IfOk result (λ met. met.packets + met.idle ≤ length frame.now) }
     ensures fault { IfErr result (λ fault. fault ≡ LinkFault.Memory) }
-    ensures memory { OnErr result (ForProcessed extractor.old (λ views. may_want_memory views (as_read managed.now frame.now))) }
+    ensures memory { OnErr result (ForProcessed extractor.old (λ views. may_want_memory views
+        (as_read managed.now frame.now))) }
 {
     let view = match TmFrame::read(&managed.tm, managed.spacecraft, frame) {
         Ok(view) => view,
@@ -166,9 +193,8 @@ fn deliver_frame(
             is_skipped: false,
             packets: step.packets(),
             idle: step.idle(),
+            anomalies: 0,
         }),
-        Err(FlowFault::Memory) => Err(LinkFault::Memory),
-        Err(FlowFault::Sink(fault)) => Err(store_fault(fault)),
-        Err(FlowFault::Failed) => unreachable!(),
+        Err(fault) => Err(of_flow(fault)),
     }
 }

@@ -2,11 +2,11 @@
 ghost use Rattle.std.specs.Prelude.{OnOk, IfErr, List, ℕ};
 ghost use Rattle.sl_link.specs.Pass.{MayTake, TakesFrame, StopsAtFrame, Pauses, StopsPausing};
 
-use crate::link_fault::LinkFault;
+use crate::link::fault::LinkFault;
 
 /// Takes the frames of a recording, one after another.
 pub trait FrameSink {
-    ghost use Rattle.sl_link.specs.declared.link_fault.LinkFault.{LinkFault};
+    ghost use Rattle.sl_link.specs.declared.link.fault.LinkFault.{LinkFault};
 
     /// It takes these octets as a frame.
     ghost is_frame: { Self → List ℕ → Type 0 };
@@ -21,7 +21,8 @@ pub trait FrameSink {
     fn frame(&mut self, frame: &[u8]) -> Result<(), LinkFault>
         requires { MayTake took is_frame self.old frame.now }
         ensures taken { OnOk result (TakesFrame took self.old frame.now self.new) }
-        ensures fault { IfErr result (λ fault. StopsAtFrame took stopped self.old frame.now self.new fault) };
+        ensures fault { IfErr result (λ fault. StopsAtFrame took stopped self.old
+            frame.now self.new fault) };
 
     /// The reader is asked for more before another frame comes.
     fn pause(&mut self) -> Result<(), LinkFault>

@@ -6,7 +6,7 @@ ghost use Rattle.sl_link.specs.Pass.{CutsFrame, WaitsAfter, WaitsFor};
 
 /// Delimits the frames of one kind, whatever chunks the octets come in.
 pub trait Framer {
-    ghost use Rattle.sl_link.specs.Managed.{Parameters};
+    ghost use Rattle.sl_link.specs.Link.Managed.{Parameters};
 
     /// These octets are one frame.
     ghost is_frame: { Parameters → List ℕ → Type 0 };
@@ -20,12 +20,16 @@ pub trait Framer {
     /// The frame that octets from the front of the chunk complete, which are taken from it.
     fn next_frame<'a, 'p: 'a>(&'a mut self, chunk: &mut &'p [u8]) -> Option<&'a [u8]>
         requires { (p : Parameters) × (rest : List ℕ) × waits self.old p rest }
-        ensures frame { IfSome result (λ frame. WaitsFor waits self.old (λ p rest. CutsFrame (is_frame p) rest chunk.old.now chunk.new.now frame.now)) }
-        ensures none { IfNone result (WaitsFor waits self.old (λ p rest. frames_of p (rest ++ chunk.old.now) ≡ [])) }
-        ensures* after { sem 𝓛 (Rests Self.row self.entry (λ new. WaitsFor waits self.old (λ p rest. WaitsAfter waits new p rest chunk.old.now result))) };
+        ensures frame { IfSome result (λ frame. WaitsFor waits self.old
+            (λ p rest. CutsFrame (is_frame p) rest chunk.old.now chunk.new.now frame.now)) }
+        ensures none { IfNone result
+            (WaitsFor waits self.old (λ p rest. frames_of p (rest ++ chunk.old.now) ≡ [])) }
+        ensures* after { sem 𝓛 (Rests Self.row self.entry (λ new. WaitsFor waits self.old
+            (λ p rest. WaitsAfter waits new p rest chunk.old.now result))) };
 
     /// A frame at the front of octets is their first one.
-    ghost front: { (p : Parameters) (frame more : List ℕ) → is_frame p frame → frames_of p (frame ++ more) ≡ frame ∷ frames_of p more };
+    ghost front: { (p : Parameters) (frame more : List ℕ) → is_frame p frame
+        → frames_of p (frame ++ more) ≡ frame ∷ frames_of p more };
 
     /// No octets have no frame.
     ghost empty: { (p : Parameters) → frames_of p [] ≡ [] };

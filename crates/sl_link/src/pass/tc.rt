@@ -5,7 +5,7 @@ use crate::pass::framer::Framer;
 use sl_tcframe::TcFramer;
 
 impl Framer for TcFramer {
-    ghost use Rattle.sl_link.specs.TcPass.{TcWaits, is_tc_frame, tc_frames, tc_front_is_first, tc_nothing_has_none};
+    ghost use Rattle.sl_link.specs.Pass.Tc.{TcWaits, is_tc_frame, tc_frames, tc_front_is_first, tc_nothing_has_none};
 
     ghost is_frame = { is_tc_frame };
 

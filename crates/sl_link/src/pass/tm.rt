@@ -3,7 +3,7 @@ use crate::pass::framer::Framer;
 use sl_tmframe::TmFramer;
 
 impl Framer for TmFramer {
-    ghost use Rattle.sl_link.specs.TmPass.{TmWaits, front_is_first, is_tm_frame, nothing_has_none, tm_frames};
+    ghost use Rattle.sl_link.specs.Pass.Tm.{TmWaits, tm_front_is_first, is_tm_frame, tm_nothing_has_none, tm_frames};
 
     ghost is_frame = { is_tm_frame };
 
@@ -16,7 +16,7 @@ impl Framer for TmFramer {
         self.next_from(chunk)
     }
 
-    ghost front = { front_is_first };
+    ghost front = { tm_front_is_first };
 
-    ghost empty = { nothing_has_none };
+    ghost empty = { tm_nothing_has_none };
 }

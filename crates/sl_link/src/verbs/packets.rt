@@ -1,4 +1,6 @@
 //! The packets of a recording as lines.
+mod lines;
+mod printer;
 mod tc;
 mod tm;
 

@@ -1,4 +1,7 @@
 //! The frames of a recording as lines.
+mod farms;
+pub mod lines_tc;
+pub mod lines_tm;
 mod tc;
 mod tm;
 

@@ -85,14 +85,23 @@ fn a_longer_series_is_given_up(rt: HostRuntime) -> Result<(), Fail> {
 // packet and three more.
 #[test]
 fn a_series_is_given_up_before_its_last_segment(rt: HostRuntime) -> Result<(), Fail> {
-    let mut longer = Vec::new(rt.alloc());
-    longer.resize(65560, 0x00)?;
+    let segment = [0x00; 10];
+    let mut begun = Vec::new(rt.alloc());
+    begun.resize(65540, 0x00)?;
     let mut receiver = receiver(&rt, 0)?;
     let mut delivered = Delivered::new(rt.alloc());
     assert_eq!(rt;
-        segments_received(&rt, &mut receiver, &longer, 2, &mut delivered)?,
+        segments_received(&rt, &mut receiver, &begun, 0, &mut delivered)?,
         (Verdict::Accept, 0, 0)
     );
+    assert_eq!(rt; receiver.held(0, 0), 65540);
+    for (number, flags) in [(6554, 0), (6555, 2)] {
+        assert_eq!(rt;
+            segment_received(&rt, &mut receiver, number, flags, &segment, &mut delivered)?,
+            (Verdict::Accept, 0, 0)
+        );
+        assert_eq!(rt; receiver.held(0, 0), 0);
+    }
     assert_eq!(rt; delivered.at_or_above(0), None);
     Ok(())
 }

@@ -1,4 +1,4 @@
-use Rattle.sl_link.proofs.SeparationLemmas.{tc_forms_deliver, tc_forms_tell_packets, tc_forms_are_their_own}
+use Rattle.sl_link.proofs.lemmas.Normalise.Separation.{tc_forms_deliver, tc_forms_tell_packets, tc_forms_are_their_own}
 use Rattle.sl_link.proofs.laws.tc_normal_forms_tell_packets.Goals as goal
 
 pub returns-clause-deliver : goal.returns-clause-deliver

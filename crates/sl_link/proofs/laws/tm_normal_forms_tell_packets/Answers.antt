@@ -1,4 +1,4 @@
-use Rattle.sl_link.proofs.SeparationLemmas.{tm_forms_deliver, tm_forms_tell_packets, tm_forms_are_their_own}
+use Rattle.sl_link.proofs.lemmas.Normalise.Separation.{tm_forms_deliver, tm_forms_tell_packets, tm_forms_are_their_own}
 use Rattle.sl_link.proofs.laws.tm_normal_forms_tell_packets.Goals as goal
 
 pub returns-clause-deliver : goal.returns-clause-deliver

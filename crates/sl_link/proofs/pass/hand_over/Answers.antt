@@ -2,7 +2,7 @@ use Rattle.std.proofs.Common.{◌++◌, length, arith, subst, length-append}
 use Rattle.sl_link.specs.Pass.{WaitsAfter}
 use Rattle.std.specs.List.{concat}
 use Rattle.std.proofs.lemmas.Result.{err_from_is_err_and}
-use Rattle.sl_link.proofs.HandingLemmas.{handing_none, handing_next, fits_next, handed_all, handed_some}
+use Rattle.sl_link.proofs.lemmas.Pass.Handing.{handing_none, handing_next, fits_next, handed_all, handed_some}
 use Rattle.sl_link.proofs.pass.hand_over.Goals as goal
 
 pub loop-frame-init : goal.loop-frame-init

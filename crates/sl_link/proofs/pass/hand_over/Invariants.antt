@@ -1,5 +1,5 @@
 use Rattle.std.proofs.Common.{ℕ, List, ◌++◌, length}
-use Rattle.sl_link.proofs.HandingLemmas.{IsHanding}
+use Rattle.sl_link.proofs.lemmas.Pass.Handing.{IsHanding}
 use Rattle.sl_link.proofs.pass.hand_over.Given as goal
 
 abbrev pub invariant-loop-frame : goal.invariant-loop-frame

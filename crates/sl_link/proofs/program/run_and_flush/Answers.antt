@@ -1,5 +1,5 @@
 use Rattle.std.proofs.lemmas.Result.{err_from_is_err_and}
-use Rattle.sl_link.proofs.RunLemmas.{stopped_flushing}
+use Rattle.sl_link.proofs.lemmas.Program.Run.{stopped_flushing}
 use Rattle.sl_link.proofs.program.run_and_flush.Goals as goal
 
 pub returns-in_err-flush-clause-stopped : goal.returns-in_err-flush-clause-stopped

@@ -1,5 +1,5 @@
 use Rattle.std.proofs.Common.{◌∙◌, sym}
-use Rattle.sl_link.proofs.RunLemmas.{has_met_anomalies, has_stopped, has_succeeded}
+use Rattle.sl_link.proofs.lemmas.Program.Run.{has_met_anomalies, has_stopped, has_succeeded}
 use Rattle.sl_link.proofs.program.run_request.Goals as goal
 
 pub returns-in-Ok-clause-succeeded : goal.returns-in-Ok-clause-succeeded

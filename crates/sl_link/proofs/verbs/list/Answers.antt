@@ -1,6 +1,6 @@
 use Rattle.std.proofs.Common.{length}
 use Rattle.std.proofs.lemmas.Result.{err_from_is_err_and}
-use Rattle.sl_link.proofs.ListedWholeLemmas.{stops_frames, listed, stops_finish, stops_flush}
+use Rattle.sl_link.proofs.lemmas.Verbs.Whole.{stops_frames, listed, stops_finish, stops_flush}
 use Rattle.sl_link.proofs.verbs.list.Goals as goal
 
 pub returns-in_err-octets-clause-fault : goal.returns-in_err-octets-clause-fault

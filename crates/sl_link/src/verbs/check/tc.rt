@@ -4,29 +4,29 @@ ghost use Rattle.std.specs.List.{concat};
 ghost use Rattle.sl_tcframe.specs.TcDelimited.{tc_frames_of};
 ghost use Rattle.sl_tcframe.specs.TcFrame.{is_cut};
 ghost use Rattle.sl_tcflow.specs.Receiving.{ForProcessed, HasProcessed, IsIncompleteAround, IsWorking};
-ghost use Rattle.sl_link.specs.CheckTc.{check_tc_counts, check_tc_text, open_on, tc_amiss, tc_incomplete};
-ghost use Rattle.sl_link.specs.CheckingTc.{HasTcRoom, TellsTcFrame, end_amiss, end_counts};
-ghost use Rattle.sl_link.specs.DeliverTc.{as_read, is_incomplete_around};
-ghost use Rattle.sl_link.specs.Delivering.{with_frame};
-ghost use Rattle.sl_link.specs.Managed.{tc_format};
-ghost use Rattle.sl_link.specs.PacketsTc.{WantsMemoryTc};
-ghost use Rattle.sl_link.specs.Streams.{AddsText, Stops, StopsListing, StopsWriting, Translates};
-ghost use Rattle.sl_link.specs.Verb.{WantedMemory};
+ghost use Rattle.sl_link.specs.Verbs.Check.Tc.{check_tc_counts, check_tc_text, open_on, tc_amiss, tc_incomplete};
+ghost use Rattle.sl_link.specs.Verbs.Check.CheckingTc.{IncompleteFitTc, TellsFrameTc, end_amiss, end_counts};
+ghost use Rattle.sl_link.specs.Deliver.Tc.{as_read, is_incomplete_around};
+ghost use Rattle.sl_link.specs.Deliver.Lists.{with_frame};
+ghost use Rattle.sl_link.specs.Link.Managed.{tc_format};
+ghost use Rattle.sl_link.specs.Verbs.Packets.Tc.{WantsMemoryTc};
+ghost use Rattle.sl_link.specs.Io.Streams.{AddsText, Stops, StopsListing, StopsWriting, Translates};
+ghost use Rattle.sl_link.specs.Verbs.Listing.{WantedMemory};
+ghost use Rattle.sl_link.specs.Pass.{chunk_size};
+ghost use Rattle.sl_link.specs.Io.Room.{HasRoom};
 
-use crate::amiss_lines::{push_totals, remainder_lines};
-use crate::check_tally::{CheckReport, CheckTally};
-use crate::counted::Counted;
-use crate::delivery::{FrameReport, SKIPPED};
-use crate::lines::Lines;
-use crate::link_fault::LinkFault;
-use crate::listing::make_room;
-use crate::managed::Managed;
-use crate::pass::CHUNK;
-use crate::tc_check_lines::{amiss_lines, open_line, skip_line};
-use crate::totals::Totals;
-use crate::uncounted::Uncounted;
+use crate::io::lines::Lines;
+use crate::io::room::make_room;
+use crate::link::counted::Counted;
+use crate::link::fault::{LinkFault, of_flow};
+use crate::link::managed::Managed;
+use crate::link::totals::Totals;
+use crate::pass::CHUNK_SIZE;
+use crate::tally::{FrameReport, Tally};
+use crate::verbs::check::lines::{push_totals, remainder_lines};
+use crate::verbs::check::lines_tc::{amiss_lines, open_line, skip_line};
+use crate::verbs::check::unkept::Unkept;
 use crate::verbs::{Verb, list};
-use sl_packet::FlowFault;
 use sl_tcflow::Receiver;
 use sl_tcframe::{TcFrame, TcFramer};
 use std::alloc::Global;
@@ -46,18 +46,23 @@ pub fn check_tc<R: Read, W: Write>(
     writer: &mut Counted<W>,
 ) -> Result<Totals, LinkFault>
     // All is read, and its listing is written and nothing else.
-    ensures listing { IfOk result (Translates R.remaining W.contents reader.old reader.new writer.old writer.new (check_tc_text managed.now) (check_tc_counts managed.now) managed.now.max_octets) }
+    ensures listing { IfOk result (Translates R.remaining W.contents reader.old reader.new
+        writer.old writer.new (check_tc_text managed.now) (check_tc_counts managed.now)
+        managed.now.max_octets) }
     // After a fault, whose cause is there, a prefix of the listing of what was read is written.
-    ensures fault { IfErr result (Stops R.remaining W.contents reader.old reader.new writer.old writer.new (check_tc_text managed.now) managed.now.max_octets 0x10000) }
+    ensures fault { IfErr result (Stops R.remaining W.contents reader.old reader.new
+        writer.old writer.new (check_tc_text managed.now) managed.now.max_octets chunk_size) }
     // Memory is refused only where the unit of some frame of what was read is accepted, and a series is incomplete
     // around it on its MAP.
-    ensures memory { IfErr result (λ fault. fault ≡ LinkFault.Memory → WantedMemory R.remaining reader.old reader.new (tc_frames_of (tc_format managed.now)) (WantsMemoryTc managed.now)) }
+    ensures memory { IfErr result (λ fault. fault ≡ LinkFault.Memory
+        → WantedMemory R.remaining reader.old reader.new (tc_frames_of (tc_format managed.now))
+        (WantsMemoryTc managed.now)) }
 {
-    let mut buffer = [0; CHUNK];
+    let mut buffer = [0; CHUNK_SIZE];
     let mut framer = TcFramer::new(&managed.tc);
     let mut verb = CheckTc {
         receiver: Receiver::new(alloc, managed.window, managed.vr),
-        so_far: CheckTally::new(),
+        so_far: Tally::new(),
     };
     list(managed, &mut framer, &mut verb, reader, writer, &mut buffer)
 }
@@ -66,20 +71,20 @@ pub fn check_tc<R: Read, W: Write>(
 #[derive(Drop)]
 struct CheckTc {
     receiver: Receiver,
-    so_far: CheckTally,
+    so_far: Tally,
 }
 
 impl Verb for CheckTc {
-    ghost use Rattle.sl_link.specs.CheckTc.{check_tc_listing};
-    ghost use Rattle.sl_link.specs.CheckingTc.{HasTcChecked};
-    ghost use Rattle.sl_link.specs.PacketsTc.{WantsMemoryTc};
-    ghost use Rattle.sl_link.specs.TcPass.{is_tc_frame};
+    ghost use Rattle.sl_link.specs.Verbs.Check.Tc.{check_tc_listing};
+    ghost use Rattle.sl_link.specs.Verbs.Check.CheckingTc.{HasCheckedTc};
+    ghost use Rattle.sl_link.specs.Verbs.Packets.Tc.{WantsMemoryTc};
+    ghost use Rattle.sl_link.specs.Pass.Tc.{is_tc_frame};
 
     ghost is_frame = { is_tc_frame };
 
     ghost listing = { check_tc_listing };
 
-    ghost has_listed = { λ verb p frames. HasTcChecked p frames verb.receiver verb.so_far };
+    ghost has_listed = { λ verb p frames. HasCheckedTc p frames verb.receiver verb.so_far };
 
     ghost wants_memory = { WantsMemoryTc };
 
@@ -90,7 +95,7 @@ impl Verb for CheckTc {
         writer: &mut Counted<W>,
         lines: &mut Lines,
     ) -> Result<(), LinkFault> {
-        let offset = self.so_far.delivery.tally.octets;
+        let offset = self.so_far.octets;
         let met = check_frame(managed, frame, offset, &mut self.receiver, writer, lines)?;
         self.so_far.add(frame.len() as u64, met);
         Ok(())
@@ -118,16 +123,23 @@ fn check_frame<W: Write>(
     receiver: &mut Receiver,
     writer: &mut Counted<W>,
     lines: &mut Lines,
-) -> Result<CheckReport, LinkFault>
+) -> Result<FrameReport, LinkFault>
     requires one_frame { is_cut (tc_format managed.now) frame.now ≡ true }
     requires working { IsWorking receiver.old }
-    ensures processed { OnOk result (ForProcessed receiver.old (λ w vr views. HasProcessed w vr receiver.new (with_frame views (as_read managed.now frame.now)))) }
-    ensures lines { OnOk result (ForProcessed receiver.old (λ w vr views. AddsText W.contents writer.old writer.new lines.old lines.new (concat (tc_amiss w vr offset views (as_read managed.now frame.now))))) }
-    ensures counts { IfOk result (λ report. ForProcessed receiver.old (λ w vr views. TellsTcFrame w vr offset views (as_read managed.now frame.now) report)) }
+    ensures processed { OnOk result (ForProcessed receiver.old
+        (λ w vr views. HasProcessed w vr receiver.new
+        (with_frame views (as_read managed.now frame.now)))) }
+    ensures lines { OnOk result (ForProcessed receiver.old
+        (λ w vr views. AddsText W.contents writer.old writer.new lines.old lines.new
+        (concat (tc_amiss w vr offset views (as_read managed.now frame.now))))) }
+    ensures counts { IfOk result (λ report. ForProcessed receiver.old
+        (λ w vr views. TellsFrameTc w vr offset views (as_read managed.now frame.now) report)) }
     ensures fault { IfErr result (StopsListing W.contents writer.old writer.new lines.old) }
-    ensures memory { IfErr result (λ fault. fault ≡ LinkFault.Memory → ForProcessed receiver.old (λ w vr views. is_incomplete_around w vr views (as_read managed.now frame.now))) }
+    ensures memory { IfErr result (λ fault. fault ≡ LinkFault.Memory → ForProcessed receiver.old
+        (λ w vr views. is_incomplete_around w vr views (as_read managed.now frame.now))) }
 {
     make_room(writer, lines)?;
+    // The proof needs its two ends apart.
     let report = read_frame(managed, frame, offset, receiver, lines)?;
     Ok(report)
 }
@@ -139,26 +151,34 @@ fn read_frame(
     offset: u64,
     receiver: &mut Receiver,
     lines: &mut Lines,
-) -> Result<CheckReport, LinkFault>
+) -> Result<FrameReport, LinkFault>
     requires one_frame { is_cut (tc_format managed.now) frame.now ≡ true }
     requires working { IsWorking receiver.old }
-    requires room { length lines.old ≤ 65280 }
-    ensures processed { OnOk result (ForProcessed receiver.old (λ w vr views. HasProcessed w vr receiver.new (with_frame views (as_read managed.now frame.now)))) }
-    ensures lines { OnOk result (ForProcessed receiver.old (λ w vr views. lines.new ≡ lines.old ++ concat (tc_amiss w vr offset views (as_read managed.now frame.now)))) }
-    ensures counts { IfOk result (λ report. ForProcessed receiver.old (λ w vr views. TellsTcFrame w vr offset views (as_read managed.now frame.now) report)) }
+    requires room { HasRoom lines.old }
+    ensures processed { OnOk result (ForProcessed receiver.old
+        (λ w vr views. HasProcessed w vr receiver.new
+        (with_frame views (as_read managed.now frame.now)))) }
+    ensures lines { OnOk result (ForProcessed receiver.old (λ w vr views. lines.new ≡ lines.old
+        ++ concat (tc_amiss w vr offset views (as_read managed.now frame.now)))) }
+    ensures counts { IfOk result (λ report. ForProcessed receiver.old
+        (λ w vr views. TellsFrameTc w vr offset views (as_read managed.now frame.now) report)) }
     ensures fault { IfErr result (λ fault. fault ≡ LinkFault.Memory) }
-    ensures memory { IfErr result (λ fault. ForProcessed receiver.old (λ w vr views. is_incomplete_around w vr views (as_read managed.now frame.now))) }
+    ensures memory { IfErr result (λ fault. ForProcessed receiver.old
+        (λ w vr views. is_incomplete_around w vr views (as_read managed.now frame.now))) }
 {
     let view = match TcFrame::read(&managed.tc, managed.spacecraft, frame) {
         Ok(view) => view,
         Err(reason) => {
             skip_line(lines, offset, reason);
-            return Ok(CheckReport {
-                met: SKIPPED,
+            return Ok(FrameReport {
+                is_skipped: true,
+                packets: 0,
+                idle: 0,
                 anomalies: 1,
             });
         }
     };
+    // The proof needs its two ends apart.
     let report = check_view(&view, offset, receiver, lines)?;
     Ok(report)
 }
@@ -169,48 +189,53 @@ fn check_view(
     offset: u64,
     receiver: &mut Receiver,
     lines: &mut Lines,
-) -> Result<CheckReport, LinkFault>
+) -> Result<FrameReport, LinkFault>
     requires working { IsWorking receiver.old }
-    requires room { length lines.old ≤ 65280 }
-    ensures processed { OnOk result (ForProcessed receiver.old (λ w vr views. HasProcessed w vr receiver.new (views ++ view.now ∷ []))) }
-    ensures lines { OnOk result (ForProcessed receiver.old (λ w vr views. lines.new ≡ lines.old ++ concat (tc_amiss w vr offset views (Ok view.now)))) }
-    ensures counts { IfOk result (λ report. ForProcessed receiver.old (λ w vr views. TellsTcFrame w vr offset views (Ok view.now) report)) }
+    requires room { HasRoom lines.old }
+    ensures processed { OnOk result (ForProcessed receiver.old
+        (λ w vr views. HasProcessed w vr receiver.new (views ++ view.now ∷ []))) }
+    ensures lines { OnOk result (ForProcessed receiver.old (λ w vr views. lines.new ≡ lines.old
+        ++ concat (tc_amiss w vr offset views (Ok view.now)))) }
+    ensures counts { IfOk result (λ report. ForProcessed receiver.old
+        (λ w vr views. TellsFrameTc w vr offset views (Ok view.now) report)) }
     ensures fault { IfErr result (λ fault. fault ≡ LinkFault.Memory) }
-    ensures memory { IfErr result (λ fault. ForProcessed receiver.old (λ w vr views. IsIncompleteAround w vr views view.now)) }
+    ensures memory { IfErr result (λ fault. ForProcessed receiver.old
+        (λ w vr views. IsIncompleteAround w vr views view.now)) }
 {
-    match receiver.frame(view, &mut Uncounted) {
-        Ok(step) => Ok(CheckReport {
-            met: FrameReport {
-                is_skipped: false,
-                packets: step.packets(),
-                idle: step.idle(),
-            },
+    match receiver.frame(view, &mut Unkept) {
+        Ok(step) => Ok(FrameReport {
+            is_skipped: false,
+            packets: step.packets(),
+            idle: step.idle(),
             anomalies: amiss_lines(lines, offset, view, &step),
         }),
-        Err(FlowFault::Memory) => Err(LinkFault::Memory),
-        Err(FlowFault::Sink(_)) => unreachable!(),
-        Err(FlowFault::Failed) => unreachable!(),
+        Err(fault) => Err(of_flow(fault)),
     }
 }
 
-// The remainder and the incomplete series, after the frames of so many octets of a recording.
+// The lines of the remainder and of incomplete series, after the frames. All octets of the recording are given.
 fn check_end<W: Write>(
     octets: u64,
     receiver: &Receiver,
-    so_far: CheckTally,
+    so_far: Tally,
     writer: &mut Counted<W>,
     lines: &mut Lines,
 ) -> Result<Totals, LinkFault>
-    requires inside { so_far.delivery.tally.octets ≤ octets }
-    requires room { HasTcRoom receiver.now octets so_far }
-    requires short { length lines.old ≤ 65280 }
-    ensures short { OnOk result (length lines.new ≤ 65280) }
-    ensures lines { OnOk result (ForProcessed receiver.now (λ w vr views. AddsText W.contents writer.old writer.new lines.old lines.new (concat (end_amiss w vr octets so_far views)))) }
-    ensures counts { IfOk result (λ totals. ForProcessed receiver.now (λ w vr views. totals ≡ end_counts w vr octets so_far views)) }
-    ensures fault { IfErr result (λ fault. ForProcessed receiver.now (λ w vr views. StopsWriting W.contents writer.old writer.new (lines.old ++ concat (end_amiss w vr octets so_far views)) fault)) }
+    requires inside { so_far.octets ≤ octets }
+    requires room { IncompleteFitTc receiver.now octets so_far }
+    requires short { HasRoom lines.old }
+    ensures short { OnOk result (HasRoom lines.new) }
+    ensures lines { OnOk result (ForProcessed receiver.now
+        (λ w vr views. AddsText W.contents writer.old writer.new lines.old lines.new
+        (concat (end_amiss w vr octets so_far views)))) }
+    ensures counts { IfOk result (λ totals. ForProcessed receiver.now (λ w vr views. totals
+        ≡ end_counts w vr octets so_far views)) }
+    ensures fault { IfErr result (λ fault. ForProcessed receiver.now
+        (λ w vr views. StopsWriting W.contents writer.old writer.new (lines.old
+        ++ concat (end_amiss w vr octets so_far views)) fault)) }
 {
-    let rest = octets - so_far.delivery.tally.octets;
-    let remainders = remainder_lines(lines, so_far.delivery.tally.octets, rest);
+    let rest = octets - so_far.octets;
+    let remainders = remainder_lines(lines, so_far.octets, rest);
     let incomplete = incomplete_lines(octets, receiver, writer, lines)?;
     make_room(writer, lines)?;
     Ok(so_far.totals(rest, remainders + incomplete))
@@ -223,10 +248,15 @@ fn incomplete_lines<W: Write>(
     writer: &mut Counted<W>,
     lines: &mut Lines,
 ) -> Result<u64, LinkFault>
-    ensures lines { OnOk result (ForProcessed receiver.now (λ w vr views. AddsText W.contents writer.old writer.new lines.old lines.new (concat (tc_incomplete w vr offset views)))) }
-    ensures number { IfOk result (λ number. ForProcessed receiver.now (λ w vr views. number ≡ length (tc_incomplete w vr offset views))) }
+    ensures lines { OnOk result (ForProcessed receiver.now
+        (λ w vr views. AddsText W.contents writer.old writer.new lines.old lines.new
+        (concat (tc_incomplete w vr offset views)))) }
+    ensures number { IfOk result (λ number. ForProcessed receiver.now (λ w vr views. number
+        ≡ length (tc_incomplete w vr offset views))) }
     ensures few { IfOk result (λ number. number ≤ 4096) }
-    ensures fault { IfErr result (λ fault. ForProcessed receiver.now (λ w vr views. StopsWriting W.contents writer.old writer.new (lines.old ++ concat (tc_incomplete w vr offset views)) fault)) }
+    ensures fault { IfErr result (λ fault. ForProcessed receiver.now
+        (λ w vr views. StopsWriting W.contents writer.old writer.new (lines.old
+        ++ concat (tc_incomplete w vr offset views)) fault)) }
 {
     let mut number = 0;
     for channel in 0..4096u16 {
@@ -239,9 +269,11 @@ fn incomplete_lines<W: Write>(
 // The series that is incomplete on a channel, if one is.
 fn open_lines(lines: &mut Lines, offset: u64, receiver: &Receiver, channel: u16) -> u64
     requires channel { channel < 4096 }
-    requires room { length lines.old ≤ 65280 }
-    ensures text { ForProcessed receiver.now (λ w vr views. lines.new ≡ lines.old ++ concat (open_on w vr offset views channel)) }
-    ensures number { ForProcessed receiver.now (λ w vr views. result ≡ length (open_on w vr offset views channel)) }
+    requires room { HasRoom lines.old }
+    ensures text { ForProcessed receiver.now (λ w vr views. lines.new ≡ lines.old
+        ++ concat (open_on w vr offset views channel)) }
+    ensures number { ForProcessed receiver.now (λ w vr views. result
+        ≡ length (open_on w vr offset views channel)) }
     ensures few { result ≤ 1 }
 {
     let vc = (channel / 64) as u8;

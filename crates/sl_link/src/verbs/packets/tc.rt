@@ -4,24 +4,24 @@ ghost use Rattle.sl_packet.specs.Packets.{only_idle, without_idle};
 ghost use Rattle.sl_tcflow.specs.Receiving.{ForProcessed, HasProcessed, IsIncompleteAround, IsWorking, ended_by};
 ghost use Rattle.sl_tcframe.specs.TcDelimited.{tc_frames_of};
 ghost use Rattle.sl_tcframe.specs.TcFrame.{is_cut};
-ghost use Rattle.sl_link.specs.DeliverTc.{as_read, ended_in, is_incomplete_around};
-ghost use Rattle.sl_link.specs.Delivering.{with_frame};
-ghost use Rattle.sl_link.specs.Managed.{tc_format};
-ghost use Rattle.sl_link.specs.NormaliseTc.{tc_counts};
-ghost use Rattle.sl_link.specs.PacketsTc.{WantsMemoryTc, packets_tc_text, tc_packet_lines};
-ghost use Rattle.sl_link.specs.Streams.{AddsText, Stops, StopsListing, Translates};
-ghost use Rattle.sl_link.specs.Verb.{WantedMemory};
+ghost use Rattle.sl_link.specs.Deliver.Tc.{as_read, ended_in, is_incomplete_around};
+ghost use Rattle.sl_link.specs.Deliver.Lists.{with_frame};
+ghost use Rattle.sl_link.specs.Link.Managed.{tc_format};
+ghost use Rattle.sl_link.specs.Normalise.Tc.{tc_counts};
+ghost use Rattle.sl_link.specs.Verbs.Packets.Tc.{WantsMemoryTc, packets_tc_text, tc_packet_lines};
+ghost use Rattle.sl_link.specs.Io.Streams.{AddsText, Stops, StopsListing, Translates};
+ghost use Rattle.sl_link.specs.Verbs.Listing.{WantedMemory};
+ghost use Rattle.sl_link.specs.Pass.{chunk_size};
 
-use crate::counted::Counted;
-use crate::delivery::{DeliveryTally, FrameReport, SKIPPED};
-use crate::lines::Lines;
-use crate::link_fault::LinkFault;
-use crate::managed::Managed;
-use crate::pass::CHUNK;
-use crate::printer::{ChannelKind, Printer, printing_fault};
-use crate::totals::Totals;
+use crate::io::lines::Lines;
+use crate::link::counted::Counted;
+use crate::link::fault::{LinkFault, of_flow};
+use crate::link::managed::Managed;
+use crate::link::totals::Totals;
+use crate::pass::CHUNK_SIZE;
+use crate::tally::{FrameReport, SKIPPED, Tally};
+use crate::verbs::packets::printer::{ChannelKind, Printer};
 use crate::verbs::{Verb, list};
-use sl_packet::FlowFault;
 use sl_tcflow::Receiver;
 use sl_tcframe::{TcFrame, TcFramer};
 use std::alloc::Global;
@@ -41,18 +41,23 @@ pub fn packets_tc<R: Read, W: Write>(
     writer: &mut Counted<W>,
 ) -> Result<Totals, LinkFault>
     // All is read, and its listing is written and nothing else.
-    ensures listing { IfOk result (Translates R.remaining W.contents reader.old reader.new writer.old writer.new (packets_tc_text managed.now) (tc_counts managed.now) managed.now.max_octets) }
+    ensures listing { IfOk result (Translates R.remaining W.contents reader.old reader.new
+        writer.old writer.new (packets_tc_text managed.now) (tc_counts managed.now)
+        managed.now.max_octets) }
     // After a fault, whose cause is there, a prefix of the listing of what was read is written.
-    ensures fault { IfErr result (Stops R.remaining W.contents reader.old reader.new writer.old writer.new (packets_tc_text managed.now) managed.now.max_octets 0x10000) }
+    ensures fault { IfErr result (Stops R.remaining W.contents reader.old reader.new
+        writer.old writer.new (packets_tc_text managed.now) managed.now.max_octets chunk_size) }
     // Memory is refused only where the unit of some frame of what was read is accepted, and a series is incomplete
     // around it on its MAP.
-    ensures memory { IfErr result (λ fault. fault ≡ LinkFault.Memory → WantedMemory R.remaining reader.old reader.new (tc_frames_of (tc_format managed.now)) (WantsMemoryTc managed.now)) }
+    ensures memory { IfErr result (λ fault. fault ≡ LinkFault.Memory
+        → WantedMemory R.remaining reader.old reader.new (tc_frames_of (tc_format managed.now))
+        (WantsMemoryTc managed.now)) }
 {
-    let mut buffer = [0; CHUNK];
+    let mut buffer = [0; CHUNK_SIZE];
     let mut framer = TcFramer::new(&managed.tc);
     let mut verb = PacketsTc {
         receiver: Receiver::new(alloc, managed.window, managed.vr),
-        so_far: DeliveryTally::new(),
+        so_far: Tally::new(),
     };
     list(managed, &mut framer, &mut verb, reader, writer, &mut buffer)
 }
@@ -61,19 +66,19 @@ pub fn packets_tc<R: Read, W: Write>(
 #[derive(Drop)]
 struct PacketsTc {
     receiver: Receiver,
-    so_far: DeliveryTally,
+    so_far: Tally,
 }
 
 impl Verb for PacketsTc {
-    ghost use Rattle.sl_link.specs.DeliveringTc.{HasTcDelivered};
-    ghost use Rattle.sl_link.specs.PacketsTc.{WantsMemoryTc, packets_tc_listing};
-    ghost use Rattle.sl_link.specs.TcPass.{is_tc_frame};
+    ghost use Rattle.sl_link.specs.Deliver.DeliveringTc.{HasHandedOverTc};
+    ghost use Rattle.sl_link.specs.Verbs.Packets.Tc.{WantsMemoryTc, packets_tc_listing};
+    ghost use Rattle.sl_link.specs.Pass.Tc.{is_tc_frame};
 
     ghost is_frame = { is_tc_frame };
 
     ghost listing = { packets_tc_listing };
 
-    ghost has_listed = { λ verb p frames. HasTcDelivered p frames verb.receiver verb.so_far };
+    ghost has_listed = { λ verb p frames. HasHandedOverTc p frames verb.receiver verb.so_far };
 
     ghost wants_memory = { WantsMemoryTc };
 
@@ -96,7 +101,7 @@ impl Verb for PacketsTc {
         _writer: &mut Counted<W>,
         _lines: &mut Lines,
     ) -> Result<Totals, LinkFault> {
-        Ok(self.so_far.totals(octets - self.so_far.tally.octets))
+        Ok(self.so_far.totals(octets - self.so_far.octets, 0))
     }
 }
 
@@ -110,18 +115,29 @@ fn print_frame<W: Write>(
 ) -> Result<FrameReport, LinkFault>
     requires one_frame { is_cut (tc_format managed.now) frame.now ≡ true }
     requires working { IsWorking receiver.old }
-    ensures processed { OnOk result (ForProcessed receiver.old (λ w vr views. HasProcessed w vr receiver.new (with_frame views (as_read managed.now frame.now)))) }
-    ensures lines { OnOk result (ForProcessed receiver.old (λ w vr views. AddsText W.contents writer.old writer.new lines.old lines.new (tc_packet_lines w vr views (as_read managed.now frame.now)))) }
+    ensures processed { OnOk result (ForProcessed receiver.old
+        (λ w vr views. HasProcessed w vr receiver.new
+        (with_frame views (as_read managed.now frame.now)))) }
+    ensures lines { OnOk result (ForProcessed receiver.old
+        (λ w vr views. AddsText W.contents writer.old writer.new lines.old lines.new
+        (tc_packet_lines w vr views (as_read managed.now frame.now)))) }
     ensures skipped { IfOk result (λ met. met.is_skipped ≡ is_err (as_read managed.now frame.now)) }
-    ensures packets { IfOk result (λ met. ForProcessed receiver.old (λ w vr views. met.packets ≡ length (without_idle (ended_in w vr views (as_read managed.now frame.now))))) }
-    ensures idle { IfOk result (λ met. ForProcessed receiver.old (λ w vr views. met.idle ≡ length (only_idle (ended_in w vr views (as_read managed.now frame.now))))) }
-    ensures fault { IfErr result (λ fault. ForProcessed receiver.old (λ w vr views. StopsListing W.contents writer.old writer.new (lines.old ++ tc_packet_lines w vr views (as_read managed.now frame.now)) fault)) }
-    ensures memory { IfErr result (λ fault. fault ≡ LinkFault.Memory → ForProcessed receiver.old (λ w vr views. is_incomplete_around w vr views (as_read managed.now frame.now))) }
+    ensures packets { IfOk result (λ met. ForProcessed receiver.old (λ w vr views. met.packets
+        ≡ length (without_idle (ended_in w vr views (as_read managed.now frame.now))))) }
+    ensures idle { IfOk result (λ met. ForProcessed receiver.old (λ w vr views. met.idle
+        ≡ length (only_idle (ended_in w vr views (as_read managed.now frame.now))))) }
+    ensures no_anomalies { IfOk result (λ met. met.anomalies ≡ 0) }
+    ensures fault { IfErr result (λ fault. ForProcessed receiver.old
+        (λ w vr views. StopsListing W.contents writer.old writer.new (lines.old
+        ++ tc_packet_lines w vr views (as_read managed.now frame.now)) fault)) }
+    ensures memory { IfErr result (λ fault. fault ≡ LinkFault.Memory → ForProcessed receiver.old
+        (λ w vr views. is_incomplete_around w vr views (as_read managed.now frame.now))) }
 {
     let view = match TcFrame::read(&managed.tc, managed.spacecraft, frame) {
         Ok(view) => view,
         Err(_) => return Ok(SKIPPED),
     };
+    // The proof needs its two ends apart.
     let met = print_view(&view, receiver, writer, lines)?;
     Ok(met)
 }
@@ -134,13 +150,22 @@ fn print_view<W: Write>(
     lines: &mut Lines,
 ) -> Result<FrameReport, LinkFault>
     requires working { IsWorking receiver.old }
-    ensures processed { OnOk result (ForProcessed receiver.old (λ w vr views. HasProcessed w vr receiver.new (views ++ view.now ∷ []))) }
-    ensures lines { OnOk result (ForProcessed receiver.old (λ w vr views. AddsText W.contents writer.old writer.new lines.old lines.new (tc_packet_lines w vr views (Ok view.now)))) }
+    ensures processed { OnOk result (ForProcessed receiver.old
+        (λ w vr views. HasProcessed w vr receiver.new (views ++ view.now ∷ []))) }
+    ensures lines { OnOk result (ForProcessed receiver.old
+        (λ w vr views. AddsText W.contents writer.old writer.new lines.old lines.new
+        (tc_packet_lines w vr views (Ok view.now)))) }
     ensures read { IfOk result (λ met. met.is_skipped ≡ false) }
-    ensures packets { IfOk result (λ met. ForProcessed receiver.old (λ w vr views. met.packets ≡ length (without_idle (ended_by w vr views view.now)))) }
-    ensures idle { IfOk result (λ met. ForProcessed receiver.old (λ w vr views. met.idle ≡ length (only_idle (ended_by w vr views view.now)))) }
-    ensures fault { IfErr result (λ fault. ForProcessed receiver.old (λ w vr views. StopsListing W.contents writer.old writer.new (lines.old ++ tc_packet_lines w vr views (Ok view.now)) fault)) }
-    ensures memory { IfErr result (λ fault. fault ≡ LinkFault.Memory → ForProcessed receiver.old (λ w vr views. IsIncompleteAround w vr views view.now)) }
+    ensures packets { IfOk result (λ met. ForProcessed receiver.old (λ w vr views. met.packets
+        ≡ length (without_idle (ended_by w vr views view.now)))) }
+    ensures idle { IfOk result (λ met. ForProcessed receiver.old (λ w vr views. met.idle
+        ≡ length (only_idle (ended_by w vr views view.now)))) }
+    ensures no_anomalies { IfOk result (λ met. met.anomalies ≡ 0) }
+    ensures fault { IfErr result (λ fault. ForProcessed receiver.old
+        (λ w vr views. StopsListing W.contents writer.old writer.new (lines.old
+        ++ tc_packet_lines w vr views (Ok view.now)) fault)) }
+    ensures memory { IfErr result (λ fault. fault ≡ LinkFault.Memory → ForProcessed receiver.old
+        (λ w vr views. IsIncompleteAround w vr views view.now)) }
 {
     let mut printer = Printer {
         writer,
@@ -153,9 +178,8 @@ fn print_view<W: Write>(
             is_skipped: false,
             packets: step.packets(),
             idle: step.idle(),
+            anomalies: 0,
         }),
-        Err(FlowFault::Memory) => Err(LinkFault::Memory),
-        Err(FlowFault::Sink(fault)) => Err(printing_fault(fault)),
-        Err(FlowFault::Failed) => unreachable!(),
+        Err(fault) => Err(of_flow(fault)),
     }
 }

@@ -3,23 +3,23 @@ ghost use Rattle.std.specs.Prelude.{◌≡◌, ◌+◌, ◌≤◌, ◌++◌, ◌
 ghost use Rattle.sl_packet.specs.Packets.{only_idle, without_idle};
 ghost use Rattle.sl_tmflow.specs.Extraction.{ForProcessed, HasProcessed, IsIncompleteAround, IsWorking, ended_by};
 ghost use Rattle.sl_tmframe.specs.TmDelimited.{tm_frames_of};
-ghost use Rattle.sl_link.specs.Deliver.{as_read, ended_in, is_incomplete_around};
-ghost use Rattle.sl_link.specs.Delivering.{with_frame};
-ghost use Rattle.sl_link.specs.NormaliseTm.{tm_counts};
-ghost use Rattle.sl_link.specs.PacketsTm.{WantsMemoryTm, packets_tm_text, tm_packet_lines};
-ghost use Rattle.sl_link.specs.Streams.{AddsText, Stops, StopsListing, Translates};
-ghost use Rattle.sl_link.specs.Verb.{WantedMemory};
+ghost use Rattle.sl_link.specs.Deliver.Tm.{as_read, ended_in, is_incomplete_around};
+ghost use Rattle.sl_link.specs.Deliver.Lists.{with_frame};
+ghost use Rattle.sl_link.specs.Normalise.Tm.{tm_counts};
+ghost use Rattle.sl_link.specs.Verbs.Packets.Tm.{WantsMemoryTm, packets_tm_text, tm_packet_lines};
+ghost use Rattle.sl_link.specs.Io.Streams.{AddsText, Stops, StopsListing, Translates};
+ghost use Rattle.sl_link.specs.Verbs.Listing.{WantedMemory};
+ghost use Rattle.sl_link.specs.Pass.{chunk_size};
 
-use crate::counted::Counted;
-use crate::delivery::{DeliveryTally, FrameReport, SKIPPED};
-use crate::lines::Lines;
-use crate::link_fault::LinkFault;
-use crate::managed::Managed;
-use crate::pass::CHUNK;
-use crate::printer::{ChannelKind, Printer, printing_fault};
-use crate::totals::Totals;
+use crate::io::lines::Lines;
+use crate::link::counted::Counted;
+use crate::link::fault::{LinkFault, of_flow};
+use crate::link::managed::Managed;
+use crate::link::totals::Totals;
+use crate::pass::CHUNK_SIZE;
+use crate::tally::{FrameReport, SKIPPED, Tally};
+use crate::verbs::packets::printer::{ChannelKind, Printer};
 use crate::verbs::{Verb, list};
-use sl_packet::FlowFault;
 use sl_tmflow::Extractor;
 use sl_tmframe::{TmFrame, TmFramer};
 use std::alloc::Global;
@@ -39,17 +39,22 @@ pub fn packets_tm<R: Read, W: Write>(
     writer: &mut Counted<W>,
 ) -> Result<Totals, LinkFault>
     // All is read, and its listing is written and nothing else.
-    ensures listing { IfOk result (Translates R.remaining W.contents reader.old reader.new writer.old writer.new (packets_tm_text managed.now) (tm_counts managed.now) managed.now.max_octets) }
+    ensures listing { IfOk result (Translates R.remaining W.contents reader.old reader.new
+        writer.old writer.new (packets_tm_text managed.now) (tm_counts managed.now)
+        managed.now.max_octets) }
     // After a fault, whose cause is there, a prefix of the listing of what was read is written.
-    ensures fault { IfErr result (Stops R.remaining W.contents reader.old reader.new writer.old writer.new (packets_tm_text managed.now) managed.now.max_octets 0x10000) }
+    ensures fault { IfErr result (Stops R.remaining W.contents reader.old reader.new
+        writer.old writer.new (packets_tm_text managed.now) managed.now.max_octets chunk_size) }
     // Memory is refused only where, around some frame of what was read, a packet is incomplete on its virtual channel.
-    ensures memory { IfErr result (λ fault. fault ≡ LinkFault.Memory → WantedMemory R.remaining reader.old reader.new (tm_frames_of managed.now.tm_length) (WantsMemoryTm managed.now)) }
+    ensures memory { IfErr result (λ fault. fault ≡ LinkFault.Memory
+        → WantedMemory R.remaining reader.old reader.new (tm_frames_of managed.now.tm_length)
+        (WantsMemoryTm managed.now)) }
 {
-    let mut buffer = [0; CHUNK];
+    let mut buffer = [0; CHUNK_SIZE];
     let mut framer = TmFramer::new(&managed.tm);
     let mut verb = PacketsTm {
         extractor: Extractor::new(alloc),
-        so_far: DeliveryTally::new(),
+        so_far: Tally::new(),
     };
     list(managed, &mut framer, &mut verb, reader, writer, &mut buffer)
 }
@@ -58,19 +63,19 @@ pub fn packets_tm<R: Read, W: Write>(
 #[derive(Drop)]
 struct PacketsTm {
     extractor: Extractor,
-    so_far: DeliveryTally,
+    so_far: Tally,
 }
 
 impl Verb for PacketsTm {
-    ghost use Rattle.sl_link.specs.DeliveringTm.{HasDelivered};
-    ghost use Rattle.sl_link.specs.PacketsTm.{WantsMemoryTm, packets_tm_listing};
-    ghost use Rattle.sl_link.specs.TmPass.{is_tm_frame};
+    ghost use Rattle.sl_link.specs.Deliver.DeliveringTm.{HasHandedOverTm};
+    ghost use Rattle.sl_link.specs.Verbs.Packets.Tm.{WantsMemoryTm, packets_tm_listing};
+    ghost use Rattle.sl_link.specs.Pass.Tm.{is_tm_frame};
 
     ghost is_frame = { is_tm_frame };
 
     ghost listing = { packets_tm_listing };
 
-    ghost has_listed = { λ verb p frames. HasDelivered p frames verb.extractor verb.so_far };
+    ghost has_listed = { λ verb p frames. HasHandedOverTm p frames verb.extractor verb.so_far };
 
     ghost wants_memory = { WantsMemoryTm };
 
@@ -93,7 +98,7 @@ impl Verb for PacketsTm {
         _writer: &mut Counted<W>,
         _lines: &mut Lines,
     ) -> Result<Totals, LinkFault> {
-        Ok(self.so_far.totals(octets - self.so_far.tally.octets))
+        Ok(self.so_far.totals(octets - self.so_far.octets, 0))
     }
 }
 
@@ -107,19 +112,29 @@ fn print_frame<W: Write>(
 ) -> Result<FrameReport, LinkFault>
     requires one_frame { length frame.now ≡ managed.now.tm_length }
     requires working { IsWorking extractor.old }
-    ensures processed { OnOk result (ForProcessed extractor.old (λ views. HasProcessed extractor.new (with_frame views (as_read managed.now frame.now)))) }
-    ensures lines { OnOk result (ForProcessed extractor.old (λ views. AddsText W.contents writer.old writer.new lines.old lines.new (tm_packet_lines views (as_read managed.now frame.now)))) }
+    ensures processed { OnOk result (ForProcessed extractor.old (λ views. HasProcessed extractor.new
+        (with_frame views (as_read managed.now frame.now)))) }
+    ensures lines { OnOk result (ForProcessed extractor.old
+        (λ views. AddsText W.contents writer.old writer.new lines.old lines.new
+        (tm_packet_lines views (as_read managed.now frame.now)))) }
     ensures skipped { IfOk result (λ met. met.is_skipped ≡ is_err (as_read managed.now frame.now)) }
-    ensures packets { IfOk result (λ met. ForProcessed extractor.old (λ views. met.packets ≡ length (without_idle (ended_in views (as_read managed.now frame.now))))) }
-    ensures idle { IfOk result (λ met. ForProcessed extractor.old (λ views. met.idle ≡ length (only_idle (ended_in views (as_read managed.now frame.now))))) }
+    ensures packets { IfOk result (λ met. ForProcessed extractor.old (λ views. met.packets
+        ≡ length (without_idle (ended_in views (as_read managed.now frame.now))))) }
+    ensures idle { IfOk result (λ met. ForProcessed extractor.old (λ views. met.idle
+        ≡ length (only_idle (ended_in views (as_read managed.now frame.now))))) }
+    ensures no_anomalies { IfOk result (λ met. met.anomalies ≡ 0) }
     ensures within { IfOk result (λ met. met.packets + met.idle ≤ length frame.now) }
-    ensures fault { IfErr result (λ fault. ForProcessed extractor.old (λ views. StopsListing W.contents writer.old writer.new (lines.old ++ tm_packet_lines views (as_read managed.now frame.now)) fault)) }
-    ensures memory { IfErr result (λ fault. fault ≡ LinkFault.Memory → ForProcessed extractor.old (λ views. is_incomplete_around views (as_read managed.now frame.now))) }
+    ensures fault { IfErr result (λ fault. ForProcessed extractor.old
+        (λ views. StopsListing W.contents writer.old writer.new (lines.old ++ tm_packet_lines views
+        (as_read managed.now frame.now)) fault)) }
+    ensures memory { IfErr result (λ fault. fault ≡ LinkFault.Memory → ForProcessed extractor.old
+        (λ views. is_incomplete_around views (as_read managed.now frame.now))) }
 {
     let view = match TmFrame::read(&managed.tm, managed.spacecraft, frame) {
         Ok(view) => view,
         Err(_) => return Ok(SKIPPED),
     };
+    // The proof needs its two ends apart.
     let met = print_view(&view, extractor, writer, lines)?;
     Ok(met)
 }
@@ -132,13 +147,22 @@ fn print_view<W: Write>(
     lines: &mut Lines,
 ) -> Result<FrameReport, LinkFault>
     requires working { IsWorking extractor.old }
-    ensures processed { OnOk result (ForProcessed extractor.old (λ views. HasProcessed extractor.new (views ++ view.now ∷ []))) }
-    ensures lines { OnOk result (ForProcessed extractor.old (λ views. AddsText W.contents writer.old writer.new lines.old lines.new (tm_packet_lines views (Ok view.now)))) }
+    ensures processed { OnOk result (ForProcessed extractor.old (λ views. HasProcessed extractor.new
+        (views ++ view.now ∷ []))) }
+    ensures lines { OnOk result (ForProcessed extractor.old
+        (λ views. AddsText W.contents writer.old writer.new lines.old lines.new
+        (tm_packet_lines views (Ok view.now)))) }
     ensures read { IfOk result (λ met. met.is_skipped ≡ false) }
-    ensures packets { IfOk result (λ met. ForProcessed extractor.old (λ views. met.packets ≡ length (without_idle (ended_by views view.now)))) }
-    ensures idle { IfOk result (λ met. ForProcessed extractor.old (λ views. met.idle ≡ length (only_idle (ended_by views view.now)))) }
-    ensures fault { IfErr result (λ fault. ForProcessed extractor.old (λ views. StopsListing W.contents writer.old writer.new (lines.old ++ tm_packet_lines views (Ok view.now)) fault)) }
-    ensures memory { IfErr result (λ fault. fault ≡ LinkFault.Memory → ForProcessed extractor.old (λ views. IsIncompleteAround views view.now)) }
+    ensures packets { IfOk result (λ met. ForProcessed extractor.old (λ views. met.packets
+        ≡ length (without_idle (ended_by views view.now)))) }
+    ensures idle { IfOk result (λ met. ForProcessed extractor.old (λ views. met.idle
+        ≡ length (only_idle (ended_by views view.now)))) }
+    ensures no_anomalies { IfOk result (λ met. met.anomalies ≡ 0) }
+    ensures fault { IfErr result (λ fault. ForProcessed extractor.old
+        (λ views. StopsListing W.contents writer.old writer.new (lines.old ++ tm_packet_lines views
+        (Ok view.now)) fault)) }
+    ensures memory { IfErr result (λ fault. fault ≡ LinkFault.Memory → ForProcessed extractor.old
+        (λ views. IsIncompleteAround views view.now)) }
 {
     let mut printer = Printer {
         writer,
@@ -151,9 +175,8 @@ fn print_view<W: Write>(
             is_skipped: false,
             packets: step.packets(),
             idle: step.idle(),
+            anomalies: 0,
         }),
-        Err(FlowFault::Memory) => Err(LinkFault::Memory),
-        Err(FlowFault::Sink(fault)) => Err(printing_fault(fault)),
-        Err(FlowFault::Failed) => unreachable!(),
+        Err(fault) => Err(of_flow(fault)),
     }
 }

@@ -1,22 +1,23 @@
 //! The frames of a TC recording as lines.
 ghost use Rattle.std.specs.Prelude.{◌≡◌, ◌≢◌, true, is_err, IfOk, IfErr, OnOk, Err};
 ghost use Rattle.sl_tcframe.specs.TcFrame.{is_cut, tc_frame};
-ghost use Rattle.sl_link.specs.Line.{line_at};
-ghost use Rattle.sl_link.specs.Managed.{tc_format};
-ghost use Rattle.sl_link.specs.ShowTc.{show_tc_counts, show_tc_text, tc_frame_text};
-ghost use Rattle.sl_link.specs.Streams.{AddsText, Stops, StopsWriting, Translates};
-ghost use Rattle.sl_link.specs.TcListing.{farm_at, farms_after};
+ghost use Rattle.sl_link.specs.Io.Line.{line_at};
+ghost use Rattle.sl_link.specs.Link.Managed.{tc_format};
+ghost use Rattle.sl_link.specs.Verbs.Show.Tc.{show_tc_counts, show_tc_text, tc_frame_text};
+ghost use Rattle.sl_link.specs.Io.Streams.{AddsText, Stops, StopsWriting, Translates};
+ghost use Rattle.sl_link.specs.Verbs.Show.Farms.{farm_at, farms_after};
+ghost use Rattle.sl_link.specs.Pass.{chunk_size};
 
-use crate::counted::Counted;
-use crate::farms::Farms;
-use crate::lines::Lines;
-use crate::link_fault::LinkFault;
-use crate::listing::{make_room, rest_line};
-use crate::managed::Managed;
-use crate::pass::CHUNK;
-use crate::tally::Tally;
-use crate::tc_lines::tc_frame_line;
-use crate::totals::Totals;
+use crate::io::lines::Lines;
+use crate::io::room::{make_room, rest_line};
+use crate::link::counted::Counted;
+use crate::link::fault::LinkFault;
+use crate::link::managed::Managed;
+use crate::link::totals::Totals;
+use crate::pass::CHUNK_SIZE;
+use crate::tally::{FrameReport, Tally};
+use crate::verbs::show::farms::Farms;
+use crate::verbs::show::lines_tc::tc_frame_line;
 use crate::verbs::{Verb, list};
 use sl_tcframe::{TcFrame, TcFramer};
 use std::io::{Read, Write};
@@ -33,15 +34,18 @@ pub fn show_tc<R: Read, W: Write>(
     writer: &mut Counted<W>,
 ) -> Result<Totals, LinkFault>
     // All is read, and its listing is written and nothing else.
-    ensures listing { IfOk result (Translates R.remaining W.contents reader.old reader.new writer.old writer.new (show_tc_text managed.now) (show_tc_counts managed.now) managed.now.max_octets) }
+    ensures listing { IfOk result (Translates R.remaining W.contents reader.old reader.new
+        writer.old writer.new (show_tc_text managed.now) (show_tc_counts managed.now)
+        managed.now.max_octets) }
     // After a fault, whose cause is there, a prefix of the listing of what was read is written.
-    ensures fault { IfErr result (Stops R.remaining W.contents reader.old reader.new writer.old writer.new (show_tc_text managed.now) managed.now.max_octets 0x10000) }
+    ensures fault { IfErr result (Stops R.remaining W.contents reader.old reader.new
+        writer.old writer.new (show_tc_text managed.now) managed.now.max_octets chunk_size) }
     ensures no_memory { result ≢ Err LinkFault.Memory }
 {
-    let mut buffer = [0; CHUNK];
+    let mut buffer = [0; CHUNK_SIZE];
     let mut framer = TcFramer::new(&managed.tc);
     let mut verb = ShowTc {
-        tally: Tally::new(),
+        so_far: Tally::new(),
         farms: Farms::new(managed.window, managed.vr),
     };
     list(managed, &mut framer, &mut verb, reader, writer, &mut buffer)
@@ -50,20 +54,20 @@ pub fn show_tc<R: Read, W: Write>(
 // Lists the frames.
 #[derive(Drop)]
 struct ShowTc {
-    tally: Tally,
+    so_far: Tally,
     farms: Farms,
 }
 
 impl Verb for ShowTc {
-    ghost use Rattle.sl_link.specs.ShowTc.{show_tc_listing};
-    ghost use Rattle.sl_link.specs.TcListing.{HasListed};
-    ghost use Rattle.sl_link.specs.TcPass.{is_tc_frame};
+    ghost use Rattle.sl_link.specs.Verbs.Show.Tc.{show_tc_listing};
+    ghost use Rattle.sl_link.specs.Verbs.Show.ListedTc.{HasListedTc};
+    ghost use Rattle.sl_link.specs.Pass.Tc.{is_tc_frame};
 
     ghost is_frame = { is_tc_frame };
 
     ghost listing = { show_tc_listing };
 
-    ghost has_listed = { λ verb p frames. HasListed p verb.tally verb.farms frames };
+    ghost has_listed = { λ verb p frames. HasListedTc p verb.so_far verb.farms frames };
 
     ghost wants_memory = { λ p frames. ⊥ };
 
@@ -79,10 +83,16 @@ impl Verb for ShowTc {
             writer,
             frame,
             lines,
-            self.tally.octets,
+            self.so_far.octets,
             &mut self.farms,
         )?;
-        self.tally.add(frame.len() as u64, is_skipped);
+        let report = FrameReport {
+            is_skipped,
+            packets: 0,
+            idle: 0,
+            anomalies: 0,
+        };
+        self.so_far.add(frame.len() as u64, report);
         Ok(())
     }
 
@@ -94,11 +104,11 @@ impl Verb for ShowTc {
         lines: &mut Lines,
     ) -> Result<Totals, LinkFault> {
         make_room(writer, lines)?;
-        let rest = octets - self.tally.octets;
+        let rest = octets - self.so_far.octets;
         if rest > 0 {
-            rest_line(lines, self.tally.octets, rest);
+            rest_line(lines, self.so_far.octets, rest);
         }
-        Ok(self.tally.totals(rest))
+        Ok(self.so_far.totals(rest, 0))
     }
 }
 
@@ -113,9 +123,13 @@ fn show_frame<W: Write>(
     farms: &mut Farms,
 ) -> Result<bool, LinkFault>
     requires one_frame { is_cut (tc_format managed.now) frame.now ≡ true }
-    ensures skipped { IfOk result (λ is_skipped. is_skipped ≡ is_err (tc_frame (tc_format managed.now) managed.now.spacecraft frame.now)) }
-    ensures line { OnOk result (AddsText W.contents writer.old writer.new lines.old lines.new (line_at offset (tc_frame_text (farm_at farms.old) (tc_frame (tc_format managed.now) managed.now.spacecraft frame.now)))) }
-    ensures farms { OnOk result (farms.new ≡ farms_after farms.old (tc_frame (tc_format managed.now) managed.now.spacecraft frame.now)) }
+    ensures skipped { IfOk result (λ is_skipped. is_skipped
+        ≡ is_err (tc_frame (tc_format managed.now) managed.now.spacecraft frame.now)) }
+    ensures line { OnOk result (AddsText W.contents writer.old writer.new lines.old lines.new
+        (line_at offset (tc_frame_text (farm_at farms.old)
+        (tc_frame (tc_format managed.now) managed.now.spacecraft frame.now)))) }
+    ensures farms { OnOk result (farms.new ≡ farms_after farms.old
+        (tc_frame (tc_format managed.now) managed.now.spacecraft frame.now)) }
     ensures fault { IfErr result (StopsWriting W.contents writer.old writer.new lines.old) }
 {
     make_room(writer, lines)?;

@@ -1,20 +1,21 @@
 //! The frames of a TM recording as lines.
 ghost use Rattle.std.specs.Prelude.{◌≡◌, ◌≢◌, length, is_err, IfOk, IfErr, OnOk, Err};
 ghost use Rattle.sl_tmframe.specs.TmFrame.{tm_frame};
-ghost use Rattle.sl_link.specs.Line.{line_at};
-ghost use Rattle.sl_link.specs.Managed.{tm_format};
-ghost use Rattle.sl_link.specs.ShowTm.{frame_text, show_tm_counts, show_tm_text};
-ghost use Rattle.sl_link.specs.Streams.{AddsText, Stops, StopsWriting, Translates};
+ghost use Rattle.sl_link.specs.Io.Line.{line_at};
+ghost use Rattle.sl_link.specs.Link.Managed.{tm_format};
+ghost use Rattle.sl_link.specs.Verbs.Show.Tm.{tm_frame_text, show_tm_counts, show_tm_text};
+ghost use Rattle.sl_link.specs.Io.Streams.{AddsText, Stops, StopsWriting, Translates};
+ghost use Rattle.sl_link.specs.Pass.{chunk_size};
 
-use crate::counted::Counted;
-use crate::lines::Lines;
-use crate::link_fault::LinkFault;
-use crate::listing::{make_room, rest_line};
-use crate::managed::Managed;
-use crate::pass::CHUNK;
-use crate::tally::Tally;
-use crate::tm_lines::frame_line;
-use crate::totals::Totals;
+use crate::io::lines::Lines;
+use crate::io::room::{make_room, rest_line};
+use crate::link::counted::Counted;
+use crate::link::fault::LinkFault;
+use crate::link::managed::Managed;
+use crate::link::totals::Totals;
+use crate::pass::CHUNK_SIZE;
+use crate::tally::{FrameReport, Tally};
+use crate::verbs::show::lines_tm::tm_frame_line;
 use crate::verbs::{Verb, list};
 use sl_tmframe::{TmFrame, TmFramer};
 use std::io::{Read, Write};
@@ -30,15 +31,18 @@ pub fn show_tm<R: Read, W: Write>(
     writer: &mut Counted<W>,
 ) -> Result<Totals, LinkFault>
     // All is read, and its listing is written and nothing else.
-    ensures listing { IfOk result (Translates R.remaining W.contents reader.old reader.new writer.old writer.new (show_tm_text managed.now) (show_tm_counts managed.now) managed.now.max_octets) }
+    ensures listing { IfOk result (Translates R.remaining W.contents reader.old reader.new
+        writer.old writer.new (show_tm_text managed.now) (show_tm_counts managed.now)
+        managed.now.max_octets) }
     // After a fault, whose cause is there, a prefix of the listing of what was read is written.
-    ensures fault { IfErr result (Stops R.remaining W.contents reader.old reader.new writer.old writer.new (show_tm_text managed.now) managed.now.max_octets 0x10000) }
+    ensures fault { IfErr result (Stops R.remaining W.contents reader.old reader.new
+        writer.old writer.new (show_tm_text managed.now) managed.now.max_octets chunk_size) }
     ensures no_memory { result ≢ Err LinkFault.Memory }
 {
-    let mut buffer = [0; CHUNK];
+    let mut buffer = [0; CHUNK_SIZE];
     let mut framer = TmFramer::new(&managed.tm);
     let mut verb = ShowTm {
-        tally: Tally::new(),
+        so_far: Tally::new(),
     };
     list(managed, &mut framer, &mut verb, reader, writer, &mut buffer)
 }
@@ -46,19 +50,19 @@ pub fn show_tm<R: Read, W: Write>(
 // Lists the frames.
 #[derive(Drop)]
 struct ShowTm {
-    tally: Tally,
+    so_far: Tally,
 }
 
 impl Verb for ShowTm {
-    ghost use Rattle.sl_link.specs.ShowTm.{show_tm_listing};
-    ghost use Rattle.sl_link.specs.Tally.{AreCounted};
-    ghost use Rattle.sl_link.specs.TmPass.{is_tm_frame};
+    ghost use Rattle.sl_link.specs.Verbs.Show.Tm.{show_tm_listing};
+    ghost use Rattle.sl_link.specs.Verbs.Show.ListedTm.{HasListedTm};
+    ghost use Rattle.sl_link.specs.Pass.Tm.{is_tm_frame};
 
     ghost is_frame = { is_tm_frame };
 
     ghost listing = { show_tm_listing };
 
-    ghost has_listed = { λ verb p frames. AreCounted p frames verb.tally };
+    ghost has_listed = { λ verb p frames. HasListedTm p verb.so_far frames };
 
     ghost wants_memory = { λ p frames. ⊥ };
 
@@ -69,8 +73,14 @@ impl Verb for ShowTm {
         writer: &mut Counted<W>,
         lines: &mut Lines,
     ) -> Result<(), LinkFault> {
-        let is_skipped = show_frame(managed, writer, frame, lines, self.tally.octets)?;
-        self.tally.add(frame.len() as u64, is_skipped);
+        let is_skipped = show_frame(managed, writer, frame, lines, self.so_far.octets)?;
+        let report = FrameReport {
+            is_skipped,
+            packets: 0,
+            idle: 0,
+            anomalies: 0,
+        };
+        self.so_far.add(frame.len() as u64, report);
         Ok(())
     }
 
@@ -82,11 +92,11 @@ impl Verb for ShowTm {
         lines: &mut Lines,
     ) -> Result<Totals, LinkFault> {
         make_room(writer, lines)?;
-        let rest = octets - self.tally.octets;
+        let rest = octets - self.so_far.octets;
         if rest > 0 {
-            rest_line(lines, self.tally.octets, rest);
+            rest_line(lines, self.so_far.octets, rest);
         }
-        Ok(self.tally.totals(rest))
+        Ok(self.so_far.totals(rest, 0))
     }
 }
 
@@ -100,12 +110,15 @@ fn show_frame<W: Write>(
     offset: u64,
 ) -> Result<bool, LinkFault>
     requires one_frame { length frame.now ≡ managed.now.tm_length }
-    ensures skipped { IfOk result (λ is_skipped. is_skipped ≡ is_err (tm_frame (tm_format managed.now) managed.now.spacecraft frame.now)) }
-    ensures line { OnOk result (AddsText W.contents writer.old writer.new lines.old lines.new (line_at offset (frame_text (tm_frame (tm_format managed.now) managed.now.spacecraft frame.now)))) }
+    ensures skipped { IfOk result (λ is_skipped. is_skipped
+        ≡ is_err (tm_frame (tm_format managed.now) managed.now.spacecraft frame.now)) }
+    ensures line { OnOk result (AddsText W.contents writer.old writer.new lines.old lines.new
+        (line_at offset
+        (tm_frame_text (tm_frame (tm_format managed.now) managed.now.spacecraft frame.now)))) }
     ensures fault { IfErr result (StopsWriting W.contents writer.old writer.new lines.old) }
 {
     make_room(writer, lines)?;
     let read = TmFrame::read(&managed.tm, managed.spacecraft, frame);
-    frame_line(lines, offset, &read);
+    tm_frame_line(lines, offset, &read);
     Ok(read.is_err())
 }

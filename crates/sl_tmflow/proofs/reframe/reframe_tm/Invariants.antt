@@ -1,10 +1,11 @@
-use Rattle.std.proofs.Common.{◌≤◌, length, take}
-use Rattle.std.specs.List.{AllByRecursion}
-use Rattle.sl_packet.specs.Delivered.{IsDeliverable}
-use Rattle.sl_tmflow.proofs.FramingLemmas.{IsReframed}
+use Rattle.std.proofs.Common.{◌≡◌, ℕ, List, ◌++◌, take}
+use Rattle.sl_tmflow.specs.FormLeft.{IsLeft, packets_left}
+use Rattle.sl_tmflow.specs.NormalForm.{normal_form}
 use Rattle.sl_tmflow.proofs.reframe.reframe_tm.Given as goal
 
-abbrev pub invariant-loop-vc : goal.invariant-loop-vc
-invariant-loop-vc l =
-    IsReframed l.shape l.spacecraft l.delivered.lists l.vc l.form.items × AllByRecursion (AllByRecursion IsDeliverable) (take l.vc l.delivered.lists)
-    × (l.vc ≤ length l.delivered.lists)
+abbrev pub invariant-loop-pieces : goal.invariant-loop-pieces
+invariant-loop-pieces l =
+    ((left : List ℕ) × ((l.form.items ++ left ≡ normal_form l.shape l.spacecraft (take 8 l.delivered.lists)) × IsLeft l.pieces.progress left)) × (l.pieces.progress.lists ≡ l.delivered.lists)
+
+abbrev pub decreases-loop-pieces : goal.decreases-loop-pieces
+decreases-loop-pieces l = packets_left l.pieces.progress

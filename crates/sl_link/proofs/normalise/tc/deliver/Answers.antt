@@ -1,35 +1,35 @@
-use Rattle.std.proofs.Common.{[], ap, refl, subst, sym}
+use Rattle.std.proofs.Common.{◌+◌, ◌∙◌, [], ap, refl, subst, sym}
 use Rattle.sl_tcflow.specs.Receiving.{HasProcessed}
 use Rattle.sl_tcframe.specs.TcDelimited.{tc_frames_of}
-use Rattle.sl_link.specs.DeliveringTc.{HasTcKept}
-use Rattle.sl_link.specs.Managed.{Parameters, tc_format}
-use Rattle.sl_link.specs.Totals.{Counts}
-use Rattle.sl_link.proofs.StoringTcLemmas.{all_counted, all_kept, none_kept}
-use Rattle.sl_link.proofs.TcDeliverLemmas.{none_delivered}
+use Rattle.sl_link.specs.Deliver.DeliveringTc.{HasKeptTc}
+use Rattle.sl_link.specs.Link.Managed.{Parameters, tc_format}
+use Rattle.sl_link.specs.Link.Totals.{Counts}
+use Rattle.sl_link.proofs.lemmas.Normalise.StoringTc.{all_counted, all_kept, none_kept}
+use Rattle.sl_link.proofs.lemmas.Deliver.Tc.{none_delivered}
 use Rattle.sl_link.proofs.normalise.tc.deliver.Goals as goal
 
-pub pass_over-requires-clause-begun : goal.pass_over-requires-clause-begun
-pass_over-requires-clause-begun g c = (
+pub read_recording-requires-clause-begun : goal.read_recording-requires-clause-begun
+read_recording-requires-clause-begun g c = (
   refl,
-  subst (λ (q : Parameters). HasTcKept q [] c.new.result c.new-2.result c.new-3.result.lists) (sym c.managed.view_is) (none_kept c.args.managed.now c.new.result c.new-2.result c.new-3.result.lists
+  subst (λ (q : Parameters). HasKeptTc q [] c.new.result c.new-2.result c.new-3.result.lists) (sym c.managed.view_is) (none_kept c.args.managed.now c.new.result c.new-2.result c.new-3.result.lists
       (none_delivered c.args.managed.now c.new.result c.new-2.result
       (subst (λ (p : Parameters). HasProcessed p.window p.vr c.new.result []) c.managed.view_is c.new.ensures)
       (record { octets = c.new-2.ensures.octets; frames = c.new-2.ensures.frames; skipped = c.new-2.ensures.skipped })
       c.new-2.ensures.packets c.new-2.ensures.idle)
-      c.new-3.ensures.lists),
+      c.new-2.ensures.anomalies c.new-3.ensures.lists),
 )
 
 pub returns-clause-all : goal.returns-clause-all
 returns-clause-all g c =
     let p = c.args.managed.now in
     let s = c.in_ok-octets.ensures.all in
-    let k = subst (λ (q : Parameters). HasTcKept q (tc_frames_of (tc_format p) s.octets) c.pass_over.new.sink.receiver c.pass_over.new.sink.so_far c.pass_over.new.sink.delivered.lists) c.managed.view_is s.all.1 in
+    let k = subst (λ (q : Parameters). HasKeptTc q (tc_frames_of (tc_format p) s.octets) c.read_recording.new.sink.receiver c.read_recording.new.sink.so_far c.read_recording.new.sink.delivered.lists) c.managed.view_is s.all.1 in
     let t = c.totals.ensures in
     record {
       octets = s.octets;
       all = record { within = s.within; read = s.read; to_end = s.to_end; no_fault = s.no_fault };
-      delivered = all_kept p _ c.pass_over.new.sink.receiver c.pass_over.new.sink.so_far c.pass_over.new.sink.delivered.lists k;
-      counted = all_counted p _ c.pass_over.new.sink.receiver c.pass_over.new.sink.so_far s.octets _ _ k.delivered s.size s.inside
+      delivered = all_kept p _ c.read_recording.new.sink.receiver c.read_recording.new.sink.so_far c.read_recording.new.sink.delivered.lists k;
+      counted = all_counted p _ c.read_recording.new.sink.receiver c.read_recording.new.sink.so_far s.octets _ _ k.delivered s.size s.inside
           (ap (λ (n : Counts). n.octets) t) (ap (λ (n : Counts). n.frames) t) (ap (λ (n : Counts). n.skipped) t) (ap (λ (n : Counts). n.rest) t)
-          (ap (λ (n : Counts). n.packets) t) (ap (λ (n : Counts). n.idle) t) (ap (λ (n : Counts). n.anomalies) t);
+          (ap (λ (n : Counts). n.packets) t) (ap (λ (n : Counts). n.idle) t) (ap (λ (n : Counts). n.anomalies) t ∙ ap (λ n. n + 0) k.no_anomalies);
     }

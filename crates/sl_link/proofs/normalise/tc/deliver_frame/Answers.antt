@@ -1,10 +1,11 @@
-use Rattle.std.proofs.Common.{rules, ◌≡◌, ◌≢◌, ◌<◌, arith, length, Ok, inl, inr}
+use Rattle.std.proofs.Common.{rules, ◌≡◌, ◌≢◌, ◌<◌, arith, length, Ok, Err, ◌∙◌}
 use Rattle.sl_packet.specs.declared.flow_fault.FlowFault.TheVariants.{Failed}
 use Rattle.sl_packet.specs.Packets.{without_idle}
 use Rattle.sl_tcflow.specs.Receiving.{ended_by, unit_channel}
-use Rattle.sl_link.specs.DeliverTc.{as_read}
-use Rattle.sl_link.proofs.HandedLemmas.{some_refused, takes_all, why_refused}
-use Rattle.sl_link.proofs.TcDeliverLemmas.{channel_fits}
+use Rattle.sl_link.specs.Deliver.Tc.{as_read}
+use Rattle.sl_link.proofs.lemmas.Deliver.Handed.{takes_all}
+use Rattle.sl_link.proofs.lemmas.Deliver.Tc.{channel_fits}
+use Rattle.sl_link.proofs.lemmas.Link.Fault.{memory_refused, never_failed, wanted_or_some}
 use Rattle.sl_link.proofs.normalise.tc.deliver_frame.Goals as goal
 
 pub returns-in-Ok-frame-clause-processed : goal.returns-in-Ok-frame-clause-processed
@@ -20,20 +21,19 @@ returns-in-Ok-frame-clause-lists c =
     λ w vr views h. rw (seen) (takes_all (without_idle (ended_by w vr views c.in-Ok.view)) c.args.delivered.now c.frame.new.sink (unit_channel c.in-Ok.view)
     inside (c.in-Ok-frame.ensures.accepted w vr views h))
 
-pub store_fault-requires : goal.store_fault-requires
-store_fault-requires c =
-    let ne : c.in-Err-Sink.field-0 ≢ Failed = search rules in
+pub returns-in-Err-frame-clause-fault : goal.returns-in-Err-frame-clause-fault
+returns-in-Err-frame-clause-fault c =
+    let is : c.frame.result ≡ Err c.in-Err-frame.fault = search rules in
     let working = c.requires.working in
-    let stopped = ((c.in-Err-Sink.ensures.stopped ne).1 working.0 working.1 working.2 working.3).1 in
-    why_refused _ _ _ (λ old channel packet fault new fails. fails.0) _ _ _ _ _ _ c.in-Err-Sink.field-0-is stopped
+    let ne : c.in-Err-frame.fault ≢ Failed = never_failed c.args.receiver.now.has_failed c.frame.result c.in-Err-frame.fault is (λ e. (c.frame.ensures.left e).0) working.3.working in
+    c.of_flow.ensures ∙ memory_refused _ _ (λ old channel packet fault new fails. fails.0) _ _ _ _ c.in-Err-frame.fault ne
+    (((c.in-Err-frame.ensures.stopped ne).1 working.0 working.1 working.2 working.3).1)
 
-pub returns-in-Err-Memory-clause-memory : goal.returns-in-Err-Memory-clause-memory
-returns-in-Err-Memory-clause-memory c =
+pub returns-in-Err-frame-clause-memory : goal.returns-in-Err-frame-clause-memory
+returns-in-Err-frame-clause-memory c =
     let seen : as_read c.args.managed.now c.args.frame.now ≡ Ok c.in-Ok.view = search rules in
-    λ w vr views h. rw (seen) (inl (c.in-Err-Memory.ensures.memory c.in-Err-Memory.field-0-is w vr views h))
-
-pub returns-in-Err-Sink-clause-memory : goal.returns-in-Err-Sink-clause-memory
-returns-in-Err-Sink-clause-memory c =
-    let seen : as_read c.args.managed.now c.args.frame.now ≡ Ok c.in-Ok.view = search rules in
-    let ne : c.in-Err-Sink.field-0 ≢ Failed = search rules in
-    λ w vr views h. rw (seen) (inr (some_refused _ _ _ _ _ _ _ _ c.in-Err-Sink.field-0-is ((c.in-Err-Sink.ensures.stopped ne).1 w vr views h).1))
+    let is : c.frame.result ≡ Err c.in-Err-frame.fault = search rules in
+    let working = c.requires.working in
+    let ne : c.in-Err-frame.fault ≢ Failed = never_failed c.args.receiver.now.has_failed c.frame.result c.in-Err-frame.fault is (λ e. (c.frame.ensures.left e).0) working.3.working in
+    λ w vr views processed. rw (seen) (wanted_or_some _ _ _ _ _ _ c.in-Err-frame.fault ne (((c.in-Err-frame.ensures.stopped ne).1 w vr views processed).1)
+    (λ e. c.in-Err-frame.ensures.memory e w vr views processed))

@@ -1,12 +1,13 @@
-use Rattle.std.proofs.Common.{rules, ◌≡◌, ◌≢◌, ◌+◌, ◌<◌, ◌≤◌, arith, length, Ok, ap, ◌∙◌, inl, inr}
+use Rattle.std.proofs.Common.{rules, ◌≡◌, ◌≢◌, ◌+◌, ◌<◌, ◌≤◌, arith, length, Ok, Err, ap, ◌∙◌}
 use Rattle.sl_packet.specs.declared.flow_fault.FlowFault.TheVariants.{Failed}
 use Rattle.sl_packet.specs.Packets.{without_idle, only_idle}
-use Rattle.sl_link.specs.Deliver.{as_read, ended_in}
-use Rattle.sl_link.specs.Managed.{Parameters, tm_format}
-use Rattle.sl_link.specs.ManagedModel.{parameters_of}
+use Rattle.sl_link.specs.Deliver.Tm.{as_read, ended_in}
+use Rattle.sl_link.specs.Link.Managed.{Parameters, tm_format}
+use Rattle.sl_link.specs.Link.ManagedModel.{parameters_of}
 use Rattle.sl_tmflow.specs.Extraction.{ended_by}
-use Rattle.sl_link.proofs.HandedLemmas.{takes_all, why_refused, some_refused, counts_within, vc_fits}
-use Rattle.sl_link.proofs.ManagedLemmas.{managed_length}
+use Rattle.sl_link.proofs.lemmas.Deliver.Handed.{takes_all, counts_within, vc_fits}
+use Rattle.sl_link.proofs.lemmas.Link.Managed.{managed_length}
+use Rattle.sl_link.proofs.lemmas.Link.Fault.{memory_refused, never_failed, wanted_or_some}
 use Rattle.sl_link.proofs.normalise.tm.deliver_frame.Goals as goal
 
 pub returns-in-Ok-frame-clause-processed : goal.returns-in-Ok-frame-clause-processed
@@ -35,19 +36,19 @@ returns-in-Ok-frame-clause-within c =
     let same = ap (λ r. length (without_idle (ended_in views r)) + length (only_idle (ended_in views r))) seen in
     omega (arith, all, due, idle, same)
 
-pub store_fault-requires : goal.store_fault-requires
-store_fault-requires c =
-    let ne : c.in-Err-Sink.field-0 ≢ Failed = search rules in
-    let stopped = (c.in-Err-Sink.ensures.stopped ne).1 c.requires.working.0 c.requires.working.1 in
-    why_refused _ _ _ (λ old channel packet fault new fails. fails.0) _ _ _ _ _ _ c.in-Err-Sink.field-0-is stopped
+pub returns-in-Err-frame-clause-fault : goal.returns-in-Err-frame-clause-fault
+returns-in-Err-frame-clause-fault c =
+    let is : c.frame.result ≡ Err c.in-Err-frame.fault = search rules in
+    let working = c.requires.working in
+    let ne : c.in-Err-frame.fault ≢ Failed = never_failed c.args.extractor.now.has_failed c.frame.result c.in-Err-frame.fault is (λ e. (c.frame.ensures.left e).0) working.1.working in
+    c.of_flow.ensures ∙ memory_refused _ _ (λ old channel packet fault new fails. fails.0) _ _ _ _ c.in-Err-frame.fault ne
+    ((c.in-Err-frame.ensures.stopped ne).1 working.0 working.1)
 
-pub returns-in-Err-Memory-clause-memory : goal.returns-in-Err-Memory-clause-memory
-returns-in-Err-Memory-clause-memory c =
+pub returns-in-Err-frame-clause-memory : goal.returns-in-Err-frame-clause-memory
+returns-in-Err-frame-clause-memory c =
     let seen : as_read c.args.managed.now c.args.frame.now ≡ Ok c.in-Ok.view = search rules in
-    λ views h. rw (seen) (inl (c.in-Err-Memory.ensures.memory c.in-Err-Memory.field-0-is views h))
-
-pub returns-in-Err-Sink-clause-memory : goal.returns-in-Err-Sink-clause-memory
-returns-in-Err-Sink-clause-memory c =
-    let seen : as_read c.args.managed.now c.args.frame.now ≡ Ok c.in-Ok.view = search rules in
-    let ne : c.in-Err-Sink.field-0 ≢ Failed = search rules in
-    λ views h. rw (seen) (inr (some_refused _ _ _ _ _ _ _ _ c.in-Err-Sink.field-0-is ((c.in-Err-Sink.ensures.stopped ne).1 views h)))
+    let is : c.frame.result ≡ Err c.in-Err-frame.fault = search rules in
+    let working = c.requires.working in
+    let ne : c.in-Err-frame.fault ≢ Failed = never_failed c.args.extractor.now.has_failed c.frame.result c.in-Err-frame.fault is (λ e. (c.frame.ensures.left e).0) working.1.working in
+    λ views processed. rw (seen) (wanted_or_some _ _ _ _ _ _ c.in-Err-frame.fault ne ((c.in-Err-frame.ensures.stopped ne).1 views processed)
+    (λ e. c.in-Err-frame.ensures.memory e views processed))

@@ -1,8 +1,8 @@
 use Rattle.std.proofs.Common.{◌++◌, ◌∷◌, [], sym, subst}
-use Rattle.sl_link.specs.Managed.{Parameters}
-use Rattle.sl_link.specs.Streams.{AddsText}
-use Rattle.sl_link.specs.Verb.{StopsListingFrames}
-use Rattle.sl_link.proofs.ListerLemmas.{both_ok, one_err, frame_added, frame_stopped}
+use Rattle.sl_link.specs.Link.Managed.{Parameters}
+use Rattle.sl_link.specs.Io.Streams.{AddsText}
+use Rattle.sl_link.specs.Verbs.Listing.{StopsListingFrames}
+use Rattle.sl_link.proofs.lemmas.Verbs.Lister.{both_ok, one_err, frame_added, frame_stopped}
 use Rattle.sl_link.proofs.verbs.ListerFrameSink.frame.Goals as goal
 
 pub returns-clause-taken : goal.returns-clause-taken

@@ -1,4 +1,4 @@
-use Rattle.sl_link.proofs.ListerLemmas.{both_ok, one_err, flushed, flush_stopped}
+use Rattle.sl_link.proofs.lemmas.Verbs.Lister.{both_ok, one_err, flushed, flush_stopped}
 use Rattle.sl_link.proofs.verbs.ListerFrameSink.pause.Goals as goal
 
 pub returns-clause-taken : goal.returns-clause-taken

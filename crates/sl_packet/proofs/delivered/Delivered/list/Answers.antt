@@ -2,7 +2,7 @@ use Rattle.std.proofs.Common.{[], arith}
 use Rattle.std.proofs.lemmas.List.{get_or_past}
 use Rattle.sl_packet.specs.KeptLists.{with_empty_lists}
 use Rattle.sl_packet.proofs.PaddedLemmas.{length-with_empty_lists}
-use Rattle.sl_packet.proofs.KeptLemmas.{kept_at, none_at, due_at}
+use Rattle.sl_packet.proofs.KeptLemmas.{kept_at, none_at, due_at, all_due}
 use Rattle.sl_packet.proofs.delivered.Delivered.list.Goals as goal
 
 pub returns-in-Some-clause-packets : goal.returns-in-Some-clause-packets
@@ -30,3 +30,9 @@ returns-in-None-clause-none_above c above = rw (← c.self.view_is) (get_or_past
 
 pub returns-in-None-clause-channels : goal.returns-in-None-clause-channels
 returns-in-None-clause-channels c = rw (← c.self.view_is) (length-with_empty_lists _)
+
+pub returns-in-Some-clause-each_deliverable : goal.returns-in-Some-clause-each_deliverable
+returns-in-Some-clause-each_deliverable c = rw (← c.self.view_is) (all_due _ c.self.invariant.deliverable)
+
+pub returns-in-None-clause-each_deliverable : goal.returns-in-None-clause-each_deliverable
+returns-in-None-clause-each_deliverable c = rw (← c.self.view_is) (all_due _ c.self.invariant.deliverable)

@@ -1,6 +1,6 @@
 use Rattle.std.proofs.Common.{refl}
-use Rattle.sl_link.proofs.AnswerLemmas.{both_some, none_then}
-use Rattle.sl_link.proofs.TcPassLemmas.{cuts, cuts_none, waits_next}
+use Rattle.sl_link.proofs.lemmas.Link.Answers.{both_some, none_then}
+use Rattle.sl_link.proofs.lemmas.Pass.Tc.{cuts, cuts_none, waits_next}
 use Rattle.sl_link.proofs.pass.tc.TcFramerFramer.next_frame.Goals as goal
 
 pub returns : goal.returns

@@ -1,4 +1,4 @@
-use Rattle.sl_link.proofs.StreamLemmas.{AddsText-more}
+use Rattle.sl_link.proofs.lemmas.Io.Streams.{AddsText-more}
 use Rattle.sl_link.proofs.verbs.check.tc.check_frame.Goals as goal
 
 pub returns-clause-lines : goal.returns-clause-lines

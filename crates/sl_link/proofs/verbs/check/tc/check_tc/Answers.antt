@@ -1,7 +1,7 @@
 use Rattle.std.proofs.Common.{[], subst}
 use Rattle.sl_tcflow.specs.Receiving.{HasProcessed}
-use Rattle.sl_link.specs.Managed.{Parameters}
-use Rattle.sl_link.proofs.TcDeliverLemmas.{none_delivered}
+use Rattle.sl_link.specs.Link.Managed.{Parameters}
+use Rattle.sl_link.proofs.lemmas.Deliver.Tc.{none_delivered}
 use Rattle.sl_link.proofs.verbs.check.tc.check_tc.Goals as goal
 
 pub list-requires-clause-begun : goal.list-requires-clause-begun

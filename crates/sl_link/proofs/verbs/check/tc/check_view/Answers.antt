@@ -1,14 +1,20 @@
-use Rattle.std.proofs.Common.{rules, ◌≢◌}
-use Rattle.sl_packet.specs.declared.flow_fault.FlowFault.TheVariants.{Failed}
-use Rattle.sl_link.proofs.PrinterLemmas.{never_refused}
+use Rattle.std.proofs.Common.{rules, ◌≡◌, ◌≢◌, ◌∙◌, ap, Err}
+use Rattle.sl_packet.specs.declared.flow_fault.FlowFault.TheVariants.{Failed, Memory}
+use Rattle.sl_link.specs.Link.Fault.{flow_fault}
+use Rattle.sl_link.proofs.lemmas.Link.Fault.{memory_alone, never_failed}
 use Rattle.sl_link.proofs.verbs.check.tc.check_view.Goals as goal
 
-pub unreachable-requires : goal.unreachable-requires
-unreachable-requires c =
-    let ne : c.in-Err-Sink.field-0 ≢ Failed = search rules in
+pub returns-in-Err-clause-fault : goal.returns-in-Err-clause-fault
+returns-in-Err-clause-fault c =
+    let is : c.frame.result ≡ Err c.in-Err.fault = search rules in
     let working = c.requires.working in
-    let stopped = ((c.in-Err-Sink.ensures.stopped ne).1 working.0 working.1 working.2 working.3).1 in
-    absurd (never_refused _ _ _ _ _ _ _ _ c.in-Err-Sink.field-0-is stopped)
+    let ne : c.in-Err.fault ≢ Failed = never_failed c.args.receiver.now.has_failed c.frame.result c.in-Err.fault is (λ e. (c.frame.ensures.left e).0) working.3.working in
+    c.of_flow.ensures ∙ ap flow_fault (memory_alone _ _ _ _ _ _ c.in-Err.fault ne (((c.in-Err.ensures.stopped ne).1 working.0 working.1 working.2 working.3).1))
 
-pub returns-in-Err-Memory-clause-memory : goal.returns-in-Err-Memory-clause-memory
-returns-in-Err-Memory-clause-memory c = λ w vr views processed. c.in-Err-Memory.ensures.memory c.in-Err-Memory.field-0-is w vr views processed
+pub returns-in-Err-clause-memory : goal.returns-in-Err-clause-memory
+returns-in-Err-clause-memory c =
+    let is : c.frame.result ≡ Err c.in-Err.fault = search rules in
+    let working = c.requires.working in
+    let ne : c.in-Err.fault ≢ Failed = never_failed c.args.receiver.now.has_failed c.frame.result c.in-Err.fault is (λ e. (c.frame.ensures.left e).0) working.3.working in
+    let only : c.in-Err.fault ≡ Memory = memory_alone _ _ _ _ _ _ c.in-Err.fault ne (((c.in-Err.ensures.stopped ne).1 working.0 working.1 working.2 working.3).1) in
+    λ w vr views processed. c.in-Err.ensures.memory only w vr views processed

@@ -1,7 +1,7 @@
 use Rattle.std.proofs.Common.{◌≡◌, ◌≤◌, arith}
 use Rattle.std.proofs.lemmas.Result.{err_from_is_err_and}
 use Rattle.sl_packet.specs.Delivered.{channel_count}
-use Rattle.sl_link.proofs.TcIncompleteLineLemmas.{all_listed, listing_stops, next_listed, none_listed}
+use Rattle.sl_link.proofs.lemmas.Verbs.Check.IncompleteTc.{all_listed, listing_stops, next_listed, none_listed}
 use Rattle.sl_link.proofs.verbs.check.tc.incomplete_lines.Goals as goal
 
 pub loop-channel-init : goal.loop-channel-init

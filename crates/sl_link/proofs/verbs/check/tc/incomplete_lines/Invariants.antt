@@ -1,5 +1,5 @@
 use Rattle.std.proofs.Common.{◌≤◌}
-use Rattle.sl_link.proofs.TcIncompleteLineLemmas.{HasListedOpen}
+use Rattle.sl_link.proofs.lemmas.Verbs.Check.IncompleteTc.{HasListedOpen}
 use Rattle.sl_link.proofs.verbs.check.tc.incomplete_lines.Given as goal
 
 abbrev pub invariant-loop-channel : goal.invariant-loop-channel

@@ -1,6 +1,6 @@
 use Rattle.std.proofs.Common.{◌≡◌, ◌++◌, ◌∙◌, arith, ap, length}
 use Rattle.std.specs.List.{concat}
-use Rattle.sl_link.proofs.IncompleteLineLemmas.{incomplete_to, none_held, held_next}
+use Rattle.sl_link.proofs.lemmas.Verbs.Check.IncompleteTm.{incomplete_to, none_held, held_next}
 use Rattle.sl_link.proofs.verbs.check.tm.incomplete_lines.Goals as goal
 
 pub loop-vc-init : goal.loop-vc-init

@@ -1,5 +1,5 @@
 use Rattle.std.proofs.Common.{◌+◌, ◌*◌, ◌≤◌, length}
-use Rattle.sl_link.proofs.IncompleteLineLemmas.{HasListedHeld}
+use Rattle.sl_link.proofs.lemmas.Verbs.Check.IncompleteTm.{HasListedHeld}
 use Rattle.sl_link.proofs.verbs.check.tm.incomplete_lines.Given as goal
 
 abbrev pub invariant-loop-vc : goal.invariant-loop-vc

@@ -1,11 +1,11 @@
 use Rattle.std.proofs.Common.{rules, ◌≡◌, ◌+◌, ◌≤◌, arith, length, Ok, ap}
 use Rattle.sl_packet.specs.Packets.{without_idle, only_idle}
 use Rattle.std.proofs.lemmas.Result.{err_from_is_err_and}
-use Rattle.sl_link.specs.Deliver.{as_read, ended_in}
-use Rattle.sl_link.specs.Managed.{Parameters, tm_format}
-use Rattle.sl_link.specs.ManagedModel.{parameters_of}
-use Rattle.sl_link.proofs.HandedLemmas.{counts_within}
-use Rattle.sl_link.proofs.ManagedLemmas.{managed_length}
+use Rattle.sl_link.specs.Deliver.Tm.{as_read, ended_in}
+use Rattle.sl_link.specs.Link.Managed.{Parameters, tm_format}
+use Rattle.sl_link.specs.Link.ManagedModel.{parameters_of}
+use Rattle.sl_link.proofs.lemmas.Deliver.Handed.{counts_within}
+use Rattle.sl_link.proofs.lemmas.Link.Managed.{managed_length}
 use Rattle.sl_link.proofs.verbs.check.tm.read_frame.Goals as goal
 
 pub returns-clause-processed : goal.returns-clause-processed

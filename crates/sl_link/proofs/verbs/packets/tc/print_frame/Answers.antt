@@ -1,7 +1,7 @@
 use Rattle.std.proofs.Common.{rules, ◌≡◌, Ok, Err}
 use Rattle.std.proofs.lemmas.Result.{err_from_is_err_and}
-use Rattle.sl_link.specs.DeliverTc.{as_read}
-use Rattle.sl_link.proofs.StreamLemmas.{AddsText-nil}
+use Rattle.sl_link.specs.Deliver.Tc.{as_read}
+use Rattle.sl_link.proofs.lemmas.Io.Streams.{AddsText-nil}
 use Rattle.sl_link.proofs.verbs.packets.tc.print_frame.Goals as goal
 
 pub returns-clause-processed : goal.returns-clause-processed

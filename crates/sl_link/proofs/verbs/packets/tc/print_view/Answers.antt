@@ -1,37 +1,29 @@
-use Rattle.std.proofs.Common.{rules, ◌≢◌}
-use Rattle.sl_packet.specs.declared.flow_fault.FlowFault.TheVariants.{Failed}
+use Rattle.std.proofs.Common.{rules, ◌≡◌, ◌≢◌, ◌∙◌, sym, Err}
+use Rattle.sl_packet.specs.declared.flow_fault.FlowFault.TheVariants.{Failed, Memory}
 use Rattle.sl_packet.specs.Packets.{without_idle}
 use Rattle.sl_tcflow.specs.Receiving.{ended_by}
-use Rattle.sl_link.proofs.PrinterLemmas.{all_printed, some_of, some_printed, stopped_of, stopped_printing}
-use Rattle.sl_link.proofs.TcPrintLemmas.{unit_lines}
+use Rattle.sl_link.proofs.lemmas.Link.Fault.{never_failed}
+use Rattle.sl_link.proofs.lemmas.Verbs.Packets.Printer.{all_printed, memory_stops, stops_printing}
+use Rattle.sl_link.proofs.lemmas.Verbs.Packets.PrinterTc.{unit_lines}
 use Rattle.sl_link.proofs.verbs.packets.tc.print_view.Goals as goal
-
-pub printing_fault-requires : goal.printing_fault-requires
-printing_fault-requires g c =
-    let ne : c.in-Err-Sink.field-0 ≢ Failed = search rules in
-    let working = c.requires.working in
-    let stopped = ((c.in-Err-Sink.ensures.stopped ne).1 working.0 working.1 working.2 working.3).1 in
-    (stopped_of g.W.Write.contents _ _ _ c.frame.new.sink _ _ c.in-Err-Sink.fault c.in-Err-Sink.field-0-is stopped).fails.0
 
 pub returns-in-Ok-clause-lines : goal.returns-in-Ok-clause-lines
 returns-in-Ok-clause-lines g c = λ w vr views processed.
     all_printed g.W.Write.contents _ _ c.frame.new.sink _ _ (search rules) _ (search rules) (c.in-Ok.ensures.accepted w vr views processed)
     _ (unit_lines c.args.view.now (without_idle (ended_by w vr views c.args.view.now)))
 
-pub returns-in-Err-Memory-clause-fault : goal.returns-in-Err-Memory-clause-fault
-returns-in-Err-Memory-clause-fault g c = λ w vr views processed.
-    let ne : c.in-Err-Memory.field-0 ≢ Failed = search rules in
-    let stopped = ((c.in-Err-Memory.ensures.stopped ne).1 w vr views processed).1 in
-    some_printed g.W.Write.contents _ _ c.frame.new.sink _ _ (search rules) (some_of g.W.Write.contents _ _ _ c.frame.new.sink _ _ c.in-Err-Memory.field-0-is stopped)
-    _ (unit_lines c.args.view.now (without_idle (ended_by w vr views c.args.view.now)))
+pub returns-in-Err-clause-fault : goal.returns-in-Err-clause-fault
+returns-in-Err-clause-fault g c =
+    let is : c.frame.result ≡ Err c.in-Err.fault = search rules in
+    let working = c.requires.working in
+    let ne : c.in-Err.fault ≢ Failed = never_failed c.args.receiver.now.has_failed c.frame.result c.in-Err.fault is (λ e. (c.frame.ensures.left e).0) working.3.working in
+    λ w vr views processed. rw (c.of_flow.ensures) (stops_printing g.W.Write.contents _ _ c.frame.new.sink _ _ (search rules) _ c.in-Err.fault ne
+    (((c.in-Err.ensures.stopped ne).1 w vr views processed).1) _ (unit_lines c.args.view.now (without_idle (ended_by w vr views c.args.view.now))))
 
-pub returns-in-Err-Sink-clause-fault : goal.returns-in-Err-Sink-clause-fault
-returns-in-Err-Sink-clause-fault g c = λ w vr views processed.
-    let ne : c.in-Err-Sink.field-0 ≢ Failed = search rules in
-    let stopped = ((c.in-Err-Sink.ensures.stopped ne).1 w vr views processed).1 in
-    rw (c.printing_fault.ensures) (stopped_printing g.W.Write.contents _ _ c.frame.new.sink _ _ (search rules) c.in-Err-Sink.fault
-    (stopped_of g.W.Write.contents _ _ _ c.frame.new.sink _ _ c.in-Err-Sink.fault c.in-Err-Sink.field-0-is stopped)
-    _ (unit_lines c.args.view.now (without_idle (ended_by w vr views c.args.view.now))))
-
-pub returns-in-Err-Memory-clause-memory : goal.returns-in-Err-Memory-clause-memory
-returns-in-Err-Memory-clause-memory g c = λ e w vr views processed. c.in-Err-Memory.ensures.memory c.in-Err-Memory.field-0-is w vr views processed
+pub returns-in-Err-clause-memory : goal.returns-in-Err-clause-memory
+returns-in-Err-clause-memory g c = λ e w vr views processed.
+    let is : c.frame.result ≡ Err c.in-Err.fault = search rules in
+    let working = c.requires.working in
+    let ne : c.in-Err.fault ≢ Failed = never_failed c.args.receiver.now.has_failed c.frame.result c.in-Err.fault is (λ e. (c.frame.ensures.left e).0) working.3.working in
+    let only : c.in-Err.fault ≡ Memory = memory_stops g.W.Write.contents _ _ _ c.frame.new.sink _ c.in-Err.fault ne (((c.in-Err.ensures.stopped ne).1 w vr views processed).1) (sym c.of_flow.ensures ∙ e) in
+    c.in-Err.ensures.memory only w vr views processed

@@ -1,10 +1,10 @@
 use Rattle.std.proofs.Common.{◌≤◌, ◌++◌, ◌∙◌, ap, ap₂, arith, length, subst}
 use Rattle.std.specs.List.{concat}
 use Rattle.std.proofs.lemmas.Result.{err_from_is_err_and}
-use Rattle.sl_link.specs.Amiss.{totals_line}
-use Rattle.sl_link.specs.Streams.{AddsText}
-use Rattle.sl_link.proofs.ShowTmLemmas.{stops_before}
-use Rattle.sl_link.proofs.TcCheckEndLemmas.{all_counted, end_is, has_room, more_added, stops_among}
+use Rattle.sl_link.specs.Verbs.Check.Lines.{totals_line}
+use Rattle.sl_link.specs.Io.Streams.{AddsText}
+use Rattle.sl_link.proofs.lemmas.Verbs.Show.Tm.{stops_before}
+use Rattle.sl_link.proofs.lemmas.Verbs.Check.EndTc.{all_counted, end_is, has_room, more_added, stops_among}
 use Rattle.sl_link.proofs.verbs.check.tc.CheckTcVerb.finish.Goals as goal
 
 pub check_end-requires-clause-room : goal.check_end-requires-clause-room

@@ -2,14 +2,14 @@ use Rattle.std.proofs.Common.{◌+◌, ◌++◌, ◌∷◌, ◌∙◌, [], ap, s
 use Rattle.std.specs.List.{concat}
 use Rattle.std.proofs.lemmas.Result.{err_from_is_err_and}
 use Rattle.sl_tcflow.specs.AcceptedUnit.{views_of}
-use Rattle.sl_link.specs.CheckTc.{tc_amiss_after}
-use Rattle.sl_link.specs.Managed.{tc_format}
-use Rattle.sl_link.specs.PacketsTc.{WantsMemoryTc}
-use Rattle.sl_link.specs.Streams.{AddsText}
-use Rattle.sl_link.proofs.TcCheckEndLemmas.{amiss_is, checked_more, stops_before_lines}
-use Rattle.sl_link.proofs.TcCheckLemmas.{few_lines}
-use Rattle.sl_link.proofs.TcDeliverLemmas.{counted_fits, delivered_more, wants_memory}
-use Rattle.sl_link.proofs.TcListingLemmas.{counted_next}
+use Rattle.sl_link.specs.Verbs.Check.Tc.{tc_amiss_after}
+use Rattle.sl_link.specs.Link.Managed.{tc_format}
+use Rattle.sl_link.specs.Verbs.Packets.Tc.{WantsMemoryTc}
+use Rattle.sl_link.specs.Io.Streams.{AddsText}
+use Rattle.sl_link.proofs.lemmas.Verbs.Check.EndTc.{amiss_is, checked_more, stops_before_lines}
+use Rattle.sl_link.proofs.lemmas.Verbs.Check.FewTc.{few_lines}
+use Rattle.sl_link.proofs.lemmas.Deliver.Tc.{counted_fits, delivered_more, wants_memory}
+use Rattle.sl_link.proofs.lemmas.Verbs.Show.CountedTc.{counted_next}
 use Rattle.sl_link.proofs.verbs.check.tc.CheckTcVerb.frame.Goals as goal
 
 pub check_frame-requires-clause-working : goal.check_frame-requires-clause-working
@@ -25,7 +25,7 @@ pub add-requires-clause-few : goal.add-requires-clause-few
 add-requires-clause-few g c =
     let p = c.args.managed.now in
     let tells = c.in_ok-met.ensures.counts _ _ _ c.requires.1.delivered.processed in
-    let few = few_lines p c.args.frame.now c.args.self.now.so_far.delivery.tally.octets (views_of (tc_format p) p.spacecraft c.requires.0) c.requires.2 in
+    let few = few_lines p c.args.frame.now c.args.self.now.so_far.octets (views_of (tc_format p) p.spacecraft c.requires.0) c.requires.2 in
     omega (arith, tells.anomalies, few)
 
 pub returns-in_err-met-clause-fault : goal.returns-in_err-met-clause-fault
@@ -50,7 +50,7 @@ returns-clause-has_listed g c = λ before h.
     checked_more p before c.args.frame.now _ _ _ _ h
     (delivered_more p before c.args.frame.now _ _ _ _ d (c.in_ok-met.ensures.processed _ _ _ d.processed)
     (counted_next p _ _ before c.args.frame.now c.add.ensures.octets c.add.ensures.frames
-    (c.add.ensures.skipped ∙ ap (λ (b : Bool). old.delivery.tally.skipped + (if◌then◌else◌ {A = ℕ} b 1 0)) tells.skipped) d.counted)
-    (c.add.ensures.packets ∙ ap (λ n. old.delivery.packets + n) tells.packets)
-    (c.add.ensures.idle ∙ ap (λ n. old.delivery.idle + n) tells.idle))
+    (c.add.ensures.skipped ∙ ap (λ (b : Bool). old.skipped + (if◌then◌else◌ {A = ℕ} b 1 0)) tells.skipped) d.counted)
+    (c.add.ensures.packets ∙ ap (λ n. old.packets + n) tells.packets)
+    (c.add.ensures.idle ∙ ap (λ n. old.idle + n) tells.idle))
     (c.add.ensures.anomalies ∙ ap (λ n. old.anomalies + n) (tells.anomalies ∙ ap length (amiss_is p before c.args.frame.now _ _ h)))

@@ -1,9 +1,9 @@
 use Rattle.std.proofs.Common.{◌≤◌, ◌++◌, ◌∙◌, ap, ap₂, arith, length}
 use Rattle.std.specs.List.{concat}
 use Rattle.std.proofs.lemmas.Result.{err_from_is_err_and}
-use Rattle.sl_link.specs.Amiss.{totals_line}
-use Rattle.sl_link.proofs.CheckEndLemmas.{all_counted, end_is, flushed_and, has_room}
-use Rattle.sl_link.proofs.ShowTmLemmas.{stops_before}
+use Rattle.sl_link.specs.Verbs.Check.Lines.{totals_line}
+use Rattle.sl_link.proofs.lemmas.Verbs.Check.EndTm.{all_counted, end_is, flushed_and, has_room}
+use Rattle.sl_link.proofs.lemmas.Verbs.Show.Tm.{stops_before}
 use Rattle.sl_link.proofs.verbs.check.tm.CheckTmVerb.finish.Goals as goal
 
 pub check_end-totals-requires-clause-room : goal.check_end-totals-requires-clause-room

@@ -1,12 +1,12 @@
 use Rattle.std.proofs.Common.{◌+◌, ◌∙◌, ap, subst, arith, Bool, ℕ, if◌then◌else◌, length, [], refl}
 use Rattle.std.specs.List.{concat}
 use Rattle.std.proofs.lemmas.Result.{err_from_is_err_and}
-use Rattle.sl_link.specs.Streams.{AddsText}
-use Rattle.sl_link.proofs.AddingLemmas.{stops_waiting}
-use Rattle.sl_link.proofs.CheckEndLemmas.{amiss_is, checked_more}
-use Rattle.sl_link.proofs.DeliveringTmLemmas.{delivered_more, wants_memory}
-use Rattle.sl_link.proofs.ShowTmLemmas.{counted_more}
-use Rattle.sl_link.proofs.StreamLemmas.{AddsText-nil}
+use Rattle.sl_link.specs.Io.Streams.{AddsText}
+use Rattle.sl_link.proofs.lemmas.Io.Adding.{stops_waiting}
+use Rattle.sl_link.proofs.lemmas.Verbs.Check.EndTm.{amiss_is, checked_more}
+use Rattle.sl_link.proofs.lemmas.Deliver.DeliveringTm.{delivered_more, wants_memory}
+use Rattle.sl_link.proofs.lemmas.Verbs.Show.Tm.{counted_more}
+use Rattle.sl_link.proofs.lemmas.Io.Streams.{AddsText-nil}
 use Rattle.sl_link.proofs.verbs.check.tm.CheckTmVerb.frame.Goals as goal
 
 pub returns-in_err-met-clause-fault : goal.returns-in_err-met-clause-fault
@@ -32,8 +32,8 @@ returns-clause-has_listed g c = λ before h.
     checked_more p before c.args.frame.now _ _ _ _ h
     (delivered_more p before c.args.frame.now _ _ _ _ d (c.in_ok-met.ensures.processed _ d.processed)
     (counted_more p before c.args.frame.now _ _ d.counted c.add.ensures.octets c.add.ensures.frames
-    (c.add.ensures.skipped ∙ ap (λ (b : Bool). old.delivery.tally.skipped + (if◌then◌else◌ {A = ℕ} b 1 0)) tells.skipped))
-    (c.add.ensures.packets ∙ ap (λ n. old.delivery.packets + n) tells.packets)
-    (c.add.ensures.idle ∙ ap (λ n. old.delivery.idle + n) tells.idle))
+    (c.add.ensures.skipped ∙ ap (λ (b : Bool). old.skipped + (if◌then◌else◌ {A = ℕ} b 1 0)) tells.skipped))
+    (c.add.ensures.packets ∙ ap (λ n. old.packets + n) tells.packets)
+    (c.add.ensures.idle ∙ ap (λ n. old.idle + n) tells.idle))
     (c.add.ensures.anomalies ∙ ap (λ n. old.anomalies + n) (tells.anomalies ∙ ap length (amiss_is p before c.args.frame.now _ _ h)))
     (omega (arith, h.room, c.in_ok-met.ensures.few, c.add.ensures.anomalies, c.add.ensures.frames, c.add.ensures.octets))

@@ -1,0 +1,5 @@
+pub mod DeliveringTm
+pub mod Handed
+pub mod Lists
+pub mod Tc
+pub mod Tm

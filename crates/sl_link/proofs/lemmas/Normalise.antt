@@ -1,0 +1,7 @@
+pub mod Form
+pub mod FormTc
+pub mod Separation
+pub mod Storing
+pub mod StoringTc
+pub mod StoringTm
+pub mod Whole

@@ -1,0 +1,4 @@
+pub mod Handing
+pub mod Reading
+pub mod Tc
+pub mod Tm

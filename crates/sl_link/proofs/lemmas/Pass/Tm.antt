@@ -1,0 +1,35 @@
+-- What a framer of TM frames has taken, and what came after the last frame.
+use Rattle.std.proofs.Common.{◌≡◌, ℕ, List, [], ◌++◌, length, Option, None, Some, sym, ◌∙◌, ap, arith, length-append}
+use Rattle.std.specs.Prelude.{IfNone}
+use Rattle.std.specs.Borrow.{Bor}
+use Rattle.sl_tmframe.specs.TmFraming.{HasTaken, TmFraming, UsesUpChunk, YieldsFrame}
+use Rattle.sl_tmframe.proofs.DelimitedLemmas.{frames_of-short}
+use Rattle.sl_link.specs.Link.Managed.{Parameters}
+use Rattle.sl_link.specs.Pass.{CutsFrame, WaitsAfter}
+use Rattle.sl_link.specs.Pass.Tm.{TmWaits, is_tm_frame, tm_frames}
+
+module _ (f : TmFraming) (p : Parameters) (rest chunk left : List ℕ) (w : TmWaits f p rest) where
+  pub cuts : (frame : List ℕ) → YieldsFrame f chunk frame left → CutsFrame (is_tm_frame p) rest chunk left frame
+  cuts frame y = record {
+    parts = ap (λ l. l ++ chunk) (sym w.rest_is) ∙ y.parts;
+    some = omega (arith, w.short, w.len, y.whole, ap length w.rest_is, ap length y.parts, length-append f.rest chunk, length-append frame left);
+    whole = (omega (arith, w.short), y.whole ∙ w.len);
+  }
+
+  pub cuts_none : UsesUpChunk f chunk left → tm_frames p (rest ++ chunk) ≡ []
+  cuts_none u =
+      frames_of-short p.tm_length (rest ++ chunk)
+      (omega (arith, u.short, w.len, ap length w.rest_is, length-append f.rest chunk, length-append rest chunk))
+
+  pub waits_next : (new : TmFraming) (answer : Option (Bor (List ℕ))) → HasTaken f chunk answer new → IfNone answer (UsesUpChunk f chunk left)
+      → WaitsAfter TmWaits new p rest chunk answer
+  waits_next new None taken u = record {
+    len = ap (λ (g : TmFraming). g.len) taken ∙ w.len;
+    rest_is = ap (λ (g : TmFraming). g.rest) taken ∙ ap (λ l. l ++ chunk) w.rest_is;
+    short = omega (arith, u.short, w.len, ap length w.rest_is, length-append f.rest chunk, length-append rest chunk);
+  }
+  waits_next new (Some frame) taken u = record {
+    len = ap (λ (g : TmFraming). g.len) taken ∙ w.len;
+    rest_is = ap (λ (g : TmFraming). g.rest) taken;
+    short = omega (arith, w.short);
+  }

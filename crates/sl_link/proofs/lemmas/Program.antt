@@ -1,0 +1,9 @@
+pub mod CommandLine
+pub mod Parse
+pub mod Place
+pub mod Request
+pub mod Rows
+pub mod Run
+pub mod SameWalk
+pub mod Verb
+pub mod Walk

@@ -1,0 +1,6 @@
+pub mod EndTc
+pub mod EndTm
+pub mod FewTc
+pub mod IncompleteTc
+pub mod IncompleteTm
+pub mod Lines

@@ -1,0 +1,5 @@
+pub mod Channels
+pub mod Listed
+pub mod Octets
+pub mod Printer
+pub mod PrinterTc

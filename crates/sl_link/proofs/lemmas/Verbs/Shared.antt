@@ -1,0 +1,33 @@
+-- What listings share: skipped frames, and faults.
+use Rattle.std.proofs.Common.{◌≡◌, ℕ, ◌+◌, ◌≤◌, List, [], ◌∷◌, ◌++◌, length, Option, if◌then◌else◌, sym, ◌∙◌, ap, subst, arith, append_assoc, inl, inr}
+use Rattle.std.specs.Prelude.{is_err}
+use Rattle.sl_link.specs.declared.link.counted.Counted.{Counted}
+use Rattle.sl_link.specs.declared.link.fault.LinkFault.{LinkFault}
+use Rattle.sl_link.specs.declared.link.fault.LinkFault.TheVariants.{Write}
+use Rattle.sl_link.specs.Link.Counted.{faults_of, HasFailed}
+use Rattle.sl_link.specs.Verbs.Show.Tm.{tm_skipped_of}
+use Rattle.sl_link.specs.Io.Streams.{IsCaused}
+use Rattle.sl_tmframe.specs.TmFrame.{TmFormat, tm_frame}
+
+pub tm_skipped_of-append : (format : TmFormat) (spacecraft : ℕ) (xs ys : List (List ℕ)) → tm_skipped_of format spacecraft (xs ++ ys) ≡ tm_skipped_of format spacecraft xs + tm_skipped_of format spacecraft ys
+tm_skipped_of-append format spacecraft [] ys = omega arith
+tm_skipped_of-append format spacecraft (x ∷ xs) ys =
+    let here : ℕ = if is_err (tm_frame format spacecraft x) then 1 else 0 in
+    omega (arith, tm_skipped_of-append format spacecraft xs ys)
+
+-- a stream that had no fault before has failed since
+pub HasFailed-since : {T : Type 0} (old mid new : Counted T) → faults_of mid ≡ faults_of old → HasFailed mid new → HasFailed old new
+HasFailed-since old mid new e h =
+    elim h as (λ _. HasFailed old new) [ inl rose ↦ inl (rw (sym e) rose) | inr top ↦ inr top ]
+
+pub caused_writing : {R W : Type 0} (remaining : R → Option (List ℕ)) (contents : W → Option (List ℕ)) (reader reader' : Counted R) (writer mid writer' : Counted W) (octets : List ℕ) (greatest buffer : ℕ) (fault : LinkFault)
+    → fault ≡ Write → faults_of reader' ≡ faults_of reader → faults_of mid ≡ faults_of writer → HasFailed mid writer' → length octets ≤ greatest
+    → IsCaused remaining contents reader reader' writer writer' greatest buffer octets fault
+caused_writing remaining contents reader reader' writer mid writer' octets greatest buffer fault is_write other kept cause within =
+    subst (λ f. IsCaused remaining contents reader reader' writer writer' greatest buffer octets f) (sym is_write) (HasFailed-since writer mid writer' kept cause, other, within)
+
+-- a prefix of a line, and what follows the line
+pub split_front : (lines written missing after line : List ℕ) → written ++ missing ≡ line → (lines ++ written) ++ (missing ++ after) ≡ (lines ++ line) ++ after
+split_front lines written missing after line e =
+    append_assoc lines written (missing ++ after) ∙ ap (λ l. lines ++ l) (sym (append_assoc written missing after) ∙ ap (λ l. l ++ after) e)
+    ∙ sym (append_assoc lines line after)

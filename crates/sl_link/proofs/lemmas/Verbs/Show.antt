@@ -1,0 +1,4 @@
+pub mod CountedTc
+pub mod Farms
+pub mod Tc
+pub mod Tm

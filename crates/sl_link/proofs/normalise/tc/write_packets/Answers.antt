@@ -1,0 +1,23 @@
+use Rattle.std.proofs.Common.{refl}
+use Rattle.sl_link.specs.Link.ManagedModel.{parameters_of}
+use Rattle.sl_link.proofs.lemmas.Normalise.Form.{fewer_packets}
+use Rattle.sl_link.proofs.lemmas.Normalise.FormTc.{form_delivers, form_is, some_framed}
+use Rattle.sl_link.proofs.lemmas.Verbs.Lister.{one_err, one_ok}
+use Rattle.sl_link.proofs.normalise.tc.write_packets.Goals as goal
+
+pub returns-clause-written : goal.returns-clause-written
+returns-clause-written g c =
+    let is = form_is c.args.managed.now (parameters_of c.managed.inside) c.args.delivered.now.lists c.new-form.result c.new-form.ensures.all c.managed.view_is in
+    one_ok c.write_form.result c.write_form.ensures.written (λ written. rw (← is) (written c.new-form.result refl))
+
+pub returns-clause-delivers : goal.returns-clause-delivers
+returns-clause-delivers g c =
+    let is = form_is c.args.managed.now (parameters_of c.managed.inside) c.args.delivered.now.lists c.new-form.result c.new-form.ensures.all c.managed.view_is in
+    rw (← is) (form_delivers c.args.managed.now (parameters_of c.managed.inside) c.args.delivered.now.lists c.new-form.result c.new-form.ensures.delivers c.managed.view_is)
+
+pub returns-clause-fault : goal.returns-clause-fault
+returns-clause-fault g c =
+    let is = form_is c.args.managed.now (parameters_of c.managed.inside) c.args.delivered.now.lists c.new-form.result c.new-form.ensures.all c.managed.view_is in
+    one_err c.write_form.result c.write_form.ensures.fault (λ fault s.
+    fewer_packets g.W.Write.contents c.args.writer.now c.write_form.new.writer _ _ _ fault (some_framed c.args.delivered.now (parameters_of c.managed.inside) c.new-form.result c.new-form.ensures.all c.new-form.ensures.size)
+    (rw (← is) (s c.new-form.result refl)))

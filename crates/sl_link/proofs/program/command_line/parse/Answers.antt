@@ -1,0 +1,18 @@
+use Rattle.std.proofs.Common.{rules, map, string_bytes}
+use Rattle.sl_link.proofs.lemmas.Program.Parse.{error_kept, error_refused, gives_none, words_ask}
+use Rattle.sl_link.proofs.program.command_line.parse.Goals as goal
+
+pub returns-in_err-matches-clause-refused : goal.returns-in_err-matches-clause-refused
+returns-in_err-matches-clause-refused c =
+    let refused = error_refused (map string_bytes c.args.words.now) c.in_ok-command.command c.in_ok-command.ensures c.try_get_matches_from_mut.result c.in_err-matches.field-0.0 (search rules) c.try_get_matches_from_mut.ensures.kinds in
+    error_kept _ c.from_residual-in_err-matches.result c.in_err-matches.field-0.0 refused c.from_residual-in_err-matches.ensures.1
+
+pub unreachable-requires : goal.unreachable-requires
+unreachable-requires c =
+    gives_none (map string_bytes c.args.words.now) c.in_ok-command.command c.in_ok-command.ensures c.in_ok-matches.matches c.try_get_matches_from_mut.result (search rules)
+    c.try_get_matches_from_mut.ensures.kinds c.in_ok-matches.ensures.ok.2 c.in-None.ensures
+
+pub returns-clause-asked : goal.returns-clause-asked
+returns-clause-asked c =
+    words_ask (map string_bytes c.args.words.now) c.in_ok-command.command c.in_ok-command.ensures c.in_ok-matches.matches c.try_get_matches_from_mut.result (search rules)
+    c.try_get_matches_from_mut.ensures.kinds c.in_ok-matches.ensures.ok.2 c.in-Some.request c.in-Some.ensures

@@ -1,0 +1,4 @@
+-- What is written.
+pub mod Line
+pub mod Room
+pub mod Streams

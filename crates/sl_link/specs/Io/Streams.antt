@@ -1,0 +1,150 @@
+-- What an engine does to the octets that a reader has left and a writer holds, where those are known. Of
+-- a reader or a writer that doesn't tell its octets these words say nothing but the faults.
+use Rattle.std.specs.Prelude.{◌≡◌, ℕ, ◌+◌, ◌≤◌, ◌<◌, List, [], ◌++◌, length, take, Option}
+use Rattle.std.specs.Io.KnownBytes.{Consumes, IsAtEnd, Appends}
+use Rattle.sl_link.specs.declared.link.counted.Counted.{Counted}
+use Rattle.sl_link.specs.declared.link.fault.LinkFault.{LinkFault}
+use Rattle.sl_link.specs.declared.link.fault.LinkFault.TheVariants.{Read, TooLong, Memory, Write}
+use Rattle.sl_link.specs.Link.Counted.{stream_of, faults_of, HasFailed}
+use Rattle.sl_link.specs.Link.Totals.{Counts}
+
+module _ {R : Type 0} (remaining : R → Option (List ℕ)) where
+  -- these octets were read
+  abbrev pub Reads : Counted R → Counted R → List ℕ → Type 0
+  Reads old new octets = Consumes (remaining (stream_of old)) (remaining (stream_of new)) octets
+
+  -- none is left
+  abbrev pub IsRead : Counted R → Type 0
+  IsRead new = IsAtEnd (remaining (stream_of new))
+
+module _ {W : Type 0} (contents : W → Option (List ℕ)) where
+  -- this text was written
+  abbrev pub Writes : Counted W → Counted W → List ℕ → Type 0
+  Writes old new text = Appends (contents (stream_of old)) (contents (stream_of new)) text
+
+  -- a prefix of this text was written
+  pub record WritesPrefix (old new : Counted W) (text : List ℕ) : Type 0 where
+    pub written : List ℕ
+    pub missing : List ℕ
+    pub front : written ++ missing ≡ text
+    pub writes : Writes old new written
+
+-- ---- a buffer, and a text
+
+-- n octets came to the front of the buffer, none only where the input ended
+pub record ReadsSome {R : Type 0} (remaining : R → Option (List ℕ)) (old new : Counted R) (buffer : List ℕ) (limit n : ℕ) : Type 0 where
+  pub inside : n ≤ length buffer
+  pub allowed : n ≤ limit
+  pub read : Reads remaining old new (take n buffer)
+  pub to_end : n ≡ 0 → 0 < length buffer → IsRead remaining new
+  pub no_fault : faults_of new ≡ faults_of old
+
+-- the cause of a fault of reading is there
+abbrev pub IsReadFault : {R : Type 0} → Counted R → Counted R → ℕ → List ℕ → LinkFault → Type 0
+IsReadFault old new limit octets Read = HasFailed old new × (octets ≡ [])
+IsReadFault old new limit octets TooLong = (faults_of new ≡ faults_of old) × (limit < length octets)
+IsReadFault old new limit octets Memory = ⊥
+IsReadFault old new limit octets Write = ⊥
+
+-- octets came into the buffer, and then a fault
+pub record StopsReading {R : Type 0} (remaining : R → Option (List ℕ)) (old new : Counted R) (buffer : List ℕ) (limit : ℕ) (fault : LinkFault) : Type 0 where
+  pub octets : List ℕ
+  pub inside : length octets ≤ length buffer
+  pub read : Reads remaining old new octets
+  pub cause : IsReadFault old new limit octets fault
+
+-- all octets were read, no more than the limit
+pub record ReadsAll {R : Type 0} (remaining : R → Option (List ℕ)) (old new : Counted R) (limit : ℕ) (octets : List ℕ) : Type 0 where
+  pub within : length octets ≤ limit
+  pub read : Reads remaining old new octets
+  pub to_end : IsRead remaining new
+  pub no_fault : faults_of new ≡ faults_of old
+
+-- the cause of a fault of reading, or of keeping what was read, is there
+abbrev pub IsReadingAllFault : {R : Type 0} → Counted R → Counted R → ℕ → ℕ → List ℕ → LinkFault → Type 0
+IsReadingAllFault old new limit buffer octets Read = HasFailed old new × (length octets ≤ limit)
+IsReadingAllFault old new limit buffer octets TooLong =
+    (faults_of new ≡ faults_of old) × (limit < length octets) × (length octets ≤ limit + buffer)
+IsReadingAllFault old new limit buffer octets Memory = (faults_of new ≡ faults_of old) × (length octets ≤ limit)
+IsReadingAllFault old new limit buffer octets Write = ⊥
+
+-- octets were read, and then a fault came
+pub record StopsReadingAll {R : Type 0} (remaining : R → Option (List ℕ)) (old new : Counted R) (limit buffer : ℕ) (fault : LinkFault) : Type 0 where
+  pub octets : List ℕ
+  pub read : Reads remaining old new octets
+  pub cause : IsReadingAllFault old new limit buffer octets fault
+
+-- the text was written
+pub record WritesText {W : Type 0} (contents : W → Option (List ℕ)) (old new : Counted W) (text : List ℕ) : Type 0 where
+  pub writes : Writes contents old new text
+  pub no_fault : faults_of new ≡ faults_of old
+
+-- a text is added to what isn't written yet, some of which may be written for it
+pub record AddsText {W : Type 0} (contents : W → Option (List ℕ)) (old new : Counted W) (pending pending' text : List ℕ) : Type 0 where
+  pub written : List ℕ
+  pub parts : pending ++ text ≡ written ++ pending'
+  pub writes : Writes contents old new written
+  pub no_fault : faults_of new ≡ faults_of old
+
+-- a prefix of the text was written, and then the writer failed
+pub record StopsWriting {W : Type 0} (contents : W → Option (List ℕ)) (old new : Counted W) (text : List ℕ) (fault : LinkFault) : Type 0 where
+  pub front : WritesPrefix contents old new text
+  pub is_write : fault ≡ Write
+  pub cause : HasFailed old new
+
+-- the cause of a fault of writing, or of keeping what is to be written, is there
+abbrev pub IsListingFault : {W : Type 0} → Counted W → Counted W → LinkFault → Type 0
+IsListingFault old new Read = ⊥
+IsListingFault old new TooLong = ⊥
+IsListingFault old new Memory = faults_of new ≡ faults_of old
+IsListingFault old new Write = HasFailed old new
+
+-- a prefix of the text was written, and then memory was refused or the writer failed
+pub record StopsListing {W : Type 0} (contents : W → Option (List ℕ)) (old new : Counted W) (text : List ℕ) (fault : LinkFault) : Type 0 where
+  pub front : WritesPrefix contents old new text
+  pub cause : IsListingFault old new fault
+
+-- ---- a whole engine, over its reader and its writer before and after the call
+
+module _ {R W : Type 0} (remaining : R → Option (List ℕ)) (contents : W → Option (List ℕ)) where
+  -- All was read, no more than the limit, the text of it was written and nothing else, the totals are its
+  -- counts, and neither stream had a fault.
+  pub record Translates (reader reader' : Counted R) (writer writer' : Counted W) (text : List ℕ → List ℕ) (counts : List ℕ → Counts) (limit : ℕ) (totals : Counts) : Type 0 where
+    pub octets : List ℕ
+    pub within : length octets ≤ limit
+    pub read : Reads remaining reader reader' octets
+    pub to_end : IsRead remaining reader'
+    pub written : Writes contents writer writer' (text octets)
+    pub counted : totals ≡ counts octets
+    pub reader_kept : faults_of reader' ≡ faults_of reader
+    pub writer_kept : faults_of writer' ≡ faults_of writer
+
+  -- What was written delivers, read as a recording, the packets that what was read delivers. `packets` gives those of a
+  -- recording.
+  pub record KeepsPackets (reader reader' : Counted R) (writer writer' : Counted W) (packets : List ℕ → List (List (List ℕ))) : Type 0 where
+    pub recording : List ℕ
+    pub read : Reads remaining reader reader' recording
+    pub form : List ℕ
+    pub written : Writes contents writer writer' form
+    pub same : packets form ≡ packets recording
+
+  -- The cause of a fault is there, and no other: at most the stream that it names had a fault. Nothing was
+  -- read once the limit was passed, but for what came with the octet that passed it, one buffer at most. That
+  -- memory was refused can't be told by a clause.
+  abbrev pub IsCaused : Counted R → Counted R → Counted W → Counted W → ℕ → ℕ → List ℕ → LinkFault → Type 0
+  IsCaused reader reader' writer writer' limit buffer octets Read =
+      HasFailed reader reader' × (faults_of writer' ≡ faults_of writer) × (length octets ≤ limit)
+  IsCaused reader reader' writer writer' limit buffer octets TooLong =
+      (faults_of reader' ≡ faults_of reader) × (faults_of writer' ≡ faults_of writer)
+      × (limit < length octets) × (length octets ≤ limit + buffer)
+  IsCaused reader reader' writer writer' limit buffer octets Memory =
+      (faults_of reader' ≡ faults_of reader) × (faults_of writer' ≡ faults_of writer) × (length octets ≤ limit)
+  IsCaused reader reader' writer writer' limit buffer octets Write =
+      HasFailed writer writer' × (faults_of reader' ≡ faults_of reader) × (length octets ≤ limit)
+
+  -- Octets were read and a prefix of their text was written, and then a fault came, whose cause is there.
+  pub record Stops (reader reader' : Counted R) (writer writer' : Counted W) (text : List ℕ → List ℕ) (limit buffer : ℕ) (fault : LinkFault) : Type 0 where
+    pub octets : List ℕ
+    pub read : Reads remaining reader reader' octets
+    pub written : WritesPrefix contents writer writer' (text octets)
+    pub cause : IsCaused reader reader' writer writer' limit buffer octets fault

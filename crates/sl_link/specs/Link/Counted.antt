@@ -1,0 +1,20 @@
+-- A stream with the number of its faults.
+use Rattle.std.specs.Prelude.{◌≡◌, ℕ, ◌-◌, ◌^◌, ◌<◌, ◌⊎◌, ◌==◌, ◌&&◌, Bool, true, not, List, length, Result, Ok, Err}
+use Rattle.sl_link.specs.declared.link.counted.Counted.{Counted}
+
+-- the stream itself
+abbrev pub stream_of : {T : Type 0} → Counted T → T
+stream_of c = c.stream
+
+-- the errors that it answered, and the writes that took nothing of one or more octets
+abbrev pub faults_of : {T : Type 0} → Counted T → ℕ
+faults_of c = c.faults
+
+-- the count rose, or it can't rise any more
+abbrev pub HasFailed : {T : Type 0} → Counted T → Counted T → Type 0
+HasFailed old new = (faults_of old < faults_of new) ⊎ (faults_of new ≡ 2 ^ 64 - 1)
+
+-- a write that failed, or took nothing of one or more octets
+abbrev pub is_write_fault : {E : Type 0} → Result ℕ E → List ℕ → Bool
+is_write_fault (Ok taken) octets = (taken == 0) && not (length octets == 0)
+is_write_fault (Err e) octets = true

@@ -1,0 +1,19 @@
+-- Why an engine stops where the handing over of packets to its sink did.
+use Rattle.sl_packet.specs.declared.flow_fault.FlowFault.{FlowFault}
+use Rattle.sl_packet.specs.declared.flow_fault.FlowFault.TheVariants as flow
+use Rattle.sl_packet.specs.declared.sink.SinkFault.{SinkFault}
+use Rattle.sl_packet.specs.declared.sink.SinkFault.TheVariants as sink
+use Rattle.sl_link.specs.declared.link.fault.LinkFault.{LinkFault}
+use Rattle.sl_link.specs.declared.link.fault.LinkFault.TheVariants.{Memory, Write}
+
+-- A sink's device is the writer. No sink of an engine has a rule by which it refuses packets.
+abbrev pub sink_fault : SinkFault → LinkFault
+sink_fault sink.Memory = Memory
+sink_fault sink.Device = Write
+sink_fault sink.Refused = Write
+
+-- No engine goes on after a fault, so that an earlier call failed never comes.
+abbrev pub flow_fault : FlowFault → LinkFault
+flow_fault flow.Memory = Memory
+flow_fault (flow.Sink fault) = sink_fault fault
+flow_fault flow.Failed = Memory

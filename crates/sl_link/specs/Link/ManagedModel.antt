@@ -1,0 +1,31 @@
+-- A `Managed` is its parameters, none of which is refused.
+use Rattle.std.specs.Prelude.{◌≡◌, Ok}
+use Rattle.sl_link.specs.Link.Managed.{Parameters, managed_of, tc_format, tm_format}
+use Rattle.sl_link.specs.declared.link.managed.Managed.TheInside.{Inside}
+
+abbrev pub parameters_of : Inside → Parameters
+parameters_of m =
+    record {
+      spacecraft = m.spacecraft;
+      tm_length = m.tm.len;
+      tm_fecf = m.tm.fecf;
+      tc_max = m.tc.max;
+      tc_fecf = m.tc.fecf;
+      window = m.window;
+      vr = m.vr;
+      max_octets = m.max_octets;
+    }
+
+abbrev pub IsManaged : Inside → Type 0
+IsManaged m = managed_of (parameters_of m) ≡ Ok (parameters_of m)
+
+abbrev pub inside_of : Parameters → Inside
+inside_of p =
+    record {
+      spacecraft = p.spacecraft;
+      tm = tm_format p;
+      tc = tc_format p;
+      window = p.window;
+      vr = p.vr;
+      max_octets = p.max_octets;
+    }

@@ -1,0 +1,5 @@
+-- The program: its command line, and what a run does.
+pub mod CommandLine
+pub mod Engine
+pub mod Run
+pub mod Status

@@ -1,0 +1,5 @@
+-- The listings.
+pub mod Check
+pub mod Listing
+pub mod Packets
+pub mod Show

@@ -1,0 +1,6 @@
+-- What `check` lists.
+pub mod CheckingTc
+pub mod CheckingTm
+pub mod Lines
+pub mod Tc
+pub mod Tm

@@ -1,0 +1,71 @@
+-- What a TC recording comes to while it is checked, as the code says it. Contracts of private functions alone cite
+-- these.
+use Rattle.std.specs.Prelude.{◌≡◌, ◌≤◌, ℕ, ◌+◌, ◌-◌, Bool, if◌then◌else◌, List, [], ◌∷◌, ◌++◌, length, codes, Result, is_err}
+use Rattle.sl_packet.specs.Packets.{only_idle, without_idle}
+use Rattle.sl_tcframe.specs.declared.tc_frame.TcSkip.{TcSkip}
+use Rattle.sl_tcframe.specs.TcFrame.{TcView}
+use Rattle.sl_tcflow.specs.Receiving.{HasProcessed, ReceiverState, map_of}
+use Rattle.sl_tcflow.specs.StepReport.{StepReport}
+use Rattle.sl_link.specs.Verbs.Check.Lines.{remainder_amiss}
+use Rattle.sl_link.specs.Verbs.Check.Tc.{dropped_amiss, map_text, tail_amiss, tc_amiss, tc_amiss_after, tc_incomplete, verdict_amiss}
+use Rattle.sl_link.specs.Deliver.Tc.{ended_in}
+use Rattle.sl_link.specs.Deliver.DeliveringTc.{HasDeliveredTc}
+use Rattle.sl_link.specs.Io.Line.{line_at}
+use Rattle.sl_link.specs.Link.Managed.{Parameters}
+use Rattle.sl_link.specs.Link.Totals.{Counts}
+use Rattle.sl_link.specs.Verbs.Listing.{lines_from}
+use Rattle.sl_link.specs.declared.tally.FrameReport.{FrameReport}
+use Rattle.sl_link.specs.declared.tally.Tally.{Tally}
+
+-- this is told of a virtual channel and a MAP, if it holds
+abbrev pub told_amiss : ℕ → List ℕ → ℕ → ℕ → Bool → List (List ℕ)
+told_amiss offset what vc mid holds = if holds then line_at offset (what ++ map_text vc mid) ∷ [] else []
+
+-- the lines of a frame that is read, in their order, by what a receiver made of it
+abbrev pub view_amiss : ℕ → TcView → StepReport → List (List ℕ)
+view_amiss offset view step =
+    let mid : ℕ = map_of view.content in
+    verdict_amiss offset view.vc step.verdict view.content
+    ++ told_amiss offset (codes " stray") view.vc mid step.stray
+    ++ dropped_amiss offset view.vc mid step.dropped
+    ++ told_amiss offset (codes " long") view.vc mid step.long
+    ++ tail_amiss offset view.vc mid step.tail
+
+-- what a frame brought that comes after these
+pub record TellsFrameTc (w vr offset : ℕ) (views : List TcView) (r : Result TcView TcSkip) (report : FrameReport) : Type 0 where
+  pub skipped : report.is_skipped ≡ is_err r
+  pub packets : report.packets ≡ length (without_idle (ended_in w vr views r))
+  pub idle : report.idle ≡ length (only_idle (ended_in w vr views r))
+  pub anomalies : report.anomalies ≡ length (tc_amiss w vr offset views r)
+
+-- these frames were processed and counted, and what is amiss in them
+pub record HasCheckedTc (p : Parameters) (frames : List (List ℕ)) (receiver : ReceiverState) (t : Tally) : Type 0 where
+  pub delivered : HasDeliveredTc p frames receiver t
+  pub anomalies : t.anomalies ≡ length (lines_from (tc_amiss_after p) [] frames)
+
+-- the lines of series that are incomplete after these frames, of which some list was processed, have room among the
+-- octets
+pub record IncompleteFitTc (state : ReceiverState) (octets : ℕ) (t : Tally) : Type 0 where
+  pub w : ℕ
+  pub vr : ℕ
+  pub views : List TcView
+  pub processed : HasProcessed w vr state views
+  pub room : t.anomalies + length (tc_incomplete w vr octets views) ≤ t.octets
+
+-- the lines after those of the frames, by the octets of the whole recording
+abbrev pub end_amiss : ℕ → ℕ → ℕ → Tally → List TcView → List (List ℕ)
+end_amiss w vr octets t views =
+    remainder_amiss t.octets (octets - t.octets) ++ tc_incomplete w vr octets views
+
+-- the totals, by the octets of the whole recording, once all frames are counted
+abbrev pub end_counts : ℕ → ℕ → ℕ → Tally → List TcView → Counts
+end_counts w vr octets t views =
+    record {
+      octets = octets;
+      frames = t.frames;
+      skipped = t.skipped;
+      rest = octets - t.octets;
+      packets = t.packets;
+      idle = t.idle;
+      anomalies = t.anomalies + length (end_amiss w vr octets t views);
+    }

@@ -1,0 +1,122 @@
+-- What is amiss in a TC recording, as `check tc` lists it: a line for each, and then the totals.
+use Rattle.std.specs.Prelude.{ℕ, ◌+◌, ◌/◌, ◌%◌, ◌==◌, Bool, if◌then◌else◌, List, [], ◌∷◌, ◌++◌, length, flat_map, codes, decimal, Option, None, Some, Result, Ok, Err}
+use Rattle.std.specs.List.{concat}
+use Rattle.sl_cop.specs.declared.verdict.Verdict.{Verdict}
+use Rattle.sl_cop.specs.declared.verdict.Verdict.TheVariants.{Accept, Early, Late, Outside, Refused, Command}
+use Rattle.sl_tcframe.specs.declared.tc_frame.TcSkip.{TcSkip}
+use Rattle.sl_tcframe.specs.TcDelimited.{tc_frames_of}
+use Rattle.sl_tcframe.specs.TcFrame.{TcView, Content, Ad, Bd, Unlock, SetVr}
+use Rattle.sl_tcflow.specs.AcceptedUnit.{views_of}
+use Rattle.sl_tcflow.specs.Anomaly.{dropped_by, long_by, stray_by, tail_by}
+use Rattle.sl_tcflow.specs.Incomplete.{incomplete_of}
+use Rattle.sl_tcflow.specs.Receiving.{map_of, verdict_on}
+use Rattle.sl_tcflow.specs.Reception.{segments_of}
+use Rattle.sl_tcflow.specs.Recording.{map_channels}
+use Rattle.sl_link.specs.Verbs.Check.Lines.{remainder_amiss, totals_line, with_anomalies}
+use Rattle.sl_link.specs.Deliver.Tc.{as_read}
+use Rattle.sl_link.specs.Io.Line.{line_at}
+use Rattle.sl_link.specs.Link.Managed.{Parameters, tc_format}
+use Rattle.sl_link.specs.Normalise.Tc.{tc_counted}
+use Rattle.sl_link.specs.Verbs.Show.Tc.{tc_skip_word, verdict_word}
+use Rattle.sl_link.specs.Link.Totals.{Counts}
+use Rattle.sl_link.specs.Verbs.Listing.{Listing, counts_of, lines_from, text_of}
+
+-- ---- a frame
+
+-- a virtual channel and a MAP
+abbrev pub map_text : ℕ → ℕ → List ℕ
+map_text vc mid = codes " vc " ++ decimal vc ++ codes " map " ++ decimal mid
+
+-- a frame of type AD is discarded
+abbrev pub discarded_amiss : ℕ → ℕ → Verdict → Content → List (List ℕ)
+discarded_amiss offset vc verdict (Ad ns unit) =
+    line_at offset (codes " " ++ verdict_word verdict ++ codes " vc " ++ decimal vc ++ codes " ad " ++ decimal ns) ∷ []
+discarded_amiss offset vc verdict (Bd unit) = []
+discarded_amiss offset vc verdict Unlock = []
+discarded_amiss offset vc verdict (SetVr vr) = []
+
+abbrev pub verdict_amiss : ℕ → ℕ → Verdict → Content → List (List ℕ)
+verdict_amiss offset vc Accept content = []
+verdict_amiss offset vc Early content = discarded_amiss offset vc Early content
+verdict_amiss offset vc Late content = discarded_amiss offset vc Late content
+verdict_amiss offset vc Outside content = discarded_amiss offset vc Outside content
+verdict_amiss offset vc Refused content = discarded_amiss offset vc Refused content
+verdict_amiss offset vc Command content = []
+
+-- a segment is out of sequence
+abbrev pub stray_amiss : ℕ → ℕ → ℕ → Bool → List (List ℕ)
+stray_amiss offset vc mid stray = if stray then line_at offset (codes " stray" ++ map_text vc mid) ∷ [] else []
+
+-- an incomplete series is dropped, by how many octets of it had come
+abbrev pub dropped_amiss : ℕ → ℕ → ℕ → Option ℕ → List (List ℕ)
+dropped_amiss offset vc mid None = []
+dropped_amiss offset vc mid (Some octets) = line_at offset (codes " dropped" ++ map_text vc mid ++ codes " octets " ++ decimal octets) ∷ []
+
+-- a series is given up, too long
+abbrev pub long_amiss : ℕ → ℕ → ℕ → Bool → List (List ℕ)
+long_amiss offset vc mid long = if long then line_at offset (codes " long" ++ map_text vc mid) ∷ [] else []
+
+-- octets are left after the last packet of a service data unit
+abbrev pub tail_amiss : ℕ → ℕ → ℕ → ℕ → List (List ℕ)
+tail_amiss offset vc mid octets =
+    if octets == 0 then [] else line_at offset (codes " tail" ++ map_text vc mid ++ codes " octets " ++ decimal octets) ∷ []
+
+-- the lines of a frame at this offset, as it is read, that comes after these frames
+abbrev pub tc_amiss : ℕ → ℕ → ℕ → List TcView → Result TcView TcSkip → List (List ℕ)
+tc_amiss w vr offset views (Ok view) =
+    let mid : ℕ = map_of view.content in
+    verdict_amiss offset view.vc (verdict_on w vr views view) view.content
+    ++ stray_amiss offset view.vc mid (stray_by w vr views view)
+    ++ dropped_amiss offset view.vc mid (dropped_by w vr views view)
+    ++ long_amiss offset view.vc mid (long_by w vr views view)
+    ++ tail_amiss offset view.vc mid (tail_by w vr views view)
+tc_amiss w vr offset views (Err reason) = line_at offset (codes " skip " ++ tc_skip_word reason) ∷ []
+
+-- ---- a recording
+
+-- those of a frame that comes after these
+abbrev pub tc_amiss_after : Parameters → List (List ℕ) → List ℕ → List (List ℕ)
+tc_amiss_after p before frame =
+    tc_amiss p.window p.vr (length (concat before)) (views_of (tc_format p) p.spacecraft before) (as_read p frame)
+
+-- a series that is incomplete after the last frame, with the octets so far, if one is
+abbrev pub incomplete_amiss : ℕ → ℕ → ℕ → Option (List ℕ) → List (List ℕ)
+incomplete_amiss offset vc mid None = []
+incomplete_amiss offset vc mid (Some octets) = line_at offset (codes " open" ++ map_text vc mid ++ codes " octets " ++ decimal (length octets)) ∷ []
+
+-- that of a virtual channel and a MAP, by the number of their channel
+abbrev pub open_on : ℕ → ℕ → ℕ → List TcView → ℕ → List (List ℕ)
+open_on w vr offset views channel =
+    incomplete_amiss offset (channel / 64) (channel % 64) (incomplete_of (segments_of w vr (channel / 64) (channel % 64) views))
+
+-- those of all virtual channels and MAPs, at the end of the recording
+abbrev pub tc_incomplete : ℕ → ℕ → ℕ → List TcView → List (List ℕ)
+tc_incomplete w vr offset views = flat_map (open_on w vr offset views) map_channels
+
+-- the lines after frames, by how many octets the remainder has
+abbrev pub tc_end_amiss : Parameters → List (List ℕ) → ℕ → List (List ℕ)
+tc_end_amiss p frames rest =
+    remainder_amiss (length (concat frames)) rest
+    ++ tc_incomplete p.window p.vr (length (concat frames) + rest) (views_of (tc_format p) p.spacecraft frames)
+
+-- what is counted: each line is one of what is amiss
+abbrev pub check_tc_counted : Parameters → List (List ℕ) → ℕ → Counts
+check_tc_counted p frames rest =
+    with_anomalies (tc_counted p frames rest) (length (lines_from (tc_amiss_after p) [] frames) + length (tc_end_amiss p frames rest))
+
+-- the listing: the lines of each frame, those after the last one, and the totals
+abbrev pub check_tc_listing : Parameters → Listing
+check_tc_listing p =
+    record {
+      line = λ before frame. concat (tc_amiss_after p before frame);
+      last = λ frames rest. concat (tc_end_amiss p frames rest) ++ totals_line (check_tc_counted p frames rest);
+      counts = check_tc_counted p;
+    }
+
+-- the text of a recording
+abbrev pub check_tc_text : Parameters → List ℕ → List ℕ
+check_tc_text p = text_of (tc_frames_of (tc_format p)) (check_tc_listing p)
+
+-- and what is counted in it
+abbrev pub check_tc_counts : Parameters → List ℕ → Counts
+check_tc_counts p = counts_of (tc_frames_of (tc_format p)) (check_tc_listing p)

@@ -1,0 +1,96 @@
+-- What is amiss in a TM recording, as `check tm` lists it: a line for each, and then the totals.
+use Rattle.std.specs.Prelude.{ℕ, Bool, ◌+◌, ◌==◌, if◌then◌else◌, List, [], ◌∷◌, ◌++◌, length, map, flat_map, codes, decimal, Option, None, Some, Result, Ok, Err}
+use Rattle.std.specs.List.{concat}
+use Rattle.sl_tmframe.specs.declared.tm_frame.TmSkip.{TmSkip}
+use Rattle.sl_tmframe.specs.TmDelimited.{tm_frames_of}
+use Rattle.sl_tmframe.specs.TmFrame.{TmView, DataField, Packets, Idle, Opaque}
+use Rattle.sl_tmflow.specs.Anomaly.{dropped_of, foreign_of, gap_of}
+use Rattle.sl_tmflow.specs.Channel.{channel_of, views_of}
+use Rattle.sl_tmflow.specs.Incomplete.{incomplete_of}
+use Rattle.sl_tmflow.specs.Recording.{virtual_channels}
+use Rattle.sl_link.specs.Verbs.Check.Lines.{remainder_amiss, totals_line, with_anomalies}
+use Rattle.sl_link.specs.Deliver.Tm.{as_read}
+use Rattle.sl_link.specs.Io.Line.{line_at}
+use Rattle.sl_link.specs.Link.Managed.{Parameters, tm_format}
+use Rattle.sl_link.specs.Normalise.Tm.{tm_counted}
+use Rattle.sl_link.specs.Verbs.Show.Tm.{tm_skip_word}
+use Rattle.sl_link.specs.Link.Totals.{Counts}
+use Rattle.sl_link.specs.Verbs.Listing.{Listing, counts_of, lines_from, text_of}
+
+-- ---- a frame
+
+-- another virtual channel frame count was expected
+abbrev pub gap_text : TmView → ℕ → List ℕ
+gap_text view expected =
+    codes " gap vc " ++ decimal view.vc ++ codes " expected " ++ decimal expected ++ codes " found " ++ decimal view.vc_count
+
+abbrev pub gap_amiss : ℕ → TmView → Option ℕ → List (List ℕ)
+gap_amiss offset view None = []
+gap_amiss offset view (Some expected) = line_at offset (gap_text view expected) ∷ []
+
+-- an incomplete packet is broken off, by how many octets of it had come
+abbrev pub dropped_amiss : ℕ → ℕ → ℕ → List (List ℕ)
+dropped_amiss offset vc octets =
+    if octets == 0 then [] else line_at offset (codes " dropped vc " ++ decimal vc ++ codes " octets " ++ decimal octets) ∷ []
+
+-- the frame is opaque
+abbrev pub opaque_amiss : ℕ → ℕ → DataField → List (List ℕ)
+opaque_amiss offset vc (Packets first octets) = []
+opaque_amiss offset vc Idle = []
+opaque_amiss offset vc Opaque = line_at offset (codes " opaque vc " ++ decimal vc) ∷ []
+
+-- octets of another packet version stand at a packet start
+abbrev pub foreign_amiss : ℕ → ℕ → Bool → List (List ℕ)
+foreign_amiss offset vc is_foreign = if is_foreign then line_at offset (codes " foreign vc " ++ decimal vc) ∷ [] else []
+
+-- the lines of a frame that is read, in their order, by what it brought
+abbrev pub view_amiss : ℕ → TmView → Option ℕ → ℕ → Bool → List (List ℕ)
+view_amiss offset view gap dropped is_foreign =
+    gap_amiss offset view gap ++ dropped_amiss offset view.vc dropped ++ opaque_amiss offset view.vc view.field
+    ++ foreign_amiss offset view.vc is_foreign
+
+-- the lines of a frame at this offset, as it is read, that comes after these frames
+abbrev pub tm_amiss : ℕ → List TmView → Result TmView TmSkip → List (List ℕ)
+tm_amiss offset views (Ok view) =
+    view_amiss offset view (gap_of (channel_of view.vc views) view) (dropped_of (channel_of view.vc views) view) (foreign_of view.field)
+tm_amiss offset views (Err reason) = line_at offset (codes " skip " ++ tm_skip_word reason) ∷ []
+
+-- ---- a recording
+
+-- those of a frame that comes after these
+abbrev pub tm_amiss_after : Parameters → List (List ℕ) → List ℕ → List (List ℕ)
+tm_amiss_after p before frame = tm_amiss (length (concat before)) (views_of (tm_format p) p.spacecraft before) (as_read p frame)
+
+-- the packets that are incomplete after the last frame of their virtual channels, at the end of the recording
+abbrev pub tm_incomplete : ℕ → List TmView → List (List ℕ)
+tm_incomplete offset views =
+    flat_map (λ vc. map (λ octets. line_at offset (codes " open vc " ++ decimal vc ++ codes " octets " ++ decimal (length octets))) (incomplete_of (channel_of vc views)))
+    virtual_channels
+
+-- the lines after frames, by how many octets the remainder has
+abbrev pub tm_end_amiss : Parameters → List (List ℕ) → ℕ → List (List ℕ)
+tm_end_amiss p frames rest =
+    remainder_amiss (length (concat frames)) rest
+    ++ tm_incomplete (length (concat frames) + rest) (views_of (tm_format p) p.spacecraft frames)
+
+-- what is counted: each line is one of what is amiss
+abbrev pub check_tm_counted : Parameters → List (List ℕ) → ℕ → Counts
+check_tm_counted p frames rest =
+    with_anomalies (tm_counted p frames rest) (length (lines_from (tm_amiss_after p) [] frames) + length (tm_end_amiss p frames rest))
+
+-- the listing: the lines of each frame, those after the last one, and the totals
+abbrev pub check_tm_listing : Parameters → Listing
+check_tm_listing p =
+    record {
+      line = λ before frame. concat (tm_amiss_after p before frame);
+      last = λ frames rest. concat (tm_end_amiss p frames rest) ++ totals_line (check_tm_counted p frames rest);
+      counts = check_tm_counted p;
+    }
+
+-- the text of a recording
+abbrev pub check_tm_text : Parameters → List ℕ → List ℕ
+check_tm_text p = text_of (tm_frames_of p.tm_length) (check_tm_listing p)
+
+-- and what is counted in it
+abbrev pub check_tm_counts : Parameters → List ℕ → Counts
+check_tm_counts p = counts_of (tm_frames_of p.tm_length) (check_tm_listing p)

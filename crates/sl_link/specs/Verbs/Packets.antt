@@ -1,0 +1,6 @@
+-- What `packets` lists.
+pub mod ChannelName
+pub mod Line
+pub mod Listed
+pub mod Tc
+pub mod Tm

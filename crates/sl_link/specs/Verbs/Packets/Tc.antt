@@ -1,0 +1,47 @@
+-- The packets of a TC recording, as `packets tc` lists them: by the accepted units that end the series they are of, idle
+-- ones left out.
+use Rattle.std.specs.Prelude.{◌≡◌, ℕ, List, [], ◌∷◌, ◌++◌, map, codes, decimal, Result, Ok, Err}
+use Rattle.std.specs.List.{concat}
+use Rattle.sl_packet.specs.Packets.{without_idle}
+use Rattle.sl_tcframe.specs.declared.tc_frame.TcSkip.{TcSkip}
+use Rattle.sl_tcframe.specs.TcDelimited.{tc_frames_of}
+use Rattle.sl_tcframe.specs.TcFrame.{TcView}
+use Rattle.sl_tcflow.specs.AcceptedUnit.{views_of}
+use Rattle.sl_tcflow.specs.Receiving.{IsIncompleteAround, ended_by, map_of}
+use Rattle.sl_link.specs.Deliver.Tc.{as_read}
+use Rattle.sl_link.specs.Link.Managed.{Parameters, tc_format}
+use Rattle.sl_link.specs.Normalise.Tc.{tc_counted}
+use Rattle.sl_link.specs.Verbs.Packets.Line.{packet_line}
+use Rattle.sl_link.specs.Verbs.Listing.{Listing, text_of}
+
+-- a virtual channel and a MAP
+abbrev pub channel_text : ℕ → ℕ → List ℕ
+channel_text vc mid = codes "vc " ++ decimal vc ++ codes " map " ++ decimal mid
+
+-- the lines of the packets of the series that the unit of a frame ends, as it is read, that comes after these frames
+abbrev pub tc_packet_lines : ℕ → ℕ → List TcView → Result TcView TcSkip → List ℕ
+tc_packet_lines w vr views (Ok view) =
+    concat (map (packet_line (channel_text view.vc (map_of view.content))) (without_idle (ended_by w vr views view)))
+tc_packet_lines w vr views (Err reason) = []
+
+-- the listing: the lines of the packets that end with each frame's unit
+abbrev pub packets_tc_listing : Parameters → Listing
+packets_tc_listing p =
+    record {
+      line = λ before frame. tc_packet_lines p.window p.vr (views_of (tc_format p) p.spacecraft before) (as_read p frame);
+      last = λ frames rest. [];
+      counts = tc_counted p;
+    }
+
+-- the text of a recording
+abbrev pub packets_tc_text : Parameters → List ℕ → List ℕ
+packets_tc_text p = text_of (tc_frames_of (tc_format p)) (packets_tc_listing p)
+
+-- a series is incomplete around the last of these frames, on the MAP of its unit, which is accepted
+pub record WantsMemoryTc (p : Parameters) (frames : List (List ℕ)) : Type 0 where
+  pub before : List (List ℕ)
+  pub frame : List ℕ
+  pub in_order : frames ≡ before ++ frame ∷ []
+  pub view : TcView
+  pub is_read : as_read p frame ≡ Ok view
+  pub incomplete : IsIncompleteAround p.window p.vr (views_of (tc_format p) p.spacecraft before) view

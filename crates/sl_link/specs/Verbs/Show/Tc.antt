@@ -1,0 +1,122 @@
+-- The listing of a TC recording's frames, a line for each, and then its remainder.
+use Rattle.std.specs.Prelude.{ℕ, ◌+◌, ◌-◌, ◌==◌, if◌then◌else◌, List, [], ◌∷◌, ◌++◌, length, codes, decimal, Result, Ok, Err, is_err}
+use Rattle.std.specs.List.{concat}
+use Rattle.hex.specs.Hex.{encode_lower}
+use Rattle.sl_cop.specs.declared.verdict.Verdict.{Verdict}
+use Rattle.sl_cop.specs.declared.verdict.Verdict.TheVariants.{Accept, Early, Late, Outside, Refused}
+use Rattle.sl_cop.specs.declared.verdict.Verdict.TheVariants as farm
+use Rattle.sl_cop.specs.Farm.{FarmState, FarmView, farm_step}
+use Rattle.sl_cop.specs.FarmClcw.{clcw_of}
+use Rattle.sl_fields.specs.Clcw.{clcw_octets}
+use Rattle.sl_tcframe.specs.declared.tc_frame.TcSkip.{TcSkip}
+use Rattle.sl_tcframe.specs.declared.tc_frame.TcSkip.TheVariants.{Fecf, Version, Spacecraft, Long, Kind, Empty, Command}
+use Rattle.sl_tcframe.specs.TcDelimited.{tc_frames_of}
+use Rattle.sl_tcframe.specs.TcFrame.{TcView, Content, Ad, Bd, Unlock, SetVr, tc_frame}
+use Rattle.sl_tcflow.specs.AcceptedUnit.{channel_of, event_of, views_of}
+use Rattle.sl_tcflow.specs.Receiving.{farm_of}
+use Rattle.sl_tcflow.specs.Series.{header_at}
+use Rattle.sl_link.specs.Io.Line.{line_at, remainder_line}
+use Rattle.sl_link.specs.Link.Managed.{Parameters, tc_format}
+use Rattle.sl_link.specs.Link.Totals.{Counts}
+use Rattle.sl_link.specs.Verbs.Listing.{Listing, counts_of, text_of}
+
+-- why a frame is skipped
+abbrev pub tc_skip_word : TcSkip → List ℕ
+tc_skip_word Fecf = codes "fecf"
+tc_skip_word Version = codes "version"
+tc_skip_word Spacecraft = codes "spacecraft"
+tc_skip_word Long = codes "long"
+tc_skip_word Kind = codes "kind"
+tc_skip_word Empty = codes "empty"
+tc_skip_word Command = codes "command"
+
+-- the sequence flags of a segment
+abbrev pub flags_word : ℕ → List ℕ
+flags_word flags =
+    if flags == 1 then codes "first"
+    else if flags == 0 then codes "middle"
+    else if flags == 2 then codes "last"
+    else codes "whole"
+
+-- a unit: its segment header, and how many octets come after it
+abbrev pub unit_text : List ℕ → List ℕ
+unit_text unit =
+    codes " segment " ++ flags_word (header_at unit).flags
+    ++ codes " map " ++ decimal (header_at unit).map
+    ++ codes " octets " ++ decimal (length unit - 1)
+
+-- what a frame carries
+abbrev pub content_text : Content → List ℕ
+content_text (Ad ns unit) = codes "ad " ++ decimal ns ++ unit_text unit
+content_text (Bd unit) = codes "bd" ++ unit_text unit
+content_text Unlock = codes "unlock"
+content_text (SetVr vr) = codes "setvr " ++ decimal vr
+
+-- what FARM-1 makes of a frame
+abbrev pub verdict_word : Verdict → List ℕ
+verdict_word Accept = codes "accept"
+verdict_word Early = codes "early"
+verdict_word Late = codes "late"
+verdict_word Outside = codes "outside"
+verdict_word Refused = codes "refused"
+verdict_word farm.Command = codes "command"
+
+-- the verdict, and the CLCW that reports the state after it
+abbrev pub step_text : ℕ → Verdict × FarmState → List ℕ
+step_text vc step = verdict_word step.0 ++ codes " clcw " ++ encode_lower (clcw_octets (clcw_of vc step.1))
+
+-- the line of a frame that is read, after its offset: this was FARM-1 of its virtual channel before it
+abbrev pub tc_view_text : FarmView → TcView → List ℕ
+tc_view_text farm view =
+    codes " frame vc " ++ decimal view.vc ++ codes " " ++ content_text view.content ++ codes " "
+    ++ step_text view.vc (farm_step farm.window farm.state (event_of view.content))
+
+-- the line of a frame, after its offset, where these were FARM-1 of each virtual channel before it
+abbrev pub tc_frame_text : (ℕ → FarmView) → Result TcView TcSkip → List ℕ
+tc_frame_text farms (Ok view) = tc_view_text (farms view.vc) view
+tc_frame_text farms (Err reason) = codes " skip " ++ tc_skip_word reason
+
+-- FARM-1 of a virtual channel after frames
+abbrev pub farm_view : Parameters → List (List ℕ) → ℕ → FarmView
+farm_view p before vc = farm_of p.window p.vr (channel_of vc (views_of (tc_format p) p.spacecraft before))
+
+-- the line of a frame that comes after these frames
+abbrev pub tc_line : Parameters → List (List ℕ) → List ℕ → List ℕ
+tc_line p before frame =
+    line_at (length (concat before)) (tc_frame_text (farm_view p before) (tc_frame (tc_format p) p.spacecraft frame))
+
+-- how many frames are skipped
+abbrev pub tc_skipped_of : Parameters → List (List ℕ) → ℕ
+tc_skipped_of p [] = 0
+tc_skipped_of p (frame ∷ frames) =
+    (if is_err (tc_frame (tc_format p) p.spacecraft frame) then 1 else 0) + tc_skipped_of p frames
+
+-- what is counted in frames, and a remainder of this many octets
+abbrev pub show_tc_counted : Parameters → List (List ℕ) → ℕ → Counts
+show_tc_counted p frames rest =
+    record {
+      octets = length (concat frames) + rest;
+      frames = length frames;
+      skipped = tc_skipped_of p frames;
+      rest = rest;
+      packets = 0;
+      idle = 0;
+      anomalies = 0;
+    }
+
+-- the listing: a line for each frame, and one for a remainder
+abbrev pub show_tc_listing : Parameters → Listing
+show_tc_listing p =
+    record {
+      line = tc_line p;
+      last = λ frames rest. remainder_line (length (concat frames)) rest;
+      counts = show_tc_counted p;
+    }
+
+-- the text of a recording
+abbrev pub show_tc_text : Parameters → List ℕ → List ℕ
+show_tc_text p = text_of (tc_frames_of (tc_format p)) (show_tc_listing p)
+
+-- and what is counted in it
+abbrev pub show_tc_counts : Parameters → List ℕ → Counts
+show_tc_counts p = counts_of (tc_frames_of (tc_format p)) (show_tc_listing p)

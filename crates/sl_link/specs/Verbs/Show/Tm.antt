@@ -1,0 +1,101 @@
+-- The listing of a TM recording's frames, a line for each, and then its remainder.
+use Rattle.std.specs.Prelude.{ℕ, ◌+◌, if◌then◌else◌, List, [], ◌∷◌, ◌++◌, length, codes, decimal, Option, None, Some, Result, Ok, Err, is_err}
+use Rattle.std.specs.List.{concat}
+use Rattle.hex.specs.Hex.{encode_lower}
+use Rattle.sl_fields.specs.Field.{flag, bit_of}
+use Rattle.sl_fields.specs.Clcw.{ClcwFields, clcw_word}
+use Rattle.sl_tmframe.specs.declared.tm_frame.TmSkip.{TmSkip}
+use Rattle.sl_tmframe.specs.declared.tm_frame.TmSkip.TheVariants.{Fecf, Version, Spacecraft}
+use Rattle.sl_tmframe.specs.TmFrame.{TmFormat, TmView, DataField, Packets, Idle, Opaque, tm_frame}
+use Rattle.sl_tmframe.specs.TmDelimited.{tm_frames_of}
+use Rattle.sl_link.specs.Io.Line.{line_at, remainder_line}
+use Rattle.sl_link.specs.Link.Managed.{Parameters, tm_format}
+use Rattle.sl_link.specs.Link.Totals.{Counts}
+use Rattle.sl_link.specs.Verbs.Listing.{Listing, counts_of, text_of}
+
+-- why a frame is skipped
+abbrev pub tm_skip_word : TmSkip → List ℕ
+tm_skip_word Fecf = codes "fecf"
+tm_skip_word Version = codes "version"
+tm_skip_word Spacecraft = codes "spacecraft"
+
+-- what a frame carries
+abbrev pub field_text : DataField → List ℕ
+field_text (Packets (Some first) octets) = codes "first " ++ decimal first
+field_text (Packets None octets) = codes "none"
+field_text Idle = codes "idle"
+field_text Opaque = codes "opaque"
+
+-- a CLCW, in hexadecimal and by its own fields
+abbrev pub clcw_fields_text : ClcwFields → List ℕ
+clcw_fields_text w =
+    codes " vc " ++ decimal w.vc
+    ++ codes " lockout " ++ decimal (bit_of w.lockout)
+    ++ codes " wait " ++ decimal (bit_of w.wait)
+    ++ codes " retransmit " ++ decimal (bit_of w.retransmit)
+    ++ codes " farmb " ++ decimal w.farm_b
+    ++ codes " vr " ++ decimal w.report
+
+-- an operational control field: the first bit tells a CLCW, which is 0, from another report
+abbrev pub word_text : List ℕ → List ℕ
+word_text word =
+    if flag 4 0 word then codes " ocf " ++ encode_lower word
+    else codes " clcw " ++ encode_lower word ++ clcw_fields_text (clcw_word word)
+
+abbrev pub control_text : Option (List ℕ) → List ℕ
+control_text None = []
+control_text (Some word) = word_text word
+
+-- the virtual channel and the frame counts
+abbrev pub counts_text : TmView → List ℕ
+counts_text view =
+    codes " frame vc " ++ decimal view.vc
+    ++ codes " mc " ++ decimal view.mc_count
+    ++ codes " vcc " ++ decimal view.vc_count
+
+-- the line of a frame that is read, after its offset
+abbrev pub tm_view_text : TmView → List ℕ
+tm_view_text view = counts_text view ++ codes " " ++ field_text view.field ++ control_text view.control
+
+-- the line of a frame, after its offset
+abbrev pub tm_frame_text : Result TmView TmSkip → List ℕ
+tm_frame_text (Ok view) = tm_view_text view
+tm_frame_text (Err reason) = codes " skip " ++ tm_skip_word reason
+
+-- ---- a recording
+
+-- how many frames are skipped
+abbrev pub tm_skipped_of : TmFormat → ℕ → List (List ℕ) → ℕ
+tm_skipped_of format spacecraft [] = 0
+tm_skipped_of format spacecraft (frame ∷ frames) =
+    (if is_err (tm_frame format spacecraft frame) then 1 else 0) + tm_skipped_of format spacecraft frames
+
+-- what is counted in frames, and a remainder of this many octets
+abbrev pub show_tm_counted : Parameters → List (List ℕ) → ℕ → Counts
+show_tm_counted p frames rest =
+    record {
+      octets = length (concat frames) + rest;
+      frames = length frames;
+      skipped = tm_skipped_of (tm_format p) p.spacecraft frames;
+      rest = rest;
+      packets = 0;
+      idle = 0;
+      anomalies = 0;
+    }
+
+-- the listing: a line for each frame at its offset, and one for a remainder
+abbrev pub show_tm_listing : Parameters → Listing
+show_tm_listing p =
+    record {
+      line = λ before frame. line_at (length (concat before)) (tm_frame_text (tm_frame (tm_format p) p.spacecraft frame));
+      last = λ frames rest. remainder_line (length (concat frames)) rest;
+      counts = show_tm_counted p;
+    }
+
+-- the text of a recording
+abbrev pub show_tm_text : Parameters → List ℕ → List ℕ
+show_tm_text p = text_of (tm_frames_of p.tm_length) (show_tm_listing p)
+
+-- and what is counted in it
+abbrev pub show_tm_counts : Parameters → List ℕ → Counts
+show_tm_counts p = counts_of (tm_frames_of p.tm_length) (show_tm_listing p)

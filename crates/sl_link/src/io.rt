@@ -1,0 +1,4 @@
+//! What is written: lines, the buffer that they wait in, and the streams.
+pub mod lines;
+pub mod room;
+pub mod streams;

@@ -1,0 +1,48 @@
+//! Room for lines, which are written where there is none, and the line of a remainder.
+ghost use Rattle.std.specs.Prelude.{◌≡◌, ◌+◌, ◌≤◌, ◌++◌, [], length, codes, decimal, IfErr, OnOk};
+ghost use Rattle.sl_link.specs.Io.Line.{line_at};
+ghost use Rattle.sl_link.specs.Io.Room.{HasRoom};
+ghost use Rattle.sl_link.specs.Io.Streams.{AddsText, WritesText, StopsWriting};
+
+use crate::io::lines::Lines;
+use crate::io::streams::write_text;
+use crate::link::counted::Counted;
+use crate::link::fault::LinkFault;
+use std::io::Write;
+
+/// Room for one line more.
+#[inline(always)]
+pub fn make_room<W: Write>(writer: &mut Counted<W>, lines: &mut Lines) -> Result<(), LinkFault>
+    ensures kept { OnOk result (AddsText W.contents writer.old writer.new lines.old lines.new []) }
+    ensures room { OnOk result (HasRoom lines.new) }
+    ensures fault { IfErr result (StopsWriting W.contents writer.old writer.new lines.old) }
+{
+    if !lines.is_full() {
+        return Ok(());
+    }
+    flush(writer, lines)?;
+    Ok(())
+}
+
+/// Writes the lines so far.
+pub fn flush<W: Write>(writer: &mut Counted<W>, lines: &mut Lines) -> Result<(), LinkFault>
+    ensures written { OnOk result (WritesText W.contents writer.old writer.new lines.old) }
+    ensures emptied { OnOk result (lines.new ≡ []) }
+    ensures fault { IfErr result (StopsWriting W.contents writer.old writer.new lines.old) }
+{
+    write_text(writer, lines.octets())?;
+    lines.clear();
+    Ok(())
+}
+
+/// Adds the line of a remainder of so many octets at this offset.
+pub fn rest_line(lines: &mut Lines, offset: u64, octets: u64)
+    requires { HasRoom lines.old }
+    ensures text { lines.new ≡ lines.old ++ line_at offset (codes " rest " ++ decimal octets) }
+    ensures short { length lines.new ≤ length lines.old + 50 }
+{
+    lines.push_number(offset);
+    lines.push(b" rest ");
+    lines.push_number(octets);
+    lines.push(b"\n");
+}

@@ -1,0 +1,43 @@
+//! Single reads, and single writes until a text is written.
+ghost use Rattle.std.specs.Prelude.{IfOk, IfErr, OnOk};
+ghost use Rattle.sl_link.specs.Io.Streams.{ReadsSome, StopsReading, WritesText, StopsWriting};
+
+use crate::link::counted::Counted;
+use crate::link::fault::LinkFault;
+use std::io::{Read, Write};
+
+/// Reads once, and says how many octets came to the front of the buffer: none only at the end of the
+/// input. More of them than the limit are a fault.
+pub fn read_some<R: Read>(
+    reader: &mut Counted<R>,
+    buffer: &mut [u8],
+    limit: u64,
+) -> Result<usize, LinkFault>
+    ensures came { IfOk result (λ n. ReadsSome R.remaining reader.old reader.new buffer.new limit n) }
+    ensures fault { IfErr result (λ fault. StopsReading R.remaining reader.old reader.new buffer.new limit fault) }
+{
+    let taken = match reader.read(buffer) {
+        Ok(taken) => taken,
+        Err(_) => return Err(LinkFault::Read),
+    };
+    if taken as u64 > limit {
+        return Err(LinkFault::TooLong);
+    }
+    Ok(taken)
+}
+
+/// Writes all of a text.
+pub fn write_text<W: Write>(writer: &mut Counted<W>, text: &[u8]) -> Result<(), LinkFault>
+    ensures written { OnOk result (WritesText W.contents writer.old writer.new text.now) }
+    ensures fault { IfErr result (λ fault. StopsWriting W.contents writer.old writer.new text.now fault) }
+{
+    let mut left = text;
+    while !left.is_empty() {
+        match writer.write(left) {
+            Ok(0) => return Err(LinkFault::Write),
+            Ok(taken) => left = &left[taken..],
+            Err(_) => return Err(LinkFault::Write),
+        }
+    }
+    Ok(())
+}

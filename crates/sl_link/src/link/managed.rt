@@ -1,0 +1,109 @@
+//! The managed parameters of a link.
+ghost use Rattle.std.specs.Prelude.{◌≡◌};
+ghost use Rattle.sl_link.specs.Link.Managed.{Parameters};
+
+use sl_cop::Window;
+use sl_tcframe::TcShape;
+use sl_tmframe::TmShape;
+use std::marker::Model;
+use thiserror::Error;
+
+/// Which managed parameter is refused.
+#[derive(Clone, Copy, Debug, PartialEq, Eq, Error)]
+pub enum ManagedFault {
+    /// The spacecraft identifier is over 1023.
+    #[error("spacecraft")]
+    Spacecraft,
+    /// The TM frame length is outside 32 to 2048 octets.
+    #[error("tm length")]
+    TmLength,
+    /// The greatest TC frame length is outside 16 to 1024 octets.
+    #[error("tc length")]
+    TcLength,
+    /// The FARM-1 window is 0 or odd.
+    #[error("window")]
+    Window,
+    /// The greatest number of octets that may be read is 0.
+    #[error("limit")]
+    Limit,
+}
+
+/// The managed parameters of a link: what both of its ends have agreed upon.
+#[derive(Clone, Copy, Debug, PartialEq, Eq)]
+pub struct Managed {
+    pub(crate) spacecraft: u16,
+    pub(crate) tm: TmShape,
+    pub(crate) tc: TcShape,
+    pub(crate) window: Window,
+    pub(crate) vr: u8,
+    pub(crate) max_octets: u64,
+}
+
+impl Model for Managed {
+    ghost use Rattle.sl_link.specs.Link.Managed.{Parameters};
+
+    ghost Value = { Parameters };
+
+    ghost use Rattle.sl_link.specs.Link.ManagedModel.{parameters_of, inside_of, IsManaged};
+
+    ghost view = { parameters_of };
+
+    ghost invariant = { IsManaged };
+
+    ghost inverse = { inside_of };
+}
+
+impl Managed {
+    ghost use Rattle.sl_link.specs.Link.Managed.{managed_of};
+
+    /// The parameters, or the first of them that is refused: `spacecraft` 0 to 1023, `tm_length` 32 to
+    /// 2048 octets, `tc_max` 16 to 1024 octets, `window` even and not 0, `max_octets` not 0.
+    pub fn new(
+        spacecraft: u16,
+        tm_length: u16,
+        tm_fecf: bool,
+        tc_max: u16,
+        tc_fecf: bool,
+        window: u8,
+        vr: u8,
+        max_octets: u64,
+    ) -> Result<Managed, ManagedFault>
+        ensures { let parameters : Parameters = record {
+          spacecraft = spacecraft;
+          tm_length = tm_length;
+          tm_fecf = tm_fecf;
+          tc_max = tc_max;
+          tc_fecf = tc_fecf;
+          window = window;
+          vr = vr;
+          max_octets = max_octets;
+        } in result ≡ managed_of parameters }
+    {
+        if spacecraft > 1023 {
+            return Err(ManagedFault::Spacecraft);
+        }
+        let tm = match TmShape::new(tm_length, tm_fecf) {
+            Ok(shape) => shape,
+            Err(_) => return Err(ManagedFault::TmLength),
+        };
+        let tc = match TcShape::new(tc_max, tc_fecf) {
+            Ok(shape) => shape,
+            Err(_) => return Err(ManagedFault::TcLength),
+        };
+        let window = match Window::new(window) {
+            Some(window) => window,
+            None => return Err(ManagedFault::Window),
+        };
+        if max_octets == 0 {
+            return Err(ManagedFault::Limit);
+        }
+        Ok(Managed {
+            spacecraft,
+            tm,
+            tc,
+            window,
+            vr,
+            max_octets,
+        })
+    }
+}

@@ -1,0 +1,87 @@
+//! What an engine counted.
+ghost use Rattle.std.specs.Prelude.{◌≡◌, ◌≤◌};
+
+use std::marker::Model;
+
+/// What an engine counted in a recording. No count is above the octets.
+#[derive(Clone, Copy, Debug, PartialEq, Eq)]
+pub struct Totals {
+    pub(crate) octets: u64,
+    pub(crate) frames: u64,
+    pub(crate) skipped: u64,
+    pub(crate) rest: u64,
+    pub(crate) packets: u64,
+    pub(crate) idle: u64,
+    pub(crate) anomalies: u64,
+}
+
+impl Model for Totals {
+    ghost use Rattle.sl_link.specs.Link.Totals.{Counts};
+
+    ghost Value = { Counts };
+
+    ghost use Rattle.sl_link.specs.Link.TotalsModel.{counts_of, inside_of, AreTotals};
+
+    ghost view = { counts_of };
+
+    ghost invariant = { AreTotals };
+
+    ghost inverse = { inside_of };
+}
+
+impl Totals {
+    /// The octets that were read.
+    pub fn octets(&self) -> u64
+        ensures { result ≡ self.now.octets }
+    {
+        self.octets
+    }
+
+    /// The whole frames, skipped ones included.
+    pub fn frames(&self) -> u64
+        ensures value { result ≡ self.now.frames }
+        ensures within { result ≤ self.now.octets }
+    {
+        self.frames
+    }
+
+    /// The frames that were skipped.
+    pub fn skipped(&self) -> u64
+        ensures value { result ≡ self.now.skipped }
+        ensures within { result ≤ self.now.octets }
+    {
+        self.skipped
+    }
+
+    /// The octets of the remainder after the last whole frame.
+    pub fn rest(&self) -> u64
+        ensures value { result ≡ self.now.rest }
+        ensures within { result ≤ self.now.octets }
+    {
+        self.rest
+    }
+
+    /// The delivered packets, idle ones left out. It is 0 where frames alone are listed.
+    pub fn packets(&self) -> u64
+        ensures value { result ≡ self.now.packets }
+        ensures within { result ≤ self.now.octets }
+    {
+        self.packets
+    }
+
+    /// The delivered idle packets. It is 0 where frames alone are listed.
+    pub fn idle(&self) -> u64
+        ensures value { result ≡ self.now.idle }
+        ensures within { result ≤ self.now.octets }
+    {
+        self.idle
+    }
+
+    /// The anomalies that were reported. It is 0 but after a check.
+    pub fn anomalies(&self) -> u64
+        ensures value { result ≡ self.now.anomalies }
+        ensures within { result ≤ self.now.octets }
+    {
+        self.anomalies
+    }
+}

@@ -1,0 +1,111 @@
+//! A normal form that is written piece by piece.
+ghost use Rattle.std.specs.Prelude.{◌≡◌, ◌≤◌, [], ℕ, List, IfErr, OnOk, length, vec_len};
+ghost use Rattle.std.specs.Vec.{vec_capacity};
+ghost use Rattle.sl_link.specs.Io.Streams.{AddsText, StopsWriting, WritesText};
+ghost use Rattle.sl_link.specs.Normalise.Form.{StopsForm};
+ghost use Rattle.sl_link.specs.Pass.{chunk_size};
+
+mod tc;
+mod tm;
+
+use crate::io::streams::write_text;
+use crate::link::counted::Counted;
+use crate::link::fault::LinkFault;
+use crate::pass::CHUNK_SIZE;
+use std::alloc::Global;
+use std::io::Write;
+
+/// Octets enough for those that aren't written yet, a chunk at most, and a piece of either kind.
+const FORM_SIZE: usize = 0x40000;
+
+/// A normal form that is made piece by piece.
+pub trait Form {
+    ghost use Rattle.std.specs.Prelude.{◌≡◌, ◌+◌, ◌≤◌, ◌<◌, ℕ, List, IfErr, IfOk, OnOk, OnErr, IsTrue, IsFalse, vec_len};
+    ghost use Rattle.std.specs.Vec.{vec_capacity};
+    ghost use Rattle.sl_link.specs.Normalise.Form.{AddsPiece, IsAllMade, IsFewer, KeepsLeft, piece_size};
+    ghost use Rattle.sl_link.specs.declared.link.fault.LinkFault.{LinkFault};
+
+    /// These octets are still to come.
+    ghost left: { Self → List ℕ → Type 0 };
+
+    /// It is of packets.
+    ghost packets: { Self → Type 0 };
+
+    /// It has the memory that it wants for itself.
+    ghost ready: { Self → Type 0 };
+
+    /// So many pieces follow at most.
+    ghost most: { Self → ℕ };
+
+    /// Adds the next piece to a text, and tells whether there was one.
+    fn next(&mut self, text: &mut Vec<u8>) -> Result<bool, LinkFault>
+        ensures piece { OnOk result
+            (AddsPiece left self.old text.old.items self.new text.new.items) }
+        ensures fewer { IfOk result (λ more. IsTrue more
+            → IsFewer left most self.old self.new) }
+        ensures all { IfOk result (λ more. IsFalse more → IsAllMade left self.old) }
+        ensures none { IfOk result (λ more. IsFalse more
+            → text.new.items ≡ text.old.items) }
+        ensures some { IfOk result (λ more. IsTrue more → (octets : List ℕ)
+            → left self.old octets → packets self.old) }
+        ensures packets { OnErr result ((octets : List ℕ) → left self.old octets → packets self.old) }
+        ensures fault { IfErr result (λ fault. fault ≡ LinkFault.Memory) }
+        ensures full { OnErr result (ready self.old
+            → vec_capacity text.old < vec_len text.old + piece_size) }
+        ensures keeps { ready self.old → ready self.new }
+        ensures capacity { vec_capacity text.old ≤ vec_capacity text.new };
+
+    /// Takes the memory that it wants for itself, where a text has room for a piece.
+    fn reserve(&mut self, text: &mut Vec<u8>) -> Result<(), LinkFault>
+        requires room { vec_len text.old + piece_size ≤ vec_capacity text.old }
+        ensures ready { OnOk result (ready self.new) }
+        ensures left { OnOk result (KeepsLeft left self.old self.new) }
+        ensures text { OnOk result (text.new.items ≡ text.old.items) }
+        ensures capacity { vec_capacity text.old ≤ vec_capacity text.new }
+        ensures fault { IfErr result (λ fault. fault ≡ LinkFault.Memory) };
+}
+
+/// Writes a normal form. The memory that it wants is taken before anything is written.
+pub fn write_form<F: Form, W: Write>(
+    alloc: Global,
+    form: &mut F,
+    writer: &mut Counted<W>,
+) -> Result<(), LinkFault>
+    requires left { (octets : List ℕ) × F.left form.old octets }
+    ensures written { OnOk result ((octets : List ℕ) → F.left form.old octets
+        → WritesText W.contents writer.old writer.new octets) }
+    // Nothing is written where memory was refused, and it is refused only where there are packets.
+    ensures fault { IfErr result (λ fault. (octets : List ℕ) → F.left form.old octets
+        → StopsForm W.contents writer.old writer.new octets (F.packets form.old) fault) }
+{
+    let mut text = Vec::new(alloc);
+    if !form.next(&mut text)? {
+        return Ok(());
+    }
+    if text.reserve(FORM_SIZE).is_err() {
+        return Err(LinkFault::Memory);
+    }
+    form.reserve(&mut text)?;
+    write_chunk(writer, &mut text)?;
+    while form.next(&mut text)? {
+        write_chunk(writer, &mut text)?;
+    }
+    write_text(writer, text.as_slice())
+}
+
+// Writes octets that wait, where they are more than a chunk.
+fn write_chunk<W: Write>(writer: &mut Counted<W>, waiting: &mut Vec<u8>) -> Result<(), LinkFault>
+    ensures kept { OnOk result
+        (AddsText W.contents writer.old writer.new waiting.old.items waiting.new.items []) }
+    ensures few { OnOk result (vec_len waiting.new ≤ chunk_size) }
+    ensures capacity { OnOk result (vec_capacity waiting.new ≡ vec_capacity waiting.old) }
+    ensures fault { IfErr result
+        (StopsWriting W.contents writer.old writer.new waiting.old.items) }
+{
+    if waiting.len() <= CHUNK_SIZE {
+        return Ok(());
+    }
+    write_text(writer, waiting.as_slice())?;
+    waiting.clear();
+    Ok(())
+}

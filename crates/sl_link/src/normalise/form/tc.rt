@@ -1,0 +1,28 @@
+//! The normal form of TC packets, written piece by piece.
+use crate::link::fault::LinkFault;
+use crate::normalise::form::Form;
+use sl_tcflow::TcForm;
+
+impl<'d> Form for TcForm<'d> {
+    ghost use Rattle.std.specs.Prelude.{⊤, ◌≡◌, ◌≢◌, [], length};
+
+    ghost left = { λ form octets. form ≡ octets };
+
+    ghost packets = { λ form. form ≢ [] };
+
+    ghost ready = { λ form. ⊤ };
+
+    ghost most = { λ form. length form };
+
+    fn next(&mut self, text: &mut Vec<u8>) -> Result<bool, LinkFault> {
+        match TcForm::next(self, text) {
+            Ok(more) => Ok(more),
+            Err(_) => Err(LinkFault::Memory),
+        }
+    }
+
+    // It keeps no octets.
+    fn reserve(&mut self, text: &mut Vec<u8>) -> Result<(), LinkFault> {
+        Ok(())
+    }
+}

@@ -1,0 +1,30 @@
+//! The normal form of TM packets, written piece by piece.
+use crate::link::fault::LinkFault;
+use crate::normalise::form::Form;
+use sl_tmflow::TmForm;
+
+impl<'d> Form for TmForm<'d> {
+    ghost use Rattle.sl_tmflow.specs.FormLeft.{HasPackets, HasRoom, IsLeft, packets_left};
+
+    ghost left = { λ form octets. IsLeft form.progress octets };
+
+    ghost packets = { λ form. HasPackets form.progress.lists };
+
+    ghost ready = { λ form. HasRoom form };
+
+    ghost most = { λ form. packets_left form.progress };
+
+    fn next(&mut self, text: &mut Vec<u8>) -> Result<bool, LinkFault> {
+        match TmForm::next(self, text) {
+            Ok(more) => Ok(more),
+            Err(_) => Err(LinkFault::Memory),
+        }
+    }
+
+    fn reserve(&mut self, text: &mut Vec<u8>) -> Result<(), LinkFault> {
+        match TmForm::reserve(self, text) {
+            Ok(()) => Ok(()),
+            Err(_) => Err(LinkFault::Memory),
+        }
+    }
+}

@@ -1,0 +1,190 @@
+//! The lines of a TC recording's listing.
+ghost use Rattle.std.specs.Prelude.{◌≡◌, ◌+◌, ◌≤◌, ◌<◌, ◌-◌, ◌++◌, codes, decimal, length};
+ghost use Rattle.sl_tcframe.specs.TcContent.{content};
+ghost use Rattle.sl_tcframe.specs.TcFrame.{IsContent};
+ghost use Rattle.sl_cop.specs.Farm.{farm_step};
+ghost use Rattle.sl_tcflow.specs.AcceptedUnit.{event_of};
+ghost use Rattle.sl_tcflow.specs.Series.{header_at};
+ghost use Rattle.sl_link.specs.Io.Line.{line_at};
+ghost use Rattle.sl_link.specs.Verbs.Show.Tc.{tc_skip_word, flags_word, unit_text, content_text, verdict_word, step_text, tc_view_text, tc_frame_text};
+ghost use Rattle.sl_link.specs.Verbs.Show.Farms.{farm_at, farm_states, farms_after, farms_with};
+ghost use Rattle.sl_link.specs.Io.Room.{HasRoom, HasRoomFor};
+
+use crate::io::lines::Lines;
+use crate::verbs::show::farms::Farms;
+use sl_cop::{FarmEvent, Verdict};
+use sl_fields::SegmentHeader;
+use sl_tcframe::{TcContent, TcFrame, TcSkip};
+
+/// Adds the line of a frame at this offset, which FARM-1 of its virtual channel takes unless it is skipped.
+pub fn tc_frame_line(
+    lines: &mut Lines,
+    offset: u64,
+    farms: &mut Farms,
+    read: &Result<TcFrame, TcSkip>,
+)
+    requires { HasRoom lines.old }
+    ensures line { lines.new ≡ lines.old
+        ++ line_at offset (tc_frame_text (farm_at farms.old) read.now) }
+    ensures farms { farms.new ≡ farms_after farms.old read.now }
+{
+    lines.push_number(offset);
+    match read {
+        Ok(frame) => push_view(lines, farms, frame),
+        Err(reason) => push_skip(lines, *reason),
+    }
+    lines.push(b"\n");
+}
+
+/// Adds why a frame is skipped.
+pub fn push_skip(lines: &mut Lines, reason: TcSkip)
+    requires { HasRoomFor 236 lines.old }
+    ensures text { lines.new ≡ lines.old ++ (codes " skip " ++ tc_skip_word reason) }
+    ensures short { length lines.new ≤ length lines.old + 16 }
+{
+    lines.push(b" skip ");
+    lines.push(match reason {
+        TcSkip::Fecf => b"fecf",
+        TcSkip::Version => b"version",
+        TcSkip::Spacecraft => b"spacecraft",
+        TcSkip::Long => b"long",
+        TcSkip::Kind => b"kind",
+        TcSkip::Empty => b"empty",
+        TcSkip::Command => b"command",
+    });
+}
+
+fn push_view(lines: &mut Lines, farms: &mut Farms, frame: &TcFrame)
+    requires { HasRoomFor 236 lines.old }
+    ensures text { lines.new ≡ lines.old
+        ++ tc_view_text (farm_at farms.old frame.now.vc) frame.now }
+    ensures farms { farms.new ≡ farms_with farms.old frame.now.vc (event_of frame.now.content) }
+    ensures short { length lines.new ≤ length lines.old + 120 }
+{
+    let content = frame.content();
+    lines.push(b" frame vc ");
+    lines.push_octet(frame.vc());
+    push_content(lines, content);
+    push_step(lines, farms, frame.vc(), event(&content));
+}
+
+// What a frame is to FARM-1.
+fn event(carried: &TcContent) -> FarmEvent
+    ensures { result ≡ event_of (content carried.now) }
+{
+    match *carried {
+        TcContent::Ad { ns, .. } => FarmEvent::Ad(ns),
+        TcContent::Bd { .. } => FarmEvent::Bd,
+        TcContent::Unlock => FarmEvent::Unlock,
+        TcContent::SetVr(vr) => FarmEvent::SetVr(vr),
+    }
+}
+
+// Takes a frame of the virtual channel, and adds what became of it and the CLCW after it.
+fn push_step(lines: &mut Lines, farms: &mut Farms, vc: u8, event: FarmEvent)
+    requires room { HasRoomFor 136 lines.old }
+    requires vc { vc ≤ 63 }
+    ensures text { lines.new ≡ lines.old
+        ++ (codes " " ++ step_text vc (farm_step (farm_at farms.old vc).window
+        (farm_states farms.old vc) event)) }
+    ensures farms { farms.new ≡ farms_with farms.old vc event }
+    ensures short { length lines.new ≤ length lines.old + 24 }
+{
+    let verdict = farms.step(vc, event);
+    push_verdict(lines, verdict);
+    lines.push_hex(&farms.clcw(vc).write());
+}
+
+// Nearly all are accepted, so each text is pushed where it is known. Of the sequence flags nothing is known before,
+// so their text is chosen first and pushed then: both are measured.
+fn push_verdict(lines: &mut Lines, verdict: Verdict)
+    requires { HasRoomFor 96 lines.old }
+    ensures text { lines.new ≡ lines.old ++ (codes " " ++ verdict_word verdict ++ codes " clcw ") }
+    ensures short { length lines.new ≤ length lines.old + 16 }
+{
+    match verdict {
+        Verdict::Accept => lines.push(b" accept clcw "),
+        Verdict::Early => lines.push(b" early clcw "),
+        Verdict::Late => lines.push(b" late clcw "),
+        Verdict::Outside => lines.push(b" outside clcw "),
+        Verdict::Refused => lines.push(b" refused clcw "),
+        Verdict::Command => lines.push(b" command clcw "),
+    }
+}
+
+fn push_content(lines: &mut Lines, carried: TcContent)
+    requires room { HasRoomFor 216 lines.old }
+    requires unit { IsContent (content carried) }
+    ensures text { lines.new ≡ lines.old ++ (codes " " ++ content_text (content carried.entry)) }
+    ensures short { length lines.new ≤ length lines.old + 70 }
+{
+    match carried {
+        TcContent::Ad { ns, unit } => {
+            lines.push(b" ad ");
+            lines.push_octet(ns);
+            push_unit(lines, unit);
+        }
+        TcContent::Bd { unit } => {
+            lines.push(b" bd");
+            push_unit(lines, unit);
+        }
+        TcContent::Unlock => lines.push(b" unlock"),
+        TcContent::SetVr(vr) => {
+            lines.push(b" setvr ");
+            lines.push_octet(vr);
+        }
+    }
+}
+
+fn push_unit(lines: &mut Lines, unit: &[u8])
+    requires room { HasRoomFor 196 lines.old }
+    requires some { 0 < length unit.now }
+    ensures text { lines.new ≡ lines.old ++ unit_text unit.now }
+    ensures short { length lines.new ≤ length lines.old + 60 }
+{
+    let (header, octets) = split_unit(unit);
+    push_flags(lines, header.flags());
+    lines.push_octet(header.map());
+    lines.push(b" octets ");
+    push_octet_count(lines, octets.len());
+}
+
+// Most units are short.
+fn push_octet_count(lines: &mut Lines, octets: usize)
+    requires { HasRoomFor 96 lines.old }
+    ensures text { lines.new ≡ lines.old ++ decimal octets }
+    ensures short { length lines.new ≤ length lines.old + 20 }
+{
+    if octets < 256 {
+        lines.push_octet(octets as u8);
+    } else {
+        lines.push_number(octets as u64);
+    }
+}
+
+/// The segment header of a unit, and the octets after it.
+pub fn split_unit(unit: &[u8]) -> (SegmentHeader, &[u8])
+    requires { 0 < length unit.now }
+    ensures header { result.0 ≡ header_at unit.now }
+    ensures octets { length result.1.now ≡ length unit.now - 1 }
+{
+    match unit.split_first_chunk::<1>() {
+        Some((header, octets)) => (SegmentHeader::read(header), octets),
+        None => unreachable!(),
+    }
+}
+
+fn push_flags(lines: &mut Lines, flags: u8)
+    requires room { HasRoomFor 96 lines.old }
+    requires fits { flags < 4 }
+    ensures text { lines.new ≡ lines.old ++ (codes " segment " ++ flags_word flags
+        ++ codes " map ") }
+    ensures short { length lines.new ≤ length lines.old + 20 }
+{
+    lines.push(match flags {
+        0 => b" segment middle map ",
+        1 => b" segment first map ",
+        2 => b" segment last map ",
+        _ => b" segment whole map ",
+    });
+}

@@ -1,0 +1,139 @@
+//! The lines of a TM recording's listing.
+ghost use Rattle.std.specs.Prelude.{◌≡◌, ◌+◌, ◌≤◌, ◌++◌, length, decimal, codes};
+ghost use Rattle.sl_fields.specs.Field.{bit_of};
+ghost use Rattle.sl_tmframe.specs.TmField.{data_field};
+ghost use Rattle.sl_link.specs.Io.Line.{line_at};
+ghost use Rattle.sl_link.specs.Verbs.Show.Tm.{clcw_fields_text, word_text, control_text, tm_skip_word, field_text, counts_text, tm_view_text, tm_frame_text};
+ghost use Rattle.sl_link.specs.Io.Room.{HasRoom, HasRoomFor};
+
+use crate::io::lines::Lines;
+use sl_fields::Clcw;
+use sl_tmframe::{TmField, TmFrame, TmSkip};
+
+/// Adds the line of a frame at this offset.
+pub fn tm_frame_line(lines: &mut Lines, offset: u64, read: &Result<TmFrame, TmSkip>)
+    requires { HasRoom lines.old }
+    ensures { lines.new ≡ lines.old ++ line_at offset (tm_frame_text read.now) }
+{
+    lines.push_number(offset);
+    match read {
+        Ok(frame) => push_view(lines, frame),
+        Err(reason) => push_skip(lines, *reason),
+    }
+    lines.push(b"\n");
+}
+
+/// Adds why a frame is skipped.
+pub fn push_skip(lines: &mut Lines, reason: TmSkip)
+    requires { HasRoomFor 236 lines.old }
+    ensures text { lines.new ≡ lines.old ++ (codes " skip " ++ tm_skip_word reason) }
+    ensures short { length lines.new ≤ length lines.old + 16 }
+{
+    lines.push(b" skip ");
+    lines.push(match reason {
+        TmSkip::Fecf => b"fecf",
+        TmSkip::Version => b"version",
+        TmSkip::Spacecraft => b"spacecraft",
+    });
+}
+
+fn push_view(lines: &mut Lines, frame: &TmFrame)
+    requires { HasRoomFor 236 lines.old }
+    ensures text { lines.new ≡ lines.old ++ tm_view_text frame.now }
+    ensures short { length lines.new ≤ length lines.old + 135 }
+{
+    push_counts(lines, frame);
+    lines.push(b" ");
+    push_field(lines, frame.field());
+    push_control(lines, frame.control());
+}
+
+fn push_counts(lines: &mut Lines, frame: &TmFrame)
+    requires { HasRoomFor 236 lines.old }
+    ensures text { lines.new ≡ lines.old ++ counts_text frame.now }
+    ensures short { length lines.new ≤ length lines.old + 28 }
+{
+    lines.push(b" frame vc ");
+    lines.push_octet(frame.vc());
+    lines.push(b" mc ");
+    lines.push_octet(frame.mc_count());
+    lines.push(b" vcc ");
+    lines.push_octet(frame.vc_count());
+}
+
+fn push_field(lines: &mut Lines, field: TmField)
+    requires { HasRoomFor 196 lines.old }
+    ensures text { lines.new ≡ lines.old ++ field_text (data_field field.entry) }
+    ensures short { length lines.new ≤ length lines.old + 26 }
+{
+    match field {
+        TmField::Packets {
+            first: Some(first),
+            ..
+        } => {
+            lines.push(b"first ");
+            lines.push_number(u64::from(first));
+        }
+        TmField::Packets { first: None, .. } => lines.push(b"none"),
+        TmField::Idle => lines.push(b"idle"),
+        TmField::Opaque => lines.push(b"opaque"),
+    }
+}
+
+fn push_control(lines: &mut Lines, control: Option<[u8; 4]>)
+    requires { HasRoomFor 176 lines.old }
+    ensures text { lines.new ≡ lines.old ++ control_text control }
+    ensures short { length lines.new ≤ length lines.old + 80 }
+{
+    if let Some(word) = control {
+        push_word(lines, &word);
+    }
+}
+
+fn push_word(lines: &mut Lines, word: &[u8; 4])
+    requires { HasRoomFor 176 lines.old }
+    ensures text { lines.new ≡ lines.old ++ word_text word.now }
+    ensures short { length lines.new ≤ length lines.old + 80 }
+{
+    let clcw = Clcw::read(word);
+    if clcw.word() == 1 {
+        lines.push(b" ocf ");
+        lines.push_hex(word);
+    } else {
+        lines.push(b" clcw ");
+        lines.push_hex(word);
+        push_clcw(lines, &clcw);
+    }
+}
+
+fn push_clcw(lines: &mut Lines, clcw: &Clcw)
+    requires { HasRoomFor 162 lines.old }
+    ensures text { lines.new ≡ lines.old ++ clcw_fields_text clcw.now }
+    ensures short { length lines.new ≤ length lines.old + 60 }
+{
+    lines.push(b" vc ");
+    lines.push_octet(clcw.vc());
+    lines.push(b" lockout ");
+    push_flag(lines, clcw.lockout());
+    lines.push(b" wait ");
+    push_flag(lines, clcw.wait());
+    lines.push(b" retransmit ");
+    push_flag(lines, clcw.retransmit());
+    lines.push(b" farmb ");
+    lines.push_octet(clcw.farm_b());
+    lines.push(b" vr ");
+    lines.push_octet(clcw.report());
+}
+
+/// Adds a flag as 0 or 1.
+pub fn push_flag(lines: &mut Lines, is_set: bool)
+    requires { HasRoomFor 2 lines.old }
+    ensures text { lines.new ≡ lines.old ++ decimal (bit_of is_set) }
+    ensures short { length lines.new ≡ length lines.old + 1 }
+{
+    if is_set {
+        lines.push(b"1");
+    } else {
+        lines.push(b"0");
+    }
+}

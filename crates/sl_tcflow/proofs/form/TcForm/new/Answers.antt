@@ -1,0 +1,22 @@
+use Rattle.std.proofs.Common.{sym, ◌∙◌, arith, ap}
+use Rattle.sl_tcflow.specs.Canonical.{IsFormat}
+use Rattle.sl_tcflow.specs.Recording.{tc_lists}
+use Rattle.sl_tcflow.proofs.CanonicalLemmas.{normal_form_delivers}
+use Rattle.sl_tcflow.proofs.FormLeftLemmas.{all_left}
+use Rattle.sl_tcflow.proofs.form.TcForm.new.Goals as goal
+
+pub returns-clause-all : goal.returns-clause-all
+returns-clause-all c =
+    sym (c.next_place-place.ensures.left c.args.shape c.args.spacecraft) ∙ all_left c.args.shape c.args.spacecraft c.args.vr c.args.delivered.now.lists
+
+pub returns-clause-delivers : goal.returns-clause-delivers
+returns-clause-delivers c =
+    let format = c.args.shape in
+    let lists = c.args.delivered.now.lists in
+    let is : IsFormat format = record {
+      least = omega (arith, c.max-max.ensures.value, c.max-max.ensures.least);
+      most = omega (arith, c.max-max.ensures.value, c.max-max.ensures.most);
+    } in
+    λ w.
+    ap (tc_lists format c.args.spacecraft w c.args.vr) (returns-clause-all c)
+    ∙ normal_form_delivers format c.args.spacecraft w c.args.vr lists is c.requires.spacecraft c.ranges.vr.fits c.next_place-place.ensures.deliverable

@@ -1,0 +1,19 @@
+use Rattle.std.proofs.Common.{◌≡◌, ◌<◌, [], length, sym, ◌∙◌, ap, subst, arith}
+use Rattle.std.proofs.lemmas.List.{get_or-map, length-map}
+use Rattle.std.specs.List.{slice_index_or}
+use Rattle.std.specs.Vec.{vec_items}
+use Rattle.sl_packet.specs.Delivered.{IsDeliverable, list_at}
+use Rattle.sl_tcflow.proofs.EachLemmas.{each-within}
+use Rattle.sl_tcflow.proofs.form.packet_at.Goals as goal
+
+pub returns-clause-deliverable : goal.returns-clause-deliverable
+returns-clause-deliverable c =
+    let packets = c.list-packets.result.now in
+    let here = list_at c.args.delivered.now c.args.place.channel in
+    let framed = c.args.place.framed in
+    let found = c.in_ok-packet.ensures.lookup in
+    let inside : framed < length here = omega (arith, found.3.0, ap length c.list-packets.ensures.packets, length-map packets vec_items) in
+    let is : c.as_slice.result.now ≡ slice_index_or here framed [] =
+    c.as_slice.ensures.value ∙ ap vec_items found.1 ∙ sym (get_or-map vec_items packets framed c.in_ok-packet.packet.now [] found.3.0)
+    ∙ ap (λ l. slice_index_or l framed []) c.list-packets.ensures.packets in
+    subst IsDeliverable (sym is) (each-within IsDeliverable here framed [] inside c.list-packets.ensures.deliverable)

@@ -1,0 +1,11 @@
+use Rattle.sl_tcflow.proofs.FormLeftLemmas.{piece_some}
+use Rattle.sl_tcflow.proofs.PartLemmas.{packet_size}
+use Rattle.sl_tcflow.proofs.form.push_piece.Goals as goal
+
+pub returns-in-Ok-clause-some : goal.returns-in-Ok-clause-some
+returns-in-Ok-clause-some c =
+    piece_some c.args.shape.now c.args.spacecraft c.args.place.channel c.args.place.ns c.args.packet.now c.push_packet.ensures.room (packet_size c.args.packet.now c.requires.deliverable.0).0
+
+pub returns-in-Err-clause-some : goal.returns-in-Err-clause-some
+returns-in-Err-clause-some c =
+    piece_some c.args.shape.now c.args.spacecraft c.args.place.channel c.args.place.ns c.args.packet.now c.push_packet.ensures.room (packet_size c.args.packet.now c.requires.deliverable.0).0

@@ -1,0 +1,191 @@
+//! The normal form of delivered packets, piece by piece.
+ghost use Rattle.std.specs.Prelude.{◌≡◌, ◌≢◌, ℕ, ◌+◌, ◌^◌, ◌<◌, ◌≤◌, ◌++◌, [], length, vec_len, IsTrue, IsFalse, IfSome, IfNone, IfOk, IsOk, OnOk, OnErr};
+ghost use Rattle.std.specs.List.{slice_index_or};
+ghost use Rattle.std.specs.Vec.{vec_capacity};
+ghost use Rattle.sl_packet.specs.Delivered.{IsDeliverable, channel_count, list_at};
+ghost use Rattle.sl_tcframe.specs.TcFrame.{TcFormat};
+ghost use Rattle.sl_tcflow.specs.Canonical.{AreDeliverable};
+ghost use Rattle.sl_tcflow.specs.FormLeft.{IsNextChannel, IsPlace, form_left, ns_after, piece_of};
+ghost use Rattle.sl_tcflow.specs.FormPiece.{AddsPiece, piece_room};
+ghost use Rattle.sl_tcflow.specs.Recording.{tc_lists};
+ghost use Rattle.sl_tcflow.specs.TcNormalForm.{tc_normal_form_of};
+
+use crate::frames::push_packet;
+use sl_packet::Delivered;
+use sl_tcframe::TcShape;
+use std::alloc::AllocError;
+use std::marker::Model;
+
+/// Room for any piece: a packet has 65,542 octets at most, and each of its frames 8 of its own at most and, but for
+/// the last one, 8 of the packet at least.
+pub const PIECE_ROOM: usize = 131_091;
+
+// The number after the last channel.
+const CHANNELS: u16 = 4096;
+
+/// The normal form of delivered packets, made piece by piece: a piece is the frames of a packet. A clause sees it as
+/// the octets that are still to come.
+#[derive(Drop)]
+pub struct TcForm<'d> {
+    shape: TcShape,
+    spacecraft: u16,
+    vr: u8,
+    delivered: &'d Delivered,
+    place: Place,
+}
+
+// The place of the next packet: its channel, 4096 after the last packet; how many packets of that channel come
+// before it; and the N(S) of its first frame.
+#[derive(Clone, Copy)]
+struct Place {
+    channel: u16,
+    framed: usize,
+    ns: u8,
+}
+
+impl<'d> Model for TcForm<'d> {
+    ghost use Rattle.std.specs.Prelude.{ℕ, List};
+
+    ghost Value = { List ℕ };
+
+    ghost use Rattle.sl_tcflow.specs.TcFormModel.{octets_left, IsTcForm};
+
+    ghost view = { octets_left };
+
+    ghost invariant = { IsTcForm };
+}
+
+impl<'d> TcForm<'d> {
+    /// The form of these packets, those of virtual channel `v` and MAP `m` on channel `64 * v + m`, with all of it
+    /// still to come. `spacecraft` is 0 to 1023, and `vr` the initial V(R) of each virtual channel, the N(S) of its
+    /// first frame. It takes no memory.
+    pub fn new(shape: TcShape, spacecraft: u16, vr: u8, delivered: &'d Delivered) -> TcForm<'d>
+        requires spacecraft { spacecraft ≤ 1023 }
+        ensures all { result ≡ tc_normal_form_of shape spacecraft vr delivered.now.lists }
+        // Read as a recording from that V(R) on, it delivers the packets again, whatever the window.
+        ensures delivers { (w : ℕ) → tc_lists shape spacecraft w vr result ≡ delivered.now.lists }
+        ensures size { length delivered.now.lists ≡ channel_count }
+    {
+        let max = shape.max();
+        prove!(16 <= max && max <= 1024);
+        let start = Place {
+            channel: 0,
+            framed: 0,
+            ns: vr,
+        };
+        let place = next_place(delivered, vr, start);
+        TcForm {
+            shape,
+            spacecraft,
+            vr,
+            delivered,
+            place,
+        }
+    }
+
+    /// Adds the next piece to `form`, and answers whether there was one. A piece has 1 to [`PIECE_ROOM`] octets.
+    ///
+    /// The only refusal is want of memory, and only where a piece is left and the capacity of `form` has no room for
+    /// [`PIECE_ROOM`] octets more. Both are then as they were.
+    pub fn next(&mut self, form: &mut Vec<u8>) -> Result<bool, AllocError>
+        ensures piece { IfOk result (λ some. IsTrue some → AddsPiece self.old form.old.items self.new form.new.items) }
+        ensures end { IfOk result (λ some. IsFalse some → (self.old ≡ []) × (self.new ≡ []) × (form.new.items ≡ form.old.items)) }
+        ensures pieces { OnErr result (self.old ≢ []) }
+        ensures unchanged { OnErr result ((self.new ≡ self.old) × (form.new.items ≡ form.old.items)) }
+        ensures capacity { vec_capacity form.old ≤ vec_capacity form.new }
+        ensures full { OnErr result (vec_capacity form.old < vec_len form.old + piece_room) }
+        ensures succeeds { vec_len form.old + piece_room ≤ vec_capacity form.old → IsOk result }
+    {
+        let place = self.place;
+        let packet = match packet_at(self.delivered, place) {
+            Some(packet) => packet,
+            None => return Ok(false),
+        };
+        let ns = push_piece(form, &self.shape, self.spacecraft, place, packet)?;
+        let from = Place {
+            channel: place.channel,
+            framed: place.framed + 1,
+            ns,
+        };
+        self.place = next_place(self.delivered, self.vr, from);
+        Ok(true)
+    }
+}
+
+// The packet of a place, if there is one.
+fn packet_at(delivered: &Delivered, place: Place) -> Option<&[u8]>
+    ensures some { IfSome result (λ packet. packet.now ≡ slice_index_or (list_at delivered.now place.channel) place.framed []) }
+    ensures inside { IfSome result (λ packet. place.framed < length (list_at delivered.now place.channel)) }
+    ensures counted { IfSome result (λ packet. place.framed + 1 < 2 ^ 64) }
+    ensures channel { IfSome result (λ packet. place.channel < channel_count) }
+    ensures deliverable { IfSome result (λ packet. IsDeliverable packet.now) }
+    ensures none { IfNone result (length (list_at delivered.now place.channel) ≤ place.framed) }
+    ensures channels { length delivered.now.lists ≡ channel_count }
+{
+    let packets = delivered.list(place.channel);
+    let packet = packets.get(place.framed)?;
+    Some(packet.as_slice())
+}
+
+// Adds the frames of a packet, the place of which is this, and answers the N(S) of the next frame.
+fn push_piece(
+    form: &mut Vec<u8>,
+    shape: &TcShape,
+    spacecraft: u16,
+    place: Place,
+    packet: &[u8],
+) -> Result<u8, AllocError>
+    requires spacecraft { spacecraft ≤ 1023 }
+    requires channel { place.channel < channel_count }
+    requires deliverable { IsDeliverable packet.now }
+    ensures frames { OnOk result (form.new.items ≡ form.old.items ++ piece_of shape.now spacecraft place.channel place.ns packet.now) }
+    ensures next { IfOk result (λ next. next ≡ ns_after shape.now place.channel place.ns packet.now) }
+    ensures some { 0 < length (piece_of shape.now spacecraft place.channel place.ns packet.now) }
+    ensures most { OnOk result (vec_len form.new ≤ vec_len form.old + piece_room) }
+    ensures unchanged { OnErr result (form.new.items ≡ form.old.items) }
+    ensures capacity { vec_capacity form.old ≤ vec_capacity form.new }
+    ensures full { OnErr result (vec_capacity form.old < vec_len form.old + piece_room) }
+{
+    let start = form.len();
+    let vc = (place.channel / 64) as u8;
+    let mid = (place.channel % 64) as u8;
+    match push_packet(form, shape, spacecraft, vc, place.ns, mid, packet) {
+        Ok(next) => Ok(next),
+        Err(fault) => {
+            form.truncate(start);
+            Err(fault)
+        }
+    }
+}
+
+// The place of the first packet from a place on. N(S) goes on within a virtual channel, and begins with `vr` on the
+// next one.
+fn next_place(delivered: &Delivered, vr: u8, from: Place) -> Place
+    requires channel { from.channel < channel_count }
+    ensures left { (format : TcFormat) (spacecraft : ℕ) → form_left format spacecraft vr delivered.now.lists from.channel from.framed from.ns
+        ≡ form_left format spacecraft vr delivered.now.lists result.channel result.framed result.ns }
+    ensures place { IsPlace delivered.now result.channel result.framed }
+    ensures deliverable { AreDeliverable delivered.now.lists }
+{
+    if from.framed < delivered.list(from.channel).len() {
+        return from;
+    }
+    let channel = next_channel(delivered, from.channel);
+    let goes_on = channel / 64 == from.channel / 64;
+    Place {
+        channel,
+        framed: 0,
+        ns: if goes_on { from.ns } else { vr },
+    }
+}
+
+// The next channel after this one that has packets, 4096 where none has.
+fn next_channel(delivered: &Delivered, channel: u16) -> u16
+    requires { channel < channel_count }
+    ensures { IsNextChannel delivered.now channel result }
+{
+    match delivered.at_or_above(channel + 1) {
+        Some(next) => next,
+        None => CHANNELS,
+    }
+}

@@ -1,0 +1,77 @@
+//! The frames of a packet in the normal form.
+ghost use Rattle.std.specs.Prelude.{◌≡◌, ◌+◌, ◌*◌, ◌%◌, ◌<◌, ◌≤◌, ◌++◌, if◌then◌else◌, length, take, drop, vec_len, IfOk, OnOk, OnErr};
+ghost use Rattle.std.specs.List.{concat};
+ghost use Rattle.std.specs.Vec.{vec_capacity};
+ghost use Rattle.sl_fields.specs.SegmentHeader.{SegmentFields};
+ghost use Rattle.sl_tcframe.specs.AdFrame.{room_of};
+ghost use Rattle.sl_tcflow.specs.TcNormalForm.{segments_of_packet, frames_of_segments};
+
+use sl_fields::SegmentHeader;
+use sl_tcframe::{TcShape, push_tc};
+use std::alloc::AllocError;
+
+// Adds the frames of a packet, the N(S) of the first one `ns`, and answers the N(S) of the next frame.
+pub(crate) fn push_packet(
+    form: &mut Vec<u8>,
+    shape: &TcShape,
+    spacecraft: u16,
+    vc: u8,
+    ns: u8,
+    mid: u8,
+    packet: &[u8],
+) -> Result<u8, AllocError>
+    requires spacecraft { spacecraft ≤ 1023 }
+    requires vc { vc ≤ 63 }
+    requires mid { mid ≤ 63 }
+    ensures frames { OnOk result (form.new.items ≡ form.old.items ++ concat (frames_of_segments shape.now spacecraft vc ns (segments_of_packet (room_of shape.now) mid packet.now))) }
+    ensures next { IfOk result (λ next. next ≡ (ns + length (segments_of_packet (room_of shape.now) mid packet.now)) % 256) }
+    ensures room { 0 < room_of shape.now }
+    ensures most { OnOk result (vec_len form.new ≤ vec_len form.old + 2 * length packet.now + 7) }
+    ensures kept { OnErr result (take (vec_len form.old) form.new.items ≡ form.old.items) }
+    ensures capacity { vec_capacity form.old ≤ vec_capacity form.new }
+    ensures full { OnErr result (vec_capacity form.old < vec_len form.old + 2 * length packet.now + 7) }
+{
+    let room = usize::from(shape.room());
+    let mut ns = ns;
+    let mut left = packet;
+    while !left.is_empty() {
+        let first = left.len() == packet.len();
+        let (octets, later) = split_segment(left, room);
+        let header = header_of(first, later.is_empty(), mid);
+        push_tc(form, shape, spacecraft, vc, ns, header, octets)?;
+        ns = ns.wrapping_add(1);
+        left = later;
+    }
+    Ok(ns)
+}
+
+// The octets of the next segment, and those after it.
+fn split_segment(left: &[u8], room: usize) -> (&[u8], &[u8])
+    ensures octets { result.0.now ≡ take room left.now }
+    ensures later { result.1.now ≡ drop room left.now }
+{
+    if left.len() <= room {
+        return (left, &[]);
+    }
+    left.split_at(room)
+}
+
+// The header of a segment of a packet, which is the packet's first one or not, and its last one or not.
+fn header_of(first: bool, last: bool, mid: u8) -> SegmentHeader
+    requires { mid ≤ 63 }
+    ensures { let fields : SegmentFields = record {
+      flags = if first then (if last then 3 else 1) else (if last then 2 else 0);
+      map = mid;
+    } in result ≡ fields }
+{
+    let flags = match (first, last) {
+        (true, true) => 3,
+        (true, false) => 1,
+        (false, true) => 2,
+        (false, false) => 0,
+    };
+    match SegmentHeader::new(flags, mid) {
+        Some(header) => header,
+        None => unreachable!(),
+    }
+}

@@ -1,0 +1,203 @@
+-- A normal form that is made piece by piece: how far it is, and what of it is still to come. The frames are those of
+-- the definition, `channel_frame`, counted from the front of the form; where the division into pieces lies is this
+-- project's own.
+use Rattle.std.specs.Prelude.{◌≡◌, ℕ, zero, suc, ◌+◌, ◌-◌, ◌*◌, ◌/◌, ◌%◌, ◌<◌, ◌≤◌, ◌==◌, ◌⊎◌, ◌≢◌, if◌then◌else◌, List, [], ◌∷◌, ◌++◌, length, take, drop, map, Option, None, Some}
+use Rattle.std.specs.List.{concat, find, range_with_len, slice_index_or}
+use Rattle.sl_tmframe.specs.PacketFrame.{room_of, packet_frame}
+use Rattle.sl_tmframe.specs.TmFrame.{TmFormat}
+use Rattle.sl_tmflow.specs.NormalForm.{filling, with_filling, packet_offsets, lies_in, channel_frame, frames_from_channel}
+
+-- ---- how far it is
+
+pub record FormProgress : Type 0 where
+  pub format : TmFormat
+  pub spacecraft : ℕ
+  -- the packets of each channel
+  pub lists : List (List (List ℕ))
+  -- the virtual channel of the next packet, 8 where there is none
+  pub vc : ℕ
+  -- the packets of the virtual channel that were taken, the one that fills up included
+  pub taken : ℕ
+  -- the frame counts of the next frame
+  pub master : ℕ
+  pub counter : ℕ
+  -- the octets of those packets that don't fill a data field yet
+  pub octets : List ℕ
+  -- where the first packet starts in that data field, or the next one if none does yet
+  pub start : ℕ
+
+-- with the octets that memory was taken for
+pub record FormState : Type 0 where
+  pub progress : FormProgress
+  pub octets_room : ℕ
+
+-- ---- what is still to come
+
+-- the packets of the virtual channel, and those of them that fill it up
+abbrev pub channel_packets : FormProgress → List (List ℕ)
+channel_packets s = slice_index_or (take 8 s.lists) s.vc []
+
+abbrev pub filled_packets : FormProgress → List (List ℕ)
+filled_packets s = with_filling (room_of s.format) (channel_packets s)
+
+-- the first of the offsets, from one on, at which packets start end to end, that lies in the data field of a number
+abbrev pub start_in : ℕ → ℕ → ℕ → List (List ℕ) → Option ℕ
+start_in room number offset packets = find (lies_in room number) (packet_offsets offset packets)
+
+-- of the packets of a channel so many data fields were made, and these octets are left of the packets that were taken
+pub record IsPending (room : ℕ) (packets : List (List ℕ)) (count start : ℕ) (octets : List ℕ) (later : List (List ℕ)) : Type 0 where
+  pub made : List ℕ
+  pub parts : concat packets ≡ made ++ (octets ++ concat later)
+  pub size : length made ≡ count * room
+  pub within : start ≤ length octets
+  -- what starts in later data fields is among the packets that are to be taken,
+  pub after : (number : ℕ) → count < number → start_in room number 0 packets ≡ start_in room number (count * room + length octets) later
+  -- and if there is one, this is the first packet start of the next data field
+  pub first : (packet : List ℕ) (more : List (List ℕ)) → later ≡ packet ∷ more → start_in room count 0 packets ≡ Some (count * room + start)
+
+-- these octets of the normal form are still to come
+pub record IsLeft (s : FormProgress) (left : List ℕ) : Type 0 where
+  -- the frames of the virtual channels before, and those of this one that were made and that weren't
+  pub before : ℕ
+  pub count : ℕ
+  pub many : ℕ
+  pub most : s.taken ≤ length (channel_packets s) + 1
+  pub all : count + many ≡ length (concat (filled_packets s)) / room_of s.format
+  pub master_is : s.master ≡ (before + count) % 256
+  pub counter_is : s.counter ≡ count % 256
+  pub pending : IsPending (room_of s.format) (filled_packets s) count s.start s.octets (drop s.taken (filled_packets s))
+  pub left_is : left ≡ concat (map (channel_frame s.format s.spacecraft s.vc before (filled_packets s)) (range_with_len count many))
+      ++ concat (frames_from_channel s.format s.spacecraft (s.vc + 1) (before + (count + many)) (drop (s.vc + 1) (take 8 s.lists)))
+
+-- ---- a piece
+
+-- the octets that there has to be memory for, so that no piece wants more: for those that don't fill a data field with
+-- the ones that fill it up, and for the frames of a piece
+abbrev pub octets_room : ℕ
+octets_room = 4096
+
+abbrev pub piece_room : ℕ
+piece_room = 90112
+
+abbrev pub HasRoom : FormState → Type 0
+HasRoom s = octets_room ≤ s.octets_room
+
+-- the next piece was added, and the others are left
+pub record AddsPiece (old : FormProgress) (before after : List ℕ) (new : FormProgress) : Type 0 where
+  pub piece : List ℕ
+  pub added : after ≡ before ++ piece
+  pub left : (octets : List ℕ) → IsLeft old octets → (more : List ℕ) × ((octets ≡ piece ++ more) × IsLeft new more)
+
+-- nothing is left
+abbrev pub IsAllMade : FormProgress → Type 0
+IsAllMade s = (octets : List ℕ) → IsLeft s octets → octets ≡ []
+
+-- what was left still is
+abbrev pub KeepsLeft : FormProgress → FormProgress → Type 0
+KeepsLeft old new = (octets : List ℕ) → IsLeft old octets → IsLeft new octets
+
+-- a virtual channel has packets
+abbrev pub HasPackets : List (List (List ℕ)) → Type 0
+HasPackets lists = (channel : ℕ) × ((channel < 8) × (slice_index_or lists channel [] ≢ []))
+
+-- how many packets may follow, those that fill up included
+abbrev pub packets_in : List (List (List ℕ)) → ℕ
+packets_in [] = 0
+packets_in (packets ∷ lists) = (length packets + 1) + packets_in lists
+
+abbrev pub packets_left : FormProgress → ℕ
+packets_left s = packets_in (drop s.vc (take 8 s.lists)) - s.taken
+
+-- ---- the steps of the code, which contracts of private functions alone cite
+
+-- frames of the data fields at the front of octets, of which no packet starts in any but the first
+abbrev pub field_frames : TmFormat → ℕ → ℕ → ℕ → Option ℕ → ℕ → ℕ → List ℕ → List ℕ
+field_frames format spacecraft vc zero first master counter octets = []
+field_frames format spacecraft vc (suc many) first master counter octets =
+    packet_frame format spacecraft vc master counter first (take (room_of format) octets)
+    ++ field_frames format spacecraft vc many None ((master + 1) % 256) ((counter + 1) % 256) (drop (room_of format) octets)
+
+-- the data fields that octets fill, and the octets beyond them
+abbrev pub fields_in : TmFormat → List ℕ → ℕ
+fields_in format octets = length octets / room_of format
+
+abbrev pub beyond_fields : TmFormat → List ℕ → List ℕ
+beyond_fields format octets = drop (fields_in format octets * room_of format) octets
+
+-- packets are left on the virtual channel, or octets to be filled up
+pub record HasMore (s : FormProgress) : Type 0 where
+  pub inside : s.vc ≤ 7
+  pub more : (s.taken < length (slice_index_or s.lists s.vc [])) ⊎ (s.octets ≢ [])
+
+-- octets, filled up
+abbrev pub filled_up : TmFormat → List ℕ → List ℕ
+filled_up format octets = octets ++ concat (filling (room_of format) (length octets))
+
+-- the idle packet that fills up what is left of a virtual channel, or nothing
+abbrev pub filling_of : FormProgress → List ℕ
+filling_of s = concat (filling (room_of s.format) (length s.octets))
+
+-- the frames that a packet completes
+abbrev pub piece_of : FormProgress → List ℕ → List ℕ
+piece_of s packet =
+    field_frames s.format s.spacecraft s.vc (fields_in s.format (s.octets ++ packet)) (Some s.start) s.master s.counter (s.octets ++ packet)
+
+-- so many frames later, when so many packets were taken
+abbrev pub passed : FormProgress → ℕ → ℕ → FormProgress
+passed s frames taken =
+    record {
+      format = s.format;
+      spacecraft = s.spacecraft;
+      lists = s.lists;
+      vc = s.vc;
+      taken = taken;
+      master = (s.master + frames) % 256;
+      counter = (s.counter + frames) % 256;
+      octets = s.octets;
+      start = if frames == 0 then s.start else length s.octets;
+    }
+
+-- after a packet, when so many were taken
+abbrev pub after_packet : FormProgress → List ℕ → ℕ → FormProgress
+after_packet s packet taken =
+    record {
+      format = s.format;
+      spacecraft = s.spacecraft;
+      lists = s.lists;
+      vc = s.vc;
+      taken = taken;
+      master = (s.master + fields_in s.format (s.octets ++ packet)) % 256;
+      counter = (s.counter + fields_in s.format (s.octets ++ packet)) % 256;
+      octets = beyond_fields s.format (s.octets ++ packet);
+      start = if fields_in s.format (s.octets ++ packet) == 0 then s.start else length (beyond_fields s.format (s.octets ++ packet));
+    }
+
+-- the progress at the front of the next virtual channel
+abbrev pub next_channel : FormProgress → FormProgress
+next_channel s =
+    record {
+      format = s.format;
+      spacecraft = s.spacecraft;
+      lists = s.lists;
+      vc = s.vc + 1;
+      taken = 0;
+      master = s.master;
+      counter = 0;
+      octets = s.octets;
+      start = s.start;
+    }
+
+-- before the first packet
+abbrev pub form_begun : TmFormat → ℕ → List (List (List ℕ)) → FormProgress
+form_begun format spacecraft lists =
+    record {
+      format = format;
+      spacecraft = spacecraft;
+      lists = lists;
+      vc = 0;
+      taken = 0;
+      master = 0;
+      counter = 0;
+      octets = [];
+      start = 0;
+    }

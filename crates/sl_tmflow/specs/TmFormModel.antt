@@ -1,0 +1,28 @@
+-- A `TmForm` is how far it is. The octets that it keeps don't fill a data field.
+use Rattle.std.specs.Prelude.{◌<◌, ◌≤◌, length}
+use Rattle.std.specs.Vec.{vec_capacity}
+use Rattle.sl_tmframe.specs.PacketFrame.{room_of}
+use Rattle.sl_tmflow.specs.FormLeft.{FormProgress, FormState}
+use Rattle.sl_tmflow.specs.declared.form.TmForm.TheInside.{Inside}
+
+abbrev pub form_progress : Inside → FormProgress
+form_progress f =
+    record {
+      format = f.shape;
+      spacecraft = f.spacecraft;
+      lists = f.delivered.now.lists;
+      vc = f.vc;
+      taken = f.taken;
+      master = f.master;
+      counter = f.counter;
+      octets = f.octets.items;
+      start = f.start;
+    }
+
+abbrev pub form_state : Inside → FormState
+form_state f = record { progress = form_progress f; octets_room = vec_capacity f.octets }
+
+pub record IsTmForm (f : Inside) : Type 0 where
+  pub spacecraft : f.spacecraft ≤ 1023
+  pub few : length f.octets.items < room_of f.shape
+  pub start : f.start < room_of f.shape

@@ -1,0 +1,17 @@
+mod command_line;
+mod engines;
+mod faults;
+mod faulty;
+mod hostile;
+mod listings_tc;
+mod listings_tm;
+mod live;
+mod longest;
+mod no_memory;
+mod normalise;
+mod normalise_tc;
+mod outcome;
+mod parts;
+mod program;
+mod show;
+mod show_tc;

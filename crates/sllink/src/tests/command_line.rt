@@ -1,0 +1,158 @@
+//! Command lines: what they ask for, which are refused, and help.
+use super::normalise::{FIRST, TEN_FILLED, octets};
+use super::outcome::{Outcome, text};
+use std::test::Fail;
+
+const HELP: &str = "sllink --help";
+
+const LISTED: &str = "0 frame vc 0 mc 0 vcc 0 first 0\n";
+
+// Options come in any order, before the kind or after it, with their number as a word of its own or not; what the first
+// word is doesn't matter.
+#[test]
+fn command_lines_are_read(rt: HostRuntime) -> Result<(), Fail> {
+    let alloc = rt.alloc();
+    let recording = octets(alloc, &[FIRST, TEN_FILLED])?;
+    let lines = [
+        ("sllink show tm --scid 1 --tm-length 32", LISTED),
+        ("any show --limit=32 --tm-length=32 tm --scid=1", LISTED),
+        (
+            "sllink show --tc-fecf --tm-length 32 --scid 1 --vr 255 --window 2 tm --tc-length 16",
+            LISTED,
+        ),
+        ("sllink show tm --scid 1", "0 rest 32\n"),
+    ];
+    for (line, listing) in lines {
+        let outcome = Outcome::of(alloc, line, recording.as_slice())?;
+        assert!(rt; outcome.says(0, ""), "{line}");
+        assert_eq!(rt; text(outcome.output.as_slice()), listing);
+    }
+    Ok(())
+}
+
+#[test]
+fn wrong_command_lines_are_refused(rt: HostRuntime) -> Result<(), Fail> {
+    let lines = [
+        "",
+        "sllink",
+        "sllink tell tm --scid 1",
+        "sllink help tell",
+        "sllink show --scid 1",
+        "sllink show tx --scid 1",
+        "sllink check --scid 1",
+        "sllink check tx --scid 1",
+        "sllink check tm",
+        "sllink packets --scid 1",
+        "sllink packets tx --scid 1",
+        "sllink packets tc",
+        "sllink packet tm --scid 1",
+        "sllink normalise --scid 1",
+        "sllink normalise tx --scid 1",
+        "sllink normalise tm",
+        "sllink show tm tm --scid 1",
+        "sllink show tm",
+        "sllink show tm --scid",
+        "sllink show tm --scid one",
+        "sllink show tm --scid 65536",
+        "sllink show tm --scid -1",
+        "sllink show tm --scid=-1",
+        "sllink show tm --scid 1 --scid 1",
+        "sllink show tm --scid 1 --tm-length 65536",
+        "sllink show tm --scid 1 --limit 18446744073709551616",
+        "sllink show tm --scid 1 --spare 10",
+        "sllink show tc --scid 1 --tc-length 65536",
+        "sllink show tc --scid 1 --window 256",
+        "sllink show tc --scid 1 --vr 256",
+        "sllink show tc --scid 1 --vr=-1",
+        "sllink show tm --scid 1 --tm-fecf --tm-fecf",
+        "sllink show tm --scid 1 --tm-fecf=1",
+        "sllink show tc --scid 1 --tc-fecf=1",
+        "sllink show tc --scid 1 --tc-fecf --tc-fecf",
+        "sllink show tm --scid 1 --tm-fecf yes",
+    ];
+    for line in lines {
+        let outcome = Outcome::of(rt.alloc(), line, &[])?;
+        assert_eq!(rt; outcome.status, 2, "{line}");
+        assert!(rt; outcome.output.is_empty(), "{line}");
+        assert!(rt; outcome.errors.starts_with(b"error: "), "{line}");
+    }
+    Ok(())
+}
+
+#[test]
+fn help_is_printed(rt: HostRuntime) -> Result<(), Fail> {
+    let all = "\nUsage: sllink <COMMAND>\n";
+    let show = "\nUsage: sllink show [OPTIONS] --scid <ID> <KIND>\n";
+    let check = "\nUsage: sllink check [OPTIONS] --scid <ID> <KIND>\n";
+    let packets = "\nUsage: sllink packets [OPTIONS] --scid <ID> <KIND>\n";
+    let normalise = "\nUsage: sllink normalise [OPTIONS] --scid <ID> <KIND>\n";
+    let cases = [
+        (HELP, all),
+        ("sllink help", all),
+        ("sllink show -h", show),
+        ("sllink help show", show),
+        ("sllink check --help", check),
+        ("sllink help check", check),
+        ("sllink packets -h", packets),
+        ("sllink help packets", packets),
+        ("sllink help normalise", normalise),
+    ];
+    for (line, usage) in cases {
+        let outcome = Outcome::of(rt.alloc(), line, &[])?;
+        assert!(rt; outcome.says(0, ""), "{line}");
+        assert!(rt; text(outcome.output.as_slice()).contains(usage), "{line}");
+    }
+    Ok(())
+}
+
+#[test]
+fn help_names_each_verb(rt: HostRuntime) -> Result<(), Fail> {
+    let verbs = [
+        ("show", "List the frames of a recording\n"),
+        ("check", "List what is amiss in a recording\n"),
+        ("packets", "List the packets of a recording\n"),
+        ("normalise", "Write the normal form of a recording\n"),
+    ];
+    let outcome = Outcome::of(rt.alloc(), HELP, &[])?;
+    let mut left = text(outcome.output.as_slice());
+    // In this order.
+    for (verb, about) in verbs {
+        let (_, behind) = left.split_once(verb).unwrap_or(("", ""));
+        let (between, after) = behind.split_once(about).unwrap_or(("no", ""));
+        assert!(rt; between.trim().is_empty(), "{verb}");
+        left = after;
+    }
+    Ok(())
+}
+
+#[test]
+fn help_names_each_option(rt: HostRuntime) -> Result<(), Fail> {
+    let options = [
+        "--scid <ID>",
+        "--tm-length <OCTETS>",
+        "--tc-length <OCTETS>",
+        "--tm-fecf",
+        "--tc-fecf",
+        "--window <WIDTH>",
+        "--vr <NUMBER>",
+        "--limit <OCTETS>",
+    ];
+    let lines = [
+        "sllink show --help",
+        "sllink check --help",
+        "sllink packets --help",
+        "sllink normalise --help",
+    ];
+    for line in lines {
+        let outcome = Outcome::of(rt.alloc(), line, &[])?;
+        let mut left = text(outcome.output.as_slice());
+        assert!(rt; left.contains("[possible values: tm, tc]"), "{left}");
+        // In this order.
+        for option in options {
+            let (_, behind) = left.split_once(option).unwrap_or(("", ""));
+            assert!(rt; !behind.is_empty(), "{line} {option}");
+            left = behind;
+        }
+    }
+    Ok(())
+}

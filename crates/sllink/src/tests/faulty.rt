@@ -1,0 +1,148 @@
+//! Readers and writers with faults.
+use std::io::{Error, ErrorKind, Read, Result, Write};
+
+/// Can't be read.
+#[derive(Drop)]
+pub(super) struct Unreadable;
+
+impl Read for Unreadable {
+    fn read(&mut self, _octets: &mut [u8]) -> Result<usize> {
+        Err(Error::from(ErrorKind::ConnectionReset))
+    }
+}
+
+/// Can't be written.
+#[derive(Drop)]
+pub(super) struct Unwritable;
+
+impl Write for Unwritable {
+    fn write(&mut self, _octets: &[u8]) -> Result<usize> {
+        Err(Error::from(ErrorKind::StorageFull))
+    }
+
+    fn flush(&mut self) -> Result<()> {
+        Ok(())
+    }
+}
+
+/// Takes no octets.
+#[derive(Drop)]
+pub(super) struct Full;
+
+impl Write for Full {
+    fn write(&mut self, _octets: &[u8]) -> Result<usize> {
+        Ok(0)
+    }
+
+    fn flush(&mut self) -> Result<()> {
+        Ok(())
+    }
+}
+
+/// Takes all octets and can't be flushed.
+#[derive(Drop)]
+pub(super) struct Unflushed;
+
+impl Write for Unflushed {
+    fn write(&mut self, octets: &[u8]) -> Result<usize> {
+        Ok(octets.len())
+    }
+
+    fn flush(&mut self) -> Result<()> {
+        Err(Error::from(ErrorKind::BrokenPipe))
+    }
+}
+
+/// Is interrupted at its first write, and takes all octets from then on.
+#[derive(Drop)]
+pub(super) struct Interrupted {
+    was_interrupted: bool,
+}
+
+impl Interrupted {
+    pub(super) fn new() -> Interrupted {
+        Interrupted {
+            was_interrupted: false,
+        }
+    }
+}
+
+impl Write for Interrupted {
+    fn write(&mut self, octets: &[u8]) -> Result<usize> {
+        if self.was_interrupted {
+            return Ok(octets.len());
+        }
+        self.was_interrupted = true;
+        Err(Error::from(ErrorKind::Interrupted))
+    }
+
+    fn flush(&mut self) -> Result<()> {
+        Ok(())
+    }
+}
+
+/// Gives, or takes, at most so many octets at a time.
+#[derive(Drop)]
+pub(super) struct InPieces<T>(pub(super) T, pub(super) usize);
+
+impl<R: Read> Read for InPieces<R> {
+    fn read(&mut self, octets: &mut [u8]) -> Result<usize> {
+        let most = octets.len().min(self.1);
+        self.0.read(&mut octets[..most])
+    }
+}
+
+impl<W: Write> Write for InPieces<W> {
+    fn write(&mut self, octets: &[u8]) -> Result<usize> {
+        let most = octets.len().min(self.1);
+        self.0.write(&octets[..most])
+    }
+
+    fn flush(&mut self) -> Result<()> {
+        self.0.flush()
+    }
+}
+
+/// Fails once so many calls have gone well, and at each later one.
+#[derive(Drop)]
+pub(super) struct FailsAfter<T> {
+    inner: T,
+    allowed: u64,
+}
+
+impl<T> FailsAfter<T> {
+    pub(super) fn new(inner: T, allowed: u64) -> FailsAfter<T> {
+        FailsAfter { inner, allowed }
+    }
+
+    pub(super) fn into_inner(self) -> T {
+        let FailsAfter { inner, .. } = self;
+        inner
+    }
+
+    fn spend(&mut self) -> Result<()> {
+        if self.allowed == 0 {
+            return Err(Error::from(ErrorKind::ConnectionReset));
+        }
+        self.allowed -= 1;
+        Ok(())
+    }
+}
+
+impl<R: Read> Read for FailsAfter<R> {
+    fn read(&mut self, octets: &mut [u8]) -> Result<usize> {
+        self.spend()?;
+        self.inner.read(octets)
+    }
+}
+
+impl<W: Write> Write for FailsAfter<W> {
+    fn write(&mut self, octets: &[u8]) -> Result<usize> {
+        self.spend()?;
+        self.inner.write(octets)
+    }
+
+    fn flush(&mut self) -> Result<()> {
+        self.inner.flush()
+    }
+}

@@ -1,0 +1,236 @@
+use super::faulty::{FailsAfter, InPieces};
+use super::normalise::octets;
+use super::normalise_tc::{BAD_LENGTH, IN_WINDOW, LOCKED_OUT, SKIPPED};
+use super::outcome::{Outcome, text};
+use sl_link::{Counted, LinkFault, Managed, ManagedFault, show_tc};
+use std::test::Fail;
+
+const SHOW: &str = "sllink show tc --scid 1 --tm-length 32 --tc-length 16";
+
+const WITH_FECF: &str = "sllink show tc --scid 1 --tm-length 32 --tc-length 16 --tc-fecf";
+
+const FROM_255: &str = "sllink show tc --scid 1 --tm-length 32 --tc-length 16 --vr 255";
+
+const WINDOW_OF_2: &str = "sllink show tc --scid 1 --tm-length 32 --tc-length 16 --window 2";
+
+// A packet of ten octets, and what comes before it in frames of types AD and BD that carry it whole.
+const PACKET: &str = "1001c0000003aabbccdd";
+
+const AD: &str = "0001000f00c0";
+
+const BD: &str = "2001000f00c0";
+
+// A packet in three segments on virtual channel 5, without the headers of their frames.
+const SEGMENTS: [&str; 3] = [
+    "401002c005001011111111",
+    "0011111111111111111111",
+    "80111111",
+];
+
+const ACCEPTED: &str = "0 frame vc 0 ad 0 segment whole map 0 octets 10 accept clcw 01000001\n";
+
+const TWICE: &str = "0 frame vc 0 ad 0 segment whole map 0 octets 10 accept clcw 01000001\n\
+    16 frame vc 0 bd segment whole map 0 octets 10 accept clcw 01000201\n\
+    32 rest 7\n";
+
+fn cases() -> [(&'static str, &'static [&'static str], &'static str); 16] {
+    [
+        (SHOW, &[], ""),
+        (SHOW, &[AD, PACKET], ACCEPTED),
+        (
+            SHOW,
+            &IN_WINDOW,
+            "0 frame vc 0 ad 4 segment whole map 0 octets 1 early clcw 01000800\n\
+            7 frame vc 0 ad 251 segment whole map 0 octets 1 late clcw 01000800\n\
+            14 frame vc 0 ad 5 segment whole map 0 octets 1 outside clcw 01002800\n\
+            21 frame vc 0 ad 0 segment whole map 0 octets 1 refused clcw 01002800\n",
+        ),
+        (
+            SHOW,
+            &LOCKED_OUT,
+            "0 frame vc 0 ad 250 segment whole map 0 octets 1 outside clcw 01002000\n\
+            7 frame vc 0 setvr 5 command clcw 01002200\n\
+            15 frame vc 0 bd segment whole map 0 octets 10 accept clcw 01002400\n\
+            31 frame vc 0 unlock command clcw 01000600\n",
+        ),
+        (
+            SHOW,
+            &[AD, PACKET, BAD_LENGTH],
+            "0 frame vc 0 ad 0 segment whole map 0 octets 10 accept clcw 01000001\n16 rest 7\n",
+        ),
+        // What comes after a bad length is no frame.
+        (
+            SHOW,
+            &[AD, PACKET, "0001000200", AD, PACKET],
+            "0 frame vc 0 ad 0 segment whole map 0 octets 10 accept clcw 01000001\n16 rest 21\n",
+        ),
+        // A frame that isn't whole, and a header that isn't, after which the length could still be bad.
+        (SHOW, &[AD, "1001c0000003aabbcc"], "0 rest 15\n"),
+        (SHOW, &["00010000"], "0 rest 4\n"),
+        (
+            SHOW,
+            &SKIPPED,
+            "0 skip spacecraft\n7 skip version\n14 skip long\n31 skip kind\n38 skip empty\n43 skip command\n",
+        ),
+        (
+            WITH_FECF,
+            &["3001000700000e5d"],
+            "0 frame vc 0 unlock command clcw 01000200\n",
+        ),
+        (WITH_FECF, &["3001000700000e5e"], "0 skip fecf\n"),
+        // Six octets are a frame without error control alone.
+        (WITH_FECF, &["300100050000"], "0 rest 6\n"),
+        // Each virtual channel expects 0 first.
+        (
+            SHOW,
+            &[
+                AD,
+                PACKET,
+                "0001140f00",
+                SEGMENTS[0],
+                "0001140f01",
+                SEGMENTS[1],
+                "0001140802",
+                SEGMENTS[2],
+            ],
+            "0 frame vc 0 ad 0 segment whole map 0 octets 10 accept clcw 01000001\n\
+            16 frame vc 5 ad 0 segment first map 0 octets 10 accept clcw 01140001\n\
+            32 frame vc 5 ad 1 segment middle map 0 octets 10 accept clcw 01140002\n\
+            48 frame vc 5 ad 2 segment last map 0 octets 3 accept clcw 01140003\n",
+        ),
+        // The FARM-B counter counts modulo 4.
+        (
+            SHOW,
+            &[
+                "200100050000",
+                "200100050000",
+                "200100050000",
+                "200100050000",
+            ],
+            "0 frame vc 0 bd segment middle map 0 octets 0 accept clcw 01000200\n\
+            6 frame vc 0 bd segment middle map 0 octets 0 accept clcw 01000400\n\
+            12 frame vc 0 bd segment middle map 0 octets 0 accept clcw 01000600\n\
+            18 frame vc 0 bd segment middle map 0 octets 0 accept clcw 01000000\n",
+        ),
+        (
+            FROM_255,
+            &["0001fc06ffff00", "0001fc0600c300"],
+            "0 frame vc 63 ad 255 segment whole map 63 octets 1 accept clcw 01fc0000\n\
+            7 frame vc 63 ad 0 segment whole map 3 octets 1 accept clcw 01fc0001\n",
+        ),
+        (
+            WINDOW_OF_2,
+            &["00010006ffc000", "0001000601c000"],
+            "0 frame vc 0 ad 255 segment whole map 0 octets 1 late clcw 01000000\n\
+            7 frame vc 0 ad 1 segment whole map 0 octets 1 outside clcw 01002000\n",
+        ),
+    ]
+}
+
+// With streams that take all at once, and octet by octet.
+#[test]
+fn tc_frames_are_listed(rt: HostRuntime) -> Result<(), Fail> {
+    let alloc = rt.alloc();
+    for (line, parts, wanted) in cases() {
+        let recording = octets(alloc, parts)?;
+        let outcome = Outcome::of(alloc, line, recording.as_slice())?;
+        assert!(rt; outcome.says(0, ""), "{outcome:?}");
+        assert_eq!(rt; text(outcome.output.as_slice()), wanted);
+        let mut writer = Counted::new(InPieces(Vec::new(alloc), 1));
+        let reader = InPieces(recording.as_slice(), 1);
+        let outcome = Outcome::with(alloc, line, reader, &mut writer)?;
+        assert!(rt; outcome.says(0, ""), "{outcome:?}");
+        assert_eq!(rt; text(writer.into_inner().0.as_slice()), wanted);
+    }
+    Ok(())
+}
+
+fn link(max_octets: u64) -> Result<Managed, ManagedFault> {
+    Managed::new(1, 32, false, 16, false, 10, 0, max_octets)
+}
+
+#[test]
+fn tc_totals_are_counted(rt: HostRuntime) -> Result<(), Fail> {
+    let parts = ["0002000600c000", AD, PACKET, BAD_LENGTH];
+    let recording = octets(rt.alloc(), &parts)?;
+    let mut reader = Counted::new(InPieces(recording.as_slice(), 1));
+    let mut writer = Counted::new(Vec::new(rt.alloc()));
+    let totals = show_tc(&link(30)?, &mut reader, &mut writer)?;
+    let counted = [
+        totals.octets(),
+        totals.frames(),
+        totals.skipped(),
+        totals.rest(),
+        totals.packets(),
+        totals.idle(),
+        totals.anomalies(),
+    ];
+    assert_eq!(rt; counted, [30, 2, 1, 7, 0, 0, 0]);
+    assert_eq!(rt; (reader.faults(), writer.faults()), (0, 0));
+    let wanted =
+        "0 skip spacecraft\n7 frame vc 0 ad 0 segment whole map 0 octets 10 accept clcw 01000001\n23 rest 7\n";
+    assert_eq!(rt; text(writer.into_inner().as_slice()), wanted);
+    Ok(())
+}
+
+// Some frames lie across the end of the engine's buffer, and the remainder is longer than the buffer.
+#[test]
+fn a_recording_longer_than_the_buffer_is_listed(rt: HostRuntime) -> Result<(), Fail> {
+    let alloc = rt.alloc();
+    let mut recording = Vec::new(alloc);
+    for number in 0..20_000u16 {
+        let [_, ns] = number.to_be_bytes();
+        recording.extend_from_slice(&[0x00, 0x01, 0x00, 0x06, ns, 0xC0, 0x00])?;
+    }
+    recording.extend_from_slice(&[0; 5])?;
+    let end = recording.len() + 300_000;
+    recording.resize(end, 0x55)?;
+    let mut reader = Counted::new(recording.as_slice());
+    let mut writer = Counted::new(Vec::new(alloc));
+    let totals = show_tc(&link(1_000_000)?, &mut reader, &mut writer)?;
+    assert_eq!(rt; (totals.octets(), totals.frames()), (440_005, 20_000));
+    assert_eq!(rt; (totals.skipped(), totals.rest()), (0, 300_005));
+    let listing = writer.into_inner();
+    let last =
+        "\n139993 frame vc 0 ad 31 segment whole map 0 octets 1 accept clcw 01000020\n140000 rest 300005\n";
+    assert!(rt; text(listing.as_slice()).ends_with(last));
+    Ok(())
+}
+
+// The limit is reached within a frame, and after a bad length. What is written by then is a front of the listing.
+#[test]
+fn the_limit_of_a_tc_recording_is_kept(rt: HostRuntime) -> Result<(), Fail> {
+    let alloc = rt.alloc();
+    let cases: [(&[&str], &str, u8); 6] = [
+        (&[AD, PACKET], "15", 3),
+        (&[AD, PACKET], "16", 0),
+        (&[AD, PACKET, BAD_LENGTH], "16", 3),
+        (&[AD, PACKET, BAD_LENGTH], "20", 3),
+        (&[AD, PACKET, BAD_LENGTH], "22", 3),
+        (&[AD, PACKET, BAD_LENGTH], "23", 0),
+    ];
+    for (parts, limit, status) in cases {
+        let recording = octets(alloc, parts)?;
+        let line = format!(in alloc; "{SHOW} --limit {limit}")?;
+        let said = if status == 0 {
+            ""
+        } else {
+            "sllink: too long\n"
+        };
+        let mut writer = Counted::new(Vec::new(alloc));
+        let reader = InPieces(recording.as_slice(), 1);
+        let outcome = Outcome::with(alloc, line.as_str(), reader, &mut writer)?;
+        assert!(rt; outcome.says(status, said), "{limit} {outcome:?}");
+        let written = writer.into_inner();
+        assert!(rt; status == 0 || ACCEPTED.starts_with(text(written.as_slice())));
+        let outcome = Outcome::of(alloc, line.as_str(), recording.as_slice())?;
+        assert!(rt; outcome.says(status, said), "{limit} {outcome:?}");
+    }
+    // A bad length, and no end.
+    let mut reader = Counted::new(std::io::repeat(0));
+    let mut writer = Counted::new(Vec::new(alloc));
+    let outcome = show_tc(&link(1_000_000)?, &mut reader, &mut writer);
+    assert_eq!(rt; outcome.err(), Some(LinkFault::TooLong));
+    assert!(rt; writer.into_inner().is_empty());
+    Ok(())
+}

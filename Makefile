@@ -1,0 +1,44 @@
+# Installs the built program, its manual page and its completions, or takes them away again.
+#
+#     make install
+#     make install PREFIX=$HOME/.local
+#     make install PREFIX=/usr DESTDIR=/tmp/package
+#     make uninstall
+#
+# PREFIX is where they are to be used, /usr/local where nothing is said. DESTDIR is put before each path, for whoever
+# makes a package. Nothing is built here: that is done by `rt run` in crates/sllink.
+
+PREFIX = /usr/local
+DESTDIR =
+
+BIN = $(PREFIX)/bin
+MAN = $(PREFIX)/share/man/man1
+BASH_COMPLETIONS = $(PREFIX)/share/bash-completion/completions
+ZSH_COMPLETIONS = $(PREFIX)/share/zsh/site-functions
+FISH_COMPLETIONS = $(PREFIX)/share/fish/vendor_completions.d
+
+PROGRAM = crates/sllink/out/sllink
+INSTALL = install
+
+.PHONY: all install uninstall built
+
+all: built
+	@echo "$(PROGRAM) is built; 'make install' installs it under $(PREFIX)"
+
+built:
+	@test -x "$(PROGRAM)" || { \
+	  echo "$(PROGRAM) isn't built yet; 'rt run -- --help' in crates/sllink builds it" >&2; exit 1; }
+
+install: built
+	$(INSTALL) -d "$(DESTDIR)$(BIN)" "$(DESTDIR)$(MAN)" "$(DESTDIR)$(BASH_COMPLETIONS)" \
+	  "$(DESTDIR)$(ZSH_COMPLETIONS)" "$(DESTDIR)$(FISH_COMPLETIONS)"
+	$(INSTALL) -m 755 "$(PROGRAM)" "$(DESTDIR)$(BIN)/sllink"
+	$(INSTALL) -m 644 man/sllink.1 "$(DESTDIR)$(MAN)/sllink.1"
+	$(INSTALL) -m 644 completions/sllink.bash "$(DESTDIR)$(BASH_COMPLETIONS)/sllink"
+	$(INSTALL) -m 644 completions/_sllink "$(DESTDIR)$(ZSH_COMPLETIONS)/_sllink"
+	$(INSTALL) -m 644 completions/sllink.fish "$(DESTDIR)$(FISH_COMPLETIONS)/sllink.fish"
+
+# The files go, the folders stay.
+uninstall:
+	rm -f "$(DESTDIR)$(BIN)/sllink" "$(DESTDIR)$(MAN)/sllink.1" "$(DESTDIR)$(BASH_COMPLETIONS)/sllink" \
+	  "$(DESTDIR)$(ZSH_COMPLETIONS)/_sllink" "$(DESTDIR)$(FISH_COMPLETIONS)/sllink.fish"

@@ -1,0 +1,24 @@
+# Completions of sllink for fish.
+
+set -l verbs show check packets normalise
+set -l in_verb "not __fish_seen_subcommand_from help; and __fish_seen_subcommand_from $verbs"
+set -l no_kind "$in_verb; and not __fish_seen_subcommand_from tm tc"
+
+complete -c sllink -f
+complete -c sllink -n __fish_use_subcommand -a show -d 'List the frames of a recording'
+complete -c sllink -n __fish_use_subcommand -a check -d 'List what is amiss in a recording'
+complete -c sllink -n __fish_use_subcommand -a packets -d 'List the packets of a recording'
+complete -c sllink -n __fish_use_subcommand -a normalise -d 'Write the normal form of a recording'
+complete -c sllink -n __fish_use_subcommand -a help -d 'Print help, also of a verb'
+complete -c sllink -n "__fish_seen_subcommand_from help; and not __fish_seen_subcommand_from $verbs" -a "$verbs"
+complete -c sllink -s h -l help -d 'Print help'
+complete -c sllink -n $no_kind -a tm -d 'TM transfer frames, the way down'
+complete -c sllink -n $no_kind -a tc -d 'TC transfer frames, the way up'
+complete -c sllink -n "$in_verb" -x -l scid -d 'Spacecraft identifier, 0 to 1023'
+complete -c sllink -n "$in_verb" -x -l tm-length -d 'Octets of each TM frame, 32 to 2048, else 1115'
+complete -c sllink -n "$in_verb" -x -l tc-length -d 'Most octets of a TC frame, 16 to 1024, else 1024'
+complete -c sllink -n "$in_verb" -l tm-fecf -d 'TM frames have a frame error control field'
+complete -c sllink -n "$in_verb" -l tc-fecf -d 'TC frames have a frame error control field'
+complete -c sllink -n "$in_verb" -x -l window -d 'Width of the FARM-1 sliding window, even, 2 to 254, else 10'
+complete -c sllink -n "$in_verb" -x -l vr -d 'V(R) of each FARM-1 at the start, 0 to 255, else 0'
+complete -c sllink -n "$in_verb" -x -l limit -d 'Most octets that are read, else 1073741824'

@@ -1,5 +1,5 @@
 -- Delimiting TM frames in a recording that comes in chunks.
-use Rattle.std.specs.Prelude.{◌≡◌, ⊤, ℕ, ◌<◌, ◌≤◌, Bool, true, false, List, [], ◌∷◌, ◌++◌, length, Option, None, Some}
+use Rattle.std.specs.Prelude.{◌≡◌, ℕ, zero, suc, ◌<◌, ◌≤◌, List, [], ◌∷◌, ◌++◌, length, Option, None, Some}
 use Rattle.std.specs.Borrow.{Bor}
 use Rattle.std.specs.List.{concat}
 use Rattle.sl_fields.specs.Field.{IsOctets}
@@ -15,23 +15,19 @@ pub record TmFraming : Type 0 where
 abbrev pub at_start : ℕ → TmFraming
 at_start len = record { len = len; rest = [] }
 
--- a frame that is lent is no longer among the octets
-abbrev pub rest_of : Bool → List ℕ → List ℕ
-rest_of true taken = []
-rest_of false taken = taken
+-- where none are held, the octets are those of the last frame
+abbrev pub rest_of : ℕ → List ℕ → List ℕ
+rest_of zero kept = []
+rest_of (suc n) kept = kept
 
 abbrev pub framing_of : Inside → TmFraming
-framing_of f = record { len = f.len; rest = rest_of f.is_lent f.taken.items }
-
--- unless a frame is lent, fewer octets are taken than a frame has
-abbrev pub FitsLen : Bool → ℕ → ℕ → Type 0
-FitsLen true taken len = ⊤
-FitsLen false taken len = taken < len
+framing_of f = record { len = f.len; rest = rest_of f.held f.taken.items }
 
 pub record IsTmFramer (f : Inside) : Type 0 where
   pub least : 32 ≤ f.len
   pub most : f.len ≤ 2048
-  pub fits : FitsLen f.is_lent (length f.taken.items) f.len
+  pub held : f.held ≡ length (rest_of f.held f.taken.items)
+  pub short : f.held < f.len
 
 -- ---- one call, with a chunk
 

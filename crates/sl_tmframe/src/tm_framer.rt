@@ -12,7 +12,8 @@ use std::marker::Model;
 #[derive(Drop)]
 pub struct TmFramer {
     len: u16,
-    is_lent: bool,
+    // How many octets were taken after the last frame: all that are kept, or none where these are the last frame.
+    held: usize,
     taken: ArrayVec<u8, 2048>,
 }
 
@@ -36,7 +37,7 @@ impl TmFramer {
     {
         TmFramer {
             len: shape.len(),
-            is_lent: false,
+            held: 0,
             taken: ArrayVec::new(),
         }
     }
@@ -46,7 +47,7 @@ impl TmFramer {
         ensures octets { result.now ≡ self.now.rest }
         ensures short { length result.now < self.now.len }
     {
-        if self.is_lent {
+        if self.held == 0 {
             return &[];
         }
         self.taken.as_slice()
@@ -61,20 +62,20 @@ impl TmFramer {
         // Without one the chunk was used up first.
         ensures used_up { IfNone result (UsesUpChunk self.old piece.old.now piece.new.now) }
     {
-        if self.is_lent {
+        if self.held == 0 {
             self.taken.clear();
-            self.is_lent = false;
         }
-        let wanted = usize::from(self.len) - self.taken.len();
+        let wanted = usize::from(self.len) - self.held;
         if piece.len() < wanted {
             let _ = self.taken.try_extend_from_slice(piece);
             *piece = &[];
+            self.held = self.taken.len();
             return None;
         }
         let (front, behind) = piece.split_at(wanted);
         let _ = self.taken.try_extend_from_slice(front);
         *piece = behind;
-        self.is_lent = true;
+        self.held = 0;
         Some(self.taken.as_slice())
     }
 
@@ -88,7 +89,8 @@ impl TmFramer {
     {
         // The caller's own reference isn't lent to the cold call, so it may stay in registers.
         let mut octets: &'p [u8] = *piece;
-        if self.rest().is_empty() {
+        let is_between_frames = self.held == 0;
+        if is_between_frames {
             if let Some((frame, later)) = octets.split_at_checked(usize::from(self.len)) {
                 *piece = later;
                 return Some(frame);

@@ -9,6 +9,7 @@ use Rattle.std.proofs.Math.Seq.{drop-append_seam}
 use Rattle.sl_tmframe.specs.PacketFrame.{room_of, packet_frame}
 use Rattle.sl_tmframe.specs.TmFrame.{TmFormat}
 use Rattle.sl_tmflow.specs.FormLeft.{IsPending, start_in, field_frames}
+use Rattle.sl_tmflow.specs.declared.form.Heading.{Heading}
 use Rattle.sl_tmflow.specs.NormalForm.{packet_offsets, first_of, data_field_of, channel_frame, frames_of_packets, channel_frames}
 use Rattle.sl_tmflow.proofs.FieldStartLemmas.{lies_here, lies_elsewhere, no_later, skip_packet}
 use Rattle.sl_tmflow.proofs.FillLemmas.{no_filling}
@@ -44,6 +45,9 @@ module _ (format : TmFormat) (spacecraft vc before : ℕ) (packets : List (List 
   abbrev frame_at : ℕ → List ℕ
   frame_at = channel_frame format spacecraft vc before packets
 
+  abbrev heading_with : ℕ → ℕ → Heading
+  heading_with master counter = record { spacecraft = spacecraft; vc = vc; master = master; counter = counter }
+
   abbrev first_at : ℕ → Option ℕ
   first_at number = first_of room number (packet_offsets 0 packets)
 
@@ -59,7 +63,7 @@ module _ (format : TmFormat) (spacecraft vc before : ℕ) (packets : List (List 
       → master ≡ (before + number) % 256 → counter ≡ number % 256
       → (0 < many → first_at number ≡ first)
       → ((j : ℕ) → number < j → j < number + many → first_at j ≡ None)
-      → field_frames format spacecraft vc many first master counter octets ≡ concat (map frame_at (range_with_len number many))
+      → field_frames format many (heading_with master counter) first octets ≡ concat (map frame_at (range_with_len number many))
   fields_are zero number first master counter made octets more parts size enough master_is counter_is here later = refl
   fields_are (suc many) number first master counter made octets more parts size enough master_is counter_is here later =
       let rooms = suc-mul many room in
@@ -70,7 +74,7 @@ module _ (format : TmFormat) (spacecraft vc before : ℕ) (packets : List (List 
       let halves : octets ++ more ≡ take room octets ++ (drop room octets ++ more) =
       ap (λ l. l ++ more) (sym (take-append-drop room octets)) ∙ append_assoc (take room octets) (drop room octets) more in
       let step : before + number + 1 ≡ before + (number + 1) = omega arith in
-      ap (λ f. f ++ field_frames format spacecraft vc many None ((master + 1) % 256) ((counter + 1) % 256) (drop room octets))
+      ap (λ f. f ++ field_frames format many (heading_with ((master + 1) % 256) ((counter + 1) % 256)) None (drop room octets))
       (same_frame format spacecraft vc _ _ _ _ _ _ _ _ master_is counter_is (sym (here (omega arith))) (field_is number made octets more parts size fits))
       ∙ ap (λ l. frame_at number ++ l)
       (fields_are many (number + 1) None ((master + 1) % 256) ((counter + 1) % 256) (made ++ take room octets) (drop room octets) more

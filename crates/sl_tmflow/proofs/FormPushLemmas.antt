@@ -9,9 +9,10 @@ use Rattle.sl_fields.proofs.FecfLemmas.{fecf_len_le}
 use Rattle.sl_fields.proofs.Octets.{length-octets_of}
 use Rattle.sl_fields.specs.TmHeader.{tm_fields, tm_octets}
 use Rattle.sl_tmframe.proofs.PacketFrameLemmas.{with_fecf_whole}
-use Rattle.sl_tmframe.specs.PacketFrame.{packet_frame, packet_frame_header, room_of}
+use Rattle.sl_tmframe.specs.PacketFrame.{packet_frame_header, room_of}
 use Rattle.sl_tmframe.specs.TmFrame.{TmFormat}
-use Rattle.sl_tmflow.specs.FormLeft.{field_frames, fields_in, beyond_fields, filled_up}
+use Rattle.sl_tmflow.specs.FormLeft.{field_frames, fields_in, beyond_fields, filled_up, headed_frame, heading_after}
+use Rattle.sl_tmflow.specs.declared.form.Heading.{Heading}
 use Rattle.sl_tmflow.specs.NormalForm.{filling, fill_of}
 use Rattle.sl_tmflow.proofs.FillLemmas.{fill_inside, fill_is_least, filling_is}
 
@@ -43,54 +44,54 @@ one_more_field format left field later roomy divided whole =
     let more = ap (λ n. n / room_of format) size ∙ add-mul-div_right (length later) 1 roomy in
     omega (arith, more)
 
-pub next_field : (format : TmFormat) (spacecraft vc master counter : ℕ) (first : Option ℕ) (left field later : List ℕ) → 0 < room_of format → left ≡ field ++ later → length field ≡ room_of format
-    → field_frames format spacecraft vc (fields_in format left) first master counter left
-    ≡ packet_frame format spacecraft vc master counter first field ++ field_frames format spacecraft vc (fields_in format later) None ((master + 1) % 256) ((counter + 1) % 256) later
-next_field format spacecraft vc master counter first left field later roomy divided whole =
+pub next_field : (format : TmFormat) (heading : Heading) (first : Option ℕ) (left field later : List ℕ) → 0 < room_of format → left ≡ field ++ later → length field ≡ room_of format
+    → field_frames format (fields_in format left) heading first left
+    ≡ headed_frame format heading first field ++ field_frames format (fields_in format later) (heading_after heading 1) None later
+next_field format heading first left field later roomy divided whole =
     let front : take (room_of format) left ≡ field = ap (λ n. take n left) (sym whole) ∙ ap (take (length field)) divided ∙ take-append_seam field later in
     let back : drop (room_of format) left ≡ later = ap (λ n. drop n left) (sym whole) ∙ ap (drop (length field)) divided ∙ drop-append_seam field later in
     let many = fields_in format later in
-    ap (λ n. field_frames format spacecraft vc n first master counter left) (one_more_field format left field later roomy divided whole)
-    ∙ ap (λ f. packet_frame format spacecraft vc master counter first f ++ field_frames format spacecraft vc many None ((master + 1) % 256) ((counter + 1) % 256) (drop (room_of format) left)) front
-    ∙ ap (λ l. packet_frame format spacecraft vc master counter first field ++ field_frames format spacecraft vc many None ((master + 1) % 256) ((counter + 1) % 256) l) back
+    ap (λ n. field_frames format n heading first left) (one_more_field format left field later roomy divided whole)
+    ∙ ap (λ f. headed_frame format heading first f ++ field_frames format many (heading_after heading 1) None (drop (room_of format) left)) front
+    ∙ ap (λ l. headed_frame format heading first field ++ field_frames format many (heading_after heading 1) None l) back
 
 -- a frame has the octets of its format
-pub frame_size : (format : TmFormat) (spacecraft vc master counter : ℕ) (first : Option ℕ) (field : List ℕ) → 8 ≤ format.len → length field ≡ room_of format
-    → length (packet_frame format spacecraft vc master counter first field) ≡ format.len
-frame_size format spacecraft vc master counter first field long whole =
-    let header = packet_frame_header spacecraft vc master counter first in
+pub frame_size : (format : TmFormat) (heading : Heading) (first : Option ℕ) (field : List ℕ) → 8 ≤ format.len → length field ≡ room_of format
+    → length (headed_frame format heading first field) ≡ format.len
+frame_size format heading first field long whole =
+    let header = packet_frame_header heading.spacecraft heading.vc heading.master heading.counter first in
     with_fecf_whole format (tm_octets header) field long (length-octets_of 6 (tm_fields header)) whole
 
 -- ---- frames that were pushed so far
 
-pub record IsPushing (format : TmFormat) (spacecraft vc : ℕ) (end : List ℕ) (size : ℕ) (first : Option ℕ) (master counter : ℕ) (left form : List ℕ) (len : ℕ) : Type 0 where
-  pub frames : form ++ field_frames format spacecraft vc (fields_in format left) first master counter left ≡ end
+pub record IsPushing (format : TmFormat) (heading : Heading) (end : List ℕ) (size : ℕ) (first : Option ℕ) (left form : List ℕ) (len : ℕ) : Type 0 where
+  pub frames : form ++ field_frames format (fields_in format left) heading first left ≡ end
   pub sizes : len + fields_in format left * format.len ≡ size
 
-pub pushes_next : (format : TmFormat) (spacecraft vc : ℕ) (end : List ℕ) (size : ℕ) (first : Option ℕ) (master counter : ℕ) (left field later form form' : List ℕ) (len len' : ℕ)
+pub pushes_next : (format : TmFormat) (heading : Heading) (end : List ℕ) (size : ℕ) (first : Option ℕ) (left field later form form' : List ℕ) (len len' : ℕ)
     → 0 < room_of format → 8 ≤ format.len → left ≡ field ++ later → length field ≡ room_of format
-    → form' ≡ form ++ packet_frame format spacecraft vc master counter first field → len ≡ length form → len' ≡ length form'
-    → IsPushing format spacecraft vc end size first master counter left form len
-    → IsPushing format spacecraft vc end size None ((master + 1) % 256) ((counter + 1) % 256) later form' len'
-pushes_next format spacecraft vc end size first master counter left field later form form' len len' roomy long divided whole added is is' p =
-    let frame = packet_frame format spacecraft vc master counter first field in
-    let others = field_frames format spacecraft vc (fields_in format later) None ((master + 1) % 256) ((counter + 1) % 256) later in
+    → form' ≡ form ++ headed_frame format heading first field → len ≡ length form → len' ≡ length form'
+    → IsPushing format heading end size first left form len
+    → IsPushing format (heading_after heading 1) end size None later form' len'
+pushes_next format heading end size first left field later form form' len len' roomy long divided whole added is is' p =
+    let frame = headed_frame format heading first field in
+    let others = field_frames format (fields_in format later) (heading_after heading 1) None later in
     let more = one_more_field format left field later roomy divided whole in
     let lengths = suc-mul (fields_in format later) format.len in
     let step = ap (λ n. n * format.len) more in
     record {
-      frames = ap (λ f. f ++ others) added ∙ append_assoc form frame others ∙ ap (λ l. form ++ l) (sym (next_field format spacecraft vc master counter first left field later roomy divided whole)) ∙ p.frames;
-      sizes = omega (arith, p.sizes, step, lengths, is, is', ap length added, length-append form frame, frame_size format spacecraft vc master counter first field long whole);
+      frames = ap (λ f. f ++ others) added ∙ append_assoc form frame others ∙ ap (λ l. form ++ l) (sym (next_field format heading first left field later roomy divided whole)) ∙ p.frames;
+      sizes = omega (arith, p.sizes, step, lengths, is, is', ap length added, length-append form frame, frame_size format heading first field long whole);
     }
 
 -- no data field is left
-pub all_pushed : (format : TmFormat) (spacecraft vc : ℕ) (end : List ℕ) (size : ℕ) (first : Option ℕ) (master counter : ℕ) (left form : List ℕ) (len : ℕ) → length left < room_of format
-    → IsPushing format spacecraft vc end size first master counter left form len → (form ≡ end) × (len ≡ size)
-all_pushed format spacecraft vc end size first master counter left form len few p =
+pub all_pushed : (format : TmFormat) (heading : Heading) (end : List ℕ) (size : ℕ) (first : Option ℕ) (left form : List ℕ) (len : ℕ) → length left < room_of format
+    → IsPushing format heading end size first left form len → (form ≡ end) × (len ≡ size)
+all_pushed format heading end size first left form len few p =
     let none = none_filled format left few in
     let nothing = zero-mul format.len in
     let no_octets = ap (λ n. n * format.len) none in (
-      sym (append-nil form) ∙ ap (λ n. form ++ field_frames format spacecraft vc n first master counter left) (sym none) ∙ p.frames,
+      sym (append-nil form) ∙ ap (λ n. form ++ field_frames format n heading first left) (sym none) ∙ p.frames,
       omega (arith, p.sizes, no_octets, nothing),
     )
 
@@ -114,18 +115,18 @@ module _ (format : TmFormat) (octets head rest packet : List ℕ) (roomy : 0 < r
       let at : fields_in format (octets ++ packet) * room_of format ≡ length (octets ++ head) + from = omega (arith, ap (λ n. n * room_of format) fields_of_both, rooms, fields, whole, is) in
       ap (λ n. drop n (octets ++ packet)) at ∙ ap (drop (length (octets ++ head) + from)) both ∙ sym (drop-drop from (length (octets ++ head)) ((octets ++ head) ++ rest)) ∙ ap (drop from) (drop-append_seam (octets ++ head) rest)
 
-  pub frames_of_both : (spacecraft vc master counter : ℕ) (first : Option ℕ) (form form₁ form₂ : List ℕ)
-      → form₁ ≡ form ++ field_frames format spacecraft vc (fields_in format (octets ++ head)) first master counter (octets ++ head)
-      → form₂ ≡ form₁ ++ field_frames format spacecraft vc (fields_in format rest) None ((master + 1) % 256) ((counter + 1) % 256) rest
-      → form₂ ≡ form ++ field_frames format spacecraft vc (fields_in format (octets ++ packet)) first master counter (octets ++ packet)
-  frames_of_both spacecraft vc master counter first form form₁ form₂ one two =
-      let frame = packet_frame format spacecraft vc master counter first (octets ++ head) in
-      let others = field_frames format spacecraft vc (fields_in format rest) None ((master + 1) % 256) ((counter + 1) % 256) rest in
-      let alone : field_frames format spacecraft vc (fields_in format (octets ++ head)) first master counter (octets ++ head) ≡ frame =
-      next_field format spacecraft vc master counter first (octets ++ head) (octets ++ head) [] roomy (sym (append-nil (octets ++ head))) whole
-      ∙ ap (λ n. frame ++ field_frames format spacecraft vc n None ((master + 1) % 256) ((counter + 1) % 256) []) (zero-div (room_of format)) ∙ append-nil frame in
+  pub frames_of_both : (heading : Heading) (first : Option ℕ) (form form₁ form₂ : List ℕ)
+      → form₁ ≡ form ++ field_frames format (fields_in format (octets ++ head)) heading first (octets ++ head)
+      → form₂ ≡ form₁ ++ field_frames format (fields_in format rest) (heading_after heading 1) None rest
+      → form₂ ≡ form ++ field_frames format (fields_in format (octets ++ packet)) heading first (octets ++ packet)
+  frames_of_both heading first form form₁ form₂ one two =
+      let frame = headed_frame format heading first (octets ++ head) in
+      let others = field_frames format (fields_in format rest) (heading_after heading 1) None rest in
+      let alone : field_frames format (fields_in format (octets ++ head)) heading first (octets ++ head) ≡ frame =
+      next_field format heading first (octets ++ head) (octets ++ head) [] roomy (sym (append-nil (octets ++ head))) whole
+      ∙ ap (λ n. frame ++ field_frames format n (heading_after heading 1) None []) (zero-div (room_of format)) ∙ append-nil frame in
       two ∙ ap (λ f. f ++ others) (one ∙ ap (λ f. form ++ f) alone) ∙ append_assoc form frame others
-      ∙ ap (λ l. form ++ l) (sym (next_field format spacecraft vc master counter first (octets ++ packet) (octets ++ head) rest roomy both whole))
+      ∙ ap (λ l. form ++ l) (sym (next_field format heading first (octets ++ packet) (octets ++ head) rest roomy both whole))
 
 -- ---- the room for a piece
 

@@ -3,9 +3,12 @@
 -- project's own.
 use Rattle.std.specs.Prelude.{◌≡◌, ℕ, zero, suc, ◌+◌, ◌-◌, ◌*◌, ◌/◌, ◌%◌, ◌<◌, ◌≤◌, ◌==◌, ◌⊎◌, ◌≢◌, if◌then◌else◌, List, [], ◌∷◌, ◌++◌, length, take, drop, map, Option, None, Some}
 use Rattle.std.specs.List.{concat, find, range_with_len, slice_index_or}
+use Rattle.std.specs.Global.{Vec}
+use Rattle.std.specs.Vec.{vec_capacity, vec_len}
 use Rattle.sl_tmframe.specs.PacketFrame.{room_of, packet_frame}
 use Rattle.sl_tmframe.specs.TmFrame.{TmFormat}
-use Rattle.sl_tmflow.specs.NormalForm.{filling, with_filling, packet_offsets, lies_in, channel_frame, frames_from_channel}
+use Rattle.sl_tmflow.specs.NormalForm.{filling, with_filling, packet_offsets, lies_in, channel_frame, frames_from_channel, normal_form}
+use Rattle.sl_tmflow.specs.declared.form.Heading.{Heading}
 
 -- ---- how far it is
 
@@ -32,6 +35,10 @@ pub record FormState : Type 0 where
   pub octets_room : ℕ
 
 -- ---- what is still to come
+
+-- the normal form of the packets of virtual channels 0 to 7
+abbrev pub form_of : TmFormat → ℕ → List (List (List ℕ)) → List ℕ
+form_of format spacecraft lists = normal_form format spacecraft (take 8 lists)
 
 -- the packets of the virtual channel, and those of them that fill it up
 abbrev pub channel_packets : FormProgress → List (List ℕ)
@@ -82,6 +89,10 @@ piece_room = 90112
 abbrev pub HasRoom : FormState → Type 0
 HasRoom s = octets_room ≤ s.octets_room
 
+-- there isn't room for both: where there is for those octets, there is none for a piece's frames
+abbrev pub LacksRoom : FormState → Vec ℕ → Type 0
+LacksRoom s form = HasRoom s → vec_capacity form < vec_len form + piece_room
+
 -- the next piece was added, and the others are left
 pub record AddsPiece (old : FormProgress) (before after : List ℕ) (new : FormProgress) : Type 0 where
   pub piece : List ℕ
@@ -100,6 +111,10 @@ KeepsLeft old new = (octets : List ℕ) → IsLeft old octets → IsLeft new oct
 abbrev pub HasPackets : List (List (List ℕ)) → Type 0
 HasPackets lists = (channel : ℕ) × ((channel < 8) × (slice_index_or lists channel [] ≢ []))
 
+-- what is still to come is of packets
+abbrev pub IsOfPackets : FormProgress → Type 0
+IsOfPackets s = (octets : List ℕ) → IsLeft s octets → HasPackets s.lists
+
 -- how many packets may follow, those that fill up included
 abbrev pub packets_in : List (List (List ℕ)) → ℕ
 packets_in [] = 0
@@ -108,14 +123,33 @@ packets_in (packets ∷ lists) = (length packets + 1) + packets_in lists
 abbrev pub packets_left : FormProgress → ℕ
 packets_left s = packets_in (drop s.vc (take 8 s.lists)) - s.taken
 
+-- fewer may follow than did
+abbrev pub HasFewer : FormProgress → FormProgress → Type 0
+HasFewer old new = (octets : List ℕ) → IsLeft old octets → packets_left new < packets_left old
+
 -- ---- the steps of the code, which contracts of private functions alone cite
 
--- frames of the data fields at the front of octets, of which no packet starts in any but the first
-abbrev pub field_frames : TmFormat → ℕ → ℕ → ℕ → Option ℕ → ℕ → ℕ → List ℕ → List ℕ
-field_frames format spacecraft vc zero first master counter octets = []
-field_frames format spacecraft vc (suc many) first master counter octets =
-    packet_frame format spacecraft vc master counter first (take (room_of format) octets)
-    ++ field_frames format spacecraft vc many None ((master + 1) % 256) ((counter + 1) % 256) (drop (room_of format) octets)
+-- no more may follow than did
+abbrev pub HasNoMore : FormProgress → FormProgress → Type 0
+HasNoMore old new = (octets : List ℕ) → IsLeft old octets → packets_left new ≤ packets_left old
+
+-- the heading of the next frame, and a heading so many frames later
+abbrev pub heading_of : FormProgress → Heading
+heading_of s = record { spacecraft = s.spacecraft; vc = s.vc; master = s.master; counter = s.counter }
+
+abbrev pub heading_after : Heading → ℕ → Heading
+heading_after h frames = record { spacecraft = h.spacecraft; vc = h.vc; master = (h.master + frames) % 256; counter = (h.counter + frames) % 256 }
+
+-- a frame with a heading
+abbrev pub headed_frame : TmFormat → Heading → Option ℕ → List ℕ → List ℕ
+headed_frame format h first field = packet_frame format h.spacecraft h.vc h.master h.counter first field
+
+-- so many frames of the data fields at the front of octets, of which no packet starts in any but the first
+abbrev pub field_frames : TmFormat → ℕ → Heading → Option ℕ → List ℕ → List ℕ
+field_frames format zero h first octets = []
+field_frames format (suc many) h first octets =
+    headed_frame format h first (take (room_of format) octets)
+    ++ field_frames format many (heading_after h 1) None (drop (room_of format) octets)
 
 -- the data fields that octets fill, and the octets beyond them
 abbrev pub fields_in : TmFormat → List ℕ → ℕ
@@ -123,6 +157,13 @@ fields_in format octets = length octets / room_of format
 
 abbrev pub beyond_fields : TmFormat → List ℕ → List ℕ
 beyond_fields format octets = drop (fields_in format octets * room_of format) octets
+
+-- their frames, and how many octets those are
+abbrev pub frames_of : TmFormat → Heading → Option ℕ → List ℕ → List ℕ
+frames_of format h first octets = field_frames format (fields_in format octets) h first octets
+
+abbrev pub frames_len : TmFormat → List ℕ → ℕ
+frames_len format octets = fields_in format octets * format.len
 
 -- packets are left on the virtual channel, or octets to be filled up
 pub record HasMore (s : FormProgress) : Type 0 where
@@ -139,8 +180,7 @@ filling_of s = concat (filling (room_of s.format) (length s.octets))
 
 -- the frames that a packet completes
 abbrev pub piece_of : FormProgress → List ℕ → List ℕ
-piece_of s packet =
-    field_frames s.format s.spacecraft s.vc (fields_in s.format (s.octets ++ packet)) (Some s.start) s.master s.counter (s.octets ++ packet)
+piece_of s packet = frames_of s.format (heading_of s) (Some s.start) (s.octets ++ packet)
 
 -- so many frames later, when so many packets were taken
 abbrev pub passed : FormProgress → ℕ → ℕ → FormProgress

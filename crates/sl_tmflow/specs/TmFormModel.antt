@@ -9,12 +9,12 @@ abbrev pub form_progress : Inside → FormProgress
 form_progress f =
     record {
       format = f.shape;
-      spacecraft = f.spacecraft;
+      spacecraft = f.heading.spacecraft;
       lists = f.delivered.now.lists;
-      vc = f.vc;
+      vc = f.heading.vc;
       taken = f.taken;
-      master = f.master;
-      counter = f.counter;
+      master = f.heading.master;
+      counter = f.heading.counter;
       octets = f.octets.items;
       start = f.start;
     }
@@ -23,6 +23,6 @@ abbrev pub form_state : Inside → FormState
 form_state f = record { progress = form_progress f; octets_room = vec_capacity f.octets }
 
 pub record IsTmForm (f : Inside) : Type 0 where
-  pub spacecraft : f.spacecraft ≤ 1023
+  pub spacecraft : f.heading.spacecraft ≤ 1023
   pub few : length f.octets.items < room_of f.shape
   pub start : f.start < room_of f.shape

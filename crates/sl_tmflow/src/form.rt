@@ -5,8 +5,8 @@ ghost use Rattle.std.specs.Vec.{vec_len, vec_capacity};
 ghost use Rattle.sl_packet.specs.Delivered.{HasNone, IsDeliverable, list_at};
 ghost use Rattle.sl_tmframe.specs.PacketFrame.{room_of};
 ghost use Rattle.sl_tmflow.specs.Canonical.{AreDeliverable, IsFormat};
-ghost use Rattle.sl_tmflow.specs.FormLeft.{IsLeft, AddsPiece, IsAllMade, KeepsLeft, HasPackets, HasRoom, HasMore, piece_room, octets_room, packets_left, field_frames, fields_in, beyond_fields, filled_up, filling_of, piece_of, passed, after_packet};
-ghost use Rattle.sl_tmflow.specs.NormalForm.{fill_of, filling, normal_form};
+ghost use Rattle.sl_tmflow.specs.FormLeft.{IsLeft, AddsPiece, IsAllMade, KeepsLeft, IsOfPackets, HasRoom, LacksRoom, HasMore, HasFewer, HasNoMore, form_of, piece_room, octets_room, heading_after, frames_of, frames_len, fields_in, beyond_fields, filled_up, passed};
+ghost use Rattle.sl_tmflow.specs.NormalForm.{fill_of, filling};
 ghost use Rattle.sl_tmflow.specs.Recording.{tm_lists};
 
 use sl_packet::{Delivered, push_idle};
@@ -28,19 +28,39 @@ const OCTETS: usize = 4096;
 #[derive(Drop)]
 pub struct TmForm<'d> {
     shape: TmShape,
-    spacecraft: u16,
     delivered: &'d Delivered,
-    // The virtual channel of the next packet, 8 where there is none.
-    vc: u8,
-    // How many of its packets were taken, with the one that fills it up.
+    // What the next frame shows: its virtual channel is that of the next packet, 8 where there is none.
+    heading: Heading,
+    // How many packets of that virtual channel were taken, with the one that fills it up.
     taken: usize,
-    // The frame counts of the next frame, of the master and of the virtual channel.
-    master: u8,
-    counter: u8,
     // The octets of those packets that don't fill a data field yet.
     octets: Vec<u8>,
     // Where the first packet starts in that data field, or the next one if none does yet.
     start: u16,
+}
+
+// What the header of a frame shows, but for its first header pointer.
+#[derive(Clone, Copy)]
+struct Heading {
+    spacecraft: u16,
+    vc: u8,
+    // The frame counts, of the master and of the virtual channel.
+    master: u8,
+    counter: u8,
+}
+
+impl Heading {
+    // The heading so many frames later.
+    fn after(self, frames: usize) -> Heading
+        ensures { result ≡ heading_after self frames }
+    {
+        let frames = (frames % 256) as u8;
+        Heading {
+            master: self.master.wrapping_add(frames),
+            counter: self.counter.wrapping_add(frames),
+            ..self
+        }
+    }
 }
 
 impl<'d> Model for TmForm<'d> {
@@ -64,22 +84,26 @@ impl<'d> TmForm<'d> {
         delivered: &'d Delivered,
     ) -> TmForm<'d>
         requires spacecraft { spacecraft ≤ 1023 }
-        ensures left { IsLeft result.progress (normal_form shape.now spacecraft (take 8 delivered.now.lists)) }
+        ensures left { IsLeft result.progress (form_of shape.now spacecraft delivered.now.lists) }
         ensures lists { result.progress.lists ≡ delivered.now.lists }
         // Read as a recording, the form delivers the packets again.
-        ensures delivers { tm_lists shape.now spacecraft (normal_form shape.now spacecraft (take 8 delivered.now.lists)) ≡ take 8 delivered.now.lists }
+        ensures delivers { tm_lists shape.now spacecraft
+            (form_of shape.now spacecraft delivered.now.lists) ≡ take 8 delivered.now.lists }
+        ensures memory { result.octets_room ≡ 0 }
     {
         has_format(shape);
         has_packets(delivered);
         shape.room();
         TmForm {
             shape: *shape,
-            spacecraft,
             delivered,
-            vc: 0,
+            heading: Heading {
+                spacecraft,
+                vc: 0,
+                master: 0,
+                counter: 0,
+            },
             taken: 0,
-            master: 0,
-            counter: 0,
             octets: Vec::new(alloc),
             start: 0,
         }
@@ -95,7 +119,7 @@ impl<'d> TmForm<'d> {
         ensures keeps { self.old.octets_room ≤ self.new.octets_room }
         ensures capacity { vec_capacity form.old ≤ vec_capacity form.new }
         // Where there was memory for both, none is wanted.
-        ensures full { OnErr result (HasRoom self.old → vec_capacity form.old < vec_len form.old + piece_room) }
+        ensures full { OnErr result (LacksRoom self.old form.old) }
     {
         self.octets.reserve(OCTETS - self.octets.len())?;
         form.reserve(PIECE)
@@ -107,18 +131,20 @@ impl<'d> TmForm<'d> {
     /// then, and `form` is as it was.
     pub fn next(&mut self, form: &mut Vec<u8>) -> Result<bool, AllocError>
         // What was added is what comes next,
-        ensures piece { OnOk result (AddsPiece self.old.progress form.old.items form.new.items self.new.progress) }
+        ensures piece { OnOk result
+            (AddsPiece self.old.progress form.old.items form.new.items self.new.progress) }
         // and where there was none, all is made.
         ensures all { IfOk result (λ more. more ≡ false → IsAllMade self.old.progress) }
         ensures none { IfOk result (λ more. more ≡ false → form.new.items ≡ form.old.items) }
         // Each piece takes a packet, so there is a last one.
-        ensures fewer { IfOk result (λ more. IsTrue more → (left : List ℕ) → IsLeft self.old.progress left → packets_left self.new.progress < packets_left self.old.progress) }
+        ensures fewer { IfOk result (λ more. IsTrue more
+            → HasFewer self.old.progress self.new.progress) }
         ensures lists { self.new.progress.lists ≡ self.old.progress.lists }
         ensures unchanged { OnErr result (form.new.items ≡ form.old.items) }
         ensures left { OnErr result (KeepsLeft self.old.progress self.new.progress) }
-        ensures full { OnErr result (HasRoom self.old → vec_capacity form.old < vec_len form.old + piece_room) }
-        ensures some { IfOk result (λ more. IsTrue more → (left : List ℕ) → IsLeft self.old.progress left → HasPackets self.old.progress.lists) }
-        ensures packets { OnErr result ((left : List ℕ) → IsLeft self.old.progress left → HasPackets self.old.progress.lists) }
+        ensures full { OnErr result (LacksRoom self.old form.old) }
+        ensures some { IfOk result (λ more. IsTrue more → IsOfPackets self.old.progress) }
+        ensures packets { OnErr result (IsOfPackets self.old.progress) }
         ensures keeps { self.old.octets_room ≤ self.new.octets_room }
         ensures capacity { vec_capacity form.old ≤ vec_capacity form.new }
     {
@@ -135,18 +161,18 @@ impl<'d> TmForm<'d> {
         ensures more { IsTrue result → HasMore self.new.progress }
         ensures left { KeepsLeft self.old.progress self.new.progress }
         ensures all { result ≡ false → IsAllMade self.old.progress }
-        ensures no_more { (left : List ℕ) → IsLeft self.old.progress left → packets_left self.new.progress ≤ packets_left self.old.progress }
+        ensures no_more { HasNoMore self.old.progress self.new.progress }
         ensures lists { self.new.progress.lists ≡ self.old.progress.lists }
         ensures keeps { self.old.octets_room ≤ self.new.octets_room }
     {
-        while self.vc < 8 {
-            let packets = self.delivered.list(u16::from(self.vc)).len();
+        while self.heading.vc < 8 {
+            let packets = self.delivered.list(u16::from(self.heading.vc)).len();
             if self.taken < packets || !self.octets.is_empty() {
                 return true;
             }
-            self.vc += 1;
+            self.heading.vc += 1;
+            self.heading.counter = 0;
             self.taken = 0;
-            self.counter = 0;
         }
         false
     }
@@ -154,80 +180,27 @@ impl<'d> TmForm<'d> {
     // Takes the next packet, or fills up.
     fn add_next(&mut self, form: &mut Vec<u8>) -> Result<(), AllocError>
         requires more { HasMore self.old.progress }
-        ensures piece { OnOk result (AddsPiece self.old.progress form.old.items form.new.items self.new.progress) }
-        ensures fewer { OnOk result ((left : List ℕ) → IsLeft self.old.progress left → packets_left self.new.progress < packets_left self.old.progress) }
+        ensures piece { OnOk result
+            (AddsPiece self.old.progress form.old.items form.new.items self.new.progress) }
+        ensures fewer { OnOk result (HasFewer self.old.progress self.new.progress) }
         ensures lists { self.new.progress.lists ≡ self.old.progress.lists }
-        ensures full { OnErr result (HasRoom self.old → vec_capacity form.old < vec_len form.old + piece_room) }
+        ensures full { OnErr result (LacksRoom self.old form.old) }
         ensures keeps { self.old.octets_room ≤ self.new.octets_room }
         ensures capacity { vec_capacity form.old ≤ vec_capacity form.new }
     {
         self.shape.room();
-        let delivered = self.delivered;
+        let (shape, heading, start) = (self.shape, self.heading, self.start);
         let taken = self.taken;
-        let packets = delivered.list(u16::from(self.vc));
+        let packets = self.delivered.list(u16::from(heading.vc));
+        let octets = &mut self.octets;
         if taken < packets.len() {
-            return self.add_packet(form, packets[taken].as_slice(), taken + 1);
+            let packet = packets[taken].as_slice();
+            let frames = add(form, octets, &shape, heading, start, packet)?;
+            self.pass(frames, taken + 1);
+            return Ok(());
         }
-        self.add_filling(form, packets.len() + 1)
-    }
-
-    // Adds the frames that a packet completes, after which so many were taken.
-    fn add_packet(
-        &mut self,
-        form: &mut Vec<u8>,
-        packet: &[u8],
-        taken: usize,
-    ) -> Result<(), AllocError>
-        requires vc { self.old.progress.vc ≤ 7 }
-        ensures progress { OnOk result (self.new.progress ≡ after_packet self.old.progress packet.now taken) }
-        ensures frames { OnOk result (form.new.items ≡ form.old.items ++ piece_of self.old.progress packet.now) }
-        ensures lists { self.new.progress.lists ≡ self.old.progress.lists }
-        ensures full { OnErr result (HasRoom self.old → vec_capacity form.old < vec_len form.old + fields_in self.old.progress.format (self.old.progress.octets ++ packet.now) * self.old.progress.format.len) }
-        ensures keeps { self.old.octets_room ≤ self.new.octets_room }
-        ensures capacity { vec_capacity form.old ≤ vec_capacity form.new }
-    {
-        let shape = self.shape;
-        let (spacecraft, vc, start) = (self.spacecraft, self.vc, self.start);
-        let (master, counter) = (self.master, self.counter);
-        let frames = add(
-            form,
-            &mut self.octets,
-            &shape,
-            spacecraft,
-            vc,
-            master,
-            counter,
-            start,
-            packet,
-        )?;
-        self.pass(frames, taken);
-        Ok(())
-    }
-
-    // Adds the frames of the octets that are left of the virtual channel, filled up.
-    fn add_filling(&mut self, form: &mut Vec<u8>, taken: usize) -> Result<(), AllocError>
-        requires vc { self.old.progress.vc ≤ 7 }
-        ensures progress { OnOk result (self.new.progress ≡ after_packet self.old.progress (filling_of self.old.progress) taken) }
-        ensures frames { OnOk result (form.new.items ≡ form.old.items ++ piece_of self.old.progress (filling_of self.old.progress)) }
-        ensures lists { self.new.progress.lists ≡ self.old.progress.lists }
-        ensures full { OnErr result (HasRoom self.old → vec_capacity form.old < vec_len form.old + fields_in self.old.progress.format (self.old.progress.octets ++ filling_of self.old.progress) * self.old.progress.format.len) }
-        ensures keeps { self.old.octets_room ≤ self.new.octets_room }
-        ensures capacity { vec_capacity form.old ≤ vec_capacity form.new }
-    {
-        let shape = self.shape;
-        let (spacecraft, vc, start) = (self.spacecraft, self.vc, self.start);
-        let (master, counter) = (self.master, self.counter);
-        let frames = fill(
-            form,
-            &mut self.octets,
-            &shape,
-            spacecraft,
-            vc,
-            master,
-            counter,
-            start,
-        )?;
-        self.pass(frames, taken);
+        let frames = fill(form, octets, &shape, heading, start)?;
+        self.pass(frames, packets.len() + 1);
         Ok(())
     }
 
@@ -237,20 +210,12 @@ impl<'d> TmForm<'d> {
         ensures keeps { self.new.octets_room ≡ self.old.octets_room }
     {
         self.shape.room();
+        self.heading = self.heading.after(frames);
         self.taken = taken;
-        self.master = count_after(self.master, frames);
-        self.counter = count_after(self.counter, frames);
         if frames > 0 {
             self.start = self.octets.len() as u16;
         }
     }
-}
-
-// The frame count so many frames later.
-fn count_after(count: u8, frames: usize) -> u8
-    ensures { result ≡ (count + frames) % 256 }
-{
-    count.wrapping_add((frames % 256) as u8)
 }
 
 // Adds the frames that octets and a packet after them fill, keeps the octets beyond them, and tells how many frames
@@ -259,22 +224,23 @@ fn add(
     form: &mut Vec<u8>,
     octets: &mut Vec<u8>,
     shape: &TmShape,
-    spacecraft: u16,
-    vc: u8,
-    master: u8,
-    counter: u8,
+    heading: Heading,
     start: u16,
     packet: &[u8],
 ) -> Result<usize, AllocError>
-    requires spacecraft { spacecraft ≤ 1023 }
-    requires vc { vc ≤ 7 }
+    requires spacecraft { heading.spacecraft ≤ 1023 }
+    requires vc { heading.vc ≤ 7 }
     requires start { start < room_of shape.now }
     requires few { length octets.old.items < room_of shape.now }
-    ensures frames { OnOk result (form.new.items ≡ form.old.items ++ field_frames shape.now spacecraft vc (fields_in shape.now (octets.old.items ++ packet.now)) (Some start) master counter (octets.old.items ++ packet.now)) }
-    ensures beyond { OnOk result (octets.new.items ≡ beyond_fields shape.now (octets.old.items ++ packet.now)) }
-    ensures count { IfOk result (λ frames. frames ≡ fields_in shape.now (octets.old.items ++ packet.now)) }
+    ensures frames { OnOk result (form.new.items ≡ form.old.items
+        ++ frames_of shape.now heading (Some start) (octets.old.items ++ packet.now)) }
+    ensures beyond { OnOk result (octets.new.items
+        ≡ beyond_fields shape.now (octets.old.items ++ packet.now)) }
+    ensures count { IfOk result (λ frames. frames
+        ≡ fields_in shape.now (octets.old.items ++ packet.now)) }
     ensures few { length octets.new.items < room_of shape.now }
-    ensures full { OnErr result (octets_room ≤ vec_capacity octets.old → vec_capacity form.old < vec_len form.old + fields_in shape.now (octets.old.items ++ packet.now) * shape.now.len) }
+    ensures full { OnErr result (octets_room ≤ vec_capacity octets.old → vec_capacity form.old
+        < vec_len form.old + frames_len shape.now (octets.old.items ++ packet.now)) }
     ensures keeps { vec_capacity octets.old ≤ vec_capacity octets.new }
     ensures capacity { vec_capacity form.old ≤ vec_capacity form.new }
 {
@@ -286,30 +252,10 @@ fn add(
     }
     let (head, rest) = packet.split_at(wanted);
     octets.extend_from_slice(head)?;
-    let pushed = push_fields(
-        form,
-        shape,
-        spacecraft,
-        vc,
-        master,
-        counter,
-        Some(start),
-        octets.as_slice(),
-    );
+    let pushed = push_fields(form, shape, heading, Some(start), octets.as_slice());
     octets.clear();
     pushed?;
-    let next_master = count_after(master, 1);
-    let next_counter = count_after(counter, 1);
-    push_fields(
-        form,
-        shape,
-        spacecraft,
-        vc,
-        next_master,
-        next_counter,
-        None,
-        rest,
-    )?;
+    push_fields(form, shape, heading.after(1), None, rest)?;
     octets.extend_from_slice(&rest[rest.len() - rest.len() % room..])?;
     Ok(rest.len() / room + 1)
 }
@@ -320,37 +266,29 @@ fn fill(
     form: &mut Vec<u8>,
     octets: &mut Vec<u8>,
     shape: &TmShape,
-    spacecraft: u16,
-    vc: u8,
-    master: u8,
-    counter: u8,
+    heading: Heading,
     start: u16,
 ) -> Result<usize, AllocError>
-    requires spacecraft { spacecraft ≤ 1023 }
-    requires vc { vc ≤ 7 }
+    requires spacecraft { heading.spacecraft ≤ 1023 }
+    requires vc { heading.vc ≤ 7 }
     requires start { start < room_of shape.now }
     requires few { length octets.old.items < room_of shape.now }
-    ensures frames { OnOk result (form.new.items ≡ form.old.items ++ field_frames shape.now spacecraft vc (fields_in shape.now (filled_up shape.now octets.old.items)) (Some start) master counter (filled_up shape.now octets.old.items)) }
-    ensures beyond { OnOk result (octets.new.items ≡ beyond_fields shape.now (filled_up shape.now octets.old.items)) }
-    ensures count { IfOk result (λ frames. frames ≡ fields_in shape.now (filled_up shape.now octets.old.items)) }
+    ensures frames { OnOk result (form.new.items ≡ form.old.items
+        ++ frames_of shape.now heading (Some start) (filled_up shape.now octets.old.items)) }
+    ensures beyond { OnOk result (octets.new.items
+        ≡ beyond_fields shape.now (filled_up shape.now octets.old.items)) }
+    ensures count { IfOk result (λ frames. frames
+        ≡ fields_in shape.now (filled_up shape.now octets.old.items)) }
     ensures few { length octets.new.items < room_of shape.now }
-    ensures full { OnErr result (octets_room ≤ vec_capacity octets.old → vec_capacity form.old < vec_len form.old + fields_in shape.now (filled_up shape.now octets.old.items) * shape.now.len) }
+    ensures full { OnErr result (octets_room ≤ vec_capacity octets.old → vec_capacity form.old
+        < vec_len form.old + frames_len shape.now (filled_up shape.now octets.old.items)) }
     ensures keeps { vec_capacity octets.old ≤ vec_capacity octets.new }
     ensures capacity { vec_capacity form.old ≤ vec_capacity form.new }
 {
     let room = usize::from(shape.room());
     fill_up(octets, room)?;
     let frames = octets.len() / room;
-    let pushed = push_fields(
-        form,
-        shape,
-        spacecraft,
-        vc,
-        master,
-        counter,
-        Some(start),
-        octets.as_slice(),
-    );
+    let pushed = push_fields(form, shape, heading, Some(start), octets.as_slice());
     octets.clear();
     pushed?;
     Ok(frames)
@@ -360,7 +298,8 @@ fn fill(
 fn fill_up(octets: &mut Vec<u8>, room: usize) -> Result<(), AllocError>
     requires least { 24 ≤ room }
     requires most { room ≤ 2042 }
-    ensures octets { OnOk result (octets.new.items ≡ octets.old.items ++ concat (filling room (length octets.old.items))) }
+    ensures octets { OnOk result (octets.new.items ≡ octets.old.items
+        ++ concat (filling room (length octets.old.items))) }
     ensures unchanged { OnErr result (octets.new.items ≡ octets.old.items) }
     ensures full { OnErr result (vec_capacity octets.old < vec_len octets.old + 2048) }
     ensures capacity { vec_capacity octets.old ≤ vec_capacity octets.new }
@@ -391,31 +330,35 @@ fn fill_len(room: usize, len: usize) -> usize
 fn push_fields(
     form: &mut Vec<u8>,
     shape: &TmShape,
-    spacecraft: u16,
-    vc: u8,
-    master: u8,
-    counter: u8,
+    heading: Heading,
     first: Option<u16>,
     octets: &[u8],
 ) -> Result<(), AllocError>
-    requires spacecraft { spacecraft ≤ 1023 }
-    requires vc { vc ≤ 7 }
+    requires spacecraft { heading.spacecraft ≤ 1023 }
+    requires vc { heading.vc ≤ 7 }
     requires first { IfSome first (λ first. first < room_of shape.now) }
-    ensures frames { OnOk result (form.new.items ≡ form.old.items ++ field_frames shape.now spacecraft vc (fields_in shape.now octets.now) first master counter octets.now) }
-    ensures size { OnOk result (vec_len form.new ≡ vec_len form.old + fields_in shape.now octets.now * shape.now.len) }
-    ensures full { OnErr result (vec_capacity form.old < vec_len form.old + fields_in shape.now octets.now * shape.now.len) }
+    ensures frames { OnOk result (form.new.items
+        ≡ form.old.items ++ frames_of shape.now heading first octets.now) }
+    ensures size { OnOk result (vec_len form.new
+        ≡ vec_len form.old + frames_len shape.now octets.now) }
+    ensures full { OnErr result (vec_capacity form.old
+        < vec_len form.old + frames_len shape.now octets.now) }
     ensures capacity { vec_capacity form.old ≤ vec_capacity form.new }
 {
     let room = usize::from(shape.room());
-    let mut master = master;
-    let mut counter = counter;
+    let mut heading = heading;
     let mut first = first;
     let mut left = octets;
     while left.len() >= room {
         let (field, later) = left.split_at(room);
+        let Heading {
+            spacecraft,
+            vc,
+            master,
+            counter,
+        } = heading;
         push_tm(form, shape, spacecraft, vc, master, counter, first, field)?;
-        master = master.wrapping_add(1);
-        counter = counter.wrapping_add(1);
+        heading = heading.after(1);
         first = None;
         left = later;
     }

@@ -280,6 +280,81 @@ fn an_extractor_stops_at_a_fault(rt: HostRuntime) -> Result<(), Fail> {
     Ok(())
 }
 
+// A sink that keeps its first packets, so many, end to end, and refuses the others.
+#[derive(Drop)]
+struct Keeps {
+    octets: [u8; 64],
+    len: usize,
+    left: u32,
+    refused: u64,
+}
+
+impl Keeps {
+    fn new(left: u32) -> Keeps {
+        Keeps {
+            octets: [0; 64],
+            len: 0,
+            left,
+            refused: 0,
+        }
+    }
+
+    fn kept(&self) -> Option<&[u8]> {
+        self.octets.get(..self.len)
+    }
+}
+
+impl PacketSink for Keeps {
+    ghost use Rattle.sl_packet.specs.declared.sink.SinkFault.TheVariants.{Refused};
+
+    ghost taking = { λ old channel packet new. ⊤ };
+
+    ghost failing = { λ old channel packet fault new. fault ≡ Refused };
+
+    ghost failures = { λ sink. sink.refused };
+
+    fn packet(&mut self, _channel: u16, p: &[u8]) -> Result<(), SinkFault> {
+        let end = self.len.saturating_add(p.len());
+        if let (Some(left), Some(place)) = (
+            self.left.checked_sub(1),
+            self.octets.get_mut(self.len..end),
+        ) {
+            place.copy_from_slice(p);
+            self.left = left;
+            self.len = end;
+            return Ok(());
+        }
+        self.refused = self.refused.saturating_add(1);
+        Err(SinkFault::Refused)
+    }
+}
+
+// What it has accepted stays, what it refused isn't offered again, and nothing after it is.
+#[test]
+fn the_first_packets_are_accepted_before_a_fault(rt: HostRuntime) -> Result<(), Fail> {
+    let shape = TmShape::new(32, false)?;
+    let last = TmFrame::read(&shape, 1, &ENDED).or(Err("skipped"))?;
+    for (most, len) in [(1, 23), (2, 33)] {
+        let mut extractor = Extractor::new(rt.alloc());
+        let mut sink = Keeps::new(most);
+        assert_eq!(rt; ended(&mut extractor, &BEGUN, &mut sink)?, (1, 0));
+        assert_eq!(rt; ended(&mut extractor, &IDLE, &mut sink)?, (0, 0));
+        let wanted = [
+            FlowFault::Sink(SinkFault::Refused),
+            FlowFault::Failed,
+            FlowFault::Failed,
+        ];
+        for fault in wanted {
+            assert_eq!(rt; extractor.frame(&last, &mut sink).err(), Some(fault));
+            assert_eq!(rt; sink.refused, 1);
+        }
+        let mut taken = Vec::from_slice(rt.alloc(), &BEGUN[6..29])?;
+        taken.extend_from_slice(&SPLIT)?;
+        assert_eq!(rt; sink.kept(), taken.get(..len));
+    }
+    Ok(())
+}
+
 // A sink that keeps only how many packets it was handed.
 #[derive(Drop)]
 struct Counts {

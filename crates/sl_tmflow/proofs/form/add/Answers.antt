@@ -1,9 +1,9 @@
-use Rattle.std.proofs.Common.{◌≡◌, ◌<◌, ◌+◌, ◌-◌, ◌*◌, ◌/◌, ◌%◌, ◌++◌, ◌∙◌, None, Some, arith, sym, ap, length, length-append, append-nil}
+use Rattle.std.proofs.Common.{◌≡◌, ◌<◌, ◌-◌, ◌*◌, ◌/◌, ◌%◌, ◌++◌, ◌∙◌, None, Some, arith, sym, ap, length, length-append, append-nil}
 use Rattle.std.proofs.lemmas.List.{take-append-drop, take_rest}
 use Rattle.std.proofs.lemmas.Result.{err_from_is_err_and}
 use Rattle.std.proofs.Math.Nat.{one-mul, suc-mul}
 use Rattle.sl_tmframe.specs.PacketFrame.{room_of}
-use Rattle.sl_tmflow.specs.FormLeft.{field_frames, fields_in}
+use Rattle.sl_tmflow.specs.FormLeft.{field_frames, fields_in, frames_of}
 use Rattle.sl_tmflow.proofs.FormPushLemmas.{none_filled, few_beyond, field_of_first, fields_of_both, beyond_both, frames_of_both}
 use Rattle.sl_tmflow.proofs.form.add.Goals as goal
 
@@ -15,7 +15,7 @@ returns-then-packet-wanted-clause-frames c =
     let packet = c.args.packet.now in
     let room = c.from-room.ensures ∙ c.room.ensures.value in
     let few : length (octets ++ packet) < room_of format = omega (arith, c.if-packet-wanted.true, length-append octets packet, room, c.len.ensures, c.requires.few) in
-    sym (append-nil form) ∙ ap (λ n. form ++ field_frames format c.args.spacecraft c.args.vc n (Some c.args.start) c.args.master c.args.counter (octets ++ packet)) (sym (none_filled format (octets ++ packet) few))
+    sym (append-nil form) ∙ ap (λ n. form ++ field_frames format n c.args.heading (Some c.args.start) (octets ++ packet)) (sym (none_filled format (octets ++ packet) few))
 
 pub returns-then-packet-wanted-clause-beyond : goal.returns-then-packet-wanted-clause-beyond
 returns-then-packet-wanted-clause-beyond c =
@@ -80,11 +80,9 @@ returns-clause-frames c =
     let whole : length (octets ++ head) ≡ room_of format = omega (arith, length-append octets head, c.split_at.ensures.front_len, room, c.len.ensures, c.requires.few) in
     let pushed = c.as_slice.ensures.value ∙ c.in_ok-extend_from_slice-2.ensures.items in
     let middle = c.push_fields-pushed.new.form.items in
-    let one = c.in_ok-pushed.ensures.frames ∙ ap (λ l. form ++ field_frames format c.args.spacecraft c.args.vc (fields_in format l) (Some c.args.start) c.args.master c.args.counter l) pushed in
-    let two = c.in_ok-push_fields.ensures.frames
-    ∙ ap (λ n. middle ++ field_frames format c.args.spacecraft c.args.vc (fields_in format rest) None n c.count_after-next_counter.result rest) c.count_after-next_master.ensures
-    ∙ ap (λ n. middle ++ field_frames format c.args.spacecraft c.args.vc (fields_in format rest) None ((c.args.master + 1) % 256) n rest) c.count_after-next_counter.ensures in
-    frames_of_both format octets head rest packet roomy whole divided c.args.spacecraft c.args.vc c.args.master c.args.counter (Some c.args.start) form middle c.push_fields.new.form.items one two
+    let one = c.in_ok-pushed.ensures.frames ∙ ap (λ l. form ++ frames_of format c.args.heading (Some c.args.start) l) pushed in
+    let two = c.in_ok-push_fields.ensures.frames ∙ ap (λ h. middle ++ frames_of format h None rest) c.after.ensures in
+    frames_of_both format octets head rest packet roomy whole divided c.args.heading (Some c.args.start) form middle c.push_fields.new.form.items one two
 
 pub returns-clause-beyond : goal.returns-clause-beyond
 returns-clause-beyond c =

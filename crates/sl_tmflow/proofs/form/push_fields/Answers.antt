@@ -8,7 +8,7 @@ use Rattle.sl_tmflow.proofs.FormPushLemmas.{pushes_next, all_pushed, one_more_fi
 use Rattle.sl_tmflow.proofs.form.push_fields.Goals as goal
 
 pub loop-left-init : goal.loop-left-init
-loop-left-init c = (record { frames = refl; sizes = refl }, (omega arith, c.requires.first))
+loop-left-init c = (record { frames = refl; sizes = refl }, (omega arith, (c.requires.first, (c.requires.spacecraft, c.requires.vc))))
 
 pub loop-left-preserved : goal.loop-left-preserved
 loop-left-preserved c =
@@ -20,10 +20,11 @@ loop-left-preserved c =
     let field = c.split_at.result.0.now in
     let later = c.split_at.result.1.now in
     let parts : left ≡ field ++ later = rw (c.split_at.ensures.front, c.split_at.ensures.back) (sym (take-append-drop c.from-room.result left)) in
-    let whole : length field ≡ room_of format = c.split_at.ensures.front_len ∙ room in (
-      pushes_next format c.args.spacecraft c.args.vc _ _ c.loop-left.first c.loop-left.master c.loop-left.counter left field later c.loop-left.form.items c.push_tm.new.out.items (vec_len c.loop-left.form) (vec_len c.push_tm.new.out)
+    let whole : length field ≡ room_of format = c.split_at.ensures.front_len ∙ room in
+    rw (c.after-heading.ensures) (
+      pushes_next format c.loop-left.heading _ _ c.loop-left.first left field later c.loop-left.form.items c.push_tm.new.out.items (vec_len c.loop-left.form) (vec_len c.push_tm.new.out)
           roomy long parts whole c.in_ok-push_tm.ensures.added (omega arith) (omega arith) c.loop-left.invariant.0,
-      (omega (arith, c.loop-left.invariant.1.0, c.push_tm.ensures.capacity), tt),
+      (omega (arith, c.loop-left.invariant.1.0, c.push_tm.ensures.capacity), (tt, (c.loop-left.invariant.1.1.1.0, c.loop-left.invariant.1.1.1.1))),
     )
 
 pub returns-in_err-push_tm-clause-full : goal.returns-in_err-push_tm-clause-full
@@ -47,10 +48,10 @@ pub returns-clause-frames : goal.returns-clause-frames
 returns-clause-frames c =
     let format = c.args.shape.now in
     let room = c.from-room.ensures ∙ c.room.ensures.value in
-    (all_pushed format c.args.spacecraft c.args.vc _ _ c.loop-left.first c.loop-left.master c.loop-left.counter c.loop-left.left.now c.loop-left.form.items (vec_len c.loop-left.form) (omega (arith, c.loop-left-test.false, room)) c.loop-left.invariant.0).0
+    (all_pushed format c.loop-left.heading _ _ c.loop-left.first c.loop-left.left.now c.loop-left.form.items (vec_len c.loop-left.form) (omega (arith, c.loop-left-test.false, room)) c.loop-left.invariant.0).0
 
 pub returns-clause-size : goal.returns-clause-size
 returns-clause-size c =
     let format = c.args.shape.now in
     let room = c.from-room.ensures ∙ c.room.ensures.value in
-    (all_pushed format c.args.spacecraft c.args.vc _ _ c.loop-left.first c.loop-left.master c.loop-left.counter c.loop-left.left.now c.loop-left.form.items (vec_len c.loop-left.form) (omega (arith, c.loop-left-test.false, room)) c.loop-left.invariant.0).1
+    (all_pushed format c.loop-left.heading _ _ c.loop-left.first c.loop-left.left.now c.loop-left.form.items (vec_len c.loop-left.form) (omega (arith, c.loop-left-test.false, room)) c.loop-left.invariant.0).1

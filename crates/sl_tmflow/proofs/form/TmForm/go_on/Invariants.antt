@@ -12,4 +12,4 @@ invariant-loop-self l =
     × ((l.fn.self.octets_room ≤ vec_capacity l.self-inside.octets) × IsTmForm l.self-inside)))
 
 abbrev pub decreases-loop-self : goal.decreases-loop-self
-decreases-loop-self l = 8 - l.self-inside.vc
+decreases-loop-self l = 8 - l.self-inside.heading.vc

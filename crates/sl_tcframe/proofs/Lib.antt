@@ -1,3 +1,6 @@
+pub mod VcSetLemmas
+pub mod VcTextLemmas
+pub mod VcSetFacts
 pub mod PartLemmas
 pub mod ChunkLemmas
 pub mod ReadLemmas

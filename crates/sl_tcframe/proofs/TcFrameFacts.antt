@@ -4,7 +4,7 @@ use Rattle.sl_fields.specs.Fecf.{fecf_of, register_of}
 use Rattle.sl_fields.specs.SegmentHeader.{SegmentFields}
 use Rattle.sl_tcframe.specs.declared.tc_frame.TcSkip.TheVariants.{Fecf, Version, Spacecraft, Long, Kind, Empty, Command}
 use Rattle.sl_tcframe.specs.TcFrame.{TcFormat, TcView, Content, Ad, Bd, Unlock, SetVr, is_cut, tc_frame}
-use Rattle.sl_tcframe.specs.AdFrame.{FitAdFrame, ad_frame}
+use Rattle.sl_tcframe.specs.AdFrame.{FitAdFrame, FitPlainFrame, ad_frame, plain_frame, plain_room_of, room_of}
 use Rattle.sl_tcframe.specs.TcDelimited.{tc_frames_of, tc_remainder_of}
 
 abbrev pub format : ℕ → TcFormat
@@ -100,6 +100,23 @@ pub frames_are_written : AreWritten
 unfolding fecf_of register_of
 frames_are_written = record { whole = refl; no_octets = refl; protected = refl }
 
+-- the packet of the segment, whose frame on virtual channel 5 has no segment header
+abbrev packet : List ℕ
+packet = 0x10 ∷ 0x01 ∷ 0xC0 ∷ 0x00 ∷ 0x00 ∷ 0x03 ∷ 0xAA ∷ 0xBB ∷ 0xCC ∷ 0xDD ∷ []
+
+pub record ArePlain : Type 0 where
+  pub whole : plain_frame (format 1024) 1 5 0 packet ≡ 0x00 ∷ 0x01 ∷ 0x14 ∷ 0x0E ∷ 0x00 ∷ packet
+  pub read : tc_frame (format 1024) 1 (0x00 ∷ 0x01 ∷ 0x14 ∷ 0x0E ∷ 0x00 ∷ packet) ≡ Ok (shows 5 (Ad 0 packet))
+  pub one_octet : plain_frame (format 16) 1023 63 255 (0xAA ∷ []) ≡ 0x03 ∷ 0xFF ∷ 0xFC ∷ 0x05 ∷ 0xFF ∷ 0xAA ∷ []
+  pub as_with_a_header : plain_frame (with_error_control 16) 1 0 0 (0xC0 ∷ 0xAA ∷ []) ≡ 0x00 ∷ 0x01 ∷ 0x00 ∷ 0x08 ∷ 0x00 ∷ 0xC0 ∷ 0xAA ∷ 0x33 ∷ 0x59 ∷ []
+  pub room : plain_room_of (format 16) ≡ 11
+  pub room_with_error_control : plain_room_of (with_error_control 1024) ≡ 1017
+  pub segment_room : room_of (format 16) ≡ 10
+
+pub frames_are_plain : ArePlain
+unfolding fecf_of register_of
+frames_are_plain = record { whole = refl; read = refl; one_octet = refl; as_with_a_header = refl; room = refl; room_with_error_control = refl; segment_room = refl }
+
 pub record AreDelimited : Type 0 where
   pub one : is_cut (format 16) carrier ≡ true
   pub one_octet_more : is_cut (format 16) (carrier ++ 0x00 ∷ []) ≡ false
@@ -143,5 +160,16 @@ fit_frame = record {
   vc_fits = omega arith;
   ns_fits = omega arith;
   segment_fits = record { flags = omega arith; map = omega arith };
+  inside = omega arith;
+}
+
+pub fit_plain_frame : FitPlainFrame (format 16) 1 5 0 (replicate 11 0xAA)
+fit_plain_frame = record {
+  least = omega arith;
+  most = omega arith;
+  spacecraft_fits = omega arith;
+  vc_fits = omega arith;
+  ns_fits = omega arith;
+  some = omega arith;
   inside = omega arith;
 }

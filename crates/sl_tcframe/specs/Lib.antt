@@ -6,6 +6,9 @@ pub mod TcFrameModel
 pub mod TcFraming
 pub mod TcShape
 pub mod TcShapeModel
+pub mod VcSet
+pub mod VcSetBack
+pub mod VcSetModel
 pub use Rattle.sl_fields.specs.Fecf
 pub use Rattle.sl_fields.specs.FecfField
 pub use Rattle.sl_fields.specs.Field

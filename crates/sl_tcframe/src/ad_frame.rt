@@ -2,7 +2,7 @@
 ghost use Rattle.std.specs.Prelude.{◌≡◌, ◌+◌, ◌<◌, ◌≤◌, ◌++◌, length, vec_len, OnOk, OnErr};
 ghost use Rattle.std.specs.Vec.{vec_capacity};
 ghost use Rattle.sl_fields.specs.TcHeader.{tc_octets};
-ghost use Rattle.sl_tcframe.specs.AdFrame.{ad_frame, ad_header, ad_len, room_of};
+ghost use Rattle.sl_tcframe.specs.AdFrame.{ad_frame, ad_header, ad_len, plain_frame, plain_len, plain_room_of, room_of, unit_frame};
 
 use crate::tc_shape::TcShape;
 use sl_fields::{SegmentHeader, TcHeader, fecf_field};
@@ -32,11 +32,59 @@ pub fn push_tc(
     ensures capacity { vec_capacity out.old ≤ vec_capacity out.new }
     ensures full { OnErr result (vec_capacity out.old < vec_len out.old + ad_len shape.now (length octets.now)) }
 {
+    push_unit(out, shape, spacecraft, vc, ns, &header.write(), octets)
+}
+
+/// Adds a frame of type AD without segment header, as a virtual channel has them that goes without by
+/// management: its data field is `octets`, 1 to as many as the format has room for in a data field.
+/// `spacecraft` is 0 to 1023 and `vc` 0 to 63; `ns` is the frame sequence number N(S).
+///
+/// The rest of the frame is as [`push_tc`] writes it, and so is what is left where memory is refused.
+pub fn push_tc_plain(
+    out: &mut Vec<u8>,
+    shape: &TcShape,
+    spacecraft: u16,
+    vc: u8,
+    ns: u8,
+    octets: &[u8],
+) -> Result<(), AllocError>
+    requires spacecraft { spacecraft ≤ 1023 }
+    requires vc { vc ≤ 63 }
+    requires some { 1 ≤ length octets.now }
+    requires unit { length octets.now ≤ plain_room_of shape.now }
+    ensures added { OnOk result (out.new.items ≡ out.old.items ++ plain_frame shape.now spacecraft vc ns octets.now) }
+    ensures len { OnOk result (vec_len out.new ≡ vec_len out.old + plain_len shape.now (length octets.now)) }
+    ensures unchanged { OnErr result (out.new.items ≡ out.old.items) }
+    ensures capacity { vec_capacity out.old ≤ vec_capacity out.new }
+    ensures full { OnErr result (vec_capacity out.old < vec_len out.old + plain_len shape.now (length octets.now)) }
+{
+    push_unit(out, shape, spacecraft, vc, ns, &[], octets)
+}
+
+// Adds a frame of type AD whose data field is a segment header, or none, and the octets after it.
+fn push_unit(
+    out: &mut Vec<u8>,
+    shape: &TcShape,
+    spacecraft: u16,
+    vc: u8,
+    ns: u8,
+    segment: &[u8],
+    octets: &[u8],
+) -> Result<(), AllocError>
+    requires spacecraft { spacecraft ≤ 1023 }
+    requires vc { vc ≤ 63 }
+    requires unit { length segment.now + length octets.now ≤ 1 + room_of shape.now }
+    ensures added { OnOk result (out.new.items ≡ out.old.items ++ unit_frame shape.now spacecraft vc ns segment.now octets.now) }
+    ensures len { OnOk result (vec_len out.new ≡ vec_len out.old + plain_len shape.now (length segment.now + length octets.now)) }
+    ensures unchanged { OnErr result (out.new.items ≡ out.old.items) }
+    ensures capacity { vec_capacity out.old ≤ vec_capacity out.new }
+    ensures full { OnErr result (vec_capacity out.old < vec_len out.old + plain_len shape.now (length segment.now + length octets.now)) }
+{
     let start = out.len();
-    let len = frame_len(shape, octets);
+    let len = frame_len(shape, segment.len() + octets.len());
     out.reserve(usize::from(len))?;
     out.extend_from_slice(&frame_header(spacecraft, vc, ns, len))?;
-    out.extend_from_slice(&header.write())?;
+    out.extend_from_slice(segment)?;
     out.extend_from_slice(octets)?;
     if !shape.fecf {
         return Ok(());
@@ -45,15 +93,15 @@ pub fn push_tc(
     out.extend_from_slice(&field)
 }
 
-// Octets of the frame of a segment with these octets after its header.
-fn frame_len(shape: &TcShape, octets: &[u8]) -> u16
-    requires { length octets.now ≤ room_of shape.now }
-    ensures value { result ≡ ad_len shape.now (length octets.now) }
-    ensures least { 6 ≤ result }
+// Octets of the frame with so many octets in its data field.
+fn frame_len(shape: &TcShape, unit: usize) -> u16
+    requires { unit ≤ 1 + room_of shape.now }
+    ensures value { result ≡ plain_len shape.now unit }
+    ensures least { 5 ≤ result }
     ensures most { result ≤ 1024 }
 {
-    let around = if shape.fecf { 8 } else { 6 };
-    around + octets.len() as u16
+    let around = if shape.fecf { 7 } else { 5 };
+    around + unit as u16
 }
 
 // The header of a frame of type AD with so many octets.

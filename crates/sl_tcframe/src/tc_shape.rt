@@ -1,6 +1,6 @@
 //! The managed format of TC transfer frames.
 ghost use Rattle.std.specs.Prelude.{◌≡◌, ◌+◌, ◌≤◌, length};
-ghost use Rattle.sl_tcframe.specs.AdFrame.{room_of};
+ghost use Rattle.sl_tcframe.specs.AdFrame.{plain_room_of, room_of};
 ghost use Rattle.sl_tcframe.specs.TcFrame.{is_cut, least_of};
 
 use sl_fields::{ShapeFault, TcHeader};
@@ -77,6 +77,15 @@ impl TcShape {
         } else {
             self.max - 6
         }
+    }
+
+    /// Octets of a data field at most: 9 to 1019. A frame without segment header carries as many.
+    pub fn plain_room(&self) -> u16
+        ensures value { result ≡ plain_room_of self.now }
+        ensures least { 9 ≤ result }
+        ensures most { result ≤ 1019 }
+    {
+        self.room() + 1
     }
 
     /// Whether the octets are one frame by their frame length field: at least [`least`](TcShape::least), and

@@ -1,8 +1,9 @@
 //! Frames of known octets, as they are read and written. What is expected follows from the standard's table of
 //! bits, and from its division for the error control fields.
 mod framer;
+mod vc_set;
 
-use crate::{TcContent, TcFrame, TcShape, TcSkip, push_tc};
+use crate::{TcContent, TcFrame, TcShape, TcSkip, push_tc, push_tc_plain};
 use sl_fields::{SegmentHeader, ShapeFault};
 use std::test::Fail;
 
@@ -386,6 +387,40 @@ fn frames_that_are_added_are_read_back(rt: HostRuntime) -> Result<(), Fail> {
             let content = TcContent::Ad { ns: 9, unit: &unit };
             assert!(rt; carries(&view, content), "at {max} {len}");
         }
+    }
+    Ok(())
+}
+
+#[test]
+fn frames_without_segment_header_are_added(rt: HostRuntime) -> Result<(), Fail> {
+    let shape = TcShape::new(1024, false)?;
+    let mut octets = vec![in rt.alloc(); 0xEE]?;
+    push_tc_plain(&mut octets, &shape, 1, 5, 0, &FRAME[6..])?;
+    assert_eq!(rt;
+        octets.get(..6),
+        Some(&[0xEE, 0x00, 0x01, 0x14, 0x0E, 0x00][..])
+    );
+    assert_eq!(rt; octets.get(6..), Some(&FRAME[6..]));
+    let protected = TcShape::new(16, true)?;
+    let mut octets = Vec::new(rt.alloc());
+    push_tc_plain(&mut octets, &protected, 1, 0, 0, &[0xC0, 0xAA])?;
+    assert_eq!(rt;
+        octets.as_slice(),
+        &[0x00, 0x01, 0x00, 0x08, 0x00, 0xC0, 0xAA, 0x33, 0x59][..]
+    );
+    Ok(())
+}
+
+#[test]
+fn frames_without_segment_header_have_room_for_an_octet_more(rt: HostRuntime) -> Result<(), Fail> {
+    for (max, fecf, room) in [
+        (16, false, 11),
+        (16, true, 9),
+        (1024, false, 1019),
+        (1024, true, 1017),
+    ] {
+        let shape = TcShape::new(max, fecf)?;
+        assert_eq!(rt; shape.plain_room(), room, "at {max}");
     }
     Ok(())
 }

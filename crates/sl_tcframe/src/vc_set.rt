@@ -1,0 +1,99 @@
+//! A set of virtual channels.
+ghost use Rattle.std.specs.Prelude.{◌≡◌, ℕ, ◌≤◌, List, [], IfSome, Some};
+ghost use Rattle.std.specs.Fmt.{decimal};
+ghost use Rattle.sl_tcframe.specs.VcSet.{Lists, has_vc, with_vc};
+
+use std::marker::Model;
+
+/// A set of TC virtual channels of CCSDS 232.0-B, by their identifiers, the numbers 0 to 63.
+#[derive(Clone, Copy, Debug, PartialEq, Eq)]
+pub struct VcSet {
+    flags: [bool; 64],
+}
+
+impl Model for VcSet {
+    ghost use Rattle.std.specs.Prelude.{ℕ, List};
+
+    ghost Value = { List ℕ };
+
+    ghost use Rattle.sl_tcframe.specs.VcSetModel.{vcs_of, inside_of, IsVcSet};
+
+    ghost view = { vcs_of };
+
+    ghost invariant = { IsVcSet };
+
+    ghost inverse = { inside_of };
+
+    ghost use Rattle.std.proofs.Common.{ap};
+    ghost use Rattle.sl_tcframe.specs.VcSetBack.{flags_back};
+
+    ghost inverse_ok = { λ s many. ap (λ flags. record { flags = flags }) (flags_back s.flags many) };
+}
+
+impl VcSet {
+    /// The set of no virtual channel.
+    pub fn new() -> VcSet
+        ensures { result ≡ [] }
+    {
+        VcSet { flags: [false; 64] }
+    }
+
+    /// The set with the virtual channel `vc`, 0 to 63, added.
+    pub fn with(&self, vc: u8) -> VcSet
+        requires { vc ≤ 63 }
+        ensures { result ≡ with_vc self.now vc }
+    {
+        let mut flags = self.flags;
+        flags[usize::from(vc)] = true;
+        VcSet { flags }
+    }
+
+    /// Whether the virtual channel `vc`, 0 to 63, is in the set.
+    pub fn has(&self, vc: u8) -> bool
+        requires { vc ≤ 63 }
+        ensures { result ≡ has_vc self.now vc }
+    {
+        self.flags[usize::from(vc)]
+    }
+
+    /// The set that the text lists: one or more decimal numbers, 0 to 63, without leading zeros, which rise
+    /// strictly and are joined by single commas; no set where it is any other text.
+    pub fn read(text: &str) -> Option<VcSet>
+        ensures listed { IfSome result (λ vcs. Lists 0 text.now vcs) }
+        ensures every { (vcs : List ℕ) → Lists 0 text.now vcs → result ≡ Some vcs }
+    {
+        read_from(text, 0)
+    }
+}
+
+// The set that the text lists, where its numbers are the least one or above.
+fn read_from(text: &str, least: u8) -> Option<VcSet>
+    ensures listed { IfSome result (λ vcs. Lists least text.now vcs) }
+    ensures every { (vcs : List ℕ) → Lists least text.now vcs → result ≡ Some vcs }
+{
+    match text.split_once(',') {
+        Some((first, rest)) => {
+            let vc = read_vc(first, least)?;
+            let above = read_from(rest, vc + 1)?;
+            Some(above.with(vc))
+        }
+        None => {
+            let vc = read_vc(text, least)?;
+            Some(VcSet::new().with(vc))
+        }
+    }
+}
+
+// The number, the least one to 63, that the text is in decimal.
+fn read_vc(text: &str, least: u8) -> Option<u8>
+    ensures number { IfSome result (λ vc. (least ≤ vc) × (vc ≤ 63) × (text.now ≡ decimal vc)) }
+    ensures every { (vc : ℕ) → least ≤ vc → vc ≤ 63 → text.now ≡ decimal vc → result ≡ Some vc }
+{
+    if text.len() > 1 && text.as_bytes()[0] < b'1' {
+        return None;
+    }
+    match text.parse::<u8>() {
+        Ok(vc) if least <= vc && vc <= 63 => Some(vc),
+        _ => None,
+    }
+}

@@ -7,6 +7,7 @@ use Rattle.sl_tcflow.specs.AcceptedUnit.{views_of}
 use Rattle.sl_tcflow.specs.Anomaly.{dropped_by, dropped_of, held_of, long_by, long_of, stray_by, stray_of, tail_by, tail_of}
 use Rattle.sl_tcflow.specs.Incomplete.{incomplete_of, passes}
 use Rattle.sl_tcflow.specs.Reception.{segments_of}
+use Rattle.sl_tcflow.specs.ReceptionParameters.{ReceptionParameters}
 
 -- ---- segments of MAP 0
 
@@ -112,7 +113,11 @@ is_empty = record {
   nothing_left = refl;
 }
 
--- ---- frames on virtual channel 0, with a window of width 10
+-- ---- frames on virtual channel 0
+
+-- a window of width 10, and V(R) 0 at the start
+abbrev from_0 : ReceptionParameters
+from_0 = record { window = 10; vr = 0 }
 
 abbrev early : List ℕ → TcView
 early unit = record { vc = 0; content = Ad 4 unit }
@@ -121,14 +126,14 @@ abbrev bypassing : List ℕ → TcView
 bypassing unit = record { vc = 0; content = Bd unit }
 
 pub record AreOfFrames : Type 0 where
-  pub out_of_sequence : stray_by 10 0 [] (bypassing last) ≡ true
-  pub a_series_dropped : dropped_by 10 0 (bypassing first ∷ []) (bypassing whole) ≡ Some 0
-  pub left : tail_by 10 0 [] (bypassing (0xC0 ∷ packet ++ 0x77 ∷ [])) ≡ 1
+  pub out_of_sequence : stray_by from_0 [] (bypassing last) ≡ true
+  pub a_series_dropped : dropped_by from_0 (bypassing first ∷ []) (bypassing whole) ≡ Some 0
+  pub left : tail_by from_0 [] (bypassing (0xC0 ∷ packet ++ 0x77 ∷ [])) ≡ 1
   -- nothing is told of a unit that is not accepted
-  pub not_accepted : stray_by 10 0 [] (early last) ≡ false
-  pub none_dropped : dropped_by 10 0 (bypassing first ∷ []) (early whole) ≡ None
-  pub none_too_long : long_by 10 0 (bypassing first ∷ []) (early last) ≡ false
-  pub none_left : tail_by 10 0 [] (early (0xC0 ∷ packet ++ 0x77 ∷ [])) ≡ 0
+  pub not_accepted : stray_by from_0 [] (early last) ≡ false
+  pub none_dropped : dropped_by from_0 (bypassing first ∷ []) (early whole) ≡ None
+  pub none_too_long : long_by from_0 (bypassing first ∷ []) (early last) ≡ false
+  pub none_left : tail_by from_0 [] (early (0xC0 ∷ packet ++ 0x77 ∷ [])) ≡ 0
 
 pub are_of_frames : AreOfFrames
 are_of_frames = record {
@@ -155,11 +160,11 @@ abbrev with_tail : List ℕ
 with_tail = 0x00 ∷ 0x01 ∷ 0x00 ∷ 0x0D ∷ 0x00 ∷ 0xC0 ∷ packet ++ 0x77 ∷ []
 
 pub record AreRecorded : Type 0 where
-  pub held : held_of (segments_of 10 0 0 0 (read begun)) ≡ 0
-  pub is_open : is_some (incomplete_of (segments_of 10 0 0 0 (read begun))) ≡ true
-  pub not_on_another_map : is_some (incomplete_of (segments_of 10 0 0 1 (read begun))) ≡ false
+  pub held : held_of (segments_of from_0 0 0 (read begun)) ≡ 0
+  pub is_open : is_some (incomplete_of (segments_of from_0 0 0 (read begun))) ≡ true
+  pub not_on_another_map : is_some (incomplete_of (segments_of from_0 0 1 (read begun))) ≡ false
   pub views : read with_tail ≡ record { vc = 0; content = Ad 0 (0xC0 ∷ packet ++ 0x77 ∷ []) } ∷ []
-  pub tail : tail_by 10 0 [] (record { vc = 0; content = Ad 0 (0xC0 ∷ packet ++ 0x77 ∷ []) }) ≡ 1
+  pub tail : tail_by from_0 [] (record { vc = 0; content = Ad 0 (0xC0 ∷ packet ++ 0x77 ∷ []) }) ≡ 1
 
 pub are_recorded : AreRecorded
 are_recorded = record {

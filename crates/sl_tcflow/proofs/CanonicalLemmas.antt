@@ -12,6 +12,7 @@ use Rattle.sl_tcframe.proofs.DelimitedLemmas.{delimited_once}
 use Rattle.sl_tcflow.specs.AcceptedUnit.{accepted_units, views_of}
 use Rattle.sl_tcflow.specs.Canonical.{IsFormat, AreDeliverable, NormalFormIsFrames, NoFrameIsLong, NormalFormDelivers}
 use Rattle.sl_tcflow.specs.Reception.{packets_on, segments_of}
+use Rattle.sl_tcflow.specs.ReceptionParameters.{ReceptionParameters, start_of}
 use Rattle.sl_tcflow.specs.Recording.{map_channels, packets_in_channel, recorded_views}
 use Rattle.sl_tcflow.specs.Series.{segments_on}
 use Rattle.sl_tcflow.specs.TcNormalForm.{segments_of_packet, tc_frames_form, tc_normal_form_of}
@@ -44,17 +45,17 @@ none_idle packets each =
     kept_all (λ packet. not (is_idle_packet packet)) packets
     (each-weaker IsDeliverable (λ packet. not (is_idle_packet packet) ≡ true) (λ packet is. ap not is.1) packets each)
 
-module _ (format : TcFormat) (spacecraft w vr : ℕ) (lists : List (List (List ℕ))) (is : IsFormat format) (known : spacecraft ≤ 1023) (small : vr < 256) (are : AreDeliverable lists) where
+module _ (format : TcFormat) (spacecraft : ℕ) (r : ReceptionParameters) (lists : List (List (List ℕ))) (is : IsFormat format) (known : spacecraft ≤ 1023) (small : r.vr < 256) (are : AreDeliverable lists) where
   abbrev form : List ℕ
-  form = tc_normal_form_of format spacecraft vr lists
+  form = tc_normal_form_of format spacecraft r.vr lists
 
-  views_are : recorded_views format spacecraft form ≡ views_of format spacecraft (tc_frames_form format spacecraft vr lists)
+  views_are : recorded_views format spacecraft form ≡ views_of format spacecraft (tc_frames_form format spacecraft r.vr lists)
   views_are =
       ap (views_of format spacecraft)
-      (delimited_once format form (tc_frames_form format spacecraft vr lists) [] (normal_form_is_frames format spacecraft vr lists is known are)).0
+      (delimited_once format form (tc_frames_form format spacecraft r.vr lists) [] (normal_form_is_frames format spacecraft r.vr lists is known are)).0
 
   packets_at : (vc mid : ℕ) → vc < 64 → mid < 64
-      → packets_on (segments_of w vr vc mid (recorded_views format spacecraft form)) ≡ slice_index_or lists (64 * vc + mid) []
+      → packets_on (segments_of r vc mid (recorded_views format spacecraft form)) ≡ slice_index_or lists (64 * vc + mid) []
   packets_at vc mid vc_fits mid_fits =
       let room = room_of format in
       let own = lists_on lists vc in
@@ -66,15 +67,15 @@ module _ (format : TcFormat) (spacecraft w vr : ℕ) (lists : List (List (List �
       get_or-take 64 (drop (64 * vc) lists) mid [] mid_fits ∙ get_or-drop (64 * vc) lists mid [] in
       let packets = slice_index_or lists (64 * vc + mid) [] in
       let each : AllByRecursion IsPacket packets = are_packets packets (each-at (AllByRecursion IsDeliverable) lists (64 * vc + mid) [] tt are.each) in
-      ap (λ views. packets_on (segments_of w vr vc mid views)) views_are
-      ∙ ap (λ channel. packets_on (segments_on mid (accepted_units w vr channel))) (channel_back format spacecraft vr is known lists vc vc_fits)
-      ∙ ap (λ units. packets_on (segments_on mid units)) (all_accepted w vc vr vr parts small (omega arith))
+      ap (λ views. packets_on (segments_of r vc mid views)) views_are
+      ∙ ap (λ channel. packets_on (segments_on mid (accepted_units r.window (start_of r vc) channel))) (channel_back format spacecraft r.vr is known lists vc vc_fits)
+      ∙ ap (λ units. packets_on (segments_on mid units)) (all_accepted r.window vc r.vr r.vr parts small (omega arith))
       ∙ ap packets_on (parts_of_map room 0 mid mid own (omega arith) (omega (arith, size)) (omega (arith, size)))
       ∙ ap (λ ps. packets_on (map unit_made (flat_map (segments_of_packet room mid) ps))) here
-      ∙ packets_back room mid 0 packets (some_room format spacecraft vr is known) mid_fits each
+      ∙ packets_back room mid 0 packets (some_room format spacecraft r.vr is known) mid_fits each
 
   list_back : (channel : ℕ) → channel < channel_count
-      → slice_index_or lists channel [] ≡ without_idle (packets_in_channel w vr (recorded_views format spacecraft form) channel)
+      → slice_index_or lists channel [] ≡ without_idle (packets_in_channel r (recorded_views format spacecraft form) channel)
   list_back channel below =
       let index : 64 * (channel / 64) + channel % 64 ≡ channel = omega arith in
       let packets = slice_index_or lists channel [] in
@@ -89,6 +90,6 @@ unfolding map_channels
 map_over_channels f lists all each = sym (fill_by_all f lists channel_count [] all each)
 
 pub normal_form_delivers : NormalFormDelivers
-normal_form_delivers format spacecraft w vr lists is known small are =
-    map_over_channels (λ channel. without_idle (packets_in_channel w vr (recorded_views format spacecraft (tc_normal_form_of format spacecraft vr lists)) channel)) lists are.all
-    (list_back format spacecraft w vr lists is known small are)
+normal_form_delivers format spacecraft r lists is known small are =
+    map_over_channels (λ channel. without_idle (packets_in_channel r (recorded_views format spacecraft (tc_normal_form_of format spacecraft r.vr lists)) channel)) lists are.all
+    (list_back format spacecraft r lists is known small are)

@@ -13,6 +13,7 @@ use Rattle.sl_tcflow.specs.NextSegment.{extended, incomplete_after, packets_afte
 use Rattle.sl_tcflow.specs.Receiving.{channel_at, ended_by, map_of, unit_channel, verdict_on}
 use Rattle.sl_tcflow.specs.Recording.{packets_in_channel}
 use Rattle.sl_tcflow.specs.Reception.{packets_ended, packets_on, segments_of}
+use Rattle.sl_tcflow.specs.ReceptionParameters.{ReceptionParameters, start_of}
 use Rattle.sl_tcflow.specs.Series.{flags_of, header_at, octets_at, segments_on}
 use Rattle.sl_tcflow.proofs.FarmLemmas.{other_channel}
 use Rattle.sl_tcflow.proofs.EndedLemmas.{ended_next}
@@ -122,69 +123,69 @@ small_map (SetVr vr) = omega arith
 -- ---- one frame more
 
 -- the octets so far of the series that is incomplete on a channel
-abbrev pub held_in : ℕ → ℕ → List TcView → ℕ → List ℕ
-held_in w vr views channel = held_octets (incomplete_of (segments_of w vr (channel / 64) (channel % 64) views))
+abbrev pub held_in : ReceptionParameters → List TcView → ℕ → List ℕ
+held_in r views channel = held_octets (incomplete_of (segments_of r (channel / 64) (channel % 64) views))
 
-module _ (w vr : ℕ) (views : List TcView) (next : TcView) where
+module _ (r : ReceptionParameters) (views : List TcView) (next : TcView) where
   abbrev after : List TcView
   after = views ++ next ∷ []
 
   abbrev units : List (List ℕ)
-  units = unit_by (verdict_on w vr views next) next.content
+  units = unit_by (verdict_on r views next) next.content
 
   -- the segments of its own MAP before it
   abbrev own : List (List ℕ)
-  own = segments_of w vr next.vc (map_of next.content) views
+  own = segments_of r next.vc (map_of next.content) views
 
   on_none : (mid : ℕ) → mid ≢ map_of next.content → segments_on mid units ≡ []
   on_none mid other =
-      elim (none_or_accepted (verdict_on w vr views next) next.content) [
+      elim (none_or_accepted (verdict_on r views next) next.content) [
         | inl none ↦ ap (segments_on mid) none
         | inr (unit, is, map_is, len) ↦
             ap (segments_on mid) is ∙ ap (λ b. cond b (unit ∷ []) []) (ne_eqb (header_at unit).map mid (λ e. other (sym e ∙ sym map_is)))
       ]
 
   -- a frame adds nothing to the segments of other channels than its own,
-  segments_other : (vc mid : ℕ) → channel_at vc mid ≢ unit_channel next → segments_of w vr vc mid after ≡ segments_of w vr vc mid views
+  segments_other : (vc mid : ℕ) → channel_at vc mid ≢ unit_channel next → segments_of r vc mid after ≡ segments_of r vc mid views
   segments_other vc mid other =
       elim (eqb_tells next.vc vc) [
         | inl (test, same) ↦
-            subst (λ n. segments_of w vr n mid after ≡ segments_of w vr n mid views) same
-            (segments_next w vr mid views next
-            ∙ ap (λ l. segments_of w vr next.vc mid views ++ l) (on_none mid (λ e. other (ap₂ channel_at (sym same) e)))
-            ∙ append-nil (segments_of w vr next.vc mid views))
-        | inr (test, apart) ↦ ap (λ l. segments_on mid (accepted_units w vr l)) (other_channel vc views next apart)
+            subst (λ n. segments_of r n mid after ≡ segments_of r n mid views) same
+            (segments_next r mid views next
+            ∙ ap (λ l. segments_of r next.vc mid views ++ l) (on_none mid (λ e. other (ap₂ channel_at (sym same) e)))
+            ∙ append-nil (segments_of r next.vc mid views))
+        | inr (test, apart) ↦ ap (λ l. segments_on mid (accepted_units r.window (start_of r vc) l)) (other_channel vc views next apart)
       ]
 
   -- and its unit, if it is accepted, to those of its own
-  own_none : units ≡ [] → segments_of w vr next.vc (map_of next.content) after ≡ own
+  own_none : units ≡ [] → segments_of r next.vc (map_of next.content) after ≡ own
   own_none none =
-      segments_next w vr (map_of next.content) views next ∙ ap (λ l. own ++ segments_on (map_of next.content) l) none ∙ append-nil own
+      segments_next r (map_of next.content) views next ∙ ap (λ l. own ++ segments_on (map_of next.content) l) none ∙ append-nil own
 
-  own_next : (unit : List ℕ) → units ≡ unit ∷ [] → map_of next.content ≡ (header_at unit).map → segments_of w vr next.vc (map_of next.content) after ≡ own ++ unit ∷ []
+  own_next : (unit : List ℕ) → units ≡ unit ∷ [] → map_of next.content ≡ (header_at unit).map → segments_of r next.vc (map_of next.content) after ≡ own ++ unit ∷ []
   own_next unit is map_is =
-      segments_next w vr (map_of next.content) views next ∙ ap (λ l. own ++ segments_on (map_of next.content) l) is
+      segments_next r (map_of next.content) views next ∙ ap (λ l. own ++ segments_on (map_of next.content) l) is
       ∙ ap (λ b. own ++ cond b (unit ∷ []) []) (eq-eqb (header_at unit).map (map_of next.content) (sym map_is))
 
-  ended_of : (unit : List ℕ) → units ≡ unit ∷ [] → ended_by w vr views next ≡ packets_ended own unit
+  ended_of : (unit : List ℕ) → units ≡ unit ∷ [] → ended_by r views next ≡ packets_ended own unit
   ended_of unit is = ap (flat_map (packets_ended own)) is ∙ append-nil (packets_ended own unit)
 
-  own_packets : packets_on (segments_of w vr next.vc (map_of next.content) after) ≡ packets_on own ++ ended_by w vr views next
+  own_packets : packets_on (segments_of r next.vc (map_of next.content) after) ≡ packets_on own ++ ended_by r views next
   own_packets =
-      elim (none_or_accepted (verdict_on w vr views next) next.content) [
+      elim (none_or_accepted (verdict_on r views next) next.content) [
         | inl none ↦
-            ap packets_on (own_none none) ∙ sym (ap (λ l. packets_on own ++ l) (ended_none w vr views next none) ∙ append-nil (packets_on own))
+            ap packets_on (own_none none) ∙ sym (ap (λ l. packets_on own ++ l) (ended_none r views next none) ∙ append-nil (packets_on own))
         | inr (unit, is, map_is, len) ↦
             ap packets_on (own_next unit is map_is) ∙ packets_next own unit ∙ ap (λ l. packets_on own ++ l) (sym (ended_of unit is))
       ]
 
-  own_held : length (ended_by w vr views next) + length (held_octets (incomplete_of (segments_of w vr next.vc (map_of next.content) after)))
+  own_held : length (ended_by r views next) + length (held_octets (incomplete_of (segments_of r next.vc (map_of next.content) after)))
       ≤ length (held_octets (incomplete_of own)) + unit_len next.content
   own_held =
-      elim (none_or_accepted (verdict_on w vr views next) next.content) [
+      elim (none_or_accepted (verdict_on r views next) next.content) [
         | inl none ↦
             let same = ap (λ l. length (held_octets (incomplete_of l))) (own_none none) in
-            let no_packets = ap length (ended_none w vr views next none) in
+            let no_packets = ap length (ended_none r views next none) in
             omega (arith, same, no_packets)
         | inr (unit, is, map_is, len) ↦
             let same = ap (λ l. length (held_octets (incomplete_of l))) (own_next unit is map_is) ∙ ap (λ o. length (held_octets o)) (incomplete_next own unit) in
@@ -201,27 +202,27 @@ module _ (w vr : ℕ) (views : List TcView) (next : TcView) where
   channel_is channel = omega arith
 
   pub packets_own : (channel : ℕ) → channel ≡ unit_channel next
-      → packets_in_channel w vr after channel ≡ packets_in_channel w vr views channel ++ ended_by w vr views next
+      → packets_in_channel r after channel ≡ packets_in_channel r views channel ++ ended_by r views next
   packets_own channel is =
       let (vc, mid) = of_channel channel is in
-      ap₂ (λ v m. packets_on (segments_of w vr v m after)) vc mid ∙ own_packets
-      ∙ sym (ap₂ (λ v m. packets_on (segments_of w vr v m views) ++ ended_by w vr views next) vc mid)
+      ap₂ (λ v m. packets_on (segments_of r v m after)) vc mid ∙ own_packets
+      ∙ sym (ap₂ (λ v m. packets_on (segments_of r v m views) ++ ended_by r views next) vc mid)
 
-  pub packets_other : (channel : ℕ) → channel ≢ unit_channel next → packets_in_channel w vr after channel ≡ packets_in_channel w vr views channel
+  pub packets_other : (channel : ℕ) → channel ≢ unit_channel next → packets_in_channel r after channel ≡ packets_in_channel r views channel
   packets_other channel other = ap packets_on (segments_other (channel / 64) (channel % 64) (λ e. other (sym (channel_is channel) ∙ e)))
 
   pub held_own : (channel : ℕ) → channel ≡ unit_channel next
-      → length (ended_by w vr views next) + length (held_in w vr after channel) ≤ length (held_in w vr views channel) + unit_len next.content
+      → length (ended_by r views next) + length (held_in r after channel) ≤ length (held_in r views channel) + unit_len next.content
   held_own channel is =
       let (vc, mid) = of_channel channel is in
-      let now = ap₂ (λ v m. length (held_octets (incomplete_of (segments_of w vr v m after)))) vc mid in
-      let before = ap₂ (λ v m. length (held_octets (incomplete_of (segments_of w vr v m views)))) vc mid in
+      let now = ap₂ (λ v m. length (held_octets (incomplete_of (segments_of r v m after)))) vc mid in
+      let before = ap₂ (λ v m. length (held_octets (incomplete_of (segments_of r v m views)))) vc mid in
       omega (arith, now, before, own_held)
 
   pub incomplete_other : (channel : ℕ) → channel ≢ unit_channel next
-      → incomplete_of (segments_of w vr (channel / 64) (channel % 64) after) ≡ incomplete_of (segments_of w vr (channel / 64) (channel % 64) views)
+      → incomplete_of (segments_of r (channel / 64) (channel % 64) after) ≡ incomplete_of (segments_of r (channel / 64) (channel % 64) views)
   incomplete_other channel other =
       ap incomplete_of (segments_other (channel / 64) (channel % 64) (λ e. other (sym (channel_is channel) ∙ e)))
 
-  pub held_other : (channel : ℕ) → channel ≢ unit_channel next → held_in w vr after channel ≡ held_in w vr views channel
+  pub held_other : (channel : ℕ) → channel ≢ unit_channel next → held_in r after channel ≡ held_in r views channel
   held_other channel other = ap held_octets (incomplete_other channel other)

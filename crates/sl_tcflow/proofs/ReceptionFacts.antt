@@ -7,6 +7,7 @@ use Rattle.sl_tcframe.specs.TcFrame.{TcFormat, TcView, Ad, Bd, Unlock, SetVr}
 use Rattle.sl_tcflow.specs.AcceptedUnit.{views_of, channel_of, accepted_units}
 use Rattle.sl_tcflow.specs.Incomplete.{incomplete_of}
 use Rattle.sl_tcflow.specs.Reception.{packets_on, packets_ended, segments_of}
+use Rattle.sl_tcflow.specs.ReceptionParameters.{ReceptionParameters}
 use Rattle.sl_tcflow.specs.Recording.{packets_in_channel, recorded_views}
 use Rattle.sl_tcflow.specs.Series.{series_of}
 use Rattle.sl_tcflow.specs.TcNormalForm.{tc_normal_form_of}
@@ -22,9 +23,13 @@ read max recording = views_of (format max) 1 (tc_frames_of (format max) recordin
 abbrev accepted : ℕ → ℕ → List ℕ → List (List ℕ)
 accepted vr vc recording = accepted_units 10 vr (channel_of vc (read 16 recording))
 
+-- the parameters of reception with that width, and this V(R) at the start
+abbrev from_vr : ℕ → ReceptionParameters
+from_vr vr = record { window = 10; vr = vr }
+
 -- the packets of a MAP
 abbrev packets : ℕ → ℕ → ℕ → List ℕ → List (List ℕ)
-packets vr vc mid recording = packets_on (segments_of 10 vr vc mid (read 16 recording))
+packets vr vc mid recording = packets_on (segments_of (from_vr vr) vc mid (read 16 recording))
 
 -- the normal form of packets on the first channels
 abbrev form : ℕ → List (List (List ℕ)) → List ℕ
@@ -41,7 +46,7 @@ whole = 0x00 ∷ 0x01 ∷ 0x00 ∷ 0x0F ∷ 0x00 ∷ 0xC0 ∷ packet
 pub record IsWhole : Type 0 where
   pub views : read 16 whole ≡ record { vc = 0; content = Ad 0 (0xC0 ∷ packet) } ∷ []
   pub accepts : accepted 0 0 whole ≡ (0xC0 ∷ packet) ∷ []
-  pub series : series_of (segments_of 10 0 0 0 (read 16 whole)) ≡ record { before = 0; segments = (0xC0 ∷ packet) ∷ [] } ∷ []
+  pub series : series_of (segments_of (from_vr 0) 0 0 (read 16 whole)) ≡ record { before = 0; segments = (0xC0 ∷ packet) ∷ [] } ∷ []
   pub delivers : packets 0 0 0 whole ≡ packet ∷ []
   pub other_map : packets 0 0 1 whole ≡ []
   pub other_channel : packets 0 1 0 whole ≡ []
@@ -128,8 +133,8 @@ abbrev before_last : List (List ℕ)
 before_last = dropped_of_2 ∷ first_of_2 ∷ []
 
 pub record AreOnTwoMaps : Type 0 where
-  pub segments_1 : segments_of 10 0 0 1 (read 16 on_two_maps) ≡ (0x01 ∷ 0xFF ∷ []) ∷ first_of_1 ∷ last_of_1 ∷ []
-  pub segments_2 : segments_of 10 0 0 2 (read 16 on_two_maps) ≡ before_last ++ last_of_2 ∷ []
+  pub segments_1 : segments_of (from_vr 0) 0 1 (read 16 on_two_maps) ≡ (0x01 ∷ 0xFF ∷ []) ∷ first_of_1 ∷ last_of_1 ∷ []
+  pub segments_2 : segments_of (from_vr 0) 0 2 (read 16 on_two_maps) ≡ before_last ++ last_of_2 ∷ []
   pub series_1 : series_of ((0x01 ∷ 0xFF ∷ []) ∷ first_of_1 ∷ last_of_1 ∷ []) ≡ record { before = 1; segments = first_of_1 ∷ last_of_1 ∷ [] } ∷ []
   pub series_2 : series_of (before_last ++ last_of_2 ∷ []) ≡ record { before = 1; segments = first_of_2 ∷ last_of_2 ∷ [] } ∷ []
   pub no_map : packets 0 0 0 on_two_maps ≡ []
@@ -203,7 +208,7 @@ abbrev both : List ℕ
 both = 0x00 ∷ 0x01 ∷ 0x00 ∷ 0x13 ∷ 0x00 ∷ 0xC0 ∷ small ++ idle
 
 pub record AreBoth : Type 0 where
-  pub delivers : packets_on (segments_of 10 0 0 0 (read 24 both)) ≡ small ∷ idle ∷ []
+  pub delivers : packets_on (segments_of (from_vr 0) 0 0 (read 24 both)) ≡ small ∷ idle ∷ []
   pub not_idle : without_idle (small ∷ idle ∷ []) ≡ small ∷ []
   pub normal : tc_normal_form_of (format 24) 1 0 ((small ∷ []) ∷ []) ≡ 0x00 ∷ 0x01 ∷ 0x00 ∷ 0x0C ∷ 0x00 ∷ 0xC0 ∷ small
 
@@ -238,9 +243,9 @@ pub record AreAtLimits : Type 0 where
   pub whole_between : packets_on (first_of_2 ∷ (0xC2 ∷ packet) ∷ last_of_2 ∷ []) ≡ packet ∷ []
   pub left_over : packets_on (with_rest ∷ completing ∷ []) ≡ packet ∷ []
   pub both_types : packets 0 0 0 of_both_types ≡ packet ∷ []
-  pub last_channel : packets_in_channel 10 255 (recorded_views (format 16) 1 at_last) 4095 ≡ packet ∷ []
-  pub channel_before : packets_in_channel 10 255 (recorded_views (format 16) 1 at_last) 4094 ≡ []
-  pub recorded : packets_in_channel 10 0 (recorded_views (format 16) 1 (divided 0x00 0x01 0x02)) 320 ≡ longer ∷ []
+  pub last_channel : packets_in_channel (from_vr 255) (recorded_views (format 16) 1 at_last) 4095 ≡ packet ∷ []
+  pub channel_before : packets_in_channel (from_vr 255) (recorded_views (format 16) 1 at_last) 4094 ≡ []
+  pub recorded : packets_in_channel (from_vr 0) (recorded_views (format 16) 1 (divided 0x00 0x01 0x02)) 320 ≡ longer ∷ []
 
 pub are_at_limits : AreAtLimits
 are_at_limits = record {

@@ -10,6 +10,7 @@ use Rattle.sl_packet.proofs.WithoutIdleLemmas.{without_idle_due}
 use Rattle.sl_tcframe.specs.TcFrame.{TcView}
 use Rattle.sl_tcflow.specs.Canonical.{RecordedListsAreDeliverable}
 use Rattle.sl_tcflow.specs.Reception.{packets_in, segments_of}
+use Rattle.sl_tcflow.specs.ReceptionParameters.{ReceptionParameters}
 use Rattle.sl_tcflow.specs.Recording.{map_channels, packets_in_channel, recorded_views}
 use Rattle.sl_tcflow.specs.Series.{SeriesAt, reassembled, series_of}
 use Rattle.sl_tcflow.proofs.EachLemmas.{each-flat_map, each-map_range}
@@ -21,9 +22,9 @@ packets_if false octets = tt
 in_series : (s : SeriesAt) → AllByRecursion IsPacket (packets_in s.segments)
 in_series s = packets_if (nat_le (length (reassembled s.segments)) 65542) (reassembled s.segments)
 
-channel_due : (w vr : ℕ) (views : List TcView) (channel : ℕ) → AllByRecursion IsDeliverable (without_idle (packets_in_channel w vr views channel))
-channel_due w vr views channel =
-    without_idle_due (packets_in_channel w vr views channel) (each-flat_map IsPacket (λ (s : SeriesAt). packets_in s.segments) in_series (series_of (segments_of w vr (channel / 64) (channel % 64) views)))
+channel_due : (r : ReceptionParameters) (views : List TcView) (channel : ℕ) → AllByRecursion IsDeliverable (without_idle (packets_in_channel r views channel))
+channel_due r views channel =
+    without_idle_due (packets_in_channel r views channel) (each-flat_map IsPacket (λ (s : SeriesAt). packets_in s.segments) in_series (series_of (segments_of r (channel / 64) (channel % 64) views)))
 
 all_channels : (f : ℕ → List (List ℕ)) → length (map f map_channels) ≡ channel_count
 unfolding map_channels
@@ -34,9 +35,9 @@ unfolding map_channels
 each_channel f each = each-map_range (AllByRecursion IsDeliverable) f each 0 channel_count
 
 pub recorded_lists_are_deliverable : RecordedListsAreDeliverable
-recorded_lists_are_deliverable format spacecraft w vr recording =
+recorded_lists_are_deliverable format spacecraft r recording =
     let views = recorded_views format spacecraft recording in
     record {
-      all = all_channels (λ channel. without_idle (packets_in_channel w vr views channel));
-      each = each_channel (λ channel. without_idle (packets_in_channel w vr views channel)) (channel_due w vr views);
+      all = all_channels (λ channel. without_idle (packets_in_channel r views channel));
+      each = each_channel (λ channel. without_idle (packets_in_channel r views channel)) (channel_due r views);
     }

@@ -12,6 +12,7 @@ use Rattle.sl_tcframe.specs.TcDelimited.{tc_frames_of}
 use Rattle.sl_tcframe.specs.TcFrame.{TcFormat, TcView, Ad, Bd, Unlock}
 use Rattle.sl_tcflow.specs.AcceptedUnit.{accepted_ad_units, accepted_units, channel_of, events_of, farm_after, views_of}
 use Rattle.sl_tcflow.specs.Reception.{packets_on, segments_of}
+use Rattle.sl_tcflow.specs.ReceptionParameters.{ReceptionParameters}
 use Rattle.sl_tcflow.specs.ReorderedUnits.{AreReordered, AreReorderedInWindow, HaveNoBd, recorded_packets}
 use Rattle.sl_tcflow.specs.Series.{segments_on}
 use Rattle.sl_tcflow.proofs.ReorderedLemmas.{recorded_on}
@@ -20,6 +21,10 @@ use Rattle.sl_tcflow.proofs.ReorderedLemmas.{recorded_on}
 
 abbrev format : TcFormat
 format = record { max = 16; fecf = false }
+
+-- a window of width 10, and V(R) 0 at the start
+abbrev from_0 : ReceptionParameters
+from_0 = record { window = 10; vr = 0 }
 
 -- the packet of these octets, and its unit
 abbrev packet : ℕ → List ℕ
@@ -66,9 +71,9 @@ pub record IsReordered : Type 0 where
   pub all_units : accepted_units 10 0 (channel_of 0 views) ≡ unit 0xAA ∷ unit 0xBB ∷ []
   pub vr : (farm_after 10 0 (channel_of 0 views)).vr ≡ 2
   pub report : (clcw_of 0 (farm_after 10 0 (channel_of 0 views))).report ≡ 2
-  pub packets : packets_on (segments_of 10 0 0 0 views) ≡ packet 0xAA ∷ packet 0xBB ∷ []
+  pub packets : packets_on (segments_of from_0 0 0 views) ≡ packet 0xAA ∷ packet 0xBB ∷ []
   pub packets_sent : packets_on (segments_on 0 sent) ≡ packet 0xAA ∷ packet 0xBB ∷ packet 0xCC ∷ []
-  pub recorded : recorded_packets format 1 10 0 0 0 recording ≡ packet 0xAA ∷ packet 0xBB ∷ []
+  pub recorded : recorded_packets format 1 from_0 0 0 recording ≡ packet 0xAA ∷ packet 0xBB ∷ []
 
 pub is_reordered : IsReordered
 is_reordered = record {
@@ -79,7 +84,7 @@ is_reordered = record {
   report = refl;
   packets = refl;
   packets_sent = refl;
-  recorded = recorded_on format 1 10 0 0 0 recording (omega arith) (omega arith);
+  recorded = recorded_on format 1 from_0 0 0 recording (omega arith) (omega arith);
 }
 
 -- ---- frames of all types, while V(R) passes 255
@@ -210,9 +215,9 @@ not_as_sent (more, same) = let octet : 0xBB ≡ 0xAA = ap (λ l. get_or (get_or 
 -- they make is not.
 pub record BdMatters : Type 0 where
   pub units : accepted_ad_units 10 0 (channel_of 0 between) ≡ divided
-  pub packets : packets_on (segments_of 10 0 0 0 between) ≡ packet 0xBB ∷ []
+  pub packets : packets_on (segments_of from_0 0 0 between) ≡ packet 0xBB ∷ []
   pub packets_sent : packets_on (segments_on 0 divided) ≡ packet 0xAA ∷ []
-  pub no_prefix : IsPrefix (packets_on (segments_of 10 0 0 0 between)) (packets_on (segments_on 0 divided)) → ⊥
+  pub no_prefix : IsPrefix (packets_on (segments_of from_0 0 0 between)) (packets_on (segments_on 0 divided)) → ⊥
 
 pub bd_matters : BdMatters
 bd_matters = record {

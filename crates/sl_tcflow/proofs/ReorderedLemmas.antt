@@ -21,6 +21,7 @@ use Rattle.sl_tcframe.specs.TcFrame.{TcFormat, TcView, Content, Ad, Bd, Unlock, 
 use Rattle.sl_tcflow.specs.AcceptedUnit.{accepted_ad_units, ad_unit_of, channel_of, event_of, events_of, farm_after, unit_of}
 use Rattle.sl_tcflow.specs.Receiving.{channel_at}
 use Rattle.sl_tcflow.specs.Reception.{packets_ended, packets_on, segments_of}
+use Rattle.sl_tcflow.specs.ReceptionParameters.{ReceptionParameters, start_of}
 use Rattle.sl_tcflow.specs.Recording.{map_channels, packets_in_channel, recorded_views}
 use Rattle.sl_tcflow.specs.ReorderedUnits.{AdUnitsAreAll, AreArrivals, ExpectedUnitIsAccepted, HaveNoBd, IsArrival, PacketsInOrder, ReceiverCountsUnits, RecordedPacketsInOrder, UnitsInOrder, VrCountsUnits, WindowIsNear, WindowNeverLocks, accepted_ad_count, recorded_packets, unit_at}
 use Rattle.sl_tcflow.specs.Series.{header_at, segments_on}
@@ -148,51 +149,51 @@ ad_units_are_all w vr channel none = are_all (verdicts_of w (farm_start vr) (eve
 -- ---- the laws
 
 pub window_is_near : WindowIsNear
-window_is_near w vr sent channel arrivals r =
-    record { initial = r.initial; arrive = r.arrive; near = in_window_are_near w vr arrivals r.most r.within }
+window_is_near w vr sent channel arrivals reordered =
+    record { initial = reordered.initial; arrive = reordered.arrive; near = in_window_are_near w vr arrivals reordered.most reordered.within }
 
 pub units_in_order : UnitsInOrder
-units_in_order w vr sent channel arrivals r =
+units_in_order w vr sent channel arrivals reordered =
     let n = accepted_count w vr arrivals in
-    let order = accepted_in_order w vr arrivals r.initial r.near in
-    let each = indices_fit vr sent (verdicts_of w (farm_start vr) (events_at vr arrivals)) channel arrivals r.arrive in
+    let order = accepted_in_order w vr arrivals reordered.initial reordered.near in
+    let each = indices_fit vr sent (verdicts_of w (farm_start vr) (events_at vr arrivals)) channel arrivals reordered.arrive in
     let fits : n ≤ length sent =
     let fits' : 0 + n ≤ length sent = range_fits 0 n (length sent) (omega arith) (subst (AllByRecursion (λ k. k < length sent)) order each) in omega (arith, fits') in (
       drop n sent,
-      ap (λ l. l ++ drop n sent) (units_are vr sent w channel arrivals r.arrive ∙ ap (map (unit_at sent)) order ∙ taken sent [] n fits)
+      ap (λ l. l ++ drop n sent) (units_are vr sent w channel arrivals reordered.arrive ∙ ap (map (unit_at sent)) order ∙ taken sent [] n fits)
           ∙ take-append-drop n sent,
     )
 
 pub vr_counts_units : VrCountsUnits
-vr_counts_units w vr sent channel arrivals r before after split =
-    let part = parts (IsArrival vr sent) before after arrivals (subst (λ l. AreArrivals vr sent l arrivals) split r.arrive) in
+vr_counts_units w vr sent channel arrivals reordered before after split =
+    let part = parts (IsArrival vr sent) before after arrivals (subst (λ l. AreArrivals vr sent l arrivals) split reordered.arrive) in
     ap (λ s. s.vr) (same_state vr sent w before part.0 part.3)
-    ∙ vr_counts_accepted w vr arrivals r.initial r.near part.0 part.1 part.2
+    ∙ vr_counts_accepted w vr arrivals reordered.initial reordered.near part.0 part.1 part.2
     ∙ ap (ns_of vr) (sym (as_many vr sent w before part.0 part.3))
 
 pub window_never_locks : WindowNeverLocks
-window_never_locks w vr sent channel arrivals r before after split =
-    let part = parts (IsArrival vr sent) before after arrivals (subst (λ l. AreArrivals vr sent l arrivals) split r.arrive) in
+window_never_locks w vr sent channel arrivals reordered before after split =
+    let part = parts (IsArrival vr sent) before after arrivals (subst (λ l. AreArrivals vr sent l arrivals) split reordered.arrive) in
     ap (λ s. s.lockout) (same_state vr sent w before part.0 part.3)
-    ∙ window_keeps_open w vr arrivals r.initial r.most r.within part.0 part.1 part.2
+    ∙ window_keeps_open w vr arrivals reordered.initial reordered.most reordered.within part.0 part.1 part.2
 
 pub expected_unit_is_accepted : ExpectedUnitIsAccepted
-expected_unit_is_accepted w vr sent channel arrivals r before after view split copy =
+expected_unit_is_accepted w vr sent channel arrivals reordered before after view split copy =
     let s = farm_after w vr before in
     let m = accepted_ad_count w vr before in
     let step = farm_step w s (event.Ad (ns_of vr m)) in
-    let counts = vr_counts_units w vr sent channel arrivals (window_is_near w vr sent channel arrivals r) before (view ∷ after) split in
+    let counts = vr_counts_units w vr sent channel arrivals (window_is_near w vr sent channel arrivals reordered) before (view ∷ after) split in
     let none : distance (ns_of vr m) s.vr ≡ 0 = ap (distance (ns_of vr m)) counts ∙ no_distance vr m in
-    let most = r.most in
+    let most = reordered.most in
     let fewer : negative_width w < 256 = omega arith in
     ap (λ content. (farm_step w s (event_of content)).0) copy
-    ∙ accepted_where_expected w (ns_of vr m) s step.1 step.0 fewer (window_never_locks w vr sent channel arrivals r before (view ∷ after) split) none
+    ∙ accepted_where_expected w (ns_of vr m) s step.1 step.0 fewer (window_never_locks w vr sent channel arrivals reordered before (view ∷ after) split) none
     (each_has_step w s (event.Ad (ns_of vr m)))
 
 pub receiver_counts_units : ReceiverCountsUnits
-receiver_counts_units w vr vc sent farms views arrivals below stepped r =
+receiver_counts_units r vc sent farms views arrivals below stepped reordered =
     let channel = channel_of vc views in
-    let counts = vr_counts_units w vr sent channel arrivals r channel [] (sym (append-nil channel)) in
+    let counts = vr_counts_units r.window (start_of r vc) sent channel arrivals reordered channel [] (sym (append-nil channel)) in
     ap (λ (f : FarmView). f.state.vr) (stepped.each vc below) ∙ counts
 
 -- ---- packets
@@ -210,11 +211,11 @@ packets_go_on list (next ∷ more) =
     )
 
 pub packets_in_order : PacketsInOrder
-packets_in_order w vr vc mid sent views arrivals r none =
+packets_in_order r vc mid sent views arrivals reordered none =
     let channel = channel_of vc views in
-    let units = accepted_ad_units w vr channel in
-    let front = units_in_order w vr sent channel arrivals r in
-    let own : segments_on mid units ≡ segments_of w vr vc mid views = ap (segments_on mid) (ad_units_are_all w vr channel none) in
+    let units = accepted_ad_units r.window (start_of r vc) channel in
+    let front = units_in_order r.window (start_of r vc) sent channel arrivals reordered in
+    let own : segments_on mid units ≡ segments_of r vc mid views = ap (segments_on mid) (ad_units_are_all r.window (start_of r vc) channel none) in
     let all : segments_on mid units ++ segments_on mid front.0 ≡ segments_on mid sent =
     sym (filter-append (λ unit. (header_at unit).map == mid) units front.0) ∙ ap (segments_on mid) front.1 in
     let later = packets_go_on (segments_on mid units) (segments_on mid front.0) in
@@ -223,24 +224,24 @@ packets_in_order w vr vc mid sent views arrivals r none =
 -- ---- recordings
 
 -- the list of a virtual channel and MAP
-pub recorded_on : (format : TcFormat) (spacecraft w vr vc mid : ℕ) (recording : List ℕ) → vc < 64 → mid < 64
-    → recorded_packets format spacecraft w vr vc mid recording ≡ without_idle (packets_on (segments_of w vr vc mid (recorded_views format spacecraft recording)))
+pub recorded_on : (format : TcFormat) (spacecraft : ℕ) (r : ReceptionParameters) (vc mid : ℕ) (recording : List ℕ) → vc < 64 → mid < 64
+    → recorded_packets format spacecraft r vc mid recording ≡ without_idle (packets_on (segments_of r vc mid (recorded_views format spacecraft recording)))
 unfolding map_channels
-recorded_on format spacecraft w vr vc mid recording vc_fits mid_fits =
+recorded_on format spacecraft r vc mid recording vc_fits mid_fits =
     let views : List TcView = recorded_views format spacecraft recording in
     let below : channel_at vc mid < channel_count = omega arith in
     let here : 0 + channel_at vc mid ≡ channel_at vc mid = omega arith in
     let vc_is : channel_at vc mid / 64 ≡ vc = omega arith in
     let mid_is : channel_at vc mid % 64 ≡ mid = omega arith in
-    get_or-map-range_with_len (λ channel. without_idle (packets_in_channel w vr views channel)) 0 channel_count (channel_at vc mid) (channel_at vc mid) [] below here
-    ∙ ap₂ (λ v m. without_idle (packets_on (segments_of w vr v m views))) vc_is mid_is
+    get_or-map-range_with_len (λ channel. without_idle (packets_in_channel r views channel)) 0 channel_count (channel_at vc mid) (channel_at vc mid) [] below here
+    ∙ ap₂ (λ v m. without_idle (packets_on (segments_of r v m views))) vc_is mid_is
 
 pub recorded_packets_in_order : RecordedPacketsInOrder
-recorded_packets_in_order format spacecraft w vr vc mid sent recording arrivals vc_fits mid_fits r none =
+recorded_packets_in_order format spacecraft r vc mid sent recording arrivals vc_fits mid_fits reordered none =
     let views : List TcView = recorded_views format spacecraft recording in
-    let front = packets_in_order w vr vc mid sent views arrivals r none in (
+    let front = packets_in_order r vc mid sent views arrivals reordered none in (
       without_idle front.0,
-      ap (λ l. l ++ without_idle front.0) (recorded_on format spacecraft w vr vc mid recording vc_fits mid_fits)
-          ∙ sym (filter-append (λ packet. not (is_idle_packet packet)) (packets_on (segments_of w vr vc mid views)) front.0)
+      ap (λ l. l ++ without_idle front.0) (recorded_on format spacecraft r vc mid recording vc_fits mid_fits)
+          ∙ sym (filter-append (λ packet. not (is_idle_packet packet)) (packets_on (segments_of r vc mid views)) front.0)
           ∙ ap without_idle front.1,
     )

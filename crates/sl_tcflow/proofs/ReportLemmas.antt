@@ -9,6 +9,7 @@ use Rattle.sl_tcflow.specs.Anomaly.{IsReportedOf, dropped_of, long_of, stray_of,
 use Rattle.sl_tcflow.specs.NextSegment.{IsReported, dropped_with, long_with, quiet_report, stray_with, tail_after}
 use Rattle.sl_tcflow.specs.Placed.{at}
 use Rattle.sl_tcflow.specs.Receiving.{AreIncomplete, channel_at, map_of, verdict_on}
+use Rattle.sl_tcflow.specs.ReceptionParameters.{ReceptionParameters}
 use Rattle.sl_tcflow.specs.Series.{flags_of, header_at, octets_at}
 use Rattle.sl_tcflow.specs.StepReport.{StepReport}
 use Rattle.sl_tcflow.proofs.AnomalyLemmas.{told_at, told_none}
@@ -16,34 +17,34 @@ use Rattle.sl_tcflow.proofs.EndedLemmas.{tail_next}
 use Rattle.sl_tcflow.proofs.UnitLemmas.{ended_more, ended_none}
 
 -- of a frame whose unit is accepted
-pub reported_more : (w vr : ℕ) (old : List (Option (List ℕ))) (views : List TcView) (next : TcView) (unit : List ℕ) (vc : ℕ) (step : StepReport)
-    → AreIncomplete w vr old views → next.vc < 64 → unit_by (verdict_on w vr views next) next.content ≡ unit ∷ []
-    → map_of next.content ≡ (header_at unit).map → vc ≡ next.vc → verdict_on w vr views next ≡ Accept
-    → IsReported (at old (channel_at vc (header_at unit).map)) (flags_of unit) (octets_at unit) step → IsReportedOf w vr views next step
-reported_more w vr old views next unit vc step are inside unit_is mid_is same_vc accepted r =
+pub reported_more : (r : ReceptionParameters) (old : List (Option (List ℕ))) (views : List TcView) (next : TcView) (unit : List ℕ) (vc : ℕ) (step : StepReport)
+    → AreIncomplete r old views → next.vc < 64 → unit_by (verdict_on r views next) next.content ≡ unit ∷ []
+    → map_of next.content ≡ (header_at unit).map → vc ≡ next.vc → verdict_on r views next ≡ Accept
+    → IsReported (at old (channel_at vc (header_at unit).map)) (flags_of unit) (octets_at unit) step → IsReportedOf r views next step
+reported_more r old views next unit vc step are inside unit_is mid_is same_vc accepted reported =
     let mid = (header_at unit).map in
-    let ended = ended_more w vr old views next unit (channel_at vc mid) are inside unit_is mid_is (ap (λ n. channel_at n mid) same_vc) in
+    let ended = ended_more r old views next unit (channel_at vc mid) are inside unit_is mid_is (ap (λ n. channel_at n mid) same_vc) in
     record {
-      verdict = r.verdict ∙ sym accepted;
-      packets = r.packets ∙ ap (λ l. length (without_idle l)) (sym ended);
-      idle = r.idle ∙ ap (λ l. length (only_idle l)) (sym ended);
-      stray = told_at w vr old views next unit false stray_of (λ held segment. stray_with held (flags_of segment)) (λ list segment. refl) vc step.stray are inside unit_is mid_is same_vc r.stray;
-      dropped = told_at w vr old views next unit None dropped_of (λ held segment. dropped_with held (flags_of segment)) (λ list segment. refl) vc step.dropped are inside unit_is mid_is same_vc r.dropped;
-      long = told_at w vr old views next unit false long_of (λ held segment. long_with held (flags_of segment) (octets_at segment)) (λ list segment. refl) vc step.long are inside unit_is mid_is same_vc r.long;
-      tail = told_at w vr old views next unit 0 tail_of tail_after tail_next vc step.tail are inside unit_is mid_is same_vc r.tail;
+      verdict = reported.verdict ∙ sym accepted;
+      packets = reported.packets ∙ ap (λ l. length (without_idle l)) (sym ended);
+      idle = reported.idle ∙ ap (λ l. length (only_idle l)) (sym ended);
+      stray = told_at r old views next unit false stray_of (λ held segment. stray_with held (flags_of segment)) (λ list segment. refl) vc step.stray are inside unit_is mid_is same_vc reported.stray;
+      dropped = told_at r old views next unit None dropped_of (λ held segment. dropped_with held (flags_of segment)) (λ list segment. refl) vc step.dropped are inside unit_is mid_is same_vc reported.dropped;
+      long = told_at r old views next unit false long_of (λ held segment. long_with held (flags_of segment) (octets_at segment)) (λ list segment. refl) vc step.long are inside unit_is mid_is same_vc reported.long;
+      tail = told_at r old views next unit 0 tail_of tail_after tail_next vc step.tail are inside unit_is mid_is same_vc reported.tail;
     }
 
 -- and of one without an accepted unit
-pub reported_none : (w vr : ℕ) (views : List TcView) (next : TcView) (verdict : Verdict) → verdict ≡ verdict_on w vr views next
-    → unit_by (verdict_on w vr views next) next.content ≡ [] → IsReportedOf w vr views next (record quiet_report { verdict = verdict })
-reported_none w vr views next verdict is none =
-    let ended = ended_none w vr views next none in
+pub reported_none : (r : ReceptionParameters) (views : List TcView) (next : TcView) (verdict : Verdict) → verdict ≡ verdict_on r views next
+    → unit_by (verdict_on r views next) next.content ≡ [] → IsReportedOf r views next (record quiet_report { verdict = verdict })
+reported_none r views next verdict is none =
+    let ended = ended_none r views next none in
     record {
       verdict = is;
       packets = ap (λ l. length (without_idle l)) (sym ended);
       idle = ap (λ l. length (only_idle l)) (sym ended);
-      stray = sym (told_none false stray_of w vr views next none);
-      dropped = sym (told_none None dropped_of w vr views next none);
-      long = sym (told_none false long_of w vr views next none);
-      tail = sym (told_none 0 tail_of w vr views next none);
+      stray = sym (told_none false stray_of r views next none);
+      dropped = sym (told_none None dropped_of r views next none);
+      long = sym (told_none false long_of r views next none);
+      tail = sym (told_none 0 tail_of r views next none);
     }

@@ -13,6 +13,7 @@ use Rattle.sl_tcflow.specs.NextSegment.{incomplete_after, packets_after}
 use Rattle.sl_tcflow.specs.Placed.{at, IsPlaced}
 use Rattle.sl_tcflow.specs.Receiving.{AreIncomplete, IsIncompleteAround, channel_at, map_of, unit_channel, ended_by, verdict_on}
 use Rattle.sl_tcflow.specs.Reception.{packets_ended, segments_of}
+use Rattle.sl_tcflow.specs.ReceptionParameters.{ReceptionParameters, start_of}
 use Rattle.sl_tcflow.specs.Series.{header_at, segments_on}
 use Rattle.sl_tcflow.proofs.EndedLemmas.{ended_next}
 use Rattle.sl_tcflow.proofs.FarmLemmas.{same_channel, other_channel}
@@ -26,23 +27,23 @@ units_from : (w vr : ℕ) (channel : List TcView) (next : TcView)
 units_from w vr channel next = accepted_more (λ (view : TcView). event_of view.content) (λ (view : TcView). unit_of view.content) w (farm_start vr) channel next
 
 -- the unit of what a frame carries, by the verdict on it
-pub unit_on : (verdict : Verdict) (carried : Content) (w vr : ℕ) (views : List TcView) (next : TcView) (units : List (List ℕ))
-    → verdict ≡ verdict_on w vr views next → carried ≡ next.content → unit_by verdict carried ≡ units → unit_by (verdict_on w vr views next) next.content ≡ units
-unit_on verdict carried w vr views next units is same by = ap (λ v. unit_by v next.content) (sym is) ∙ ap (unit_by verdict) (sym same) ∙ by
+pub unit_on : (verdict : Verdict) (carried : Content) (r : ReceptionParameters) (views : List TcView) (next : TcView) (units : List (List ℕ))
+    → verdict ≡ verdict_on r views next → carried ≡ next.content → unit_by verdict carried ≡ units → unit_by (verdict_on r views next) next.content ≡ units
+unit_on verdict carried r views next units is same by = ap (λ v. unit_by v next.content) (sym is) ∙ ap (unit_by verdict) (sym same) ∙ by
 
 -- ---- the segments of a MAP
 
-pub segments_next : (w vr mid : ℕ) (views : List TcView) (next : TcView)
-    → segments_of w vr next.vc mid (views ++ next ∷ []) ≡ segments_of w vr next.vc mid views ++ segments_on mid (unit_by (verdict_on w vr views next) next.content)
-segments_next w vr mid views next =
+pub segments_next : (r : ReceptionParameters) (mid : ℕ) (views : List TcView) (next : TcView)
+    → segments_of r next.vc mid (views ++ next ∷ []) ≡ segments_of r next.vc mid views ++ segments_on mid (unit_by (verdict_on r views next) next.content)
+segments_next r mid views next =
     let channel = channel_of next.vc views in
-    ap (λ l. segments_on mid (accepted_units w vr l)) (same_channel next.vc views next refl)
-    ∙ ap (segments_on mid) (units_from w vr channel next)
-    ∙ filter-append (λ unit. (header_at unit).map == mid) (accepted_units w vr channel) (unit_by (verdict_on w vr views next) next.content)
+    ap (λ l. segments_on mid (accepted_units r.window (start_of r next.vc) l)) (same_channel next.vc views next refl)
+    ∙ ap (segments_on mid) (units_from r.window (start_of r next.vc) channel next)
+    ∙ filter-append (λ unit. (header_at unit).map == mid) (accepted_units r.window (start_of r next.vc) channel) (unit_by (verdict_on r views next) next.content)
 
-segments_other : (w vr vc mid : ℕ) (views : List TcView) (next : TcView) → (next.vc ≡ vc → ⊥)
-    → segments_of w vr vc mid (views ++ next ∷ []) ≡ segments_of w vr vc mid views
-segments_other w vr vc mid views next other = ap (λ l. segments_on mid (accepted_units w vr l)) (other_channel vc views next other)
+segments_other : (r : ReceptionParameters) (vc mid : ℕ) (views : List TcView) (next : TcView) → (next.vc ≡ vc → ⊥)
+    → segments_of r vc mid (views ++ next ∷ []) ≡ segments_of r vc mid views
+segments_other r vc mid views next other = ap (λ l. segments_on mid (accepted_units r.window (start_of r vc) l)) (other_channel vc views next other)
 
 -- the unit is one of its own MAP alone
 on_map : (mid : ℕ) (unit : List ℕ) → (header_at unit).map ≡ mid → segments_on mid (unit ∷ []) ≡ unit ∷ []
@@ -57,15 +58,15 @@ map_fits unit = omega arith
 -- ---- what is incomplete
 
 -- without an accepted unit all stays
-pub incomplete_same : (w vr : ℕ) (incomplete : List (Option (List ℕ))) (views : List TcView) (next : TcView) → AreIncomplete w vr incomplete views
-    → unit_by (verdict_on w vr views next) next.content ≡ [] → AreIncomplete w vr incomplete (views ++ next ∷ [])
-incomplete_same w vr incomplete views next are none vc mid vc_fits mid_fits =
+pub incomplete_same : (r : ReceptionParameters) (incomplete : List (Option (List ℕ))) (views : List TcView) (next : TcView) → AreIncomplete r incomplete views
+    → unit_by (verdict_on r views next) next.content ≡ [] → AreIncomplete r incomplete (views ++ next ∷ [])
+incomplete_same r incomplete views next are none vc mid vc_fits mid_fits =
     are vc mid vc_fits mid_fits ∙ ap incomplete_of (sym (elim (eqb_tells next.vc vc) [
       | inl (test, same) ↦
-          subst (λ n. segments_of w vr n mid (views ++ next ∷ []) ≡ segments_of w vr n mid views) same
-          (segments_next w vr mid views next ∙ ap (λ l. segments_of w vr next.vc mid views ++ segments_on mid l) none
-          ∙ append-nil (segments_of w vr next.vc mid views))
-      | inr (test, other) ↦ segments_other w vr vc mid views next other
+          subst (λ n. segments_of r n mid (views ++ next ∷ []) ≡ segments_of r n mid views) same
+          (segments_next r mid views next ∙ ap (λ l. segments_of r next.vc mid views ++ segments_on mid l) none
+          ∙ append-nil (segments_of r next.vc mid views))
+      | inr (test, other) ↦ segments_other r vc mid views next other
     ]))
 
 other_index : (index vc mid vc' mid' : ℕ) → index ≡ channel_at vc mid → mid < 64 → mid' < 64 → mid ≢ mid' → channel_at vc' mid' ≢ index
@@ -75,63 +76,63 @@ other_vc_index : (index vc mid vc' mid' : ℕ) → index ≡ channel_at vc mid �
 other_vc_index index vc mid vc' mid' is fits fits' other same = other (omega (arith, is, fits, fits', same))
 
 -- with one, its index alone has what is incomplete after it
-module _ (w vr : ℕ) (old : List (Option (List ℕ))) (views : List TcView) (next : TcView) (unit : List ℕ) (index : ℕ) where
-  pub incomplete_more : (new : List (Option (List ℕ))) → AreIncomplete w vr old views → next.vc < 64 → unit_by (verdict_on w vr views next) next.content ≡ unit ∷ []
+module _ (r : ReceptionParameters) (old : List (Option (List ℕ))) (views : List TcView) (next : TcView) (unit : List ℕ) (index : ℕ) where
+  pub incomplete_more : (new : List (Option (List ℕ))) → AreIncomplete r old views → next.vc < 64 → unit_by (verdict_on r views next) next.content ≡ unit ∷ []
       → index ≡ channel_at next.vc (header_at unit).map → IsPlaced old index (incomplete_after (at old index) unit) new
-      → AreIncomplete w vr new (views ++ next ∷ [])
+      → AreIncomplete r new (views ++ next ∷ [])
   incomplete_more new are inside unit_is here placed vc mid vc_fits mid_fits =
       elim (eqb_tells next.vc vc) [
         | inl (test, same) ↦
             elim (eqb_tells (header_at unit).map mid) [
               | inl (test', same') ↦
                   let there : index ≡ channel_at vc mid = here ∙ ap (λ n. channel_at n (header_at unit).map) same ∙ ap (channel_at vc) same' in
-                  let segments : segments_of w vr vc mid (views ++ next ∷ []) ≡ segments_of w vr vc mid views ++ unit ∷ [] =
-                  subst (λ n. segments_of w vr n mid (views ++ next ∷ []) ≡ segments_of w vr n mid views ++ unit ∷ []) same
-                  (segments_next w vr mid views next ∙ ap (λ l. segments_of w vr next.vc mid views ++ segments_on mid l) unit_is
-                  ∙ ap (λ l. segments_of w vr next.vc mid views ++ l) (on_map mid unit same')) in
+                  let segments : segments_of r vc mid (views ++ next ∷ []) ≡ segments_of r vc mid views ++ unit ∷ [] =
+                  subst (λ n. segments_of r n mid (views ++ next ∷ []) ≡ segments_of r n mid views ++ unit ∷ []) same
+                  (segments_next r mid views next ∙ ap (λ l. segments_of r next.vc mid views ++ segments_on mid l) unit_is
+                  ∙ ap (λ l. segments_of r next.vc mid views ++ l) (on_map mid unit same')) in
                   ap (at new) (sym there) ∙ placed.here
                   ∙ ap (λ n. incomplete_after (at old n) unit) there
                   ∙ ap (λ held. incomplete_after held unit) (are vc mid vc_fits mid_fits)
-                  ∙ sym (incomplete_next (segments_of w vr vc mid views) unit) ∙ ap incomplete_of (sym segments)
+                  ∙ sym (incomplete_next (segments_of r vc mid views) unit) ∙ ap incomplete_of (sym segments)
               | inr (test', other) ↦
-                  let segments : segments_of w vr vc mid (views ++ next ∷ []) ≡ segments_of w vr vc mid views =
-                  subst (λ n. segments_of w vr n mid (views ++ next ∷ []) ≡ segments_of w vr n mid views) same
-                  (segments_next w vr mid views next ∙ ap (λ l. segments_of w vr next.vc mid views ++ segments_on mid l) unit_is
-                  ∙ ap (λ l. segments_of w vr next.vc mid views ++ l) (on_other_map mid unit other) ∙ append-nil (segments_of w vr next.vc mid views)) in
+                  let segments : segments_of r vc mid (views ++ next ∷ []) ≡ segments_of r vc mid views =
+                  subst (λ n. segments_of r n mid (views ++ next ∷ []) ≡ segments_of r n mid views) same
+                  (segments_next r mid views next ∙ ap (λ l. segments_of r next.vc mid views ++ segments_on mid l) unit_is
+                  ∙ ap (λ l. segments_of r next.vc mid views ++ l) (on_other_map mid unit other) ∙ append-nil (segments_of r next.vc mid views)) in
                   placed.others (channel_at vc mid) (other_index index next.vc (header_at unit).map vc mid here (map_fits unit) mid_fits other)
                   ∙ are vc mid vc_fits mid_fits ∙ ap incomplete_of (sym segments)
             ]
         | inr (test, other) ↦
             placed.others (channel_at vc mid) (other_vc_index index next.vc (header_at unit).map vc mid here (map_fits unit) mid_fits other)
-            ∙ are vc mid vc_fits mid_fits ∙ ap incomplete_of (sym (segments_other w vr vc mid views next other))
+            ∙ are vc mid vc_fits mid_fits ∙ ap incomplete_of (sym (segments_other r vc mid views next other))
       ]
 
   -- ---- the packets that end
 
-  pub ended_more : AreIncomplete w vr old views → next.vc < 64 → unit_by (verdict_on w vr views next) next.content ≡ unit ∷ []
+  pub ended_more : AreIncomplete r old views → next.vc < 64 → unit_by (verdict_on r views next) next.content ≡ unit ∷ []
       → map_of next.content ≡ (header_at unit).map → index ≡ channel_at next.vc (header_at unit).map
-      → ended_by w vr views next ≡ packets_after (at old index) unit
+      → ended_by r views next ≡ packets_after (at old index) unit
   ended_more are inside unit_is mid_is here =
-      let list = segments_of w vr next.vc (header_at unit).map views in
-      ap (flat_map (packets_ended (segments_of w vr next.vc (map_of next.content) views))) unit_is
-      ∙ append-nil (packets_ended (segments_of w vr next.vc (map_of next.content) views) unit)
-      ∙ ap (λ n. packets_ended (segments_of w vr next.vc n views) unit) mid_is
+      let list = segments_of r next.vc (header_at unit).map views in
+      ap (flat_map (packets_ended (segments_of r next.vc (map_of next.content) views))) unit_is
+      ∙ append-nil (packets_ended (segments_of r next.vc (map_of next.content) views) unit)
+      ∙ ap (λ n. packets_ended (segments_of r next.vc n views) unit) mid_is
       ∙ ended_next list unit
       ∙ ap (λ held. packets_after held unit) (sym (are next.vc (header_at unit).map inside (map_fits unit)))
       ∙ ap (λ n. packets_after (at old n) unit) (sym here)
 
   -- ---- where memory is wanted
 
-  pub around_more : AreIncomplete w vr old views → next.vc < 64 → unit_by (verdict_on w vr views next) next.content ≡ unit ∷ []
+  pub around_more : AreIncomplete r old views → next.vc < 64 → unit_by (verdict_on r views next) next.content ≡ unit ∷ []
       → map_of next.content ≡ (header_at unit).map → index ≡ channel_at next.vc (header_at unit).map
-      → (at old index ≢ None) ⊎ (incomplete_after (at old index) unit ≢ None) → IsIncompleteAround w vr views next
+      → (at old index ≢ None) ⊎ (incomplete_after (at old index) unit ≢ None) → IsIncompleteAround r views next
   around_more are inside unit_is mid_is here around =
       let mid = map_of next.content in
-      let list = segments_of w vr next.vc mid views in
+      let list = segments_of r next.vc mid views in
       let before : at old index ≡ incomplete_of list =
       ap (at old) (here ∙ ap (channel_at next.vc) (sym mid_is)) ∙ are next.vc mid inside (omega (arith, mid_is, map_fits unit)) in
-      let segments : segments_of w vr next.vc mid (views ++ next ∷ []) ≡ list ++ unit ∷ [] =
-      segments_next w vr mid views next ∙ ap (λ l. list ++ segments_on mid l) unit_is ∙ ap (λ l. list ++ l) (on_map mid unit (sym mid_is)) in (
+      let segments : segments_of r next.vc mid (views ++ next ∷ []) ≡ list ++ unit ∷ [] =
+      segments_next r mid views next ∙ ap (λ l. list ++ segments_on mid l) unit_is ∙ ap (λ l. list ++ l) (on_map mid unit (sym mid_is)) in (
         λ e. let none : unit ∷ [] ≡ [] = sym unit_is ∙ e in cc,
         elim around [
           | inl some ↦ inl (λ e. some (before ∙ e))
@@ -145,5 +146,5 @@ pub unit_channel_is : (vc : ℕ) (carried : Content) (unit : List ℕ) (next : T
 unit_channel_is vc carried unit next same same' mid_is =
     ap (λ n. channel_at n (header_at unit).map) same ∙ ap (channel_at next.vc) (sym mid_is ∙ ap map_of same')
 
-pub ended_none : (w vr : ℕ) (views : List TcView) (next : TcView) → unit_by (verdict_on w vr views next) next.content ≡ [] → ended_by w vr views next ≡ []
-ended_none w vr views next none = ap (flat_map (packets_ended (segments_of w vr next.vc (map_of next.content) views))) none
+pub ended_none : (r : ReceptionParameters) (views : List TcView) (next : TcView) → unit_by (verdict_on r views next) next.content ≡ [] → ended_by r views next ≡ []
+ended_none r views next none = ap (flat_map (packets_ended (segments_of r next.vc (map_of next.content) views))) none

@@ -9,6 +9,7 @@ use Rattle.sl_tcflow.specs.AcceptedUnit.{unit_by}
 use Rattle.sl_tcflow.specs.Incomplete.{IsIncomplete, incomplete_of, passes}
 use Rattle.sl_tcflow.specs.Receiving.{ended_by, map_of, verdict_on}
 use Rattle.sl_tcflow.specs.Reception.{segments_of}
+use Rattle.sl_tcflow.specs.ReceptionParameters.{ReceptionParameters}
 use Rattle.sl_tcflow.specs.Series.{begins_by, continues_by, IsSeriesOf, SeriesAt, flags_of, octets_at, past, reassembled, series_of}
 use Rattle.sl_tcflow.specs.StepReport.{StepReport}
 
@@ -91,35 +92,35 @@ of_unit none told [] = none
 of_unit none told (unit ∷ units) = told unit
 
 -- what is told of the frame's unit and the segments of its MAP before it, if it is accepted
-abbrev pub of_accepted : {X : Type 0} → X → (List (List ℕ) → List ℕ → X) → ℕ → ℕ → List TcView → TcView → X
-of_accepted none told w vr views next =
-    of_unit none (told (segments_of w vr next.vc (map_of next.content) views)) (unit_by (verdict_on w vr views next) next.content)
+abbrev pub of_accepted : {X : Type 0} → X → (List (List ℕ) → List ℕ → X) → ReceptionParameters → List TcView → TcView → X
+of_accepted none told r views next =
+    of_unit none (told (segments_of r next.vc (map_of next.content) views)) (unit_by (verdict_on r views next) next.content)
 
 -- whether its unit is accepted and out of sequence
-abbrev pub stray_by : ℕ → ℕ → List TcView → TcView → Bool
-stray_by w vr views next = of_accepted false stray_of w vr views next
+abbrev pub stray_by : ReceptionParameters → List TcView → TcView → Bool
+stray_by r views next = of_accepted false stray_of r views next
 
 -- how many octets the series has that is dropped where its unit is accepted, if one is
-abbrev pub dropped_by : ℕ → ℕ → List TcView → TcView → Option ℕ
-dropped_by w vr views next = of_accepted None dropped_of w vr views next
+abbrev pub dropped_by : ReceptionParameters → List TcView → TcView → Option ℕ
+dropped_by r views next = of_accepted None dropped_of r views next
 
 -- whether a series is given up where its unit is accepted
-abbrev pub long_by : ℕ → ℕ → List TcView → TcView → Bool
-long_by w vr views next = of_accepted false long_of w vr views next
+abbrev pub long_by : ReceptionParameters → List TcView → TcView → Bool
+long_by r views next = of_accepted false long_of r views next
 
 -- how many octets are left of the service data unit that ends with its unit, if it is accepted
-abbrev pub tail_by : ℕ → ℕ → List TcView → TcView → ℕ
-tail_by w vr views next = of_accepted 0 tail_of w vr views next
+abbrev pub tail_by : ReceptionParameters → List TcView → TcView → ℕ
+tail_by r views next = of_accepted 0 tail_of r views next
 
 -- The report of the next frame: the verdict on it, the packets that end with its unit, and what is amiss with that.
-pub record IsReportedOf (w vr : ℕ) (views : List TcView) (next : TcView) (step : StepReport) : Type 0 where
-  pub verdict : step.verdict ≡ verdict_on w vr views next
-  pub packets : step.packets ≡ length (without_idle (ended_by w vr views next))
-  pub idle : step.idle ≡ length (only_idle (ended_by w vr views next))
-  pub stray : step.stray ≡ stray_by w vr views next
-  pub dropped : step.dropped ≡ dropped_by w vr views next
-  pub long : step.long ≡ long_by w vr views next
-  pub tail : step.tail ≡ tail_by w vr views next
+pub record IsReportedOf (r : ReceptionParameters) (views : List TcView) (next : TcView) (step : StepReport) : Type 0 where
+  pub verdict : step.verdict ≡ verdict_on r views next
+  pub packets : step.packets ≡ length (without_idle (ended_by r views next))
+  pub idle : step.idle ≡ length (only_idle (ended_by r views next))
+  pub stray : step.stray ≡ stray_by r views next
+  pub dropped : step.dropped ≡ dropped_by r views next
+  pub long : step.long ≡ long_by r views next
+  pub tail : step.tail ≡ tail_by r views next
 
 -- ---- laws
 

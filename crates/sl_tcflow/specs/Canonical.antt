@@ -4,6 +4,7 @@ use Rattle.std.specs.List.{AllByRecursion}
 use Rattle.sl_packet.specs.Delivered.{IsDeliverable, channel_count}
 use Rattle.sl_tcframe.specs.TcDelimited.{IsTcDelimited}
 use Rattle.sl_tcframe.specs.TcFrame.{TcFormat}
+use Rattle.sl_tcflow.specs.ReceptionParameters.{ReceptionParameters}
 use Rattle.sl_tcflow.specs.Recording.{tc_lists}
 use Rattle.sl_tcflow.specs.TcNormalForm.{tc_frames_form, tc_normal_form_of}
 
@@ -22,7 +23,7 @@ pub record AreDeliverable (lists : List (List (List ℕ))) : Type 0 where
 -- What a recording delivers are such lists.
 abbrev pub RecordedListsAreDeliverable : Type 0
 RecordedListsAreDeliverable =
-    (format : TcFormat) (spacecraft w vr : ℕ) (recording : List ℕ) → AreDeliverable (tc_lists format spacecraft w vr recording)
+    (format : TcFormat) (spacecraft : ℕ) (r : ReceptionParameters) (recording : List ℕ) → AreDeliverable (tc_lists format spacecraft r recording)
 
 -- The frames of the normal form, end to end, are all of it: nothing remains,
 abbrev pub NormalFormIsFrames : Type 0
@@ -40,5 +41,5 @@ NoFrameIsLong =
 -- it was made of
 abbrev pub NormalFormDelivers : Type 0
 NormalFormDelivers =
-    (format : TcFormat) (spacecraft w vr : ℕ) (lists : List (List (List ℕ))) → IsFormat format → spacecraft ≤ 1023 → vr < 256 → AreDeliverable lists
-    → tc_lists format spacecraft w vr (tc_normal_form_of format spacecraft vr lists) ≡ lists
+    (format : TcFormat) (spacecraft : ℕ) (r : ReceptionParameters) (lists : List (List (List ℕ))) → IsFormat format → spacecraft ≤ 1023 → r.vr < 256 → AreDeliverable lists
+    → tc_lists format spacecraft r (tc_normal_form_of format spacecraft r.vr lists) ≡ lists

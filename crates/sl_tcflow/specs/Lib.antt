@@ -10,6 +10,7 @@ pub mod ReceiverModel
 pub mod Recording
 pub mod Receiving
 pub mod Reception
+pub mod ReceptionParameters
 pub mod ReorderedUnits
 pub mod Series
 pub mod StepReport

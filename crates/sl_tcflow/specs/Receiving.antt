@@ -7,6 +7,7 @@ use Rattle.sl_tcframe.specs.TcFrame.{TcView, Content, Ad, Bd, Unlock, SetVr}
 use Rattle.sl_tcflow.specs.AcceptedUnit.{channel_of, event_of, farm_after, unit_by}
 use Rattle.sl_tcflow.specs.Incomplete.{incomplete_of}
 use Rattle.sl_tcflow.specs.Reception.{packets_ended, segments_of}
+use Rattle.sl_tcflow.specs.ReceptionParameters.{ReceptionParameters, start_of}
 use Rattle.sl_tcflow.specs.Series.{header_at}
 
 -- the channel of a virtual channel and a MAP
@@ -20,51 +21,51 @@ pub record ReceiverState : Type 0 where
   pub incomplete : List (Option (List ℕ))
   pub has_failed : Bool
 
--- with this window and this initial V(R): FARM-1 at the start, and after frames of its virtual channel
-abbrev pub farm_at_start : ℕ → ℕ → FarmView
-farm_at_start w vr = record { window = w; state = farm_start vr }
+-- FARM-1 of a virtual channel: at the start, and after these frames
+abbrev pub farm_at_start : ReceptionParameters → ℕ → FarmView
+farm_at_start r vc = record { window = r.window; state = farm_start (start_of r vc) }
 
-abbrev pub farm_of : ℕ → ℕ → List TcView → FarmView
-farm_of w vr channel = record { window = w; state = farm_after w vr channel }
+abbrev pub farm_of : ReceptionParameters → ℕ → List TcView → FarmView
+farm_of r vc views = record { window = r.window; state = farm_after r.window (start_of r vc) (channel_of vc views) }
 
 -- the virtual channels' FARMs had these frames
-pub record HaveStepped (w vr : ℕ) (farms : List FarmView) (views : List TcView) : Type 0 where
+pub record HaveStepped (r : ReceptionParameters) (farms : List FarmView) (views : List TcView) : Type 0 where
   pub count : length farms ≡ 64
-  pub each : (vc : ℕ) → vc < 64 → slice_index_or farms vc (farm_at_start w vr) ≡ farm_of w vr (channel_of vc views)
+  pub each : (vc : ℕ) → vc < 64 → slice_index_or farms vc (farm_at_start r vc) ≡ farm_of r vc views
 
 -- the series that are incomplete after these frames
-abbrev pub AreIncomplete : ℕ → ℕ → List (Option (List ℕ)) → List TcView → Type 0
-AreIncomplete w vr incomplete views =
-    (vc mid : ℕ) → vc < 64 → mid < 64 → slice_index_or incomplete (channel_at vc mid) None ≡ incomplete_of (segments_of w vr vc mid views)
+abbrev pub AreIncomplete : ReceptionParameters → List (Option (List ℕ)) → List TcView → Type 0
+AreIncomplete r incomplete views =
+    (vc mid : ℕ) → vc < 64 → mid < 64 → slice_index_or incomplete (channel_at vc mid) None ≡ incomplete_of (segments_of r vc mid views)
 
 -- These frames were processed, and no fault came. Other frames may have left the same.
-pub record HasProcessed (w vr : ℕ) (state : ReceiverState) (views : List TcView) : Type 0 where
+pub record HasProcessed (r : ReceptionParameters) (state : ReceiverState) (views : List TcView) : Type 0 where
   pub working : state.has_failed ≡ false
-  pub farms : HaveStepped w vr state.farms views
-  pub series : AreIncomplete w vr state.incomplete views
+  pub farms : HaveStepped r state.farms views
+  pub series : AreIncomplete r state.incomplete views
 
 -- some frames were processed, and no fault came
 abbrev pub IsWorking : ReceiverState → Type 0
-IsWorking state = (w : ℕ) × (vr : ℕ) × (views : List TcView) × HasProcessed w vr state views
+IsWorking state = (r : ReceptionParameters) × (views : List TcView) × HasProcessed r state views
 
 -- A fault came at the last of these frames.
-pub record HasFailedAfter (w vr : ℕ) (state : ReceiverState) (views : List TcView) : Type 0 where
+pub record HasFailedAfter (r : ReceptionParameters) (state : ReceiverState) (views : List TcView) : Type 0 where
   pub failed : state.has_failed ≡ true
-  pub farms : HaveStepped w vr state.farms views
+  pub farms : HaveStepped r state.farms views
 
 -- a fault came
 abbrev pub HasFailed : ReceiverState → Type 0
 HasFailed state = state.has_failed ≡ true
 
--- it holds whichever frames were processed, with whichever window and initial V(R)
-abbrev pub ForProcessed : ReceiverState → (ℕ → ℕ → List TcView → Type 0) → Type 0
-ForProcessed state holds = (w vr : ℕ) (views : List TcView) → HasProcessed w vr state views → holds w vr views
+-- it holds whichever frames were processed, with whichever parameters of reception
+abbrev pub ForProcessed : ReceiverState → (ReceptionParameters → List TcView → Type 0) → Type 0
+ForProcessed state holds = (r : ReceptionParameters) (views : List TcView) → HasProcessed r state views → holds r views
 
 -- ---- what the next frame does
 
 -- the verdict of FARM-1 on it
-abbrev pub verdict_on : ℕ → ℕ → List TcView → TcView → Verdict
-verdict_on w vr views next = (farm_step w (farm_after w vr (channel_of next.vc views)) (event_of next.content)).0
+abbrev pub verdict_on : ReceptionParameters → List TcView → TcView → Verdict
+verdict_on r views next = (farm_step r.window (farm_of r next.vc views).state (event_of next.content)).0
 
 -- the MAP of its unit, if it carries one
 abbrev pub map_of : Content → ℕ
@@ -78,20 +79,20 @@ abbrev pub unit_channel : TcView → ℕ
 unit_channel next = channel_at next.vc (map_of next.content)
 
 -- the packets that end with its unit, if it is accepted, idle ones included
-abbrev pub ended_by : ℕ → ℕ → List TcView → TcView → List (List ℕ)
-ended_by w vr views next =
-    flat_map (packets_ended (segments_of w vr next.vc (map_of next.content) views)) (unit_by (verdict_on w vr views next) next.content)
+abbrev pub ended_by : ReceptionParameters → List TcView → TcView → List (List ℕ)
+ended_by r views next =
+    flat_map (packets_ended (segments_of r next.vc (map_of next.content) views)) (unit_by (verdict_on r views next) next.content)
 
--- it holds whichever frames came before the next one, with whichever window and initial V(R), where these series
+-- it holds whichever frames came before the next one, with whichever parameters of reception, where these series
 -- are incomplete and FARM-1 gives this verdict
-abbrev pub ForIncomplete : List (Option (List ℕ)) → Verdict → TcView → (ℕ → ℕ → List TcView → Type 0) → Type 0
+abbrev pub ForIncomplete : List (Option (List ℕ)) → Verdict → TcView → (ReceptionParameters → List TcView → Type 0) → Type 0
 ForIncomplete incomplete verdict next holds =
-    (w vr : ℕ) (views : List TcView) → AreIncomplete w vr incomplete views → verdict ≡ verdict_on w vr views next → holds w vr views
+    (r : ReceptionParameters) (views : List TcView) → AreIncomplete r incomplete views → verdict ≡ verdict_on r views next → holds r views
 
 -- the next frame's unit is accepted, and a series is incomplete on its virtual channel and MAP, before that frame or
 -- after it
-abbrev pub IsIncompleteAround : ℕ → ℕ → List TcView → TcView → Type 0
-IsIncompleteAround w vr views next =
-    (unit_by (verdict_on w vr views next) next.content ≢ [])
-    × ((incomplete_of (segments_of w vr next.vc (map_of next.content) views) ≢ None)
-    ⊎ (incomplete_of (segments_of w vr next.vc (map_of next.content) (views ++ next ∷ [])) ≢ None))
+abbrev pub IsIncompleteAround : ReceptionParameters → List TcView → TcView → Type 0
+IsIncompleteAround r views next =
+    (unit_by (verdict_on r views next) next.content ≢ [])
+    × ((incomplete_of (segments_of r next.vc (map_of next.content) views) ≢ None)
+    ⊎ (incomplete_of (segments_of r next.vc (map_of next.content) (views ++ next ∷ [])) ≢ None))

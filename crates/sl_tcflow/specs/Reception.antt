@@ -5,6 +5,7 @@ use Rattle.std.specs.List.{filter}
 use Rattle.sl_packet.specs.Packets.{packets_of}
 use Rattle.sl_tcframe.specs.TcFrame.{TcView}
 use Rattle.sl_tcflow.specs.AcceptedUnit.{channel_of, accepted_units}
+use Rattle.sl_tcflow.specs.ReceptionParameters.{ReceptionParameters, start_of}
 use Rattle.sl_tcflow.specs.Series.{SeriesAt, past, reassembled, segments_on, series_of}
 
 -- the packets of a service data unit: the longest list of them that lies at its front
@@ -21,8 +22,8 @@ packets_ended list next =
     flat_map (λ (s : SeriesAt). packets_in s.segments) (filter (λ (s : SeriesAt). past s == length list + 1) (series_of (list ++ next ∷ [])))
 
 -- the segments of a virtual channel and a MAP, among frames
-abbrev pub segments_of : ℕ → ℕ → ℕ → ℕ → List TcView → List (List ℕ)
-segments_of w vr vc mid views = segments_on mid (accepted_units w vr (channel_of vc views))
+abbrev pub segments_of : ReceptionParameters → ℕ → ℕ → List TcView → List (List ℕ)
+segments_of r vc mid views = segments_on mid (accepted_units r.window (start_of r vc) (channel_of vc views))
 
 -- ---- laws
 

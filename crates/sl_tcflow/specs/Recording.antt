@@ -8,6 +8,7 @@ use Rattle.sl_tcframe.specs.TcDelimited.{tc_frames_of}
 use Rattle.sl_tcframe.specs.TcFrame.{TcFormat, TcView}
 use Rattle.sl_tcflow.specs.AcceptedUnit.{views_of}
 use Rattle.sl_tcflow.specs.Reception.{packets_on, segments_of}
+use Rattle.sl_tcflow.specs.ReceptionParameters.{ReceptionParameters}
 
 -- the frames of a recording that aren't skipped
 abbrev pub recorded_views : TcFormat → ℕ → List ℕ → List TcView
@@ -18,10 +19,10 @@ unfoldable pub map_channels : List ℕ
 map_channels = range_with_len 0 channel_count
 
 -- the packets of a channel, idle ones included
-abbrev pub packets_in_channel : ℕ → ℕ → List TcView → ℕ → List (List ℕ)
-packets_in_channel w vr views channel = packets_on (segments_of w vr (channel / 64) (channel % 64) views)
+abbrev pub packets_in_channel : ReceptionParameters → List TcView → ℕ → List (List ℕ)
+packets_in_channel r views channel = packets_on (segments_of r (channel / 64) (channel % 64) views)
 
--- the packets of each channel, without idle ones, under this window and this initial V(R): 4,096 lists
-abbrev pub tc_lists : TcFormat → ℕ → ℕ → ℕ → List ℕ → List (List (List ℕ))
-tc_lists format spacecraft w vr recording =
-    map (λ channel. without_idle (packets_in_channel w vr (recorded_views format spacecraft recording) channel)) map_channels
+-- the packets of each channel, without idle ones, under these parameters of reception: 4,096 lists
+abbrev pub tc_lists : TcFormat → ℕ → ReceptionParameters → List ℕ → List (List (List ℕ))
+tc_lists format spacecraft r recording =
+    map (λ channel. without_idle (packets_in_channel r (recorded_views format spacecraft recording) channel)) map_channels

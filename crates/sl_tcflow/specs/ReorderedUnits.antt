@@ -12,6 +12,7 @@ use Rattle.sl_tcframe.specs.TcFrame.{TcFormat, TcView, Ad, Bd, Unlock}
 use Rattle.sl_tcflow.specs.AcceptedUnit.{accepted_ad_units, accepted_units, channel_of, event_of, farm_after}
 use Rattle.sl_tcflow.specs.Receiving.{HaveStepped, channel_at, farm_at_start}
 use Rattle.sl_tcflow.specs.Reception.{packets_on, segments_of}
+use Rattle.sl_tcflow.specs.ReceptionParameters.{ReceptionParameters, start_of}
 use Rattle.sl_tcflow.specs.Recording.{recorded_views, tc_lists}
 use Rattle.sl_tcflow.specs.Series.{segments_on}
 
@@ -46,9 +47,9 @@ abbrev pub recorded_channel : TcFormat → ℕ → ℕ → List ℕ → List TcV
 recorded_channel format spacecraft vc recording = channel_of vc (recorded_views format spacecraft recording)
 
 -- the packets that it delivers on a virtual channel and MAP, idle ones left out
-abbrev pub recorded_packets : TcFormat → ℕ → ℕ → ℕ → ℕ → ℕ → List ℕ → List (List ℕ)
-recorded_packets format spacecraft w vr vc mid recording =
-    slice_index_or (tc_lists format spacecraft w vr recording) (channel_at vc mid) []
+abbrev pub recorded_packets : TcFormat → ℕ → ReceptionParameters → ℕ → ℕ → List ℕ → List (List ℕ)
+recorded_packets format spacecraft r vc mid recording =
+    slice_index_or (tc_lists format spacecraft r recording) (channel_at vc mid) []
 
 -- The frames of a virtual channel are copies of what was sent, each less than 256 away from the frame that is expected
 -- when it arrives, and between them frames of type BD and Unlock, but no Set V(R).
@@ -91,17 +92,17 @@ AdUnitsAreAll = (w vr : ℕ) (channel : List TcView) → HaveNoBd channel → ac
 -- and the packets of each MAP are a prefix of those of the units that were sent.
 abbrev pub PacketsInOrder : Type 0
 PacketsInOrder =
-    (w vr vc mid : ℕ) (sent : List (List ℕ)) (views : List TcView) (arrivals : List Arrival) → AreReordered w vr sent (channel_of vc views) arrivals
+    (r : ReceptionParameters) (vc mid : ℕ) (sent : List (List ℕ)) (views : List TcView) (arrivals : List Arrival) → AreReordered r.window (start_of r vc) sent (channel_of vc views) arrivals
     → HaveNoBd (channel_of vc views)
-    → IsPrefix (packets_on (segments_of w vr vc mid views)) (packets_on (segments_on mid sent))
+    → IsPrefix (packets_on (segments_of r vc mid views)) (packets_on (segments_on mid sent))
 
 -- On a virtual channel and MAP a recording then delivers a prefix of them, idle ones left out. Of the other virtual
 -- channels nothing is said.
 abbrev pub RecordedPacketsInOrder : Type 0
 RecordedPacketsInOrder =
-    (format : TcFormat) (spacecraft w vr vc mid : ℕ) (sent : List (List ℕ)) (recording : List ℕ) (arrivals : List Arrival) → vc < 64 → mid < 64
-    → AreReordered w vr sent (recorded_channel format spacecraft vc recording) arrivals → HaveNoBd (recorded_channel format spacecraft vc recording)
-    → IsPrefix (recorded_packets format spacecraft w vr vc mid recording) (without_idle (packets_on (segments_on mid sent)))
+    (format : TcFormat) (spacecraft : ℕ) (r : ReceptionParameters) (vc mid : ℕ) (sent : List (List ℕ)) (recording : List ℕ) (arrivals : List Arrival) → vc < 64 → mid < 64
+    → AreReordered r.window (start_of r vc) sent (recorded_channel format spacecraft vc recording) arrivals → HaveNoBd (recorded_channel format spacecraft vc recording)
+    → IsPrefix (recorded_packets format spacecraft r vc mid recording) (without_idle (packets_on (segments_on mid sent)))
 
 -- In the window the Lockout flag is never set,
 abbrev pub WindowNeverLocks : Type 0
@@ -121,6 +122,6 @@ ExpectedUnitIsAccepted =
 -- its CLCW, which reports V(R), reports this.
 abbrev pub ReceiverCountsUnits : Type 0
 ReceiverCountsUnits =
-    (w vr vc : ℕ) (sent : List (List ℕ)) (farms : List FarmView) (views : List TcView) (arrivals : List Arrival) → vc < 64
-    → HaveStepped w vr farms views → AreReordered w vr sent (channel_of vc views) arrivals
-    → (clcw_of vc (slice_index_or farms vc (farm_at_start w vr)).state).report ≡ expected_ns w vr (channel_of vc views)
+    (r : ReceptionParameters) (vc : ℕ) (sent : List (List ℕ)) (farms : List FarmView) (views : List TcView) (arrivals : List Arrival) → vc < 64
+    → HaveStepped r farms views → AreReordered r.window (start_of r vc) sent (channel_of vc views) arrivals
+    → (clcw_of vc (slice_index_or farms vc (farm_at_start r vc)).state).report ≡ expected_ns r.window (start_of r vc) (channel_of vc views)

@@ -63,7 +63,7 @@ impl<'d> TcForm<'d> {
         requires spacecraft { spacecraft ≤ 1023 }
         ensures all { result ≡ tc_normal_form_of shape spacecraft vr delivered.now.lists }
         // Read as a recording from that V(R) on, it delivers the packets again, whatever the window.
-        ensures delivers { (w : ℕ) → tc_lists shape spacecraft w vr result ≡ delivered.now.lists }
+        ensures delivers { (w : ℕ) → tc_lists shape spacecraft (record { window = w; vr = vr }) result ≡ delivered.now.lists }
         ensures size { length delivered.now.lists ≡ channel_count }
     {
         let max = shape.max();

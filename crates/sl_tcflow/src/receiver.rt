@@ -6,11 +6,12 @@ ghost use Rattle.sl_packet.specs.Sink.{TakesAll};
 ghost use Rattle.sl_packet.specs.Stopping.{CountsFault, IsStopped};
 ghost use Rattle.sl_tcframe.specs.TcContent.{content};
 ghost use Rattle.sl_tcframe.specs.TcFrame.{TcView, IsContent};
-ghost use Rattle.sl_tcflow.specs.AcceptedUnit.{channel_of, event_of, farm_after, unit_by};
+ghost use Rattle.sl_tcflow.specs.AcceptedUnit.{event_of, unit_by};
 ghost use Rattle.sl_tcflow.specs.Anomaly.{IsReportedOf, dropped_by, held_of, long_by, stray_by, tail_by};
 ghost use Rattle.sl_tcflow.specs.Incomplete.{incomplete_of};
-ghost use Rattle.sl_tcflow.specs.Receiving.{ForProcessed, HasProcessed, HasFailed, HasFailedAfter, HaveStepped, ForIncomplete, IsIncompleteAround, AreIncomplete, map_of, ended_by, unit_channel, verdict_on};
+ghost use Rattle.sl_tcflow.specs.Receiving.{ForProcessed, HasProcessed, HasFailed, HasFailedAfter, HaveStepped, ForIncomplete, IsIncompleteAround, AreIncomplete, map_of, ended_by, farm_of, unit_channel, verdict_on};
 ghost use Rattle.sl_tcflow.specs.Reception.{segments_of};
+ghost use Rattle.sl_tcflow.specs.ReceptionParameters.{ReceptionParameters};
 ghost use Rattle.sl_tcflow.specs.Series.{header_at};
 
 use crate::incomplete::Incomplete;
@@ -47,7 +48,7 @@ impl Receiver {
     /// A receiver that was given no frame: FARM-1 of each virtual channel is open, with this window and this
     /// V(R). It takes memory only as segments come.
     pub fn new(alloc: Global, window: Window, vr: u8) -> Receiver
-        ensures { HasProcessed window vr result [] }
+        ensures { HasProcessed (record { window = window; vr = vr }) result [] }
     {
         Receiver {
             alloc,
@@ -72,30 +73,30 @@ impl Receiver {
         sink: &mut S,
     ) -> Result<TcStep, FlowFault>
         // Whichever frames were processed before, now they and this one are,
-        ensures processed { OnOk result (ForProcessed self.old (λ w vr views. HasProcessed w vr self.new (views ++ frame.now ∷ []))) }
-        ensures verdict { IfOk result (λ step. ForProcessed self.old (λ w vr views. step.verdict ≡ verdict_on w vr views frame.now)) }
+        ensures processed { OnOk result (ForProcessed self.old (λ r views. HasProcessed r self.new (views ++ frame.now ∷ []))) }
+        ensures verdict { IfOk result (λ step. ForProcessed self.old (λ r views. step.verdict ≡ verdict_on r views frame.now)) }
         // and the packets that end with its unit were accepted and counted.
-        ensures accepted { OnOk result (ForProcessed self.old (λ w vr views. TakesAll S.taking sink.old (unit_channel frame.now) (without_idle (ended_by w vr views frame.now)) sink.new)) }
-        ensures packets { IfOk result (λ step. ForProcessed self.old (λ w vr views. step.packets ≡ length (without_idle (ended_by w vr views frame.now)))) }
-        ensures idle { IfOk result (λ step. ForProcessed self.old (λ w vr views. step.idle ≡ length (only_idle (ended_by w vr views frame.now)))) }
+        ensures accepted { OnOk result (ForProcessed self.old (λ r views. TakesAll S.taking sink.old (unit_channel frame.now) (without_idle (ended_by r views frame.now)) sink.new)) }
+        ensures packets { IfOk result (λ step. ForProcessed self.old (λ r views. step.packets ≡ length (without_idle (ended_by r views frame.now)))) }
+        ensures idle { IfOk result (λ step. ForProcessed self.old (λ r views. step.idle ≡ length (only_idle (ended_by r views frame.now)))) }
         ensures kept { OnOk result (S.failures sink.new ≡ S.failures sink.old) }
         // What is amiss with its unit is told, if it is accepted.
-        ensures stray { IfOk result (λ step. ForProcessed self.old (λ w vr views. step.stray ≡ stray_by w vr views frame.now)) }
-        ensures dropped { IfOk result (λ step. ForProcessed self.old (λ w vr views. step.dropped ≡ dropped_by w vr views frame.now)) }
-        ensures long { IfOk result (λ step. ForProcessed self.old (λ w vr views. step.long ≡ long_by w vr views frame.now)) }
-        ensures tail { IfOk result (λ step. ForProcessed self.old (λ w vr views. step.tail ≡ tail_by w vr views frame.now)) }
+        ensures stray { IfOk result (λ step. ForProcessed self.old (λ r views. step.stray ≡ stray_by r views frame.now)) }
+        ensures dropped { IfOk result (λ step. ForProcessed self.old (λ r views. step.dropped ≡ dropped_by r views frame.now)) }
+        ensures long { IfOk result (λ step. ForProcessed self.old (λ r views. step.long ≡ long_by r views frame.now)) }
+        ensures tail { IfOk result (λ step. ForProcessed self.old (λ r views. step.tail ≡ tail_by r views frame.now)) }
         // After a fault each call fails, and leaves all as it was; none fails before.
         ensures failed { HasFailed self.old → result ≡ Err FlowFault.Failed }
         ensures left { result ≡ Err FlowFault.Failed → HasFailed self.old × (self.new ≡ self.old) × (sink.new ≡ sink.old) }
         // At a fault some of the packets were accepted, the first ones, and FARM-1 has taken the frame.
         ensures stopped { IfErr result (λ flow. flow ≢ FlowFault.Failed → HasFailed self.new
-            × ForProcessed self.old (λ w vr views. HasFailedAfter w vr self.new (views ++ frame.now ∷ [])
-            × IsStopped S.taking S.failing S.failures sink.old (unit_channel frame.now) (without_idle (ended_by w vr views frame.now)) flow sink.new)) }
+            × ForProcessed self.old (λ r views. HasFailedAfter r self.new (views ++ frame.now ∷ [])
+            × IsStopped S.taking S.failing S.failures sink.old (unit_channel frame.now) (without_idle (ended_by r views frame.now)) flow sink.new)) }
         // Whatever was processed before, the sink failed exactly where the fault says so.
         ensures counted { IfErr result (λ flow. CountsFault S.failures sink.old flow sink.new) }
         // Memory is wanted only where the frame's unit is accepted and a series is incomplete on its MAP, before the
         // frame or after it.
-        ensures memory { IfErr result (λ flow. flow ≡ FlowFault.Memory → ForProcessed self.old (λ w vr views. IsIncompleteAround w vr views frame.now)) }
+        ensures memory { IfErr result (λ flow. flow ≡ FlowFault.Memory → ForProcessed self.old (λ r views. IsIncompleteAround r views frame.now)) }
     {
         if self.has_failed {
             return Err(FlowFault::Failed);
@@ -114,8 +115,8 @@ impl Receiver {
     /// The Communications Link Control Word of a virtual channel.
     pub fn clcw(&self, vc: u8) -> Clcw
         requires { vc ≤ 63 }
-        ensures processed { ForProcessed self.now (λ w vr views. result ≡ clcw_of vc (farm_after w vr (channel_of vc views))) }
-        ensures failed { (w vr : ℕ) (views : List TcView) → HasFailedAfter w vr self.now views → result ≡ clcw_of vc (farm_after w vr (channel_of vc views)) }
+        ensures processed { ForProcessed self.now (λ r views. result ≡ clcw_of vc (farm_of r vc views).state) }
+        ensures failed { (r : ReceptionParameters) (views : List TcView) → HasFailedAfter r self.now views → result ≡ clcw_of vc (farm_of r vc views).state }
     {
         self.farms[usize::from(vc)].clcw(vc)
     }
@@ -125,7 +126,7 @@ impl Receiver {
     pub fn held(&self, vc: u8, map: u8) -> u32
         requires vc { vc ≤ 63 }
         requires map { map ≤ 63 }
-        ensures value { ForProcessed self.now (λ w vr views. result ≡ held_of (segments_of w vr vc map views)) }
+        ensures value { ForProcessed self.now (λ r views. result ≡ held_of (segments_of r vc map views)) }
         ensures most { result ≤ 65542 }
     {
         held_on(&self.incomplete, vc, map).unwrap_or(0)
@@ -136,7 +137,7 @@ impl Receiver {
     pub fn is_open(&self, vc: u8, map: u8) -> bool
         requires vc { vc ≤ 63 }
         requires map { map ≤ 63 }
-        ensures value { ForProcessed self.now (λ w vr views. result ≡ is_some (incomplete_of (segments_of w vr vc map views))) }
+        ensures value { ForProcessed self.now (λ r views. result ≡ is_some (incomplete_of (segments_of r vc map views))) }
     {
         held_on(&self.incomplete, vc, map).is_some()
     }
@@ -144,8 +145,8 @@ impl Receiver {
 
 // Steps FARM-1 of a frame's virtual channel.
 fn step(farms: &mut [Farm; 64], frame: &TcFrame) -> Verdict
-    ensures verdict { (w vr : ℕ) (views : List TcView) → HaveStepped w vr farms.old views → result ≡ verdict_on w vr views frame.now }
-    ensures farms { (w vr : ℕ) (views : List TcView) → HaveStepped w vr farms.old views → HaveStepped w vr farms.new (views ++ frame.now ∷ []) }
+    ensures verdict { (r : ReceptionParameters) (views : List TcView) → HaveStepped r farms.old views → result ≡ verdict_on r views frame.now }
+    ensures farms { (r : ReceptionParameters) (views : List TcView) → HaveStepped r farms.old views → HaveStepped r farms.new (views ++ frame.now ∷ []) }
 {
     let vc = usize::from(frame.vc());
     let mut farm = farms[vc];
@@ -174,14 +175,14 @@ fn take<S: PacketSink>(
     frame: &TcFrame,
     sink: &mut S,
 ) -> Result<TcStep, FlowFault>
-    ensures series { OnOk result (ForIncomplete incomplete.old.items verdict frame.now (λ w vr views. AreIncomplete w vr incomplete.new.items (views ++ frame.now ∷ []))) }
-    ensures accepted { OnOk result (ForIncomplete incomplete.old.items verdict frame.now (λ w vr views. TakesAll S.taking sink.old (unit_channel frame.now) (without_idle (ended_by w vr views frame.now)) sink.new)) }
-    ensures step { IfOk result (λ step. ForIncomplete incomplete.old.items verdict frame.now (λ w vr views. IsReportedOf w vr views frame.now step)) }
+    ensures series { OnOk result (ForIncomplete incomplete.old.items verdict frame.now (λ r views. AreIncomplete r incomplete.new.items (views ++ frame.now ∷ []))) }
+    ensures accepted { OnOk result (ForIncomplete incomplete.old.items verdict frame.now (λ r views. TakesAll S.taking sink.old (unit_channel frame.now) (without_idle (ended_by r views frame.now)) sink.new)) }
+    ensures step { IfOk result (λ step. ForIncomplete incomplete.old.items verdict frame.now (λ r views. IsReportedOf r views frame.now step)) }
     ensures kept { OnOk result (S.failures sink.new ≡ S.failures sink.old) }
     ensures counted { IfErr result (λ flow. CountsFault S.failures sink.old flow sink.new) }
-    ensures stopped { IfErr result (λ flow. ForIncomplete incomplete.old.items verdict frame.now (λ w vr views. IsStopped S.taking S.failing S.failures sink.old (unit_channel frame.now) (without_idle (ended_by w vr views frame.now)) flow sink.new)) }
+    ensures stopped { IfErr result (λ flow. ForIncomplete incomplete.old.items verdict frame.now (λ r views. IsStopped S.taking S.failing S.failures sink.old (unit_channel frame.now) (without_idle (ended_by r views frame.now)) flow sink.new)) }
     ensures not_failed { IfErr result (λ flow. flow ≢ FlowFault.Failed) }
-    ensures memory { IfErr result (λ flow. flow ≡ FlowFault.Memory → ForIncomplete incomplete.old.items verdict frame.now (λ w vr views. IsIncompleteAround w vr views frame.now)) }
+    ensures memory { IfErr result (λ flow. flow ≡ FlowFault.Memory → ForIncomplete incomplete.old.items verdict frame.now (λ r views. IsIncompleteAround r views frame.now)) }
 {
     match accepted_unit(verdict, &frame.content()) {
         Some(unit) => match take_unit(alloc, incomplete, frame.vc(), unit, sink) {

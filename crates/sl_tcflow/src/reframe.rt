@@ -25,7 +25,7 @@ pub fn reframe_tc(
 ) -> Result<Vec<u8>, AllocError>
     requires spacecraft { spacecraft ≤ 1023 }
     ensures form { IfOk result (λ form. form.items ≡ tc_normal_form_of shape.now spacecraft vr delivered.now.lists) }
-    ensures delivers { IfOk result (λ form. (w : ℕ) → tc_lists shape.now spacecraft w vr form.items ≡ delivered.now.lists) }
+    ensures delivers { IfOk result (λ form. (w : ℕ) → tc_lists shape.now spacecraft (record { window = w; vr = vr }) form.items ≡ delivered.now.lists) }
     ensures packets { OnErr result (HasNone delivered.now 0 channel_count → ⊥) }
 {
     let mut form = Vec::new(alloc);

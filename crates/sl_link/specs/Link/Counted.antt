@@ -1,5 +1,6 @@
 -- A stream with the number of its faults.
-use Rattle.std.specs.Prelude.{◌≡◌, ℕ, ◌-◌, ◌^◌, ◌<◌, ◌⊎◌, ◌==◌, ◌&&◌, Bool, true, not, List, length, Result, Ok, Err}
+use Rattle.std.specs.Prelude.{◌≡◌, ℕ, ◌==◌, ◌&&◌, Bool, true, not, List, length, Result, Ok, Err}
+use Rattle.sl_packet.specs.Sink.{one_more}
 use Rattle.sl_link.specs.declared.link.counted.Counted.{Counted}
 
 -- the stream itself
@@ -10,9 +11,9 @@ stream_of c = c.stream
 abbrev pub faults_of : {T : Type 0} → Counted T → ℕ
 faults_of c = c.faults
 
--- the count rose, or it can't rise any more
+-- one fault came, and no more: nothing is tried again after it
 abbrev pub HasFailed : {T : Type 0} → Counted T → Counted T → Type 0
-HasFailed old new = (faults_of old < faults_of new) ⊎ (faults_of new ≡ 2 ^ 64 - 1)
+HasFailed old new = faults_of new ≡ one_more (faults_of old)
 
 -- a write that failed, or took nothing of one or more octets
 abbrev pub is_write_fault : {E : Type 0} → Result ℕ E → List ℕ → Bool

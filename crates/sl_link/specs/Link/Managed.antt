@@ -5,6 +5,7 @@ use Rattle.sl_link.specs.declared.link.managed.ManagedFault.TheVariants.{Spacecr
 use Rattle.sl_fields.specs.Shape.{is_outside}
 use Rattle.sl_tcframe.specs.TcFrame.{TcFormat}
 use Rattle.sl_tmframe.specs.TmFrame.{TmFormat}
+use Rattle.sl_tcflow.specs.ReceptionParameters.{ReceptionParameters}
 
 pub record Parameters : Type 0 where
   pub spacecraft : ℕ
@@ -34,3 +35,7 @@ tm_format p = record { len = p.tm_length; fecf = p.tm_fecf }
 -- the managed format of the TC frames
 abbrev pub tc_format : Parameters → TcFormat
 tc_format p = record { max = p.tc_max; fecf = p.tc_fecf }
+
+-- the managed parameters of the reception of TC frames
+abbrev pub reception_of : Parameters → ReceptionParameters
+reception_of p = record { window = p.window; vr = p.vr }

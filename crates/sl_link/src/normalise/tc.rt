@@ -168,20 +168,20 @@ fn deliver_frame(
     requires working { IsWorking receiver.old }
     // Whichever frames were processed before, now they and this one are,
     ensures processed { OnOk result (ForProcessed receiver.old
-        (λ w vr views. HasProcessed w vr receiver.new
+        (λ r views. HasProcessed r receiver.new
         (with_frame views (as_read managed.now frame.now)))) }
     // and the packets that end with its unit are delivered and counted.
-    ensures lists { OnOk result (ForProcessed receiver.old (λ w vr views. delivered.new.lists
-        ≡ lists_after w vr views (as_read managed.now frame.now) delivered.old.lists)) }
+    ensures lists { OnOk result (ForProcessed receiver.old (λ r views. delivered.new.lists
+        ≡ lists_after r views (as_read managed.now frame.now) delivered.old.lists)) }
     ensures skipped { IfOk result (λ met. met.is_skipped ≡ is_err (as_read managed.now frame.now)) }
-    ensures packets { IfOk result (λ met. ForProcessed receiver.old (λ w vr views. met.packets
-        ≡ length (without_idle (ended_in w vr views (as_read managed.now frame.now))))) }
-    ensures idle { IfOk result (λ met. ForProcessed receiver.old (λ w vr views. met.idle
-        ≡ length (only_idle (ended_in w vr views (as_read managed.now frame.now))))) }
+    ensures packets { IfOk result (λ met. ForProcessed receiver.old (λ r views. met.packets
+        ≡ length (without_idle (ended_in r views (as_read managed.now frame.now))))) }
+    ensures idle { IfOk result (λ met. ForProcessed receiver.old (λ r views. met.idle
+        ≡ length (only_idle (ended_in r views (as_read managed.now frame.now))))) }
     ensures no_anomalies { IfOk result (λ met. met.anomalies ≡ 0) }
     ensures fault { IfErr result (λ fault. fault ≡ LinkFault.Memory) }
     ensures memory { OnErr result (ForProcessed receiver.old
-        (λ w vr views. may_want_memory w vr views (as_read managed.now frame.now))) }
+        (λ r views. may_want_memory r views (as_read managed.now frame.now))) }
 {
     let view = match TcFrame::read(&managed.tc, managed.spacecraft, frame) {
         Ok(view) => view,

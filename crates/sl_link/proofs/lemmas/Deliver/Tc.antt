@@ -17,10 +17,11 @@ use Rattle.sl_tcframe.specs.declared.tc_frame.TcSkip.{TcSkip}
 use Rattle.sl_tcframe.specs.TcFrame.{TcFormat, TcView, Content, Ad, Bd, Unlock, SetVr, command_of, content_of, early_reason, field_len, header_of, parts_of, read_as, tc_frame, unit_of}
 use Rattle.sl_tcflow.specs.AcceptedUnit.{views_of}
 use Rattle.sl_tcflow.specs.Receiving.{ReceiverState, HasProcessed, ended_by, unit_channel}
+use Rattle.sl_tcflow.specs.ReceptionParameters.{ReceptionParameters}
 use Rattle.sl_tcflow.specs.Recording.{packets_in_channel}
 use Rattle.sl_link.specs.Deliver.Tc.{as_read, ended_in, is_incomplete_around, lists_after}
 use Rattle.sl_link.specs.Deliver.Lists.{with_frame}
-use Rattle.sl_link.specs.Link.Managed.{Parameters, tc_format}
+use Rattle.sl_link.specs.Link.Managed.{Parameters, reception_of, tc_format}
 use Rattle.sl_link.specs.Deliver.DeliveringTc.{HasDeliveredTc}
 use Rattle.sl_link.specs.Normalise.Tc.{tc_idle_in, tc_packets_in}
 use Rattle.sl_link.specs.Verbs.Packets.Tc.{WantsMemoryTc}
@@ -91,13 +92,13 @@ unit_within p frame =
 
 -- ---- one frame more
 
-module _ (w vr : ℕ) where
-  pub list_step : (views : List TcView) (r : Result TcView TcSkip) (lists : List (List (List ℕ))) (channel : ℕ) → length lists ≡ channel_count → channel < channel_count
-      → slice_index_or lists channel [] ≡ without_idle (packets_in_channel w vr views channel)
-      → slice_index_or (lists_after w vr views r lists) channel [] ≡ without_idle (packets_in_channel w vr (with_frame views r) channel)
+module _ (r : ReceptionParameters) where
+  pub list_step : (views : List TcView) (read : Result TcView TcSkip) (lists : List (List (List ℕ))) (channel : ℕ) → length lists ≡ channel_count → channel < channel_count
+      → slice_index_or lists channel [] ≡ without_idle (packets_in_channel r views channel)
+      → slice_index_or (lists_after r views read lists) channel [] ≡ without_idle (packets_in_channel r (with_frame views read) channel)
   list_step views (Err reason) lists channel all inside are = are
   list_step views (Ok view) lists channel all inside are =
-      let ended = ended_by w vr views view in
+      let ended = ended_by r views view in
       let more = without_idle ended in
       let own = slice_index_or lists (unit_channel view) [] ++ more in
       elim (eqb_tells (unit_channel view) channel) [
@@ -105,45 +106,45 @@ module _ (w vr : ℕ) where
             ap (λ c. slice_index_or (slice_set lists c (slice_index_or lists c [] ++ more)) channel []) same
             ∙ get_or-set_same lists channel (slice_index_or lists channel [] ++ more) [] (omega (arith, all, inside))
             ∙ ap (λ l. l ++ more) are
-            ∙ sym (ap without_idle (packets_own w vr views view channel (sym same))
-            ∙ filter-append (λ packet. not (is_idle_packet packet)) (packets_in_channel w vr views channel) ended)
+            ∙ sym (ap without_idle (packets_own r views view channel (sym same))
+            ∙ filter-append (λ packet. not (is_idle_packet packet)) (packets_in_channel r views channel) ended)
         | inr (is, other) ↦
             get_or-set_other lists (unit_channel view) channel own [] (λ e. other (sym e))
-            ∙ are ∙ ap without_idle (sym (packets_other w vr views view channel (λ e. other (sym e))))
+            ∙ are ∙ ap without_idle (sym (packets_other r views view channel (λ e. other (sym e))))
       ]
 
-  pub length-lists_after : (views : List TcView) (r : Result TcView TcSkip) (lists : List (List (List ℕ))) → length (lists_after w vr views r lists) ≡ length lists
-  length-lists_after views (Ok view) lists = length-set lists (unit_channel view) (slice_index_or lists (unit_channel view) [] ++ without_idle (ended_by w vr views view))
+  pub length-lists_after : (views : List TcView) (read : Result TcView TcSkip) (lists : List (List (List ℕ))) → length (lists_after r views read lists) ≡ length lists
+  length-lists_after views (Ok view) lists = length-set lists (unit_channel view) (slice_index_or lists (unit_channel view) [] ++ without_idle (ended_by r views view))
   length-lists_after views (Err reason) lists = refl
 
   -- the packets of a channel that pass a test
   abbrev passing : (List ℕ → Bool) → List TcView → ℕ → List (List ℕ)
-  passing test views channel = filter test (packets_in_channel w vr views channel)
+  passing test views channel = filter test (packets_in_channel r views channel)
 
-  pub count_next : (test : List ℕ → Bool) (views : List TcView) (r : Result TcView TcSkip) → IsOfChannel r
-      → items (passing test (with_frame views r)) ≡ items (passing test views) + length (filter test (ended_in w vr views r))
+  pub count_next : (test : List ℕ → Bool) (views : List TcView) (read : Result TcView TcSkip) → IsOfChannel read
+      → items (passing test (with_frame views read)) ≡ items (passing test views) + length (filter test (ended_in r views read))
   count_next test views (Err reason) range = omega arith
   count_next test views (Ok view) range =
       let at = unit_channel view in
       let old = passing test views in
       let new = passing test (views ++ view ∷ []) in
-      let change = items_change old new at range (λ i inside other. ap (λ l. length (filter test l)) (packets_other w vr views view i other)) in
-      let here : length (new at) ≡ length (old at) + length (filter test (ended_by w vr views view)) =
-      ap (λ l. length (filter test l)) (packets_own w vr views view at refl)
-      ∙ ap length (filter-append test (packets_in_channel w vr views at) (ended_by w vr views view))
-      ∙ length-append (filter test (packets_in_channel w vr views at)) (filter test (ended_by w vr views view)) in
+      let change = items_change old new at range (λ i inside other. ap (λ l. length (filter test l)) (packets_other r views view i other)) in
+      let here : length (new at) ≡ length (old at) + length (filter test (ended_by r views view)) =
+      ap (λ l. length (filter test l)) (packets_own r views view at refl)
+      ∙ ap length (filter-append test (packets_in_channel r views at) (ended_by r views view))
+      ∙ length-append (filter test (packets_in_channel r views at)) (filter test (ended_by r views view)) in
       omega (arith, change, here)
 
   -- the packets that end and the octets that are held after them are no more than those held before and the frame's own
-  pub held_next : (views : List TcView) (r : Result TcView TcSkip) → IsOfChannel r
-      → items (held_in w vr (with_frame views r)) + length (ended_in w vr views r) ≤ items (held_in w vr views) + unit_len_of r
+  pub held_next : (views : List TcView) (read : Result TcView TcSkip) → IsOfChannel read
+      → items (held_in r (with_frame views read)) + length (ended_in r views read) ≤ items (held_in r views) + unit_len_of read
   held_next views (Err reason) range = omega arith
   held_next views (Ok view) range =
       let at = unit_channel view in
-      let old = held_in w vr views in
-      let new = held_in w vr (views ++ view ∷ []) in
-      let change = items_change old new at range (λ i inside other. ap length (held_other w vr views view i other)) in
-      let here : length (ended_by w vr views view) + length (new at) ≤ length (old at) + unit_len view.content = held_own w vr views view at refl in
+      let old = held_in r views in
+      let new = held_in r (views ++ view ∷ []) in
+      let change = items_change old new at range (λ i inside other. ap length (held_other r views view i other)) in
+      let here : length (ended_by r views view) + length (new at) ≤ length (old at) + unit_len view.content = held_own r views view at refl in
       omega (arith, change, here)
 
 -- ---- frame by frame
@@ -158,7 +159,7 @@ views_next format spacecraft frames frame =
 
 -- the octets of the series that are incomplete after them
 abbrev held_after : Parameters → List (List ℕ) → ℕ
-held_after p frames = items (held_in p.window p.vr (views_of (tc_format p) p.spacecraft frames))
+held_after p frames = items (held_in (reception_of p) (views_of (tc_format p) p.spacecraft frames))
 
 -- the packets that end with them, idle ones too, and the octets that are held, are no more than their octets
 abbrev AreWithin : Parameters → List (List ℕ) → Type 0
@@ -166,33 +167,33 @@ AreWithin p frames = tc_packets_in p frames + tc_idle_in p frames + held_after p
 
 pub packets_more : (p : Parameters) (frames : List (List ℕ)) (frame : List ℕ)
     → tc_packets_in p (frames ++ frame ∷ [])
-    ≡ tc_packets_in p frames + length (without_idle (ended_in p.window p.vr (views_of (tc_format p) p.spacecraft frames) (as_read p frame)))
+    ≡ tc_packets_in p frames + length (without_idle (ended_in (reception_of p) (views_of (tc_format p) p.spacecraft frames) (as_read p frame)))
 packets_more p frames frame =
     let seen = views_of (tc_format p) p.spacecraft frames in
-    ap (λ l. items (λ channel. without_idle (packets_in_channel p.window p.vr l channel))) (views_next (tc_format p) p.spacecraft frames frame)
-    ∙ count_next p.window p.vr (λ packet. not (is_idle_packet packet)) seen (as_read p frame) (of_channel p frame)
+    ap (λ l. items (λ channel. without_idle (packets_in_channel (reception_of p) l channel))) (views_next (tc_format p) p.spacecraft frames frame)
+    ∙ count_next (reception_of p) (λ packet. not (is_idle_packet packet)) seen (as_read p frame) (of_channel p frame)
 
 pub idle_more : (p : Parameters) (frames : List (List ℕ)) (frame : List ℕ)
     → tc_idle_in p (frames ++ frame ∷ [])
-    ≡ tc_idle_in p frames + length (only_idle (ended_in p.window p.vr (views_of (tc_format p) p.spacecraft frames) (as_read p frame)))
+    ≡ tc_idle_in p frames + length (only_idle (ended_in (reception_of p) (views_of (tc_format p) p.spacecraft frames) (as_read p frame)))
 idle_more p frames frame =
     let seen = views_of (tc_format p) p.spacecraft frames in
-    ap (λ l. items (λ channel. only_idle (packets_in_channel p.window p.vr l channel))) (views_next (tc_format p) p.spacecraft frames frame)
-    ∙ count_next p.window p.vr is_idle_packet seen (as_read p frame) (of_channel p frame)
+    ap (λ l. items (λ channel. only_idle (packets_in_channel (reception_of p) l channel))) (views_next (tc_format p) p.spacecraft frames frame)
+    ∙ count_next (reception_of p) is_idle_packet seen (as_read p frame) (of_channel p frame)
 
 within_next : (p : Parameters) (frames : List (List ℕ)) (frame : List ℕ) → AreWithin p frames → AreWithin p (frames ++ frame ∷ [])
 within_next p frames frame within =
     let seen = views_of (tc_format p) p.spacecraft frames in
     let r = as_read p frame in
-    let held = held_next p.window p.vr seen r (of_channel p frame) in
-    let held_is = ap (λ l. items (held_in p.window p.vr l)) (views_next (tc_format p) p.spacecraft frames frame) in
+    let held = held_next (reception_of p) seen r (of_channel p frame) in
+    let held_is = ap (λ l. items (held_in (reception_of p) l)) (views_next (tc_format p) p.spacecraft frames frame) in
     omega (
       arith,
       within,
       held,
       held_is,
       unit_within p frame,
-      split_count (ended_in p.window p.vr seen r),
+      split_count (ended_in (reception_of p) seen r),
       packets_more p frames frame,
       idle_more p frames frame,
       ap length (concat-last frames frame),
@@ -206,42 +207,42 @@ within_from p before (frame ∷ frames) within =
 
 pub all_within : (p : Parameters) (frames : List (List ℕ)) → tc_packets_in p frames + tc_idle_in p frames ≤ length (concat frames)
 all_within p frames =
-    let packets = no_items (λ channel. without_idle (packets_in_channel p.window p.vr [] channel)) (λ channel. refl) in
-    let idle = no_items (λ channel. only_idle (packets_in_channel p.window p.vr [] channel)) (λ channel. refl) in
-    let octets = no_items (held_in p.window p.vr []) (λ channel. refl) in
+    let packets = no_items (λ channel. without_idle (packets_in_channel (reception_of p) [] channel)) (λ channel. refl) in
+    let idle = no_items (λ channel. only_idle (packets_in_channel (reception_of p) [] channel)) (λ channel. refl) in
+    let octets = no_items (held_in (reception_of p) []) (λ channel. refl) in
     let all : AreWithin p frames = within_from p [] frames (omega (arith, packets, idle, octets)) in
     omega (arith, all)
 
 -- ---- frames that are processed one after another
 
 -- none yet
-pub none_delivered : (p : Parameters) (receiver : ReceiverState) (t : Tally) → HasProcessed p.window p.vr receiver [] → HasCounted (tc_skipped_of p) [] t
+pub none_delivered : (p : Parameters) (receiver : ReceiverState) (t : Tally) → HasProcessed (reception_of p) receiver [] → HasCounted (tc_skipped_of p) [] t
     → t.packets ≡ 0 → t.idle ≡ 0 → HasDeliveredTc p [] receiver t
 none_delivered p receiver t processed counted packets idle =
-    let no_packets = no_items (λ channel. without_idle (packets_in_channel p.window p.vr [] channel)) (λ channel. refl) in
-    let no_idle = no_items (λ channel. only_idle (packets_in_channel p.window p.vr [] channel)) (λ channel. refl) in
+    let no_packets = no_items (λ channel. without_idle (packets_in_channel (reception_of p) [] channel)) (λ channel. refl) in
+    let no_idle = no_items (λ channel. only_idle (packets_in_channel (reception_of p) [] channel)) (λ channel. refl) in
     record { processed = processed; counted = counted; packets = packets ∙ sym no_packets; idle = idle ∙ sym no_idle }
 
 -- one more
 pub delivered_more : (p : Parameters) (frames : List (List ℕ)) (frame : List ℕ) (receiver receiver' : ReceiverState) (t t' : Tally) → HasDeliveredTc p frames receiver t
-    → HasProcessed p.window p.vr receiver' (with_frame (views_of (tc_format p) p.spacecraft frames) (as_read p frame)) → HasCounted (tc_skipped_of p) (frames ++ frame ∷ []) t'
-    → t'.packets ≡ t.packets + length (without_idle (ended_in p.window p.vr (views_of (tc_format p) p.spacecraft frames) (as_read p frame)))
-    → t'.idle ≡ t.idle + length (only_idle (ended_in p.window p.vr (views_of (tc_format p) p.spacecraft frames) (as_read p frame)))
+    → HasProcessed (reception_of p) receiver' (with_frame (views_of (tc_format p) p.spacecraft frames) (as_read p frame)) → HasCounted (tc_skipped_of p) (frames ++ frame ∷ []) t'
+    → t'.packets ≡ t.packets + length (without_idle (ended_in (reception_of p) (views_of (tc_format p) p.spacecraft frames) (as_read p frame)))
+    → t'.idle ≡ t.idle + length (only_idle (ended_in (reception_of p) (views_of (tc_format p) p.spacecraft frames) (as_read p frame)))
     → HasDeliveredTc p (frames ++ frame ∷ []) receiver' t'
 delivered_more p frames frame receiver receiver' t t' d processed counted packets idle =
     record {
-      processed = subst (HasProcessed p.window p.vr receiver') (sym (views_next (tc_format p) p.spacecraft frames frame)) processed;
+      processed = subst (HasProcessed (reception_of p) receiver') (sym (views_next (tc_format p) p.spacecraft frames frame)) processed;
       counted = counted;
-      packets = packets ∙ ap (λ n. n + length (without_idle (ended_in p.window p.vr (views_of (tc_format p) p.spacecraft frames) (as_read p frame)))) d.packets
+      packets = packets ∙ ap (λ n. n + length (without_idle (ended_in (reception_of p) (views_of (tc_format p) p.spacecraft frames) (as_read p frame)))) d.packets
           ∙ sym (packets_more p frames frame);
-      idle = idle ∙ ap (λ n. n + length (only_idle (ended_in p.window p.vr (views_of (tc_format p) p.spacecraft frames) (as_read p frame)))) d.idle
+      idle = idle ∙ ap (λ n. n + length (only_idle (ended_in (reception_of p) (views_of (tc_format p) p.spacecraft frames) (as_read p frame)))) d.idle
           ∙ sym (idle_more p frames frame);
     }
 
 -- what is counted after it fits
 pub counted_fits : (p : Parameters) (frames : List (List ℕ)) (frame : List ℕ) (receiver : ReceiverState) (t : Tally) (packets idle : ℕ) → HasDeliveredTc p frames receiver t
-    → packets ≡ length (without_idle (ended_in p.window p.vr (views_of (tc_format p) p.spacecraft frames) (as_read p frame)))
-    → idle ≡ length (only_idle (ended_in p.window p.vr (views_of (tc_format p) p.spacecraft frames) (as_read p frame)))
+    → packets ≡ length (without_idle (ended_in (reception_of p) (views_of (tc_format p) p.spacecraft frames) (as_read p frame)))
+    → idle ≡ length (only_idle (ended_in (reception_of p) (views_of (tc_format p) p.spacecraft frames) (as_read p frame)))
     → t.packets + packets + (t.idle + idle) ≤ t.octets + length frame
 counted_fits p frames frame receiver t packets idle d packets_are idle_are =
     let all = all_within p (frames ++ frame ∷ []) in
@@ -261,11 +262,11 @@ counted_fits p frames frame receiver t packets idle d packets_are idle_are =
 
 -- a series is incomplete around a frame
 wants_as_read : (p : Parameters) (before : List (List ℕ)) (frame : List ℕ) (r : Result TcView TcSkip) → as_read p frame ≡ r
-    → is_incomplete_around p.window p.vr (views_of (tc_format p) p.spacecraft before) r → WantsMemoryTc p (before ++ frame ∷ [])
+    → is_incomplete_around (reception_of p) (views_of (tc_format p) p.spacecraft before) r → WantsMemoryTc p (before ++ frame ∷ [])
 wants_as_read p before frame (Ok view) e incomplete =
     record { before = before; frame = frame; in_order = refl; view = view; is_read = e; incomplete = incomplete }
 wants_as_read p before frame (Err reason) e incomplete = absurd incomplete
 
 pub wants_memory : (p : Parameters) (before : List (List ℕ)) (frame : List ℕ)
-    → is_incomplete_around p.window p.vr (views_of (tc_format p) p.spacecraft before) (as_read p frame) → WantsMemoryTc p (before ++ frame ∷ [])
+    → is_incomplete_around (reception_of p) (views_of (tc_format p) p.spacecraft before) (as_read p frame) → WantsMemoryTc p (before ++ frame ∷ [])
 wants_memory p before frame incomplete = wants_as_read p before frame (as_read p frame) refl incomplete

@@ -14,7 +14,7 @@ pub form_is : (p q : Parameters) (lists : List (List (List ℕ))) (form : List �
 unfolding tc_form_of
 form_is p q lists form is same = is ∙ ap (λ (r : Parameters). tc_form_of r lists) same
 
-pub form_delivers : (p q : Parameters) (lists : List (List (List ℕ))) (form : List ℕ) → ((w : ℕ) → tc_lists (tc_format q) q.spacecraft w q.vr form ≡ lists) → q ≡ p
+pub form_delivers : (p q : Parameters) (lists : List (List (List ℕ))) (form : List ℕ) → ((w : ℕ) → tc_lists (tc_format q) q.spacecraft (record { window = w; vr = q.vr }) form ≡ lists) → q ≡ p
     → tc_packets p form ≡ lists
 form_delivers p q lists form delivers same = ap (λ (r : Parameters). tc_packets r form) (sym same) ∙ delivers q.window
 

@@ -7,7 +7,7 @@ use Rattle.sl_tmflow.specs.Canonical as tm
 use Rattle.sl_tmflow.specs.NormalForm.{normal_form}
 use Rattle.sl_tmflow.proofs.CanonicalLemmas.{delivers}
 use Rattle.sl_tmflow.proofs.RecordingLemmas as tm_recording
-use Rattle.sl_link.specs.Link.Managed.{Parameters, managed_of, tc_format, tm_format}
+use Rattle.sl_link.specs.Link.Managed.{Parameters, managed_of, reception_of, tc_format, tm_format}
 use Rattle.sl_link.specs.Normalise.Tc.{tc_form_of, tc_packets}
 use Rattle.sl_link.specs.Normalise.Tm.{tm_normal_form, tm_packets}
 use Rattle.sl_link.specs.Normalise.Separation.{AreAccepted, TmFormsDeliver, TmFormsTellPackets, TmFormsAreTheirOwn, TcFormsDeliver, TcFormsTellPackets, TcFormsAreTheirOwn}
@@ -43,8 +43,8 @@ tc_is p are = let range = managed_greatest p are.allowed in record { least = ran
 pub tc_forms_deliver : TcFormsDeliver
 unfolding tc_form_of
 tc_forms_deliver p recording are =
-    normal_form_delivers (tc_format p) p.spacecraft p.window p.vr (tc_packets p recording) (tc_is p are) (managed_spacecraft p are.allowed) are.octet
-    (tc_recording.recorded_lists_are_deliverable (tc_format p) p.spacecraft p.window p.vr recording)
+    normal_form_delivers (tc_format p) p.spacecraft (reception_of p) (tc_packets p recording) (tc_is p are) (managed_spacecraft p are.allowed) are.octet
+    (tc_recording.recorded_lists_are_deliverable (tc_format p) p.spacecraft (reception_of p) recording)
 
 pub tc_forms_tell_packets : TcFormsTellPackets
 tc_forms_tell_packets p x y are = (

@@ -12,7 +12,7 @@ use Rattle.sl_link.specs.declared.tally.Tally.{Tally}
 use Rattle.sl_link.specs.Deliver.Tc.{as_read, lists_after, may_want_memory}
 use Rattle.sl_link.specs.Deliver.Lists.{count_of, with_frame}
 use Rattle.sl_link.specs.Deliver.DeliveringTc.{HasDeliveredTc, HasKeptTc, MayWantMemoryTc}
-use Rattle.sl_link.specs.Link.Managed.{Parameters, tc_format}
+use Rattle.sl_link.specs.Link.Managed.{Parameters, reception_of, tc_format}
 use Rattle.sl_link.specs.Normalise.Tc.{tc_counted}
 use Rattle.sl_link.specs.Link.Totals.{Counts}
 use Rattle.sl_link.specs.Verbs.Listing.{rest_after}
@@ -32,7 +32,7 @@ none_kept p e t lists delivered anomalies none = record {
 
 -- one frame more
 pub kept_more : (p : Parameters) (frames : List (List ℕ)) (frame : List ℕ) (e e' : ReceiverState) (t t' : Tally) (lists lists' : List (List (List ℕ))) → HasKeptTc p frames e t lists
-    → HasDeliveredTc p (frames ++ frame ∷ []) e' t' → t'.anomalies ≡ 0 → lists' ≡ lists_after p.window p.vr (views_of (tc_format p) p.spacecraft frames) (as_read p frame) lists
+    → HasDeliveredTc p (frames ++ frame ∷ []) e' t' → t'.anomalies ≡ 0 → lists' ≡ lists_after (reception_of p) (views_of (tc_format p) p.spacecraft frames) (as_read p frame) lists
     → HasKeptTc p (frames ++ frame ∷ []) e' t' lists'
 kept_more p frames frame e e' t t' lists lists' k delivered none lists_by =
     let seen = views_of (tc_format p) p.spacecraft frames in
@@ -41,15 +41,15 @@ kept_more p frames frame e e' t t' lists lists' k delivered none lists_by =
     record {
       delivered = delivered;
       no_anomalies = none;
-      size = ap length lists_by ∙ length-lists_after p.window p.vr seen r lists ∙ k.size;
+      size = ap length lists_by ∙ length-lists_after (reception_of p) seen r lists ∙ k.size;
       lists_are = λ channel below. ap (λ l. slice_index_or l channel []) lists_by
-          ∙ list_step p.window p.vr seen r lists channel k.size below (k.lists_are channel below)
-          ∙ ap (λ l. without_idle (packets_in_channel p.window p.vr l channel)) (sym next);
+          ∙ list_step (reception_of p) seen r lists channel k.size below (k.lists_are channel below)
+          ∙ ap (λ l. without_idle (packets_in_channel (reception_of p) l channel)) (sym next);
     }
 
 -- its memory
 pub may_want : (p : Parameters) (before : List (List ℕ)) (frame : List ℕ)
-    → may_want_memory p.window p.vr (views_of (tc_format p) p.spacecraft before) (as_read p frame) → MayWantMemoryTc p (before ++ frame ∷ [])
+    → may_want_memory (reception_of p) (views_of (tc_format p) p.spacecraft before) (as_read p frame) → MayWantMemoryTc p (before ++ frame ∷ [])
 may_want p before frame may = elim may [
   | inl incomplete ↦ inl (wants_memory p before frame incomplete)
   | inr some ↦ inr (omega (arith, some, packets_more p before frame))
@@ -58,8 +58,8 @@ may_want p before frame may = elim may [
 module _ (p : Parameters) (frames : List (List ℕ)) (e : ReceiverState) (t : Tally) where
   -- the lists are those of the frames
   pub all_kept : (lists : List (List (List ℕ))) → HasKeptTc p frames e t lists
-      → lists ≡ map (λ channel. without_idle (packets_in_channel p.window p.vr (views_of (tc_format p) p.spacecraft frames) channel)) map_channels
-  all_kept lists k = lists_are (λ channel. without_idle (packets_in_channel p.window p.vr (views_of (tc_format p) p.spacecraft frames) channel)) lists k.size k.lists_are
+      → lists ≡ map (λ channel. without_idle (packets_in_channel (reception_of p) (views_of (tc_format p) p.spacecraft frames) channel)) map_channels
+  all_kept lists k = lists_are (λ channel. without_idle (packets_in_channel (reception_of p) (views_of (tc_format p) p.spacecraft frames) channel)) lists k.size k.lists_are
 
   -- and all is counted
   pub all_counted : (recording : List ℕ) (n : ℕ) (totals : Counts) → HasDeliveredTc p frames e t → n ≡ length recording → length (concat frames) ≤ length recording

@@ -1,6 +1,7 @@
 -- What listings share: skipped frames, and faults.
-use Rattle.std.proofs.Common.{◌≡◌, ℕ, ◌+◌, ◌≤◌, List, [], ◌∷◌, ◌++◌, length, Option, if◌then◌else◌, sym, ◌∙◌, ap, subst, arith, append_assoc, inl, inr}
+use Rattle.std.proofs.Common.{◌≡◌, ℕ, ◌+◌, ◌≤◌, List, [], ◌∷◌, ◌++◌, length, Option, if◌then◌else◌, sym, ◌∙◌, ap, subst, arith, append_assoc}
 use Rattle.std.specs.Prelude.{is_err}
+use Rattle.sl_packet.specs.Sink.{one_more}
 use Rattle.sl_link.specs.declared.link.counted.Counted.{Counted}
 use Rattle.sl_link.specs.declared.link.fault.LinkFault.{LinkFault}
 use Rattle.sl_link.specs.declared.link.fault.LinkFault.TheVariants.{Write}
@@ -17,8 +18,7 @@ tm_skipped_of-append format spacecraft (x ∷ xs) ys =
 
 -- a stream that had no fault before has failed since
 pub HasFailed-since : {T : Type 0} (old mid new : Counted T) → faults_of mid ≡ faults_of old → HasFailed mid new → HasFailed old new
-HasFailed-since old mid new e h =
-    elim h as (λ _. HasFailed old new) [ inl rose ↦ inl (rw (sym e) rose) | inr top ↦ inr top ]
+HasFailed-since old mid new e h = h ∙ ap one_more e
 
 pub caused_writing : {R W : Type 0} (remaining : R → Option (List ℕ)) (contents : W → Option (List ℕ)) (reader reader' : Counted R) (writer mid writer' : Counted W) (octets : List ℕ) (greatest buffer : ℕ) (fault : LinkFault)
     → fault ≡ Write → faults_of reader' ≡ faults_of reader → faults_of mid ≡ faults_of writer → HasFailed mid writer' → length octets ≤ greatest

@@ -5,6 +5,7 @@ use Rattle.sl_packet.specs.Packets.{only_idle, without_idle}
 use Rattle.sl_tcframe.specs.declared.tc_frame.TcSkip.{TcSkip}
 use Rattle.sl_tcframe.specs.TcFrame.{TcView}
 use Rattle.sl_tcflow.specs.Receiving.{HasProcessed, ReceiverState, map_of}
+use Rattle.sl_tcflow.specs.ReceptionParameters.{ReceptionParameters}
 use Rattle.sl_tcflow.specs.StepReport.{StepReport}
 use Rattle.sl_link.specs.Verbs.Check.Lines.{remainder_amiss}
 use Rattle.sl_link.specs.Verbs.Check.Tc.{dropped_amiss, map_text, tail_amiss, tc_amiss, tc_amiss_after, tc_incomplete, verdict_amiss}
@@ -32,11 +33,11 @@ view_amiss offset view step =
     ++ tail_amiss offset view.vc mid step.tail
 
 -- what a frame brought that comes after these
-pub record TellsFrameTc (w vr offset : ℕ) (views : List TcView) (r : Result TcView TcSkip) (report : FrameReport) : Type 0 where
-  pub skipped : report.is_skipped ≡ is_err r
-  pub packets : report.packets ≡ length (without_idle (ended_in w vr views r))
-  pub idle : report.idle ≡ length (only_idle (ended_in w vr views r))
-  pub anomalies : report.anomalies ≡ length (tc_amiss w vr offset views r)
+pub record TellsFrameTc (r : ReceptionParameters) (offset : ℕ) (views : List TcView) (read : Result TcView TcSkip) (report : FrameReport) : Type 0 where
+  pub skipped : report.is_skipped ≡ is_err read
+  pub packets : report.packets ≡ length (without_idle (ended_in r views read))
+  pub idle : report.idle ≡ length (only_idle (ended_in r views read))
+  pub anomalies : report.anomalies ≡ length (tc_amiss r offset views read)
 
 -- these frames were processed and counted, and what is amiss in them
 pub record HasCheckedTc (p : Parameters) (frames : List (List ℕ)) (receiver : ReceiverState) (t : Tally) : Type 0 where
@@ -46,20 +47,19 @@ pub record HasCheckedTc (p : Parameters) (frames : List (List ℕ)) (receiver : 
 -- the lines of series that are incomplete after these frames, of which some list was processed, have room among the
 -- octets
 pub record IncompleteFitTc (state : ReceiverState) (octets : ℕ) (t : Tally) : Type 0 where
-  pub w : ℕ
-  pub vr : ℕ
+  pub reception : ReceptionParameters
   pub views : List TcView
-  pub processed : HasProcessed w vr state views
-  pub room : t.anomalies + length (tc_incomplete w vr octets views) ≤ t.octets
+  pub processed : HasProcessed reception state views
+  pub room : t.anomalies + length (tc_incomplete reception octets views) ≤ t.octets
 
 -- the lines after those of the frames, by the octets of the whole recording
-abbrev pub end_amiss : ℕ → ℕ → ℕ → Tally → List TcView → List (List ℕ)
-end_amiss w vr octets t views =
-    remainder_amiss t.octets (octets - t.octets) ++ tc_incomplete w vr octets views
+abbrev pub end_amiss : ReceptionParameters → ℕ → Tally → List TcView → List (List ℕ)
+end_amiss r octets t views =
+    remainder_amiss t.octets (octets - t.octets) ++ tc_incomplete r octets views
 
 -- the totals, by the octets of the whole recording, once all frames are counted
-abbrev pub end_counts : ℕ → ℕ → ℕ → Tally → List TcView → Counts
-end_counts w vr octets t views =
+abbrev pub end_counts : ReceptionParameters → ℕ → Tally → List TcView → Counts
+end_counts r octets t views =
     record {
       octets = octets;
       frames = t.frames;
@@ -67,5 +67,5 @@ end_counts w vr octets t views =
       rest = octets - t.octets;
       packets = t.packets;
       idle = t.idle;
-      anomalies = t.anomalies + length (end_amiss w vr octets t views);
+      anomalies = t.anomalies + length (end_amiss r octets t views);
     }

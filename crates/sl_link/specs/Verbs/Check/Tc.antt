@@ -11,11 +11,12 @@ use Rattle.sl_tcflow.specs.Anomaly.{dropped_by, long_by, stray_by, tail_by}
 use Rattle.sl_tcflow.specs.Incomplete.{incomplete_of}
 use Rattle.sl_tcflow.specs.Receiving.{map_of, verdict_on}
 use Rattle.sl_tcflow.specs.Reception.{segments_of}
+use Rattle.sl_tcflow.specs.ReceptionParameters.{ReceptionParameters}
 use Rattle.sl_tcflow.specs.Recording.{map_channels}
 use Rattle.sl_link.specs.Verbs.Check.Lines.{remainder_amiss, totals_line, with_anomalies}
 use Rattle.sl_link.specs.Deliver.Tc.{as_read}
 use Rattle.sl_link.specs.Io.Line.{line_at}
-use Rattle.sl_link.specs.Link.Managed.{Parameters, tc_format}
+use Rattle.sl_link.specs.Link.Managed.{Parameters, reception_of, tc_format}
 use Rattle.sl_link.specs.Normalise.Tc.{tc_counted}
 use Rattle.sl_link.specs.Verbs.Show.Tc.{tc_skip_word, verdict_word}
 use Rattle.sl_link.specs.Link.Totals.{Counts}
@@ -62,22 +63,22 @@ tail_amiss offset vc mid octets =
     if octets == 0 then [] else line_at offset (codes " tail" ++ map_text vc mid ++ codes " octets " ++ decimal octets) ∷ []
 
 -- the lines of a frame at this offset, as it is read, that comes after these frames
-abbrev pub tc_amiss : ℕ → ℕ → ℕ → List TcView → Result TcView TcSkip → List (List ℕ)
-tc_amiss w vr offset views (Ok view) =
+abbrev pub tc_amiss : ReceptionParameters → ℕ → List TcView → Result TcView TcSkip → List (List ℕ)
+tc_amiss r offset views (Ok view) =
     let mid : ℕ = map_of view.content in
-    verdict_amiss offset view.vc (verdict_on w vr views view) view.content
-    ++ stray_amiss offset view.vc mid (stray_by w vr views view)
-    ++ dropped_amiss offset view.vc mid (dropped_by w vr views view)
-    ++ long_amiss offset view.vc mid (long_by w vr views view)
-    ++ tail_amiss offset view.vc mid (tail_by w vr views view)
-tc_amiss w vr offset views (Err reason) = line_at offset (codes " skip " ++ tc_skip_word reason) ∷ []
+    verdict_amiss offset view.vc (verdict_on r views view) view.content
+    ++ stray_amiss offset view.vc mid (stray_by r views view)
+    ++ dropped_amiss offset view.vc mid (dropped_by r views view)
+    ++ long_amiss offset view.vc mid (long_by r views view)
+    ++ tail_amiss offset view.vc mid (tail_by r views view)
+tc_amiss r offset views (Err reason) = line_at offset (codes " skip " ++ tc_skip_word reason) ∷ []
 
 -- ---- a recording
 
 -- those of a frame that comes after these
 abbrev pub tc_amiss_after : Parameters → List (List ℕ) → List ℕ → List (List ℕ)
 tc_amiss_after p before frame =
-    tc_amiss p.window p.vr (length (concat before)) (views_of (tc_format p) p.spacecraft before) (as_read p frame)
+    tc_amiss (reception_of p) (length (concat before)) (views_of (tc_format p) p.spacecraft before) (as_read p frame)
 
 -- a series that is incomplete after the last frame, with the octets so far, if one is
 abbrev pub incomplete_amiss : ℕ → ℕ → ℕ → Option (List ℕ) → List (List ℕ)
@@ -85,19 +86,19 @@ incomplete_amiss offset vc mid None = []
 incomplete_amiss offset vc mid (Some octets) = line_at offset (codes " open" ++ map_text vc mid ++ codes " octets " ++ decimal (length octets)) ∷ []
 
 -- that of a virtual channel and a MAP, by the number of their channel
-abbrev pub open_on : ℕ → ℕ → ℕ → List TcView → ℕ → List (List ℕ)
-open_on w vr offset views channel =
-    incomplete_amiss offset (channel / 64) (channel % 64) (incomplete_of (segments_of w vr (channel / 64) (channel % 64) views))
+abbrev pub open_on : ReceptionParameters → ℕ → List TcView → ℕ → List (List ℕ)
+open_on r offset views channel =
+    incomplete_amiss offset (channel / 64) (channel % 64) (incomplete_of (segments_of r (channel / 64) (channel % 64) views))
 
 -- those of all virtual channels and MAPs, at the end of the recording
-abbrev pub tc_incomplete : ℕ → ℕ → ℕ → List TcView → List (List ℕ)
-tc_incomplete w vr offset views = flat_map (open_on w vr offset views) map_channels
+abbrev pub tc_incomplete : ReceptionParameters → ℕ → List TcView → List (List ℕ)
+tc_incomplete r offset views = flat_map (open_on r offset views) map_channels
 
 -- the lines after frames, by how many octets the remainder has
 abbrev pub tc_end_amiss : Parameters → List (List ℕ) → ℕ → List (List ℕ)
 tc_end_amiss p frames rest =
     remainder_amiss (length (concat frames)) rest
-    ++ tc_incomplete p.window p.vr (length (concat frames) + rest) (views_of (tc_format p) p.spacecraft frames)
+    ++ tc_incomplete (reception_of p) (length (concat frames) + rest) (views_of (tc_format p) p.spacecraft frames)
 
 -- what is counted: each line is one of what is amiss
 abbrev pub check_tc_counted : Parameters → List (List ℕ) → ℕ → Counts

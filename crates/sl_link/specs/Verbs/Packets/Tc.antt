@@ -8,8 +8,9 @@ use Rattle.sl_tcframe.specs.TcDelimited.{tc_frames_of}
 use Rattle.sl_tcframe.specs.TcFrame.{TcView}
 use Rattle.sl_tcflow.specs.AcceptedUnit.{views_of}
 use Rattle.sl_tcflow.specs.Receiving.{IsIncompleteAround, ended_by, map_of}
+use Rattle.sl_tcflow.specs.ReceptionParameters.{ReceptionParameters}
 use Rattle.sl_link.specs.Deliver.Tc.{as_read}
-use Rattle.sl_link.specs.Link.Managed.{Parameters, tc_format}
+use Rattle.sl_link.specs.Link.Managed.{Parameters, reception_of, tc_format}
 use Rattle.sl_link.specs.Normalise.Tc.{tc_counted}
 use Rattle.sl_link.specs.Verbs.Packets.Line.{packet_line}
 use Rattle.sl_link.specs.Verbs.Listing.{Listing, text_of}
@@ -19,16 +20,16 @@ abbrev pub channel_text : ℕ → ℕ → List ℕ
 channel_text vc mid = codes "vc " ++ decimal vc ++ codes " map " ++ decimal mid
 
 -- the lines of the packets of the series that the unit of a frame ends, as it is read, that comes after these frames
-abbrev pub tc_packet_lines : ℕ → ℕ → List TcView → Result TcView TcSkip → List ℕ
-tc_packet_lines w vr views (Ok view) =
-    concat (map (packet_line (channel_text view.vc (map_of view.content))) (without_idle (ended_by w vr views view)))
-tc_packet_lines w vr views (Err reason) = []
+abbrev pub tc_packet_lines : ReceptionParameters → List TcView → Result TcView TcSkip → List ℕ
+tc_packet_lines r views (Ok view) =
+    concat (map (packet_line (channel_text view.vc (map_of view.content))) (without_idle (ended_by r views view)))
+tc_packet_lines r views (Err reason) = []
 
 -- the listing: the lines of the packets that end with each frame's unit
 abbrev pub packets_tc_listing : Parameters → Listing
 packets_tc_listing p =
     record {
-      line = λ before frame. tc_packet_lines p.window p.vr (views_of (tc_format p) p.spacecraft before) (as_read p frame);
+      line = λ before frame. tc_packet_lines (reception_of p) (views_of (tc_format p) p.spacecraft before) (as_read p frame);
       last = λ frames rest. [];
       counts = tc_counted p;
     }
@@ -44,4 +45,4 @@ pub record WantsMemoryTc (p : Parameters) (frames : List (List ℕ)) : Type 0 wh
   pub in_order : frames ≡ before ++ frame ∷ []
   pub view : TcView
   pub is_read : as_read p frame ≡ Ok view
-  pub incomplete : IsIncompleteAround p.window p.vr (views_of (tc_format p) p.spacecraft before) view
+  pub incomplete : IsIncompleteAround (reception_of p) (views_of (tc_format p) p.spacecraft before) view

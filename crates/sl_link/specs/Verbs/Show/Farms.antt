@@ -7,7 +7,7 @@ use Rattle.sl_tcframe.specs.declared.tc_frame.TcSkip.{TcSkip}
 use Rattle.sl_tcframe.specs.TcFrame.{TcView}
 use Rattle.sl_tcflow.specs.AcceptedUnit.{event_of, views_of}
 use Rattle.sl_tcflow.specs.Receiving.{HaveStepped}
-use Rattle.sl_link.specs.Link.Managed.{Parameters, tc_format}
+use Rattle.sl_link.specs.Link.Managed.{Parameters, reception_of, tc_format}
 
 -- FARM-1 of a virtual channel
 abbrev pub no_farm : FarmView
@@ -32,4 +32,4 @@ farms_after farms (Err reason) = farms
 
 -- each virtual channel's FARM-1 has had these frames
 abbrev pub HasFarms : Parameters → List FarmView → List (List ℕ) → Type 0
-HasFarms p farms frames = HaveStepped p.window p.vr farms (views_of (tc_format p) p.spacecraft frames)
+HasFarms p farms frames = HaveStepped (reception_of p) farms (views_of (tc_format p) p.spacecraft frames)

@@ -12,11 +12,11 @@ use Rattle.sl_tcframe.specs.declared.tc_frame.TcSkip.{TcSkip}
 use Rattle.sl_tcframe.specs.declared.tc_frame.TcSkip.TheVariants.{Fecf, Version, Spacecraft, Long, Kind, Empty, Command}
 use Rattle.sl_tcframe.specs.TcDelimited.{tc_frames_of}
 use Rattle.sl_tcframe.specs.TcFrame.{TcView, Content, Ad, Bd, Unlock, SetVr, tc_frame}
-use Rattle.sl_tcflow.specs.AcceptedUnit.{channel_of, event_of, views_of}
+use Rattle.sl_tcflow.specs.AcceptedUnit.{event_of, views_of}
 use Rattle.sl_tcflow.specs.Receiving.{farm_of}
 use Rattle.sl_tcflow.specs.Series.{header_at}
 use Rattle.sl_link.specs.Io.Line.{line_at, remainder_line}
-use Rattle.sl_link.specs.Link.Managed.{Parameters, tc_format}
+use Rattle.sl_link.specs.Link.Managed.{Parameters, reception_of, tc_format}
 use Rattle.sl_link.specs.Link.Totals.{Counts}
 use Rattle.sl_link.specs.Verbs.Listing.{Listing, counts_of, text_of}
 
@@ -78,7 +78,7 @@ tc_frame_text farms (Err reason) = codes " skip " ++ tc_skip_word reason
 
 -- FARM-1 of a virtual channel after frames
 abbrev pub farm_view : Parameters → List (List ℕ) → ℕ → FarmView
-farm_view p before vc = farm_of p.window p.vr (channel_of vc (views_of (tc_format p) p.spacecraft before))
+farm_view p before vc = farm_of (reception_of p) vc (views_of (tc_format p) p.spacecraft before)
 
 -- the line of a frame that comes after these frames
 abbrev pub tc_line : Parameters → List (List ℕ) → List ℕ → List ℕ

@@ -127,16 +127,16 @@ fn check_frame<W: Write>(
     requires one_frame { is_cut (tc_format managed.now) frame.now ≡ true }
     requires working { IsWorking receiver.old }
     ensures processed { OnOk result (ForProcessed receiver.old
-        (λ w vr views. HasProcessed w vr receiver.new
+        (λ r views. HasProcessed r receiver.new
         (with_frame views (as_read managed.now frame.now)))) }
     ensures lines { OnOk result (ForProcessed receiver.old
-        (λ w vr views. AddsText W.contents writer.old writer.new lines.old lines.new
-        (concat (tc_amiss w vr offset views (as_read managed.now frame.now))))) }
+        (λ r views. AddsText W.contents writer.old writer.new lines.old lines.new
+        (concat (tc_amiss r offset views (as_read managed.now frame.now))))) }
     ensures counts { IfOk result (λ report. ForProcessed receiver.old
-        (λ w vr views. TellsFrameTc w vr offset views (as_read managed.now frame.now) report)) }
+        (λ r views. TellsFrameTc r offset views (as_read managed.now frame.now) report)) }
     ensures fault { IfErr result (StopsListing W.contents writer.old writer.new lines.old) }
     ensures memory { IfErr result (λ fault. fault ≡ LinkFault.Memory → ForProcessed receiver.old
-        (λ w vr views. is_incomplete_around w vr views (as_read managed.now frame.now))) }
+        (λ r views. is_incomplete_around r views (as_read managed.now frame.now))) }
 {
     make_room(writer, lines)?;
     // The proof needs its two ends apart.
@@ -156,15 +156,15 @@ fn read_frame(
     requires working { IsWorking receiver.old }
     requires room { HasRoom lines.old }
     ensures processed { OnOk result (ForProcessed receiver.old
-        (λ w vr views. HasProcessed w vr receiver.new
+        (λ r views. HasProcessed r receiver.new
         (with_frame views (as_read managed.now frame.now)))) }
-    ensures lines { OnOk result (ForProcessed receiver.old (λ w vr views. lines.new ≡ lines.old
-        ++ concat (tc_amiss w vr offset views (as_read managed.now frame.now)))) }
+    ensures lines { OnOk result (ForProcessed receiver.old (λ r views. lines.new ≡ lines.old
+        ++ concat (tc_amiss r offset views (as_read managed.now frame.now)))) }
     ensures counts { IfOk result (λ report. ForProcessed receiver.old
-        (λ w vr views. TellsFrameTc w vr offset views (as_read managed.now frame.now) report)) }
+        (λ r views. TellsFrameTc r offset views (as_read managed.now frame.now) report)) }
     ensures fault { IfErr result (λ fault. fault ≡ LinkFault.Memory) }
     ensures memory { IfErr result (λ fault. ForProcessed receiver.old
-        (λ w vr views. is_incomplete_around w vr views (as_read managed.now frame.now))) }
+        (λ r views. is_incomplete_around r views (as_read managed.now frame.now))) }
 {
     let view = match TcFrame::read(&managed.tc, managed.spacecraft, frame) {
         Ok(view) => view,
@@ -193,14 +193,14 @@ fn check_view(
     requires working { IsWorking receiver.old }
     requires room { HasRoom lines.old }
     ensures processed { OnOk result (ForProcessed receiver.old
-        (λ w vr views. HasProcessed w vr receiver.new (views ++ view.now ∷ []))) }
-    ensures lines { OnOk result (ForProcessed receiver.old (λ w vr views. lines.new ≡ lines.old
-        ++ concat (tc_amiss w vr offset views (Ok view.now)))) }
+        (λ r views. HasProcessed r receiver.new (views ++ view.now ∷ []))) }
+    ensures lines { OnOk result (ForProcessed receiver.old (λ r views. lines.new ≡ lines.old
+        ++ concat (tc_amiss r offset views (Ok view.now)))) }
     ensures counts { IfOk result (λ report. ForProcessed receiver.old
-        (λ w vr views. TellsFrameTc w vr offset views (Ok view.now) report)) }
+        (λ r views. TellsFrameTc r offset views (Ok view.now) report)) }
     ensures fault { IfErr result (λ fault. fault ≡ LinkFault.Memory) }
     ensures memory { IfErr result (λ fault. ForProcessed receiver.old
-        (λ w vr views. IsIncompleteAround w vr views view.now)) }
+        (λ r views. IsIncompleteAround r views view.now)) }
 {
     match receiver.frame(view, &mut Unkept) {
         Ok(step) => Ok(FrameReport {
@@ -226,13 +226,13 @@ fn check_end<W: Write>(
     requires short { HasRoom lines.old }
     ensures short { OnOk result (HasRoom lines.new) }
     ensures lines { OnOk result (ForProcessed receiver.now
-        (λ w vr views. AddsText W.contents writer.old writer.new lines.old lines.new
-        (concat (end_amiss w vr octets so_far views)))) }
-    ensures counts { IfOk result (λ totals. ForProcessed receiver.now (λ w vr views. totals
-        ≡ end_counts w vr octets so_far views)) }
+        (λ r views. AddsText W.contents writer.old writer.new lines.old lines.new
+        (concat (end_amiss r octets so_far views)))) }
+    ensures counts { IfOk result (λ totals. ForProcessed receiver.now (λ r views. totals
+        ≡ end_counts r octets so_far views)) }
     ensures fault { IfErr result (λ fault. ForProcessed receiver.now
-        (λ w vr views. StopsWriting W.contents writer.old writer.new (lines.old
-        ++ concat (end_amiss w vr octets so_far views)) fault)) }
+        (λ r views. StopsWriting W.contents writer.old writer.new (lines.old
+        ++ concat (end_amiss r octets so_far views)) fault)) }
 {
     let rest = octets - so_far.octets;
     let remainders = remainder_lines(lines, so_far.octets, rest);
@@ -249,14 +249,14 @@ fn incomplete_lines<W: Write>(
     lines: &mut Lines,
 ) -> Result<u64, LinkFault>
     ensures lines { OnOk result (ForProcessed receiver.now
-        (λ w vr views. AddsText W.contents writer.old writer.new lines.old lines.new
-        (concat (tc_incomplete w vr offset views)))) }
-    ensures number { IfOk result (λ number. ForProcessed receiver.now (λ w vr views. number
-        ≡ length (tc_incomplete w vr offset views))) }
+        (λ r views. AddsText W.contents writer.old writer.new lines.old lines.new
+        (concat (tc_incomplete r offset views)))) }
+    ensures number { IfOk result (λ number. ForProcessed receiver.now (λ r views. number
+        ≡ length (tc_incomplete r offset views))) }
     ensures few { IfOk result (λ number. number ≤ 4096) }
     ensures fault { IfErr result (λ fault. ForProcessed receiver.now
-        (λ w vr views. StopsWriting W.contents writer.old writer.new (lines.old
-        ++ concat (tc_incomplete w vr offset views)) fault)) }
+        (λ r views. StopsWriting W.contents writer.old writer.new (lines.old
+        ++ concat (tc_incomplete r offset views)) fault)) }
 {
     let mut number = 0;
     for channel in 0..4096u16 {
@@ -270,10 +270,10 @@ fn incomplete_lines<W: Write>(
 fn open_lines(lines: &mut Lines, offset: u64, receiver: &Receiver, channel: u16) -> u64
     requires channel { channel < 4096 }
     requires room { HasRoom lines.old }
-    ensures text { ForProcessed receiver.now (λ w vr views. lines.new ≡ lines.old
-        ++ concat (open_on w vr offset views channel)) }
-    ensures number { ForProcessed receiver.now (λ w vr views. result
-        ≡ length (open_on w vr offset views channel)) }
+    ensures text { ForProcessed receiver.now (λ r views. lines.new ≡ lines.old
+        ++ concat (open_on r offset views channel)) }
+    ensures number { ForProcessed receiver.now (λ r views. result
+        ≡ length (open_on r offset views channel)) }
     ensures few { result ≤ 1 }
 {
     let vc = (channel / 64) as u8;

@@ -116,22 +116,22 @@ fn print_frame<W: Write>(
     requires one_frame { is_cut (tc_format managed.now) frame.now ≡ true }
     requires working { IsWorking receiver.old }
     ensures processed { OnOk result (ForProcessed receiver.old
-        (λ w vr views. HasProcessed w vr receiver.new
+        (λ r views. HasProcessed r receiver.new
         (with_frame views (as_read managed.now frame.now)))) }
     ensures lines { OnOk result (ForProcessed receiver.old
-        (λ w vr views. AddsText W.contents writer.old writer.new lines.old lines.new
-        (tc_packet_lines w vr views (as_read managed.now frame.now)))) }
+        (λ r views. AddsText W.contents writer.old writer.new lines.old lines.new
+        (tc_packet_lines r views (as_read managed.now frame.now)))) }
     ensures skipped { IfOk result (λ met. met.is_skipped ≡ is_err (as_read managed.now frame.now)) }
-    ensures packets { IfOk result (λ met. ForProcessed receiver.old (λ w vr views. met.packets
-        ≡ length (without_idle (ended_in w vr views (as_read managed.now frame.now))))) }
-    ensures idle { IfOk result (λ met. ForProcessed receiver.old (λ w vr views. met.idle
-        ≡ length (only_idle (ended_in w vr views (as_read managed.now frame.now))))) }
+    ensures packets { IfOk result (λ met. ForProcessed receiver.old (λ r views. met.packets
+        ≡ length (without_idle (ended_in r views (as_read managed.now frame.now))))) }
+    ensures idle { IfOk result (λ met. ForProcessed receiver.old (λ r views. met.idle
+        ≡ length (only_idle (ended_in r views (as_read managed.now frame.now))))) }
     ensures no_anomalies { IfOk result (λ met. met.anomalies ≡ 0) }
     ensures fault { IfErr result (λ fault. ForProcessed receiver.old
-        (λ w vr views. StopsListing W.contents writer.old writer.new (lines.old
-        ++ tc_packet_lines w vr views (as_read managed.now frame.now)) fault)) }
+        (λ r views. StopsListing W.contents writer.old writer.new (lines.old
+        ++ tc_packet_lines r views (as_read managed.now frame.now)) fault)) }
     ensures memory { IfErr result (λ fault. fault ≡ LinkFault.Memory → ForProcessed receiver.old
-        (λ w vr views. is_incomplete_around w vr views (as_read managed.now frame.now))) }
+        (λ r views. is_incomplete_around r views (as_read managed.now frame.now))) }
 {
     let view = match TcFrame::read(&managed.tc, managed.spacecraft, frame) {
         Ok(view) => view,
@@ -151,21 +151,21 @@ fn print_view<W: Write>(
 ) -> Result<FrameReport, LinkFault>
     requires working { IsWorking receiver.old }
     ensures processed { OnOk result (ForProcessed receiver.old
-        (λ w vr views. HasProcessed w vr receiver.new (views ++ view.now ∷ []))) }
+        (λ r views. HasProcessed r receiver.new (views ++ view.now ∷ []))) }
     ensures lines { OnOk result (ForProcessed receiver.old
-        (λ w vr views. AddsText W.contents writer.old writer.new lines.old lines.new
-        (tc_packet_lines w vr views (Ok view.now)))) }
+        (λ r views. AddsText W.contents writer.old writer.new lines.old lines.new
+        (tc_packet_lines r views (Ok view.now)))) }
     ensures read { IfOk result (λ met. met.is_skipped ≡ false) }
-    ensures packets { IfOk result (λ met. ForProcessed receiver.old (λ w vr views. met.packets
-        ≡ length (without_idle (ended_by w vr views view.now)))) }
-    ensures idle { IfOk result (λ met. ForProcessed receiver.old (λ w vr views. met.idle
-        ≡ length (only_idle (ended_by w vr views view.now)))) }
+    ensures packets { IfOk result (λ met. ForProcessed receiver.old (λ r views. met.packets
+        ≡ length (without_idle (ended_by r views view.now)))) }
+    ensures idle { IfOk result (λ met. ForProcessed receiver.old (λ r views. met.idle
+        ≡ length (only_idle (ended_by r views view.now)))) }
     ensures no_anomalies { IfOk result (λ met. met.anomalies ≡ 0) }
     ensures fault { IfErr result (λ fault. ForProcessed receiver.old
-        (λ w vr views. StopsListing W.contents writer.old writer.new (lines.old
-        ++ tc_packet_lines w vr views (Ok view.now)) fault)) }
+        (λ r views. StopsListing W.contents writer.old writer.new (lines.old
+        ++ tc_packet_lines r views (Ok view.now)) fault)) }
     ensures memory { IfErr result (λ fault. fault ≡ LinkFault.Memory → ForProcessed receiver.old
-        (λ w vr views. IsIncompleteAround w vr views view.now)) }
+        (λ r views. IsIncompleteAround r views view.now)) }
 {
     let mut printer = Printer {
         writer,

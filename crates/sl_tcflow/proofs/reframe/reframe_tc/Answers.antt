@@ -21,7 +21,7 @@ returns-clause-form c =
 
 pub returns-clause-delivers : goal.returns-clause-delivers
 returns-clause-delivers c =
-    λ w. ap (tc_lists c.args.shape.now c.args.spacecraft w c.args.vr) (returns-clause-form c ∙ sym c.new-pieces.ensures.all) ∙ c.new-pieces.ensures.delivers w
+    λ w. ap (tc_lists c.args.shape.now c.args.spacecraft (record { window = w; vr = c.args.vr })) (returns-clause-form c ∙ sym c.new-pieces.ensures.all) ∙ c.new-pieces.ensures.delivers w
 
 pub returns-in_err-next-clause-packets : goal.returns-in_err-next-clause-packets
 returns-in_err-next-clause-packets c =

@@ -13,7 +13,7 @@ use Rattle.sl_link.specs.Verbs.Check.Tc.{check_tc_counted, tc_amiss, tc_amiss_af
 use Rattle.sl_link.specs.Verbs.Check.CheckingTc.{HasCheckedTc, IncompleteFitTc, end_amiss, end_counts}
 use Rattle.sl_link.specs.Deliver.Tc.{as_read}
 use Rattle.sl_link.specs.Deliver.DeliveringTc.{HasDeliveredTc}
-use Rattle.sl_link.specs.Link.Managed.{Parameters, tc_format}
+use Rattle.sl_link.specs.Link.Managed.{Parameters, reception_of, tc_format}
 use Rattle.sl_link.specs.Io.Streams.{AddsText, StopsListing, StopsWriting}
 use Rattle.sl_link.specs.Verbs.Listing.{StopsListingFrames, lines_from}
 use Rattle.sl_link.proofs.lemmas.Io.Adding.{AddsText-trans, stops_at_writer, stops_later, stops_waiting, writer_stops_waiting}
@@ -37,9 +37,9 @@ checked_more p frames frame r r' t t' h delivered more =
 
 -- its lines, at the offset that was counted
 pub amiss_is : (p : Parameters) (frames : List (List ℕ)) (frame : List ℕ) (r : ReceiverState) (t : Tally) → HasCheckedTc p frames r t
-    → tc_amiss p.window p.vr t.octets (views_of (tc_format p) p.spacecraft frames) (as_read p frame) ≡ tc_amiss_after p frames frame
+    → tc_amiss (reception_of p) t.octets (views_of (tc_format p) p.spacecraft frames) (as_read p frame) ≡ tc_amiss_after p frames frame
 amiss_is p frames frame r t h =
-    ap (λ n. tc_amiss p.window p.vr n (views_of (tc_format p) p.spacecraft frames) (as_read p frame)) h.delivered.counted.octets
+    ap (λ n. tc_amiss (reception_of p) n (views_of (tc_format p) p.spacecraft frames) (as_read p frame)) h.delivered.counted.octets
 
 -- a fault before its lines are added
 pub stops_before_lines : {W : Type 0} (contents : W → Option (List ℕ)) (old new : Counted W) (pending lines : List ℕ) (wants_memory : Type 0) (fault : LinkFault)
@@ -55,21 +55,20 @@ module _ (p : Parameters) (frames : List (List ℕ)) (r : ReceiverState) (t : Ta
 
   pub has_room : IncompleteFitTc r octets t
   has_room = record {
-    w = p.window;
-    vr = p.vr;
+    reception = reception_of p;
     views = views_of (tc_format p) p.spacecraft frames;
     processed = h.delivered.processed;
     room = omega (arith, t.anomalies_fit, h.delivered.counted.frames, few_open p octets frames);
   }
 
-  pub end_is : end_amiss p.window p.vr octets t (views_of (tc_format p) p.spacecraft frames) ≡ tc_end_amiss p frames rest
+  pub end_is : end_amiss (reception_of p) octets t (views_of (tc_format p) p.spacecraft frames) ≡ tc_end_amiss p frames rest
   end_is =
       let views = views_of (tc_format p) p.spacecraft frames in
       let whole : octets ≡ length (concat frames) + rest = omega (arith, inside) in
-      ap (λ n. remainder_amiss n (octets - n) ++ tc_incomplete p.window p.vr octets views) h.delivered.counted.octets
-      ∙ ap (λ n. remainder_amiss (length (concat frames)) rest ++ tc_incomplete p.window p.vr n views) whole
+      ap (λ n. remainder_amiss n (octets - n) ++ tc_incomplete (reception_of p) octets views) h.delivered.counted.octets
+      ∙ ap (λ n. remainder_amiss (length (concat frames)) rest ++ tc_incomplete (reception_of p) n views) whole
 
-  pub all_counted : end_counts p.window p.vr octets t (views_of (tc_format p) p.spacecraft frames) ≡ check_tc_counted p frames rest
+  pub all_counted : end_counts (reception_of p) octets t (views_of (tc_format p) p.spacecraft frames) ≡ check_tc_counted p frames rest
   all_counted =
       same_counts _ _ _ _ _ _ _ _ _ _ _ _ _ _
       (omega (arith, inside)) h.delivered.counted.frames h.delivered.counted.skipped (ap (λ n. octets - n) h.delivered.counted.octets) h.delivered.packets h.delivered.idle

@@ -13,11 +13,12 @@ use Rattle.sl_tcflow.specs.Incomplete.{incomplete_of}
 use Rattle.sl_tcflow.specs.Receiving.{map_of, unit_channel, verdict_on}
 use Rattle.sl_tcflow.specs.Recording.{map_channels}
 use Rattle.sl_tcflow.specs.Reception.{segments_of}
+use Rattle.sl_tcflow.specs.ReceptionParameters.{ReceptionParameters}
 use Rattle.sl_tcflow.proofs.ChannelLemmas.{incomplete_other}
 use Rattle.sl_link.specs.Verbs.Check.Tc.{discarded_amiss, dropped_amiss, incomplete_amiss, long_amiss, open_on, stray_amiss, tail_amiss, tc_amiss, tc_incomplete, verdict_amiss}
 use Rattle.sl_link.specs.Deliver.Tc.{as_read}
 use Rattle.sl_link.specs.Deliver.Lists.{count_of, with_frame}
-use Rattle.sl_link.specs.Link.Managed.{Parameters, tc_format}
+use Rattle.sl_link.specs.Link.Managed.{Parameters, reception_of, tc_format}
 use Rattle.sl_link.proofs.lemmas.Deliver.Lists.{items_change, no_items}
 use Rattle.sl_link.proofs.lemmas.Deliver.Tc.{IsOfChannel, of_channel, views_next}
 
@@ -84,17 +85,17 @@ module _ (offset vc mid : ℕ) (segments : List (List ℕ)) where
   few_by Refused content = one_at_most Refused content (one_discarded offset vc Refused content)
   few_by Command content = one_at_most Command content (omega arith)
 
-four_lines : (w vr offset : ℕ) (views : List TcView) (r : Result TcView TcSkip) → length (tc_amiss w vr offset views r) ≤ 4
-four_lines w vr offset views (Err reason) = omega arith
-four_lines w vr offset views (Ok view) =
-    few_by offset view.vc (map_of view.content) (segments_of w vr view.vc (map_of view.content) views) (verdict_on w vr views view) view.content
+four_lines : (r : ReceptionParameters) (offset : ℕ) (views : List TcView) (read : Result TcView TcSkip) → length (tc_amiss r offset views read) ≤ 4
+four_lines r offset views (Err reason) = omega arith
+four_lines r offset views (Ok view) =
+    few_by offset view.vc (map_of view.content) (segments_of r view.vc (map_of view.content) views) (verdict_on r views view) view.content
 
 -- they are fewer than its octets
 pub few_lines : (p : Parameters) (frame : List ℕ) (offset : ℕ) (views : List TcView) → is_cut (tc_format p) frame ≡ true
-    → length (tc_amiss p.window p.vr offset views (as_read p frame)) < length frame
+    → length (tc_amiss (reception_of p) offset views (as_read p frame)) < length frame
 few_lines p frame offset views cut =
     let facts = cut_facts (tc_format p) frame cut in
-    omega (arith, facts.0, four_lines p.window p.vr offset views (as_read p frame))
+    omega (arith, facts.0, four_lines (reception_of p) offset views (as_read p frame))
 
 -- ---- the series that are incomplete
 
@@ -106,32 +107,32 @@ one_open : (offset vc mid : ℕ) (held : Option (List ℕ)) → length (incomple
 one_open offset vc mid None = omega arith
 one_open offset vc mid (Some octets) = omega arith
 
-module _ (w vr offset : ℕ) where
-  open_none : length (tc_incomplete w vr offset []) ≡ 0
-  open_none = flat_count (open_on w vr offset []) map_channels ∙ no_items (open_on w vr offset []) (λ channel. refl)
+module _ (r : ReceptionParameters) (offset : ℕ) where
+  open_none : length (tc_incomplete r offset []) ≡ 0
+  open_none = flat_count (open_on r offset []) map_channels ∙ no_items (open_on r offset []) (λ channel. refl)
 
   -- a frame opens at most one more
-  open_next : (views : List TcView) (r : Result TcView TcSkip) → IsOfChannel r
-      → length (tc_incomplete w vr offset (with_frame views r)) ≤ length (tc_incomplete w vr offset views) + 1
+  open_next : (views : List TcView) (read : Result TcView TcSkip) → IsOfChannel read
+      → length (tc_incomplete r offset (with_frame views read)) ≤ length (tc_incomplete r offset views) + 1
   open_next views (Err reason) range = omega arith
   open_next views (Ok view) range =
       let at = unit_channel view in
-      let old = open_on w vr offset views in
-      let new = open_on w vr offset (views ++ view ∷ []) in
-      let change = items_change old new at range (λ i inside other. ap (λ held. length (incomplete_amiss offset (i / 64) (i % 64) held)) (incomplete_other w vr views view i other)) in
-      let one : length (new at) ≤ 1 = one_open offset (at / 64) (at % 64) (incomplete_of (segments_of w vr (at / 64) (at % 64) (views ++ view ∷ []))) in
+      let old = open_on r offset views in
+      let new = open_on r offset (views ++ view ∷ []) in
+      let change = items_change old new at range (λ i inside other. ap (λ held. length (incomplete_amiss offset (i / 64) (i % 64) held)) (incomplete_other r views view i other)) in
+      let one : length (new at) ≤ 1 = one_open offset (at / 64) (at % 64) (incomplete_of (segments_of r (at / 64) (at % 64) (views ++ view ∷ []))) in
       omega (arith, change, one, flat_count old map_channels, flat_count new map_channels)
 
 module _ (p : Parameters) (offset : ℕ) where
   -- the series that are incomplete after these frames are no more than they
   abbrev AreFew : List (List ℕ) → Type 0
-  AreFew frames = length (tc_incomplete p.window p.vr offset (views_of (tc_format p) p.spacecraft frames)) ≤ length frames
+  AreFew frames = length (tc_incomplete (reception_of p) offset (views_of (tc_format p) p.spacecraft frames)) ≤ length frames
 
   few_next : (frames : List (List ℕ)) (frame : List ℕ) → AreFew frames → AreFew (frames ++ frame ∷ [])
   few_next frames frame few =
       let seen = views_of (tc_format p) p.spacecraft frames in
-      let next = ap (λ views. length (tc_incomplete p.window p.vr offset views)) (views_next (tc_format p) p.spacecraft frames frame) in
-      omega (arith, few, next, open_next p.window p.vr offset seen (as_read p frame) (of_channel p frame), length-append frames (frame ∷ []))
+      let next = ap (λ views. length (tc_incomplete (reception_of p) offset views)) (views_next (tc_format p) p.spacecraft frames frame) in
+      omega (arith, few, next, open_next (reception_of p) offset seen (as_read p frame) (of_channel p frame), length-append frames (frame ∷ []))
 
   few_from : (before frames : List (List ℕ)) → AreFew before → AreFew (before ++ frames)
   few_from before [] few = subst AreFew (sym (append-nil before)) few
@@ -139,4 +140,4 @@ module _ (p : Parameters) (offset : ℕ) where
       subst AreFew (append_assoc before (frame ∷ []) frames) (few_from (before ++ frame ∷ []) frames (few_next before frame few))
 
   pub few_open : (frames : List (List ℕ)) → AreFew frames
-  few_open frames = few_from [] frames (omega (arith, open_none p.window p.vr offset))
+  few_open frames = few_from [] frames (omega (arith, open_none (reception_of p) offset))

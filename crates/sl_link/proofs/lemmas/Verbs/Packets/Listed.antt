@@ -21,7 +21,7 @@ use Rattle.sl_tmflow.specs.Recording.{packets_on, virtual_channels}
 use Rattle.sl_link.specs.declared.verbs.packets.printer.ChannelKind.TheVariants.{VirtualChannel, Map}
 use Rattle.sl_link.specs.Deliver.Tm as tm_deliver
 use Rattle.sl_link.specs.Deliver.Tc as tc_deliver
-use Rattle.sl_link.specs.Link.Managed.{Parameters, tc_format, tm_format}
+use Rattle.sl_link.specs.Link.Managed.{Parameters, reception_of, tc_format, tm_format}
 use Rattle.sl_link.specs.Verbs.Packets.Line.{packet_line}
 use Rattle.sl_link.specs.Verbs.Packets.Listed.{ListedPacket, line_of, TmPacketsAreListed, TcPacketsAreListed}
 use Rattle.sl_link.specs.Verbs.Packets.Tc as tc
@@ -85,26 +85,26 @@ tm_packets_are_listed p recording =
 -- ---- TC
 
 abbrev tc_ended : Parameters → List TcView → TcView → List (List ℕ)
-tc_ended p views view = without_idle (received.ended_by p.window p.vr views view)
+tc_ended p views view = without_idle (received.ended_by (reception_of p) views view)
 
 abbrev tc_on : Parameters → List TcView → ℕ → List (List ℕ)
-tc_on p views channel = without_idle (packets_in_channel p.window p.vr views channel)
+tc_on p views channel = without_idle (packets_in_channel (reception_of p) views channel)
 
 tc_delivered : (p : Parameters) → AreDelivered received.unit_channel (tc_ended p) (tc_on p)
 tc_delivered p =
     record {
       none = λ channel. refl;
       own = λ views view channel same.
-          ap without_idle (packets_own p.window p.vr views view channel (sym same))
-          ∙ filter-append (λ packet. not (is_idle_packet packet)) (packets_in_channel p.window p.vr views channel) (received.ended_by p.window p.vr views view);
-      other = λ views view channel apart. ap without_idle (packets_other p.window p.vr views view channel (λ e. apart (sym e)));
+          ap without_idle (packets_own (reception_of p) views view channel (sym same))
+          ∙ filter-append (λ packet. not (is_idle_packet packet)) (packets_in_channel (reception_of p) views channel) (received.ended_by (reception_of p) views view);
+      other = λ views view channel apart. ap without_idle (packets_other (reception_of p) views view channel (λ e. apart (sym e)));
     }
 
 abbrev tc_listed : Parameters → List TcView → List (List ℕ) → List ListedPacket
 tc_listed p = listed_from (tc_deliver.as_read p) received.unit_channel (tc_ended p)
 
 tc_one : (p : Parameters) (views : List TcView) (r : Result TcView TcSkip)
-    → tc.tc_packet_lines p.window p.vr views r
+    → tc.tc_packet_lines (reception_of p) views r
     ≡ concat (map (line_of Map) (listed_in (tc_deliver.as_read p) received.unit_channel (tc_ended p) views r))
 tc_one p views (Err reason) = refl
 tc_one p views (Ok view) =
@@ -118,7 +118,7 @@ tc_one p views (Ok view) =
 tc_lines : (p : Parameters) (frames : List (List ℕ))
     → lines_from (tc.packets_tc_listing p).line [] frames ≡ concat (map (line_of Map) (tc_listed p [] frames))
 tc_lines p frames =
-    lines_are (tc_deliver.as_read p) received.unit_channel (tc_ended p) (line_of Map) (tc.tc_packet_lines p.window p.vr)
+    lines_are (tc_deliver.as_read p) received.unit_channel (tc_ended p) (line_of Map) (tc.tc_packet_lines (reception_of p))
     (accepted.views_of (tc_format p) p.spacecraft) (tc_delivering.views_next (tc_format p) p.spacecraft) (tc_one p) [] frames
 
 pub tc_packets_are_listed : TcPacketsAreListed

@@ -13,7 +13,7 @@ use Rattle.sl_tcflow.specs.AcceptedUnit.{event_of, views_of}
 use Rattle.sl_tcflow.specs.Receiving.{HaveStepped, farm_at_start}
 use Rattle.sl_tcflow.proofs.FarmLemmas.{stepped_more, stepped_none}
 use Rattle.sl_link.specs.Deliver.Lists.{with_frame}
-use Rattle.sl_link.specs.Link.Managed.{Parameters, tc_format}
+use Rattle.sl_link.specs.Link.Managed.{Parameters, reception_of, tc_format}
 use Rattle.sl_link.specs.Verbs.Show.Tc.{farm_view, tc_view_text, tc_frame_text}
 use Rattle.sl_link.specs.Verbs.Show.Farms.{no_farm, farm_at, farms_after, HasFarms}
 use Rattle.sl_link.proofs.lemmas.Deliver.Lists.{views_step}
@@ -36,7 +36,7 @@ module _ (p : Parameters) (farms : List FarmView) (before : List (List ℕ)) (h 
   seen = views_of (tc_format p) p.spacecraft before
 
   same_farm : (vc : ℕ) → vc < 64 → farm_at farms vc ≡ farm_view p before vc
-  same_farm vc below = get_or_default farms vc no_farm (farm_at_start p.window p.vr) (omega (arith, h.count, below)) ∙ h.each vc below
+  same_farm vc below = get_or_default farms vc no_farm (farm_at_start (reception_of p) vc) (omega (arith, h.count, below)) ∙ h.each vc below
 
   -- the line that the code adds
   text_of_read : (read : Result TcView TcSkip) → IsChannel read → tc_frame_text (farm_at farms) read ≡ tc_frame_text (farm_view p before) read
@@ -47,20 +47,20 @@ module _ (p : Parameters) (farms : List FarmView) (before : List (List ℕ)) (h 
   line_of_frame frame = text_of_read (tc_frame (tc_format p) p.spacecraft frame) (is_channel p frame)
 
   -- the FARMs after the frame
-  farms_of_read : (read : Result TcView TcSkip) → IsChannel read → HaveStepped p.window p.vr (farms_after farms read) (with_frame seen read)
+  farms_of_read : (read : Result TcView TcSkip) → IsChannel read → HaveStepped (reception_of p) (farms_after farms read) (with_frame seen read)
   farms_of_read (Ok view) inside =
       let farm = farm_at farms view.vc in
       let after : FarmView = record { window = farm.window; state = (farm_step farm.window farm.state (event_of view.content)).1 } in
-      stepped_more p.window p.vr farms seen view view.vc no_farm after h inside refl refl refl
+      stepped_more (reception_of p) farms seen view view.vc no_farm after h inside refl refl refl
   farms_of_read (Err reason) inside = h
 
   pub farms_of_frame : (frame : List ℕ) → HasFarms p (farms_after farms (tc_frame (tc_format p) p.spacecraft frame)) (before ++ frame ∷ [])
   farms_of_frame frame =
       let read = tc_frame (tc_format p) p.spacecraft frame in
-      subst (λ views. HaveStepped p.window p.vr (farms_after farms read) views)
+      subst (λ views. HaveStepped (reception_of p) (farms_after farms read) views)
       (sym (filter_map-append (λ f. result_ok (tc_frame (tc_format p) p.spacecraft f)) before (frame ∷ []) ∙ views_step seen read))
       (farms_of_read read (is_channel p frame))
 
 -- before the first frame
 pub farms_at_start : (p : Parameters) (farms : List FarmView) → farms ≡ replicate 64 (record { window = p.window; state = farm_start p.vr }) → HasFarms p farms []
-farms_at_start p farms e = subst (λ l. HaveStepped p.window p.vr l []) (sym e) (stepped_none p.window p.vr)
+farms_at_start p farms e = subst (λ l. HaveStepped (reception_of p) l []) (sym e) (stepped_none (reception_of p))

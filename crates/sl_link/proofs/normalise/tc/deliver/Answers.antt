@@ -2,7 +2,7 @@ use Rattle.std.proofs.Common.{◌+◌, ◌∙◌, [], ap, refl, subst, sym}
 use Rattle.sl_tcflow.specs.Receiving.{HasProcessed}
 use Rattle.sl_tcframe.specs.TcDelimited.{tc_frames_of}
 use Rattle.sl_link.specs.Deliver.DeliveringTc.{HasKeptTc}
-use Rattle.sl_link.specs.Link.Managed.{Parameters, tc_format}
+use Rattle.sl_link.specs.Link.Managed.{Parameters, reception_of, tc_format}
 use Rattle.sl_link.specs.Link.Totals.{Counts}
 use Rattle.sl_link.proofs.lemmas.Normalise.StoringTc.{all_counted, all_kept, none_kept}
 use Rattle.sl_link.proofs.lemmas.Deliver.Tc.{none_delivered}
@@ -13,7 +13,7 @@ read_recording-requires-clause-begun g c = (
   refl,
   subst (λ (q : Parameters). HasKeptTc q [] c.new.result c.new-2.result c.new-3.result.lists) (sym c.managed.view_is) (none_kept c.args.managed.now c.new.result c.new-2.result c.new-3.result.lists
       (none_delivered c.args.managed.now c.new.result c.new-2.result
-      (subst (λ (p : Parameters). HasProcessed p.window p.vr c.new.result []) c.managed.view_is c.new.ensures)
+      (subst (λ (p : Parameters). HasProcessed (reception_of p) c.new.result []) c.managed.view_is c.new.ensures)
       (record { octets = c.new-2.ensures.octets; frames = c.new-2.ensures.frames; skipped = c.new-2.ensures.skipped })
       c.new-2.ensures.packets c.new-2.ensures.idle)
       c.new-2.ensures.anomalies c.new-3.ensures.lists),

@@ -18,22 +18,22 @@ returns-in-Ok-frame-clause-lists c =
     let seen : as_read c.args.managed.now c.args.frame.now ≡ Ok c.in-Ok.view = search rules in
     let fits = channel_fits c.args.managed.now c.args.frame.now c.in-Ok.view seen in
     let inside : unit_channel c.in-Ok.view < length c.args.delivered.now.lists = omega (arith, fits, c.requires.channels) in
-    λ w vr views h. rw (seen) (takes_all (without_idle (ended_by w vr views c.in-Ok.view)) c.args.delivered.now c.frame.new.sink (unit_channel c.in-Ok.view)
-    inside (c.in-Ok-frame.ensures.accepted w vr views h))
+    λ r views h. rw (seen) (takes_all (without_idle (ended_by r views c.in-Ok.view)) c.args.delivered.now c.frame.new.sink (unit_channel c.in-Ok.view)
+    inside (c.in-Ok-frame.ensures.accepted r views h))
 
 pub returns-in-Err-frame-clause-fault : goal.returns-in-Err-frame-clause-fault
 returns-in-Err-frame-clause-fault c =
     let is : c.frame.result ≡ Err c.in-Err-frame.fault = search rules in
     let working = c.requires.working in
-    let ne : c.in-Err-frame.fault ≢ Failed = never_failed c.args.receiver.now.has_failed c.frame.result c.in-Err-frame.fault is (λ e. (c.frame.ensures.left e).0) working.3.working in
+    let ne : c.in-Err-frame.fault ≢ Failed = never_failed c.args.receiver.now.has_failed c.frame.result c.in-Err-frame.fault is (λ e. (c.frame.ensures.left e).0) working.2.working in
     c.of_flow.ensures ∙ memory_refused _ _ (λ old channel packet fault new fails. fails.0) _ _ _ _ c.in-Err-frame.fault ne
-    (((c.in-Err-frame.ensures.stopped ne).1 working.0 working.1 working.2 working.3).1)
+    (((c.in-Err-frame.ensures.stopped ne).1 working.0 working.1 working.2).1)
 
 pub returns-in-Err-frame-clause-memory : goal.returns-in-Err-frame-clause-memory
 returns-in-Err-frame-clause-memory c =
     let seen : as_read c.args.managed.now c.args.frame.now ≡ Ok c.in-Ok.view = search rules in
     let is : c.frame.result ≡ Err c.in-Err-frame.fault = search rules in
     let working = c.requires.working in
-    let ne : c.in-Err-frame.fault ≢ Failed = never_failed c.args.receiver.now.has_failed c.frame.result c.in-Err-frame.fault is (λ e. (c.frame.ensures.left e).0) working.3.working in
-    λ w vr views processed. rw (seen) (wanted_or_some _ _ _ _ _ _ c.in-Err-frame.fault ne (((c.in-Err-frame.ensures.stopped ne).1 w vr views processed).1)
-    (λ e. c.in-Err-frame.ensures.memory e w vr views processed))
+    let ne : c.in-Err-frame.fault ≢ Failed = never_failed c.args.receiver.now.has_failed c.frame.result c.in-Err-frame.fault is (λ e. (c.frame.ensures.left e).0) working.2.working in
+    λ r views processed. rw (seen) (wanted_or_some _ _ _ _ _ _ c.in-Err-frame.fault ne (((c.in-Err-frame.ensures.stopped ne).1 r views processed).1)
+    (λ e. c.in-Err-frame.ensures.memory e r views processed))

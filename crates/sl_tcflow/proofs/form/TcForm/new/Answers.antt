@@ -1,5 +1,6 @@
 use Rattle.std.proofs.Common.{sym, ◌∙◌, arith, ap}
 use Rattle.sl_tcflow.specs.Canonical.{IsFormat}
+use Rattle.sl_tcflow.specs.ReceptionParameters.{ReceptionParameters}
 use Rattle.sl_tcflow.specs.Recording.{tc_lists}
 use Rattle.sl_tcflow.proofs.CanonicalLemmas.{normal_form_delivers}
 use Rattle.sl_tcflow.proofs.FormLeftLemmas.{all_left}
@@ -18,5 +19,6 @@ returns-clause-delivers c =
       most = omega (arith, c.max-max.ensures.value, c.max-max.ensures.most);
     } in
     λ w.
-    ap (tc_lists format c.args.spacecraft w c.args.vr) (returns-clause-all c)
-    ∙ normal_form_delivers format c.args.spacecraft w c.args.vr lists is c.requires.spacecraft c.ranges.vr.fits c.next_place-place.ensures.deliverable
+    let r : ReceptionParameters = record { window = w; vr = c.args.vr } in
+    ap (tc_lists format c.args.spacecraft r) (returns-clause-all c)
+    ∙ normal_form_delivers format c.args.spacecraft r lists is c.requires.spacecraft c.ranges.vr.fits c.next_place-place.ensures.deliverable

@@ -7,51 +7,51 @@ pub returns-in-Err-clause-stopped : goal.returns-in-Err-clause-stopped
 returns-in-Err-clause-stopped g c =
     λ ne. (
       refl,
-      λ w vr views r.
-          let farms = subst (λ l. HaveStepped w vr l views) (sym (ap (λ s. s.farms) c.self.view_is)) r.farms in
-          let series = subst (λ l. AreIncomplete w vr l views) (sym (ap (λ s. s.incomplete) c.self.view_is)) r.series in (
-            record { failed = refl; farms = c.step-verdict.ensures.farms w vr views farms },
-            c.in-Err.ensures.stopped w vr views series (c.step-verdict.ensures.verdict w vr views farms),
+      λ r views processed.
+          let farms = subst (λ l. HaveStepped r l views) (sym (ap (λ s. s.farms) c.self.view_is)) processed.farms in
+          let series = subst (λ l. AreIncomplete r l views) (sym (ap (λ s. s.incomplete) c.self.view_is)) processed.series in (
+            record { failed = refl; farms = c.step-verdict.ensures.farms r views farms },
+            c.in-Err.ensures.stopped r views series (c.step-verdict.ensures.verdict r views farms),
           ),
     )
 
 pub returns-clause-processed : goal.returns-clause-processed
 returns-clause-processed g c =
-    λ w vr views r.
-    let farms = subst (λ l. HaveStepped w vr l views) (sym (ap (λ s. s.farms) c.self.view_is)) r.farms in
-    let series = subst (λ l. AreIncomplete w vr l views) (sym (ap (λ s. s.incomplete) c.self.view_is)) r.series in
+    λ r views processed.
+    let farms = subst (λ l. HaveStepped r l views) (sym (ap (λ s. s.farms) c.self.view_is)) processed.farms in
+    let series = subst (λ l. AreIncomplete r l views) (sym (ap (λ s. s.incomplete) c.self.view_is)) processed.series in
     record {
       working = refl;
-      farms = c.step-verdict.ensures.farms w vr views farms;
-      series = c.in-Ok.ensures.series w vr views series (c.step-verdict.ensures.verdict w vr views farms);
+      farms = c.step-verdict.ensures.farms r views farms;
+      series = c.in-Ok.ensures.series r views series (c.step-verdict.ensures.verdict r views farms);
     }
 
 pub returns-in-Err-clause-memory : goal.returns-in-Err-clause-memory
-returns-in-Err-clause-memory g c e w vr views r =
-    let farms = subst (λ l. HaveStepped w vr l views) (sym (ap (λ s. s.farms) c.self.view_is)) r.farms in
-    let series = subst (λ l. AreIncomplete w vr l views) (sym (ap (λ s. s.incomplete) c.self.view_is)) r.series in
-    c.in-Err.ensures.memory e w vr views series (c.step-verdict.ensures.verdict w vr views farms)
+returns-in-Err-clause-memory g c e r views processed =
+    let farms = subst (λ l. HaveStepped r l views) (sym (ap (λ s. s.farms) c.self.view_is)) processed.farms in
+    let series = subst (λ l. AreIncomplete r l views) (sym (ap (λ s. s.incomplete) c.self.view_is)) processed.series in
+    c.in-Err.ensures.memory e r views series (c.step-verdict.ensures.verdict r views farms)
 
 pub returns-clause-accepted : goal.returns-clause-accepted
 returns-clause-accepted g c = of_processed _ _ _ _ _ c.self.view_is c.step-verdict.ensures.verdict c.in-Ok.ensures.accepted
 
 pub returns-clause-verdict : goal.returns-clause-verdict
-returns-clause-verdict g c w vr views r = (of_processed _ _ _ _ _ c.self.view_is c.step-verdict.ensures.verdict c.in-Ok.ensures.step w vr views r).verdict
+returns-clause-verdict g c r views processed = (of_processed _ _ _ _ _ c.self.view_is c.step-verdict.ensures.verdict c.in-Ok.ensures.step r views processed).verdict
 
 pub returns-clause-packets : goal.returns-clause-packets
-returns-clause-packets g c w vr views r = (of_processed _ _ _ _ _ c.self.view_is c.step-verdict.ensures.verdict c.in-Ok.ensures.step w vr views r).packets
+returns-clause-packets g c r views processed = (of_processed _ _ _ _ _ c.self.view_is c.step-verdict.ensures.verdict c.in-Ok.ensures.step r views processed).packets
 
 pub returns-clause-idle : goal.returns-clause-idle
-returns-clause-idle g c w vr views r = (of_processed _ _ _ _ _ c.self.view_is c.step-verdict.ensures.verdict c.in-Ok.ensures.step w vr views r).idle
+returns-clause-idle g c r views processed = (of_processed _ _ _ _ _ c.self.view_is c.step-verdict.ensures.verdict c.in-Ok.ensures.step r views processed).idle
 
 pub returns-clause-stray : goal.returns-clause-stray
-returns-clause-stray g c w vr views r = (of_processed _ _ _ _ _ c.self.view_is c.step-verdict.ensures.verdict c.in-Ok.ensures.step w vr views r).stray
+returns-clause-stray g c r views processed = (of_processed _ _ _ _ _ c.self.view_is c.step-verdict.ensures.verdict c.in-Ok.ensures.step r views processed).stray
 
 pub returns-clause-dropped : goal.returns-clause-dropped
-returns-clause-dropped g c w vr views r = (of_processed _ _ _ _ _ c.self.view_is c.step-verdict.ensures.verdict c.in-Ok.ensures.step w vr views r).dropped
+returns-clause-dropped g c r views processed = (of_processed _ _ _ _ _ c.self.view_is c.step-verdict.ensures.verdict c.in-Ok.ensures.step r views processed).dropped
 
 pub returns-clause-long : goal.returns-clause-long
-returns-clause-long g c w vr views r = (of_processed _ _ _ _ _ c.self.view_is c.step-verdict.ensures.verdict c.in-Ok.ensures.step w vr views r).long
+returns-clause-long g c r views processed = (of_processed _ _ _ _ _ c.self.view_is c.step-verdict.ensures.verdict c.in-Ok.ensures.step r views processed).long
 
 pub returns-clause-tail : goal.returns-clause-tail
-returns-clause-tail g c w vr views r = (of_processed _ _ _ _ _ c.self.view_is c.step-verdict.ensures.verdict c.in-Ok.ensures.step w vr views r).tail
+returns-clause-tail g c r views processed = (of_processed _ _ _ _ _ c.self.view_is c.step-verdict.ensures.verdict c.in-Ok.ensures.step r views processed).tail

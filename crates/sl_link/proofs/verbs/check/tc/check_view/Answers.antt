@@ -8,13 +8,13 @@ pub returns-in-Err-clause-fault : goal.returns-in-Err-clause-fault
 returns-in-Err-clause-fault c =
     let is : c.frame.result ≡ Err c.in-Err.fault = search rules in
     let working = c.requires.working in
-    let ne : c.in-Err.fault ≢ Failed = never_failed c.args.receiver.now.has_failed c.frame.result c.in-Err.fault is (λ e. (c.frame.ensures.left e).0) working.3.working in
-    c.of_flow.ensures ∙ ap flow_fault (memory_alone _ _ _ _ _ _ c.in-Err.fault ne (((c.in-Err.ensures.stopped ne).1 working.0 working.1 working.2 working.3).1))
+    let ne : c.in-Err.fault ≢ Failed = never_failed c.args.receiver.now.has_failed c.frame.result c.in-Err.fault is (λ e. (c.frame.ensures.left e).0) working.2.working in
+    c.of_flow.ensures ∙ ap flow_fault (memory_alone _ _ _ _ _ _ c.in-Err.fault ne (((c.in-Err.ensures.stopped ne).1 working.0 working.1 working.2).1))
 
 pub returns-in-Err-clause-memory : goal.returns-in-Err-clause-memory
 returns-in-Err-clause-memory c =
     let is : c.frame.result ≡ Err c.in-Err.fault = search rules in
     let working = c.requires.working in
-    let ne : c.in-Err.fault ≢ Failed = never_failed c.args.receiver.now.has_failed c.frame.result c.in-Err.fault is (λ e. (c.frame.ensures.left e).0) working.3.working in
-    let only : c.in-Err.fault ≡ Memory = memory_alone _ _ _ _ _ _ c.in-Err.fault ne (((c.in-Err.ensures.stopped ne).1 working.0 working.1 working.2 working.3).1) in
-    λ w vr views processed. c.in-Err.ensures.memory only w vr views processed
+    let ne : c.in-Err.fault ≢ Failed = never_failed c.args.receiver.now.has_failed c.frame.result c.in-Err.fault is (λ e. (c.frame.ensures.left e).0) working.2.working in
+    let only : c.in-Err.fault ≡ Memory = memory_alone _ _ _ _ _ _ c.in-Err.fault ne (((c.in-Err.ensures.stopped ne).1 working.0 working.1 working.2).1) in
+    λ r views processed. c.in-Err.ensures.memory only r views processed

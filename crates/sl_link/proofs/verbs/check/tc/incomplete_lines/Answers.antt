@@ -24,13 +24,13 @@ returns-in_err-make_room-clause-fault g c =
     c.loop-channel.lines c.loop-channel.number c.loop-channel.channel _ within c.loop-channel.invariant.0 c.in_err-make_room.ensures.fault)
 
 pub returns-clause-lines : goal.returns-clause-lines
-returns-clause-lines g c = λ w vr views processed.
+returns-clause-lines g c = λ r views processed.
     let last : c.loop-channel.channel ≡ channel_count = omega (arith, c.loop-channel-test.false, c.loop-channel.auto.channel-end) in
     (all_listed g.W.Write.contents c.args.receiver.now c.args.offset c.args.writer.now c.args.lines.now c.loop-channel.writer c.loop-channel.lines
-    c.loop-channel.number c.loop-channel.channel last c.loop-channel.invariant.0 w vr views processed).0
+    c.loop-channel.number c.loop-channel.channel last c.loop-channel.invariant.0 r views processed).0
 
 pub returns-clause-number : goal.returns-clause-number
-returns-clause-number g c = λ w vr views processed.
+returns-clause-number g c = λ r views processed.
     let last : c.loop-channel.channel ≡ channel_count = omega (arith, c.loop-channel-test.false, c.loop-channel.auto.channel-end) in
     (all_listed g.W.Write.contents c.args.receiver.now c.args.offset c.args.writer.now c.args.lines.now c.loop-channel.writer c.loop-channel.lines
-    c.loop-channel.number c.loop-channel.channel last c.loop-channel.invariant.0 w vr views processed).1
+    c.loop-channel.number c.loop-channel.channel last c.loop-channel.invariant.0 r views processed).1

@@ -12,7 +12,7 @@ returns-clause-processed g c =
 pub returns-in-Err-clause-lines : goal.returns-in-Err-clause-lines
 returns-in-Err-clause-lines g c =
     let skipped : as_read c.args.managed.now c.args.frame.now ≡ Err c.in-Err.field-0 = search rules in
-    rw (skipped) (λ w vr views processed. AddsText-nil g.W.Write.contents c.args.writer.now c.args.lines.now)
+    rw (skipped) (λ r views processed. AddsText-nil g.W.Write.contents c.args.writer.now c.args.lines.now)
 
 pub returns-in_err-met-clause-fault : goal.returns-in_err-met-clause-fault
 returns-in_err-met-clause-fault g c =

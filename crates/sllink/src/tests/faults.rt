@@ -1,6 +1,6 @@
 //! Streams that fail, and limits, in every engine: which fault it is, and what is written by then.
 use super::engines::{ALL, Kind, Link, VERBS, Verb};
-use super::faulty::{FailsAfter, Full, InPieces};
+use super::faulty::{FailsAfter, FullAfter, InPieces, Interrupted};
 use super::normalise::{BEGUN, ENDED, FIRST, LONG, octets};
 use sl_link::{Counted, LinkFault};
 use std::alloc::Global;
@@ -76,17 +76,39 @@ fn each_write_may_fail(rt: HostRuntime) -> Result<(), Fail> {
     Ok(())
 }
 
-// A writer that takes nothing has failed.
+// A writer that takes nothing has failed, at its first write or after it took two octets.
 #[test]
 fn a_full_device_is_a_fault(rt: HostRuntime) -> Result<(), Fail> {
     let alloc = rt.alloc();
     for (link, recording) in &recordings(alloc, 0)? {
         for verb in VERBS {
-            let mut reader = Counted::new(recording.as_slice());
-            let mut writer = Counted::new(Full);
+            let whole = link.answer(alloc, verb, recording.as_slice(), ALL)?.output;
+            for room in [0, 2] {
+                let mut reader = Counted::new(recording.as_slice());
+                let mut writer = Counted::new(FullAfter::new(alloc, room));
+                let fault = link.run(alloc, verb, &mut reader, &mut writer).err();
+                assert_eq!(rt; fault, Some(LinkFault::Write), "{verb:?}");
+                assert_eq!(rt; writer.faults(), 1);
+                let taken = writer.into_inner().taken;
+                assert_eq!(rt; Some(taken.as_slice()), whole.get(..room));
+            }
+        }
+    }
+    Ok(())
+}
+
+// It isn't tried again, though it would go well.
+#[test]
+fn an_interrupted_read_is_a_fault(rt: HostRuntime) -> Result<(), Fail> {
+    let alloc = rt.alloc();
+    for (link, _) in &recordings(alloc, 0)? {
+        for verb in VERBS {
+            let mut reader = Counted::new(Interrupted::new());
+            let mut writer = Counted::new(Vec::new(alloc));
             let fault = link.run(alloc, verb, &mut reader, &mut writer).err();
-            assert_eq!(rt; fault, Some(LinkFault::Write), "{verb:?}");
-            assert_eq!(rt; writer.faults(), 1);
+            assert_eq!(rt; fault, Some(LinkFault::Read), "{verb:?}");
+            assert_eq!(rt; (reader.faults(), writer.faults()), (1, 0));
+            assert!(rt; writer.into_inner().is_empty());
         }
     }
     Ok(())

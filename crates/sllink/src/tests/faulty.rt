@@ -1,4 +1,5 @@
 //! Readers and writers with faults.
+use std::alloc::Global;
 use std::io::{Error, ErrorKind, Read, Result, Write};
 
 /// Can't be read.
@@ -25,13 +26,32 @@ impl Write for Unwritable {
     }
 }
 
-/// Takes no octets.
+/// Takes one octet at a time, so many in all, and then none.
 #[derive(Drop)]
-pub(super) struct Full;
+pub(super) struct FullAfter {
+    pub(super) taken: Vec<u8>,
+    room: usize,
+}
 
-impl Write for Full {
-    fn write(&mut self, _octets: &[u8]) -> Result<usize> {
-        Ok(0)
+impl FullAfter {
+    pub(super) fn new(alloc: Global, room: usize) -> FullAfter {
+        FullAfter {
+            taken: Vec::new(alloc),
+            room,
+        }
+    }
+}
+
+impl Write for FullAfter {
+    fn write(&mut self, octets: &[u8]) -> Result<usize> {
+        match octets.first() {
+            Some(octet) if self.room > 0 => {
+                self.room -= 1;
+                self.taken.push(*octet)?;
+                Ok(1)
+            }
+            _ => Ok(0),
+        }
     }
 
     fn flush(&mut self) -> Result<()> {
@@ -53,7 +73,7 @@ impl Write for Unflushed {
     }
 }
 
-/// Is interrupted at its first write, and takes all octets from then on.
+/// Is interrupted at its first read, or its first write; then there is nothing to be read, and all octets are taken.
 #[derive(Drop)]
 pub(super) struct Interrupted {
     was_interrupted: bool,
@@ -64,6 +84,16 @@ impl Interrupted {
         Interrupted {
             was_interrupted: false,
         }
+    }
+}
+
+impl Read for Interrupted {
+    fn read(&mut self, _octets: &mut [u8]) -> Result<usize> {
+        if self.was_interrupted {
+            return Ok(0);
+        }
+        self.was_interrupted = true;
+        Err(Error::from(ErrorKind::Interrupted))
     }
 }
 

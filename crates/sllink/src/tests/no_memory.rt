@@ -1,10 +1,9 @@
 //! Recordings for which no memory is wanted: packets that lie whole in their frame or unit are listed from there, and
 //! the normal form of no packets is empty.
 use super::engines::{Kind, Link, Verb};
-use arrayvec::ArrayVec;
+use super::page::Page;
 use sl_link::{Counted, LinkFault};
 use std::alloc::Global;
-use std::io::{Error, ErrorKind, Result as IoResult, Write};
 use std::test::Fail;
 
 // A packet of ten octets, and an idle packet.
@@ -34,25 +33,6 @@ const REFUSED: [u8; 28] = [
     0,
 ];
 
-// A writer that takes no memory.
-#[derive(Drop)]
-struct Page {
-    octets: ArrayVec<u8, 128>,
-}
-
-impl Write for Page {
-    fn write(&mut self, octets: &[u8]) -> IoResult<usize> {
-        match self.octets.try_extend_from_slice(octets) {
-            Ok(()) => Ok(octets.len()),
-            Err(_) => Err(Error::from(ErrorKind::StorageFull)),
-        }
-    }
-
-    fn flush(&mut self) -> IoResult<()> {
-        Ok(())
-    }
-}
-
 // Whether an engine writes this.
 fn writes(
     alloc: Global,
@@ -62,12 +42,9 @@ fn writes(
     wanted: &[u8],
 ) -> Result<bool, LinkFault> {
     let mut reader = Counted::new(recording);
-    let mut writer = Counted::new(Page {
-        octets: ArrayVec::new(),
-    });
+    let mut writer = Counted::new(Page::new());
     link.run(alloc, verb, &mut reader, &mut writer)?;
-    let page = writer.into_inner();
-    Ok(page.octets.as_slice() == wanted)
+    Ok(writer.into_inner().octets() == wanted)
 }
 
 #[test]

@@ -1,5 +1,5 @@
-use super::faulty::{FailsAfter, InPieces};
-use sl_link::{Counted, LinkFault, Managed, ManagedFault, normalise_tm};
+use super::faulty::InPieces;
+use sl_link::{Counted, Managed, ManagedFault, normalise_tm};
 use std::alloc::Global;
 use std::test::Fail;
 

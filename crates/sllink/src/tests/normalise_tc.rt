@@ -1,7 +1,7 @@
-use super::faulty::{FailsAfter, InPieces};
+use super::faulty::InPieces;
 use super::normalise::octets;
 use super::outcome::Outcome;
-use sl_link::{Counted, LinkFault, Managed, ManagedFault, normalise_tc};
+use sl_link::{Counted, Managed, ManagedFault, normalise_tc};
 use std::alloc::{AllocError, Global};
 use std::test::Fail;
 

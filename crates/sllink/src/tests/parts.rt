@@ -1,6 +1,6 @@
 use super::faulty::{Unflushed, Unreadable, Unwritable};
 use sl_link::{Counted, LinkFault, Managed, ManagedFault};
-use std::io::{Read, Write};
+use std::io::{ErrorKind, Read, Write};
 use std::test::Fail;
 
 #[test]
@@ -73,5 +73,25 @@ fn faults_of_streams_are_counted(rt: HostRuntime) -> Result<(), Fail> {
     assert_eq!(rt; writer.faults(), 0);
     assert_eq!(rt; writer.write(&[1, 2])?, 0);
     assert_eq!(rt; writer.faults(), 1);
+    Ok(())
+}
+
+#[test]
+fn calls_are_passed_on_and_answers_back(rt: HostRuntime) -> Result<(), Fail> {
+    let alloc = rt.alloc();
+    let mut reader = Counted::new([1, 2, 3].as_slice());
+    let mut buffer = [0; 2];
+    assert_eq!(rt; reader.read(&mut buffer)?, 2);
+    assert_eq!(rt; buffer, [1, 2]);
+    assert_eq!(rt; reader.into_inner(), [3].as_slice());
+    let mut writer = Counted::new(Vec::new(alloc));
+    assert_eq!(rt; writer.write(&[1, 2, 3])?, 3);
+    assert_eq!(rt; writer.into_inner().as_slice(), [1, 2, 3].as_slice());
+    let fault = Counted::new(Unreadable).read(&mut buffer).err();
+    assert_eq!(rt; fault.map(|it| it.kind()), Some(ErrorKind::ConnectionReset));
+    let fault = Counted::new(Unwritable).write(&buffer).err();
+    assert_eq!(rt; fault.map(|it| it.kind()), Some(ErrorKind::StorageFull));
+    let fault = Counted::new(Unflushed).flush().err();
+    assert_eq!(rt; fault.map(|it| it.kind()), Some(ErrorKind::BrokenPipe));
     Ok(())
 }

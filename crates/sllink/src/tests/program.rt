@@ -1,4 +1,4 @@
-use super::faulty::{Interrupted, Unflushed, Unreadable, Unwritable};
+use super::faulty::{FullAfter, Interrupted, Unflushed, Unreadable, Unwritable};
 use super::normalise::{FIRST, TEN, TEN_FILLED, octets};
 use super::outcome::{Outcome, text, words};
 use sl_link::{Counted, run};
@@ -177,6 +177,19 @@ fn faults_of_writing_are_named(rt: HostRuntime) -> Result<(), Fail> {
         let outcome = Outcome::with(alloc, line, recording, &mut writer)?;
         assert!(rt; outcome.says(3, "sllink: write\n"), "{line}");
     }
+    Ok(())
+}
+
+// It has the octets that it took, and the program says that writing failed.
+#[test]
+fn a_full_device_has_the_beginning(rt: HostRuntime) -> Result<(), Fail> {
+    let alloc = rt.alloc();
+    let recording = octets(alloc, &[FIRST, TEN_FILLED])?;
+    let mut writer = Counted::new(FullAfter::new(alloc, 2));
+    let outcome = Outcome::with(alloc, NORMALISE, recording.as_slice(), &mut writer)?;
+    assert!(rt; outcome.says(3, "sllink: write\n"), "{outcome:?}");
+    assert_eq!(rt; writer.faults(), 1);
+    assert_eq!(rt; writer.into_inner().taken.as_slice(), &[0x00, 0x10][..]);
     Ok(())
 }
 

@@ -1,0 +1,88 @@
+//! Memory that is refused: whichever growth it is, what was written is the beginning of the text, none of a normal form.
+//! `rt try --test --fail-alloc N` refuses the Nth.
+use super::engines::{Kind, Link, Verb};
+use super::page::Page;
+use sl_link::{Counted, LinkFault};
+use std::test::Fail;
+
+// A packet of 23 octets, and one of ten in two frames, between which is an idle one.
+const TM: [u8; 96] = [
+    0x00, 0x10, 0x00, 0x00, 0x18, 0x00, 0x00, 0x02, 0xC0, 0x05, 0x00, 0x10, 0x11, 0x11, 0x11, 0x11,
+    0x11, 0x11, 0x11, 0x11, 0x11, 0x11, 0x11, 0x11, 0x11, 0x11, 0x11, 0x11, 0x11, 0x00, 0x03, 0xC0,
+    0x00, 0x10, 0x01, 0x01, 0x1F, 0xFE, 0x55, 0x55, 0x55, 0x55, 0x55, 0x55, 0x55, 0x55, 0x55, 0x55,
+    0x55, 0x55, 0x55, 0x55, 0x55, 0x55, 0x55, 0x55, 0x55, 0x55, 0x55, 0x55, 0x55, 0x55, 0x55, 0x55,
+    0x00, 0x10, 0x02, 0x02, 0x18, 0x07, 0x00, 0x00, 0x03, 0x01, 0x02, 0x03, 0x04, 0x00, 0x01, 0xC0,
+    0x00, 0x00, 0x03, 0xAA, 0xBB, 0xCC, 0xDD, 0x07, 0xFF, 0xC0, 0x00, 0x00, 0x02, 0x00, 0x00, 0x00,
+];
+
+const TM_FORM: [u8; 64] = [
+    0x00, 0x10, 0x00, 0x00, 0x18, 0x00, 0x00, 0x02, 0xC0, 0x05, 0x00, 0x10, 0x11, 0x11, 0x11, 0x11,
+    0x11, 0x11, 0x11, 0x11, 0x11, 0x11, 0x11, 0x11, 0x11, 0x11, 0x11, 0x11, 0x11, 0x00, 0x03, 0xC0,
+    0x00, 0x10, 0x01, 0x01, 0x18, 0x07, 0x00, 0x00, 0x03, 0x01, 0x02, 0x03, 0x04, 0x00, 0x01, 0xC0,
+    0x00, 0x00, 0x03, 0xAA, 0xBB, 0xCC, 0xDD, 0x07, 0xFF, 0xC0, 0x00, 0x00, 0x02, 0x00, 0x00, 0x00,
+];
+
+const TM_SHOWN: &[u8] = b"0 frame vc 0 mc 0 vcc 0 first 0\n\
+    32 frame vc 0 mc 1 vcc 1 idle\n\
+    64 frame vc 0 mc 2 vcc 2 first 7\n";
+
+const TM_CHECKED: &[u8] = b"frames 3 skipped 0 packets 3 idle 1 anomalies 0\n";
+
+const TM_PACKETS: &[u8] = b"vc 0 apid 2 type 0 secondary 0 flags 3 count 5 octets 23 \
+    0002c00500101111111111111111111111111111111111\n\
+    vc 0 apid 3 type 0 secondary 0 flags 3 count 0 octets 10 0003c000000301020304\n\
+    vc 0 apid 1 type 0 secondary 0 flags 3 count 0 octets 10 0001c0000003aabbccdd\n";
+
+// A packet of ten octets in three segments.
+const TC: [u8; 28] = [
+    0x20, 0x01, 0x00, 0x0A, 0x00, 0x40, 0x10, 0x01, 0xC0, 0x00, 0x00, 0x20, 0x01, 0x00, 0x07, 0x00,
+    0x00, 0x03, 0xAA, 0x20, 0x01, 0x00, 0x08, 0x00, 0x80, 0xBB, 0xCC, 0xDD,
+];
+
+const TC_FORM: [u8; 16] = [
+    0x00, 0x01, 0x00, 0x0F, 0x00, 0xC0, 0x10, 0x01, 0xC0, 0x00, 0x00, 0x03, 0xAA, 0xBB, 0xCC, 0xDD,
+];
+
+const TC_SHOWN: &[u8] = b"0 frame vc 0 bd segment first map 0 octets 5 accept clcw 01000200\n\
+    11 frame vc 0 bd segment middle map 0 octets 2 accept clcw 01000400\n\
+    19 frame vc 0 bd segment last map 0 octets 3 accept clcw 01000600\n";
+
+const TC_CHECKED: &[u8] = b"frames 3 skipped 0 packets 1 idle 0 anomalies 0\n";
+
+const TC_PACKETS: &[u8] = b"vc 0 map 0 apid 1 type 1 secondary 0 flags 3 count 0 octets 10 \
+    1001c0000003aabbccdd\n";
+
+const CASES: [(Kind, u16, &[u8], Verb, &[u8]); 8] = [
+    (Kind::Tm, 32, &TM, Verb::Show, TM_SHOWN),
+    (Kind::Tm, 32, &TM, Verb::Check, TM_CHECKED),
+    (Kind::Tm, 32, &TM, Verb::Packets, TM_PACKETS),
+    (Kind::Tm, 32, &TM, Verb::Normalise, &TM_FORM),
+    (Kind::Tc, 16, &TC, Verb::Show, TC_SHOWN),
+    (Kind::Tc, 16, &TC, Verb::Check, TC_CHECKED),
+    (Kind::Tc, 16, &TC, Verb::Packets, TC_PACKETS),
+    (Kind::Tc, 16, &TC, Verb::Normalise, &TC_FORM),
+];
+
+// No other fault comes, and `show` takes no memory.
+#[test]
+fn each_growth_may_be_refused(rt: HostRuntime) -> Result<(), Fail> {
+    let alloc = rt.alloc();
+    for (kind, length, recording, verb, whole) in CASES {
+        let link = Link::new(kind, length, false, 0, 100)?;
+        let mut reader = Counted::new(recording);
+        let mut writer = Counted::new(Page::new());
+        let outcome = link.run(alloc, verb, &mut reader, &mut writer);
+        let faults = (reader.faults(), writer.faults());
+        let page = writer.into_inner();
+        match outcome {
+            Ok(_) => assert_eq!(rt; page.octets(), whole),
+            Err(fault) => {
+                assert_eq!(rt; (fault, faults), (LinkFault::Memory, (0, 0)));
+                assert!(rt; verb != Verb::Show);
+                assert!(rt; whole.starts_with(page.octets()));
+                assert!(rt; verb != Verb::Normalise || page.octets().is_empty());
+            }
+        }
+    }
+    Ok(())
+}

@@ -3,17 +3,17 @@
 # What may come next: a verb, a kind, an option that isn't there yet. A number is nothing that can be completed.
 _sllink() {
   local verbs="show check packets normalise" kinds="tm tc"
-  local options="--scid --tm-length --tc-length --tm-fecf --tc-fecf --window --vr --limit --help"
+  local options="--scid --tm-length --tc-length --tm-fecf --tc-fecf --window --vr --vr-of --plain --limit --help"
   local current=${COMP_WORDS[COMP_CWORD]} words="" kind="" option i
   COMPREPLY=()
   # the value of an option, as a word of its own or after the equals sign, at which bash divides words
   case ${COMP_WORDS[COMP_CWORD-1]} in
-    = | --scid | --tm-length | --tc-length | --window | --vr | --limit) return ;;
+    = | --scid | --tm-length | --tc-length | --window | --vr | --vr-of | --plain | --limit) return ;;
   esac
   case $current in =) return ;; esac
   if [ "$COMP_CWORD" -eq 1 ]; then
     words="$verbs help"
-    case $current in -*) words="--help" ;; esac
+    case $current in -*) words="--help --version" ;; esac
   elif [ "${COMP_WORDS[1]}" = help ]; then
     [ "$COMP_CWORD" -gt 2 ] || words="$verbs help"
   else

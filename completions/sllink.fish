@@ -12,6 +12,7 @@ complete -c sllink -n __fish_use_subcommand -a normalise -d 'Write the normal fo
 complete -c sllink -n __fish_use_subcommand -a help -d 'Print help, also of a verb'
 complete -c sllink -n "__fish_seen_subcommand_from help; and not __fish_seen_subcommand_from $verbs" -a "$verbs"
 complete -c sllink -s h -l help -d 'Print help'
+complete -c sllink -n __fish_use_subcommand -s V -l version -d 'Print the version'
 complete -c sllink -n $no_kind -a tm -d 'TM transfer frames, the way down'
 complete -c sllink -n $no_kind -a tc -d 'TC transfer frames, the way up'
 complete -c sllink -n "$in_verb" -x -l scid -d 'Spacecraft identifier, 0 to 1023'
@@ -21,4 +22,6 @@ complete -c sllink -n "$in_verb" -l tm-fecf -d 'TM frames have a frame error con
 complete -c sllink -n "$in_verb" -l tc-fecf -d 'TC frames have a frame error control field'
 complete -c sllink -n "$in_verb" -x -l window -d 'Width of the FARM-1 sliding window, even, 2 to 254, else 10'
 complete -c sllink -n "$in_verb" -x -l vr -d 'V(R) of each FARM-1 at the start, 0 to 255, else 0'
+complete -c sllink -n "$in_verb" -x -l vr-of -d 'V(R) of the FARM-1 of these virtual channels at the start, as 5:57'
+complete -c sllink -n "$in_verb" -x -l plain -d 'Virtual channels of TC frames without segment headers, as 5,6'
 complete -c sllink -n "$in_verb" -x -l limit -d 'Most octets that are read, else 1073741824'

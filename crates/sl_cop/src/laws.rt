@@ -3,6 +3,7 @@ ghost use Rattle.sl_cop.specs.Farm.{EachHasStep, HasStepOnce};
 ghost use Rattle.sl_cop.specs.Farm.{EachHasRun, HasRunOnce, RunsGoOn, RunsEndInAStep, RunsAreSteps};
 ghost use Rattle.sl_cop.specs.Farm.{CopiesAreAcceptedOnce, LockoutRefuses, OnlyUnlockEndsLockout, LockoutLastsUntilUnlock, VrHasACause};
 ghost use Rattle.sl_cop.specs.Reordered.{AcceptedInOrder, VrCountsAccepted, InWindowAreNear, WindowKeepsOpen, ExpectedIsAccepted};
+ghost use Rattle.sl_cop.specs.Starts.{ChangedAreStarts, ListsOnce, NamedAreStarts, NamedAreTaken, OneIsChanged, OthersAreKept};
 
 /// The table of FARM-1 has one case for each state and event: one verdict and one state after it.
 pub fn events_have_one_step()
@@ -52,4 +53,24 @@ pub fn copies_are_accepted_in_order()
     ensures near { InWindowAreNear }
     ensures open { WindowKeepsOpen }
     ensures expected { ExpectedIsAccepted }
+{}
+
+/// A virtual channel that is given an initial V(R) has it, every other keeps its own, and there is one of 0 to 255 for
+/// each of the 64, as before.
+pub fn one_start_is_changed()
+    ensures changed { OneIsChanged }
+    ensures starts { ChangedAreStarts }
+{}
+
+/// Of the items that a text lists each virtual channel has the initial V(R) that is named for it, every other channel
+/// keeps its own, and there is one of 0 to 255 for each of the 64.
+pub fn named_starts_are_taken()
+    ensures named { NamedAreTaken }
+    ensures others { OthersAreKept }
+    ensures starts { NamedAreStarts }
+{}
+
+/// A text lists virtual channels and initial V(R) in one way.
+pub fn texts_list_starts_once()
+    ensures { ListsOnce }
 {}

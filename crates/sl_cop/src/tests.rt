@@ -1,5 +1,7 @@
 //! The edges of the window, and runs with their words. The values follow from the table of FARM-1 and from
 //! the bits of the word.
+mod starts;
+
 use crate::{Farm, FarmEvent, Verdict, Window};
 use std::test::Fail;
 

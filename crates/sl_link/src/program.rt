@@ -2,8 +2,10 @@
 ghost use Rattle.std.specs.Prelude.{◌≡◌, ◌≢◌, ◌≤◌, ◌⊎◌, map, string_bytes, OnOk, IfOk, IfErr};
 ghost use Rattle.std.specs.Io.KnownBytes.{Keeps};
 ghost use Rattle.clap.specs.Words.{kind_of};
-ghost use Rattle.sl_link.specs.Program.CommandLine.{AreRefused, AskForHelp};
+ghost use Rattle.sl_link.specs.Program.Answer.{EndsAsHelp, WithAnswer, WithText};
+ghost use Rattle.sl_link.specs.Program.CommandLine.{AreRefused};
 ghost use Rattle.sl_link.specs.Link.Counted.{stream_of, faults_of, HasFailed};
+ghost use Rattle.sl_link.specs.Io.Streams.{StopsWriting, WritesText};
 ghost use Rattle.sl_link.specs.Program.Run.{AsksForRefusedParameter, HasMetAnomalies, HasStopped, HasSucceeded, HasWritten, IsStoppedBy, WithAsked};
 ghost use Rattle.sl_link.specs.Program.Status.{status};
 
@@ -18,8 +20,8 @@ use crate::normalise::{normalise_tc, normalise_tm};
 use crate::verbs::{check_tc, check_tm, packets_tc, packets_tm, show_tc, show_tm};
 use clap::Error;
 use clap::error::ErrorKind;
-use command_line::{Engine, Request, parse};
-use std::alloc::Global;
+use command_line::{Asked, Engine, parse};
+use std::alloc::{AllocError, Global};
 use std::io::{Read, Write};
 
 /// The exit status where nothing is wrong.
@@ -34,6 +36,22 @@ const REFUSED: u8 = 2;
 /// The exit status after a fault.
 const FAULT: u8 = 3;
 
+// What `--version` writes.
+const VERSION_LINE: &str = "sllink 1.0.0\n";
+
+// What all help ends with.
+const HELP_END: &str = "
+The recording is read from the standard input: transfer frames end to end, nothing else.
+What the verb asks for goes to the standard output, faults to the standard error.
+Numbers are decimal.
+
+Exit status:
+  0  all was read and written, and check met no anomaly; or help or the version was written
+  1  all was read and written, and check met anomalies
+  2  the command line or a value is refused; nothing was read or written
+  3  reading or writing failed, the recording is too long, or there was no memory
+";
+
 /// Runs the program over its words, of which the first is its own name, and returns its exit status.
 pub fn run<R: Read, W: Write, E: Write>(
     alloc: Global,
@@ -43,10 +61,10 @@ pub fn run<R: Read, W: Write, E: Write>(
     errors: &mut E,
 ) -> u8
     ensures range { result ≤ 3 }
-    // After success the text that the words ask for is written and no anomaly was met, or they ask for help,
-    // nothing was read and the writer had no fault.
-    ensures succeeded { result ≡ 0 → (AskForHelp (map string_bytes words.now)
-        × (reader.new ≡ reader.old) × (faults_of writer.new ≡ faults_of writer.old))
+    // After success the text that the words ask for is written and no anomaly was met, or they ask for help or
+    // the version, which is written, and nothing was read.
+    ensures succeeded { result ≡ 0 → ((reader.new ≡ reader.old) × WithAnswer (map string_bytes words.now)
+        (WritesText W.contents writer.old writer.new))
         ⊎ WithAsked (map string_bytes words.now) (HasSucceeded R.remaining W.contents
         reader.old reader.new writer.old writer.new) }
     // A check that met anomalies has written all of its listing.
@@ -58,43 +76,44 @@ pub fn run<R: Read, W: Write, E: Write>(
         × (AreRefused (map string_bytes words.now) ⊎ WithAsked (map string_bytes words.now)
         AsksForRefusedParameter) }
     // After a fault its cause is there, with what the words ask for; or nothing was read, and nothing
-    // written unless they ask for help and the writer failed.
+    // written unless they ask for help or the version and the writer failed.
     ensures stopped { result ≡ 3 → ((reader.new ≡ reader.old) × ((writer.new ≡ writer.old)
-        ⊎ (AskForHelp (map string_bytes words.now) × HasFailed writer.old writer.new)))
+        ⊎ WithAnswer (map string_bytes words.now)
+        (λ text. StopsWriting W.contents writer.old writer.new text LinkFault.Write)))
         ⊎ WithAsked (map string_bytes words.now)
         (HasStopped R.remaining W.contents reader.old reader.new writer.old writer.new) }
 {
     match parse(alloc, words) {
-        Ok(request) => run_request(alloc, &request, reader, writer, errors),
+        Ok(asked) => run_asked(alloc, &asked, reader, writer, errors),
         Err(refusal) => report_refusal(alloc, &refusal, writer, errors),
     }
 }
 
 // Runs what is asked for, unless a managed parameter is refused.
-fn run_request<R: Read, W: Write, E: Write>(
+fn run_asked<R: Read, W: Write, E: Write>(
     alloc: Global,
-    request: &Request,
+    asked: &Asked,
     reader: &mut Counted<R>,
     writer: &mut Counted<W>,
     errors: &mut E,
 ) -> u8
     ensures range { result ≤ 3 }
     ensures succeeded { result ≡ 0 → HasSucceeded R.remaining W.contents reader.old reader.new
-        writer.old writer.new request.now }
+        writer.old writer.new asked.now }
     ensures anomalies { result ≡ 1 → HasMetAnomalies R.remaining W.contents reader.old reader.new
-        writer.old writer.new request.now }
+        writer.old writer.new asked.now }
     ensures refused { result ≡ 2 → (reader.new ≡ reader.old) × (writer.new ≡ writer.old)
-        × AsksForRefusedParameter request.now }
+        × AsksForRefusedParameter asked.now }
     ensures stopped { result ≡ 3 → HasStopped R.remaining W.contents reader.old reader.new
-        writer.old writer.new request.now }
+        writer.old writer.new asked.now }
 {
-    match request.options.managed() {
+    match asked.managed() {
         Ok(managed) => {
-            let outcome = run_and_flush(alloc, request, &managed, reader, writer);
+            let outcome = run_and_flush(alloc, asked, &managed, reader, writer);
             report(&outcome, errors)
         }
-        Err(fault) => {
-            let _ = writeln!(errors, "sllink: managed: {fault}");
+        Err(refused) => {
+            let _ = writeln!(errors, "sllink: managed: {refused}");
             REFUSED
         }
     }
@@ -103,17 +122,17 @@ fn run_request<R: Read, W: Write, E: Write>(
 // Runs the engine that is asked for, and flushes what it has written.
 fn run_and_flush<R: Read, W: Write>(
     alloc: Global,
-    request: &Request,
+    asked: &Asked,
     managed: &Managed,
     reader: &mut Counted<R>,
     writer: &mut Counted<W>,
 ) -> Result<Totals, LinkFault>
     ensures written { IfOk result (HasWritten R.remaining W.contents reader.old reader.new
-        writer.old writer.new request.now managed.now) }
+        writer.old writer.new asked.now managed.now) }
     ensures stopped { IfErr result (IsStoppedBy R.remaining W.contents reader.old reader.new
-        writer.old writer.new request.now managed.now) }
+        writer.old writer.new asked.now managed.now) }
 {
-    let totals = run_engine(alloc, request, managed, reader, writer)?;
+    let totals = run_engine(alloc, asked, managed, reader, writer)?;
     flush(writer)?;
     Ok(totals)
 }
@@ -121,17 +140,17 @@ fn run_and_flush<R: Read, W: Write>(
 // Runs the engine that is asked for.
 fn run_engine<R: Read, W: Write>(
     alloc: Global,
-    request: &Request,
+    asked: &Asked,
     managed: &Managed,
     reader: &mut Counted<R>,
     writer: &mut Counted<W>,
 ) -> Result<Totals, LinkFault>
     ensures written { IfOk result (HasWritten R.remaining W.contents reader.old reader.new
-        writer.old writer.new request.now managed.now) }
+        writer.old writer.new asked.now managed.now) }
     ensures stopped { IfErr result (IsStoppedBy R.remaining W.contents reader.old reader.new
-        writer.old writer.new request.now managed.now) }
+        writer.old writer.new asked.now managed.now) }
 {
-    match request.engine {
+    match asked.request.engine {
         Engine::ShowTm => show_tm(managed, reader, writer),
         Engine::ShowTc => show_tc(managed, reader, writer),
         Engine::CheckTm => check_tm(alloc, managed, reader, writer),
@@ -177,7 +196,7 @@ fn status_of(outcome: &Result<Totals, LinkFault>) -> u8
     }
 }
 
-// Prints help, or why the command line is refused.
+// Prints help, the version, or why the command line is refused.
 fn report_refusal<W: Write, E: Write>(
     alloc: Global,
     refusal: &Error,
@@ -186,19 +205,21 @@ fn report_refusal<W: Write, E: Write>(
 ) -> u8
     ensures range { result ≤ 3 }
     ensures no_anomaly { result ≢ 1 }
-    ensures helped { result ≡ 0 → (kind_of refusal.now ≡ ErrorKind.DisplayHelp)
-        × (faults_of writer.new ≡ faults_of writer.old) }
+    ensures answered { result ≡ 0 → WithText (kind_of refusal.now)
+        (WritesText W.contents writer.old writer.new) }
     ensures refused { result ≡ 2 → (writer.new ≡ writer.old)
         × (kind_of refusal.now ≢ ErrorKind.DisplayHelp)
+        × (kind_of refusal.now ≢ ErrorKind.DisplayVersion)
         × (kind_of refusal.now ≢ ErrorKind.OutOfMemory) }
-    ensures stopped { result ≡ 3 → (writer.new ≡ writer.old)
-        ⊎ ((kind_of refusal.now ≡ ErrorKind.DisplayHelp) × HasFailed writer.old writer.new) }
+    ensures stopped { result ≡ 3 → (writer.new ≡ writer.old) ⊎ WithText (kind_of refusal.now)
+        (λ text. StopsWriting W.contents writer.old writer.new text LinkFault.Write) }
 {
     match refusal.kind() {
-        ErrorKind::DisplayHelp => match write_help(alloc, refusal, writer) {
-            Ok(()) => SUCCESS,
-            Err(fault) => report(&Err(fault), errors),
+        ErrorKind::DisplayHelp => match help_text(alloc, refusal) {
+            Ok(text) => answer(text.as_str(), writer, errors),
+            Err(_) => report(&Err(LinkFault::Memory), errors),
         },
+        ErrorKind::DisplayVersion => answer(VERSION_LINE, writer, errors),
         ErrorKind::OutOfMemory => report(&Err(LinkFault::Memory), errors),
         _ => {
             let _ = write!(errors, "{refusal}");
@@ -207,20 +228,33 @@ fn report_refusal<W: Write, E: Write>(
     }
 }
 
-// Writes help and flushes it.
-fn write_help<W: Write>(
-    alloc: Global,
-    help: &Error,
-    writer: &mut Counted<W>,
-) -> Result<(), LinkFault>
-    ensures ok { OnOk result (faults_of writer.new ≡ faults_of writer.old) }
-    ensures fault { IfErr result (λ fault. (writer.new ≡ writer.old)
-        ⊎ HasFailed writer.old writer.new) }
+// The kit's help, with what is said at the end of all help.
+fn help_text(alloc: Global, help: &Error) -> Result<String, AllocError>
+    ensures { IfOk result (λ text. EndsAsHelp (string_bytes text)) }
 {
-    let text = match format!(in alloc; "{help}") {
-        Ok(text) => text,
-        Err(_) => return Err(LinkFault::Memory),
-    };
+    let mut text = format!(in alloc; "{help}")?;
+    text.push_str(HELP_END)?;
+    Ok(text)
+}
+
+// Writes a text that was asked for and returns the exit status.
+fn answer<W: Write, E: Write>(text: &str, writer: &mut Counted<W>, errors: &mut E) -> u8
+    ensures status { (result ≡ 0) ⊎ (result ≡ 3) }
+    ensures written { result ≡ 0 → WritesText W.contents writer.old writer.new text.now }
+    ensures stopped { result ≡ 3
+        → StopsWriting W.contents writer.old writer.new text.now LinkFault.Write }
+{
+    match write_and_flush(text, writer) {
+        Ok(()) => SUCCESS,
+        Err(fault) => report(&Err(fault), errors),
+    }
+}
+
+// Writes a text and flushes it.
+fn write_and_flush<W: Write>(text: &str, writer: &mut Counted<W>) -> Result<(), LinkFault>
+    ensures written { OnOk result (WritesText W.contents writer.old writer.new text.now) }
+    ensures stopped { IfErr result (StopsWriting W.contents writer.old writer.new text.now) }
+{
     write_text(writer, text.as_bytes())?;
     flush(writer)
 }

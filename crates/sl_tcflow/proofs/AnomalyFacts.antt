@@ -1,5 +1,5 @@
 -- Segments and frames of known octets, and what is amiss with them, computed from the definitions.
-use Rattle.std.proofs.Common.{◌≡◌, ℕ, true, false, List, [], ◌∷◌, ◌++◌, None, Some, refl}
+use Rattle.std.proofs.Common.{◌≡◌, ℕ, true, false, List, [], ◌∷◌, ◌++◌, replicate, None, Some, refl}
 use Rattle.std.specs.Prelude.{is_some}
 use Rattle.sl_tcframe.specs.TcDelimited.{tc_frames_of}
 use Rattle.sl_tcframe.specs.TcFrame.{TcFormat, TcView, Ad, Bd}
@@ -117,7 +117,7 @@ is_empty = record {
 
 -- a window of width 10, and V(R) 0 at the start
 abbrev from_0 : ReceptionParameters
-from_0 = record { window = 10; vr = 0 }
+from_0 = record { window = 10; starts = replicate 64 0; plain = [] }
 
 abbrev early : List ℕ → TcView
 early unit = record { vc = 0; content = Ad 4 unit }

@@ -5,11 +5,10 @@ use Rattle.std.proofs.lemmas.Bool.{ltb-true}
 use Rattle.std.proofs.lemmas.Bool.Decides.{eqb_tells}
 use Rattle.std.specs.Prelude.{is_none, option_map}
 use Rattle.sl_tcframe.specs.TcFrame.{TcView}
-use Rattle.sl_tcflow.specs.AcceptedUnit.{unit_by}
-use Rattle.sl_tcflow.specs.Anomaly.{begins, continues, octets_held, of_unit, of_accepted, StrayIsTold, WhatIsToldIsStray, DroppedIsTold, WhatIsToldIsDropped, LongIsTold, WhatIsToldIsLong}
+use Rattle.sl_tcflow.specs.Anomaly.{begins, continues, octets_held, of_segment, of_accepted, StrayIsTold, WhatIsToldIsStray, DroppedIsTold, WhatIsToldIsDropped, LongIsTold, WhatIsToldIsLong}
 use Rattle.sl_tcflow.specs.Incomplete.{IsIncomplete, incomplete_of, passes}
 use Rattle.sl_tcflow.specs.Placed.{at}
-use Rattle.sl_tcflow.specs.Receiving.{AreIncomplete, channel_at, map_of, verdict_on}
+use Rattle.sl_tcflow.specs.Receiving.{AreIncomplete, channel_at, map_by, segment_by}
 use Rattle.sl_tcflow.specs.Reception.{segments_of}
 use Rattle.sl_tcflow.specs.ReceptionParameters.{ReceptionParameters}
 use Rattle.sl_tcflow.specs.Series.{flags_of, header_at, octets_at}
@@ -20,27 +19,27 @@ use Rattle.sl_tcflow.proofs.UnitLemmas.{map_fits}
 
 -- without one there is nothing to tell
 pub told_none : {X : Type 0} (none : X) (told : List (List ℕ) → List ℕ → X) (r : ReceptionParameters) (views : List TcView) (next : TcView)
-    → unit_by (verdict_on r views next) next.content ≡ [] → of_accepted none told r views next ≡ none
-told_none none told r views next e = ap (of_unit none (told (segments_of r next.vc (map_of next.content) views))) e
+    → segment_by r views next ≡ [] → of_accepted none told r views next ≡ none
+told_none none told r views next e = ap (of_segment none (told (segments_of r next.vc (map_by r next) views))) e
 
 -- of one it is told from what is incomplete at its index
 module _ (r : ReceptionParameters) (old : List (Option (List ℕ))) (views : List TcView) (next : TcView) (unit : List ℕ) where
   told_more : {X : Type 0} (none : X) (told : List (List ℕ) → List ℕ → X) (from : Option (List ℕ) → List ℕ → X)
       → ((list : List (List ℕ)) (segment : List ℕ) → told list segment ≡ from (incomplete_of list) segment)
-      → AreIncomplete r old views → next.vc < 64 → unit_by (verdict_on r views next) next.content ≡ unit ∷ []
-      → map_of next.content ≡ (header_at unit).map
+      → AreIncomplete r old views → next.vc < 64 → segment_by r views next ≡ unit ∷ []
+      → map_by r next ≡ (header_at unit).map
       → of_accepted none told r views next ≡ from (at old (channel_at next.vc (header_at unit).map)) unit
   told_more none told from same are inside unit_is mid_is =
       let mid = (header_at unit).map in
-      ap (of_unit none (told (segments_of r next.vc (map_of next.content) views))) unit_is
+      ap (of_segment none (told (segments_of r next.vc (map_by r next) views))) unit_is
       ∙ ap (λ n. told (segments_of r next.vc n views) unit) mid_is
       ∙ same (segments_of r next.vc mid views) unit
       ∙ ap (λ held. from held unit) (sym (are next.vc mid inside (map_fits unit)))
 
   pub told_at : {X : Type 0} (none : X) (told : List (List ℕ) → List ℕ → X) (from : Option (List ℕ) → List ℕ → X)
       → ((list : List (List ℕ)) (segment : List ℕ) → told list segment ≡ from (incomplete_of list) segment)
-      → (vc : ℕ) (answer : X) → AreIncomplete r old views → next.vc < 64 → unit_by (verdict_on r views next) next.content ≡ unit ∷ []
-      → map_of next.content ≡ (header_at unit).map → vc ≡ next.vc → answer ≡ from (at old (channel_at vc (header_at unit).map)) unit
+      → (vc : ℕ) (answer : X) → AreIncomplete r old views → next.vc < 64 → segment_by r views next ≡ unit ∷ []
+      → map_by r next ≡ (header_at unit).map → vc ≡ next.vc → answer ≡ from (at old (channel_at vc (header_at unit).map)) unit
       → answer ≡ of_accepted none told r views next
   told_at none told from same vc answer are inside unit_is mid_is same_vc is =
       is ∙ ap (λ n. from (at old (channel_at n (header_at unit).map)) unit) same_vc ∙ sym (told_more none told from same are inside unit_is mid_is)

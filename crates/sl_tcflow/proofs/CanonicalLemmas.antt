@@ -1,8 +1,8 @@
 -- The normal form of packets is a recording that delivers these packets and no others.
-use Rattle.std.proofs.Common.{◌≡◌, ℕ, ◌+◌, ◌*◌, ◌/◌, ◌%◌, ◌<◌, ◌≤◌, not, true, List, [], length, drop, map, flat_map, refl, sym, ◌∙◌, ap, arith, append-nil, length-drop, length-take-le}
+use Rattle.std.proofs.Common.{◌≡◌, ℕ, ◌+◌, ◌*◌, ◌/◌, ◌%◌, ◌<◌, ◌≤◌, not, true, List, [], length, drop, take, map, refl, sym, ◌∙◌, ap, arith, append-nil, length-drop}
 use Rattle.std.specs.List.{AllByRecursion, slice_index_or}
-use Rattle.std.proofs.lemmas.List.{get_or-drop, get_or-take}
 use Rattle.std.proofs.lemmas.List.FromFn.{fill_by_all}
+use Rattle.sl_cop.specs.Starts.{AreStarts}
 use Rattle.sl_packet.specs.Delivered.{IsDeliverable, channel_count}
 use Rattle.sl_packet.specs.Packet.{IsPacket, is_idle_packet}
 use Rattle.sl_packet.specs.Packets.{without_idle}
@@ -11,28 +11,28 @@ use Rattle.sl_tcframe.specs.TcFrame.{TcFormat}
 use Rattle.sl_tcframe.proofs.DelimitedLemmas.{delimited_once}
 use Rattle.sl_tcflow.specs.AcceptedUnit.{accepted_units, views_of}
 use Rattle.sl_tcflow.specs.Canonical.{IsFormat, AreDeliverable, NormalFormIsFrames, NoFrameIsLong, NormalFormDelivers}
+use Rattle.sl_tcflow.specs.FitsTc.{FitsTc}
 use Rattle.sl_tcflow.specs.Reception.{packets_on, segments_of}
-use Rattle.sl_tcflow.specs.ReceptionParameters.{ReceptionParameters, start_of}
+use Rattle.sl_tcflow.specs.ReceptionParameters.{ReceptionParameters, is_plain, start_of}
 use Rattle.sl_tcflow.specs.Recording.{map_channels, packets_in_channel, recorded_views}
-use Rattle.sl_tcflow.specs.Series.{segments_on}
-use Rattle.sl_tcflow.specs.TcNormalForm.{segments_of_packet, tc_frames_form, tc_normal_form_of}
-use Rattle.sl_tcflow.proofs.EachLemmas.{each-at, each-weaker, kept_all}
-use Rattle.sl_tcflow.proofs.FormLemmas.{all_accepted, channel_back, form_cut, form_within, parts_on, lists_on, some_room}
-use Rattle.sl_tcflow.proofs.PartLemmas.{packets_back}
-use Rattle.sl_tcflow.proofs.SegmentLemmas.{parts_of_map, unit_made}
+use Rattle.sl_tcflow.specs.Series.{segment_in, segments_on}
+use Rattle.sl_tcflow.specs.TcNormalForm.{tc_frames_form, tc_normal_form_of, units_of_maps}
+use Rattle.sl_tcflow.proofs.EachLemmas.{each-at, each-dropped, each-taken, each-weaker, kept_all}
+use Rattle.sl_tcflow.proofs.FormLemmas.{all_accepted, channel_back, form_cut, form_within, lists_on, some_room}
+use Rattle.sl_tcflow.proofs.PlainLemmas.{back_on, list_on}
 
 -- ---- frames end to end
 
 pub normal_form_is_frames : NormalFormIsFrames
-normal_form_is_frames format spacecraft vr lists is known are =
+normal_form_is_frames format spacecraft starts plain lists is known are fits =
     record {
-      end_to_end = sym (append-nil (tc_normal_form_of format spacecraft vr lists));
-      each = form_cut format spacecraft vr is known lists;
+      end_to_end = sym (append-nil (tc_normal_form_of format spacecraft starts plain lists));
+      each = form_cut format spacecraft is known starts plain lists are fits;
       no_more = refl;
     }
 
 pub no_frame_is_long : NoFrameIsLong
-no_frame_is_long format spacecraft vr lists is known are = form_within format spacecraft vr is known lists
+no_frame_is_long format spacecraft starts plain lists is known are fits = form_within format spacecraft is known starts plain lists are fits
 
 -- ---- the packets of a channel
 
@@ -45,34 +45,34 @@ none_idle packets each =
     kept_all (λ packet. not (is_idle_packet packet)) packets
     (each-weaker IsDeliverable (λ packet. not (is_idle_packet packet) ≡ true) (λ packet is. ap not is.1) packets each)
 
-module _ (format : TcFormat) (spacecraft : ℕ) (r : ReceptionParameters) (lists : List (List (List ℕ))) (is : IsFormat format) (known : spacecraft ≤ 1023) (small : r.vr < 256) (are : AreDeliverable lists) where
-  abbrev form : List ℕ
-  form = tc_normal_form_of format spacecraft r.vr lists
+some_lists : (n m : ℕ) (lists : List (List (List ℕ))) → AllByRecursion (AllByRecursion IsDeliverable) lists → AllByRecursion (AllByRecursion IsPacket) (take n (drop m lists))
+some_lists n m lists each =
+    each-taken (AllByRecursion IsPacket) n (drop m lists)
+    (each-dropped (AllByRecursion IsPacket) m lists (each-weaker (AllByRecursion IsDeliverable) (AllByRecursion IsPacket) are_packets lists each))
 
-  views_are : recorded_views format spacecraft form ≡ views_of format spacecraft (tc_frames_form format spacecraft r.vr lists)
+module _ (format : TcFormat) (spacecraft : ℕ) (r : ReceptionParameters) (lists : List (List (List ℕ))) (is : IsFormat format) (known : spacecraft ≤ 1023) (octets : AreStarts r.starts) (are : AreDeliverable lists) (fits : FitsTc format r.plain lists) where
+  abbrev form : List ℕ
+  form = tc_normal_form_of format spacecraft r.starts r.plain lists
+
+  views_are : recorded_views format spacecraft form ≡ views_of format spacecraft (tc_frames_form format spacecraft r.starts r.plain lists)
   views_are =
       ap (views_of format spacecraft)
-      (delimited_once format form (tc_frames_form format spacecraft r.vr lists) [] (normal_form_is_frames format spacecraft r.vr lists is known are)).0
+      (delimited_once format form (tc_frames_form format spacecraft r.starts r.plain lists) []
+      (normal_form_is_frames format spacecraft r.starts r.plain lists is known are fits)).0
 
   packets_at : (vc mid : ℕ) → vc < 64 → mid < 64
       → packets_on (segments_of r vc mid (recorded_views format spacecraft form)) ≡ slice_index_or lists (64 * vc + mid) []
   packets_at vc mid vc_fits mid_fits =
       let room = room_of format in
-      let own = lists_on lists vc in
-      let parts = parts_on format lists vc in
+      let units = units_of_maps (is_plain r vc) room 0 (lists_on lists vc) in
       let all : length lists ≡ 4096 = are.all in
       let left : 64 ≤ length (drop (64 * vc) lists) = omega (arith, length-drop (64 * vc) lists, all) in
-      let size : length own ≡ 64 = length-take-le 64 (drop (64 * vc) lists) left in
-      let here : slice_index_or own mid [] ≡ slice_index_or lists (64 * vc + mid) [] =
-      get_or-take 64 (drop (64 * vc) lists) mid [] mid_fits ∙ get_or-drop (64 * vc) lists mid [] in
-      let packets = slice_index_or lists (64 * vc + mid) [] in
-      let each : AllByRecursion IsPacket packets = are_packets packets (each-at (AllByRecursion IsDeliverable) lists (64 * vc + mid) [] tt are.each) in
+      let small : start_of r vc < 256 = octets.each vc 0 (omega (arith, octets.count, vc_fits)) in
       ap (λ views. packets_on (segments_of r vc mid views)) views_are
-      ∙ ap (λ channel. packets_on (segments_on mid (accepted_units r.window (start_of r vc) channel))) (channel_back format spacecraft r.vr is known lists vc vc_fits)
-      ∙ ap (λ units. packets_on (segments_on mid units)) (all_accepted r.window vc r.vr r.vr parts small (omega arith))
-      ∙ ap packets_on (parts_of_map room 0 mid mid own (omega arith) (omega (arith, size)) (omega (arith, size)))
-      ∙ ap (λ ps. packets_on (map unit_made (flat_map (segments_of_packet room mid) ps))) here
-      ∙ packets_back room mid 0 packets (some_room format spacecraft r.vr is known) mid_fits each
+      ∙ ap (λ channel. packets_on (segments_on mid (map (segment_in (is_plain r vc)) (accepted_units r.window (start_of r vc) channel)))) (channel_back format spacecraft is known r.starts r.plain lists are fits vc vc_fits)
+      ∙ ap (λ accepted. packets_on (segments_on mid (map (segment_in (is_plain r vc)) accepted))) (all_accepted r.window vc (start_of r vc) (start_of r vc) units small (omega (arith, small)))
+      ∙ back_on format lists vc room (some_room format spacecraft is known) left (is_plain r vc) mid mid_fits (fits vc vc_fits) (some_lists 64 (64 * vc) lists are.each)
+      ∙ list_on lists vc mid mid_fits
 
   list_back : (channel : ℕ) → channel < channel_count
       → slice_index_or lists channel [] ≡ without_idle (packets_in_channel r (recorded_views format spacecraft form) channel)
@@ -90,6 +90,6 @@ unfolding map_channels
 map_over_channels f lists all each = sym (fill_by_all f lists channel_count [] all each)
 
 pub normal_form_delivers : NormalFormDelivers
-normal_form_delivers format spacecraft r lists is known small are =
-    map_over_channels (λ channel. without_idle (packets_in_channel r (recorded_views format spacecraft (tc_normal_form_of format spacecraft r.vr lists)) channel)) lists are.all
-    (list_back format spacecraft r lists is known small are)
+normal_form_delivers format spacecraft r lists is known octets are fits =
+    map_over_channels (λ channel. without_idle (packets_in_channel r (recorded_views format spacecraft (tc_normal_form_of format spacecraft r.starts r.plain lists)) channel)) lists are.all
+    (list_back format spacecraft r lists is known octets are fits)

@@ -1,5 +1,5 @@
 -- What holds of each element of a list, and lists that are filtered by it.
-use Rattle.std.proofs.Common.{◌≡◌, ◌≢◌, ℕ, zero, suc, ◌+◌, ◌<◌, ◌≤◌, ◌==◌, Bool, true, false, cond, List, [], ◌∷◌, ◌++◌, length, map, flat_map, filter, inl, inr, refl, sym, ◌∙◌, ap, arith, append-nil, eq-eqb, ne_eqb}
+use Rattle.std.proofs.Common.{◌≡◌, ◌≢◌, ℕ, zero, suc, ◌+◌, ◌<◌, ◌≤◌, ◌==◌, Bool, true, false, cond, List, [], ◌∷◌, ◌++◌, length, take, drop, map, flat_map, filter, inl, inr, refl, sym, ◌∙◌, ap, arith, append-nil, eq-eqb, ne_eqb}
 use Rattle.std.specs.List.{AllByRecursion, range_with_len, slice_index_or}
 use Rattle.std.proofs.lemmas.Bool.Decides.{eqb_tells}
 use Rattle.std.proofs.lemmas.List.Elements.{filter-append}
@@ -11,6 +11,10 @@ each-append P (x ∷ xs) ys left right = (left.0, each-append P xs ys left.1 rig
 pub each-weaker : {X : Type 0} (P Q : X → Type 0) → ((x : X) → P x → Q x) → (xs : List X) → AllByRecursion P xs → AllByRecursion Q xs
 each-weaker P Q weaker [] each = tt
 each-weaker P Q weaker (x ∷ xs) each = (weaker x each.0, each-weaker P Q weaker xs each.1)
+
+pub each-both : {X : Type 0} (P Q R : X → Type 0) → ((x : X) → P x → Q x → R x) → (xs : List X) → AllByRecursion P xs → AllByRecursion Q xs → AllByRecursion R xs
+each-both P Q R both [] each other = tt
+each-both P Q R both (x ∷ xs) each other = (both x each.0 other.0, each-both P Q R both xs each.1 other.1)
 
 pub each-map : {X Y : Type 0} (P : Y → Type 0) (f : X → Y) (xs : List X) → AllByRecursion (λ x. P (f x)) xs → AllByRecursion P (map f xs)
 each-map P f [] each = tt
@@ -40,7 +44,25 @@ each-within P [] i d inside each = absurd (omega arith)
 each-within P (x ∷ xs) zero d inside each = each.0
 each-within P (x ∷ xs) (suc i) d inside each = each-within P xs i d (omega arith) each.1
 
+pub each-dropped : {X : Type 0} (P : X → Type 0) (n : ℕ) (xs : List X) → AllByRecursion P xs → AllByRecursion P (drop n xs)
+each-dropped P zero xs each = each
+each-dropped P (suc n) [] each = tt
+each-dropped P (suc n) (x ∷ xs) each = each-dropped P n xs each.1
+
+pub each-taken : {X : Type 0} (P : X → Type 0) (n : ℕ) (xs : List X) → AllByRecursion P xs → AllByRecursion P (take n xs)
+each-taken P zero xs each = tt
+each-taken P (suc n) [] each = tt
+each-taken P (suc n) (x ∷ xs) each = (each.0, each-taken P n xs each.1)
+
 -- ---- filters
+
+pub each-filtered : {X : Type 0} (P : X → Type 0) (test : X → Bool) (xs : List X) → AllByRecursion P xs → AllByRecursion P (filter test xs)
+each-filtered P test [] each = tt
+each-filtered P test (x ∷ xs) each = cond_each P (test x) x (filter test xs) each.0 (each-filtered P test xs each.1)
+  where
+    cond_each : {X : Type 0} (P : X → Type 0) (b : Bool) (x : X) (xs : List X) → P x → AllByRecursion P xs → AllByRecursion P (cond b (x ∷ xs) xs)
+    cond_each P true x xs is each = (is, each)
+    cond_each P false x xs is each = each
 
 pub kept_all : {X : Type 0} (test : X → Bool) (xs : List X) → AllByRecursion (λ x. test x ≡ true) xs → filter test xs ≡ xs
 kept_all test [] each = refl
@@ -79,3 +101,14 @@ module _ {X : Type 0} (key : X → ℕ) (f : ℕ → List X) (each : (i : ℕ) �
         | inr (test, other) ↦
             ap (λ l. l ++ filter has_key later) (key_none from other) ∙ own_part (from + 1) n (omega (arith, other, above)) (omega arith)
       ]
+
+-- lists that are as long as is said of what they are made of
+pub short_all : {X : Type 0} (f : X → List ℕ) (size : X → ℕ) → ((x : X) → length (f x) ≡ size x) → (n : ℕ) (xs : List X)
+    → AllByRecursion (λ x. size x ≤ n) xs → AllByRecursion (λ l. length l ≤ n) (map f xs)
+short_all f size same n [] each = tt
+short_all f size same n (x ∷ xs) each = (let e = same x in let low = each.0 in omega (arith, e, low), short_all f size same n xs each.1)
+
+pub all_short : {X : Type 0} (f : X → List ℕ) (size : X → ℕ) → ((x : X) → length (f x) ≡ size x) → (n : ℕ) (xs : List X)
+    → AllByRecursion (λ l. length l ≤ n) (map f xs) → AllByRecursion (λ x. size x ≤ n) xs
+all_short f size same n [] each = tt
+all_short f size same n (x ∷ xs) each = (let e = same x in let low = each.0 in omega (arith, e, low), all_short f size same n xs each.1)

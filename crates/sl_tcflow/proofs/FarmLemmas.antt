@@ -1,16 +1,17 @@
 -- The FARMs of the virtual channels, where one of them takes the next frame.
-use Rattle.std.proofs.Common.{◌≡◌, ℕ, ◌<◌, ◌==◌, List, [], ◌∷◌, ◌++◌, length, replicate, set, Option, None, false, inl, inr, refl, sym, ◌∙◌, ap, ap₂, subst, arith, append-nil}
+use Rattle.std.proofs.Common.{◌≡◌, ℕ, ◌<◌, ◌+◌, ◌==◌, Bool, List, [], ◌∷◌, ◌++◌, length, set, Option, None, false, inl, inr, refl, sym, ◌∙◌, ap, ap₂, subst, arith, append-nil}
 use Rattle.std.specs.List.{slice_index_or}
 use Rattle.std.proofs.lemmas.Bool.Decides.{eqb_tells}
-use Rattle.std.proofs.lemmas.List.{get_or_default, get_or-set_same, get_or-set_other, get_or-replicate, length-set, length-replicate}
+use Rattle.std.proofs.lemmas.List.{get_or_default, get_or-set_same, get_or-set_other, length-set}
 use Rattle.std.proofs.lemmas.List.Elements.{filter-append}
 use Rattle.sl_cop.specs.declared.verdict.Verdict.{Verdict}
 use Rattle.sl_cop.specs.Farm.{FarmView, farm_start, farm_step}
 use Rattle.sl_cop.proofs.ReorderedLemmas.{state_more}
 use Rattle.sl_tcframe.specs.TcFrame.{TcView}
+use Rattle.sl_tcframe.specs.VcSet.{has_vc}
 use Rattle.sl_tcflow.specs.AcceptedUnit.{channel_of, event_of, farm_after}
 use Rattle.sl_tcflow.specs.Receiving.{AreIncomplete, ForIncomplete, ForProcessed, HasProcessed, HaveStepped, ReceiverState, channel_at, farm_at_start, farm_of, verdict_on}
-use Rattle.sl_tcflow.specs.ReceptionParameters.{ReceptionParameters, start_of}
+use Rattle.sl_tcflow.specs.ReceptionParameters.{ReceptionParameters, is_plain, start_of}
 
 -- ---- one of the channels
 
@@ -49,16 +50,30 @@ farm_next r views next =
 
 -- ---- all of them
 
--- each of them at the start
-abbrev pub all_at_start : ReceptionParameters → List FarmView
-all_at_start r = replicate 64 (record { window = r.window; state = farm_start r.vr })
+-- the first ones are at their start
+pub record AreSet (w : ℕ) (starts : List ℕ) (n : ℕ) (farms : List FarmView) : Type 0 where
+  pub count : length farms ≡ 64
+  pub each : (vc : ℕ) (d : FarmView) → vc < n → slice_index_or farms vc d ≡ record { window = w; state = farm_start (slice_index_or starts vc 0) }
 
-pub stepped_none : (r : ReceptionParameters) → HaveStepped r (all_at_start r) []
-stepped_none r =
+pub none_set : (w : ℕ) (starts : List ℕ) (farms : List FarmView) → length farms ≡ 64 → AreSet w starts 0 farms
+none_set w starts farms count = record { count = count; each = λ vc d below. absurd (omega (arith, below)) }
+
+pub one_more_set : (w : ℕ) (starts : List ℕ) (n : ℕ) (farms : List FarmView) (farm : FarmView) → n < 64
+    → farm ≡ record { window = w; state = farm_start (slice_index_or starts n 0) } → AreSet w starts n farms → AreSet w starts (n + 1) (set farms n farm)
+one_more_set w starts n farms farm inside is s =
     record {
-      count = length-replicate 64 (farm_at_start r 0);
-      each = λ vc below. get_or-replicate 64 vc (farm_at_start r vc) (farm_at_start r vc) below;
+      count = length-set farms n farm ∙ s.count;
+      each = λ vc d below.
+          elim (eqb_tells vc n) [
+            | inl (test, same) ↦
+                ap (λ k. slice_index_or (set farms n farm) k d) same ∙ get_or-set_same farms n farm d (omega (arith, s.count, inside)) ∙ is
+                ∙ sym (ap (λ k. record { window = w; state = farm_start (slice_index_or starts k 0) }) same)
+            | inr (test, other) ↦ get_or-set_other farms n vc farm d other ∙ s.each vc d (omega (arith, below, other))
+          ];
     }
+
+pub stepped_none : (r : ReceptionParameters) (farms : List FarmView) → AreSet r.window r.starts 64 farms → HaveStepped r farms []
+stepped_none r farms s = record { count = s.count; each = λ vc below. s.each vc (farm_at_start r vc) below }
 
 same_farm : (a b : FarmView) → a.window ≡ b.window → a.state ≡ b.state → a ≡ b
 same_farm a b window state = ap₂ (λ w s. record { window = w; state = s }) window state
@@ -90,22 +105,28 @@ module _ (r : ReceptionParameters) (farms : List FarmView) (views : List TcView)
             ];
       }
 
-pub processed_none : (r : ReceptionParameters) (farms : List FarmView) (incomplete : List (Option (List ℕ))) → farms ≡ all_at_start r → incomplete ≡ []
-    → HasProcessed r (record { farms = farms; incomplete = incomplete; has_failed = false }) []
-processed_none r farms incomplete all none =
+pub processed_none : (r : ReceptionParameters) (farms : List FarmView) (incomplete : List (Option (List ℕ))) → HaveStepped r farms [] → incomplete ≡ []
+    → HasProcessed r (record { farms = farms; plain = r.plain; incomplete = incomplete; has_failed = false }) []
+processed_none r farms incomplete stepped none =
     record {
       working = refl;
-      farms = subst (λ l. HaveStepped r l []) (sym all) (stepped_none r);
+      plain = refl;
+      farms = stepped;
       series = λ vc mid vc_fits mid_fits. ap (λ l. slice_index_or l (channel_at vc mid) None) none;
     }
 
 -- ---- the next frame
 
+-- whether its virtual channel has no segment headers
+pub plain_is : (r : ReceptionParameters) (inside state : ReceiverState) (vc : ℕ) → inside ≡ state → state.plain ≡ r.plain → has_vc inside.plain vc ≡ is_plain r vc
+plain_is r inside state vc same is = ap (λ (s : ReceiverState). has_vc s.plain vc) same ∙ ap (λ vcs. has_vc vcs vc) is
+
 -- what is known of the frames that left these series, by the verdict on the next one, is known of those that were processed
-pub of_processed : (holds : ReceptionParameters → List TcView → Type 0) (inside state : ReceiverState) (verdict : Verdict) (next : TcView) → inside ≡ state
+pub of_processed : (holds : ReceptionParameters → List TcView → Type 0) (inside state : ReceiverState) (plain : Bool) (verdict : Verdict) (next : TcView) → inside ≡ state
+    → plain ≡ has_vc inside.plain next.vc
     → ((r : ReceptionParameters) (views : List TcView) → HaveStepped r inside.farms views → verdict ≡ verdict_on r views next)
-    → ForIncomplete inside.incomplete verdict next holds → ForProcessed state holds
-of_processed holds inside state verdict next same verdict_is known r views processed =
+    → ForIncomplete plain inside.incomplete verdict next holds → ForProcessed state holds
+of_processed holds inside state plain verdict next same headers verdict_is known r views processed =
     let farms = subst (λ (s : ReceiverState). HaveStepped r s.farms views) (sym same) processed.farms in
     let series = subst (λ (s : ReceiverState). AreIncomplete r s.incomplete views) (sym same) processed.series in
-    known r views series (verdict_is r views farms)
+    known r views (headers ∙ plain_is r inside state next.vc same processed.plain) series (verdict_is r views farms)

@@ -12,6 +12,9 @@ pub mod FormLemmas
 pub mod IncompleteLemmas
 pub mod OneMoreLemmas
 pub mod PartLemmas
+pub mod PlainFacts
+pub mod PlainLemmas
+pub mod PlainRecordingLemmas
 pub mod PushedLemmas
 pub mod ReceptionFacts
 pub mod ReportLemmas
@@ -23,3 +26,4 @@ pub mod SegmentLemmas
 pub mod SeriesLemmas
 pub mod TailLemmas
 pub mod UnitLemmas
+pub mod WholeLemmas

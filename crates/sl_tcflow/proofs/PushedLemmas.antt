@@ -1,56 +1,56 @@
--- The frames of segments, one after another.
-use Rattle.std.proofs.Common.{◌≡◌, ℕ, zero, suc, ◌+◌, ◌-◌, ◌*◌, ◌%◌, ◌<◌, ◌≤◌, min, ◌==◌, Bool, if◌then◌else◌, List, [], ◌∷◌, ◌++◌, length, take, drop, map, inl, inr, refl, sym, subst, ◌∙◌, ap, arith, length-append, append_assoc, append-nil, add-one}
+-- The frames of units, one after another.
+use Rattle.std.proofs.Common.{◌≡◌, ℕ, zero, suc, ◌+◌, ◌-◌, ◌*◌, ◌%◌, ◌<◌, ◌≤◌, min, ◌==◌, Bool, false, if◌then◌else◌, List, [], ◌∷◌, ◌++◌, length, take, drop, map, inl, inr, refl, sym, subst, ◌∙◌, ap, arith, length-append, append_assoc, append-nil, add-one}
 use Rattle.std.specs.List.{concat, range_with_len}
 use Rattle.std.proofs.lemmas.Bool.Decides.{leb_tells, nat_tests}
-use Rattle.std.proofs.lemmas.List.{drop-drop, length-drop}
+use Rattle.std.proofs.lemmas.List.{drop-drop, length-drop, map-append}
 use Rattle.std.proofs.lemmas.List.Folds.{concat-append}
 use Rattle.std.proofs.lemmas.List.FromFn.{map-range_with_len_more}
 use Rattle.std.proofs.Math.Nat.{suc-mul, zero-mul, div-lt_iff_lt-mul, le-div_iff_mul-le}
 use Rattle.sl_fields.specs.SegmentHeader.{SegmentFields}
-use Rattle.sl_tcframe.specs.AdFrame.{ad_frame}
+use Rattle.sl_tcframe.specs.AdFrame.{ad_frame, segment_unit}
 use Rattle.sl_tcframe.specs.TcFrame.{TcFormat}
-use Rattle.sl_tcflow.specs.TcNormalForm.{segment_count, segment_octets_at, flags_at, segments_of_packet, frames_of_segments}
+use Rattle.sl_tcflow.specs.TcNormalForm.{segment_count, segment_octets_at, flags_at, units_of_packet, frames_of_units}
 
 module _ (format : TcFormat) (spacecraft vc : ℕ) where
-  abbrev frames_from : ℕ → List (SegmentFields × List ℕ) → List (List ℕ)
-  frames_from = frames_of_segments format spacecraft vc
+  abbrev frames_from : ℕ → List (List ℕ) → List (List ℕ)
+  frames_from = frames_of_units format spacecraft vc
 
   -- the N(S) counts modulo 256 alone
-  pub frames_from_same : (ns ns' : ℕ) (segments : List (SegmentFields × List ℕ)) → ns % 256 ≡ ns' % 256 → frames_from ns segments ≡ frames_from ns' segments
+  pub frames_from_same : (ns ns' : ℕ) (units : List (List ℕ)) → ns % 256 ≡ ns' % 256 → frames_from ns units ≡ frames_from ns' units
   frames_from_same ns ns' [] same = refl
-  frames_from_same ns ns' (segment ∷ segments) same =
-      let later = frames_from_same (ns + 1) (ns' + 1) segments (omega (arith, same)) in
-      ap (λ n. ad_frame format spacecraft vc n segment.0 segment.1 ∷ frames_from (ns + 1) segments) same
-      ∙ ap (λ l. ad_frame format spacecraft vc (ns' % 256) segment.0 segment.1 ∷ l) later
+  frames_from_same ns ns' (unit ∷ units) same =
+      let later = frames_from_same (ns + 1) (ns' + 1) units (omega (arith, same)) in
+      ap (λ n. ad_frame format spacecraft vc n unit ∷ frames_from (ns + 1) units) same
+      ∙ ap (λ l. ad_frame format spacecraft vc (ns' % 256) unit ∷ l) later
 
-  pub frames_from-append : (ns : ℕ) (segments more : List (SegmentFields × List ℕ)) → frames_from ns (segments ++ more) ≡ frames_from ns segments ++ frames_from (ns + length segments) more
+  pub frames_from-append : (ns : ℕ) (units more : List (List ℕ)) → frames_from ns (units ++ more) ≡ frames_from ns units ++ frames_from (ns + length units) more
   frames_from-append ns [] more = let same : ns ≡ ns + 0 = omega arith in ap (λ n. frames_from n more) same
-  frames_from-append ns (segment ∷ segments) more =
-      let same : ns + 1 + length segments ≡ ns + length (segment ∷ segments) = omega arith in
-      ap (λ l. ad_frame format spacecraft vc (ns % 256) segment.0 segment.1 ∷ l) (frames_from-append (ns + 1) segments more)
-      ∙ ap (λ n. ad_frame format spacecraft vc (ns % 256) segment.0 segment.1 ∷ (frames_from (ns + 1) segments ++ frames_from n more)) same
+  frames_from-append ns (unit ∷ units) more =
+      let same : ns + 1 + length units ≡ ns + length (unit ∷ units) = omega arith in
+      ap (λ l. ad_frame format spacecraft vc (ns % 256) unit ∷ l) (frames_from-append (ns + 1) units more)
+      ∙ ap (λ n. ad_frame format spacecraft vc (ns % 256) unit ∷ (frames_from (ns + 1) units ++ frames_from n more)) same
 
   module _ (base : List ℕ) (ns : ℕ) where
-    -- the frames of these segments were added to a form, the N(S) of the first one `ns`, that of a next one `next`
-    pub record IsPushed (segments : List (SegmentFields × List ℕ)) (next : ℕ) (form : List ℕ) : Type 0 where
-      pub form_is : form ≡ base ++ concat (frames_from ns segments)
-      pub next_is : next ≡ (ns + length segments) % 256
+    -- the frames of these units were added to a form, the N(S) of the first one `ns`, that of a next one `next`
+    pub record IsPushed (units : List (List ℕ)) (next : ℕ) (form : List ℕ) : Type 0 where
+      pub form_is : form ≡ base ++ concat (frames_from ns units)
+      pub next_is : next ≡ (ns + length units) % 256
 
     pub none_pushed : ns < 256 → IsPushed [] ns base
     none_pushed small = record { form_is = sym (append-nil base); next_is = omega arith }
 
-    pub pushed_more : (segments more : List (SegmentFields × List ℕ)) (next next' : ℕ) (form form' : List ℕ) → IsPushed segments next form
+    pub pushed_more : (units more : List (List ℕ)) (next next' : ℕ) (form form' : List ℕ) → IsPushed units next form
         → form' ≡ form ++ concat (frames_from next more) → next' ≡ (next + length more) % 256
-        → IsPushed (segments ++ more) next' form'
-    pushed_more segments more next next' form form' s added up =
-        let before = frames_from ns segments in
-        let number : next % 256 ≡ (ns + length segments) % 256 = omega (arith, s.next_is) in
-        let later = frames_from_same next (ns + length segments) more number in
+        → IsPushed (units ++ more) next' form'
+    pushed_more units more next next' form form' s added up =
+        let before = frames_from ns units in
+        let number : next % 256 ≡ (ns + length units) % 256 = omega (arith, s.next_is) in
+        let later = frames_from_same next (ns + length units) more number in
         record {
           form_is = added ∙ ap (λ l. l ++ concat (frames_from next more)) s.form_is ∙ append_assoc base (concat before) (concat (frames_from next more))
               ∙ ap (λ l. base ++ (concat before ++ concat l)) later
-              ∙ ap (λ l. base ++ l) (sym (concat-append before (frames_from (ns + length segments) more)) ∙ ap concat (sym (frames_from-append ns segments more)));
-          next_is = omega (arith, up, s.next_is, length-append segments more);
+              ∙ ap (λ l. base ++ l) (sym (concat-append before (frames_from (ns + length units) more)) ∙ ap concat (sym (frames_from-append ns units more)));
+          next_is = omega (arith, up, s.next_is, length-append units more);
         }
 
 -- ---- the segments of a packet
@@ -91,12 +91,19 @@ module _ (format : TcFormat) (spacecraft vc mid : ℕ) (base : List ℕ) (ns roo
   abbrev segment_at : ℕ → SegmentFields × List ℕ
   segment_at number = (record { flags = flags_at (segment_count room packet) number; map = mid }, segment_octets_at room packet number)
 
+  abbrev unit_at : SegmentFields × List ℕ → List ℕ
+  unit_at s = segment_unit s.0 s.1
+
+  -- the units of so many segments
+  abbrev units_to : ℕ → List (List ℕ)
+  units_to number = map unit_at (map segment_at (range_with_len 0 number))
+
   -- so many segments of the packet were added, and these octets are left
   pub record IsDivided (left : List ℕ) (next : ℕ) (form : List ℕ) : Type 0 where
     pub number : ℕ
     pub left_is : left ≡ drop (number * room) packet
     pub so_far : number ≤ segment_count room packet
-    pub pushed : IsPushed format spacecraft vc base ns (map segment_at (range_with_len 0 number)) next form
+    pub pushed : IsPushed format spacecraft vc base ns (units_to number) next form
 
   pub none_divided : ns < 256 → IsDivided packet ns base
   none_divided small =
@@ -111,7 +118,7 @@ module _ (format : TcFormat) (spacecraft vc mid : ℕ) (base : List ℕ) (ns roo
   pub divided_next : (left octets later : List ℕ) (first last : Bool) (next next' : ℕ) (form form' : List ℕ) → 0 < room → 0 < length left → next < 256
       → octets ≡ take room left → later ≡ drop room left → first ≡ (length left == length packet) → last ≡ (length later == 0)
       → (s : IsDivided left next form)
-      → form' ≡ form ++ ad_frame format spacecraft vc next (record { flags = if first then (if last then 3 else 1) else (if last then 2 else 0); map = mid }) octets
+      → form' ≡ form ++ ad_frame format spacecraft vc next (segment_unit (record { flags = if first then (if last then 3 else 1) else (if last then 2 else 0); map = mid }) octets)
       → next' ≡ (next + 1) % 256
       → IsDivided later next' form'
   divided_next left octets later first last next next' form form' some there small taken dropped is_first is_last s added up =
@@ -123,31 +130,32 @@ module _ (format : TcFormat) (spacecraft vc mid : ℕ) (base : List ℕ) (ns roo
       let first_is : first ≡ (s.number == 0) = is_first ∙ ap (λ n. n == length packet) size ∙ is_first_one room (length packet) s.number some inside in
       let last_is : last ≡ (s.number + 1 == count) = is_last ∙ ap (λ n. n == 0) (rest ∙ ap (λ n. n - room) size) ∙ is_last_one room packet s.number some more in
       let flags : (if first then (if last then 3 else 1) else (if last then 2 else 0)) ≡ flags_at count s.number = rw (first_is, last_is) (sym (flags_are count s.number more)) in
-      let next_frame = ad_frame format spacecraft vc next (record { flags = if first then (if last then 3 else 1) else (if last then 2 else 0); map = mid }) octets in
-      let same : next_frame ≡ ad_frame format spacecraft vc (next % 256) (segment_at s.number).0 (segment_at s.number).1 = same_frame next (next % 256) _ _ octets _ (omega arith) flags (taken ∙ ap (take room) s.left_is) in
+      let next_frame = ad_frame format spacecraft vc next (segment_unit (record { flags = if first then (if last then 3 else 1) else (if last then 2 else 0); map = mid }) octets) in
+      let same : next_frame ≡ ad_frame format spacecraft vc (next % 256) (unit_at (segment_at s.number)) = same_frame next (next % 256) _ _ octets _ (omega arith) flags (taken ∙ ap (take room) s.left_is) in
       let one = suc-mul s.number room in
       record {
         number = suc s.number;
         left_is = dropped ∙ ap (drop room) s.left_is ∙ drop-drop room (s.number * room) packet ∙ ap (λ n. drop n packet) (omega (arith, one));
         so_far = more;
-        pushed = subst (λ segments. IsPushed format spacecraft vc base ns segments next' form')
-            (sym (map-range_with_len_more segment_at 0 s.number s.number (omega arith)) ∙ ap (λ n. map segment_at (range_with_len 0 n)) (add-one s.number))
-            (pushed_more format spacecraft vc base ns (map segment_at (range_with_len 0 s.number)) (segment_at s.number ∷ []) next next' form form' s.pushed
-            (added ∙ ap (λ l. form ++ l) (same ∙ sym (append-nil (ad_frame format spacecraft vc (next % 256) (segment_at s.number).0 (segment_at s.number).1)))) up);
+        pushed = subst (λ units. IsPushed format spacecraft vc base ns units next' form')
+            (sym (map-append unit_at (map segment_at (range_with_len 0 s.number)) (segment_at s.number ∷ []))
+            ∙ ap (map unit_at) (sym (map-range_with_len_more segment_at 0 s.number s.number (omega arith)) ∙ ap (λ n. map segment_at (range_with_len 0 n)) (add-one s.number)))
+            (pushed_more format spacecraft vc base ns (units_to s.number) (unit_at (segment_at s.number) ∷ []) next next' form form' s.pushed
+            (added ∙ ap (λ l. form ++ l) (same ∙ sym (append-nil (ad_frame format spacecraft vc (next % 256) (unit_at (segment_at s.number)))))) up);
       }
     where
       same_frame : (ns ns' flags flags' : ℕ) (octets octets' : List ℕ) → ns ≡ ns' → flags ≡ flags' → octets ≡ octets'
-          → ad_frame format spacecraft vc ns (record { flags = flags; map = mid }) octets ≡ ad_frame format spacecraft vc ns' (record { flags = flags'; map = mid }) octets'
+          → ad_frame format spacecraft vc ns (segment_unit (record { flags = flags; map = mid }) octets) ≡ ad_frame format spacecraft vc ns' (segment_unit (record { flags = flags'; map = mid }) octets')
       same_frame ns ns' flags flags' octets octets' a b c = rw (a, b, c) refl
 
   -- all of them
   pub all_divided : (left : List ℕ) (next : ℕ) (form : List ℕ) → 0 < room → length left ≡ 0 → IsDivided left next form
-      → IsPushed format spacecraft vc base ns (segments_of_packet room mid packet) next form
+      → IsPushed format spacecraft vc base ns (units_of_packet false room mid packet) next form
   all_divided left next form some none s =
       let size : length left ≡ length packet - s.number * room = ap length s.left_is ∙ length-drop (s.number * room) packet in
       let all : segment_count room packet ≤ s.number = counts_all room packet s.number some (omega (arith, size, none)) in
       let count : s.number ≡ segment_count room packet = omega (arith, s.so_far, all) in
-      subst (λ n. IsPushed format spacecraft vc base ns (map segment_at (range_with_len 0 n)) next form) count s.pushed
+      subst (λ n. IsPushed format spacecraft vc base ns (units_to n) next form) count s.pushed
 
 -- ---- how many octets they have
 

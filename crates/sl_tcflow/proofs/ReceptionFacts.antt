@@ -25,7 +25,7 @@ accepted vr vc recording = accepted_units 10 vr (channel_of vc (read 16 recordin
 
 -- the parameters of reception with that width, and this V(R) at the start
 abbrev from_vr : ℕ → ReceptionParameters
-from_vr vr = record { window = 10; vr = vr }
+from_vr vr = record { window = 10; starts = replicate 64 vr; plain = [] }
 
 -- the packets of a MAP
 abbrev packets : ℕ → ℕ → ℕ → List ℕ → List (List ℕ)
@@ -33,7 +33,7 @@ packets vr vc mid recording = packets_on (segments_of (from_vr vr) vc mid (read 
 
 -- the normal form of packets on the first channels
 abbrev form : ℕ → List (List (List ℕ)) → List ℕ
-form vr lists = tc_normal_form_of (format 16) 1 vr lists
+form vr lists = tc_normal_form_of (format 16) 1 (replicate 64 vr) [] lists
 
 -- ---- one unsegmented unit
 
@@ -210,7 +210,7 @@ both = 0x00 ∷ 0x01 ∷ 0x00 ∷ 0x13 ∷ 0x00 ∷ 0xC0 ∷ small ++ idle
 pub record AreBoth : Type 0 where
   pub delivers : packets_on (segments_of (from_vr 0) 0 0 (read 24 both)) ≡ small ∷ idle ∷ []
   pub not_idle : without_idle (small ∷ idle ∷ []) ≡ small ∷ []
-  pub normal : tc_normal_form_of (format 24) 1 0 ((small ∷ []) ∷ []) ≡ 0x00 ∷ 0x01 ∷ 0x00 ∷ 0x0C ∷ 0x00 ∷ 0xC0 ∷ small
+  pub normal : tc_normal_form_of (format 24) 1 (replicate 64 0) [] ((small ∷ []) ∷ []) ≡ 0x00 ∷ 0x01 ∷ 0x00 ∷ 0x0C ∷ 0x00 ∷ 0xC0 ∷ small
 
 pub are_both : AreBoth
 are_both = record { delivers = refl; not_idle = refl; normal = refl }

@@ -1,6 +1,6 @@
 -- Known frames that arrive out of order, lost and repeated, so that the laws on them aren't empty, and what becomes of
 -- copies that are too far away and of packets between whose segments a frame of type BD comes.
-use Rattle.std.proofs.Common.{◌≡◌, ◌≢◌, ℕ, ◌/◌, ◌%◌, true, false, List, [], ◌∷◌, ◌++◌, get_or, map, refl, ap, arith, rules}
+use Rattle.std.proofs.Common.{◌≡◌, ◌≢◌, ℕ, ◌/◌, ◌%◌, true, false, List, [], ◌∷◌, ◌++◌, get_or, map, replicate, refl, ap, arith, rules}
 use Rattle.std.specs.List.{range_with_len}
 use mathlib.Core.List.{IsPrefix}
 use Rattle.sl_cop.specs.declared.verdict.Verdict.TheVariants.{Accept, Early, Late, Outside, Refused, Command}
@@ -24,7 +24,7 @@ format = record { max = 16; fecf = false }
 
 -- a window of width 10, and V(R) 0 at the start
 abbrev from_0 : ReceptionParameters
-from_0 = record { window = 10; vr = 0 }
+from_0 = record { window = 10; starts = replicate 64 0; plain = [] }
 
 -- the packet of these octets, and its unit
 abbrev packet : ℕ → List ℕ

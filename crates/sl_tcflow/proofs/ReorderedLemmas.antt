@@ -21,10 +21,10 @@ use Rattle.sl_tcframe.specs.TcFrame.{TcFormat, TcView, Content, Ad, Bd, Unlock, 
 use Rattle.sl_tcflow.specs.AcceptedUnit.{accepted_ad_units, ad_unit_of, channel_of, event_of, events_of, farm_after, unit_of}
 use Rattle.sl_tcflow.specs.Receiving.{channel_at}
 use Rattle.sl_tcflow.specs.Reception.{packets_ended, packets_on, segments_of}
-use Rattle.sl_tcflow.specs.ReceptionParameters.{ReceptionParameters, start_of}
+use Rattle.sl_tcflow.specs.ReceptionParameters.{ReceptionParameters, is_plain, start_of}
 use Rattle.sl_tcflow.specs.Recording.{map_channels, packets_in_channel, recorded_views}
-use Rattle.sl_tcflow.specs.ReorderedUnits.{AdUnitsAreAll, AreArrivals, ExpectedUnitIsAccepted, HaveNoBd, IsArrival, PacketsInOrder, ReceiverCountsUnits, RecordedPacketsInOrder, UnitsInOrder, VrCountsUnits, WindowIsNear, WindowNeverLocks, accepted_ad_count, recorded_packets, unit_at}
-use Rattle.sl_tcflow.specs.Series.{header_at, segments_on}
+use Rattle.sl_tcflow.specs.ReorderedUnits.{AdUnitsAreAll, AreArrivals, ExpectedUnitIsAccepted, HaveNoBd, IsArrival, PacketsInOrder, ReceiverCountsUnits, RecordedPacketsInOrder, UnitsInOrder, VrCountsUnits, WindowIsNear, WindowNeverLocks, accepted_ad_count, recorded_packets, unit_at, segments_sent}
+use Rattle.sl_tcflow.specs.Series.{header_at, segment_in, segments_on}
 use Rattle.sl_tcflow.proofs.EachLemmas.{each-append}
 use Rattle.sl_tcflow.proofs.OneMoreLemmas.{packets_next}
 
@@ -215,10 +215,13 @@ packets_in_order r vc mid sent views arrivals reordered none =
     let channel = channel_of vc views in
     let units = accepted_ad_units r.window (start_of r vc) channel in
     let front = units_in_order r.window (start_of r vc) sent channel arrivals reordered in
-    let own : segments_on mid units ≡ segments_of r vc mid views = ap (segments_on mid) (ad_units_are_all r.window (start_of r vc) channel none) in
-    let all : segments_on mid units ++ segments_on mid front.0 ≡ segments_on mid sent =
-    sym (filter-append (λ unit. (header_at unit).map == mid) units front.0) ∙ ap (segments_on mid) front.1 in
-    let later = packets_go_on (segments_on mid units) (segments_on mid front.0) in
+    let segment = segment_in (is_plain r vc) in
+    let own : segments_on mid (map segment units) ≡ segments_of r vc mid views =
+    ap (λ l. segments_on mid (map segment l)) (ad_units_are_all r.window (start_of r vc) channel none) in
+    let all : segments_on mid (map segment units) ++ segments_on mid (map segment front.0) ≡ segments_sent r vc mid sent =
+    sym (filter-append (λ segment. (header_at segment).map == mid) (map segment units) (map segment front.0))
+    ∙ ap (segments_on mid) (sym (map-append segment units front.0) ∙ ap (map segment) front.1) in
+    let later = packets_go_on (segments_on mid (map segment units)) (segments_on mid (map segment front.0)) in
     (later.0, ap (λ l. packets_on l ++ later.0) (sym own) ∙ later.1 ∙ ap packets_on all)
 
 -- ---- recordings

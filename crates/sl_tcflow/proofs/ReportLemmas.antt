@@ -4,11 +4,10 @@ use Rattle.sl_cop.specs.declared.verdict.Verdict.{Verdict}
 use Rattle.sl_cop.specs.declared.verdict.Verdict.TheVariants.{Accept}
 use Rattle.sl_packet.specs.Packets.{only_idle, without_idle}
 use Rattle.sl_tcframe.specs.TcFrame.{TcView}
-use Rattle.sl_tcflow.specs.AcceptedUnit.{unit_by}
 use Rattle.sl_tcflow.specs.Anomaly.{IsReportedOf, dropped_of, long_of, stray_of, tail_of}
 use Rattle.sl_tcflow.specs.NextSegment.{IsReported, dropped_with, long_with, quiet_report, stray_with, tail_after}
 use Rattle.sl_tcflow.specs.Placed.{at}
-use Rattle.sl_tcflow.specs.Receiving.{AreIncomplete, channel_at, map_of, verdict_on}
+use Rattle.sl_tcflow.specs.Receiving.{AreIncomplete, channel_at, map_by, segment_by, verdict_on}
 use Rattle.sl_tcflow.specs.ReceptionParameters.{ReceptionParameters}
 use Rattle.sl_tcflow.specs.Series.{flags_of, header_at, octets_at}
 use Rattle.sl_tcflow.specs.StepReport.{StepReport}
@@ -18,8 +17,8 @@ use Rattle.sl_tcflow.proofs.UnitLemmas.{ended_more, ended_none}
 
 -- of a frame whose unit is accepted
 pub reported_more : (r : ReceptionParameters) (old : List (Option (List ℕ))) (views : List TcView) (next : TcView) (unit : List ℕ) (vc : ℕ) (step : StepReport)
-    → AreIncomplete r old views → next.vc < 64 → unit_by (verdict_on r views next) next.content ≡ unit ∷ []
-    → map_of next.content ≡ (header_at unit).map → vc ≡ next.vc → verdict_on r views next ≡ Accept
+    → AreIncomplete r old views → next.vc < 64 → segment_by r views next ≡ unit ∷ []
+    → map_by r next ≡ (header_at unit).map → vc ≡ next.vc → verdict_on r views next ≡ Accept
     → IsReported (at old (channel_at vc (header_at unit).map)) (flags_of unit) (octets_at unit) step → IsReportedOf r views next step
 reported_more r old views next unit vc step are inside unit_is mid_is same_vc accepted reported =
     let mid = (header_at unit).map in
@@ -36,7 +35,7 @@ reported_more r old views next unit vc step are inside unit_is mid_is same_vc ac
 
 -- and of one without an accepted unit
 pub reported_none : (r : ReceptionParameters) (views : List TcView) (next : TcView) (verdict : Verdict) → verdict ≡ verdict_on r views next
-    → unit_by (verdict_on r views next) next.content ≡ [] → IsReportedOf r views next (record quiet_report { verdict = verdict })
+    → segment_by r views next ≡ [] → IsReportedOf r views next (record quiet_report { verdict = verdict })
 reported_none r views next verdict is none =
     let ended = ended_none r views next none in
     record {

@@ -1,5 +1,5 @@
 -- Segments of packets as the units that they are in frames, and these on their MAPs.
-use Rattle.std.proofs.Common.{◌≡◌, ◌≢◌, ℕ, zero, suc, ◌+◌, ◌*◌, ◌<◌, ◌≤◌, ◌==◌, true, false, List, [], ◌∷◌, ◌++◌, length, drop, map, flat_map, refl, sym, ◌∙◌, ap, arith, append-nil, eq-eqb, ne_eqb}
+use Rattle.std.proofs.Common.{◌≡◌, ◌≢◌, ℕ, zero, suc, ◌+◌, ◌*◌, ◌<◌, ◌≤◌, ◌==◌, true, false, List, [], ◌∷◌, ◌++◌, length, drop, map, flat_map, refl, sym, ◌∙◌, ap, ap₂, arith, append-nil, eq-eqb, ne_eqb}
 use Rattle.std.specs.List.{AllByRecursion, slice_index_or}
 use Rattle.std.proofs.lemmas.Bool.Decides.{nat_tests}
 use Rattle.std.proofs.lemmas.List.{drop_at, take_at, map-append, length-take}
@@ -11,7 +11,7 @@ use Rattle.sl_fields.proofs.Octets.{length-octets_of}
 use Rattle.sl_fields.proofs.Packing.{packed_lt}
 use Rattle.sl_fields.proofs.SegmentHeaderLemmas.{segment_layout}
 use Rattle.sl_tcflow.specs.Series.{header_at, octets_at, segments_on}
-use Rattle.sl_tcflow.specs.TcNormalForm.{segment_count, segment_octets_at, flags_at, segments_of_packet, segments_of_maps}
+use Rattle.sl_tcflow.specs.TcNormalForm.{segment_count, segment_octets_at, flags_at, segments_of_packet, units_of_packet, units_of_maps}
 use Rattle.sl_tcflow.proofs.EachLemmas.{each-append, each-weaker, each-map, each-flat_map, each-map_range, kept_all, kept_none}
 
 -- ---- a segment
@@ -84,6 +84,41 @@ module _ (room mid : ℕ) where
   packets_parts small packets = each-flat_map (IsSegment room (λ m. m ≡ mid)) (segments_of_packet room mid) (packet_parts small) packets
 
 -- ---- those of a virtual channel's MAPs
+
+abbrev pub segments_of_maps : ℕ → ℕ → List (List (List ℕ)) → List (SegmentFields × List ℕ)
+segments_of_maps room mid [] = []
+segments_of_maps room mid (packets ∷ lists) = flat_map (segments_of_packet room mid) packets ++ segments_of_maps room (mid + 1) lists
+
+-- the units of these are the segments,
+pub flat_units : (room mid : ℕ) (packets : List (List ℕ)) → flat_map (units_of_packet false room mid) packets ≡ map unit_made (flat_map (segments_of_packet room mid) packets)
+flat_units room mid [] = refl
+flat_units room mid (packet ∷ packets) =
+    ap (λ l. map unit_made (segments_of_packet room mid packet) ++ l) (flat_units room mid packets)
+    ∙ sym (map-append unit_made (segments_of_packet room mid packet) (flat_map (segments_of_packet room mid) packets))
+
+pub units_are_segments : (room from : ℕ) (lists : List (List (List ℕ))) → units_of_maps false room from lists ≡ map unit_made (segments_of_maps room from lists)
+units_are_segments room from [] = refl
+units_are_segments room from (packets ∷ lists) =
+    ap₂ (λ a b. a ++ b) (flat_units room from packets) (units_are_segments room (from + 1) lists)
+    ∙ sym (map-append unit_made (flat_map (segments_of_packet room from) packets) (segments_of_maps room (from + 1) lists))
+
+-- and the packets of the first MAP where there are no segment headers, and the other MAPs have none
+flat_packets : (room mid : ℕ) (packets : List (List ℕ)) → flat_map (units_of_packet true room mid) packets ≡ packets
+flat_packets room mid [] = refl
+flat_packets room mid (packet ∷ packets) = ap (λ l. packet ∷ l) (flat_packets room mid packets)
+
+no_units : (room from : ℕ) (lists : List (List (List ℕ))) → ((mid : ℕ) → slice_index_or lists mid [] ≡ []) → units_of_maps true room from lists ≡ []
+no_units room from [] none = refl
+no_units room from (packets ∷ lists) none =
+    ap (λ ps. flat_map (units_of_packet true room from) ps ++ units_of_maps true room (from + 1) lists) (none 0)
+    ∙ no_units room (from + 1) lists (λ mid. none (suc mid))
+
+pub units_are_packets : (room from : ℕ) (lists : List (List (List ℕ))) → ((mid : ℕ) → 0 < mid → slice_index_or lists mid [] ≡ [])
+    → units_of_maps true room from lists ≡ slice_index_or lists 0 []
+units_are_packets room from [] none = refl
+units_are_packets room from (packets ∷ lists) none =
+    ap₂ (λ a b. a ++ b) (flat_packets room from packets) (no_units room (from + 1) lists (λ mid. none (suc mid) (omega arith)))
+    ∙ append-nil packets
 
 weaker_on : (room : ℕ) (On On' : ℕ → Type 0) → ((m : ℕ) → On m → On' m) → (segments : List (SegmentFields × List ℕ)) → AllByRecursion (IsSegment room On) segments
     → AllByRecursion (IsSegment room On') segments

@@ -1,7 +1,8 @@
 -- The accepted unit of the next frame among the segments of its virtual channel and MAP.
-use Rattle.std.proofs.Common.{None, ◌⊎◌, ◌≡◌, ◌≢◌, ℕ, ◌<◌, ◌==◌, List, [], ◌∷◌, ◌++◌, Option, inl, inr, refl, sym, ◌∙◌, ap, subst, arith, append-nil, cond, eq-eqb, ne_eqb}
+use Rattle.std.proofs.Common.{None, ◌⊎◌, ◌≡◌, ◌≢◌, ℕ, ◌<◌, ◌==◌, Bool, List, [], ◌∷◌, ◌++◌, Option, map, inl, inr, refl, sym, ◌∙◌, ap, ap₂, subst, arith, append-nil, cond, eq-eqb, ne_eqb}
 use Rattle.std.specs.List.{flat_map}
 use Rattle.std.proofs.lemmas.Bool.Decides.{eqb_tells}
+use Rattle.std.proofs.lemmas.List.{map-append}
 use Rattle.std.proofs.lemmas.List.Elements.{filter-append}
 use Rattle.sl_cop.specs.declared.verdict.Verdict.{Verdict}
 use Rattle.sl_cop.specs.Farm.{farm_start, farm_step}
@@ -11,10 +12,10 @@ use Rattle.sl_tcflow.specs.AcceptedUnit.{channel_of, event_of, farm_after, unit_
 use Rattle.sl_tcflow.specs.Incomplete.{incomplete_of}
 use Rattle.sl_tcflow.specs.NextSegment.{incomplete_after, packets_after}
 use Rattle.sl_tcflow.specs.Placed.{at, IsPlaced}
-use Rattle.sl_tcflow.specs.Receiving.{AreIncomplete, IsIncompleteAround, channel_at, map_of, unit_channel, ended_by, verdict_on}
+use Rattle.sl_tcflow.specs.Receiving.{AreIncomplete, IsIncompleteAround, channel_at, map_by, map_of, segment_by, unit_channel, ended_by, verdict_on}
 use Rattle.sl_tcflow.specs.Reception.{packets_ended, segments_of}
-use Rattle.sl_tcflow.specs.ReceptionParameters.{ReceptionParameters, start_of}
-use Rattle.sl_tcflow.specs.Series.{header_at, segments_on}
+use Rattle.sl_tcflow.specs.ReceptionParameters.{ReceptionParameters, is_plain, start_of}
+use Rattle.sl_tcflow.specs.Series.{header_at, segment_in, segments_on}
 use Rattle.sl_tcflow.proofs.EndedLemmas.{ended_next}
 use Rattle.sl_tcflow.proofs.FarmLemmas.{same_channel, other_channel}
 use Rattle.sl_tcflow.proofs.OneMoreLemmas.{incomplete_next}
@@ -31,19 +32,36 @@ pub unit_on : (verdict : Verdict) (carried : Content) (r : ReceptionParameters) 
     → verdict ≡ verdict_on r views next → carried ≡ next.content → unit_by verdict carried ≡ units → unit_by (verdict_on r views next) next.content ≡ units
 unit_on verdict carried r views next units is same by = ap (λ v. unit_by v next.content) (sym is) ∙ ap (unit_by verdict) (sym same) ∙ by
 
+-- the segment that it is
+pub segment_on : (plain : Bool) (verdict : Verdict) (carried : Content) (r : ReceptionParameters) (views : List TcView) (next : TcView) (units : List (List ℕ))
+    → plain ≡ is_plain r next.vc → verdict ≡ verdict_on r views next → carried ≡ next.content → unit_by verdict carried ≡ units
+    → segment_by r views next ≡ map (segment_in plain) units
+segment_on plain verdict carried r views next units headers is same by =
+    ap (λ b. map (segment_in b) (unit_by (verdict_on r views next) next.content)) (sym headers)
+    ∙ ap (map (segment_in plain)) (unit_on verdict carried r views next units is same by)
+
+-- and its MAP
+pub map_on : (plain : Bool) (carried : Content) (r : ReceptionParameters) (next : TcView) (mid : ℕ)
+    → plain ≡ is_plain r next.vc → carried ≡ next.content → map_of plain carried ≡ mid → map_by r next ≡ mid
+map_on plain carried r next mid headers same is = ap₂ (λ b c. map_of b c) (sym headers) (sym same) ∙ is
+
 -- ---- the segments of a MAP
 
 pub segments_next : (r : ReceptionParameters) (mid : ℕ) (views : List TcView) (next : TcView)
-    → segments_of r next.vc mid (views ++ next ∷ []) ≡ segments_of r next.vc mid views ++ segments_on mid (unit_by (verdict_on r views next) next.content)
+    → segments_of r next.vc mid (views ++ next ∷ []) ≡ segments_of r next.vc mid views ++ segments_on mid (segment_by r views next)
 segments_next r mid views next =
     let channel = channel_of next.vc views in
-    ap (λ l. segments_on mid (accepted_units r.window (start_of r next.vc) l)) (same_channel next.vc views next refl)
-    ∙ ap (segments_on mid) (units_from r.window (start_of r next.vc) channel next)
-    ∙ filter-append (λ unit. (header_at unit).map == mid) (accepted_units r.window (start_of r next.vc) channel) (unit_by (verdict_on r views next) next.content)
+    let segment = segment_in (is_plain r next.vc) in
+    let units = accepted_units r.window (start_of r next.vc) channel in
+    ap (λ l. segments_on mid (map segment (accepted_units r.window (start_of r next.vc) l))) (same_channel next.vc views next refl)
+    ∙ ap (λ l. segments_on mid (map segment l)) (units_from r.window (start_of r next.vc) channel next)
+    ∙ ap (segments_on mid) (map-append segment units (unit_by (verdict_on r views next) next.content))
+    ∙ filter-append (λ segment. (header_at segment).map == mid) (map segment units) (segment_by r views next)
 
 segments_other : (r : ReceptionParameters) (vc mid : ℕ) (views : List TcView) (next : TcView) → (next.vc ≡ vc → ⊥)
     → segments_of r vc mid (views ++ next ∷ []) ≡ segments_of r vc mid views
-segments_other r vc mid views next other = ap (λ l. segments_on mid (accepted_units r.window (start_of r vc) l)) (other_channel vc views next other)
+segments_other r vc mid views next other =
+    ap (λ l. segments_on mid (map (segment_in (is_plain r vc)) (accepted_units r.window (start_of r vc) l))) (other_channel vc views next other)
 
 -- the unit is one of its own MAP alone
 on_map : (mid : ℕ) (unit : List ℕ) → (header_at unit).map ≡ mid → segments_on mid (unit ∷ []) ≡ unit ∷ []
@@ -59,7 +77,7 @@ map_fits unit = omega arith
 
 -- without an accepted unit all stays
 pub incomplete_same : (r : ReceptionParameters) (incomplete : List (Option (List ℕ))) (views : List TcView) (next : TcView) → AreIncomplete r incomplete views
-    → unit_by (verdict_on r views next) next.content ≡ [] → AreIncomplete r incomplete (views ++ next ∷ [])
+    → segment_by r views next ≡ [] → AreIncomplete r incomplete (views ++ next ∷ [])
 incomplete_same r incomplete views next are none vc mid vc_fits mid_fits =
     are vc mid vc_fits mid_fits ∙ ap incomplete_of (sym (elim (eqb_tells next.vc vc) [
       | inl (test, same) ↦
@@ -77,7 +95,7 @@ other_vc_index index vc mid vc' mid' is fits fits' other same = other (omega (ar
 
 -- with one, its index alone has what is incomplete after it
 module _ (r : ReceptionParameters) (old : List (Option (List ℕ))) (views : List TcView) (next : TcView) (unit : List ℕ) (index : ℕ) where
-  pub incomplete_more : (new : List (Option (List ℕ))) → AreIncomplete r old views → next.vc < 64 → unit_by (verdict_on r views next) next.content ≡ unit ∷ []
+  pub incomplete_more : (new : List (Option (List ℕ))) → AreIncomplete r old views → next.vc < 64 → segment_by r views next ≡ unit ∷ []
       → index ≡ channel_at next.vc (header_at unit).map → IsPlaced old index (incomplete_after (at old index) unit) new
       → AreIncomplete r new (views ++ next ∷ [])
   incomplete_more new are inside unit_is here placed vc mid vc_fits mid_fits =
@@ -109,13 +127,13 @@ module _ (r : ReceptionParameters) (old : List (Option (List ℕ))) (views : Lis
 
   -- ---- the packets that end
 
-  pub ended_more : AreIncomplete r old views → next.vc < 64 → unit_by (verdict_on r views next) next.content ≡ unit ∷ []
-      → map_of next.content ≡ (header_at unit).map → index ≡ channel_at next.vc (header_at unit).map
+  pub ended_more : AreIncomplete r old views → next.vc < 64 → segment_by r views next ≡ unit ∷ []
+      → map_by r next ≡ (header_at unit).map → index ≡ channel_at next.vc (header_at unit).map
       → ended_by r views next ≡ packets_after (at old index) unit
   ended_more are inside unit_is mid_is here =
       let list = segments_of r next.vc (header_at unit).map views in
-      ap (flat_map (packets_ended (segments_of r next.vc (map_of next.content) views))) unit_is
-      ∙ append-nil (packets_ended (segments_of r next.vc (map_of next.content) views) unit)
+      ap (flat_map (packets_ended (segments_of r next.vc (map_by r next) views))) unit_is
+      ∙ append-nil (packets_ended (segments_of r next.vc (map_by r next) views) unit)
       ∙ ap (λ n. packets_ended (segments_of r next.vc n views) unit) mid_is
       ∙ ended_next list unit
       ∙ ap (λ held. packets_after held unit) (sym (are next.vc (header_at unit).map inside (map_fits unit)))
@@ -123,11 +141,11 @@ module _ (r : ReceptionParameters) (old : List (Option (List ℕ))) (views : Lis
 
   -- ---- where memory is wanted
 
-  pub around_more : AreIncomplete r old views → next.vc < 64 → unit_by (verdict_on r views next) next.content ≡ unit ∷ []
-      → map_of next.content ≡ (header_at unit).map → index ≡ channel_at next.vc (header_at unit).map
+  pub around_more : AreIncomplete r old views → next.vc < 64 → segment_by r views next ≡ unit ∷ []
+      → map_by r next ≡ (header_at unit).map → index ≡ channel_at next.vc (header_at unit).map
       → (at old index ≢ None) ⊎ (incomplete_after (at old index) unit ≢ None) → IsIncompleteAround r views next
   around_more are inside unit_is mid_is here around =
-      let mid = map_of next.content in
+      let mid = map_by r next in
       let list = segments_of r next.vc mid views in
       let before : at old index ≡ incomplete_of list =
       ap (at old) (here ∙ ap (channel_at next.vc) (sym mid_is)) ∙ are next.vc mid inside (omega (arith, mid_is, map_fits unit)) in
@@ -141,10 +159,9 @@ module _ (r : ReceptionParameters) (old : List (Option (List ℕ))) (views : Lis
       )
 
 -- the channel of the unit
-pub unit_channel_is : (vc : ℕ) (carried : Content) (unit : List ℕ) (next : TcView) → vc ≡ next.vc → carried ≡ next.content → map_of carried ≡ (header_at unit).map
-    → channel_at vc (header_at unit).map ≡ unit_channel next
-unit_channel_is vc carried unit next same same' mid_is =
-    ap (λ n. channel_at n (header_at unit).map) same ∙ ap (channel_at next.vc) (sym mid_is ∙ ap map_of same')
+pub unit_channel_is : (vc : ℕ) (r : ReceptionParameters) (unit : List ℕ) (next : TcView) → vc ≡ next.vc → map_by r next ≡ (header_at unit).map
+    → channel_at vc (header_at unit).map ≡ unit_channel r next
+unit_channel_is vc r unit next same mid_is = ap (λ n. channel_at n (header_at unit).map) same ∙ ap (channel_at next.vc) (sym mid_is)
 
-pub ended_none : (r : ReceptionParameters) (views : List TcView) (next : TcView) → unit_by (verdict_on r views next) next.content ≡ [] → ended_by r views next ≡ []
-ended_none r views next none = ap (flat_map (packets_ended (segments_of r next.vc (map_of next.content) views))) none
+pub ended_none : (r : ReceptionParameters) (views : List TcView) (next : TcView) → segment_by r views next ≡ [] → ended_by r views next ≡ []
+ended_none r views next none = ap (flat_map (packets_ended (segments_of r next.vc (map_by r next) views))) none

@@ -5,11 +5,10 @@ use Rattle.std.specs.Prelude.{◌≡◌, ◌⊎◌, ℕ, ◌+◌, ◌<◌, ◌�
 use Rattle.std.specs.List.{filter}
 use Rattle.sl_packet.specs.Packets.{ArePacketsOf, only_idle, rest_of, without_idle}
 use Rattle.sl_tcframe.specs.TcFrame.{TcView}
-use Rattle.sl_tcflow.specs.AcceptedUnit.{unit_by}
 use Rattle.sl_tcflow.specs.Incomplete.{IsIncomplete, incomplete_of, passes}
-use Rattle.sl_tcflow.specs.Receiving.{ended_by, map_of, verdict_on}
+use Rattle.sl_tcflow.specs.Receiving.{ended_by, map_by, segment_by, verdict_on}
 use Rattle.sl_tcflow.specs.Reception.{segments_of}
-use Rattle.sl_tcflow.specs.ReceptionParameters.{ReceptionParameters}
+use Rattle.sl_tcflow.specs.ReceptionParameters.{ReceptionParameters, is_plain}
 use Rattle.sl_tcflow.specs.Series.{begins_by, continues_by, IsSeriesOf, SeriesAt, flags_of, octets_at, past, reassembled, series_of}
 use Rattle.sl_tcflow.specs.StepReport.{StepReport}
 
@@ -86,15 +85,15 @@ pub record HasTail (list : List (List ℕ)) (next : List ℕ) (count : ℕ) : Ty
 
 -- ---- the next frame, after others
 
--- what is told of a unit, if there is one
-abbrev pub of_unit : {X : Type 0} → X → (List ℕ → X) → List (List ℕ) → X
-of_unit none told [] = none
-of_unit none told (unit ∷ units) = told unit
+-- what is told of a segment, if there is one
+abbrev pub of_segment : {X : Type 0} → X → (List ℕ → X) → List (List ℕ) → X
+of_segment none told [] = none
+of_segment none told (segment ∷ segments) = told segment
 
--- what is told of the frame's unit and the segments of its MAP before it, if it is accepted
+-- what is told of the segment that the frame's unit is and the segments of its MAP before it, if it is accepted
 abbrev pub of_accepted : {X : Type 0} → X → (List (List ℕ) → List ℕ → X) → ReceptionParameters → List TcView → TcView → X
 of_accepted none told r views next =
-    of_unit none (told (segments_of r next.vc (map_of next.content) views)) (unit_by (verdict_on r views next) next.content)
+    of_segment none (told (segments_of r next.vc (map_by r next) views)) (segment_by r views next)
 
 -- whether its unit is accepted and out of sequence
 abbrev pub stray_by : ReceptionParameters → List TcView → TcView → Bool
@@ -151,3 +150,17 @@ TailIsTold = (list : List (List ℕ)) (next : List ℕ) (count : ℕ) → HasTai
 
 abbrev pub WhatIsToldIsTail : Type 0
 WhatIsToldIsTail = (list : List (List ℕ)) (next : List ℕ) → 0 < tail_of list next → HasTail list next (tail_of list next)
+
+-- On a virtual channel without segment headers no series is ever incomplete, on any MAP,
+abbrev pub NoPlainSeriesIsIncomplete : Type 0
+NoPlainSeriesIsIncomplete =
+    (r : ReceptionParameters) (vc mid : ℕ) (views : List TcView) → is_plain r vc ≡ true → incomplete_of (segments_of r vc mid views) ≡ None
+
+-- and of a unit only the tail can be told: it is never out of sequence, and no series is dropped or too long.
+pub record HasTailAlone (r : ReceptionParameters) (views : List TcView) (next : TcView) : Type 0 where
+  pub stray : stray_by r views next ≡ false
+  pub dropped : dropped_by r views next ≡ None
+  pub long : long_by r views next ≡ false
+
+abbrev pub PlainUnitHasTailAlone : Type 0
+PlainUnitHasTailAlone = (r : ReceptionParameters) (views : List TcView) (next : TcView) → is_plain r next.vc ≡ true → HasTailAlone r views next

@@ -1,9 +1,11 @@
 -- The normal form of packets is a recording that delivers these packets and no others.
-use Rattle.std.specs.Prelude.{◌≡◌, ℕ, ◌<◌, ◌≤◌, List, [], length}
+use Rattle.std.specs.Prelude.{◌≡◌, ℕ, ◌≤◌, List, [], length}
 use Rattle.std.specs.List.{AllByRecursion}
+use Rattle.sl_cop.specs.Starts.{AreStarts}
 use Rattle.sl_packet.specs.Delivered.{IsDeliverable, channel_count}
 use Rattle.sl_tcframe.specs.TcDelimited.{IsTcDelimited}
 use Rattle.sl_tcframe.specs.TcFrame.{TcFormat}
+use Rattle.sl_tcflow.specs.FitsTc.{FitsTc}
 use Rattle.sl_tcflow.specs.ReceptionParameters.{ReceptionParameters}
 use Rattle.sl_tcflow.specs.Recording.{tc_lists}
 use Rattle.sl_tcflow.specs.TcNormalForm.{tc_frames_form, tc_normal_form_of}
@@ -20,26 +22,35 @@ pub record AreDeliverable (lists : List (List (List ℕ))) : Type 0 where
 
 -- ---- laws
 
--- What a recording delivers are such lists.
+-- What a recording delivers are such lists,
 abbrev pub RecordedListsAreDeliverable : Type 0
 RecordedListsAreDeliverable =
     (format : TcFormat) (spacecraft : ℕ) (r : ReceptionParameters) (recording : List ℕ) → AreDeliverable (tc_lists format spacecraft r recording)
 
+-- and frames can carry them, also on the virtual channels without segment headers.
+abbrev pub RecordedListsFit : Type 0
+RecordedListsFit =
+    (format : TcFormat) (spacecraft : ℕ) (r : ReceptionParameters) (recording : List ℕ)
+    → FitsTc format r.plain (tc_lists format spacecraft r recording)
+
 -- The frames of the normal form, end to end, are all of it: nothing remains,
 abbrev pub NormalFormIsFrames : Type 0
 NormalFormIsFrames =
-    (format : TcFormat) (spacecraft vr : ℕ) (lists : List (List (List ℕ))) → IsFormat format → spacecraft ≤ 1023 → AreDeliverable lists
-    → IsTcDelimited format (tc_normal_form_of format spacecraft vr lists) (tc_frames_form format spacecraft vr lists) []
+    (format : TcFormat) (spacecraft : ℕ) (starts plain : List ℕ) (lists : List (List (List ℕ))) → IsFormat format → spacecraft ≤ 1023
+    → AreDeliverable lists → FitsTc format plain lists
+    → IsTcDelimited format (tc_normal_form_of format spacecraft starts plain lists) (tc_frames_form format spacecraft starts plain lists) []
 
 -- none of them is longer than the managed greatest length,
 abbrev pub NoFrameIsLong : Type 0
 NoFrameIsLong =
-    (format : TcFormat) (spacecraft vr : ℕ) (lists : List (List (List ℕ))) → IsFormat format → spacecraft ≤ 1023 → AreDeliverable lists
-    → AllByRecursion (λ frame. length frame ≤ format.max) (tc_frames_form format spacecraft vr lists)
+    (format : TcFormat) (spacecraft : ℕ) (starts plain : List ℕ) (lists : List (List (List ℕ))) → IsFormat format → spacecraft ≤ 1023
+    → AreDeliverable lists → FitsTc format plain lists
+    → AllByRecursion (λ frame. length frame ≤ format.max) (tc_frames_form format spacecraft starts plain lists)
 
--- and read as a recording, from the same initial V(R) on and whatever the window, it delivers exactly the packets that
--- it was made of
+-- and read as a recording, with the same initial V(R) and the same virtual channels without segment headers, whatever
+-- the window, it delivers exactly the packets that it was made of
 abbrev pub NormalFormDelivers : Type 0
 NormalFormDelivers =
-    (format : TcFormat) (spacecraft : ℕ) (r : ReceptionParameters) (lists : List (List (List ℕ))) → IsFormat format → spacecraft ≤ 1023 → r.vr < 256 → AreDeliverable lists
-    → tc_lists format spacecraft r (tc_normal_form_of format spacecraft r.vr lists) ≡ lists
+    (format : TcFormat) (spacecraft : ℕ) (r : ReceptionParameters) (lists : List (List (List ℕ))) → IsFormat format → spacecraft ≤ 1023
+    → AreStarts r.starts → AreDeliverable lists → FitsTc format r.plain lists
+    → tc_lists format spacecraft r (tc_normal_form_of format spacecraft r.starts r.plain lists) ≡ lists

@@ -1,6 +1,7 @@
 pub mod AcceptedUnit
 pub mod Anomaly
 pub mod Canonical
+pub mod FitsTc
 pub mod FormLeft
 pub mod FormPiece
 pub mod Incomplete
@@ -20,6 +21,7 @@ pub mod TcNormalForm
 pub use Rattle.sl_cop.specs.Farm
 pub use Rattle.sl_cop.specs.FarmClcw
 pub use Rattle.sl_cop.specs.Reordered
+pub use Rattle.sl_cop.specs.Starts
 pub use Rattle.sl_fields.specs.SegmentHeader
 pub use Rattle.sl_packet.specs.Delivered
 pub use Rattle.sl_packet.specs.Packets
@@ -28,3 +30,4 @@ pub use Rattle.sl_packet.specs.Stopping
 pub use Rattle.sl_tcframe.specs.AdFrame
 pub use Rattle.sl_tcframe.specs.TcDelimited
 pub use Rattle.sl_tcframe.specs.TcFrame
+pub use Rattle.sl_tcframe.specs.VcSet

@@ -1,5 +1,5 @@
--- An `Incomplete` is the octets so far of a series, if one is incomplete; a `Receiver` is its FARMs, these, and
--- whether a fault came.
+-- An `Incomplete` is the octets so far of a series, if one is incomplete; a `Receiver` is its FARMs, the
+-- virtual channels without segment headers, these, and whether a fault came.
 use Rattle.std.specs.Prelude.{◌≡◌, ℕ, ◌≤◌, false, if◌then◌else◌, List, [], length, Option, None, Some}
 use Rattle.sl_tcflow.specs.Receiving.{ReceiverState}
 use Rattle.sl_tcflow.specs.declared.incomplete.Incomplete.TheInside as incomplete
@@ -14,4 +14,4 @@ pub record IsKept (s : incomplete.Inside) : Type 0 where
   pub none : s.is_begun ≡ false → s.octets.items ≡ []
 
 abbrev pub receiver_state : receiver.Inside → ReceiverState
-receiver_state r = record { farms = r.farms; incomplete = r.incomplete.items; has_failed = r.has_failed }
+receiver_state r = record { farms = r.farms; plain = r.plain; incomplete = r.incomplete.items; has_failed = r.has_failed }

@@ -1,5 +1,5 @@
 -- What a receiver has made of the frames of virtual channels, CCSDS 232.0-B and 232.1-B, that it was given.
-use Rattle.std.specs.Prelude.{◌≡◌, ◌≢◌, ◌⊎◌, ℕ, ◌+◌, ◌*◌, ◌<◌, Bool, true, false, List, [], ◌∷◌, ◌++◌, length, flat_map, Option, None}
+use Rattle.std.specs.Prelude.{◌≡◌, ◌≢◌, ◌⊎◌, ℕ, ◌+◌, ◌*◌, ◌<◌, Bool, true, false, List, [], ◌∷◌, ◌++◌, length, map, flat_map, Option, None}
 use Rattle.std.specs.List.{slice_index_or}
 use Rattle.sl_cop.specs.declared.verdict.Verdict.{Verdict}
 use Rattle.sl_cop.specs.Farm.{FarmView, farm_start, farm_step}
@@ -7,17 +7,18 @@ use Rattle.sl_tcframe.specs.TcFrame.{TcView, Content, Ad, Bd, Unlock, SetVr}
 use Rattle.sl_tcflow.specs.AcceptedUnit.{channel_of, event_of, farm_after, unit_by}
 use Rattle.sl_tcflow.specs.Incomplete.{incomplete_of}
 use Rattle.sl_tcflow.specs.Reception.{packets_ended, segments_of}
-use Rattle.sl_tcflow.specs.ReceptionParameters.{ReceptionParameters, start_of}
-use Rattle.sl_tcflow.specs.Series.{header_at}
+use Rattle.sl_tcflow.specs.ReceptionParameters.{ReceptionParameters, is_plain, start_of}
+use Rattle.sl_tcflow.specs.Series.{header_at, segment_in}
 
 -- the channel of a virtual channel and a MAP
 abbrev pub channel_at : ℕ → ℕ → ℕ
 channel_at vc mid = 64 * vc + mid
 
--- The FARM-1 of each virtual channel, and of each channel the octets so far of the series that is incomplete, if one
--- is; there is none past the last channel that is kept.
+-- The FARM-1 of each virtual channel; the virtual channels without segment headers; and of each channel the octets so far
+-- of the series that is incomplete, if one is: there is none past the last channel that is kept.
 pub record ReceiverState : Type 0 where
   pub farms : List FarmView
+  pub plain : List ℕ
   pub incomplete : List (Option (List ℕ))
   pub has_failed : Bool
 
@@ -41,6 +42,7 @@ AreIncomplete r incomplete views =
 -- These frames were processed, and no fault came. Other frames may have left the same.
 pub record HasProcessed (r : ReceptionParameters) (state : ReceiverState) (views : List TcView) : Type 0 where
   pub working : state.has_failed ≡ false
+  pub plain : state.plain ≡ r.plain
   pub farms : HaveStepped r state.farms views
   pub series : AreIncomplete r state.incomplete views
 
@@ -68,31 +70,39 @@ abbrev pub verdict_on : ReceptionParameters → List TcView → TcView → Verdi
 verdict_on r views next = (farm_step r.window (farm_of r next.vc views).state (event_of next.content)).0
 
 -- the MAP of its unit, if it carries one
-abbrev pub map_of : Content → ℕ
-map_of (Ad ns unit) = (header_at unit).map
-map_of (Bd unit) = (header_at unit).map
-map_of Unlock = 0
-map_of (SetVr vr) = 0
+abbrev pub map_of : Bool → Content → ℕ
+map_of plain (Ad ns unit) = (header_at (segment_in plain unit)).map
+map_of plain (Bd unit) = (header_at (segment_in plain unit)).map
+map_of plain Unlock = 0
+map_of plain (SetVr vr) = 0
+
+abbrev pub map_by : ReceptionParameters → TcView → ℕ
+map_by r next = map_of (is_plain r next.vc) next.content
 
 -- the channel of its unit
-abbrev pub unit_channel : TcView → ℕ
-unit_channel next = channel_at next.vc (map_of next.content)
+abbrev pub unit_channel : ReceptionParameters → TcView → ℕ
+unit_channel r next = channel_at next.vc (map_by r next)
+
+-- the segment that its unit is, if it is accepted, as a list of one or of none
+abbrev pub segment_by : ReceptionParameters → List TcView → TcView → List (List ℕ)
+segment_by r views next = map (segment_in (is_plain r next.vc)) (unit_by (verdict_on r views next) next.content)
 
 -- the packets that end with its unit, if it is accepted, idle ones included
 abbrev pub ended_by : ReceptionParameters → List TcView → TcView → List (List ℕ)
 ended_by r views next =
-    flat_map (packets_ended (segments_of r next.vc (map_of next.content) views)) (unit_by (verdict_on r views next) next.content)
+    flat_map (packets_ended (segments_of r next.vc (map_by r next) views)) (segment_by r views next)
 
--- it holds whichever frames came before the next one, with whichever parameters of reception, where these series
--- are incomplete and FARM-1 gives this verdict
-abbrev pub ForIncomplete : List (Option (List ℕ)) → Verdict → TcView → (ReceptionParameters → List TcView → Type 0) → Type 0
-ForIncomplete incomplete verdict next holds =
-    (r : ReceptionParameters) (views : List TcView) → AreIncomplete r incomplete views → verdict ≡ verdict_on r views next → holds r views
+-- it holds whichever frames came before the next one, with whichever parameters of reception, where its virtual channel
+-- has segment headers or not, these series are incomplete and FARM-1 gives this verdict
+abbrev pub ForIncomplete : Bool → List (Option (List ℕ)) → Verdict → TcView → (ReceptionParameters → List TcView → Type 0) → Type 0
+ForIncomplete plain incomplete verdict next holds =
+    (r : ReceptionParameters) (views : List TcView) → plain ≡ is_plain r next.vc → AreIncomplete r incomplete views → verdict ≡ verdict_on r views next
+    → holds r views
 
 -- the next frame's unit is accepted, and a series is incomplete on its virtual channel and MAP, before that frame or
 -- after it
 abbrev pub IsIncompleteAround : ReceptionParameters → List TcView → TcView → Type 0
 IsIncompleteAround r views next =
-    (unit_by (verdict_on r views next) next.content ≢ [])
-    × ((incomplete_of (segments_of r next.vc (map_of next.content) views) ≢ None)
-    ⊎ (incomplete_of (segments_of r next.vc (map_of next.content) (views ++ next ∷ [])) ≢ None))
+    (segment_by r views next ≢ [])
+    × ((incomplete_of (segments_of r next.vc (map_by r next) views) ≢ None)
+    ⊎ (incomplete_of (segments_of r next.vc (map_by r next) (views ++ next ∷ [])) ≢ None))

@@ -1,12 +1,12 @@
 -- The packets of a MAP, CCSDS 232.0-B and 133.0-B. The greatest service data unit, and that what follows its
 -- last whole packet is dropped, are the mission profile's.
-use Rattle.std.specs.Prelude.{◌≡◌, ℕ, ◌+◌, ◌==◌, nat_le, if◌then◌else◌, List, [], ◌∷◌, ◌++◌, length, flat_map}
+use Rattle.std.specs.Prelude.{◌≡◌, ℕ, ◌+◌, ◌==◌, nat_le, if◌then◌else◌, List, [], ◌∷◌, ◌++◌, length, map, flat_map}
 use Rattle.std.specs.List.{filter}
 use Rattle.sl_packet.specs.Packets.{packets_of}
 use Rattle.sl_tcframe.specs.TcFrame.{TcView}
 use Rattle.sl_tcflow.specs.AcceptedUnit.{channel_of, accepted_units}
-use Rattle.sl_tcflow.specs.ReceptionParameters.{ReceptionParameters, start_of}
-use Rattle.sl_tcflow.specs.Series.{SeriesAt, past, reassembled, segments_on, series_of}
+use Rattle.sl_tcflow.specs.ReceptionParameters.{ReceptionParameters, is_plain, start_of}
+use Rattle.sl_tcflow.specs.Series.{SeriesAt, past, reassembled, segment_in, segments_on, series_of}
 
 -- the packets of a service data unit: the longest list of them that lies at its front
 abbrev pub packets_in : List (List ℕ) → List (List ℕ)
@@ -23,7 +23,8 @@ packets_ended list next =
 
 -- the segments of a virtual channel and a MAP, among frames
 abbrev pub segments_of : ReceptionParameters → ℕ → ℕ → List TcView → List (List ℕ)
-segments_of r vc mid views = segments_on mid (accepted_units r.window (start_of r vc) (channel_of vc views))
+segments_of r vc mid views =
+    segments_on mid (map (segment_in (is_plain r vc)) (accepted_units r.window (start_of r vc) (channel_of vc views)))
 
 -- ---- laws
 

@@ -1,11 +1,19 @@
--- The managed parameters of the reception of TC frames, CCSDS 232.1-B.
-use Rattle.std.specs.Prelude.{ℕ}
+-- The managed parameters of the reception of TC frames, CCSDS 232.0-B and 232.1-B.
+use Rattle.std.specs.Prelude.{ℕ, Bool, List}
+use Rattle.std.specs.List.{slice_index_or}
+use Rattle.sl_tcframe.specs.VcSet.{has_vc}
 
--- the width of FARM-1's sliding window, and V(R), the receiver frame sequence number, before the first frame
+-- the width of FARM-1's sliding window; V(R), the receiver frame sequence number, of each of 64 virtual channels before
+-- its first frame; and the numbers of the virtual channels whose frames have no segment headers
 pub record ReceptionParameters : Type 0 where
   pub window : ℕ
-  pub vr : ℕ
+  pub starts : List ℕ
+  pub plain : List ℕ
 
 -- V(R) of a virtual channel before its first frame
 abbrev pub start_of : ReceptionParameters → ℕ → ℕ
-start_of r vc = r.vr
+start_of r vc = slice_index_or r.starts vc 0
+
+-- whether its frames have no segment headers
+abbrev pub is_plain : ReceptionParameters → ℕ → Bool
+is_plain r vc = has_vc r.plain vc

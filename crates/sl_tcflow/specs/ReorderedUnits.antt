@@ -1,6 +1,6 @@
 -- Units that are sent on a virtual channel in frames of type AD, CCSDS 232.0-B and 232.1-B, with N(S) counting from the
 -- initial V(R) on, modulo 256. The frames arrive in any order, any of them lost or repeated, and no Set V(R) comes.
-use Rattle.std.specs.Prelude.{◌≡◌, ◌≢◌, ℕ, ◌+◌, ◌<◌, ◌≤◌, false, List, [], ◌∷◌, ◌++◌, length}
+use Rattle.std.specs.Prelude.{◌≡◌, ◌≢◌, ℕ, ◌+◌, ◌<◌, ◌≤◌, false, List, [], ◌∷◌, ◌++◌, length, map}
 use Rattle.std.specs.List.{AllByRecursion, AllZip, slice_index_or}
 use mathlib.Core.List.{IsPrefix}
 use Rattle.sl_cop.specs.declared.verdict.Verdict.TheVariants.{Accept}
@@ -12,9 +12,9 @@ use Rattle.sl_tcframe.specs.TcFrame.{TcFormat, TcView, Ad, Bd, Unlock}
 use Rattle.sl_tcflow.specs.AcceptedUnit.{accepted_ad_units, accepted_units, channel_of, event_of, farm_after}
 use Rattle.sl_tcflow.specs.Receiving.{HaveStepped, channel_at, farm_at_start}
 use Rattle.sl_tcflow.specs.Reception.{packets_on, segments_of}
-use Rattle.sl_tcflow.specs.ReceptionParameters.{ReceptionParameters, start_of}
+use Rattle.sl_tcflow.specs.ReceptionParameters.{ReceptionParameters, is_plain, start_of}
 use Rattle.sl_tcflow.specs.Recording.{recorded_views, tc_lists}
-use Rattle.sl_tcflow.specs.Series.{segments_on}
+use Rattle.sl_tcflow.specs.Series.{segment_in, segments_on}
 
 -- the unit with this index among those that were sent
 abbrev pub unit_at : List (List ℕ) → ℕ → List ℕ
@@ -50,6 +50,10 @@ recorded_channel format spacecraft vc recording = channel_of vc (recorded_views 
 abbrev pub recorded_packets : TcFormat → ℕ → ReceptionParameters → ℕ → ℕ → List ℕ → List (List ℕ)
 recorded_packets format spacecraft r vc mid recording =
     slice_index_or (tc_lists format spacecraft r recording) (channel_at vc mid) []
+
+-- the segments of a MAP among the units that were sent
+abbrev pub segments_sent : ReceptionParameters → ℕ → ℕ → List (List ℕ) → List (List ℕ)
+segments_sent r vc mid sent = segments_on mid (map (segment_in (is_plain r vc)) sent)
 
 -- The frames of a virtual channel are copies of what was sent, each less than 256 away from the frame that is expected
 -- when it arrives, and between them frames of type BD and Unlock, but no Set V(R).
@@ -94,7 +98,7 @@ abbrev pub PacketsInOrder : Type 0
 PacketsInOrder =
     (r : ReceptionParameters) (vc mid : ℕ) (sent : List (List ℕ)) (views : List TcView) (arrivals : List Arrival) → AreReordered r.window (start_of r vc) sent (channel_of vc views) arrivals
     → HaveNoBd (channel_of vc views)
-    → IsPrefix (packets_on (segments_of r vc mid views)) (packets_on (segments_on mid sent))
+    → IsPrefix (packets_on (segments_of r vc mid views)) (packets_on (segments_sent r vc mid sent))
 
 -- On a virtual channel and MAP a recording then delivers a prefix of them, idle ones left out. Of the other virtual
 -- channels nothing is said.
@@ -102,7 +106,7 @@ abbrev pub RecordedPacketsInOrder : Type 0
 RecordedPacketsInOrder =
     (format : TcFormat) (spacecraft : ℕ) (r : ReceptionParameters) (vc mid : ℕ) (sent : List (List ℕ)) (recording : List ℕ) (arrivals : List Arrival) → vc < 64 → mid < 64
     → AreReordered r.window (start_of r vc) sent (recorded_channel format spacecraft vc recording) arrivals → HaveNoBd (recorded_channel format spacecraft vc recording)
-    → IsPrefix (recorded_packets format spacecraft r vc mid recording) (without_idle (packets_on (segments_on mid sent)))
+    → IsPrefix (recorded_packets format spacecraft r vc mid recording) (without_idle (packets_on (segments_sent r vc mid sent)))
 
 -- In the window the Lockout flag is never set,
 abbrev pub WindowNeverLocks : Type 0

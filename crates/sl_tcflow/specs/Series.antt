@@ -2,18 +2,26 @@
 -- service data unit may be is the mission profile's.
 use Rattle.std.specs.Prelude.{◌≡◌, ℕ, ◌+◌, ◌==◌, ◌||◌, nat_le, Bool, if◌then◌else◌, List, [], ◌∷◌, ◌++◌, length, take, drop, map, Contains}
 use Rattle.std.specs.List.{AllByRecursion, concat, filter}
-use Rattle.sl_fields.specs.SegmentHeader.{SegmentFields, segment_header}
+use Rattle.sl_fields.specs.SegmentHeader.{SegmentFields, segment_header, segment_octets}
 
--- the segment header of a unit, and the octets after it
+-- the segment header of a segment, and the octets after it
 abbrev pub header_at : List ℕ → SegmentFields
-header_at unit = segment_header (take 1 unit)
+header_at segment = segment_header (take 1 segment)
 
 abbrev pub octets_at : List ℕ → List ℕ
-octets_at unit = drop 1 unit
+octets_at segment = drop 1 segment
 
--- the segments of a multiplexer access point (MAP), among the units of a virtual channel, in order
+-- the segment that a unit is. On a virtual channel without segment headers it is whole, on MAP 0: all its octets, as
+-- after a segment header that says no segmentation.
+abbrev pub whole_segment : List ℕ → List ℕ
+whole_segment unit = segment_octets (record { flags = 3; map = 0 }) ++ unit
+
+abbrev pub segment_in : Bool → List ℕ → List ℕ
+segment_in plain unit = if plain then whole_segment unit else unit
+
+-- the segments of a multiplexer access point (MAP), among those of a virtual channel, in order
 abbrev pub segments_on : ℕ → List (List ℕ) → List (List ℕ)
-segments_on mid units = filter (λ unit. (header_at unit).map == mid) units
+segments_on mid segments = filter (λ segment. (header_at segment).map == mid) segments
 
 -- the sequence flags: first 1, continuing 0, last 2, no segmentation 3
 abbrev pub flags_of : List ℕ → ℕ
@@ -101,3 +109,13 @@ pub data AreApart : List SeriesAt → Type 0 where
 
 abbrev pub SeriesAreApart : Type 0
 SeriesAreApart = (list : List (List ℕ)) → AreApart (series_of list)
+
+-- A segment has no segmentation, is on MAP 0, and its octets are all of the unit's.
+pub record HasNoSegmentation (unit segment : List ℕ) : Type 0 where
+  pub flags : flags_of segment ≡ 3
+  pub map : (header_at segment).map ≡ 0
+  pub octets : octets_at segment ≡ unit
+
+-- That is the segment that a unit is on a virtual channel without segment headers.
+abbrev pub PlainUnitIsWhole : Type 0
+PlainUnitIsWhole = (unit : List ℕ) → HasNoSegmentation unit (segment_in Bool.true unit)

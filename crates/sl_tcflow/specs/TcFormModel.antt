@@ -1,11 +1,13 @@
 -- A `TcForm` is the octets that are left of its form.
 use Rattle.std.specs.Prelude.{ℕ, ◌≤◌, List}
+use Rattle.sl_tcflow.specs.FitsTc.{FitsTc}
 use Rattle.sl_tcflow.specs.FormLeft.{IsPlace, form_left}
 use Rattle.sl_tcflow.specs.declared.form.TcForm.TheInside.{Inside}
 
 abbrev pub octets_left : Inside → List ℕ
-octets_left f = form_left f.shape f.spacecraft f.vr f.delivered.now.lists f.place.channel f.place.framed f.place.ns
+octets_left f = form_left f.shape f.spacecraft f.starts f.plain f.delivered.now.lists f.place.channel f.place.framed f.place.ns
 
 pub record IsTcForm (f : Inside) : Type 0 where
   pub spacecraft : f.spacecraft ≤ 1023
+  pub fits : FitsTc f.shape f.plain f.delivered.now.lists
   pub place : IsPlace f.delivered.now f.place.channel f.place.framed

@@ -1,11 +1,12 @@
 -- The normal form of a TC recording: the delivered packets of each virtual channel and MAP in frames of type AD
 -- that have nothing of the recording's own. All of it is this project's mission profile; the frames are those of
 -- CCSDS 232.0-B.
-use Rattle.std.specs.Prelude.{◌≡◌, ℕ, ◌+◌, ◌-◌, ◌*◌, ◌/◌, ◌%◌, ◌<◌, ◌≤◌, ◌==◌, if◌then◌else◌, List, [], ◌∷◌, ◌++◌, length, take, drop, map, flat_map}
-use Rattle.std.specs.List.{AllByRecursion, concat, range_with_len}
-use Rattle.sl_fields.specs.SegmentHeader.{SegmentFields, segment_octets}
-use Rattle.sl_tcframe.specs.AdFrame.{room_of, ad_frame}
+use Rattle.std.specs.Prelude.{◌≡◌, ℕ, ◌+◌, ◌-◌, ◌*◌, ◌/◌, ◌%◌, ◌<◌, ◌≤◌, ◌==◌, Bool, if◌then◌else◌, List, [], ◌∷◌, ◌++◌, length, take, drop, map, flat_map}
+use Rattle.std.specs.List.{AllByRecursion, concat, range_with_len, slice_index_or}
+use Rattle.sl_fields.specs.SegmentHeader.{SegmentFields}
+use Rattle.sl_tcframe.specs.AdFrame.{room_of, ad_frame, segment_unit}
 use Rattle.sl_tcframe.specs.TcFrame.{TcFormat}
+use Rattle.sl_tcframe.specs.VcSet.{has_vc}
 use Rattle.sl_tcflow.specs.Series.{IsSeries}
 
 -- how many segments a packet needs: each is full but the last, which has one octet or more
@@ -30,29 +31,37 @@ segments_of_packet room mid packet =
     let count : ℕ = segment_count room packet in
     map (λ number. (record { flags = flags_at count number; map = mid }, segment_octets_at room packet number)) (range_with_len 0 count)
 
+-- the units of a packet: its segments, or itself on a virtual channel without segment headers
+abbrev pub units_of_packet : Bool → ℕ → ℕ → List ℕ → List (List ℕ)
+units_of_packet plain room mid packet =
+    if plain then packet ∷ [] else map (λ s. segment_unit s.0 s.1) (segments_of_packet room mid packet)
+
 -- those of the packets of a virtual channel's MAPs, 64 lists by rising MAP
-abbrev pub segments_of_maps : ℕ → ℕ → List (List (List ℕ)) → List (SegmentFields × List ℕ)
-segments_of_maps room mid [] = []
-segments_of_maps room mid (packets ∷ lists) = flat_map (segments_of_packet room mid) packets ++ segments_of_maps room (mid + 1) lists
+abbrev pub units_of_maps : Bool → ℕ → ℕ → List (List (List ℕ)) → List (List ℕ)
+units_of_maps plain room mid [] = []
+units_of_maps plain room mid (packets ∷ lists) = flat_map (units_of_packet plain room mid) packets ++ units_of_maps plain room (mid + 1) lists
 
--- frames of type AD of these segments, N(S) from a number on
-abbrev pub frames_of_segments : TcFormat → ℕ → ℕ → ℕ → List (SegmentFields × List ℕ) → List (List ℕ)
-frames_of_segments format spacecraft vc ns [] = []
-frames_of_segments format spacecraft vc ns (segment ∷ segments) =
-    ad_frame format spacecraft vc (ns % 256) segment.0 segment.1 ∷ frames_of_segments format spacecraft vc (ns + 1) segments
+-- frames of type AD of these units, N(S) from a number on
+abbrev pub frames_of_units : TcFormat → ℕ → ℕ → ℕ → List (List ℕ) → List (List ℕ)
+frames_of_units format spacecraft vc ns [] = []
+frames_of_units format spacecraft vc ns (unit ∷ units) =
+    ad_frame format spacecraft vc (ns % 256) unit ∷ frames_of_units format spacecraft vc (ns + 1) units
 
--- the frames of a virtual channel, of its 64 lists of packets by MAP, N(S) from the initial V(R) on
-abbrev pub channel_frames : TcFormat → ℕ → ℕ → ℕ → List (List (List ℕ)) → List (List ℕ)
-channel_frames format spacecraft vr vc lists =
-    frames_of_segments format spacecraft vc vr (segments_of_maps (room_of format) 0 lists)
+-- the frames of a virtual channel, of its 64 lists of packets by MAP, N(S) from a number on
+abbrev pub channel_frames : TcFormat → ℕ → Bool → ℕ → ℕ → List (List (List ℕ)) → List (List ℕ)
+channel_frames format spacecraft plain vr vc lists =
+    frames_of_units format spacecraft vc vr (units_of_maps plain (room_of format) 0 lists)
 
--- the normal form of lists of packets, that of virtual channel v and MAP m at the index 64 v + m
-abbrev pub tc_frames_form : TcFormat → ℕ → ℕ → List (List (List ℕ)) → List (List ℕ)
-tc_frames_form format spacecraft vr lists =
-    flat_map (λ vc. channel_frames format spacecraft vr vc (take 64 (drop (64 * vc) lists))) (range_with_len 0 64)
+-- The normal form of lists of packets, that of virtual channel v and MAP m at the index 64 v + m. N(S) is on each
+-- virtual channel from its V(R) before the first frame on.
+abbrev pub tc_frames_form : TcFormat → ℕ → List ℕ → List ℕ → List (List (List ℕ)) → List (List ℕ)
+tc_frames_form format spacecraft starts plain lists =
+    flat_map
+    (λ vc. channel_frames format spacecraft (has_vc plain vc) (slice_index_or starts vc 0) vc (take 64 (drop (64 * vc) lists)))
+    (range_with_len 0 64)
 
-abbrev pub tc_normal_form_of : TcFormat → ℕ → ℕ → List (List (List ℕ)) → List ℕ
-tc_normal_form_of format spacecraft vr lists = concat (tc_frames_form format spacecraft vr lists)
+abbrev pub tc_normal_form_of : TcFormat → ℕ → List ℕ → List ℕ → List (List (List ℕ)) → List ℕ
+tc_normal_form_of format spacecraft starts plain lists = concat (tc_frames_form format spacecraft starts plain lists)
 
 -- ---- laws
 
@@ -65,7 +74,7 @@ pub data AreSegments (room : ℕ) : List (List ℕ) → Type 0 where
 pub record IsDividedInto (room mid : ℕ) (packet : List ℕ) (segments : List (SegmentFields × List ℕ)) : Type 0 where
   pub filled : AreSegments room (map (λ s. s.1) segments)
   pub end_to_end : concat (map (λ s. s.1) segments) ≡ packet
-  pub series : IsSeries (map (λ s. segment_octets s.0 ++ s.1) segments)
+  pub series : IsSeries (map (λ s. segment_unit s.0 s.1) segments)
   pub on_map : AllByRecursion (λ s. s.0.map ≡ mid) segments
 
 -- each packet is divided into its segments

@@ -1,18 +1,21 @@
 //! The normal form of delivered packets, piece by piece.
-ghost use Rattle.std.specs.Prelude.{◌≡◌, ◌≢◌, ℕ, ◌+◌, ◌^◌, ◌<◌, ◌≤◌, ◌++◌, [], length, vec_len, IsTrue, IsFalse, IfSome, IfNone, IfOk, IsOk, OnOk, OnErr};
+ghost use Rattle.std.specs.Prelude.{◌≡◌, ◌≢◌, ℕ, ◌+◌, ◌^◌, ◌<◌, ◌≤◌, ◌++◌, true, List, [], length, vec_len, IsTrue, IsFalse, IfSome, IfNone, IfOk, IsOk, OnOk, OnErr};
 ghost use Rattle.std.specs.List.{slice_index_or};
 ghost use Rattle.std.specs.Vec.{vec_capacity};
 ghost use Rattle.sl_packet.specs.Delivered.{IsDeliverable, channel_count, list_at};
+ghost use Rattle.sl_tcframe.specs.AdFrame.{plain_room_of};
 ghost use Rattle.sl_tcframe.specs.TcFrame.{TcFormat};
 ghost use Rattle.sl_tcflow.specs.Canonical.{AreDeliverable};
-ghost use Rattle.sl_tcflow.specs.FormLeft.{IsNextChannel, IsPlace, form_left, ns_after, piece_of};
+ghost use Rattle.sl_tcflow.specs.FitsTc.{FitsTc};
+ghost use Rattle.sl_tcflow.specs.FormLeft.{IsPlace, form_left, ns_after, piece_of};
 ghost use Rattle.sl_tcflow.specs.FormPiece.{AddsPiece, piece_room};
 ghost use Rattle.sl_tcflow.specs.Recording.{tc_lists};
 ghost use Rattle.sl_tcflow.specs.TcNormalForm.{tc_normal_form_of};
 
 use crate::frames::push_packet;
+use sl_cop::Starts;
 use sl_packet::Delivered;
-use sl_tcframe::TcShape;
+use sl_tcframe::{TcShape, VcSet, push_tc_plain};
 use std::alloc::AllocError;
 use std::marker::Model;
 
@@ -29,7 +32,8 @@ const CHANNELS: u16 = 4096;
 pub struct TcForm<'d> {
     shape: TcShape,
     spacecraft: u16,
-    vr: u8,
+    starts: Starts,
+    plain: VcSet,
     delivered: &'d Delivered,
     place: Place,
 }
@@ -57,13 +61,21 @@ impl<'d> Model for TcForm<'d> {
 
 impl<'d> TcForm<'d> {
     /// The form of these packets, those of virtual channel `v` and MAP `m` on channel `64 * v + m`, with all of it
-    /// still to come. `spacecraft` is 0 to 1023, and `vr` the initial V(R) of each virtual channel, the N(S) of its
-    /// first frame. It takes no memory.
-    pub fn new(shape: TcShape, spacecraft: u16, vr: u8, delivered: &'d Delivered) -> TcForm<'d>
+    /// still to come. `spacecraft` is 0 to 1023; `starts` has V(R) of each virtual channel before its first frame, the
+    /// N(S) of that frame; the frames of the virtual channels of `plain` have no segment headers, and their packets
+    /// are such as [`fits_tc`](crate::fits_tc) tells. It takes no memory.
+    pub fn new(
+        shape: TcShape,
+        spacecraft: u16,
+        starts: Starts,
+        plain: VcSet,
+        delivered: &'d Delivered,
+    ) -> TcForm<'d>
         requires spacecraft { spacecraft ≤ 1023 }
-        ensures all { result ≡ tc_normal_form_of shape spacecraft vr delivered.now.lists }
-        // Read as a recording from that V(R) on, it delivers the packets again, whatever the window.
-        ensures delivers { (w : ℕ) → tc_lists shape spacecraft (record { window = w; vr = vr }) result ≡ delivered.now.lists }
+        requires fits { FitsTc shape plain delivered.now.lists }
+        ensures all { result ≡ tc_normal_form_of shape spacecraft starts plain delivered.now.lists }
+        // Read as a recording with these starts and these channels, it delivers the packets again, whatever the window.
+        ensures delivers { (w : ℕ) → tc_lists shape spacecraft (record { window = w; starts = starts; plain = plain }) result ≡ delivered.now.lists }
         ensures size { length delivered.now.lists ≡ channel_count }
     {
         let max = shape.max();
@@ -71,13 +83,14 @@ impl<'d> TcForm<'d> {
         let start = Place {
             channel: 0,
             framed: 0,
-            ns: vr,
+            ns: starts.start(0),
         };
-        let place = next_place(delivered, vr, start);
+        let place = next_place(delivered, &starts, start);
         TcForm {
             shape,
             spacecraft,
-            vr,
+            starts,
+            plain,
             delivered,
             place,
         }
@@ -101,13 +114,14 @@ impl<'d> TcForm<'d> {
             Some(packet) => packet,
             None => return Ok(false),
         };
-        let ns = push_piece(form, &self.shape, self.spacecraft, place, packet)?;
+        let plain = self.plain.has((place.channel / 64) as u8);
+        let ns = push_piece(form, &self.shape, self.spacecraft, plain, place, packet)?;
         let from = Place {
             channel: place.channel,
             framed: place.framed + 1,
             ns,
         };
-        self.place = next_place(self.delivered, self.vr, from);
+        self.place = next_place(self.delivered, &self.starts, from);
         Ok(true)
     }
 }
@@ -127,20 +141,23 @@ fn packet_at(delivered: &Delivered, place: Place) -> Option<&[u8]>
     Some(packet.as_slice())
 }
 
-// Adds the frames of a packet, the place of which is this, and answers the N(S) of the next frame.
+// Adds the frames of a packet, the place of which is this, on a virtual channel without segment headers or with them, and
+// answers the N(S) of the next frame.
 fn push_piece(
     form: &mut Vec<u8>,
     shape: &TcShape,
     spacecraft: u16,
+    plain: bool,
     place: Place,
     packet: &[u8],
 ) -> Result<u8, AllocError>
     requires spacecraft { spacecraft ≤ 1023 }
     requires channel { place.channel < channel_count }
     requires deliverable { IsDeliverable packet.now }
-    ensures frames { OnOk result (form.new.items ≡ form.old.items ++ piece_of shape.now spacecraft place.channel place.ns packet.now) }
-    ensures next { IfOk result (λ next. next ≡ ns_after shape.now place.channel place.ns packet.now) }
-    ensures some { 0 < length (piece_of shape.now spacecraft place.channel place.ns packet.now) }
+    requires short { plain ≡ true → length packet.now ≤ plain_room_of shape.now }
+    ensures frames { OnOk result (form.new.items ≡ form.old.items ++ piece_of shape.now spacecraft plain place.channel place.ns packet.now) }
+    ensures next { IfOk result (λ next. next ≡ ns_after shape.now plain place.channel place.ns packet.now) }
+    ensures some { 0 < length (piece_of shape.now spacecraft plain place.channel place.ns packet.now) }
     ensures most { OnOk result (vec_len form.new ≤ vec_len form.old + piece_room) }
     ensures unchanged { OnErr result (form.new.items ≡ form.old.items) }
     ensures capacity { vec_capacity form.old ≤ vec_capacity form.new }
@@ -149,6 +166,10 @@ fn push_piece(
     let start = form.len();
     let vc = (place.channel / 64) as u8;
     let mid = (place.channel % 64) as u8;
+    if plain {
+        push_tc_plain(form, shape, spacecraft, vc, place.ns, packet)?;
+        return Ok(place.ns.wrapping_add(1));
+    }
     match push_packet(form, shape, spacecraft, vc, place.ns, mid, packet) {
         Ok(next) => Ok(next),
         Err(fault) => {
@@ -158,34 +179,37 @@ fn push_piece(
     }
 }
 
-// The place of the first packet from a place on. N(S) goes on within a virtual channel, and begins with `vr` on the
-// next one.
-fn next_place(delivered: &Delivered, vr: u8, from: Place) -> Place
+// The place of the first packet from a place on. N(S) goes on within a virtual channel, and begins with V(R) of `starts` on
+// the next one.
+fn next_place(delivered: &Delivered, starts: &Starts, from: Place) -> Place
     requires channel { from.channel < channel_count }
-    ensures left { (format : TcFormat) (spacecraft : ℕ) → form_left format spacecraft vr delivered.now.lists from.channel from.framed from.ns
-        ≡ form_left format spacecraft vr delivered.now.lists result.channel result.framed result.ns }
+    ensures left { (format : TcFormat) (spacecraft : ℕ) (plain : List ℕ)
+        → form_left format spacecraft starts.now plain delivered.now.lists from.channel from.framed from.ns
+        ≡ form_left format spacecraft starts.now plain delivered.now.lists result.channel result.framed result.ns }
     ensures place { IsPlace delivered.now result.channel result.framed }
     ensures deliverable { AreDeliverable delivered.now.lists }
 {
     if from.framed < delivered.list(from.channel).len() {
         return from;
     }
-    let channel = next_channel(delivered, from.channel);
-    let goes_on = channel / 64 == from.channel / 64;
-    Place {
-        channel,
-        framed: 0,
-        ns: if goes_on { from.ns } else { vr },
-    }
-}
-
-// The next channel after this one that has packets, 4096 where none has.
-fn next_channel(delivered: &Delivered, channel: u16) -> u16
-    requires { channel < channel_count }
-    ensures { IsNextChannel delivered.now channel result }
-{
-    match delivered.at_or_above(channel + 1) {
-        Some(next) => next,
-        None => CHANNELS,
+    match delivered.at_or_above(from.channel + 1) {
+        Some(channel) => {
+            let vc = channel / 64;
+            let goes_on = vc == from.channel / 64;
+            Place {
+                channel,
+                framed: 0,
+                ns: if goes_on {
+                    from.ns
+                } else {
+                    starts.start(vc as u8)
+                },
+            }
+        }
+        None => Place {
+            channel: CHANNELS,
+            framed: 0,
+            ns: from.ns,
+        },
     }
 }

@@ -1,10 +1,10 @@
 //! The frames of a packet in the normal form.
-ghost use Rattle.std.specs.Prelude.{◌≡◌, ◌+◌, ◌*◌, ◌%◌, ◌<◌, ◌≤◌, ◌++◌, if◌then◌else◌, length, take, drop, vec_len, IfOk, OnOk, OnErr};
+ghost use Rattle.std.specs.Prelude.{◌≡◌, ◌+◌, ◌*◌, ◌%◌, ◌<◌, ◌≤◌, ◌++◌, false, if◌then◌else◌, length, take, drop, vec_len, IfOk, OnOk, OnErr};
 ghost use Rattle.std.specs.List.{concat};
 ghost use Rattle.std.specs.Vec.{vec_capacity};
 ghost use Rattle.sl_fields.specs.SegmentHeader.{SegmentFields};
 ghost use Rattle.sl_tcframe.specs.AdFrame.{room_of};
-ghost use Rattle.sl_tcflow.specs.TcNormalForm.{segments_of_packet, frames_of_segments};
+ghost use Rattle.sl_tcflow.specs.TcNormalForm.{units_of_packet, frames_of_units};
 
 use sl_fields::SegmentHeader;
 use sl_tcframe::{TcShape, push_tc};
@@ -23,8 +23,8 @@ pub(crate) fn push_packet(
     requires spacecraft { spacecraft ≤ 1023 }
     requires vc { vc ≤ 63 }
     requires mid { mid ≤ 63 }
-    ensures frames { OnOk result (form.new.items ≡ form.old.items ++ concat (frames_of_segments shape.now spacecraft vc ns (segments_of_packet (room_of shape.now) mid packet.now))) }
-    ensures next { IfOk result (λ next. next ≡ (ns + length (segments_of_packet (room_of shape.now) mid packet.now)) % 256) }
+    ensures frames { OnOk result (form.new.items ≡ form.old.items ++ concat (frames_of_units shape.now spacecraft vc ns (units_of_packet false (room_of shape.now) mid packet.now))) }
+    ensures next { IfOk result (λ next. next ≡ (ns + length (units_of_packet false (room_of shape.now) mid packet.now)) % 256) }
     ensures room { 0 < room_of shape.now }
     ensures most { OnOk result (vec_len form.new ≤ vec_len form.old + 2 * length packet.now + 7) }
     ensures kept { OnErr result (take (vec_len form.old) form.new.items ≡ form.old.items) }

@@ -67,7 +67,7 @@ impl Incomplete {
         sink: &mut S,
     ) -> Result<TcStep, FlowFault>
         requires flags { segment.now.flags ≤ 3 }
-        requires short { length segment.now.octets.now ≤ 1018 }
+        requires short { length segment.now.octets.now ≤ 1019 }
         requires channel { channel ≤ 4095 }
         ensures state { OnOk result (self.new ≡ incomplete_with self.old segment.now.flags segment.now.octets.now) }
         ensures accepted { OnOk result (TakesAll S.taking sink.old channel (without_idle (packets_with self.old segment.now.flags segment.now.octets.now)) sink.new) }
@@ -97,7 +97,7 @@ impl Incomplete {
     // Begins with these octets, and gives up what was incomplete.
     #[inline(always)]
     fn begin(&mut self, octets: &[u8]) -> Result<TcStep, FlowFault>
-        requires { length octets.now ≤ 1018 }
+        requires { length octets.now ≤ 1019 }
         ensures state { OnOk result (self.new ≡ if_fits octets.now) }
         ensures step { IfOk result (λ step. step ≡ record quiet_report { dropped = option_map length self.old }) }
         ensures only_memory { IfErr result (λ flow. flow ≡ FlowFault.Memory) }
@@ -113,7 +113,7 @@ impl Incomplete {
     // Goes on with these octets, and gives the series up where it is too long with them.
     #[inline(always)]
     fn go_on(&mut self, octets: &[u8]) -> Result<TcStep, FlowFault>
-        requires { length octets.now ≤ 1018 }
+        requires { length octets.now ≤ 1019 }
         ensures state { OnOk result (self.new ≡ extended self.old octets.now) }
         ensures step { IfOk result (λ step. step ≡ continued_report self.old octets.now) }
         ensures only_memory { IfErr result (λ flow. flow ≡ FlowFault.Memory) }
@@ -146,7 +146,7 @@ impl Incomplete {
         channel: u16,
         sink: &mut S,
     ) -> Result<TcStep, FlowFault>
-        requires short { length octets.now ≤ 1018 }
+        requires short { length octets.now ≤ 1019 }
         requires channel { channel ≤ 4095 }
         ensures state { OnOk result (self.new ≡ None) }
         ensures accepted { OnOk result (TakesAll S.taking sink.old channel (without_idle (packets_with self.old 2 octets.now)) sink.new) }

@@ -1,6 +1,6 @@
 //! The series that are incomplete on the MAPs of all virtual channels. The list reaches the greatest channel on which
 //! one has begun.
-ghost use Rattle.std.specs.Prelude.{◌≡◌, ◌≢◌, ◌⊎◌, ◌≤◌, ◌<◌, None, option_map, ℕ, length, OnOk, IfOk, IfErr, IfSome};
+ghost use Rattle.std.specs.Prelude.{◌≡◌, ◌≢◌, ◌⊎◌, ◌≤◌, ◌<◌, None, option_map, ℕ, List, length, OnOk, IfOk, IfErr, IfSome};
 ghost use Rattle.std.specs.Vec.{vec_len};
 ghost use Rattle.sl_packet.specs.Packets.{without_idle};
 ghost use Rattle.sl_packet.specs.Sink.{TakesAll};
@@ -8,7 +8,7 @@ ghost use Rattle.sl_packet.specs.Stopping.{IsStopped};
 ghost use Rattle.sl_tcflow.specs.NextSegment.{IsReported, incomplete_after, packets_after};
 ghost use Rattle.sl_tcflow.specs.Placed.{at, IsPlaced};
 ghost use Rattle.sl_tcflow.specs.Receiving.{channel_at};
-ghost use Rattle.sl_tcflow.specs.Series.{flags_of, header_at, octets_at};
+ghost use Rattle.sl_tcflow.specs.Series.{flags_of, header_at, octets_at, segment_in};
 
 use crate::incomplete::Incomplete;
 use crate::segment::{FIRST, segment_of};
@@ -30,25 +30,31 @@ pub fn held_on(incomplete: &Vec<Incomplete>, vc: u8, mid: u8) -> Option<u32>
     }
 }
 
-/// Takes the next segment of its MAP.
+/// Takes the next unit of a virtual channel, as the next segment of its MAP.
 pub fn take_unit<S: PacketSink>(
     alloc: Global,
     incomplete: &mut Vec<Incomplete>,
     vc: u8,
+    plain: bool,
     unit: &[u8],
     sink: &mut S,
 ) -> Result<TcStep, FlowFault>
     requires vc { vc ≤ 63 }
     requires some { 0 < length unit.now }
     requires short { length unit.now ≤ 1019 }
-    ensures placed { OnOk result (let index : ℕ = channel_at vc (header_at unit.now).map in IsPlaced incomplete.old.items index (incomplete_after (at incomplete.old.items index) unit.now) incomplete.new.items) }
-    ensures accepted { OnOk result (let index : ℕ = channel_at vc (header_at unit.now).map in TakesAll S.taking sink.old index (without_idle (packets_after (at incomplete.old.items index) unit.now)) sink.new) }
-    ensures step { IfOk result (IsReported (at incomplete.old.items (channel_at vc (header_at unit.now).map)) (flags_of unit.now) (octets_at unit.now)) }
+    ensures placed { OnOk result (let next : List ℕ = segment_in plain unit.now in let index : ℕ = channel_at vc (header_at next).map in
+        IsPlaced incomplete.old.items index (incomplete_after (at incomplete.old.items index) next) incomplete.new.items) }
+    ensures accepted { OnOk result (let next : List ℕ = segment_in plain unit.now in let index : ℕ = channel_at vc (header_at next).map in
+        TakesAll S.taking sink.old index (without_idle (packets_after (at incomplete.old.items index) next)) sink.new) }
+    ensures step { IfOk result (let next : List ℕ = segment_in plain unit.now in
+        IsReported (at incomplete.old.items (channel_at vc (header_at next).map)) (flags_of next) (octets_at next)) }
     ensures kept { OnOk result (S.failures sink.new ≡ S.failures sink.old) }
-    ensures stopped { IfErr result (λ flow. let index : ℕ = channel_at vc (header_at unit.now).map in IsStopped S.taking S.failing S.failures sink.old index (without_idle (packets_after (at incomplete.old.items index) unit.now)) flow sink.new) }
-    ensures memory { IfErr result (λ flow. let index : ℕ = channel_at vc (header_at unit.now).map in flow ≡ FlowFault.Memory → (at incomplete.old.items index ≢ None) ⊎ (incomplete_after (at incomplete.old.items index) unit.now ≢ None)) }
+    ensures stopped { IfErr result (λ flow. let next : List ℕ = segment_in plain unit.now in let index : ℕ = channel_at vc (header_at next).map in
+        IsStopped S.taking S.failing S.failures sink.old index (without_idle (packets_after (at incomplete.old.items index) next)) flow sink.new) }
+    ensures memory { IfErr result (λ flow. let next : List ℕ = segment_in plain unit.now in let index : ℕ = channel_at vc (header_at next).map in flow ≡ FlowFault.Memory
+        → (at incomplete.old.items index ≢ None) ⊎ (incomplete_after (at incomplete.old.items index) next ≢ None)) }
 {
-    let segment = segment_of(unit);
+    let segment = segment_of(plain, unit);
     let channel = 64 * u16::from(vc) + u16::from(segment.map);
     let index = usize::from(channel);
     if segment.flags == FIRST && reach(alloc, incomplete, index).is_err() {

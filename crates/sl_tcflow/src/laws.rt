@@ -1,11 +1,12 @@
 //! What holds of the definitions alone. Each function does nothing; its clauses are the laws.
 ghost use Rattle.sl_tcflow.specs.Anomaly.{StrayIsTold, WhatIsToldIsStray, DroppedIsTold, WhatIsToldIsDropped, LongIsTold, WhatIsToldIsLong, TailIsTold, WhatIsToldIsTail};
-ghost use Rattle.sl_tcflow.specs.Canonical.{NormalFormIsFrames, NoFrameIsLong, NormalFormDelivers, RecordedListsAreDeliverable};
+ghost use Rattle.sl_tcflow.specs.Anomaly.{NoPlainSeriesIsIncomplete, PlainUnitHasTailAlone};
+ghost use Rattle.sl_tcflow.specs.Canonical.{NormalFormIsFrames, NoFrameIsLong, NormalFormDelivers, RecordedListsAreDeliverable, RecordedListsFit};
 ghost use Rattle.sl_tcflow.specs.Incomplete.{WhatIsToldIsIncomplete, IncompleteIsTold, OneBegins, OneIsIncomplete, IncompleteFits};
 ghost use Rattle.sl_tcflow.specs.Reception.{PacketsEndOnce};
 ghost use Rattle.sl_tcflow.specs.ReorderedUnits.{AdUnitsAreAll, ExpectedUnitIsAccepted, PacketsInOrder, ReceiverCountsUnits, RecordedPacketsInOrder};
 ghost use Rattle.sl_tcflow.specs.ReorderedUnits.{UnitsInOrder, VrCountsUnits, WindowIsNear, WindowNeverLocks};
-ghost use Rattle.sl_tcflow.specs.Series.{EachIsSeries, EachSeriesIsListed, SeriesAreApart};
+ghost use Rattle.sl_tcflow.specs.Series.{EachIsSeries, EachSeriesIsListed, PlainUnitIsWhole, SeriesAreApart};
 ghost use Rattle.sl_tcflow.specs.TcNormalForm.{EachIsDivided};
 
 /// The series of a list of segments, listed by their first segments: each is one, each is listed, and one ends
@@ -47,9 +48,20 @@ pub fn tc_anomalies_are_told()
     ensures is_tail { WhatIsToldIsTail }
 {}
 
-/// What a recording of TC frames delivers are packets, none of them idle, on 64 MAPs of 64 virtual channels.
+/// On a virtual channel without segment headers each unit is one segment with no segmentation, on MAP 0, with all the
+/// octets of the unit. So no series is ever incomplete there, on any MAP, and whichever frames came before, no unit is out
+/// of sequence, and no series is dropped or too long: only octets can be left after the packets of a unit.
+pub fn units_without_headers_are_whole()
+    ensures segment { PlainUnitIsWhole }
+    ensures incomplete { NoPlainSeriesIsIncomplete }
+    ensures amiss { PlainUnitHasTailAlone }
+{}
+
+/// What a recording of TC frames delivers are packets, none of them idle, on 64 MAPs of 64 virtual channels. On a virtual
+/// channel without segment headers they are on MAP 0 alone, and each of them fits in a data field.
 pub fn tc_recordings_deliver_packets()
-    ensures { RecordedListsAreDeliverable }
+    ensures packets { RecordedListsAreDeliverable }
+    ensures fit { RecordedListsFit }
 {}
 
 /// The segments of a packet in the normal form are full but the last one, which has one octet or more. End to end
@@ -58,9 +70,10 @@ pub fn packets_are_divided_into_segments()
     ensures segments { EachIsDivided }
 {}
 
-/// The normal form of packets is frames end to end, none longer than the managed greatest length. Read as a recording,
-/// from the same initial V(R) on and whatever the window, it delivers exactly the packets that it was made of, on each
-/// virtual channel and MAP: frames are written, delimited, read back and accepted, and their segments put together.
+/// The normal form of packets that frames can carry is frames end to end, none longer than the managed greatest length.
+/// Read as a recording, with the same initial V(R) and the same virtual channels without segment headers, whatever the
+/// window, it delivers exactly the packets that it was made of, on each virtual channel and MAP: frames are written,
+/// delimited, read back and accepted, and their segments put together.
 pub fn normal_form_delivers_its_packets()
     ensures frames { NormalFormIsFrames }
     ensures within { NoFrameIsLong }

@@ -4,6 +4,7 @@
 //! A service data unit is a series of segments on a multiplexer access point (MAP) ([`laws`]).
 #![tactic(auto)]
 
+mod fits;
 mod form;
 mod frames;
 mod hand;
@@ -15,6 +16,7 @@ mod reframe;
 mod segment;
 mod step;
 
+pub use fits::fits_tc;
 pub use form::{PIECE_ROOM, TcForm};
 pub use receiver::Receiver;
 pub use reframe::reframe_tc;

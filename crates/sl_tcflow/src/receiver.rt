@@ -1,5 +1,5 @@
 //! Packets out of the frames that FARM-1 accepts.
-ghost use Rattle.std.specs.Prelude.{◌≡◌, ◌≢◌, ◌≤◌, ◌<◌, ◌++◌, ◌∷◌, [], ℕ, List, length, is_some, OnOk, IfOk, IfErr, IfSome, IfNone, Err};
+ghost use Rattle.std.specs.Prelude.{◌≡◌, ◌≢◌, ◌≤◌, ◌<◌, ◌++◌, ◌∷◌, [], ℕ, Bool, List, length, is_some, OnOk, IfOk, IfErr, IfSome, IfNone, Err};
 ghost use Rattle.sl_cop.specs.FarmClcw.{clcw_of};
 ghost use Rattle.sl_packet.specs.Packets.{only_idle, without_idle};
 ghost use Rattle.sl_packet.specs.Sink.{TakesAll};
@@ -12,15 +12,15 @@ ghost use Rattle.sl_tcflow.specs.Incomplete.{incomplete_of};
 ghost use Rattle.sl_tcflow.specs.Receiving.{ForProcessed, HasProcessed, HasFailed, HasFailedAfter, HaveStepped, ForIncomplete, IsIncompleteAround, AreIncomplete, map_of, ended_by, farm_of, unit_channel, verdict_on};
 ghost use Rattle.sl_tcflow.specs.Reception.{segments_of};
 ghost use Rattle.sl_tcflow.specs.ReceptionParameters.{ReceptionParameters};
-ghost use Rattle.sl_tcflow.specs.Series.{header_at};
+ghost use Rattle.sl_tcflow.specs.Series.{header_at, segment_in};
 
 use crate::incomplete::Incomplete;
 use crate::kept::{held_on, take_unit};
 use crate::step::{QUIET, TcStep};
-use sl_cop::{Farm, FarmEvent, Verdict, Window};
+use sl_cop::{Farm, FarmEvent, Starts, Verdict, Window};
 use sl_fields::Clcw;
 use sl_packet::{FlowFault, PacketSink};
-use sl_tcframe::{TcContent, TcFrame};
+use sl_tcframe::{TcContent, TcFrame, VcSet};
 use std::alloc::Global;
 use std::marker::Model;
 
@@ -30,6 +30,7 @@ use std::marker::Model;
 pub struct Receiver {
     alloc: Global,
     farms: [Farm; 64],
+    plain: VcSet,
     incomplete: Vec<Incomplete>,
     has_failed: bool,
 }
@@ -45,14 +46,16 @@ impl Model for Receiver {
 }
 
 impl Receiver {
-    /// A receiver that was given no frame: FARM-1 of each virtual channel is open, with this window and this
-    /// V(R). It takes memory only as segments come.
-    pub fn new(alloc: Global, window: Window, vr: u8) -> Receiver
-        ensures { HasProcessed (record { window = window; vr = vr }) result [] }
+    /// A receiver that was given no frame: FARM-1 of each virtual channel is open, with this window and its own
+    /// V(R) of `starts`. The frames of the virtual channels of `plain` have no segment headers. It takes memory only
+    /// as segments come.
+    pub fn new(alloc: Global, window: Window, starts: &Starts, plain: VcSet) -> Receiver
+        ensures { HasProcessed (record { window = window; starts = starts.now; plain = plain }) result [] }
     {
         Receiver {
             alloc,
-            farms: [Farm::new(window, vr); 64],
+            farms: farms_at_start(window, starts),
+            plain,
             incomplete: Vec::new(alloc),
             has_failed: false,
         }
@@ -76,7 +79,7 @@ impl Receiver {
         ensures processed { OnOk result (ForProcessed self.old (λ r views. HasProcessed r self.new (views ++ frame.now ∷ []))) }
         ensures verdict { IfOk result (λ step. ForProcessed self.old (λ r views. step.verdict ≡ verdict_on r views frame.now)) }
         // and the packets that end with its unit were accepted and counted.
-        ensures accepted { OnOk result (ForProcessed self.old (λ r views. TakesAll S.taking sink.old (unit_channel frame.now) (without_idle (ended_by r views frame.now)) sink.new)) }
+        ensures accepted { OnOk result (ForProcessed self.old (λ r views. TakesAll S.taking sink.old (unit_channel r frame.now) (without_idle (ended_by r views frame.now)) sink.new)) }
         ensures packets { IfOk result (λ step. ForProcessed self.old (λ r views. step.packets ≡ length (without_idle (ended_by r views frame.now)))) }
         ensures idle { IfOk result (λ step. ForProcessed self.old (λ r views. step.idle ≡ length (only_idle (ended_by r views frame.now)))) }
         ensures kept { OnOk result (S.failures sink.new ≡ S.failures sink.old) }
@@ -91,7 +94,7 @@ impl Receiver {
         // At a fault some of the packets were accepted, the first ones, and FARM-1 has taken the frame.
         ensures stopped { IfErr result (λ flow. flow ≢ FlowFault.Failed → HasFailed self.new
             × ForProcessed self.old (λ r views. HasFailedAfter r self.new (views ++ frame.now ∷ [])
-            × IsStopped S.taking S.failing S.failures sink.old (unit_channel frame.now) (without_idle (ended_by r views frame.now)) flow sink.new)) }
+            × IsStopped S.taking S.failing S.failures sink.old (unit_channel r frame.now) (without_idle (ended_by r views frame.now)) flow sink.new)) }
         // Whatever was processed before, the sink failed exactly where the fault says so.
         ensures counted { IfErr result (λ flow. CountsFault S.failures sink.old flow sink.new) }
         // Memory is wanted only where the frame's unit is accepted and a series is incomplete on its MAP, before the
@@ -104,7 +107,15 @@ impl Receiver {
         // A fault leaves it set.
         self.has_failed = true;
         let verdict = step(&mut self.farms, frame);
-        let reported = match take(self.alloc, &mut self.incomplete, verdict, frame, sink) {
+        let plain = self.plain.has(frame.vc());
+        let reported = match take(
+            self.alloc,
+            &mut self.incomplete,
+            plain,
+            verdict,
+            frame,
+            sink,
+        ) {
             Ok(step) => step,
             Err(flow) => return Err(flow),
         };
@@ -143,6 +154,17 @@ impl Receiver {
     }
 }
 
+// FARM-1 of each virtual channel before its first frame.
+fn farms_at_start(window: Window, starts: &Starts) -> [Farm; 64]
+    ensures { (r : ReceptionParameters) → r.window ≡ window → r.starts ≡ starts.now → HaveStepped r result [] }
+{
+    let mut farms = [Farm::new(window, 0); 64];
+    for vc in 0..64 {
+        farms[usize::from(vc)] = Farm::new(window, starts.start(vc));
+    }
+    farms
+}
+
 // Steps FARM-1 of a frame's virtual channel.
 fn step(farms: &mut [Farm; 64], frame: &TcFrame) -> Verdict
     ensures verdict { (r : ReceptionParameters) (views : List TcView) → HaveStepped r farms.old views → result ≡ verdict_on r views frame.now }
@@ -167,25 +189,27 @@ fn event_in(carried: &TcContent) -> FarmEvent
     }
 }
 
-// Takes the unit of a frame, if it carries one and this verdict accepts it.
+// Takes the unit of a frame, if it carries one and this verdict accepts it, on a virtual channel without segment headers
+// or with them.
 fn take<S: PacketSink>(
     alloc: Global,
     incomplete: &mut Vec<Incomplete>,
+    plain: bool,
     verdict: Verdict,
     frame: &TcFrame,
     sink: &mut S,
 ) -> Result<TcStep, FlowFault>
-    ensures series { OnOk result (ForIncomplete incomplete.old.items verdict frame.now (λ r views. AreIncomplete r incomplete.new.items (views ++ frame.now ∷ []))) }
-    ensures accepted { OnOk result (ForIncomplete incomplete.old.items verdict frame.now (λ r views. TakesAll S.taking sink.old (unit_channel frame.now) (without_idle (ended_by r views frame.now)) sink.new)) }
-    ensures step { IfOk result (λ step. ForIncomplete incomplete.old.items verdict frame.now (λ r views. IsReportedOf r views frame.now step)) }
+    ensures series { OnOk result (ForIncomplete plain incomplete.old.items verdict frame.now (λ r views. AreIncomplete r incomplete.new.items (views ++ frame.now ∷ []))) }
+    ensures accepted { OnOk result (ForIncomplete plain incomplete.old.items verdict frame.now (λ r views. TakesAll S.taking sink.old (unit_channel r frame.now) (without_idle (ended_by r views frame.now)) sink.new)) }
+    ensures step { IfOk result (λ step. ForIncomplete plain incomplete.old.items verdict frame.now (λ r views. IsReportedOf r views frame.now step)) }
     ensures kept { OnOk result (S.failures sink.new ≡ S.failures sink.old) }
     ensures counted { IfErr result (λ flow. CountsFault S.failures sink.old flow sink.new) }
-    ensures stopped { IfErr result (λ flow. ForIncomplete incomplete.old.items verdict frame.now (λ r views. IsStopped S.taking S.failing S.failures sink.old (unit_channel frame.now) (without_idle (ended_by r views frame.now)) flow sink.new)) }
+    ensures stopped { IfErr result (λ flow. ForIncomplete plain incomplete.old.items verdict frame.now (λ r views. IsStopped S.taking S.failing S.failures sink.old (unit_channel r frame.now) (without_idle (ended_by r views frame.now)) flow sink.new)) }
     ensures not_failed { IfErr result (λ flow. flow ≢ FlowFault.Failed) }
-    ensures memory { IfErr result (λ flow. flow ≡ FlowFault.Memory → ForIncomplete incomplete.old.items verdict frame.now (λ r views. IsIncompleteAround r views frame.now)) }
+    ensures memory { IfErr result (λ flow. flow ≡ FlowFault.Memory → ForIncomplete plain incomplete.old.items verdict frame.now (λ r views. IsIncompleteAround r views frame.now)) }
 {
     match accepted_unit(verdict, &frame.content()) {
-        Some(unit) => match take_unit(alloc, incomplete, frame.vc(), unit, sink) {
+        Some(unit) => match take_unit(alloc, incomplete, frame.vc(), plain, unit, sink) {
             Ok(step) => Ok(step),
             Err(flow) => Err(flow),
         },
@@ -197,7 +221,7 @@ fn take<S: PacketSink>(
 fn accepted_unit<'a>(verdict: Verdict, carried: &TcContent<'a>) -> Option<&'a [u8]>
     requires { IsContent (content carried.now) }
     ensures unit { IfSome result (λ unit. unit_by verdict (content carried.now) ≡ unit.now ∷ []) }
-    ensures map { IfSome result (λ unit. map_of (content carried.now) ≡ (header_at unit.now).map) }
+    ensures map { IfSome result (λ unit. (plain : Bool) → map_of plain (content carried.now) ≡ (header_at (segment_in plain unit.now)).map) }
     ensures some { IfSome result (λ unit. 0 < length unit.now) }
     ensures short { IfSome result (λ unit. length unit.now ≤ 1019) }
     ensures accepted { IfSome result (λ unit. verdict ≡ Verdict.Accept) }

@@ -1,35 +1,41 @@
 //! The normal form of delivered packets, whole.
 ghost use Rattle.std.specs.Prelude.{◌≡◌, ℕ, ◌≤◌, IfOk, OnErr};
 ghost use Rattle.sl_packet.specs.Delivered.{HasNone, channel_count};
+ghost use Rattle.sl_tcflow.specs.FitsTc.{FitsTc};
 ghost use Rattle.sl_tcflow.specs.Recording.{tc_lists};
 ghost use Rattle.sl_tcflow.specs.TcNormalForm.{tc_normal_form_of};
 
 use crate::form::TcForm;
+use sl_cop::Starts;
 use sl_packet::Delivered;
-use sl_tcframe::TcShape;
+use sl_tcframe::{TcShape, VcSet};
 use std::alloc::{AllocError, Global};
 
 /// The normal form of the packets that were delivered, those of virtual channel `v` and MAP `m` on channel
-/// `64 * v + m`: frames of type AD of this format, end to end, and none where there are no packets. `vr` is the
-/// initial V(R) of each virtual channel, the N(S) of its first frame. The form is this project's own
-/// (docs/normal-form.md). Read as a recording, from that V(R) on, it delivers these packets and no others,
-/// whatever the window of FARM-1.
+/// `64 * v + m`: frames of type AD of this format, end to end, and none where there are no packets. `starts` has V(R) of
+/// each virtual channel before its first frame, the N(S) of that frame. The frames of the virtual channels of `plain`
+/// have no segment headers; each carries a packet. The form is this project's own (docs/normal-form.md). Read as a
+/// recording, with these starts and these channels, it delivers these packets and no others, whatever the window of
+/// FARM-1.
 ///
-/// `spacecraft` is 0 to 1023. The only refusal is want of memory, and only where there are packets.
+/// `spacecraft` is 0 to 1023, and the packets are such as [`fits_tc`](crate::fits_tc) tells. The only refusal is want of
+/// memory, and only where there are packets.
 pub fn reframe_tc(
     alloc: Global,
     shape: &TcShape,
     spacecraft: u16,
-    vr: u8,
+    starts: &Starts,
+    plain: &VcSet,
     delivered: &Delivered,
 ) -> Result<Vec<u8>, AllocError>
     requires spacecraft { spacecraft ≤ 1023 }
-    ensures form { IfOk result (λ form. form.items ≡ tc_normal_form_of shape.now spacecraft vr delivered.now.lists) }
-    ensures delivers { IfOk result (λ form. (w : ℕ) → tc_lists shape.now spacecraft (record { window = w; vr = vr }) form.items ≡ delivered.now.lists) }
+    requires fits { FitsTc shape.now plain.now delivered.now.lists }
+    ensures form { IfOk result (λ form. form.items ≡ tc_normal_form_of shape.now spacecraft starts.now plain.now delivered.now.lists) }
+    ensures delivers { IfOk result (λ form. (w : ℕ) → tc_lists shape.now spacecraft (record { window = w; starts = starts.now; plain = plain.now }) form.items ≡ delivered.now.lists) }
     ensures packets { OnErr result (HasNone delivered.now 0 channel_count → ⊥) }
 {
     let mut form = Vec::new(alloc);
-    let mut pieces = TcForm::new(*shape, spacecraft, vr, delivered);
+    let mut pieces = TcForm::new(*shape, spacecraft, *starts, *plain, delivered);
     while pieces.next(&mut form)? {}
     Ok(form)
 }

@@ -1,17 +1,20 @@
 //! Segments of service data units.
 ghost use Rattle.std.specs.Prelude.{◌≡◌, ◌≤◌, ◌<◌, length};
-ghost use Rattle.sl_tcflow.specs.Series.{flags_of, header_at, octets_at};
+ghost use Rattle.sl_tcflow.specs.Series.{flags_of, header_at, octets_at, segment_in};
 
 use sl_fields::SegmentHeader;
 
-/// The sequence flags of a continuing, a first and a last segment (CCSDS 232.0-B). 3 is of one with no segmentation.
+/// The sequence flags of a continuing, a first and a last segment, and of one with no segmentation (CCSDS 232.0-B).
 pub const CONTINUING: u8 = 0;
 
 pub const FIRST: u8 = 1;
 
 pub const LAST: u8 = 2;
 
-/// A segment: the sequence flags and the MAP of its segment header, and the octets after that.
+pub const WHOLE: u8 = 3;
+
+/// A segment: the sequence flags and the MAP of its segment header, and the octets after that. One on a virtual channel
+/// without segment headers is whole and on MAP 0.
 #[derive(Clone, Copy)]
 pub struct Segment<'a> {
     pub flags: u8,
@@ -19,15 +22,23 @@ pub struct Segment<'a> {
     pub octets: &'a [u8],
 }
 
-/// The segment that a unit is.
-pub fn segment_of(unit: &[u8]) -> Segment
+/// The segment that a unit is, on a virtual channel without segment headers (`plain`) or with them.
+pub fn segment_of(plain: bool, unit: &[u8]) -> Segment
     requires { 0 < length unit.now }
-    ensures flags { result.flags ≡ flags_of unit.now }
-    ensures map { result.map ≡ (header_at unit.now).map }
-    ensures octets { result.octets.now ≡ octets_at unit.now }
+    ensures flags { result.flags ≡ flags_of (segment_in plain unit.now) }
+    ensures map { result.map ≡ (header_at (segment_in plain unit.now)).map }
+    ensures octets { result.octets.now ≡ octets_at (segment_in plain unit.now) }
+    ensures short { length result.octets.now ≤ length unit.now }
     ensures most { result.flags ≤ 3 }
     ensures map_most { result.map ≤ 63 }
 {
+    if plain {
+        return Segment {
+            flags: WHOLE,
+            map: 0,
+            octets: unit,
+        };
+    }
     match unit.split_first_chunk::<1>() {
         Some((header, octets)) => {
             let header = SegmentHeader::read(header);

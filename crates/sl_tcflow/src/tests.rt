@@ -2,6 +2,8 @@ mod anomaly;
 mod counting_sink;
 mod form;
 mod long_series;
+mod plain;
 mod receiver;
 mod reframe;
 mod refusing_sink;
+mod starts;

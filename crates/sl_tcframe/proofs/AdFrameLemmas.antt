@@ -4,7 +4,6 @@ use Rattle.std.proofs.lemmas.Bool.{eq-eqb, ne_eqb, le-ltb}
 use Rattle.sl_fields.specs.Fecf.{fecf_is_good}
 use Rattle.sl_fields.specs.FecfField.{fecf_part, with_fecf}
 use Rattle.sl_fields.specs.Field.{packed}
-use Rattle.sl_fields.specs.SegmentHeader.{SegmentFields, segment_fields, segment_octets}
 use Rattle.sl_fields.specs.TcHeader.{TcFields, FitsTcHeader, tc_header, tc_fields, tc_octets}
 use Rattle.sl_fields.proofs.FecfLemmas.{fecf_len_le, length-fecf_part, length-with_fecf, with_fecf_good}
 use Rattle.sl_fields.proofs.HeaderLayout.{reads_back}
@@ -14,7 +13,7 @@ use Rattle.sl_fields.proofs.TcHeaderLemmas.{tc_layout}
 use Rattle.sl_tcframe.specs.declared.tc_frame.TcSkip.{TcSkip}
 use Rattle.sl_tcframe.specs.declared.tc_frame.TcSkip.TheVariants.{Fecf, Version, Spacecraft, Long, Kind, Empty}
 use Rattle.sl_tcframe.specs.TcFrame.{TcFormat, TcParts, ArePartsOf, Ad, header_of, parts_of, is_cut, content_of, unit_of, early_reason, read_as, tc_frame}
-use Rattle.sl_tcframe.specs.AdFrame.{FitAdFrame, FitPlainFrame, ad_header, ad_len, ad_frame, plain_frame, plain_len}
+use Rattle.sl_tcframe.specs.AdFrame.{FitAdFrame, ad_header, ad_len, ad_frame}
 use Rattle.sl_tcframe.proofs.PartLemmas.{only_parts, parts_cut}
 
 -- octets are not skipped for the error control field that is theirs
@@ -37,15 +36,15 @@ reason_by spacecraft max len h field =
     else if length field == 0 then Some Empty
     else None
 
-module _ (format : TcFormat) (spacecraft vc ns : ℕ) (unit : List ℕ) (fit : FitPlainFrame format spacecraft vc ns unit) where
+module _ (format : TcFormat) (spacecraft vc ns : ℕ) (unit : List ℕ) (fit : FitAdFrame format spacecraft vc ns unit) where
   abbrev len : ℕ
-  len = plain_len format (length unit)
+  len = ad_len format (length unit)
 
   abbrev h : TcFields
   h = ad_header spacecraft vc ns len
 
   abbrev frame : List ℕ
-  frame = plain_frame format spacecraft vc ns unit
+  frame = ad_frame format spacecraft vc ns unit
 
   abbrev covered : List ℕ
   covered = tc_octets h ++ unit
@@ -56,11 +55,11 @@ module _ (format : TcFormat) (spacecraft vc ns : ℕ) (unit : List ℕ) (fit : F
   length-covered : length covered ≡ 5 + length unit
   length-covered = omega (arith, length-append (tc_octets h) unit, length-octets_of 5 (tc_fields h))
 
-  pub length-plain_frame : length frame ≡ len
-  length-plain_frame = omega (arith, length-with_fecf format.fecf covered, length-covered)
+  pub length-ad_frame : length frame ≡ len
+  length-ad_frame = omega (arith, length-with_fecf format.fecf covered, length-covered)
 
-  pub plain_within : len ≤ format.max
-  plain_within = let inside = fit.inside in let least = fit.least in omega (arith, fecf_len_le format.fecf)
+  pub within : len ≤ format.max
+  within = let inside = fit.inside in let least = fit.least in omega (arith, fecf_len_le format.fecf)
 
   header_fits : FitsTcHeader h
   header_fits = record {
@@ -68,7 +67,7 @@ module _ (format : TcFormat) (spacecraft vc ns : ℕ) (unit : List ℕ) (fit : F
     spare = omega arith;
     spacecraft = let s = fit.spacecraft_fits in omega arith;
     vc = let v = fit.vc_fits in omega arith;
-    length = let m = fit.most in let w = plain_within in omega arith;
+    length = let m = fit.most in let w = within in omega arith;
     ns = fit.ns_fits;
   }
 
@@ -80,22 +79,22 @@ module _ (format : TcFormat) (spacecraft vc ns : ℕ) (unit : List ℕ) (fit : F
     in_order = append_assoc (tc_octets h) unit (fecf_part format.fecf covered);
     header = length-octets_of 5 (tc_fields h);
     fecf = length-fecf_part format.fecf covered;
-    stated = length-plain_frame ∙ stated ∙ ap (λ (g : TcFields). g.length + 1) (sym header_back);
+    stated = length-ad_frame ∙ stated ∙ ap (λ (g : TcFields). g.length + 1) (sym header_back);
   }
     where
       stated : len ≡ h.length + 1
       stated = omega arith
 
-  pub plain_frame_cut : is_cut format frame ≡ true
-  plain_frame_cut = parts_cut format frame made_of made_of_parts
+  pub ad_frame_cut : is_cut format frame ≡ true
+  ad_frame_cut = parts_cut format frame made_of made_of_parts
 
-  pub plain_frame_back : tc_frame format spacecraft frame ≡ Ok (record { vc = vc; content = Ad ns unit })
-  plain_frame_back =
+  pub ad_frame_back : tc_frame format spacecraft frame ≡ Ok (record { vc = vc; content = Ad ns unit })
+  ad_frame_back =
       let parts = only_parts format frame made_of made_of_parts in
       let header : header_of frame ≡ h = ap (λ (p : TcParts). tc_header p.header) parts ∙ header_back in
       let field : (parts_of format frame).field ≡ unit = ap (λ (p : TcParts). p.field) parts in
       let good = good_if format.fecf covered (omega (arith, length-covered)) in
-      let small : nat_lt format.max (length frame) ≡ false = le-ltb format.max (length frame) (let w = plain_within in omega (arith, length-plain_frame)) in
+      let small : nat_lt format.max (length frame) ≡ false = le-ltb format.max (length frame) (let w = within in omega (arith, length-ad_frame)) in
       let some : (length unit == 0) ≡ false = ne_eqb (length unit) 0 (λ e. let s = fit.some in omega arith) in
       let kept : early_reason format spacecraft frame ≡ None =
       ap (λ bad. if bad then Some Fecf else reason_by spacecraft format.max (length frame) (header_of frame) (parts_of format frame).field) good
@@ -106,42 +105,3 @@ module _ (format : TcFormat) (spacecraft vc ns : ℕ) (unit : List ℕ) (fit : F
       ap (λ g. content_of g (parts_of format frame).field) header ∙ ap (content_of h) field ∙ unit_is h unit refl fit.some in
       ap (λ reason. read_as reason (header_of frame) (content_of (header_of frame) (parts_of format frame).field)) kept
       ∙ ap (λ c. read_as None (header_of frame) c) carried ∙ ap (λ g. read_as None g (Some (Ad ns unit))) header
-
-module _ (format : TcFormat) (spacecraft vc ns : ℕ) (segment : SegmentFields) (octets : List ℕ) (fit : FitAdFrame format spacecraft vc ns segment octets) where
-  abbrev segment_unit : List ℕ
-  segment_unit = segment_octets segment ++ octets
-
-  length-unit : length segment_unit ≡ 1 + length octets
-  length-unit = omega (arith, length-append (segment_octets segment) octets, length-octets_of 1 (segment_fields segment))
-
-  same_len : plain_len format (length segment_unit) ≡ ad_len format (length octets)
-  same_len = omega (arith, length-unit)
-
-  -- a frame with a segment header is one whose data field begins with it
-  is_plain : plain_frame format spacecraft vc ns segment_unit ≡ ad_frame format spacecraft vc ns segment octets
-  is_plain =
-      ap (λ n. with_fecf format.fecf (tc_octets (ad_header spacecraft vc ns n) ++ segment_unit)) same_len
-      ∙ ap (with_fecf format.fecf) (sym (append_assoc (tc_octets (ad_header spacecraft vc ns (ad_len format (length octets)))) (segment_octets segment) octets))
-
-  plain_fit : FitPlainFrame format spacecraft vc ns segment_unit
-  plain_fit = record {
-    least = fit.least;
-    most = fit.most;
-    spacecraft_fits = fit.spacecraft_fits;
-    vc_fits = fit.vc_fits;
-    ns_fits = fit.ns_fits;
-    some = omega (arith, length-unit);
-    inside = let inside = fit.inside in let least = fit.least in omega (arith, length-unit, fecf_len_le format.fecf);
-  }
-
-  pub length-ad_frame : length (ad_frame format spacecraft vc ns segment octets) ≡ ad_len format (length octets)
-  length-ad_frame = ap length (sym is_plain) ∙ length-plain_frame format spacecraft vc ns segment_unit plain_fit ∙ same_len
-
-  pub within : ad_len format (length octets) ≤ format.max
-  within = omega (arith, same_len, plain_within format spacecraft vc ns segment_unit plain_fit)
-
-  pub ad_frame_cut : is_cut format (ad_frame format spacecraft vc ns segment octets) ≡ true
-  ad_frame_cut = ap (is_cut format) (sym is_plain) ∙ plain_frame_cut format spacecraft vc ns segment_unit plain_fit
-
-  pub ad_frame_back : tc_frame format spacecraft (ad_frame format spacecraft vc ns segment octets) ≡ Ok (record { vc = vc; content = Ad ns segment_unit })
-  ad_frame_back = ap (tc_frame format spacecraft) (sym is_plain) ∙ plain_frame_back format spacecraft vc ns segment_unit plain_fit

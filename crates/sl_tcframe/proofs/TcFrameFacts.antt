@@ -4,7 +4,7 @@ use Rattle.sl_fields.specs.Fecf.{fecf_of, register_of}
 use Rattle.sl_fields.specs.SegmentHeader.{SegmentFields}
 use Rattle.sl_tcframe.specs.declared.tc_frame.TcSkip.TheVariants.{Fecf, Version, Spacecraft, Long, Kind, Empty, Command}
 use Rattle.sl_tcframe.specs.TcFrame.{TcFormat, TcView, Content, Ad, Bd, Unlock, SetVr, is_cut, tc_frame}
-use Rattle.sl_tcframe.specs.AdFrame.{FitAdFrame, FitPlainFrame, ad_frame, plain_frame, plain_room_of, room_of}
+use Rattle.sl_tcframe.specs.AdFrame.{FitAdFrame, ad_frame, plain_room_of, room_of, segment_unit}
 use Rattle.sl_tcframe.specs.TcDelimited.{tc_frames_of, tc_remainder_of}
 
 abbrev pub format : ℕ → TcFormat
@@ -92,9 +92,9 @@ abbrev unsegmented : SegmentFields
 unsegmented = record { flags = 3; map = 0 }
 
 pub record AreWritten : Type 0 where
-  pub whole : ad_frame (format 16) 1 0 0 unsegmented (0x10 ∷ 0x01 ∷ 0xC0 ∷ 0x00 ∷ 0x00 ∷ 0x03 ∷ 0xAA ∷ 0xBB ∷ 0xCC ∷ 0xDD ∷ []) ≡ carrier
-  pub no_octets : ad_frame (format 16) 1023 63 255 (record { flags = 1; map = 5 }) [] ≡ 0x03 ∷ 0xFF ∷ 0xFC ∷ 0x05 ∷ 0xFF ∷ 0x45 ∷ []
-  pub protected : ad_frame (with_error_control 16) 1 0 0 unsegmented (0xAA ∷ []) ≡ 0x00 ∷ 0x01 ∷ 0x00 ∷ 0x08 ∷ 0x00 ∷ 0xC0 ∷ 0xAA ∷ 0x33 ∷ 0x59 ∷ []
+  pub whole : ad_frame (format 16) 1 0 0 (segment_unit unsegmented (0x10 ∷ 0x01 ∷ 0xC0 ∷ 0x00 ∷ 0x00 ∷ 0x03 ∷ 0xAA ∷ 0xBB ∷ 0xCC ∷ 0xDD ∷ [])) ≡ carrier
+  pub no_octets : ad_frame (format 16) 1023 63 255 (segment_unit (record { flags = 1; map = 5 }) []) ≡ 0x03 ∷ 0xFF ∷ 0xFC ∷ 0x05 ∷ 0xFF ∷ 0x45 ∷ []
+  pub protected : ad_frame (with_error_control 16) 1 0 0 (segment_unit unsegmented (0xAA ∷ [])) ≡ 0x00 ∷ 0x01 ∷ 0x00 ∷ 0x08 ∷ 0x00 ∷ 0xC0 ∷ 0xAA ∷ 0x33 ∷ 0x59 ∷ []
 
 pub frames_are_written : AreWritten
 unfolding fecf_of register_of
@@ -105,10 +105,10 @@ abbrev packet : List ℕ
 packet = 0x10 ∷ 0x01 ∷ 0xC0 ∷ 0x00 ∷ 0x00 ∷ 0x03 ∷ 0xAA ∷ 0xBB ∷ 0xCC ∷ 0xDD ∷ []
 
 pub record ArePlain : Type 0 where
-  pub whole : plain_frame (format 1024) 1 5 0 packet ≡ 0x00 ∷ 0x01 ∷ 0x14 ∷ 0x0E ∷ 0x00 ∷ packet
+  pub whole : ad_frame (format 1024) 1 5 0 packet ≡ 0x00 ∷ 0x01 ∷ 0x14 ∷ 0x0E ∷ 0x00 ∷ packet
   pub read : tc_frame (format 1024) 1 (0x00 ∷ 0x01 ∷ 0x14 ∷ 0x0E ∷ 0x00 ∷ packet) ≡ Ok (shows 5 (Ad 0 packet))
-  pub one_octet : plain_frame (format 16) 1023 63 255 (0xAA ∷ []) ≡ 0x03 ∷ 0xFF ∷ 0xFC ∷ 0x05 ∷ 0xFF ∷ 0xAA ∷ []
-  pub as_with_a_header : plain_frame (with_error_control 16) 1 0 0 (0xC0 ∷ 0xAA ∷ []) ≡ 0x00 ∷ 0x01 ∷ 0x00 ∷ 0x08 ∷ 0x00 ∷ 0xC0 ∷ 0xAA ∷ 0x33 ∷ 0x59 ∷ []
+  pub one_octet : ad_frame (format 16) 1023 63 255 (0xAA ∷ []) ≡ 0x03 ∷ 0xFF ∷ 0xFC ∷ 0x05 ∷ 0xFF ∷ 0xAA ∷ []
+  pub as_with_a_header : ad_frame (with_error_control 16) 1 0 0 (0xC0 ∷ 0xAA ∷ []) ≡ 0x00 ∷ 0x01 ∷ 0x00 ∷ 0x08 ∷ 0x00 ∷ 0xC0 ∷ 0xAA ∷ 0x33 ∷ 0x59 ∷ []
   pub room : plain_room_of (format 16) ≡ 11
   pub room_with_error_control : plain_room_of (with_error_control 1024) ≡ 1017
   pub segment_room : room_of (format 16) ≡ 10
@@ -152,19 +152,8 @@ frames_are_delimited = record {
 }
 
 -- the conditions of a frame that is written can be met
-pub fit_frame : FitAdFrame (format 16) 1 0 0 unsegmented (replicate 10 0xAA)
+pub fit_frame : FitAdFrame (format 16) 1 5 0 (replicate 11 0xAA)
 fit_frame = record {
-  least = omega arith;
-  most = omega arith;
-  spacecraft_fits = omega arith;
-  vc_fits = omega arith;
-  ns_fits = omega arith;
-  segment_fits = record { flags = omega arith; map = omega arith };
-  inside = omega arith;
-}
-
-pub fit_plain_frame : FitPlainFrame (format 16) 1 5 0 (replicate 11 0xAA)
-fit_plain_frame = record {
   least = omega arith;
   most = omega arith;
   spacecraft_fits = omega arith;

@@ -13,6 +13,16 @@ has_flag first (false ∷ flags) zero vc is = none_below (suc first) flags vc (o
 has_flag first (true ∷ flags) (suc k) vc is = rw (ne_eqb vc first (λ e. omega arith)) (has_flag (suc first) flags k vc (omega arith))
 has_flag first (false ∷ flags) (suc k) vc is = has_flag (suc first) flags k vc (omega arith)
 
+-- and they rise strictly, up to 63, where there are no more flags than that
+rising_lower : (least : ℕ) (vcs : List ℕ) → AreRising (suc least) vcs → AreRising least vcs
+rising_lower least [] rising = tt
+rising_lower least (vc ∷ vcs) rising = (omega (arith, rising.0), rising.1, rising.2)
+
+pub numbers_rise : (first : ℕ) (flags : List Bool) → first + length flags ≤ 64 → AreRising first (numbers_from first flags)
+numbers_rise first [] few = tt
+numbers_rise first (true ∷ flags) few = (omega arith, omega arith, numbers_rise (suc first) flags (omega arith))
+numbers_rise first (false ∷ flags) few = rising_lower first (numbers_from (suc first) flags) (numbers_rise (suc first) flags (omega arith))
+
 -- a number below the first stands before them
 with_below : (first : ℕ) (flags : List Bool) (vc : ℕ) → vc < first → with_vc (numbers_from first flags) vc ≡ vc ∷ numbers_from first flags
 with_below first [] vc low = refl

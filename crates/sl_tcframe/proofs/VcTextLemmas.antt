@@ -2,7 +2,7 @@
 use Rattle.std.proofs.Common.{◌≡◌, ◌≢◌, ℕ, zero, suc, ◌^◌, ◌<◌, ◌≤◌, List, [], ◌∷◌, ◌++◌, length, drop, slice_index_or, Option, None, Some, Result, Ok, Err, refl, sym, ap, subst, ◌∙◌, arith}
 use Rattle.std.specs.Fmt.{decimal}
 use Rattle.std.specs.Str.Parse.{AllDigits, ParsesUnsigned, digits_value, without_leading_plus}
-use Rattle.std.proofs.lemmas.Fmt.{decimal_digit, decimal-digits_value, digits_decimal, first_decimal, parse-decimal}
+use Rattle.std.proofs.lemmas.Fmt.{decimal_digit, decimal_injective, decimal-digits_value, digits_decimal, first_decimal, parse-decimal}
 use Rattle.std.proofs.lemmas.List.{append-nil, length-drop}
 use Rattle.std.proofs.lemmas.Str.Parse.{IsNumeralModel, numerals_by_value, tells_digits, not_in_digits, without_leading_plus_none, without_leading_plus_plus}
 use Rattle.sl_tcframe.specs.VcSet.{Lists, vc_text}
@@ -137,3 +137,21 @@ has_one least text (vc ∷ v ∷ vcs) none listed = absurd (comma_after (decimal
     comma_after [] s b nb is = nb 0 (omega (arith, ap length is)) (ap (λ l. slice_index_or l 0 0) is)
     comma_after (x ∷ a) s [] nb is = absurd (omega (arith, ap length is))
     comma_after (x ∷ a) s (y ∷ b) nb is = comma_after a s b (λ i inside. nb (suc i) (omega arith)) (ap (drop 1) is)
+
+-- ---- a text lists numbers in one way
+
+same_number : (vc other : ℕ) → vc ≤ 63 → other ≤ 63 → decimal vc ≡ decimal other → vc ≡ other
+same_number vc other small low is = decimal_injective vc other (omega arith) (omega arith) is
+
+pub lists_once : (least : ℕ) (text vcs others : List ℕ) → Lists least text vcs → Lists least text others → vcs ≡ others
+lists_once least text [] others listed other = absurd (omega (arith, listed.some))
+lists_once least text (vc ∷ []) others listed other =
+    let written : text ≡ decimal vc = listed.written ∙ append-nil (decimal vc) in
+    let only = has_one least text others (subst HasNoComma (sym written) (no_comma vc listed.rising.1)) other in
+    ap (λ v. v ∷ []) (same_number vc only.vc listed.rising.1 only.high (sym written ∙ only.is)) ∙ sym only.alone
+lists_once least text (vc ∷ v ∷ vcs) others listed other =
+    let more = has_more least text (decimal vc) (vc_text (v ∷ vcs)) others listed.written (no_comma vc listed.rising.1) other in
+    let same : vc ≡ more.vc = same_number vc more.vc listed.rising.1 more.high more.is in
+    let rest : Lists (suc vc) (vc_text (v ∷ vcs)) (v ∷ vcs) = record { some = omega arith; rising = listed.rising.2; written = refl } in
+    let above : Lists (suc vc) (vc_text (v ∷ vcs)) more.above = subst (λ n. Lists (suc n) (vc_text (v ∷ vcs)) more.above) (sym same) more.listed in
+    ap (λ l. vc ∷ l) (lists_once (suc vc) (vc_text (v ∷ vcs)) (v ∷ vcs) more.above rest above) ∙ ap (λ n. n ∷ more.above) same ∙ sym more.both

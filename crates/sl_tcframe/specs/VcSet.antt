@@ -44,3 +44,7 @@ NumbersAreAdded = (vcs : List ℕ) (vc v : ℕ) → has_vc (with_vc vcs vc) v �
 -- and numbers that rise up to 63 do so with one more of 63 at most
 abbrev pub AddedNumbersRise : Type 0
 AddedNumbersRise = (least : ℕ) (vcs : List ℕ) (vc : ℕ) → AreRising least vcs → least ≤ vc → vc ≤ 63 → AreRising least (with_vc vcs vc)
+
+-- A text lists numbers in one way.
+abbrev pub ListsOnce : Type 0
+ListsOnce = (least : ℕ) (text vcs others : List ℕ) → Lists least text vcs → Lists least text others → vcs ≡ others

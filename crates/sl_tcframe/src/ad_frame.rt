@@ -2,7 +2,7 @@
 ghost use Rattle.std.specs.Prelude.{◌≡◌, ◌+◌, ◌<◌, ◌≤◌, ◌++◌, length, vec_len, OnOk, OnErr};
 ghost use Rattle.std.specs.Vec.{vec_capacity};
 ghost use Rattle.sl_fields.specs.TcHeader.{tc_octets};
-ghost use Rattle.sl_tcframe.specs.AdFrame.{ad_frame, ad_header, ad_len, plain_frame, plain_len, plain_room_of, room_of, unit_frame};
+ghost use Rattle.sl_tcframe.specs.AdFrame.{ad_frame, ad_header, ad_len, plain_room_of, room_of, segment_unit};
 
 use crate::tc_shape::TcShape;
 use sl_fields::{SegmentHeader, TcHeader, fecf_field};
@@ -26,11 +26,11 @@ pub fn push_tc(
     requires spacecraft { spacecraft ≤ 1023 }
     requires vc { vc ≤ 63 }
     requires segment { length octets.now ≤ room_of shape.now }
-    ensures added { OnOk result (out.new.items ≡ out.old.items ++ ad_frame shape.now spacecraft vc ns header octets.now) }
-    ensures len { OnOk result (vec_len out.new ≡ vec_len out.old + ad_len shape.now (length octets.now)) }
+    ensures added { OnOk result (out.new.items ≡ out.old.items ++ ad_frame shape.now spacecraft vc ns (segment_unit header octets.now)) }
+    ensures len { OnOk result (vec_len out.new ≡ vec_len out.old + ad_len shape.now (1 + length octets.now)) }
     ensures unchanged { OnErr result (out.new.items ≡ out.old.items) }
     ensures capacity { vec_capacity out.old ≤ vec_capacity out.new }
-    ensures full { OnErr result (vec_capacity out.old < vec_len out.old + ad_len shape.now (length octets.now)) }
+    ensures full { OnErr result (vec_capacity out.old < vec_len out.old + ad_len shape.now (1 + length octets.now)) }
 {
     push_unit(out, shape, spacecraft, vc, ns, &header.write(), octets)
 }
@@ -52,11 +52,11 @@ pub fn push_tc_plain(
     requires vc { vc ≤ 63 }
     requires some { 1 ≤ length octets.now }
     requires unit { length octets.now ≤ plain_room_of shape.now }
-    ensures added { OnOk result (out.new.items ≡ out.old.items ++ plain_frame shape.now spacecraft vc ns octets.now) }
-    ensures len { OnOk result (vec_len out.new ≡ vec_len out.old + plain_len shape.now (length octets.now)) }
+    ensures added { OnOk result (out.new.items ≡ out.old.items ++ ad_frame shape.now spacecraft vc ns octets.now) }
+    ensures len { OnOk result (vec_len out.new ≡ vec_len out.old + ad_len shape.now (length octets.now)) }
     ensures unchanged { OnErr result (out.new.items ≡ out.old.items) }
     ensures capacity { vec_capacity out.old ≤ vec_capacity out.new }
-    ensures full { OnErr result (vec_capacity out.old < vec_len out.old + plain_len shape.now (length octets.now)) }
+    ensures full { OnErr result (vec_capacity out.old < vec_len out.old + ad_len shape.now (length octets.now)) }
 {
     push_unit(out, shape, spacecraft, vc, ns, &[], octets)
 }
@@ -74,11 +74,11 @@ fn push_unit(
     requires spacecraft { spacecraft ≤ 1023 }
     requires vc { vc ≤ 63 }
     requires unit { length segment.now + length octets.now ≤ 1 + room_of shape.now }
-    ensures added { OnOk result (out.new.items ≡ out.old.items ++ unit_frame shape.now spacecraft vc ns segment.now octets.now) }
-    ensures len { OnOk result (vec_len out.new ≡ vec_len out.old + plain_len shape.now (length segment.now + length octets.now)) }
+    ensures added { OnOk result (out.new.items ≡ out.old.items ++ ad_frame shape.now spacecraft vc ns (segment.now ++ octets.now)) }
+    ensures len { OnOk result (vec_len out.new ≡ vec_len out.old + ad_len shape.now (length segment.now + length octets.now)) }
     ensures unchanged { OnErr result (out.new.items ≡ out.old.items) }
     ensures capacity { vec_capacity out.old ≤ vec_capacity out.new }
-    ensures full { OnErr result (vec_capacity out.old < vec_len out.old + plain_len shape.now (length segment.now + length octets.now)) }
+    ensures full { OnErr result (vec_capacity out.old < vec_len out.old + ad_len shape.now (length segment.now + length octets.now)) }
 {
     let start = out.len();
     let len = frame_len(shape, segment.len() + octets.len());
@@ -96,7 +96,7 @@ fn push_unit(
 // Octets of the frame with so many octets in its data field.
 fn frame_len(shape: &TcShape, unit: usize) -> u16
     requires { unit ≤ 1 + room_of shape.now }
-    ensures value { result ≡ plain_len shape.now unit }
+    ensures value { result ≡ ad_len shape.now unit }
     ensures least { 5 ≤ result }
     ensures most { result ≤ 1024 }
 {

@@ -1,9 +1,9 @@
 //! What holds of the definitions alone. Each function does nothing; its clauses are the laws.
-ghost use Rattle.sl_tcframe.specs.AdFrame.{AdFramesAreReadBack, AdFramesAreWhole, PlainFramesAreReadBack};
+ghost use Rattle.sl_tcframe.specs.AdFrame.{AdFramesAreReadBack, AdFramesAreWhole};
 ghost use Rattle.sl_tcframe.specs.TcDelimited.{EachIsTcDelimited, IsTcDelimitedOnce};
 ghost use Rattle.sl_tcframe.specs.TcFraming.{AnyChunksAreTaken, ChunksAreDelimited, FrontsAreFrames, IncompleteBecomesFrame, NoneFollowsBelowLeast};
 ghost use Rattle.sl_tcframe.specs.TcFrame.{EachHasParts, HasPartsOnce, OnlyFramesHaveParts, EachIsRead, IsReadOnce};
-ghost use Rattle.sl_tcframe.specs.VcSet.{AddedNumbersRise, NumbersAreAdded};
+ghost use Rattle.sl_tcframe.specs.VcSet.{AddedNumbersRise, ListsOnce, NumbersAreAdded};
 
 /// Octets that are one frame by their frame length field have the parts of a TC frame, in one way, and no
 /// other octets have them.
@@ -26,17 +26,11 @@ pub fn tc_recordings_are_delimited()
     ensures once { IsTcDelimitedOnce }
 {}
 
-/// A frame of type AD is one by its frame length field, and is read back: it isn't skipped, and its virtual
-/// channel, its N(S) and its unit are those that it was made of.
+/// A frame of type AD, with a segment header or without, is one by its frame length field, and is read back: it isn't
+/// skipped, and its virtual channel, its N(S) and its unit are those that it was made of.
 pub fn ad_frames_are_read_back()
     ensures whole { AdFramesAreWhole }
     ensures read_back { AdFramesAreReadBack }
-{}
-
-/// The frame that [`push_tc_plain`](crate::push_tc_plain) adds is one by its frame length field and is read back: its
-/// virtual channel, its N(S) and its unit, the octets, are those that it was made of.
-pub fn plain_frames_are_read_back()
-    ensures { PlainFramesAreReadBack }
 {}
 
 /// A virtual channel that is put in its place among the numbers of a set is in it then, every other is in it exactly
@@ -44,6 +38,11 @@ pub fn plain_frames_are_read_back()
 pub fn channels_are_added()
     ensures added { NumbersAreAdded }
     ensures rising { AddedNumbersRise }
+{}
+
+/// A text lists virtual channels in one way.
+pub fn texts_list_channels_once()
+    ensures { ListsOnce }
 {}
 
 /// What four octets tell of a frame is what it is: a frame is whole at the front of octets exactly where they begin

@@ -1,7 +1,7 @@
 //! A set of virtual channels.
 ghost use Rattle.std.specs.Prelude.{◌≡◌, ℕ, ◌≤◌, List, [], IfSome, Some};
 ghost use Rattle.std.specs.Fmt.{decimal};
-ghost use Rattle.sl_tcframe.specs.VcSet.{Lists, has_vc, with_vc};
+ghost use Rattle.sl_tcframe.specs.VcSet.{AreRising, Lists, has_vc, with_vc};
 
 use std::marker::Model;
 
@@ -41,7 +41,8 @@ impl VcSet {
     /// The set with the virtual channel `vc`, 0 to 63, added.
     pub fn with(&self, vc: u8) -> VcSet
         requires { vc ≤ 63 }
-        ensures { result ≡ with_vc self.now vc }
+        ensures value { result ≡ with_vc self.now vc }
+        ensures numbers { AreRising 0 result }
     {
         let mut flags = self.flags;
         flags[usize::from(vc)] = true;
@@ -51,7 +52,8 @@ impl VcSet {
     /// Whether the virtual channel `vc`, 0 to 63, is in the set.
     pub fn has(&self, vc: u8) -> bool
         requires { vc ≤ 63 }
-        ensures { result ≡ has_vc self.now vc }
+        ensures value { result ≡ has_vc self.now vc }
+        ensures numbers { AreRising 0 self.now }
     {
         self.flags[usize::from(vc)]
     }
@@ -61,6 +63,7 @@ impl VcSet {
     pub fn read(text: &str) -> Option<VcSet>
         ensures listed { IfSome result (λ vcs. Lists 0 text.now vcs) }
         ensures every { (vcs : List ℕ) → Lists 0 text.now vcs → result ≡ Some vcs }
+        ensures numbers { IfSome result (AreRising 0) }
     {
         read_from(text, 0)
     }

@@ -1,5 +1,5 @@
 -- Delimiting TM frames in a recording that comes in chunks.
-use Rattle.std.specs.Prelude.{◌≡◌, ℕ, zero, suc, ◌<◌, ◌≤◌, List, [], ◌∷◌, ◌++◌, length, Option, None, Some}
+use Rattle.std.specs.Prelude.{◌≡◌, ℕ, ◌<◌, ◌≤◌, List, [], ◌∷◌, ◌++◌, length, take, Option, None, Some}
 use Rattle.std.specs.Borrow.{Bor}
 use Rattle.std.specs.List.{concat}
 use Rattle.sl_fields.specs.Field.{IsOctets}
@@ -15,19 +15,15 @@ pub record TmFraming : Type 0 where
 abbrev pub at_start : ℕ → TmFraming
 at_start len = record { len = len; rest = [] }
 
--- where none are held, the octets are those of the last frame
-abbrev pub rest_of : ℕ → List ℕ → List ℕ
-rest_of zero kept = []
-rest_of (suc n) kept = kept
-
+-- the octets that are held lie in front
 abbrev pub framing_of : Inside → TmFraming
-framing_of f = record { len = f.len; rest = rest_of f.held f.taken.items }
+framing_of f = record { len = f.len; rest = take f.held f.taken.items }
 
 pub record IsTmFramer (f : Inside) : Type 0 where
   pub least : 32 ≤ f.len
   pub most : f.len ≤ 2048
-  pub held : f.held ≡ length (rest_of f.held f.taken.items)
   pub short : f.held < f.len
+  pub room : length f.taken.items ≡ 2048
 
 -- ---- one call, with a chunk
 

@@ -1,5 +1,5 @@
 //! TM frames out of a recording that comes in chunks.
-ghost use Rattle.std.specs.Prelude.{◌≡◌, ◌<◌, [], length, IfSome, IfNone};
+ghost use Rattle.std.specs.Prelude.{◌≡◌, ◌+◌, ◌<◌, ◌≤◌, [], ◌++◌, length, take, IfSome, IfNone};
 ghost use Rattle.std.specs.Borrow.{sem};
 ghost use Rattle.std.specs.Io.BufRead.{Rests};
 
@@ -12,8 +12,10 @@ use std::marker::Model;
 #[derive(Drop)]
 pub struct TmFramer {
     len: u16,
-    // How many octets were taken after the last frame: all that are kept, or none where these are the last frame.
+    // How many octets were taken after the last frame.
     held: usize,
+    // These octets lie in front. It is full from the start, and octets are written over others, so that none are blanked
+    // between frames.
     taken: ArrayVec<u8, 2048>,
 }
 
@@ -38,7 +40,7 @@ impl TmFramer {
         TmFramer {
             len: shape.len(),
             held: 0,
-            taken: ArrayVec::new(),
+            taken: ArrayVec::from([0; 2048]),
         }
     }
 
@@ -47,10 +49,7 @@ impl TmFramer {
         ensures octets { result.now ≡ self.now.rest }
         ensures short { length result.now < self.now.len }
     {
-        if self.held == 0 {
-            return &[];
-        }
-        self.taken.as_slice()
+        &self.taken.as_slice()[..self.held]
     }
 
     /// Takes octets from the front of the chunk, and lends the frame that they complete with those taken before.
@@ -62,21 +61,18 @@ impl TmFramer {
         // Without one the chunk was used up first.
         ensures used_up { IfNone result (UsesUpChunk self.old piece.old.now piece.new.now) }
     {
-        if self.held == 0 {
-            self.taken.clear();
-        }
         let wanted = usize::from(self.len) - self.held;
         if piece.len() < wanted {
-            let _ = self.taken.try_extend_from_slice(piece);
+            write_at(self.taken.as_mut_slice(), self.held, piece);
+            self.held += piece.len();
             *piece = &[];
-            self.held = self.taken.len();
             return None;
         }
         let (front, behind) = piece.split_at(wanted);
-        let _ = self.taken.try_extend_from_slice(front);
+        write_at(self.taken.as_mut_slice(), self.held, front);
         *piece = behind;
         self.held = 0;
-        Some(self.taken.as_slice())
+        Some(&self.taken.as_slice()[..usize::from(self.len)])
     }
 
     /// As [`next`](TmFramer::next), for octets that outlive the frame: one that lies whole in the chunk is lent from
@@ -109,4 +105,13 @@ impl TmFramer {
     {
         self.next(piece)
     }
+}
+
+// Writes these octets over those at this offset.
+fn write_at(room: &mut [u8], offset: usize, octets: &[u8])
+    requires { offset + length octets.now ≤ length room.old }
+    ensures front { take (offset + length octets.now) room.new ≡ take offset room.old ++ octets.now }
+    ensures len { length room.new ≡ length room.old }
+{
+    room[offset..offset + octets.len()].copy_from_slice(octets);
 }

@@ -1,3 +1,4 @@
+mod channels;
 mod command_line;
 mod engines;
 mod faults;

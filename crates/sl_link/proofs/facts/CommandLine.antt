@@ -1,13 +1,16 @@
 -- Command lines and what becomes of them, computed from the definitions, so that a wrong definition doesn't
 -- check.
-use Rattle.std.proofs.Common.{◌≡◌, ℕ, Bool, true, false, List, [], ◌∷◌, Option, Some, option_map, codes, refl}
+use Rattle.std.proofs.Common.{replicate, ◌≡◌, ℕ, Bool, true, false, List, [], ◌∷◌, Option, Some, None, option_map, Ok, Err, codes, refl}
 use Rattle.clap.specs.Kinds.{Kinds}
 use Rattle.clap.specs.Simple.{subcommand_of}
-use Rattle.clap.specs.Walk.{Text}
-use Rattle.clap.specs.declared.error.kind.ErrorKind.TheVariants.{ArgumentConflict, DisplayHelp, InvalidSubcommand, InvalidValue, MissingRequiredArgument, MissingSubcommand, TooManyValues, UnknownArgument, ValueValidation}
+use Rattle.clap.specs.Walk.{Row, Text, first_of}
+use Rattle.clap.specs.declared.error.kind.ErrorKind.TheVariants.{ArgumentConflict, DisplayHelp, DisplayVersion, InvalidSubcommand, InvalidValue, MissingRequiredArgument, MissingSubcommand, TooManyValues, UnknownArgument, ValueValidation}
 use Rattle.clap.proofs.OnLiterals.{clap_on_literals}
-use Rattle.sl_link.specs.Program.CommandLine.{asked, refusals, request_in, sllink_app}
+use Rattle.sl_link.specs.Program.CommandLine.{managed_asked, parameters_asked, refusals, request_in, sllink_app}
 use Rattle.sl_link.specs.Link.Managed.{Parameters}
+use Rattle.sl_link.specs.declared.link.managed.ManagedFault.TheVariants.{Window}
+use Rattle.sl_link.specs.declared.program.command_line.Asked.{Asked}
+use Rattle.sl_link.specs.declared.program.command_line.RefusedParameter.TheVariants as refused
 use Rattle.sl_link.specs.declared.program.command_line.Engine.{Engine}
 use Rattle.sl_link.specs.declared.program.command_line.Engine.TheVariants.{ShowTm, ShowTc, CheckTm, CheckTc, PacketsTm, PacketsTc, NormaliseTm, NormaliseTc}
 use Rattle.sl_link.specs.declared.program.command_line.Request.{Request}
@@ -56,7 +59,7 @@ pub record AreRead : Type 0 where
 
 -- the parameters that the words ask for
 abbrev asked_by : List Text → Option Parameters
-asked_by words = option_map (λ (r : Request). asked r.options) (request_in (subcommand_of sllink_app words))
+asked_by words = option_map (λ (r : Request). parameters_asked r.options) (request_in (subcommand_of sllink_app words))
 
 pub record AskForParameters : Type 0 where
   pub all : asked_by (codes "sllink" ∷ codes "show" ∷ codes "tm" ∷ codes "--scid" ∷ codes "1" ∷ codes "--tm-length" ∷ codes "32" ∷ codes "--tc-length" ∷ codes "16" ∷ codes "--tm-fecf" ∷ codes "--window" ∷ codes "2" ∷ codes "--vr" ∷ codes "4" ∷ codes "--limit" ∷ codes "9" ∷ []) ≡ Some (record {
@@ -66,7 +69,8 @@ pub record AskForParameters : Type 0 where
     tc_max = 16;
     tc_fecf = false;
     window = 2;
-    vr = 4;
+    starts = replicate 64 4;
+    plain = [];
     max_octets = 9;
   })
   pub others : asked_by (codes "sllink" ∷ codes "show" ∷ codes "tm" ∷ codes "--scid" ∷ codes "1" ∷ codes "--tc-fecf" ∷ []) ≡ Some (record {
@@ -76,9 +80,55 @@ pub record AskForParameters : Type 0 where
     tc_max = 1024;
     tc_fecf = true;
     window = 10;
-    vr = 0;
+    starts = replicate 64 0;
+    plain = [];
     max_octets = 1073741824;
   })
+
+-- the texts of the options that name virtual channels
+abbrev texts_in : List Text → Option (Option Text × Option Text)
+texts_in words = option_map (λ (met : Text × List Row). (first_of (codes "plain") met.1, first_of (codes "vr-of") met.1)) (subcommand_of sllink_app words)
+
+pub record NameVcs : Type 0 where
+  pub both : texts_in (codes "sllink" ∷ codes "show" ∷ codes "tc" ∷ codes "--scid" ∷ codes "1" ∷ codes "--vr-of" ∷ codes "5:255" ∷ codes "--plain=0,63" ∷ []) ≡ Some (Some (codes "0,63"), Some (codes "5:255"))
+  pub neither : texts_in (codes "sllink" ∷ codes "show" ∷ codes "tc" ∷ codes "--scid" ∷ codes "1" ∷ []) ≡ Some (None, None)
+  pub of_no_octets : texts_in (codes "sllink" ∷ codes "check" ∷ codes "tm" ∷ codes "--plain" ∷ [] ∷ codes "--scid" ∷ codes "1" ∷ []) ≡ Some (Some [], None)
+
+-- a request with this window and this V(R), and what the texts of virtual channels are read as
+abbrev asked_with : ℕ → ℕ → Option (List ℕ) → Option (List ℕ) → Asked
+asked_with window vr plain starts = record {
+  request = record {
+    engine = ShowTc;
+    options = record {
+      spacecraft = 1;
+      tm_length = 32;
+      tc_length = 16;
+      tm_fecf = false;
+      tc_fecf = true;
+      window = window;
+      vr = vr;
+      max_octets = 9;
+    };
+  };
+  plain = plain;
+  starts = starts;
+}
+
+pub record AreTaken : Type 0 where
+  pub both : managed_asked (asked_with 2 4 (Some (0 ∷ 63 ∷ [])) (Some (replicate 64 9))) ≡ Ok (record {
+    spacecraft = 1;
+    tm_length = 32;
+    tm_fecf = false;
+    tc_max = 16;
+    tc_fecf = true;
+    window = 2;
+    starts = replicate 64 9;
+    plain = 0 ∷ 63 ∷ [];
+    max_octets = 9;
+  })
+  pub parameters_first : managed_asked (asked_with 3 4 None None) ≡ Err (refused.Managed Window)
+  pub then_plain : managed_asked (asked_with 2 4 None None) ≡ Err refused.Plain
+  pub then_starts : managed_asked (asked_with 2 4 (Some []) None) ≡ Err refused.Start
 
 pub record AskHelp : Type 0 where
   pub of_all : refusals (codes "sllink" ∷ codes "--help" ∷ []) ≡ DisplayHelp ∷ []
@@ -87,6 +137,13 @@ pub record AskHelp : Type 0 where
   pub of_check : refusals (codes "sllink" ∷ codes "check" ∷ codes "--help" ∷ []) ≡ DisplayHelp ∷ []
   pub of_packets : refusals (codes "sllink" ∷ codes "packets" ∷ codes "-h" ∷ []) ≡ DisplayHelp ∷ []
   pub of_normalise : refusals (codes "sllink" ∷ codes "normalise" ∷ codes "--help" ∷ []) ≡ DisplayHelp ∷ []
+
+pub record AskVersion : Type 0 where
+  pub by_name : refusals (codes "sllink" ∷ codes "--version" ∷ []) ≡ DisplayVersion ∷ []
+  pub by_letter : refusals (codes "any" ∷ codes "-V" ∷ []) ≡ DisplayVersion ∷ []
+  pub before_a_verb : refusals (codes "sllink" ∷ codes "--version" ∷ codes "show" ∷ codes "--spare" ∷ []) ≡ DisplayVersion ∷ []
+  pub before_help : refusals (codes "sllink" ∷ codes "-Vh" ∷ []) ≡ DisplayVersion ∷ []
+  pub after_help : refusals (codes "sllink" ∷ codes "--help" ∷ codes "--version" ∷ []) ≡ DisplayHelp ∷ []
 
 pub record AreRefusedFor : Type 0 where
   pub no_words : refusals (codes "sllink" ∷ []) ≡ MissingSubcommand ∷ []
@@ -114,6 +171,10 @@ pub record AreRefusedFor : Type 0 where
   pub flag_twice : refusals (codes "sllink" ∷ codes "show" ∷ codes "tm" ∷ codes "--scid" ∷ codes "1" ∷ codes "--tm-fecf" ∷ codes "--tm-fecf" ∷ []) ≡ ArgumentConflict ∷ []
   pub value_of_a_flag : refusals (codes "sllink" ∷ codes "show" ∷ codes "tm" ∷ codes "--scid" ∷ codes "1" ∷ codes "--tm-fecf=1" ∷ []) ≡ TooManyValues ∷ []
   pub value_of_the_flag_of_tc : refusals (codes "sllink" ∷ codes "show" ∷ codes "tc" ∷ codes "--scid" ∷ codes "1" ∷ codes "--tc-fecf=1" ∷ []) ≡ TooManyValues ∷ []
+  pub version_of_a_verb : refusals (codes "sllink" ∷ codes "show" ∷ codes "--version" ∷ []) ≡ UnknownArgument ∷ []
+  pub letter_after_a_verb : refusals (codes "sllink" ∷ codes "check" ∷ codes "tm" ∷ codes "--scid" ∷ codes "1" ∷ codes "-V" ∷ []) ≡ UnknownArgument ∷ []
+  pub value_of_version : refusals (codes "sllink" ∷ codes "--version=1" ∷ []) ≡ TooManyValues ∷ []
+  pub hexadecimal : refusals (codes "sllink" ∷ codes "show" ∷ codes "tm" ∷ codes "--scid" ∷ codes "0x1" ∷ []) ≡ ValueValidation ∷ []
   pub word_after_a_flag : refusals (codes "sllink" ∷ codes "show" ∷ codes "tm" ∷ codes "--scid" ∷ codes "1" ∷ codes "--tm-fecf" ∷ codes "yes" ∷ []) ≡ UnknownArgument ∷ []
 
 pub are_read : AreRead
@@ -142,6 +203,18 @@ pub ask_for_parameters : AskForParameters
 unfolding clap_on_literals
 ask_for_parameters = record { all = refl; others = refl }
 
+pub name_vcs : NameVcs
+unfolding clap_on_literals
+name_vcs = record { both = refl; neither = refl; of_no_octets = refl }
+
+pub are_taken : AreTaken
+are_taken = record {
+  both = refl;
+  parameters_first = refl;
+  then_plain = refl;
+  then_starts = refl;
+}
+
 pub ask_help : AskHelp
 unfolding clap_on_literals
 ask_help = record {
@@ -151,6 +224,16 @@ ask_help = record {
   of_check = refl;
   of_packets = refl;
   of_normalise = refl;
+}
+
+pub ask_version : AskVersion
+unfolding clap_on_literals
+ask_version = record {
+  by_name = refl;
+  by_letter = refl;
+  before_a_verb = refl;
+  before_help = refl;
+  after_help = refl;
 }
 
 pub are_refused : AreRefusedFor
@@ -181,5 +264,9 @@ are_refused = record {
   flag_twice = refl;
   value_of_a_flag = refl;
   value_of_the_flag_of_tc = refl;
+  version_of_a_verb = refl;
+  letter_after_a_verb = refl;
+  value_of_version = refl;
+  hexadecimal = refl;
   word_after_a_flag = refl;
 }

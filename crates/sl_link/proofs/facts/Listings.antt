@@ -2,6 +2,7 @@
 -- check. TM frames have 32 octets and TC frames 16 at most, the spacecraft is 1.
 use Rattle.std.proofs.Common.{◌≡◌, ℕ, Bool, true, false, List, [], ◌∷◌, ◌++◌, codes, replicate, refl}
 use Rattle.std.specs.Fmt.{digits}
+use Rattle.std.specs.List.{slice_set}
 use Rattle.hex.specs.Hex.{encode_with}
 use Rattle.sl_fields.specs.Fecf.{fecf_of, register_of}
 use Rattle.sl_link.specs.Link.Managed.{Parameters}
@@ -18,7 +19,8 @@ link tm_length tm_fecf =
       tc_max = 1024;
       tc_fecf = false;
       window = 10;
-      vr = 0;
+      starts = replicate 64 0;
+      plain = [];
       max_octets = 1073741824;
     }
 
@@ -94,25 +96,26 @@ telecommand tc_fecf vr =
       tc_max = 16;
       tc_fecf = tc_fecf;
       window = 10;
-      vr = vr;
+      starts = replicate 64 vr;
+      plain = [];
       max_octets = 1073741824;
     }
 
-abbrev plain_tc : Parameters
+abbrev pub plain_tc : Parameters
 plain_tc = telecommand false 0
 
 -- a space packet of ten octets, and frames of types AD and BD whose unit is a segment that carries it whole
-abbrev telecommand_packet : List ℕ
+abbrev pub telecommand_packet : List ℕ
 telecommand_packet = 0x10 ∷ 0x01 ∷ 0xC0 ∷ 0x00 ∷ 0x00 ∷ 0x03 ∷ 0xAA ∷ 0xBB ∷ 0xCC ∷ 0xDD ∷ []
 
-abbrev ad_frame : List ℕ
+abbrev pub ad_frame : List ℕ
 ad_frame = (0x00 ∷ 0x01 ∷ 0x00 ∷ 0x0F ∷ 0x00 ∷ 0xC0 ∷ []) ++ telecommand_packet
 
-abbrev bd_frame : List ℕ
+abbrev pub bd_frame : List ℕ
 bd_frame = (0x20 ∷ 0x01 ∷ 0x00 ∷ 0x0F ∷ 0x00 ∷ 0xC0 ∷ []) ++ telecommand_packet
 
 -- a frame of type AD with this N(S), whose unit is a whole segment of one octet
-abbrev short_ad_frame : ℕ → List ℕ
+abbrev pub short_ad_frame : ℕ → List ℕ
 short_ad_frame ns = 0x00 ∷ 0x01 ∷ 0x00 ∷ 0x06 ∷ ns ∷ 0xC0 ∷ 0x00 ∷ []
 
 -- one of type BD, whose unit is the segment header of a middle segment
@@ -120,7 +123,7 @@ abbrev empty_bd_frame : List ℕ
 empty_bd_frame = 0x20 ∷ 0x01 ∷ 0x00 ∷ 0x05 ∷ 0x00 ∷ 0x00 ∷ []
 
 -- frames that are skipped, each for another reason
-abbrev skipped_frames : List ℕ
+abbrev pub skipped_frames : List ℕ
 skipped_frames =
     (0x00 ∷ 0x02 ∷ 0x00 ∷ 0x06 ∷ 0x00 ∷ 0xC0 ∷ 0x00 ∷ []) ++ (0x40 ∷ 0x01 ∷ 0x00 ∷ 0x06 ∷ 0x00 ∷ 0xC0 ∷ 0x00 ∷ []) ++ (0x00 ∷ 0x01 ∷ 0x00 ∷ 0x10 ∷ 0x00 ∷ 0xC0 ∷ []) ++ replicate 11 0
     ++ (0x10 ∷ 0x01 ∷ 0x00 ∷ 0x06 ∷ 0x00 ∷ 0xC0 ∷ 0x00 ∷ []) ++ (0x00 ∷ 0x01 ∷ 0x00 ∷ 0x04 ∷ 0x00 ∷ []) ++ (0x30 ∷ 0x01 ∷ 0x00 ∷ 0x05 ∷ 0x00 ∷ 0x01 ∷ [])
@@ -167,6 +170,18 @@ pub record AreTcListed : Type 0 where
   pub starts_with_vr :
       show_tc_text (telecommand false 255) ((0x00 ∷ 0x01 ∷ 0x14 ∷ 0x06 ∷ 0xFF ∷ 0xC3 ∷ 0x00 ∷ []) ++ (0x00 ∷ 0x01 ∷ 0x14 ∷ 0x06 ∷ 0x00 ∷ 0xC3 ∷ 0x00 ∷ []))
       ≡ codes "0 frame vc 5 ad 255 segment whole map 3 octets 1 accept clcw 01140000\n7 frame vc 5 ad 0 segment whole map 3 octets 1 accept clcw 01140001\n"
+  -- virtual channel 5 without segment headers: of types AD and BD, and one that is discarded
+  pub without_segment_headers :
+      show_tc_text (record plain_tc { plain = 5 ∷ [] })
+      ((0x00 ∷ 0x01 ∷ 0x14 ∷ 0x0E ∷ 0x00 ∷ []) ++ telecommand_packet ++ (0x20 ∷ 0x01 ∷ 0x14 ∷ 0x0E ∷ 0x00 ∷ []) ++ telecommand_packet ++ (0x00 ∷ 0x01 ∷ 0x14 ∷ 0x0E ∷ 0x04 ∷ []) ++ telecommand_packet)
+      ≡ codes "0 frame vc 5 ad 0 unit octets 10 accept clcw 01140001\n15 frame vc 5 bd unit octets 10 accept clcw 01140201\n30 frame vc 5 ad 4 unit octets 10 early clcw 01140a01\n"
+  pub with_segment_headers_on_that_channel :
+      show_tc_text (record plain_tc { plain = 4 ∷ 6 ∷ [] }) ((0x00 ∷ 0x01 ∷ 0x14 ∷ 0x0E ∷ 0x00 ∷ []) ++ telecommand_packet)
+      ≡ codes "0 frame vc 5 ad 0 segment middle map 16 octets 9 accept clcw 01140001\n"
+  -- V(R) 255 at the start on virtual channel 5 alone
+  pub one_starts_with_vr :
+      show_tc_text (record plain_tc { starts = slice_set (replicate 64 0) 5 255 }) (ad_frame ++ (0x00 ∷ 0x01 ∷ 0x14 ∷ 0x06 ∷ 0xFF ∷ 0xC3 ∷ 0x00 ∷ []))
+      ≡ codes "0 frame vc 0 ad 0 segment whole map 0 octets 10 accept clcw 01000001\n16 frame vc 5 ad 255 segment whole map 3 octets 1 accept clcw 01140000\n"
   -- the FARM-B counter modulo 4
   pub farm_b_wraps :
       show_tc_text plain_tc (empty_bd_frame ++ empty_bd_frame ++ empty_bd_frame ++ empty_bd_frame)
@@ -189,5 +204,8 @@ tc_listed = record {
   tc_error_control_is_wrong = refl;
   two_channels = refl;
   starts_with_vr = refl;
+  without_segment_headers = refl;
+  with_segment_headers_on_that_channel = refl;
+  one_starts_with_vr = refl;
   farm_b_wraps = refl;
 }

@@ -7,7 +7,7 @@ use Rattle.sl_link.specs.Link.Managed.{Parameters}
 use Rattle.sl_link.specs.Normalise.Tm.{tm_normal_form, tm_counts}
 use Rattle.sl_link.specs.Link.Totals.{Counts}
 
-abbrev link : Parameters
+abbrev pub link : Parameters
 link =
     record {
       spacecraft = 1;
@@ -16,34 +16,35 @@ link =
       tc_max = 1024;
       tc_fecf = false;
       window = 10;
-      vr = 0;
+      starts = replicate 64 0;
+      plain = [];
       max_octets = 1073741824;
     }
 
 -- a packet of ten octets, and it with an idle packet that fills a data field
-abbrev ten : List ℕ
+abbrev pub ten : List ℕ
 ten = 0x00 ∷ 0x01 ∷ 0xC0 ∷ 0x00 ∷ 0x00 ∷ 0x03 ∷ 0xAA ∷ 0xBB ∷ 0xCC ∷ 0xDD ∷ []
 
 abbrev ten_filled : List ℕ
 ten_filled = ten ++ (0x07 ∷ 0xFF ∷ 0xC0 ∷ 0x00 ∷ 0x00 ∷ 0x09 ∷ []) ++ replicate 10 0
 
 -- a packet of twenty-three octets
-abbrev twenty_three : List ℕ
+abbrev pub twenty_three : List ℕ
 twenty_three = (0x00 ∷ 0x02 ∷ 0xC0 ∷ 0x05 ∷ 0x00 ∷ 0x10 ∷ []) ++ replicate 17 0x11
 
 -- a frame of it and the first three octets of a packet, and a data field with the other seven, a packet
 -- and an idle packet
-abbrev begun : List ℕ
+abbrev pub begun : List ℕ
 begun = (0x00 ∷ 0x10 ∷ 0x00 ∷ 0x00 ∷ 0x18 ∷ 0x00 ∷ []) ++ twenty_three ++ (0x00 ∷ 0x03 ∷ 0xC0 ∷ [])
 
-abbrev ended : List ℕ
+abbrev pub ended : List ℕ
 ended = (0x00 ∷ 0x00 ∷ 0x03 ∷ 0x01 ∷ 0x02 ∷ 0x03 ∷ 0x04 ∷ []) ++ ten ++ (0x07 ∷ 0xFF ∷ 0xC0 ∷ 0x00 ∷ 0x00 ∷ 0x02 ∷ 0x00 ∷ 0x00 ∷ 0x00 ∷ [])
 
 -- frames of virtual channel 0
-abbrev framed : ℕ → ℕ → ℕ → ℕ → List ℕ → List ℕ
+abbrev pub framed : ℕ → ℕ → ℕ → ℕ → List ℕ → List ℕ
 framed mc vcc high low octets = 0x00 ∷ 0x10 ∷ mc ∷ vcc ∷ high ∷ low ∷ octets
 
-abbrev one_packet : List ℕ
+abbrev pub one_packet : List ℕ
 one_packet = framed 0 0 0x18 0x00 ten_filled
 
 -- normal form of the packets of twenty-three and ten octets
@@ -51,10 +52,10 @@ abbrev two_packets : List ℕ
 two_packets = framed 0 0 0x18 0x00 (twenty_three ++ (0x00 ∷ 0x01 ∷ 0xC0 ∷ [])) ++ framed 1 1 0x18 0x07 ((0x00 ∷ 0x00 ∷ 0x03 ∷ 0xAA ∷ 0xBB ∷ 0xCC ∷ 0xDD ∷ 0x07 ∷ 0xFF ∷ 0xC0 ∷ 0x00 ∷ 0x00 ∷ 0x0C ∷ []) ++ replicate 13 0)
 
 -- the packet of twenty-three octets alone, with an idle packet of twenty-nine, since three octets are none
-abbrev wide_filling : List ℕ
+abbrev pub wide_filling : List ℕ
 wide_filling = framed 0 0 0x18 0x00 (twenty_three ++ (0x07 ∷ 0xFF ∷ 0xC0 ∷ [])) ++ framed 1 1 0x1F 0xFF ((0x00 ∷ 0x00 ∷ 0x16 ∷ []) ++ replicate 23 0)
 
-abbrev in_three_frames : List ℕ
+abbrev pub in_three_frames : List ℕ
 in_three_frames = begun ++ framed 1 1 0x1F 0xFE (replicate 26 0x55) ++ framed 2 2 0x18 0x07 ended
 
 abbrev twice : List ℕ
@@ -62,30 +63,30 @@ twice = framed 0 0 0x18 0x00 (twenty_three ++ (0x00 ∷ 0x02 ∷ 0xC0 ∷ [])) +
     ++ framed 2 2 0x1F 0xFF (replicate 26 0)
 
 -- a packet that fills a data field
-abbrev full_field : List ℕ
+abbrev pub full_field : List ℕ
 full_field = framed 0 0 0x18 0x00 ((0x00 ∷ 0x02 ∷ 0xC0 ∷ 0x06 ∷ 0x00 ∷ 0x13 ∷ []) ++ replicate 20 0x22)
 
-abbrev two_channels : List ℕ
+abbrev pub two_channels : List ℕ
 two_channels = (0x00 ∷ 0x12 ∷ 0x00 ∷ 0x00 ∷ 0x18 ∷ 0x00 ∷ []) ++ ten_filled ++ ((0x00 ∷ 0x10 ∷ 0x01 ∷ 0x00 ∷ 0x18 ∷ 0x00 ∷ []) ++ ten_filled)
 
 abbrev two_channels_normal : List ℕ
 two_channels_normal = (0x00 ∷ 0x10 ∷ 0x00 ∷ 0x00 ∷ 0x18 ∷ 0x00 ∷ []) ++ ten_filled ++ ((0x00 ∷ 0x12 ∷ 0x01 ∷ 0x00 ∷ 0x18 ∷ 0x00 ∷ []) ++ ten_filled)
 
-abbrev three_copies : List ℕ
+abbrev pub three_copies : List ℕ
 three_copies = one_packet ++ one_packet ++ one_packet ++ (0x00 ∷ 0x10 ∷ 0x00 ∷ 0x00 ∷ [])
 
 abbrev three_copies_normal : List ℕ
 three_copies_normal = framed 0 0 0x18 0x00 (ten ++ ten ++ (0x00 ∷ 0x01 ∷ 0xC0 ∷ 0x00 ∷ 0x00 ∷ 0x03 ∷ [])) ++ framed 1 1 0x18 0x04 ((0xAA ∷ 0xBB ∷ 0xCC ∷ 0xDD ∷ 0x07 ∷ 0xFF ∷ 0xC0 ∷ 0x00 ∷ 0x00 ∷ 0x0F ∷ []) ++ replicate 16 0)
 
 -- a data field with the other octets of a packet of twenty-nine
-abbrev covered : List ℕ
+abbrev pub covered : List ℕ
 covered = (0x00 ∷ 0x00 ∷ 0x16 ∷ []) ++ replicate 23 0x22
 
 -- it goes to the end of the second frame, in which no packet starts
 abbrev covering : List ℕ
 covering = begun ++ framed 1 1 0x1F 0xFF covered
 
-abbrev begun_at_255 : List ℕ
+abbrev pub begun_at_255 : List ℕ
 begun_at_255 = framed 255 255 0x18 0x00 (twenty_three ++ (0x00 ∷ 0x03 ∷ 0xC0 ∷ []))
 
 abbrev HasNormalForm : List ℕ → List ℕ → Type 0
@@ -147,10 +148,10 @@ normal_forms =
 abbrev controlled : List ℕ → List ℕ
 controlled word = (0x00 ∷ 0x11 ∷ 0x00 ∷ 0x00 ∷ 0x18 ∷ 0x00 ∷ []) ++ ten ++ (0x07 ∷ 0xFF ∷ 0xC0 ∷ 0x00 ∷ 0x00 ∷ 0x05 ∷ []) ++ replicate 6 0 ++ word
 
-abbrev guarded : List ℕ
+abbrev pub guarded : List ℕ
 guarded = one_packet ++ (0x5E ∷ 0x0C ∷ [])
 
-abbrev damaged : List ℕ
+abbrev pub damaged : List ℕ
 damaged = framed 0 0 0x18 0x00 ((0x00 ∷ 0x01 ∷ 0xC0 ∷ 0x00 ∷ 0x00 ∷ 0x03 ∷ 0xAB ∷ 0xBB ∷ 0xCC ∷ 0xDD ∷ []) ++ (0x07 ∷ 0xFF ∷ 0xC0 ∷ 0x00 ∷ 0x00 ∷ 0x09 ∷ []) ++ replicate 10 0 ++ (0x5E ∷ 0x0C ∷ []))
 
 pub record HaveFieldsLeftOut : Type 0 where

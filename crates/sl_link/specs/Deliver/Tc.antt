@@ -19,7 +19,7 @@ ended_in r views (Err reason) = []
 
 -- the lists after the next frame
 abbrev pub lists_after : ReceptionParameters → List TcView → Result TcView TcSkip → List (List (List ℕ)) → List (List (List ℕ))
-lists_after r views (Ok view) lists = with_packets lists (unit_channel view) (without_idle (ended_by r views view))
+lists_after r views (Ok view) lists = with_packets lists (unit_channel r view) (without_idle (ended_by r views view))
 lists_after r views (Err reason) lists = lists
 
 -- its unit is accepted, and a series is incomplete around it on its MAP

@@ -1,5 +1,5 @@
 -- The managed parameters of a link, and which of them are refused.
-use Rattle.std.specs.Prelude.{ℕ, ◌%◌, ◌==◌, nat_lt, Bool, not, ◌||◌, if◌then◌else◌, Result, Ok, Err}
+use Rattle.std.specs.Prelude.{ℕ, ◌%◌, ◌==◌, nat_lt, Bool, not, ◌||◌, if◌then◌else◌, List, Result, Ok, Err}
 use Rattle.sl_link.specs.declared.link.managed.ManagedFault.{ManagedFault}
 use Rattle.sl_link.specs.declared.link.managed.ManagedFault.TheVariants.{Spacecraft, TmLength, TcLength, Window, Limit}
 use Rattle.sl_fields.specs.Shape.{is_outside}
@@ -14,7 +14,10 @@ pub record Parameters : Type 0 where
   pub tc_max : ℕ
   pub tc_fecf : Bool
   pub window : ℕ
-  pub vr : ℕ
+  -- V(R) of each virtual channel of TC frames before its first frame
+  pub starts : List ℕ
+  -- the virtual channels of TC frames without segment headers
+  pub plain : List ℕ
   pub max_octets : ℕ
 
 -- the parameters, or the first that is refused: a spacecraft over 1023, a TM frame length outside 32 to
@@ -38,4 +41,4 @@ tc_format p = record { max = p.tc_max; fecf = p.tc_fecf }
 
 -- the managed parameters of the reception of TC frames
 abbrev pub reception_of : Parameters → ReceptionParameters
-reception_of p = record { window = p.window; vr = p.vr }
+reception_of p = record { window = p.window; starts = p.starts; plain = p.plain }

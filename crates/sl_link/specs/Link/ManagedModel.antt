@@ -12,7 +12,8 @@ parameters_of m =
       tc_max = m.tc.max;
       tc_fecf = m.tc.fecf;
       window = m.window;
-      vr = m.vr;
+      starts = m.starts;
+      plain = m.plain;
       max_octets = m.max_octets;
     }
 
@@ -26,6 +27,7 @@ inside_of p =
       tm = tm_format p;
       tc = tc_format p;
       window = p.window;
-      vr = p.vr;
+      starts = p.starts;
+      plain = p.plain;
       max_octets = p.max_octets;
     }

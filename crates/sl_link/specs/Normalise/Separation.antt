@@ -1,13 +1,14 @@
 -- What normal forms tell of the packets of recordings, under one and the same managed parameters.
-use Rattle.std.specs.Prelude.{◌≡◌, ◌↔◌, ℕ, ◌<◌, List, Ok}
+use Rattle.std.specs.Prelude.{◌≡◌, ◌↔◌, ℕ, List, Ok}
+use Rattle.sl_cop.specs.Starts.{AreStarts}
 use Rattle.sl_link.specs.Link.Managed.{Parameters, managed_of}
 use Rattle.sl_link.specs.Normalise.Tc.{tc_normal_form, tc_packets}
 use Rattle.sl_link.specs.Normalise.Tm.{tm_normal_form, tm_packets}
 
--- Managed parameters that aren't refused. V(R) has one octet.
+-- Managed parameters that aren't refused, with V(R), one octet, of each virtual channel
 pub record AreAccepted (p : Parameters) : Type 0 where
   pub allowed : managed_of p ≡ Ok p
-  pub octet : p.vr < 256
+  pub starts : AreStarts p.starts
 
 -- ---- laws
 

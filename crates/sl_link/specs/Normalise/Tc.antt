@@ -19,7 +19,7 @@ tc_packets p recording = tc_lists (tc_format p) p.spacecraft (reception_of p) re
 
 -- the normal form of lists of packets
 unfoldable pub tc_form_of : Parameters → List (List (List ℕ)) → List ℕ
-tc_form_of p lists = tc_normal_form_of (tc_format p) p.spacecraft p.vr lists
+tc_form_of p lists = tc_normal_form_of (tc_format p) p.spacecraft p.starts p.plain lists
 
 -- the normal form of a recording
 abbrev pub tc_normal_form : Parameters → List ℕ → List ℕ

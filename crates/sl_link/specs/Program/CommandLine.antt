@@ -1,6 +1,6 @@
 -- The command line of `sllink`: its arguments, what it refuses, and what its words ask for.
-use Rattle.std.specs.Prelude.{◌≡◌, ◌≢◌, ◌&&◌, ◌^◌, ℕ, Bool, true, false, List, [], ◌∷◌, Option, Some, None}
-use Rattle.std.specs.Prelude.{codes, fold, nat_lt, option_and_then, if◌then◌else◌, pos}
+use Rattle.std.specs.Prelude.{◌≡◌, ◌≢◌, ◌&&◌, ◌^◌, ℕ, Bool, true, false, List, [], ◌∷◌, Option, Some, None, Result, Ok, Err}
+use Rattle.std.specs.Prelude.{codes, fold, nat_lt, option_and_then, if◌then◌else◌, pos, replicate}
 use Rattle.std.specs.Borrow.{Bor}
 use Rattle.std.specs.Option.{option_map_or}
 use Rattle.std.specs.Str.{bytes_eq}
@@ -14,8 +14,15 @@ use Rattle.clap.specs.declared.builder.action.ArgAction.TheVariants.{SetTrue}
 use Rattle.clap.specs.declared.builder.value_parser.ValueParser.{ValueParser}
 use Rattle.clap.specs.declared.builder.value_parser.ValueParser.TheVariants.{Names, Signed, Unsigned}
 use Rattle.clap.specs.declared.error.kind.ErrorKind.{ErrorKind}
-use Rattle.clap.specs.declared.error.kind.ErrorKind.TheVariants.{DisplayHelp}
-use Rattle.sl_link.specs.Link.Managed.{Parameters}
+use Rattle.clap.specs.declared.error.kind.ErrorKind.TheVariants.{DisplayHelp, DisplayVersion}
+use Rattle.sl_cop.specs.Starts.{AreNamed, Item}
+use Rattle.sl_cop.specs.Starts as starts
+use Rattle.sl_tcframe.specs.VcSet as vc_set
+use Rattle.sl_link.specs.Link.Managed.{Parameters, managed_of}
+use Rattle.sl_link.specs.declared.link.managed.ManagedFault.{ManagedFault}
+use Rattle.sl_link.specs.declared.program.command_line.Asked.{Asked}
+use Rattle.sl_link.specs.declared.program.command_line.RefusedParameter.{RefusedParameter}
+use Rattle.sl_link.specs.declared.program.command_line.RefusedParameter.TheVariants as refused
 use Rattle.sl_link.specs.declared.program.command_line.Engine.{Engine}
 use Rattle.sl_link.specs.declared.program.command_line.Engine.TheVariants.{ShowTm, ShowTc, CheckTm, CheckTc, PacketsTm, PacketsTc, NormaliseTm, NormaliseTc}
 use Rattle.sl_link.specs.declared.program.command_line.Options.{Options}
@@ -56,6 +63,10 @@ needed_number name numbers = record (number_rule name numbers) { required = true
 abbrev pub number_or : Text → ValueParser → Text → Rule
 number_or name numbers default = record (number_rule name numbers) { defaults = default ∷ [] }
 
+-- `--NAME TEXT`, which may be left out
+abbrev pub text_rule : Text → Rule
+text_rule name = record (new_rule name) { long = Some name; value_names = 1 }
+
 -- `--NAME`, which takes no value
 abbrev pub flag_rule : Text → Rule
 flag_rule name = record (new_rule name) { long = Some name; action = Some SetTrue }
@@ -70,6 +81,8 @@ link_options =
     ∷ flag_rule (codes "tc-fecf")
     ∷ number_or (codes "window") bits_8 (codes "10")
     ∷ number_or (codes "vr") bits_8 (codes "0")
+    ∷ text_rule (codes "vr-of")
+    ∷ text_rule (codes "plain")
     ∷ number_or (codes "limit") bits_64 (codes "1073741824")
     ∷ []
 
@@ -84,7 +97,11 @@ verb_app name kinds = with_link_options (with_rule (new_app name) (kind_rule kin
 -- `sllink VERB ..`, where each verb takes these kinds
 abbrev pub sllink_with : Bor (List (Bor Text)) → App
 sllink_with kinds = record {
-  top = record (new_shape (codes "sllink")) { is_leaf = false; subcommand_required = true };
+  top = record (new_shape (codes "sllink")) {
+    is_leaf = false;
+    has_version = true;
+    subcommand_required = true;
+  };
   subs =
       (verb_app (codes "show") kinds).top
       ∷ (verb_app (codes "check") kinds).top
@@ -178,6 +195,28 @@ request_with verb rows = do
 abbrev pub request_in : Option (Text × List Row) → Option Request
 request_in met = option_and_then (λ p. request_with p.0 p.1) met
 
+-- ---- the virtual channels of TC frames
+
+-- those without segment headers, by the text of an option: none where it is left out, and no set where the text lists none
+abbrev pub IsPlain : Option Text → Option (List ℕ) → Type 0
+IsPlain None plain = plain ≡ Some []
+IsPlain (Some text) (Some plain) = vc_set.Lists 0 text plain
+IsPlain (Some text) None = (plain : List ℕ) → vc_set.Lists 0 text plain → ⊥
+
+-- their starts, by the text of an option: this V(R) for all that it doesn't name, and no starts where the text lists none
+abbrev pub AreFrom : ℕ → Option Text → Option (List ℕ) → Type 0
+AreFrom vr None starts = starts ≡ Some (replicate 64 vr)
+AreFrom vr (Some text) (Some starts) = AreNamed 0 text (replicate 64 vr) starts
+AreFrom vr (Some text) None = (items : List Item) → starts.Lists 0 text items → ⊥
+
+-- so the arguments of a verb name them
+pub record HasVcs (met : Option (Text × List Row)) (asked : Asked) : Type 0 where
+  pub verb : Text
+  pub rows : List Row
+  pub is_met : met ≡ Some (verb, rows)
+  pub plain : IsPlain (first_of (codes "plain") rows) asked.plain
+  pub starts : AreFrom asked.request.options.vr (first_of (codes "vr-of") rows) asked.starts
+
 -- ---- what becomes of the words
 
 -- why the words are refused: the kinds that the first fault in them may have, none where they are taken.
@@ -193,22 +232,28 @@ pub record IsRefusal (kind : ErrorKind) (words : List Text) : Type 0 where
 abbrev pub AskForHelp : List Text → Type 0
 AskForHelp words = IsRefusal DisplayHelp words
 
--- the words are refused, for something other than help
+-- the words ask for the version
+abbrev pub AskForVersion : List Text → Type 0
+AskForVersion words = IsRefusal DisplayVersion words
+
+-- the words are refused, for something other than help and the version
 pub record AreRefused (words : List Text) : Type 0 where
   pub kind : ErrorKind
   pub refusal : IsRefusal kind words
   pub not_help : kind ≢ DisplayHelp
+  pub not_version : kind ≢ DisplayVersion
 
 -- nothing of the words is refused, and they ask for this
-pub record AskFor (words : List Text) (request : Request) : Type 0 where
+pub record AskFor (words : List Text) (asked : Asked) : Type 0 where
   pub allowed : refusals words ≡ []
-  pub read : request_in (subcommand_of sllink_app words) ≡ Some request
+  pub read : request_in (subcommand_of sllink_app words) ≡ Some asked.request
+  pub channels : HasVcs (subcommand_of sllink_app words) asked
 
 -- ---- the link
 
--- the managed parameters that the options ask for
-abbrev pub asked : Options → Parameters
-asked o =
+-- the managed parameters that the options ask for, where they name no virtual channel
+abbrev pub parameters_asked : Options → Parameters
+parameters_asked o =
     record {
       spacecraft = o.spacecraft;
       tm_length = o.tm_length;
@@ -216,6 +261,21 @@ asked o =
       tc_max = o.tc_length;
       tc_fecf = o.tc_fecf;
       window = o.window;
-      vr = o.vr;
+      starts = replicate 64 o.vr;
+      plain = [];
       max_octets = o.max_octets;
     }
+
+-- the same with the virtual channels that the options name, or what is refused: a parameter of theirs, and then the text
+-- of those without segment headers, and of the starts
+abbrev pub with_vcs : Parameters → Option (List ℕ) → Option (List ℕ) → Result Parameters RefusedParameter
+with_vcs p None starts = Err refused.Plain
+with_vcs p (Some plain) None = Err refused.Start
+with_vcs p (Some plain) (Some starts) = Ok (record p { starts = starts; plain = plain })
+
+abbrev pub managed_with : Result Parameters ManagedFault → Option (List ℕ) → Option (List ℕ) → Result Parameters RefusedParameter
+managed_with (Err fault) plain starts = Err (refused.Managed fault)
+managed_with (Ok p) plain starts = with_vcs p plain starts
+
+abbrev pub managed_asked : Asked → Result Parameters RefusedParameter
+managed_asked asked = managed_with (managed_of (parameters_asked asked.request.options)) asked.plain asked.starts

@@ -1,9 +1,9 @@
 //! The managed parameters of a link.
-ghost use Rattle.std.specs.Prelude.{◌≡◌};
+ghost use Rattle.std.specs.Prelude.{◌≡◌, [], replicate};
 ghost use Rattle.sl_link.specs.Link.Managed.{Parameters};
 
-use sl_cop::Window;
-use sl_tcframe::TcShape;
+use sl_cop::{Starts, Window};
+use sl_tcframe::{TcShape, VcSet};
 use sl_tmframe::TmShape;
 use std::marker::Model;
 use thiserror::Error;
@@ -35,7 +35,8 @@ pub struct Managed {
     pub(crate) tm: TmShape,
     pub(crate) tc: TcShape,
     pub(crate) window: Window,
-    pub(crate) vr: u8,
+    pub(crate) starts: Starts,
+    pub(crate) plain: VcSet,
     pub(crate) max_octets: u64,
 }
 
@@ -57,7 +58,8 @@ impl Managed {
     ghost use Rattle.sl_link.specs.Link.Managed.{managed_of};
 
     /// The parameters, or the first of them that is refused: `spacecraft` 0 to 1023, `tm_length` 32 to
-    /// 2048 octets, `tc_max` 16 to 1024 octets, `window` even and not 0, `max_octets` not 0.
+    /// 2048 octets, `tc_max` 16 to 1024 octets, `window` even and not 0, `max_octets` not 0. Each virtual channel of TC
+    /// frames begins with V(R) `vr`, and its frames have segment headers.
     pub fn new(
         spacecraft: u16,
         tm_length: u16,
@@ -75,7 +77,8 @@ impl Managed {
           tc_max = tc_max;
           tc_fecf = tc_fecf;
           window = window;
-          vr = vr;
+          starts = replicate 64 vr;
+          plain = [];
           max_octets = max_octets;
         } in result ≡ managed_of parameters }
     {
@@ -102,8 +105,23 @@ impl Managed {
             tm,
             tc,
             window,
-            vr,
+            starts: Starts::all(vr),
+            plain: VcSet::new(),
             max_octets,
         })
+    }
+
+    /// The same, but for the virtual channels of TC frames without segment headers: they are these.
+    pub fn with_plain(self, plain: VcSet) -> Managed
+        ensures { result ≡ record self { plain = plain } }
+    {
+        Managed { plain, ..self }
+    }
+
+    /// The same, but for V(R) of each virtual channel of TC frames before its first frame: it is that of `starts`.
+    pub fn with_starts(self, starts: Starts) -> Managed
+        ensures { result ≡ record self { starts = starts } }
+    {
+        Managed { starts, ..self }
     }
 }

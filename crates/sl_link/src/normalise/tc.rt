@@ -2,6 +2,7 @@
 ghost use Rattle.std.specs.Prelude.{◌≡◌, ◌≢◌, ◌<◌, true, length, IfOk, IfErr, OnOk, OnErr, is_err};
 ghost use Rattle.sl_packet.specs.Delivered.{channel_count};
 ghost use Rattle.sl_packet.specs.Packets.{only_idle, without_idle};
+ghost use Rattle.sl_tcflow.specs.FitsTc.{FitsTc};
 ghost use Rattle.sl_tcflow.specs.Receiving.{ForProcessed, HasProcessed, IsWorking};
 ghost use Rattle.sl_tcframe.specs.TcDelimited.{tc_frames_of};
 ghost use Rattle.sl_tcframe.specs.TcFrame.{is_cut};
@@ -86,7 +87,7 @@ fn deliver<R: Read>(
     let mut framer = TcFramer::new(&managed.tc);
     let mut store = TcStore {
         managed: *managed,
-        receiver: Receiver::new(alloc, managed.window, managed.vr),
+        receiver: Receiver::new(alloc, managed.window, &managed.starts, managed.plain),
         so_far: Tally::new(),
         delivered: Delivered::new(alloc),
     };
@@ -106,6 +107,7 @@ fn write_packets<W: Write>(
     delivered: &Delivered,
     writer: &mut Counted<W>,
 ) -> Result<(), LinkFault>
+    requires { FitsTc (tc_format managed.now) managed.now.plain delivered.now.lists }
     ensures written { OnOk result (WritesText W.contents writer.old writer.new
         (tc_form_of managed.now delivered.now.lists)) }
     ensures delivers { tc_packets managed.now (tc_form_of managed.now delivered.now.lists)
@@ -113,7 +115,13 @@ fn write_packets<W: Write>(
     ensures fault { IfErr result (StopsForm W.contents writer.old writer.new
         (tc_form_of managed.now delivered.now.lists) (0 < count_of delivered.now.lists)) }
 {
-    let mut form = TcForm::new(managed.tc, managed.spacecraft, managed.vr, delivered);
+    let mut form = TcForm::new(
+        managed.tc,
+        managed.spacecraft,
+        managed.starts,
+        managed.plain,
+        delivered,
+    );
     write_form(alloc, &mut form, writer)
 }
 

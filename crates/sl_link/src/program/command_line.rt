@@ -1,18 +1,22 @@
 //! The command line.
-ghost use Rattle.std.specs.Prelude.{◌≡◌, ◌⊎◌, false, map, string_bytes, IfOk, IfErr};
+ghost use Rattle.std.specs.Prelude.{◌≡◌, ◌⊎◌, false, codes, map, option_map, string_bytes, IfOk, IfErr, IfSome};
 ghost use Rattle.clap.specs.Words.{app_of, found_of, kind_of, rows_of, rule_of, subcommand_rows_of};
+ghost use Rattle.clap.specs.Walk.{first_of};
 ghost use Rattle.clap.specs.declared.builder.Command.TheViews.{out-Command as fields_of};
 ghost use Rattle.sl_link.specs.Link.Managed.{managed_of};
-ghost use Rattle.sl_link.specs.Program.CommandLine.{AskFor, IsRefusal, IsSllink, asked};
-ghost use Rattle.sl_link.specs.Program.CommandLine.{flag_rule, link_options, needed_number, number_or, number_rule};
+ghost use Rattle.sl_link.specs.Program.CommandLine.{AreFrom, AskFor, HasVcs, IsPlain, IsRefusal, IsSllink, managed_asked, parameters_asked};
+ghost use Rattle.sl_link.specs.Program.CommandLine.{flag_rule, link_options, needed_number, number_or, number_rule, text_rule};
 ghost use Rattle.sl_link.specs.Program.CommandLine.{verb_app, with_link_options};
 ghost use Rattle.sl_link.specs.Program.CommandLine.{engine_named, is_set, number_in, options_in, request_in, request_with};
 
 use crate::link::managed::{Managed, ManagedFault};
 use clap::builder::ValueParser;
 use clap::error::ErrorKind;
-use clap::{Arg, ArgAction, ArgMatches, Command, Error, value_parser};
+use clap::{Arg, ArgAction, ArgMatches, Command, value_parser};
+use sl_cop::Starts;
+use sl_tcframe::VcSet;
 use std::alloc::{AllocError, Global};
+use thiserror::Error;
 
 /// What is done with a recording, of which kind.
 #[derive(Clone, Copy, Debug, PartialEq, Eq)]
@@ -48,11 +52,34 @@ pub(crate) struct Options {
     pub(crate) max_octets: u64,
 }
 
-/// What a command line asks for.
+/// What a command line asks for, but for the virtual channels that it names.
 #[derive(Clone, Copy, Debug, PartialEq, Eq)]
 pub(crate) struct Request {
     pub(crate) engine: Engine,
     pub(crate) options: Options,
+}
+
+/// What a command line asks for: beside the request the virtual channels of TC frames without segment headers, and
+/// the initial V(R) of each virtual channel; `None` where the text of an option is refused.
+#[derive(Clone, Copy, Debug, PartialEq, Eq)]
+pub(crate) struct Asked {
+    pub(crate) request: Request,
+    pub(crate) plain: Option<VcSet>,
+    pub(crate) starts: Option<Starts>,
+}
+
+/// Which parameter of the link is refused.
+#[derive(Clone, Copy, Debug, PartialEq, Eq, Error)]
+pub(crate) enum RefusedParameter {
+    /// A managed parameter.
+    #[error("{0}")]
+    Managed(ManagedFault),
+    /// The text of the virtual channels without segment headers.
+    #[error("plain")]
+    Plain,
+    /// The text of the initial V(R).
+    #[error("start")]
+    Start,
 }
 
 const KIND: &str = "kind";
@@ -71,14 +98,43 @@ const WINDOW: &str = "window";
 
 const VR: &str = "vr";
 
+const VR_OF: &str = "vr-of";
+
+const PLAIN: &str = "plain";
+
 const LIMIT: &str = "limit";
 
 // The kinds of recording.
 static KINDS: [&str; 2] = ["tm", "tc"];
 
+// The version of the product, which the line that `--version` writes has too.
+const VERSION: &str = "1.0.0";
+
+// What stands below the options in the help of the program, and in that of each verb.
+
+const VERBS: &str = "\
+Each verb has its options and an example in its own help, as in:
+  sllink show --help";
+
+const SHOW_EXAMPLE: &str = "\
+Example:
+  sllink show tm --scid 1 --tm-length 64 < examples/pass.tm";
+
+const CHECK_EXAMPLE: &str = "\
+Example:
+  sllink check tm --scid 1 --tm-length 32 --tm-fecf < examples/first-station.tm";
+
+const PACKETS_EXAMPLE: &str = "\
+Example:
+  sllink packets tc --scid 1 --tc-length 16 < examples/uplink.tc";
+
+const NORMALISE_EXAMPLE: &str = "\
+Example:
+  sllink normalise tm --scid 1 --tm-length 32 --tm-fecf < examples/first-station.tm > first.normal";
+
 /// What the words ask for, of which the first is the program's name. Else why they are refused, or the
-/// help that they ask for.
-pub(crate) fn parse(alloc: Global, words: &[String]) -> Result<Request, Error>
+/// help or version that they ask for.
+pub(crate) fn parse(alloc: Global, words: &[String]) -> Result<Asked, clap::Error>
     ensures asked { IfOk result (AskFor (map string_bytes words.now)) }
     // The kind of the error is one of the refusals, unless memory ran out.
     ensures refused { IfErr result (λ error. (kind_of error ≡ ErrorKind.OutOfMemory)
@@ -86,8 +142,8 @@ pub(crate) fn parse(alloc: Global, words: &[String]) -> Result<Request, Error>
 {
     let mut command = sllink(alloc)?;
     let matches = command.try_get_matches_from_mut(words)?;
-    match request_of(&matches) {
-        Some(request) => Ok(request),
+    match asked_of(&matches) {
+        Some(asked) => Ok(asked),
         None => unreachable!(),
     }
 }
@@ -97,15 +153,17 @@ fn sllink<'a>(alloc: Global) -> Result<Command<'a>, AllocError>
 {
     let kinds = &KINDS;
     let about = "List the frames of a recording";
-    let show = verb_command(alloc, "show", about, kinds)?;
+    let show = verb_command(alloc, "show", about, SHOW_EXAMPLE, kinds)?;
     let about = "List what is amiss in a recording";
-    let check = verb_command(alloc, "check", about, kinds)?;
+    let check = verb_command(alloc, "check", about, CHECK_EXAMPLE, kinds)?;
     let about = "List the packets of a recording";
-    let packets = verb_command(alloc, "packets", about, kinds)?;
+    let packets = verb_command(alloc, "packets", about, PACKETS_EXAMPLE, kinds)?;
     let about = "Write the normal form of a recording";
-    let normalise = verb_command(alloc, "normalise", about, kinds)?;
+    let normalise = verb_command(alloc, "normalise", about, NORMALISE_EXAMPLE, kinds)?;
     Command::new(alloc, "sllink")
         .about("Read recordings of a spacecraft's link")
+        .version(VERSION)
+        .after_help(VERBS)
         .subcommand_required(true)
         .subcommand(show)?
         .subcommand(check)?
@@ -118,6 +176,7 @@ fn verb_command<'a>(
     alloc: Global,
     name: &'a str,
     about: &'a str,
+    example: &'a str,
     kinds: &'a [&'a str],
 ) -> Result<Command<'a>, AllocError>
     ensures app { IfOk result (λ command. app_of command ≡ verb_app name.entry.now kinds.entry) }
@@ -125,10 +184,11 @@ fn verb_command<'a>(
 {
     let kind = Arg::new(alloc, KIND)
         .value_name("KIND")
-        .help("Transfer frames of the recording")
+        .help("Transfer frames of the recording: TM, the way down, or TC, the way up")
         .value_parser(kinds)
         .required(true);
-    with_options(alloc, Command::new(alloc, name).about(about).arg(kind)?)
+    let verb = Command::new(alloc, name).about(about).after_help(example);
+    with_options(alloc, verb.arg(kind)?)
 }
 
 // A command, with the options of the link too.
@@ -154,16 +214,22 @@ fn link_options<'a>(alloc: Global) -> Result<Vec<Arg<'a>>, AllocError>
     let tc_fecf = flag(alloc, TC_FECF);
     let window = number_or(alloc, WINDOW, "WIDTH", byte, "10");
     let vr = number_or(alloc, VR, "NUMBER", byte, "0");
+    let vr_of = text(alloc, VR_OF, "VC:NUMBER,..");
+    let plain = text(alloc, PLAIN, "VC,..");
     let limit = number_or(alloc, LIMIT, "OCTETS", long, "1073741824");
     Ok(vec![in alloc;
-        scid.help("Spacecraft identifier"),
-        tm_length.help("TM transfer frame length"),
-        tc_length.help("Greatest TC transfer frame length"),
-        tm_fecf.help("TM transfer frames have a frame error control field"),
-        tc_fecf.help("TC transfer frames have a frame error control field"),
-        window.help("FARM-1 sliding window width"),
-        vr.help("Initial receiver frame sequence number, V(R)"),
-        limit.help("Most octets that are read"),
+        scid.help("Spacecraft identifier, in decimal, 0 to 1023"),
+        tm_length.help("Length of each TM frame in octets, 32 to 2048"),
+        tc_length.help("Greatest length of a TC frame in octets, 16 to 1024"),
+        tm_fecf.help("TM frames have a frame error control field"),
+        tc_fecf.help("TC frames have a frame error control field"),
+        window.help("Width of the FARM-1 sliding window in frames, even, 2 to 254"),
+        vr.help("V(R) with which each FARM-1 begins, 0 to 255"),
+        vr_of.help("Initial V(R), 0 to 255, of these virtual channels, 0 to 63 in rising order"),
+        plain.help(
+            "Virtual channels whose TC frames have no segment headers, 0 to 63 in rising order"
+        ),
+        limit.help("Octets read at most, 1 to 18446744073709551615"),
     ]?)
 }
 
@@ -197,6 +263,13 @@ fn number<'a>(alloc: Global, name: &'a str, unit: &'a str, range: ValueParser<'a
         .value_parser(range)
 }
 
+// An option that takes a text, and may be left out.
+fn text<'a>(alloc: Global, name: &'a str, unit: &'a str) -> Arg<'a>
+    ensures { rule_of result ≡ text_rule name.entry.now }
+{
+    Arg::new(alloc, name).long(name).value_name(unit)
+}
+
 // An option that takes no value.
 fn flag<'a>(alloc: Global, name: &'a str) -> Arg<'a>
     ensures { rule_of result ≡ flag_rule name.entry.now }
@@ -205,6 +278,44 @@ fn flag<'a>(alloc: Global, name: &'a str) -> Arg<'a>
 }
 
 // What the words ask for. It is `None` where a required word is missing, which the parse has refused.
+fn asked_of(matches: &ArgMatches<'_>) -> Option<Asked>
+    ensures request { option_map (λ asked. asked.request) result
+        ≡ request_in (subcommand_rows_of matches.now) }
+    ensures channels { IfSome result (HasVcs (subcommand_rows_of matches.now)) }
+{
+    let request = request_of(matches)?;
+    let (_, found) = matches.subcommand()?;
+    let plain = plain_of(found);
+    let starts = starts_of(found, request.options.vr);
+    Some(Asked {
+        request,
+        plain,
+        starts,
+    })
+}
+
+// The virtual channels without segment headers.
+fn plain_of(matches: &ArgMatches<'_>) -> Option<VcSet>
+    ensures { IsPlain (first_of (codes "plain") (rows_of (found_of matches.now))) result }
+{
+    match matches.get_str(PLAIN) {
+        Some(text) => VcSet::read(text),
+        None => Some(VcSet::new()),
+    }
+}
+
+// The initial V(R) of each virtual channel, which is this one where none is named.
+fn starts_of(matches: &ArgMatches<'_>, vr: u8) -> Option<Starts>
+    ensures { AreFrom vr (first_of (codes "vr-of") (rows_of (found_of matches.now))) result }
+{
+    let all = Starts::all(vr);
+    match matches.get_str(VR_OF) {
+        Some(text) => all.read(text),
+        None => Some(all),
+    }
+}
+
+// Without the virtual channels that they name.
 fn request_of(matches: &ArgMatches<'_>) -> Option<Request>
     ensures { result ≡ request_in (subcommand_rows_of matches.now) }
 {
@@ -277,10 +388,30 @@ fn is_set(matches: &ArgMatches<'_>, name: &str) -> bool
     matches.get_one(name).unwrap_or(false)
 }
 
-impl Options {
+impl Asked {
     /// The managed parameters of the link, or the first of them that is refused.
-    pub(crate) fn managed(&self) -> Result<Managed, ManagedFault>
-        ensures { result ≡ managed_of (asked self.now) }
+    pub(crate) fn managed(&self) -> Result<Managed, RefusedParameter>
+        ensures { result ≡ managed_asked self.now }
+    {
+        let managed = match self.request.options.managed() {
+            Ok(managed) => managed,
+            Err(fault) => return Err(RefusedParameter::Managed(fault)),
+        };
+        let plain = match self.plain {
+            Some(plain) => plain,
+            None => return Err(RefusedParameter::Plain),
+        };
+        match self.starts {
+            Some(starts) => Ok(managed.with_plain(plain).with_starts(starts)),
+            None => Err(RefusedParameter::Start),
+        }
+    }
+}
+
+impl Options {
+    // The managed parameters, where no virtual channel is named, or the first of them that is refused.
+    fn managed(&self) -> Result<Managed, ManagedFault>
+        ensures { result ≡ managed_of (parameters_asked self.now) }
     {
         Managed::new(
             self.spacecraft,

@@ -1,7 +1,9 @@
 //! The normal form piece by piece.
-use crate::{PIECE_ROOM, TcForm, reframe_tc};
+use super::reframe::{delivered_of, form_with};
+use crate::{PIECE_ROOM, TcForm, fits_tc};
+use sl_cop::Starts;
 use sl_packet::{Delivered, hand_over};
-use sl_tcframe::TcShape;
+use sl_tcframe::{TcShape, VcSet};
 use std::test::Fail;
 
 const PACKET: [u8; 10] = [0x10, 0x01, 0xC0, 0x00, 0x00, 0x03, 0xAA, 0xBB, 0xCC, 0xDD];
@@ -24,14 +26,13 @@ const LENS: [usize; 6] = [13, 16, 13, 16, 13, 16];
 #[test]
 fn pieces_are_the_form(rt: HostRuntime) -> Result<(), Fail> {
     let shape = TcShape::new(16, false)?;
-    let mut delivered = Delivered::new(rt.alloc());
-    for (channel, packet) in &PACKETS {
-        if *channel > 4095 {
-            return Err(Fail::from("no channel"));
-        }
-        hand_over(&mut delivered, *channel, packet)?;
+    let starts = Starts::all(254);
+    let none = VcSet::new();
+    let delivered = delivered_of(rt.alloc(), &PACKETS)?;
+    if !fits_tc(&shape, &none, &delivered) {
+        return Err(Fail::from("no such frames"));
     }
-    let mut pieces = TcForm::new(shape, 1, 254, &delivered);
+    let mut pieces = TcForm::new(shape, 1, starts, none, &delivered);
     let mut form = Vec::new(rt.alloc());
     for len in &LENS {
         let mut piece = Vec::with_capacity(rt.alloc(), PIECE_ROOM)?;
@@ -41,7 +42,7 @@ fn pieces_are_the_form(rt: HostRuntime) -> Result<(), Fail> {
     }
     assert!(rt; !pieces.next(&mut form)?);
     assert!(rt; !pieces.next(&mut form)?);
-    let whole = reframe_tc(rt.alloc(), &shape, 1, 254, &delivered)?;
+    let whole = form_with(rt.alloc(), &shape, &starts, &none, &PACKETS)?;
     assert_eq!(rt; form.as_slice(), whole.as_slice());
     Ok(())
 }
@@ -54,7 +55,11 @@ fn the_longest_piece_has_room(rt: HostRuntime) -> Result<(), Fail> {
     longest.resize(65542, 0x33)?;
     let mut delivered = Delivered::new(rt.alloc());
     hand_over(&mut delivered, 0, &longest)?;
-    let mut pieces = TcForm::new(shape, 1, 0, &delivered);
+    let none = VcSet::new();
+    if !fits_tc(&shape, &none, &delivered) {
+        return Err(Fail::from("no such frames"));
+    }
+    let mut pieces = TcForm::new(shape, 1, Starts::all(0), none, &delivered);
     let mut piece = Vec::with_capacity(rt.alloc(), PIECE_ROOM)?;
     assert!(rt; pieces.next(&mut piece)?);
     assert_eq!(rt; piece.len(), 131_086);

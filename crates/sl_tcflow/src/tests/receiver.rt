@@ -1,9 +1,9 @@
 //! Frames of known octets, what FARM-1 answers to them, and the packets that end with their units. The expected
 //! values follow from the standard's bits.
 use crate::{Receiver, TcStep};
-use sl_cop::{Verdict, Window};
+use sl_cop::{Starts, Verdict, Window};
 use sl_packet::{Delivered, PacketSink};
-use sl_tcframe::{TcFrame, TcShape};
+use sl_tcframe::{TcFrame, TcShape, VcSet};
 use std::test::Fail;
 
 // Spacecraft 1, virtual channel 0, type AD, N(S) 0: an unsegmented unit on MAP 0 that is one packet.
@@ -84,7 +84,7 @@ const fn with_packet(ns: u8) -> [u8; 16] {
 
 pub fn receiver(rt: &HostRuntime, vr: u8) -> Result<Receiver, Fail> {
     let window = Window::new(10).ok_or("no window")?;
-    Ok(Receiver::new(rt.alloc(), window, vr))
+    Ok(Receiver::new(rt.alloc(), window, &Starts::all(vr), VcSet::new()))
 }
 
 // What a frame of spacecraft 1 brought.

@@ -1,8 +1,9 @@
 //! The normal form of known packets. The expected frames follow from the standard's bits.
 use super::receiver::{are, received, receiver};
-use crate::reframe_tc;
+use crate::{fits_tc, reframe_tc};
+use sl_cop::Starts;
 use sl_packet::{Delivered, hand_over};
-use sl_tcframe::TcShape;
+use sl_tcframe::{TcShape, VcSet};
 use std::alloc::Global;
 use std::test::Fail;
 
@@ -90,6 +91,26 @@ fn form_of(
     vr: u8,
     packets: &[(u16, &[u8])],
 ) -> Result<Vec<u8>, Fail> {
+    form_with(alloc, shape, &Starts::all(vr), &VcSet::new(), packets)
+}
+
+// The same with these starts, and without segment headers on these virtual channels.
+pub fn form_with(
+    alloc: Global,
+    shape: &TcShape,
+    starts: &Starts,
+    plain: &VcSet,
+    packets: &[(u16, &[u8])],
+) -> Result<Vec<u8>, Fail> {
+    let delivered = delivered_of(alloc, packets)?;
+    if !fits_tc(shape, plain, &delivered) {
+        return Err(Fail::from("no such frames"));
+    }
+    Ok(reframe_tc(alloc, shape, 1, starts, plain, &delivered)?)
+}
+
+// Packets on their channels.
+pub fn delivered_of(alloc: Global, packets: &[(u16, &[u8])]) -> Result<Delivered, Fail> {
     let mut delivered = Delivered::new(alloc);
     for (channel, packet) in packets {
         if *channel > 4095 {
@@ -97,7 +118,7 @@ fn form_of(
         }
         hand_over(&mut delivered, *channel, packet)?;
     }
-    Ok(reframe_tc(alloc, shape, 1, vr, &delivered)?)
+    Ok(delivered)
 }
 
 #[test]

@@ -1,6 +1,8 @@
-//! Command lines: what they ask for, which are refused, and help.
+//! Command lines: what they ask for, which are refused, help and the version.
+use super::faulty::Unreadable;
 use super::normalise::{FIRST, TEN_FILLED, octets};
 use super::outcome::{Outcome, text};
+use sl_link::Counted;
 use std::test::Fail;
 
 const HELP: &str = "sllink --help";
@@ -53,6 +55,7 @@ fn wrong_command_lines_are_refused(rt: HostRuntime) -> Result<(), Fail> {
         "sllink show tm",
         "sllink show tm --scid",
         "sllink show tm --scid one",
+        "sllink show tm --scid 0x1",
         "sllink show tm --scid 65536",
         "sllink show tm --scid -1",
         "sllink show tm --scid=-1",
@@ -69,6 +72,10 @@ fn wrong_command_lines_are_refused(rt: HostRuntime) -> Result<(), Fail> {
         "sllink show tc --scid 1 --tc-fecf=1",
         "sllink show tc --scid 1 --tc-fecf --tc-fecf",
         "sllink show tm --scid 1 --tm-fecf yes",
+        "sllink version",
+        "sllink --version=1",
+        "sllink show --version",
+        "sllink show tm --scid 1 -V",
     ];
     for line in lines {
         let outcome = Outcome::of(rt.alloc(), line, &[])?;
@@ -101,6 +108,100 @@ fn help_is_printed(rt: HostRuntime) -> Result<(), Fail> {
         let outcome = Outcome::of(rt.alloc(), line, &[])?;
         assert!(rt; outcome.says(0, ""), "{line}");
         assert!(rt; text(outcome.output.as_slice()).contains(usage), "{line}");
+    }
+    Ok(())
+}
+
+// As many words as memory has room for are no fault.
+#[test]
+fn many_words_are_read(rt: HostRuntime) -> Result<(), Fail> {
+    let alloc = rt.alloc();
+    let mut many = String::new(alloc);
+    for _word in 0..1000 {
+        many.push_str(" tm")?;
+    }
+    let cases = [
+        ("sllink", 2),
+        ("sllink show --scid 1", 2),
+        (HELP, 0),
+        ("sllink -V", 0),
+    ];
+    for (line, status) in cases {
+        let line = format!(in alloc; "{line}{many}")?;
+        let outcome = Outcome::of(alloc, line.as_str(), &[])?;
+        assert_eq!(rt; outcome.status, status, "{line}");
+    }
+    Ok(())
+}
+
+// The version is written whatever comes after it, and nothing is read for it.
+#[test]
+fn the_version_is_printed(rt: HostRuntime) -> Result<(), Fail> {
+    let alloc = rt.alloc();
+    let lines = [
+        "sllink --version",
+        "sllink -V",
+        "any --version show tm --scid 1",
+        "sllink -Vh",
+    ];
+    for line in lines {
+        let mut writer = Counted::new(Vec::new(alloc));
+        let outcome = Outcome::with(alloc, line, Unreadable, &mut writer)?;
+        assert!(rt; outcome.says(0, ""), "{line}");
+        assert_eq!(rt;
+            text(writer.into_inner().as_slice()),
+            "sllink 1.0.0\n",
+            "{line}"
+        );
+    }
+    Ok(())
+}
+
+// What help says of each value, below it an example, and then the same for all.
+#[test]
+fn help_says_what_a_run_takes_and_gives(rt: HostRuntime) -> Result<(), Fail> {
+    let values = [
+        "Spacecraft identifier, in decimal, 0 to 1023\n",
+        "Length of each TM frame in octets, 32 to 2048 [default: 1115]\n",
+        "Greatest length of a TC frame in octets, 16 to 1024 [default: 1024]\n",
+        "Width of the FARM-1 sliding window in frames, even, 2 to 254 [default: 10]\n",
+        "V(R) with which each FARM-1 begins, 0 to 255 [default: 0]\n",
+        "Initial V(R), 0 to 255, of these virtual channels, 0 to 63 in rising order\n",
+        "Virtual channels whose TC frames have no segment headers, 0 to 63 in rising order\n",
+        "Octets read at most, 1 to 18446744073709551615 [default: 1073741824]\n",
+    ];
+    let cases: [(&str, &[&str], &str); 5] = [
+        (HELP, &[], "\n  sllink show --help\n"),
+        ("sllink show -h", &values, "\nExample:\n  sllink show t"),
+        ("sllink check -h", &values, "\nExample:\n  sllink check t"),
+        (
+            "sllink packets -h",
+            &values,
+            "\nExample:\n  sllink packets t",
+        ),
+        (
+            "sllink normalise -h",
+            &values,
+            "\nExample:\n  sllink normalise t",
+        ),
+    ];
+    let end = [
+        " read from the standard input: transfer frames ",
+        " to the standard output, faults to the standard error.\n",
+        "\nExit status:\n  0  ",
+        "\n  1  ",
+        "\n  2  ",
+        "\n  3  ",
+    ];
+    for (line, values, example) in cases {
+        let outcome = Outcome::of(rt.alloc(), line, &[])?;
+        let mut left = text(outcome.output.as_slice());
+        // In this order.
+        for part in values.iter().chain([example].iter()).chain(end.iter()) {
+            let (_, behind) = left.split_once(*part).unwrap_or(("", ""));
+            assert!(rt; !behind.is_empty(), "{line} {part}");
+            left = behind;
+        }
     }
     Ok(())
 }

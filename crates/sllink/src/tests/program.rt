@@ -17,6 +17,8 @@ const ENGINES: [&str; 8] = [
 
 const HELP: &str = "sllink --help";
 
+const VERSION: &str = "sllink --version";
+
 const SHOW: &str = "sllink show tm --scid 1";
 
 const CHECK: &str = "sllink check tm --scid 1 --tm-length 32";
@@ -159,9 +161,10 @@ fn faults_of_reading_are_named(rt: HostRuntime) -> Result<(), Fail> {
 fn faults_of_writing_are_named(rt: HostRuntime) -> Result<(), Fail> {
     let alloc = rt.alloc();
     let normal = octets(alloc, &[FIRST, TEN_FILLED])?;
-    let cases: [(&str, &[u8]); 5] = [
+    let cases: [(&str, &[u8]); 6] = [
         (SHOW, RECORDING),
         (HELP, RECORDING),
+        (VERSION, RECORDING),
         (CHECK, RECORDING),
         (PACKETS, normal.as_slice()),
         (NORMALISE, normal.as_slice()),

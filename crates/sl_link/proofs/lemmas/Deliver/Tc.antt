@@ -17,7 +17,7 @@ use Rattle.sl_tcframe.specs.declared.tc_frame.TcSkip.{TcSkip}
 use Rattle.sl_tcframe.specs.TcFrame.{TcFormat, TcView, Content, Ad, Bd, Unlock, SetVr, command_of, content_of, early_reason, field_len, header_of, parts_of, read_as, tc_frame, unit_of}
 use Rattle.sl_tcflow.specs.AcceptedUnit.{views_of}
 use Rattle.sl_tcflow.specs.Receiving.{ReceiverState, HasProcessed, ended_by, unit_channel}
-use Rattle.sl_tcflow.specs.ReceptionParameters.{ReceptionParameters}
+use Rattle.sl_tcflow.specs.ReceptionParameters.{ReceptionParameters, is_plain}
 use Rattle.sl_tcflow.specs.Recording.{packets_in_channel}
 use Rattle.sl_link.specs.Deliver.Tc.{as_read, ended_in, is_incomplete_around, lists_after}
 use Rattle.sl_link.specs.Deliver.Lists.{with_frame}
@@ -35,22 +35,22 @@ use Rattle.sl_tcflow.proofs.ChannelLemmas.{held_in, held_other, held_own, packet
 -- ---- a frame, as it is read
 
 -- it is of one of the channels
-abbrev pub IsOfChannel : Result TcView TcSkip → Type 0
-IsOfChannel (Ok view) = unit_channel view < channel_count
-IsOfChannel (Err reason) = ⊤
+abbrev pub IsOfChannel : ReceptionParameters → Result TcView TcSkip → Type 0
+IsOfChannel r (Ok view) = unit_channel r view < channel_count
+IsOfChannel r (Err reason) = ⊤
 
-read_channel : (reason : Option TcSkip) (frame : List ℕ) (content : Option Content) → IsOfChannel (read_as reason (header_of frame) content)
-read_channel (Some reason) frame content = tt
-read_channel None frame None = tt
-read_channel None frame (Some content) =
+read_channel : (r : ReceptionParameters) (reason : Option TcSkip) (frame : List ℕ) (content : Option Content) → IsOfChannel r (read_as reason (header_of frame) content)
+read_channel r (Some reason) frame content = tt
+read_channel r None frame None = tt
+read_channel r None frame (Some content) =
     let vc : (header_of frame).vc < 64 = mod_below (number_of (take 5 frame) / 2 ^ 18) 64 (omega arith) in
-    let small = small_map content in omega (arith, vc, small)
+    let small = small_map (is_plain r (header_of frame).vc) content in omega (arith, vc, small)
 
-pub of_channel : (p : Parameters) (frame : List ℕ) → IsOfChannel (as_read p frame)
-of_channel p frame = read_channel (early_reason (tc_format p) p.spacecraft frame) frame (content_of (header_of frame) (parts_of (tc_format p) frame).field)
+pub of_channel : (r : ReceptionParameters) (p : Parameters) (frame : List ℕ) → IsOfChannel r (as_read p frame)
+of_channel r p frame = read_channel r (early_reason (tc_format p) p.spacecraft frame) frame (content_of (header_of frame) (parts_of (tc_format p) frame).field)
 
-pub channel_fits : (p : Parameters) (frame : List ℕ) (view : TcView) → as_read p frame ≡ Ok view → unit_channel view < channel_count
-channel_fits p frame view is = subst IsOfChannel is (of_channel p frame)
+pub channel_fits : (r : ReceptionParameters) (p : Parameters) (frame : List ℕ) (view : TcView) → as_read p frame ≡ Ok view → unit_channel r view < channel_count
+channel_fits r p frame view is = subst (IsOfChannel r) is (of_channel r p frame)
 
 -- the octets of its unit are no more than its own
 abbrev unit_len_of : Result TcView TcSkip → ℕ
@@ -100,8 +100,8 @@ module _ (r : ReceptionParameters) where
   list_step views (Ok view) lists channel all inside are =
       let ended = ended_by r views view in
       let more = without_idle ended in
-      let own = slice_index_or lists (unit_channel view) [] ++ more in
-      elim (eqb_tells (unit_channel view) channel) [
+      let own = slice_index_or lists (unit_channel r view) [] ++ more in
+      elim (eqb_tells (unit_channel r view) channel) [
         | inl (is, same) ↦
             ap (λ c. slice_index_or (slice_set lists c (slice_index_or lists c [] ++ more)) channel []) same
             ∙ get_or-set_same lists channel (slice_index_or lists channel [] ++ more) [] (omega (arith, all, inside))
@@ -109,23 +109,23 @@ module _ (r : ReceptionParameters) where
             ∙ sym (ap without_idle (packets_own r views view channel (sym same))
             ∙ filter-append (λ packet. not (is_idle_packet packet)) (packets_in_channel r views channel) ended)
         | inr (is, other) ↦
-            get_or-set_other lists (unit_channel view) channel own [] (λ e. other (sym e))
+            get_or-set_other lists (unit_channel r view) channel own [] (λ e. other (sym e))
             ∙ are ∙ ap without_idle (sym (packets_other r views view channel (λ e. other (sym e))))
       ]
 
   pub length-lists_after : (views : List TcView) (read : Result TcView TcSkip) (lists : List (List (List ℕ))) → length (lists_after r views read lists) ≡ length lists
-  length-lists_after views (Ok view) lists = length-set lists (unit_channel view) (slice_index_or lists (unit_channel view) [] ++ without_idle (ended_by r views view))
+  length-lists_after views (Ok view) lists = length-set lists (unit_channel r view) (slice_index_or lists (unit_channel r view) [] ++ without_idle (ended_by r views view))
   length-lists_after views (Err reason) lists = refl
 
   -- the packets of a channel that pass a test
   abbrev passing : (List ℕ → Bool) → List TcView → ℕ → List (List ℕ)
   passing test views channel = filter test (packets_in_channel r views channel)
 
-  pub count_next : (test : List ℕ → Bool) (views : List TcView) (read : Result TcView TcSkip) → IsOfChannel read
+  pub count_next : (test : List ℕ → Bool) (views : List TcView) (read : Result TcView TcSkip) → IsOfChannel r read
       → items (passing test (with_frame views read)) ≡ items (passing test views) + length (filter test (ended_in r views read))
   count_next test views (Err reason) range = omega arith
   count_next test views (Ok view) range =
-      let at = unit_channel view in
+      let at = unit_channel r view in
       let old = passing test views in
       let new = passing test (views ++ view ∷ []) in
       let change = items_change old new at range (λ i inside other. ap (λ l. length (filter test l)) (packets_other r views view i other)) in
@@ -136,11 +136,11 @@ module _ (r : ReceptionParameters) where
       omega (arith, change, here)
 
   -- the packets that end and the octets that are held after them are no more than those held before and the frame's own
-  pub held_next : (views : List TcView) (read : Result TcView TcSkip) → IsOfChannel read
+  pub held_next : (views : List TcView) (read : Result TcView TcSkip) → IsOfChannel r read
       → items (held_in r (with_frame views read)) + length (ended_in r views read) ≤ items (held_in r views) + unit_len_of read
   held_next views (Err reason) range = omega arith
   held_next views (Ok view) range =
-      let at = unit_channel view in
+      let at = unit_channel r view in
       let old = held_in r views in
       let new = held_in r (views ++ view ∷ []) in
       let change = items_change old new at range (λ i inside other. ap length (held_other r views view i other)) in
@@ -171,7 +171,7 @@ pub packets_more : (p : Parameters) (frames : List (List ℕ)) (frame : List ℕ
 packets_more p frames frame =
     let seen = views_of (tc_format p) p.spacecraft frames in
     ap (λ l. items (λ channel. without_idle (packets_in_channel (reception_of p) l channel))) (views_next (tc_format p) p.spacecraft frames frame)
-    ∙ count_next (reception_of p) (λ packet. not (is_idle_packet packet)) seen (as_read p frame) (of_channel p frame)
+    ∙ count_next (reception_of p) (λ packet. not (is_idle_packet packet)) seen (as_read p frame) (of_channel (reception_of p) p frame)
 
 pub idle_more : (p : Parameters) (frames : List (List ℕ)) (frame : List ℕ)
     → tc_idle_in p (frames ++ frame ∷ [])
@@ -179,13 +179,13 @@ pub idle_more : (p : Parameters) (frames : List (List ℕ)) (frame : List ℕ)
 idle_more p frames frame =
     let seen = views_of (tc_format p) p.spacecraft frames in
     ap (λ l. items (λ channel. only_idle (packets_in_channel (reception_of p) l channel))) (views_next (tc_format p) p.spacecraft frames frame)
-    ∙ count_next (reception_of p) is_idle_packet seen (as_read p frame) (of_channel p frame)
+    ∙ count_next (reception_of p) is_idle_packet seen (as_read p frame) (of_channel (reception_of p) p frame)
 
 within_next : (p : Parameters) (frames : List (List ℕ)) (frame : List ℕ) → AreWithin p frames → AreWithin p (frames ++ frame ∷ [])
 within_next p frames frame within =
     let seen = views_of (tc_format p) p.spacecraft frames in
     let r = as_read p frame in
-    let held = held_next (reception_of p) seen r (of_channel p frame) in
+    let held = held_next (reception_of p) seen r (of_channel (reception_of p) p frame) in
     let held_is = ap (λ l. items (held_in (reception_of p) l)) (views_next (tc_format p) p.spacecraft frames frame) in
     omega (
       arith,

@@ -2,6 +2,7 @@
 use Rattle.std.proofs.Common.{ℕ, List, ◌≡◌, sym, ◌∙◌, ap, Ok}
 use Rattle.sl_tcflow.specs.Canonical as tc
 use Rattle.sl_tcflow.proofs.CanonicalLemmas.{normal_form_delivers}
+use Rattle.sl_tcflow.proofs.PlainRecordingLemmas.{recorded_lists_fit}
 use Rattle.sl_tcflow.proofs.RecordingLemmas as tc_recording
 use Rattle.sl_tmflow.specs.Canonical as tm
 use Rattle.sl_tmflow.specs.NormalForm.{normal_form}
@@ -43,8 +44,9 @@ tc_is p are = let range = managed_greatest p are.allowed in record { least = ran
 pub tc_forms_deliver : TcFormsDeliver
 unfolding tc_form_of
 tc_forms_deliver p recording are =
-    normal_form_delivers (tc_format p) p.spacecraft (reception_of p) (tc_packets p recording) (tc_is p are) (managed_spacecraft p are.allowed) are.octet
+    normal_form_delivers (tc_format p) p.spacecraft (reception_of p) (tc_packets p recording) (tc_is p are) (managed_spacecraft p are.allowed) are.starts
     (tc_recording.recorded_lists_are_deliverable (tc_format p) p.spacecraft (reception_of p) recording)
+    (recorded_lists_fit (tc_format p) p.spacecraft (reception_of p) recording)
 
 pub tc_forms_tell_packets : TcFormsTellPackets
 tc_forms_tell_packets p x y are = (

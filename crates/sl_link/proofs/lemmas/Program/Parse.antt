@@ -11,7 +11,8 @@ use Rattle.clap.specs.declared.builder.command.Command.{Command}
 use Rattle.clap.specs.declared.error.Error.{Error}
 use Rattle.clap.specs.declared.error.kind.ErrorKind.TheVariants.{OutOfMemory}
 use Rattle.clap.specs.declared.parser.matches.ArgMatches.{ArgMatches}
-use Rattle.sl_link.specs.Program.CommandLine.{AskFor, IsRefusal, IsSllink, recording_kinds, request_in, sllink_app, sllink_with}
+use Rattle.sl_link.specs.Program.CommandLine.{AskFor, HasVcs, IsRefusal, IsSllink, recording_kinds, request_in, sllink_app, sllink_with}
+use Rattle.sl_link.specs.declared.program.command_line.Asked.{Asked}
 use Rattle.sl_link.specs.declared.program.command_line.Request.{Request}
 use Rattle.sl_link.proofs.lemmas.Program.Place.{same_fault, same_subcommand}
 use Rattle.sl_link.proofs.lemmas.Program.Request.{words_ask_something}
@@ -44,10 +45,10 @@ module _ (words : List Text) (c : Command) (h : IsSllink (app_of c)) where
     met = (subst (λ (a : App). HasMatchesOf a words m) h.same has refl).1 ∙ same_subcommand h.kinds recording_kinds h.named words
 
     -- the request that the matches give is what the words ask for
-    pub words_ask : (request : Request) → Some request ≡ request_in (subcommand_rows_of m) → AskFor words request
-    words_ask request some =
-        let is_some : request_in (subcommand_of sllink_app words) ≡ Some request = ap request_in (sym met) ∙ sym some in
-        record { allowed = none; read = is_some }
+    pub words_ask : (asked : Asked) → Some asked.request ≡ request_in (subcommand_rows_of m) → HasVcs (subcommand_rows_of m) asked → AskFor words asked
+    words_ask asked some channels =
+        let is_some : request_in (subcommand_of sllink_app words) ≡ Some asked.request = ap request_in (sym met) ∙ sym some in
+        record { allowed = none; read = is_some; channels = subst (λ found. HasVcs found asked) met channels }
 
     -- they give one
     pub gives_none : None ≡ request_in (subcommand_rows_of m) → ⊥

@@ -9,12 +9,12 @@ use Rattle.sl_link.specs.declared.link.fault.LinkFault.{LinkFault}
 use Rattle.sl_link.specs.declared.link.fault.LinkFault.TheVariants.{Memory, Write}
 use Rattle.sl_link.specs.declared.program.command_line.Engine.{Engine}
 use Rattle.sl_link.specs.declared.program.command_line.Engine.TheVariants.{ShowTm, ShowTc, CheckTm, CheckTc, PacketsTm, PacketsTc, NormaliseTm, NormaliseTc}
-use Rattle.sl_link.specs.declared.program.command_line.Request.{Request}
-use Rattle.sl_link.specs.Program.CommandLine.{asked}
+use Rattle.sl_link.specs.declared.program.command_line.Asked.{Asked}
+use Rattle.sl_link.specs.Program.CommandLine.{managed_asked}
 use Rattle.sl_link.specs.Link.Counted.{stream_of, HasFailed}
 use Rattle.sl_link.specs.Pass.{chunk_size}
 use Rattle.sl_link.specs.Program.Engine.{text_of, counts_of, is_check}
-use Rattle.sl_link.specs.Link.Managed.{Parameters, managed_of}
+use Rattle.sl_link.specs.Link.Managed.{Parameters}
 use Rattle.sl_link.specs.Program.Run.{HasMetAnomalies, HasStopped, HasSucceeded, HasWritten, IsStoppedBy}
 use Rattle.sl_link.specs.Program.Status.{status}
 use Rattle.sl_link.specs.Link.Totals.{Counts}
@@ -47,19 +47,19 @@ check_met NormaliseTc p octets some = absurd (some refl)
 
 module _ {R W : Type 0} (remaining : R → Option (List ℕ)) (contents : W → Option (List ℕ)) where
   -- where the flush fails, all of the text is in its place, but the writer had a fault
-  pub stopped_flushing : (reader reader' : Counted R) (writer mid writer' : Counted W) (request : Request) (managed : Parameters) (totals : Counts) (fault : LinkFault)
-      → HasWritten remaining contents reader reader' writer mid request managed totals → Keeps (contents (stream_of mid)) (contents (stream_of writer')) → fault ≡ Write → HasFailed mid writer'
-      → IsStoppedBy remaining contents reader reader' writer writer' request managed fault
-  stopped_flushing reader reader' writer mid writer' request managed totals fault t kept is_write failed =
+  pub stopped_flushing : (reader reader' : Counted R) (writer mid writer' : Counted W) (asked : Asked) (managed : Parameters) (totals : Counts) (fault : LinkFault)
+      → HasWritten remaining contents reader reader' writer mid asked managed totals → Keeps (contents (stream_of mid)) (contents (stream_of writer')) → fault ≡ Write → HasFailed mid writer'
+      → IsStoppedBy remaining contents reader reader' writer writer' asked managed fault
+  stopped_flushing reader reader' writer mid writer' asked managed totals fault t kept is_write failed =
       record {
         cause = record {
           octets = t.octets;
           read = t.read;
           written = record {
-            written = text_of request.engine managed t.octets;
+            written = text_of asked.request.engine managed t.octets;
             missing = [];
-            front = append-nil (text_of request.engine managed t.octets);
-            writes = Appends-kept (contents (stream_of writer)) (contents (stream_of mid)) (contents (stream_of writer')) (text_of request.engine managed t.octets) t.written kept;
+            front = append-nil (text_of asked.request.engine managed t.octets);
+            writes = Appends-kept (contents (stream_of writer)) (contents (stream_of mid)) (contents (stream_of writer')) (text_of asked.request.engine managed t.octets) t.written kept;
           };
           cause = caused_writing remaining contents reader reader' writer mid writer' t.octets managed.max_octets chunk_size fault is_write t.reader_kept t.writer_kept failed t.within;
         };
@@ -69,34 +69,34 @@ module _ {R W : Type 0} (remaining : R → Option (List ℕ)) (contents : W → 
       }
 
   -- after the status of success the engine has met no anomaly
-  pub has_succeeded : (reader reader' : Counted R) (writer writer' : Counted W) (request : Request) (managed : Parameters) (outcome : Result Counts LinkFault)
-      → status outcome ≡ 0 → managed_of (asked request.options) ≡ Ok managed → IfOk outcome (HasWritten remaining contents reader reader' writer writer' request managed)
-      → HasSucceeded remaining contents reader reader' writer writer' request
-  has_succeeded reader reader' writer writer' request managed (Ok counts) is_success allowed written =
+  pub has_succeeded : (reader reader' : Counted R) (writer writer' : Counted W) (asked : Asked) (managed : Parameters) (outcome : Result Counts LinkFault)
+      → status outcome ≡ 0 → managed_asked asked ≡ Ok managed → IfOk outcome (HasWritten remaining contents reader reader' writer writer' asked managed)
+      → HasSucceeded remaining contents reader reader' writer writer' asked
+  has_succeeded reader reader' writer writer' asked managed (Ok counts) is_success allowed written =
       record {
         totals = counts;
         ended = record { managed = managed; allowed = allowed; written = written };
         none = none_by_status counts.anomalies is_success;
       }
-  has_succeeded reader reader' writer writer' request managed (Err fault) is_success allowed written = absurd (cc)
+  has_succeeded reader reader' writer writer' asked managed (Err fault) is_success allowed written = absurd (cc)
 
   -- after that of anomalies a check has met some
-  pub has_met_anomalies : (reader reader' : Counted R) (writer writer' : Counted W) (request : Request) (managed : Parameters) (outcome : Result Counts LinkFault)
-      → status outcome ≡ 1 → managed_of (asked request.options) ≡ Ok managed → IfOk outcome (HasWritten remaining contents reader reader' writer writer' request managed)
-      → HasMetAnomalies remaining contents reader reader' writer writer' request
-  has_met_anomalies reader reader' writer writer' request managed (Ok counts) is_anomalies allowed written =
+  pub has_met_anomalies : (reader reader' : Counted R) (writer writer' : Counted W) (asked : Asked) (managed : Parameters) (outcome : Result Counts LinkFault)
+      → status outcome ≡ 1 → managed_asked asked ≡ Ok managed → IfOk outcome (HasWritten remaining contents reader reader' writer writer' asked managed)
+      → HasMetAnomalies remaining contents reader reader' writer writer' asked
+  has_met_anomalies reader reader' writer writer' asked managed (Ok counts) is_anomalies allowed written =
       let some = some_by_status counts.anomalies is_anomalies in
       record {
         totals = counts;
         ended = record { managed = managed; allowed = allowed; written = written };
         some = some;
-        of_check = check_met request.engine managed written.octets (λ none. some (ap (λ (c : Counts). c.anomalies) written.counted ∙ none));
+        of_check = check_met asked.request.engine managed written.octets (λ none. some (ap (λ (c : Counts). c.anomalies) written.counted ∙ none));
       }
-  has_met_anomalies reader reader' writer writer' request managed (Err fault) is_anomalies allowed written = absurd (cc)
+  has_met_anomalies reader reader' writer writer' asked managed (Err fault) is_anomalies allowed written = absurd (cc)
 
   -- after a fault's status the engine has stopped
-  pub has_stopped : (reader reader' : Counted R) (writer writer' : Counted W) (request : Request) (managed : Parameters) (outcome : Result Counts LinkFault)
-      → status outcome ≡ 3 → managed_of (asked request.options) ≡ Ok managed → IfErr outcome (IsStoppedBy remaining contents reader reader' writer writer' request managed)
-      → HasStopped remaining contents reader reader' writer writer' request
-  has_stopped reader reader' writer writer' request managed (Ok counts) is_fault allowed stopped = absurd (no_fault_status _ is_fault)
-  has_stopped reader reader' writer writer' request managed (Err fault) is_fault allowed stopped = record { managed = managed; allowed = allowed; fault = fault; stopped = stopped }
+  pub has_stopped : (reader reader' : Counted R) (writer writer' : Counted W) (asked : Asked) (managed : Parameters) (outcome : Result Counts LinkFault)
+      → status outcome ≡ 3 → managed_asked asked ≡ Ok managed → IfErr outcome (IsStoppedBy remaining contents reader reader' writer writer' asked managed)
+      → HasStopped remaining contents reader reader' writer writer' asked
+  has_stopped reader reader' writer writer' asked managed (Ok counts) is_fault allowed stopped = absurd (no_fault_status _ is_fault)
+  has_stopped reader reader' writer writer' asked managed (Err fault) is_fault allowed stopped = record { managed = managed; allowed = allowed; fault = fault; stopped = stopped }

@@ -88,7 +88,7 @@ module _ (verb : Text) (kinds : Bor (List (Bor Text))) where
   rule_at n = unwrap_or (slice_get shape.rules n) (new_rule [])
 
   -- help is never used without a fault
-  help_adds : Adds false (rule_at 9)
+  help_adds : Adds false (rule_at 11)
   help_adds values rows e =
       let parts = neither (range_kinds 0 0 (length values)) (kind.DisplayHelp ∷ []) e in
       let bad : ◌≡◌ {A = Kinds} (kind.DisplayHelp ∷ []) [] = parts.1 in
@@ -113,7 +113,13 @@ module _ (verb : Text) (kinds : Bor (List (Bor Text))) where
               (refl, flag_adds (rule_at 5) refl refl refl refl),
               (
                 (refl, value_adds (rule_at 6) refl refl refl),
-                ((refl, value_adds (rule_at 7) refl refl refl), ((refl, value_adds (rule_at 8) refl refl refl), ((refl, help_adds), tt))),
+                (
+                  (refl, value_adds (rule_at 7) refl refl refl),
+                  (
+                    (refl, value_adds (rule_at 8) refl refl refl),
+                    ((refl, value_adds (rule_at 9) refl refl refl), ((refl, value_adds (rule_at 10) refl refl refl), ((refl, help_adds), tt))),
+                  ),
+                ),
               ),
             ),
           ),

@@ -5,4 +5,4 @@ use Rattle.sl_link.proofs.program.run_and_flush.Goals as goal
 pub returns-in_err-flush-clause-stopped : goal.returns-in_err-flush-clause-stopped
 returns-in_err-flush-clause-stopped g c =
     let out = err_from_is_err_and c.from_residual-in_err-flush.result c.from_residual-in_err-flush.ensures.1 in
-    rw (out.1, out.2) (stopped_flushing g.R.Read.remaining g.W.Write.contents c.args.reader.now c.run_engine.new.reader c.args.writer.now c.run_engine.new.writer c.flush.new.writer c.args.request.now c.args.managed.now c.in_ok-totals.totals _ c.in_ok-totals.ensures.written c.flush.ensures.kept c.in_err-flush.ensures.fault.0 c.in_err-flush.ensures.fault.1)
+    rw (out.1, out.2) (stopped_flushing g.R.Read.remaining g.W.Write.contents c.args.reader.now c.run_engine.new.reader c.args.writer.now c.run_engine.new.writer c.flush.new.writer c.args.asked.now c.args.managed.now c.in_ok-totals.totals _ c.in_ok-totals.ensures.written c.flush.ensures.kept c.in_err-flush.ensures.fault.0 c.in_err-flush.ensures.fault.1)

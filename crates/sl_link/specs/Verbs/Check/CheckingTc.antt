@@ -22,10 +22,11 @@ use Rattle.sl_link.specs.declared.tally.Tally.{Tally}
 abbrev pub told_amiss : ℕ → List ℕ → ℕ → ℕ → Bool → List (List ℕ)
 told_amiss offset what vc mid holds = if holds then line_at offset (what ++ map_text vc mid) ∷ [] else []
 
--- the lines of a frame that is read, in their order, by what a receiver made of it
-abbrev pub view_amiss : ℕ → TcView → StepReport → List (List ℕ)
-view_amiss offset view step =
-    let mid : ℕ = map_of view.content in
+-- the lines of a frame that is read, in their order, by what a receiver made of it, on a virtual channel without segment
+-- headers or with them
+abbrev pub view_amiss : Bool → ℕ → TcView → StepReport → List (List ℕ)
+view_amiss plain offset view step =
+    let mid : ℕ = map_of plain view.content in
     verdict_amiss offset view.vc step.verdict view.content
     ++ told_amiss offset (codes " stray") view.vc mid step.stray
     ++ dropped_amiss offset view.vc mid step.dropped

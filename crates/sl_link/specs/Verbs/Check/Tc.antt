@@ -9,7 +9,7 @@ use Rattle.sl_tcframe.specs.TcFrame.{TcView, Content, Ad, Bd, Unlock, SetVr}
 use Rattle.sl_tcflow.specs.AcceptedUnit.{views_of}
 use Rattle.sl_tcflow.specs.Anomaly.{dropped_by, long_by, stray_by, tail_by}
 use Rattle.sl_tcflow.specs.Incomplete.{incomplete_of}
-use Rattle.sl_tcflow.specs.Receiving.{map_of, verdict_on}
+use Rattle.sl_tcflow.specs.Receiving.{map_by, verdict_on}
 use Rattle.sl_tcflow.specs.Reception.{segments_of}
 use Rattle.sl_tcflow.specs.ReceptionParameters.{ReceptionParameters}
 use Rattle.sl_tcflow.specs.Recording.{map_channels}
@@ -65,7 +65,7 @@ tail_amiss offset vc mid octets =
 -- the lines of a frame at this offset, as it is read, that comes after these frames
 abbrev pub tc_amiss : ReceptionParameters → ℕ → List TcView → Result TcView TcSkip → List (List ℕ)
 tc_amiss r offset views (Ok view) =
-    let mid : ℕ = map_of view.content in
+    let mid : ℕ = map_by r view in
     verdict_amiss offset view.vc (verdict_on r views view) view.content
     ++ stray_amiss offset view.vc mid (stray_by r views view)
     ++ dropped_amiss offset view.vc mid (dropped_by r views view)

@@ -7,7 +7,7 @@ use Rattle.sl_tcframe.specs.declared.tc_frame.TcSkip.{TcSkip}
 use Rattle.sl_tcframe.specs.TcDelimited.{tc_frames_of}
 use Rattle.sl_tcframe.specs.TcFrame.{TcView}
 use Rattle.sl_tcflow.specs.AcceptedUnit.{views_of}
-use Rattle.sl_tcflow.specs.Receiving.{IsIncompleteAround, ended_by, map_of}
+use Rattle.sl_tcflow.specs.Receiving.{IsIncompleteAround, ended_by, map_by}
 use Rattle.sl_tcflow.specs.ReceptionParameters.{ReceptionParameters}
 use Rattle.sl_link.specs.Deliver.Tc.{as_read}
 use Rattle.sl_link.specs.Link.Managed.{Parameters, reception_of, tc_format}
@@ -22,7 +22,7 @@ channel_text vc mid = codes "vc " ++ decimal vc ++ codes " map " ++ decimal mid
 -- the lines of the packets of the series that the unit of a frame ends, as it is read, that comes after these frames
 abbrev pub tc_packet_lines : ReceptionParameters → List TcView → Result TcView TcSkip → List ℕ
 tc_packet_lines r views (Ok view) =
-    concat (map (packet_line (channel_text view.vc (map_of view.content))) (without_idle (ended_by r views view)))
+    concat (map (packet_line (channel_text view.vc (map_by r view))) (without_idle (ended_by r views view)))
 tc_packet_lines r views (Err reason) = []
 
 -- the listing: the lines of the packets that end with each frame's unit

@@ -16,6 +16,10 @@ no_farm = record { window = 0; state = farm_start 0 }
 abbrev pub farm_at : List FarmView → ℕ → FarmView
 farm_at farms vc = slice_index_or farms vc no_farm
 
+-- one that begins with this V(R)
+abbrev pub farm_from : ℕ → ℕ → FarmView
+farm_from w vr = record { window = w; state = farm_start vr }
+
 -- its state
 abbrev pub farm_states : List FarmView → ℕ → FarmState
 farm_states farms vc = (farm_at farms vc).state

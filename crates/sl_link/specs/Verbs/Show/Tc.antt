@@ -1,5 +1,5 @@
 -- The listing of a TC recording's frames, a line for each, and then its remainder.
-use Rattle.std.specs.Prelude.{ℕ, ◌+◌, ◌-◌, ◌==◌, if◌then◌else◌, List, [], ◌∷◌, ◌++◌, length, codes, decimal, Result, Ok, Err, is_err}
+use Rattle.std.specs.Prelude.{ℕ, ◌+◌, ◌-◌, ◌==◌, Bool, if◌then◌else◌, List, [], ◌∷◌, ◌++◌, length, codes, decimal, Result, Ok, Err, is_err}
 use Rattle.std.specs.List.{concat}
 use Rattle.hex.specs.Hex.{encode_lower}
 use Rattle.sl_cop.specs.declared.verdict.Verdict.{Verdict}
@@ -12,6 +12,7 @@ use Rattle.sl_tcframe.specs.declared.tc_frame.TcSkip.{TcSkip}
 use Rattle.sl_tcframe.specs.declared.tc_frame.TcSkip.TheVariants.{Fecf, Version, Spacecraft, Long, Kind, Empty, Command}
 use Rattle.sl_tcframe.specs.TcDelimited.{tc_frames_of}
 use Rattle.sl_tcframe.specs.TcFrame.{TcView, Content, Ad, Bd, Unlock, SetVr, tc_frame}
+use Rattle.sl_tcframe.specs.VcSet.{has_vc}
 use Rattle.sl_tcflow.specs.AcceptedUnit.{event_of, views_of}
 use Rattle.sl_tcflow.specs.Receiving.{farm_of}
 use Rattle.sl_tcflow.specs.Series.{header_at}
@@ -38,19 +39,22 @@ flags_word flags =
     else if flags == 2 then codes "last"
     else codes "whole"
 
--- a unit: its segment header, and how many octets come after it
-abbrev pub unit_text : List ℕ → List ℕ
-unit_text unit =
+-- a unit: its segment header, and how many octets come after it; or how many it has, without a segment header
+abbrev pub segment_text : List ℕ → List ℕ
+segment_text unit =
     codes " segment " ++ flags_word (header_at unit).flags
     ++ codes " map " ++ decimal (header_at unit).map
     ++ codes " octets " ++ decimal (length unit - 1)
 
--- what a frame carries
-abbrev pub content_text : Content → List ℕ
-content_text (Ad ns unit) = codes "ad " ++ decimal ns ++ unit_text unit
-content_text (Bd unit) = codes "bd" ++ unit_text unit
-content_text Unlock = codes "unlock"
-content_text (SetVr vr) = codes "setvr " ++ decimal vr
+abbrev pub unit_text : Bool → List ℕ → List ℕ
+unit_text plain unit = if plain then codes " unit octets " ++ decimal (length unit) else segment_text unit
+
+-- what a frame carries, on a virtual channel without segment headers or with them
+abbrev pub content_text : Bool → Content → List ℕ
+content_text plain (Ad ns unit) = codes "ad " ++ decimal ns ++ unit_text plain unit
+content_text plain (Bd unit) = codes "bd" ++ unit_text plain unit
+content_text plain Unlock = codes "unlock"
+content_text plain (SetVr vr) = codes "setvr " ++ decimal vr
 
 -- what FARM-1 makes of a frame
 abbrev pub verdict_word : Verdict → List ℕ
@@ -66,15 +70,16 @@ abbrev pub step_text : ℕ → Verdict × FarmState → List ℕ
 step_text vc step = verdict_word step.0 ++ codes " clcw " ++ encode_lower (clcw_octets (clcw_of vc step.1))
 
 -- the line of a frame that is read, after its offset: this was FARM-1 of its virtual channel before it
-abbrev pub tc_view_text : FarmView → TcView → List ℕ
-tc_view_text farm view =
-    codes " frame vc " ++ decimal view.vc ++ codes " " ++ content_text view.content ++ codes " "
+abbrev pub tc_view_text : Bool → FarmView → TcView → List ℕ
+tc_view_text plain farm view =
+    codes " frame vc " ++ decimal view.vc ++ codes " " ++ content_text plain view.content ++ codes " "
     ++ step_text view.vc (farm_step farm.window farm.state (event_of view.content))
 
--- the line of a frame, after its offset, where these were FARM-1 of each virtual channel before it
-abbrev pub tc_frame_text : (ℕ → FarmView) → Result TcView TcSkip → List ℕ
-tc_frame_text farms (Ok view) = tc_view_text (farms view.vc) view
-tc_frame_text farms (Err reason) = codes " skip " ++ tc_skip_word reason
+-- the line of a frame, after its offset, where these virtual channels have no segment headers, and these were FARM-1 of
+-- each virtual channel before it
+abbrev pub tc_frame_text : List ℕ → (ℕ → FarmView) → Result TcView TcSkip → List ℕ
+tc_frame_text plain farms (Ok view) = tc_view_text (has_vc plain view.vc) (farms view.vc) view
+tc_frame_text plain farms (Err reason) = codes " skip " ++ tc_skip_word reason
 
 -- FARM-1 of a virtual channel after frames
 abbrev pub farm_view : Parameters → List (List ℕ) → ℕ → FarmView
@@ -83,7 +88,7 @@ farm_view p before vc = farm_of (reception_of p) vc (views_of (tc_format p) p.sp
 -- the line of a frame that comes after these frames
 abbrev pub tc_line : Parameters → List (List ℕ) → List ℕ → List ℕ
 tc_line p before frame =
-    line_at (length (concat before)) (tc_frame_text (farm_view p before) (tc_frame (tc_format p) p.spacecraft frame))
+    line_at (length (concat before)) (tc_frame_text p.plain (farm_view p before) (tc_frame (tc_format p) p.spacecraft frame))
 
 -- how many frames are skipped
 abbrev pub tc_skipped_of : Parameters → List (List ℕ) → ℕ

@@ -26,15 +26,22 @@ pub fn skip_line(lines: &mut Lines, offset: u64, reason: TcSkip)
     lines.push(b"\n");
 }
 
-/// Adds the lines of what is amiss with a frame that is read, and answers how many they are.
-pub fn amiss_lines(lines: &mut Lines, offset: u64, view: &TcFrame, step: &TcStep) -> u64
+/// Adds the lines of what is amiss with a frame that is read, on a virtual channel without segment headers or with them, and
+/// answers how many they are.
+pub fn amiss_lines(
+    lines: &mut Lines,
+    offset: u64,
+    plain: bool,
+    view: &TcFrame,
+    step: &TcStep,
+) -> u64
     requires { HasRoom lines.old }
-    ensures text { lines.new ≡ lines.old ++ concat (view_amiss offset view.now step.now) }
-    ensures number { result ≡ length (view_amiss offset view.now step.now) }
+    ensures text { lines.new ≡ lines.old ++ concat (view_amiss plain offset view.now step.now) }
+    ensures number { result ≡ length (view_amiss plain offset view.now step.now) }
     ensures few { result ≤ 5 }
 {
     let vc = view.vc();
-    let map = map_in(&view.content());
+    let map = map_in(plain, &view.content());
     let discarded = verdict_lines(lines, offset, view, step.verdict());
     let stray = told_lines(lines, offset, b" stray", vc, map, step.stray());
     let dropped = dropped_lines(lines, offset, vc, map, step.dropped());
@@ -44,10 +51,13 @@ pub fn amiss_lines(lines: &mut Lines, offset: u64, view: &TcFrame, step: &TcStep
 }
 
 // The MAP of a frame's unit, if it carries one.
-fn map_in(carried: &TcContent) -> u8
+fn map_in(plain: bool, carried: &TcContent) -> u8
     requires { IsContent (content carried.now) }
-    ensures { result ≡ map_of (content carried.now) }
+    ensures { result ≡ map_of plain (content carried.now) }
 {
+    if plain {
+        return 0;
+    }
     match *carried {
         TcContent::Ad { unit, .. } | TcContent::Bd { unit } => split_unit(unit).0.map(),
         TcContent::Unlock | TcContent::SetVr(_) => 0,

@@ -3,6 +3,7 @@ ghost use Rattle.std.specs.Prelude.{◌≡◌, ◌<◌, ◌≤◌, ◌++◌, ◌
 ghost use Rattle.std.specs.List.{concat};
 ghost use Rattle.sl_tcframe.specs.TcDelimited.{tc_frames_of};
 ghost use Rattle.sl_tcframe.specs.TcFrame.{is_cut};
+ghost use Rattle.sl_tcframe.specs.VcSet.{has_vc};
 ghost use Rattle.sl_tcflow.specs.Receiving.{ForProcessed, HasProcessed, IsIncompleteAround, IsWorking};
 ghost use Rattle.sl_link.specs.Verbs.Check.Tc.{check_tc_counts, check_tc_text, open_on, tc_amiss, tc_incomplete};
 ghost use Rattle.sl_link.specs.Verbs.Check.CheckingTc.{IncompleteFitTc, TellsFrameTc, end_amiss, end_counts};
@@ -61,7 +62,7 @@ pub fn check_tc<R: Read, W: Write>(
     let mut buffer = [0; CHUNK_SIZE];
     let mut framer = TcFramer::new(&managed.tc);
     let mut verb = CheckTc {
-        receiver: Receiver::new(alloc, managed.window, managed.vr),
+        receiver: Receiver::new(alloc, managed.window, &managed.starts, managed.plain),
         so_far: Tally::new(),
     };
     list(managed, &mut framer, &mut verb, reader, writer, &mut buffer)
@@ -126,6 +127,7 @@ fn check_frame<W: Write>(
 ) -> Result<FrameReport, LinkFault>
     requires one_frame { is_cut (tc_format managed.now) frame.now ≡ true }
     requires working { IsWorking receiver.old }
+    requires plain { receiver.old.plain ≡ managed.now.plain }
     ensures processed { OnOk result (ForProcessed receiver.old
         (λ r views. HasProcessed r receiver.new
         (with_frame views (as_read managed.now frame.now)))) }
@@ -154,6 +156,7 @@ fn read_frame(
 ) -> Result<FrameReport, LinkFault>
     requires one_frame { is_cut (tc_format managed.now) frame.now ≡ true }
     requires working { IsWorking receiver.old }
+    requires plain { receiver.old.plain ≡ managed.now.plain }
     requires room { HasRoom lines.old }
     ensures processed { OnOk result (ForProcessed receiver.old
         (λ r views. HasProcessed r receiver.new
@@ -179,18 +182,21 @@ fn read_frame(
         }
     };
     // The proof needs its two ends apart.
-    let report = check_view(&view, offset, receiver, lines)?;
+    let plain = managed.plain.has(view.vc());
+    let report = check_view(&view, plain, offset, receiver, lines)?;
     Ok(report)
 }
 
-// One frame that is not skipped.
+// One frame that is not skipped, on a virtual channel without segment headers or with them.
 fn check_view(
     view: &TcFrame,
+    plain: bool,
     offset: u64,
     receiver: &mut Receiver,
     lines: &mut Lines,
 ) -> Result<FrameReport, LinkFault>
     requires working { IsWorking receiver.old }
+    requires plain { plain ≡ has_vc receiver.old.plain view.now.vc }
     requires room { HasRoom lines.old }
     ensures processed { OnOk result (ForProcessed receiver.old
         (λ r views. HasProcessed r receiver.new (views ++ view.now ∷ []))) }
@@ -207,7 +213,7 @@ fn check_view(
             is_skipped: false,
             packets: step.packets(),
             idle: step.idle(),
-            anomalies: amiss_lines(lines, offset, view, &step),
+            anomalies: amiss_lines(lines, offset, plain, view, &step),
         }),
         Err(fault) => Err(of_flow(fault)),
     }

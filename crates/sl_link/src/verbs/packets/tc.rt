@@ -56,7 +56,7 @@ pub fn packets_tc<R: Read, W: Write>(
     let mut buffer = [0; CHUNK_SIZE];
     let mut framer = TcFramer::new(&managed.tc);
     let mut verb = PacketsTc {
-        receiver: Receiver::new(alloc, managed.window, managed.vr),
+        receiver: Receiver::new(alloc, managed.window, &managed.starts, managed.plain),
         so_far: Tally::new(),
     };
     list(managed, &mut framer, &mut verb, reader, writer, &mut buffer)

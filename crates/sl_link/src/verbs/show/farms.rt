@@ -1,10 +1,10 @@
 //! FARM-1 of each virtual channel.
-ghost use Rattle.std.specs.Prelude.{◌≡◌, ◌≤◌, replicate};
-ghost use Rattle.sl_cop.specs.Farm.{FarmView, farm_start, farm_step};
+ghost use Rattle.std.specs.Prelude.{◌≡◌, ◌≤◌, ◌<◌, ℕ, length, slice_index_or};
+ghost use Rattle.sl_cop.specs.Farm.{farm_step};
 ghost use Rattle.sl_cop.specs.FarmClcw.{clcw_of};
-ghost use Rattle.sl_link.specs.Verbs.Show.Farms.{farm_at, farm_states, farms_with};
+ghost use Rattle.sl_link.specs.Verbs.Show.Farms.{farm_at, farm_from, farm_states, farms_with};
 
-use sl_cop::{Farm, FarmEvent, Verdict, Window};
+use sl_cop::{Farm, FarmEvent, Starts, Verdict, Window};
 use sl_fields::Clcw;
 use std::marker::Model;
 
@@ -24,14 +24,16 @@ impl Model for Farms {
 }
 
 impl Farms {
-    /// All in the open state with this V(R).
-    pub fn new(window: Window, vr: u8) -> Farms
-        ensures { let view : FarmView = record { window = window; state = farm_start vr } in result
-            ≡ replicate 64 view }
+    /// All in the open state, each with its own V(R) of `starts`.
+    pub fn new(window: Window, starts: &Starts) -> Farms
+        ensures count { length result ≡ 64 }
+        ensures each { (vc : ℕ) → vc < 64 → farm_at result vc ≡ farm_from window (slice_index_or starts.now vc 0) }
     {
-        Farms {
-            farms: [Farm::new(window, vr); 64],
+        let mut farms = [Farm::new(window, 0); 64];
+        for vc in 0..64 {
+            farms[usize::from(vc)] = Farm::new(window, starts.start(vc));
         }
+        Farms { farms }
     }
 
     /// Takes the next frame of a virtual channel, and answers what becomes of it.

@@ -14,23 +14,25 @@ use crate::io::lines::Lines;
 use crate::verbs::show::farms::Farms;
 use sl_cop::{FarmEvent, Verdict};
 use sl_fields::SegmentHeader;
-use sl_tcframe::{TcContent, TcFrame, TcSkip};
+use sl_tcframe::{TcContent, TcFrame, TcSkip, VcSet};
 
-/// Adds the line of a frame at this offset, which FARM-1 of its virtual channel takes unless it is skipped.
+/// Adds the line of a frame at this offset, which FARM-1 of its virtual channel takes unless it is skipped. The frames of
+/// the virtual channels of `plain` have no segment headers.
 pub fn tc_frame_line(
     lines: &mut Lines,
     offset: u64,
+    plain: &VcSet,
     farms: &mut Farms,
     read: &Result<TcFrame, TcSkip>,
 )
     requires { HasRoom lines.old }
     ensures line { lines.new ≡ lines.old
-        ++ line_at offset (tc_frame_text (farm_at farms.old) read.now) }
+        ++ line_at offset (tc_frame_text plain.now (farm_at farms.old) read.now) }
     ensures farms { farms.new ≡ farms_after farms.old read.now }
 {
     lines.push_number(offset);
     match read {
-        Ok(frame) => push_view(lines, farms, frame),
+        Ok(frame) => push_view(lines, plain.has(frame.vc()), farms, frame),
         Err(reason) => push_skip(lines, *reason),
     }
     lines.push(b"\n");
@@ -54,17 +56,17 @@ pub fn push_skip(lines: &mut Lines, reason: TcSkip)
     });
 }
 
-fn push_view(lines: &mut Lines, farms: &mut Farms, frame: &TcFrame)
+fn push_view(lines: &mut Lines, plain: bool, farms: &mut Farms, frame: &TcFrame)
     requires { HasRoomFor 236 lines.old }
     ensures text { lines.new ≡ lines.old
-        ++ tc_view_text (farm_at farms.old frame.now.vc) frame.now }
+        ++ tc_view_text plain (farm_at farms.old frame.now.vc) frame.now }
     ensures farms { farms.new ≡ farms_with farms.old frame.now.vc (event_of frame.now.content) }
     ensures short { length lines.new ≤ length lines.old + 120 }
 {
     let content = frame.content();
     lines.push(b" frame vc ");
     lines.push_octet(frame.vc());
-    push_content(lines, content);
+    push_content(lines, plain, content);
     push_step(lines, farms, frame.vc(), event(&content));
 }
 
@@ -112,21 +114,21 @@ fn push_verdict(lines: &mut Lines, verdict: Verdict)
     }
 }
 
-fn push_content(lines: &mut Lines, carried: TcContent)
+fn push_content(lines: &mut Lines, plain: bool, carried: TcContent)
     requires room { HasRoomFor 216 lines.old }
     requires unit { IsContent (content carried) }
-    ensures text { lines.new ≡ lines.old ++ (codes " " ++ content_text (content carried.entry)) }
+    ensures text { lines.new ≡ lines.old ++ (codes " " ++ content_text plain (content carried.entry)) }
     ensures short { length lines.new ≤ length lines.old + 70 }
 {
     match carried {
         TcContent::Ad { ns, unit } => {
             lines.push(b" ad ");
             lines.push_octet(ns);
-            push_unit(lines, unit);
+            push_unit(lines, plain, unit);
         }
         TcContent::Bd { unit } => {
             lines.push(b" bd");
-            push_unit(lines, unit);
+            push_unit(lines, plain, unit);
         }
         TcContent::Unlock => lines.push(b" unlock"),
         TcContent::SetVr(vr) => {
@@ -136,12 +138,17 @@ fn push_content(lines: &mut Lines, carried: TcContent)
     }
 }
 
-fn push_unit(lines: &mut Lines, unit: &[u8])
+fn push_unit(lines: &mut Lines, plain: bool, unit: &[u8])
     requires room { HasRoomFor 196 lines.old }
     requires some { 0 < length unit.now }
-    ensures text { lines.new ≡ lines.old ++ unit_text unit.now }
+    ensures text { lines.new ≡ lines.old ++ unit_text plain unit.now }
     ensures short { length lines.new ≤ length lines.old + 60 }
 {
+    if plain {
+        lines.push(b" unit octets ");
+        push_octet_count(lines, unit.len());
+        return;
+    }
     let (header, octets) = split_unit(unit);
     push_flags(lines, header.flags());
     lines.push_octet(header.map());

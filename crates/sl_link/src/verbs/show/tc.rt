@@ -46,7 +46,7 @@ pub fn show_tc<R: Read, W: Write>(
     let mut framer = TcFramer::new(&managed.tc);
     let mut verb = ShowTc {
         so_far: Tally::new(),
-        farms: Farms::new(managed.window, managed.vr),
+        farms: Farms::new(managed.window, &managed.starts),
     };
     list(managed, &mut framer, &mut verb, reader, writer, &mut buffer)
 }
@@ -126,7 +126,7 @@ fn show_frame<W: Write>(
     ensures skipped { IfOk result (λ is_skipped. is_skipped
         ≡ is_err (tc_frame (tc_format managed.now) managed.now.spacecraft frame.now)) }
     ensures line { OnOk result (AddsText W.contents writer.old writer.new lines.old lines.new
-        (line_at offset (tc_frame_text (farm_at farms.old)
+        (line_at offset (tc_frame_text managed.now.plain (farm_at farms.old)
         (tc_frame (tc_format managed.now) managed.now.spacecraft frame.now)))) }
     ensures farms { OnOk result (farms.new ≡ farms_after farms.old
         (tc_frame (tc_format managed.now) managed.now.spacecraft frame.now)) }
@@ -134,6 +134,6 @@ fn show_frame<W: Write>(
 {
     make_room(writer, lines)?;
     let read = TcFrame::read(&managed.tc, managed.spacecraft, frame);
-    tc_frame_line(lines, offset, farms, &read);
+    tc_frame_line(lines, offset, &managed.plain, farms, &read);
     Ok(read.is_err())
 }

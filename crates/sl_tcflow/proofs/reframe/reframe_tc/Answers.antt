@@ -21,11 +21,11 @@ returns-clause-form c =
 
 pub returns-clause-delivers : goal.returns-clause-delivers
 returns-clause-delivers c =
-    λ w. ap (tc_lists c.args.shape.now c.args.spacecraft (record { window = w; vr = c.args.vr })) (returns-clause-form c ∙ sym c.new-pieces.ensures.all) ∙ c.new-pieces.ensures.delivers w
+    λ w. ap (tc_lists c.args.shape.now c.args.spacecraft (record { window = w; starts = c.args.starts.now; plain = c.args.plain.now })) (returns-clause-form c ∙ sym c.new-pieces.ensures.all) ∙ c.new-pieces.ensures.delivers w
 
 pub returns-in_err-next-clause-packets : goal.returns-in_err-next-clause-packets
 returns-in_err-next-clause-packets c =
     let lists = c.args.delivered.now.lists in
     on_err c.from_residual.result _ (λ none. c.in_err-next.ensures.pieces
     (none_after c.loop-form.form.items c.loop-form.pieces
-    (c.loop-form.invariant ∙ none_at_all c.args.shape.now c.args.spacecraft c.args.vr lists c.new-pieces.ensures.size none)))
+    (c.loop-form.invariant ∙ none_at_all c.args.shape.now c.args.spacecraft c.args.starts.now c.args.plain.now lists c.new-pieces.ensures.size none)))

@@ -33,7 +33,7 @@ returns-in_ok-above-in-Some-clause-every t c vcs listed =
     let next : suc more.vc ≡ c.in_ok-vc-in-Some.vc + 1 = omega (arith, same) in
     let above : c.in_ok-above-in-Some.above ≡ more.above =
     the_same_list (c.in_ok-above-in-Some.ensures.every more.above (subst (λ n. Lists n c.in-Some.rest.now more.above) next more.listed)) in
-    ap Some (c.with.ensures ∙ ap (λ l. with_vc l c.in_ok-vc-in-Some.vc) above ∙ ap (with_vc more.above) same
+    ap Some (c.with.ensures.value ∙ ap (λ l. with_vc l c.in_ok-vc-in-Some.vc) above ∙ ap (with_vc more.above) same
     ∙ with_first (suc more.vc) more.above more.vc more.listed.rising (omega arith) ∙ sym more.both)
 
 pub returns-in_ok-vc-in-None-clause-every : goal.returns-in_ok-vc-in-None-clause-every
@@ -41,4 +41,4 @@ returns-in_ok-vc-in-None-clause-every t c vcs listed =
     let none = split_parts 44 c.args.text.now None c.in-None.ensures.cases (omega arith) in
     let one = has_one c.args.least c.args.text.now vcs none listed in
     let same : c.in_ok-vc-in-None.vc ≡ one.vc = the_same (c.in_ok-vc-in-None.ensures.every one.vc one.low one.high one.is) in
-    ap Some (c.with-in-None.ensures ∙ ap (λ l. with_vc l c.in_ok-vc-in-None.vc) c.new.ensures ∙ ap (λ v. v ∷ []) same ∙ sym one.alone)
+    ap Some (c.with-in-None.ensures.value ∙ ap (λ l. with_vc l c.in_ok-vc-in-None.vc) c.new.ensures ∙ ap (λ v. v ∷ []) same ∙ sym one.alone)

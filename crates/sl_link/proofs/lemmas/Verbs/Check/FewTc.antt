@@ -8,12 +8,13 @@ use Rattle.sl_tcframe.specs.declared.tc_frame.TcSkip.{TcSkip}
 use Rattle.sl_tcframe.specs.TcFrame.{TcView, Content, Ad, Bd, Unlock, SetVr, is_cut}
 use Rattle.sl_tcframe.proofs.PartLemmas.{cut_facts}
 use Rattle.sl_tcflow.specs.AcceptedUnit.{unit_by, views_of}
-use Rattle.sl_tcflow.specs.Anomaly.{dropped_of, long_of, of_unit, stray_of, tail_of}
+use Rattle.sl_tcflow.specs.Anomaly.{dropped_of, long_of, of_segment, stray_of, tail_of}
 use Rattle.sl_tcflow.specs.Incomplete.{incomplete_of}
-use Rattle.sl_tcflow.specs.Receiving.{map_of, unit_channel, verdict_on}
+use Rattle.sl_tcflow.specs.Receiving.{map_by, unit_channel, verdict_on}
 use Rattle.sl_tcflow.specs.Recording.{map_channels}
 use Rattle.sl_tcflow.specs.Reception.{segments_of}
-use Rattle.sl_tcflow.specs.ReceptionParameters.{ReceptionParameters}
+use Rattle.sl_tcflow.specs.ReceptionParameters.{ReceptionParameters, is_plain}
+use Rattle.sl_tcflow.specs.Series.{segment_in}
 use Rattle.sl_tcflow.proofs.ChannelLemmas.{incomplete_other}
 use Rattle.sl_link.specs.Verbs.Check.Tc.{discarded_amiss, dropped_amiss, incomplete_amiss, long_amiss, open_on, stray_amiss, tail_amiss, tc_amiss, tc_incomplete, verdict_amiss}
 use Rattle.sl_link.specs.Deliver.Tc.{as_read}
@@ -51,24 +52,24 @@ module _ (offset vc mid : ℕ) (segments : List (List ℕ)) where
   abbrev lines_by : Verdict → List (List ℕ) → Content → List (List ℕ)
   lines_by verdict units content =
       verdict_amiss offset vc verdict content
-      ++ stray_amiss offset vc mid (of_unit false (stray_of segments) units)
-      ++ dropped_amiss offset vc mid (of_unit None (dropped_of segments) units)
-      ++ long_amiss offset vc mid (of_unit false (long_of segments) units)
-      ++ tail_amiss offset vc mid (of_unit 0 (tail_of segments) units)
+      ++ stray_amiss offset vc mid (of_segment false (stray_of segments) units)
+      ++ dropped_amiss offset vc mid (of_segment None (dropped_of segments) units)
+      ++ long_amiss offset vc mid (of_segment false (long_of segments) units)
+      ++ tail_amiss offset vc mid (of_segment 0 (tail_of segments) units)
 
   four_at_most : (verdict : Verdict) (units : List (List ℕ)) (content : Content) → verdict_amiss offset vc verdict content ≡ []
       → length (lines_by verdict units content) ≤ 4
   four_at_most verdict units content none =
       let discarded = verdict_amiss offset vc verdict content in
-      let stray = stray_amiss offset vc mid (of_unit false (stray_of segments) units) in
-      let dropped = dropped_amiss offset vc mid (of_unit None (dropped_of segments) units) in
-      let long = long_amiss offset vc mid (of_unit false (long_of segments) units) in
-      let tail = tail_amiss offset vc mid (of_unit 0 (tail_of segments) units) in
+      let stray = stray_amiss offset vc mid (of_segment false (stray_of segments) units) in
+      let dropped = dropped_amiss offset vc mid (of_segment None (dropped_of segments) units) in
+      let long = long_amiss offset vc mid (of_segment false (long_of segments) units) in
+      let tail = tail_amiss offset vc mid (of_segment 0 (tail_of segments) units) in
       let a : length discarded ≡ 0 = ap length none in
-      let b : length stray ≤ 1 = one_or_none (of_unit false (stray_of segments) units) _ in
-      let c : length dropped ≤ 1 = one_dropped offset vc mid (of_unit None (dropped_of segments) units) in
-      let d : length long ≤ 1 = one_or_none (of_unit false (long_of segments) units) _ in
-      let e : length tail ≤ 1 = none_or_one (of_unit 0 (tail_of segments) units == 0) _ in
+      let b : length stray ≤ 1 = one_or_none (of_segment false (stray_of segments) units) _ in
+      let c : length dropped ≤ 1 = one_dropped offset vc mid (of_segment None (dropped_of segments) units) in
+      let d : length long ≤ 1 = one_or_none (of_segment false (long_of segments) units) _ in
+      let e : length tail ≤ 1 = none_or_one (of_segment 0 (tail_of segments) units == 0) _ in
       omega (arith, a, b, c, d, e, length_five discarded stray dropped long tail)
 
   one_at_most : (verdict : Verdict) (content : Content) → length (verdict_amiss offset vc verdict content) ≤ 1
@@ -77,18 +78,18 @@ module _ (offset vc mid : ℕ) (segments : List (List ℕ)) where
       let discarded = verdict_amiss offset vc verdict content in
       omega (arith, one, length_five discarded [] [] [] [])
 
-  few_by : (verdict : Verdict) (content : Content) → length (lines_by verdict (unit_by verdict content) content) ≤ 4
-  few_by Accept content = four_at_most Accept (unit_by Accept content) content refl
-  few_by Early content = one_at_most Early content (one_discarded offset vc Early content)
-  few_by Late content = one_at_most Late content (one_discarded offset vc Late content)
-  few_by Outside content = one_at_most Outside content (one_discarded offset vc Outside content)
-  few_by Refused content = one_at_most Refused content (one_discarded offset vc Refused content)
-  few_by Command content = one_at_most Command content (omega arith)
+  few_by : (plain : Bool) (verdict : Verdict) (content : Content) → length (lines_by verdict (map (segment_in plain) (unit_by verdict content)) content) ≤ 4
+  few_by plain Accept content = four_at_most Accept (map (segment_in plain) (unit_by Accept content)) content refl
+  few_by plain Early content = one_at_most Early content (one_discarded offset vc Early content)
+  few_by plain Late content = one_at_most Late content (one_discarded offset vc Late content)
+  few_by plain Outside content = one_at_most Outside content (one_discarded offset vc Outside content)
+  few_by plain Refused content = one_at_most Refused content (one_discarded offset vc Refused content)
+  few_by plain Command content = one_at_most Command content (omega arith)
 
 four_lines : (r : ReceptionParameters) (offset : ℕ) (views : List TcView) (read : Result TcView TcSkip) → length (tc_amiss r offset views read) ≤ 4
 four_lines r offset views (Err reason) = omega arith
 four_lines r offset views (Ok view) =
-    few_by offset view.vc (map_of view.content) (segments_of r view.vc (map_of view.content) views) (verdict_on r views view) view.content
+    few_by offset view.vc (map_by r view) (segments_of r view.vc (map_by r view) views) (is_plain r view.vc) (verdict_on r views view) view.content
 
 -- they are fewer than its octets
 pub few_lines : (p : Parameters) (frame : List ℕ) (offset : ℕ) (views : List TcView) → is_cut (tc_format p) frame ≡ true
@@ -112,11 +113,11 @@ module _ (r : ReceptionParameters) (offset : ℕ) where
   open_none = flat_count (open_on r offset []) map_channels ∙ no_items (open_on r offset []) (λ channel. refl)
 
   -- a frame opens at most one more
-  open_next : (views : List TcView) (read : Result TcView TcSkip) → IsOfChannel read
+  open_next : (views : List TcView) (read : Result TcView TcSkip) → IsOfChannel r read
       → length (tc_incomplete r offset (with_frame views read)) ≤ length (tc_incomplete r offset views) + 1
   open_next views (Err reason) range = omega arith
   open_next views (Ok view) range =
-      let at = unit_channel view in
+      let at = unit_channel r view in
       let old = open_on r offset views in
       let new = open_on r offset (views ++ view ∷ []) in
       let change = items_change old new at range (λ i inside other. ap (λ held. length (incomplete_amiss offset (i / 64) (i % 64) held)) (incomplete_other r views view i other)) in
@@ -132,7 +133,7 @@ module _ (p : Parameters) (offset : ℕ) where
   few_next frames frame few =
       let seen = views_of (tc_format p) p.spacecraft frames in
       let next = ap (λ views. length (tc_incomplete (reception_of p) offset views)) (views_next (tc_format p) p.spacecraft frames frame) in
-      omega (arith, few, next, open_next (reception_of p) offset seen (as_read p frame) (of_channel p frame), length-append frames (frame ∷ []))
+      omega (arith, few, next, open_next (reception_of p) offset seen (as_read p frame) (of_channel (reception_of p) p frame), length-append frames (frame ∷ []))
 
   few_from : (before frames : List (List ℕ)) → AreFew before → AreFew (before ++ frames)
   few_from before [] few = subst AreFew (sym (append-nil before)) few

@@ -11,6 +11,7 @@ use Rattle.sl_tcframe.specs.TcFrame.{TcView}
 use Rattle.sl_tcflow.specs.AcceptedUnit as accepted
 use Rattle.sl_tcflow.specs.Receiving as received
 use Rattle.sl_tcflow.specs.Recording.{map_channels, packets_in_channel}
+use Rattle.sl_tcflow.specs.ReceptionParameters.{is_plain}
 use Rattle.sl_tcflow.proofs.ChannelLemmas.{packets_other, packets_own, small_map}
 use Rattle.sl_tmframe.specs.declared.tm_frame.TmSkip.{TmSkip}
 use Rattle.sl_tmframe.specs.TmDelimited.{tm_frames_of}
@@ -90,7 +91,7 @@ tc_ended p views view = without_idle (received.ended_by (reception_of p) views v
 abbrev tc_on : Parameters → List TcView → ℕ → List (List ℕ)
 tc_on p views channel = without_idle (packets_in_channel (reception_of p) views channel)
 
-tc_delivered : (p : Parameters) → AreDelivered received.unit_channel (tc_ended p) (tc_on p)
+tc_delivered : (p : Parameters) → AreDelivered (received.unit_channel (reception_of p)) (tc_ended p) (tc_on p)
 tc_delivered p =
     record {
       none = λ channel. refl;
@@ -101,24 +102,25 @@ tc_delivered p =
     }
 
 abbrev tc_listed : Parameters → List TcView → List (List ℕ) → List ListedPacket
-tc_listed p = listed_from (tc_deliver.as_read p) received.unit_channel (tc_ended p)
+tc_listed p = listed_from (tc_deliver.as_read p) (received.unit_channel (reception_of p)) (tc_ended p)
 
 tc_one : (p : Parameters) (views : List TcView) (r : Result TcView TcSkip)
     → tc.tc_packet_lines (reception_of p) views r
-    ≡ concat (map (line_of Map) (listed_in (tc_deliver.as_read p) received.unit_channel (tc_ended p) views r))
+    ≡ concat (map (line_of Map) (listed_in (tc_deliver.as_read p) (received.unit_channel (reception_of p)) (tc_ended p) views r))
 tc_one p views (Err reason) = refl
 tc_one p views (Ok view) =
-    let mid = received.map_of view.content in
-    let small = small_map view.content in
-    let vc : received.unit_channel view / 64 ≡ view.vc = omega (arith, small) in
-    let is : received.unit_channel view % 64 ≡ mid = omega (arith, small) in
-    sym (lines_at (line_of Map) (packet_line (tc.channel_text view.vc mid)) (received.unit_channel view) (tc_ended p views view)
+    let r = reception_of p in
+    let mid = received.map_by r view in
+    let small = small_map (is_plain r view.vc) view.content in
+    let vc : received.unit_channel r view / 64 ≡ view.vc = omega (arith, small) in
+    let is : received.unit_channel r view % 64 ≡ mid = omega (arith, small) in
+    sym (lines_at (line_of Map) (packet_line (tc.channel_text view.vc mid)) (received.unit_channel r view) (tc_ended p views view)
     (λ packet. ap₂ (λ v m. packet_line (tc.channel_text v m) packet) vc is))
 
 tc_lines : (p : Parameters) (frames : List (List ℕ))
     → lines_from (tc.packets_tc_listing p).line [] frames ≡ concat (map (line_of Map) (tc_listed p [] frames))
 tc_lines p frames =
-    lines_are (tc_deliver.as_read p) received.unit_channel (tc_ended p) (line_of Map) (tc.tc_packet_lines (reception_of p))
+    lines_are (tc_deliver.as_read p) (received.unit_channel (reception_of p)) (tc_ended p) (line_of Map) (tc.tc_packet_lines (reception_of p))
     (accepted.views_of (tc_format p) p.spacecraft) (tc_delivering.views_next (tc_format p) p.spacecraft) (tc_one p) [] frames
 
 pub tc_packets_are_listed : TcPacketsAreListed
@@ -128,7 +130,7 @@ tc_packets_are_listed p recording =
       listed = tc_listed p [] frames;
       lines = append-nil (lines_from (tc.packets_tc_listing p).line [] frames) ∙ tc_lines p frames;
       each = λ channel.
-          listed_each (tc_deliver.as_read p) received.unit_channel (tc_ended p) (tc_on p) (tc_delivered p) channel_count frames (channel_fits p) channel
+          listed_each (tc_deliver.as_read p) (received.unit_channel (reception_of p)) (tc_ended p) (tc_on p) (tc_delivered p) channel_count frames (channel_fits (reception_of p) p) channel
           ∙ ap (λ channels. slice_index_or (map (tc_on p (views_after (tc_deliver.as_read p) [] frames)) channels) channel []) (channels_are channel_count refl)
           ∙ ap (λ views. slice_index_or (map (tc_on p views) map_channels) channel []) (all_seen (tc_deliver.as_read p) [] frames);
     }

@@ -31,7 +31,7 @@ listed_more p frames frame t t' farms farms' h octets one packets idle anomalies
 
 -- its line
 pub line_is : (p : Parameters) (frames : List (List ℕ)) (frame : List ℕ) (t : Tally) (farms : List FarmView) → HasListedTc p t farms frames
-    → line_at t.octets (tc_frame_text (farm_at farms) (tc_frame (tc_format p) p.spacecraft frame)) ≡ tc_line p frames frame
+    → line_at t.octets (tc_frame_text p.plain (farm_at farms) (tc_frame (tc_format p) p.spacecraft frame)) ≡ tc_line p frames frame
 line_is p frames frame t farms h =
-    ap (λ n. line_at n (tc_frame_text (farm_at farms) (tc_frame (tc_format p) p.spacecraft frame))) h.counted.counted.octets
+    ap (λ n. line_at n (tc_frame_text p.plain (farm_at farms) (tc_frame (tc_format p) p.spacecraft frame))) h.counted.counted.octets
     ∙ ap (λ l. line_at (length (concat frames)) l) (line_of_frame p farms frames h.stepped frame)

@@ -16,9 +16,10 @@ returns-in-Ok-frame-clause-processed c =
 pub returns-in-Ok-frame-clause-lists : goal.returns-in-Ok-frame-clause-lists
 returns-in-Ok-frame-clause-lists c =
     let seen : as_read c.args.managed.now c.args.frame.now ≡ Ok c.in-Ok.view = search rules in
-    let fits = channel_fits c.args.managed.now c.args.frame.now c.in-Ok.view seen in
-    let inside : unit_channel c.in-Ok.view < length c.args.delivered.now.lists = omega (arith, fits, c.requires.channels) in
-    λ r views h. rw (seen) (takes_all (without_idle (ended_by r views c.in-Ok.view)) c.args.delivered.now c.frame.new.sink (unit_channel c.in-Ok.view)
+    λ r views h.
+    let fits = channel_fits r c.args.managed.now c.args.frame.now c.in-Ok.view seen in
+    let inside : unit_channel r c.in-Ok.view < length c.args.delivered.now.lists = omega (arith, fits, c.requires.channels) in
+    rw (seen) (takes_all (without_idle (ended_by r views c.in-Ok.view)) c.args.delivered.now c.frame.new.sink (unit_channel r c.in-Ok.view)
     inside (c.in-Ok-frame.ensures.accepted r views h))
 
 pub returns-in-Err-frame-clause-fault : goal.returns-in-Err-frame-clause-fault

@@ -1,14 +1,22 @@
-use Rattle.std.proofs.Common.{◌∙◌, arith, ap, inr}
+use Rattle.std.proofs.Common.{◌∙◌, arith, ap, inr, sym, subst}
 use Rattle.std.proofs.lemmas.Result.{err_from_is_err_and}
 use Rattle.sl_tcframe.specs.TcDelimited.{tc_frames_of}
 use Rattle.sl_link.specs.Deliver.Lists.{count_of}
 use Rattle.sl_link.specs.Deliver.DeliveringTc.{MayWantMemoryTc}
-use Rattle.sl_link.specs.Link.Managed.{tc_format}
+use Rattle.sl_tcflow.specs.FitsTc.{FitsTc}
+use Rattle.sl_tcflow.proofs.PlainRecordingLemmas.{recorded_lists_fit}
+use Rattle.sl_link.specs.Link.Managed.{reception_of, tc_format}
 use Rattle.sl_link.specs.Normalise.Tc.{tc_counts, tc_form_of, tc_normal_form, tc_packets}
 use Rattle.sl_link.proofs.lemmas.Normalise.Form.{nothing_of_form, wanted_for_form}
 use Rattle.sl_link.proofs.lemmas.Normalise.Whole.{keeps_packets, stops_at_form, stops_at_reading, translates_whole}
 use Rattle.sl_link.proofs.lemmas.Normalise.Storing.{wanted_at_end}
 use Rattle.sl_link.proofs.normalise.tc.normalise_tc.Goals as goal
+
+pub write_packets-requires : goal.write_packets-requires
+write_packets-requires g c =
+    let p = c.args.managed.now in
+    let d = c.in_ok-delivered.ensures.all in
+    subst (λ lists. FitsTc (tc_format p) p.plain lists) (sym d.delivered) (recorded_lists_fit (tc_format p) p.spacecraft (reception_of p) d.octets)
 
 pub returns-in_err-delivered-clause-fault : goal.returns-in_err-delivered-clause-fault
 returns-in_err-delivered-clause-fault g c =

@@ -10,9 +10,9 @@ returns-in_err-matches-clause-refused c =
 pub unreachable-requires : goal.unreachable-requires
 unreachable-requires c =
     gives_none (map string_bytes c.args.words.now) c.in_ok-command.command c.in_ok-command.ensures c.in_ok-matches.matches c.try_get_matches_from_mut.result (search rules)
-    c.try_get_matches_from_mut.ensures.kinds c.in_ok-matches.ensures.ok.2 c.in-None.ensures
+    c.try_get_matches_from_mut.ensures.kinds c.in_ok-matches.ensures.ok.2 c.in-None.ensures.request
 
 pub returns-clause-asked : goal.returns-clause-asked
 returns-clause-asked c =
     words_ask (map string_bytes c.args.words.now) c.in_ok-command.command c.in_ok-command.ensures c.in_ok-matches.matches c.try_get_matches_from_mut.result (search rules)
-    c.try_get_matches_from_mut.ensures.kinds c.in_ok-matches.ensures.ok.2 c.in-Some.request c.in-Some.ensures
+    c.try_get_matches_from_mut.ensures.kinds c.in_ok-matches.ensures.ok.2 c.in-Some.asked c.in-Some.ensures.request c.in-Some.ensures.channels

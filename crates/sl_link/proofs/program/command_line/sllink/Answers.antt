@@ -11,7 +11,7 @@ returns c =
     let check = ap (λ a. a.top) c.in_ok-check.ensures.app in
     let packets = ap (λ a. a.top) c.in_ok-packets.ensures.app in
     let normalise = ap (λ a. a.top) c.in_ok-normalise.ensures.app in
-    let bare : app_of c.subcommand_required.result ≡ record { top = record (new_shape (codes "sllink")) { subcommand_required = true }; subs = [] } = search rules in
+    let bare : app_of c.subcommand_required.result ≡ record { top = record (new_shape (codes "sllink")) { has_version = true; subcommand_required = true }; subs = [] } = search rules in
     let one = c.in_ok-subcommand.ensures.shape c.in_ok-show.ensures.local ∙ ap₂ with_subcommand bare show in
     let two = c.in_ok-subcommand-2.ensures.shape c.in_ok-check.ensures.local ∙ ap₂ with_subcommand one check in
     let three = c.in_ok-subcommand-3.ensures.shape c.in_ok-packets.ensures.local ∙ ap₂ with_subcommand two packets in

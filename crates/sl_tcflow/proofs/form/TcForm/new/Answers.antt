@@ -1,5 +1,6 @@
 use Rattle.std.proofs.Common.{sym, ◌∙◌, arith, ap}
 use Rattle.sl_tcflow.specs.Canonical.{IsFormat}
+use Rattle.sl_tcflow.specs.FormLeft.{form_left}
 use Rattle.sl_tcflow.specs.ReceptionParameters.{ReceptionParameters}
 use Rattle.sl_tcflow.specs.Recording.{tc_lists}
 use Rattle.sl_tcflow.proofs.CanonicalLemmas.{normal_form_delivers}
@@ -8,7 +9,10 @@ use Rattle.sl_tcflow.proofs.form.TcForm.new.Goals as goal
 
 pub returns-clause-all : goal.returns-clause-all
 returns-clause-all c =
-    sym (c.next_place-place.ensures.left c.args.shape c.args.spacecraft) ∙ all_left c.args.shape c.args.spacecraft c.args.vr c.args.delivered.now.lists
+    let lists = c.args.delivered.now.lists in
+    sym (c.next_place-place.ensures.left c.args.shape c.args.spacecraft c.args.plain)
+    ∙ ap (form_left c.args.shape c.args.spacecraft c.args.starts c.args.plain lists 0 0) c.start.ensures.value
+    ∙ all_left c.args.shape c.args.spacecraft c.args.starts c.args.plain lists
 
 pub returns-clause-delivers : goal.returns-clause-delivers
 returns-clause-delivers c =
@@ -19,6 +23,6 @@ returns-clause-delivers c =
       most = omega (arith, c.max-max.ensures.value, c.max-max.ensures.most);
     } in
     λ w.
-    let r : ReceptionParameters = record { window = w; vr = c.args.vr } in
+    let r : ReceptionParameters = record { window = w; starts = c.args.starts; plain = c.args.plain } in
     ap (tc_lists format c.args.spacecraft r) (returns-clause-all c)
-    ∙ normal_form_delivers format c.args.spacecraft r lists is c.requires.spacecraft c.ranges.vr.fits c.next_place-place.ensures.deliverable
+    ∙ normal_form_delivers format c.args.spacecraft r lists is c.requires.spacecraft c.start.ensures.octets c.next_place-place.ensures.deliverable c.requires.fits

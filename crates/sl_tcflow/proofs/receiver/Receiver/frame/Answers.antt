@@ -1,6 +1,7 @@
-use Rattle.std.proofs.Common.{refl, sym, ap, subst}
+use Rattle.std.proofs.Common.{◌∙◌, refl, sym, ap, subst}
+use Rattle.sl_tcframe.specs.VcSet.{has_vc}
 use Rattle.sl_tcflow.specs.Receiving.{HaveStepped, AreIncomplete}
-use Rattle.sl_tcflow.proofs.FarmLemmas.{of_processed}
+use Rattle.sl_tcflow.proofs.FarmLemmas.{of_processed, plain_is}
 use Rattle.sl_tcflow.proofs.receiver.Receiver.frame.Goals as goal
 
 pub returns-in-Err-clause-stopped : goal.returns-in-Err-clause-stopped
@@ -11,7 +12,7 @@ returns-in-Err-clause-stopped g c =
           let farms = subst (λ l. HaveStepped r l views) (sym (ap (λ s. s.farms) c.self.view_is)) processed.farms in
           let series = subst (λ l. AreIncomplete r l views) (sym (ap (λ s. s.incomplete) c.self.view_is)) processed.series in (
             record { failed = refl; farms = c.step-verdict.ensures.farms r views farms },
-            c.in-Err.ensures.stopped r views series (c.step-verdict.ensures.verdict r views farms),
+            c.in-Err.ensures.stopped r views (c.has-plain.ensures.value ∙ ap (has_vc c.self.inside.plain) c.vc.ensures.value ∙ plain_is r _ _ c.args.frame.now.vc c.self.view_is processed.plain) series (c.step-verdict.ensures.verdict r views farms),
           ),
     )
 
@@ -22,36 +23,37 @@ returns-clause-processed g c =
     let series = subst (λ l. AreIncomplete r l views) (sym (ap (λ s. s.incomplete) c.self.view_is)) processed.series in
     record {
       working = refl;
+      plain = ap (λ s. s.plain) c.self.view_is ∙ processed.plain;
       farms = c.step-verdict.ensures.farms r views farms;
-      series = c.in-Ok.ensures.series r views series (c.step-verdict.ensures.verdict r views farms);
+      series = c.in-Ok.ensures.series r views (c.has-plain.ensures.value ∙ ap (has_vc c.self.inside.plain) c.vc.ensures.value ∙ plain_is r _ _ c.args.frame.now.vc c.self.view_is processed.plain) series (c.step-verdict.ensures.verdict r views farms);
     }
 
 pub returns-in-Err-clause-memory : goal.returns-in-Err-clause-memory
 returns-in-Err-clause-memory g c e r views processed =
     let farms = subst (λ l. HaveStepped r l views) (sym (ap (λ s. s.farms) c.self.view_is)) processed.farms in
     let series = subst (λ l. AreIncomplete r l views) (sym (ap (λ s. s.incomplete) c.self.view_is)) processed.series in
-    c.in-Err.ensures.memory e r views series (c.step-verdict.ensures.verdict r views farms)
+    c.in-Err.ensures.memory e r views (c.has-plain.ensures.value ∙ ap (has_vc c.self.inside.plain) c.vc.ensures.value ∙ plain_is r _ _ c.args.frame.now.vc c.self.view_is processed.plain) series (c.step-verdict.ensures.verdict r views farms)
 
 pub returns-clause-accepted : goal.returns-clause-accepted
-returns-clause-accepted g c = of_processed _ _ _ _ _ c.self.view_is c.step-verdict.ensures.verdict c.in-Ok.ensures.accepted
+returns-clause-accepted g c = of_processed _ _ _ _ _ _ c.self.view_is (c.has-plain.ensures.value ∙ ap (has_vc c.self.inside.plain) c.vc.ensures.value) c.step-verdict.ensures.verdict c.in-Ok.ensures.accepted
 
 pub returns-clause-verdict : goal.returns-clause-verdict
-returns-clause-verdict g c r views processed = (of_processed _ _ _ _ _ c.self.view_is c.step-verdict.ensures.verdict c.in-Ok.ensures.step r views processed).verdict
+returns-clause-verdict g c r views processed = (of_processed _ _ _ _ _ _ c.self.view_is (c.has-plain.ensures.value ∙ ap (has_vc c.self.inside.plain) c.vc.ensures.value) c.step-verdict.ensures.verdict c.in-Ok.ensures.step r views processed).verdict
 
 pub returns-clause-packets : goal.returns-clause-packets
-returns-clause-packets g c r views processed = (of_processed _ _ _ _ _ c.self.view_is c.step-verdict.ensures.verdict c.in-Ok.ensures.step r views processed).packets
+returns-clause-packets g c r views processed = (of_processed _ _ _ _ _ _ c.self.view_is (c.has-plain.ensures.value ∙ ap (has_vc c.self.inside.plain) c.vc.ensures.value) c.step-verdict.ensures.verdict c.in-Ok.ensures.step r views processed).packets
 
 pub returns-clause-idle : goal.returns-clause-idle
-returns-clause-idle g c r views processed = (of_processed _ _ _ _ _ c.self.view_is c.step-verdict.ensures.verdict c.in-Ok.ensures.step r views processed).idle
+returns-clause-idle g c r views processed = (of_processed _ _ _ _ _ _ c.self.view_is (c.has-plain.ensures.value ∙ ap (has_vc c.self.inside.plain) c.vc.ensures.value) c.step-verdict.ensures.verdict c.in-Ok.ensures.step r views processed).idle
 
 pub returns-clause-stray : goal.returns-clause-stray
-returns-clause-stray g c r views processed = (of_processed _ _ _ _ _ c.self.view_is c.step-verdict.ensures.verdict c.in-Ok.ensures.step r views processed).stray
+returns-clause-stray g c r views processed = (of_processed _ _ _ _ _ _ c.self.view_is (c.has-plain.ensures.value ∙ ap (has_vc c.self.inside.plain) c.vc.ensures.value) c.step-verdict.ensures.verdict c.in-Ok.ensures.step r views processed).stray
 
 pub returns-clause-dropped : goal.returns-clause-dropped
-returns-clause-dropped g c r views processed = (of_processed _ _ _ _ _ c.self.view_is c.step-verdict.ensures.verdict c.in-Ok.ensures.step r views processed).dropped
+returns-clause-dropped g c r views processed = (of_processed _ _ _ _ _ _ c.self.view_is (c.has-plain.ensures.value ∙ ap (has_vc c.self.inside.plain) c.vc.ensures.value) c.step-verdict.ensures.verdict c.in-Ok.ensures.step r views processed).dropped
 
 pub returns-clause-long : goal.returns-clause-long
-returns-clause-long g c r views processed = (of_processed _ _ _ _ _ c.self.view_is c.step-verdict.ensures.verdict c.in-Ok.ensures.step r views processed).long
+returns-clause-long g c r views processed = (of_processed _ _ _ _ _ _ c.self.view_is (c.has-plain.ensures.value ∙ ap (has_vc c.self.inside.plain) c.vc.ensures.value) c.step-verdict.ensures.verdict c.in-Ok.ensures.step r views processed).long
 
 pub returns-clause-tail : goal.returns-clause-tail
-returns-clause-tail g c r views processed = (of_processed _ _ _ _ _ c.self.view_is c.step-verdict.ensures.verdict c.in-Ok.ensures.step r views processed).tail
+returns-clause-tail g c r views processed = (of_processed _ _ _ _ _ _ c.self.view_is (c.has-plain.ensures.value ∙ ap (has_vc c.self.inside.plain) c.vc.ensures.value) c.step-verdict.ensures.verdict c.in-Ok.ensures.step r views processed).tail

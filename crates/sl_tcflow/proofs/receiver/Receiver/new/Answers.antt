@@ -1,6 +1,9 @@
-use Rattle.std.proofs.Common.{ap, replicate}
+use Rattle.std.proofs.Common.{refl}
+use Rattle.sl_tcflow.specs.ReceptionParameters.{ReceptionParameters}
 use Rattle.sl_tcflow.proofs.FarmLemmas.{processed_none}
 use Rattle.sl_tcflow.proofs.receiver.Receiver.new.Goals as goal
 
 pub returns : goal.returns
-returns c = processed_none (record { window = c.args.window; vr = c.args.vr }) _ c.new-2.result.items (ap (replicate 64) c.new.ensures) c.new-2.ensures.items
+returns c =
+    let r : ReceptionParameters = record { window = c.args.window; starts = c.args.starts.now; plain = c.args.plain } in
+    processed_none r _ c.new.result.items (c.farms_at_start.ensures r refl refl) c.new.ensures.items

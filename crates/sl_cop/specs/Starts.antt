@@ -1,0 +1,102 @@
+-- The initial V(R) of FARM-1, CCSDS 232.1-B, on each of the 64 virtual channels of TC frames, as a list of numbers, and the
+-- text that names some of them.
+use Rattle.std.specs.Prelude.{◌≡◌, ◌≢◌, ℕ, suc, ◌<◌, ◌≤◌, ◌==◌, if◌then◌else◌, List, [], ◌∷◌, ◌++◌, length, slice_index_or, slice_set, All}
+use Rattle.std.specs.Fmt.{decimal}
+
+-- one initial V(R), 0 to 255, for each of the virtual channels 0 to 63
+pub record AreStarts (starts : List ℕ) : Type 0 where
+  pub count : length starts ≡ 64
+  pub each : All (λ vr. vr < 256) starts
+
+-- ---- changed for some virtual channels
+
+-- a virtual channel and the initial V(R) that is named for it
+pub record Item : Type 0 where
+  pub vc : ℕ
+  pub vr : ℕ
+
+-- the V(R) that items name for a virtual channel, or its own where they name none
+abbrev pub vr_of : List Item → ℕ → ℕ → ℕ
+vr_of [] vc own = own
+vr_of (item ∷ items) vc own = if vc == item.vc then item.vr else vr_of items vc own
+
+-- of the virtual channels from this one on, each with the V(R) that the items name for it, or its own
+unfoldable pub over_from : ℕ → List ℕ → List Item → List ℕ
+over_from vc [] items = []
+over_from vc (own ∷ starts) items = vr_of items vc own ∷ over_from (suc vc) starts items
+
+-- the V(R) of all virtual channels, each the one that the items name for it, or its own
+abbrev pub starts_over : List ℕ → List Item → List ℕ
+starts_over starts items = over_from 0 starts items
+
+-- ---- as text
+
+-- a virtual channel, from the least on, up to 63, and a V(R) of 255 at most
+pub record IsItem (least : ℕ) (item : Item) : Type 0 where
+  pub low : least ≤ item.vc
+  pub high : item.vc ≤ 63
+  pub octet : item.vr ≤ 255
+
+-- such items, whose virtual channels rise strictly from the least on
+abbrev pub AreItems : ℕ → List Item → Type 0
+AreItems least [] = Unit {0}
+AreItems least (item ∷ items) = IsItem least item × AreItems (suc item.vc) items
+
+-- both numbers in decimal, with a colon between them
+abbrev pub item_text : Item → List ℕ
+item_text item = decimal item.vc ++ 58 ∷ decimal item.vr
+
+-- each item after a comma
+abbrev pub after_commas : List Item → List ℕ
+after_commas [] = []
+after_commas (item ∷ items) = 44 ∷ item_text item ++ after_commas items
+
+-- the items, joined by commas
+abbrev pub items_text : List Item → List ℕ
+items_text [] = []
+items_text (item ∷ items) = item_text item ++ after_commas items
+
+-- the text lists these items, one or more, whose virtual channels rise strictly from the least on, up to 63, and whose
+-- V(R) are 255 at most
+pub record Lists (least : ℕ) (text : List ℕ) (items : List Item) : Type 0 where
+  pub some : 0 < length items
+  pub rising : AreItems least items
+  pub written : text ≡ items_text items
+
+-- what the text names over others: the V(R) of the items that it lists, and the others' own everywhere else
+pub record AreNamed (least : ℕ) (text others starts : List ℕ) : Type 0 where
+  pub items : List Item
+  pub listed : Lists least text items
+  pub over : starts ≡ starts_over others items
+
+-- ---- laws
+
+-- A virtual channel that is given a V(R) has it, and every other keeps its own,
+abbrev pub OneIsChanged : Type 0
+OneIsChanged =
+    (starts : List ℕ) (vc vr v : ℕ) → vc < length starts
+    → slice_index_or (slice_set starts vc vr) v 0 ≡ (if v == vc then vr else slice_index_or starts v 0)
+
+-- and there is one V(R) for each of them, as before.
+abbrev pub ChangedAreStarts : Type 0
+ChangedAreStarts = (starts : List ℕ) (vc vr : ℕ) → AreStarts starts → vr < 256 → AreStarts (slice_set starts vc vr)
+
+-- Over others, each virtual channel of a text's items has the V(R) that is named for it,
+abbrev pub NamedAreTaken : Type 0
+NamedAreTaken =
+    (least : ℕ) (starts : List ℕ) (items : List Item) → length starts ≡ 64 → AreItems least items
+    → All (λ item. slice_index_or (starts_over starts items) item.vc 0 ≡ item.vr) items
+
+-- each that none of them names keeps its own,
+abbrev pub OthersAreKept : Type 0
+OthersAreKept =
+    (starts : List ℕ) (items : List Item) (vc : ℕ) → All (λ item. item.vc ≢ vc) items
+    → slice_index_or (starts_over starts items) vc 0 ≡ slice_index_or starts vc 0
+
+-- and there is one V(R) for each virtual channel.
+abbrev pub NamedAreStarts : Type 0
+NamedAreStarts = (least : ℕ) (starts : List ℕ) (items : List Item) → AreStarts starts → AreItems least items → AreStarts (starts_over starts items)
+
+-- A text lists items in one way.
+abbrev pub ListsOnce : Type 0
+ListsOnce = (least : ℕ) (text : List ℕ) (items others : List Item) → Lists least text items → Lists least text others → items ≡ others

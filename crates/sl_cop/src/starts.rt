@@ -1,0 +1,119 @@
+//! The V(R) at which FARM-1 of each virtual channel begins.
+ghost use Rattle.std.specs.Prelude.{◌≡◌, ◌≤◌, ℕ, List, IfSome, Some, replicate, slice_index_or, slice_set};
+ghost use Rattle.std.specs.Fmt.{decimal};
+ghost use Rattle.sl_cop.specs.Starts.{AreNamed, AreStarts, IsItem, Item, Lists, item_text, starts_over};
+
+use std::marker::Model;
+
+/// The initial V(R) of FARM-1, the receiver frame sequence number of CCSDS 232.1-B, for each of the 64 virtual channels
+/// of TC frames: a list of 64 numbers, 0 to 255, by the virtual channel identifiers.
+///
+/// That it is managed for each virtual channel apart is this project's choice.
+#[derive(Clone, Copy, Debug, PartialEq, Eq)]
+pub struct Starts {
+    vrs: [u8; 64],
+}
+
+impl Model for Starts {
+    ghost use Rattle.std.specs.Prelude.{ℕ, List};
+
+    ghost Value = { List ℕ };
+
+    ghost use Rattle.sl_cop.specs.StartsModel.{vrs_of, inside_of, IsStarts};
+
+    ghost view = { vrs_of };
+
+    ghost invariant = { IsStarts };
+
+    ghost inverse = { inside_of };
+}
+
+impl Starts {
+    /// This V(R), 0 to 255, for all virtual channels.
+    pub fn all(vr: u8) -> Starts
+        ensures value { result ≡ replicate 64 vr }
+        ensures octets { AreStarts result }
+    {
+        Starts { vrs: [vr; 64] }
+    }
+
+    /// The same with this V(R), 0 to 255, for the virtual channel `vc`, 0 to 63, and all others kept.
+    pub fn with(&self, vc: u8, vr: u8) -> Starts
+        requires { vc ≤ 63 }
+        ensures value { result ≡ slice_set self.now vc vr }
+        ensures octets { AreStarts result }
+    {
+        let mut vrs = self.vrs;
+        vrs[usize::from(vc)] = vr;
+        Starts { vrs }
+    }
+
+    /// The initial V(R) of the virtual channel `vc`, 0 to 63.
+    pub fn start(&self, vc: u8) -> u8
+        requires { vc ≤ 63 }
+        ensures value { result ≡ slice_index_or self.now vc 0 }
+        ensures octets { AreStarts self.now }
+    {
+        self.vrs[usize::from(vc)]
+    }
+
+    /// The same with the V(R) that the text names, and all others kept: one or more items `v:x`, joined by single
+    /// commas, of a virtual channel `v`, 0 to 63, and its V(R) `x`, 0 to 255, both in decimal without leading zeros, where
+    /// the virtual channels rise strictly. `None` where it is any other text, the empty one too.
+    pub fn read(&self, text: &str) -> Option<Starts>
+        ensures listed { IfSome result (λ starts. AreNamed 0 text.now self.now starts) }
+        ensures every { (items : List Item) → Lists 0 text.now items → result
+            ≡ Some (starts_over self.now items) }
+        ensures octets { IfSome result AreStarts }
+    {
+        read_from(self, text, 0)
+    }
+}
+
+// The same with the V(R) that the text names, where its virtual channels are the least one or above.
+fn read_from(starts: &Starts, text: &str, least: u8) -> Option<Starts>
+    ensures listed { IfSome result (λ named. AreNamed least text.now starts.now named) }
+    ensures every { (items : List Item) → Lists least text.now items → result
+        ≡ Some (starts_over starts.now items) }
+    ensures octets { IfSome result AreStarts }
+{
+    match text.split_once(',') {
+        Some((first, rest)) => {
+            let (vc, vr) = read_item(first, least)?;
+            let above = read_from(starts, rest, vc + 1)?;
+            Some(above.with(vc, vr))
+        }
+        None => {
+            let (vc, vr) = read_item(text, least)?;
+            Some(starts.with(vc, vr))
+        }
+    }
+}
+
+// The virtual channel, the least one to 63, and its V(R) that the text is in decimal, with a colon between them.
+fn read_item(text: &str, least: u8) -> Option<(u8, u8)>
+    ensures item { IfSome result (λ p. let item : Item = record { vc = p.0; vr = p.1 } in
+        IsItem least item × (text.now ≡ item_text item)) }
+    ensures every { (item : Item) → IsItem least item → text.now ≡ item_text item → result
+        ≡ Some (item.vc, item.vr) }
+{
+    let (vc, vr) = text.split_once(':')?;
+    let vc = read_number(vc)?;
+    let vr = read_number(vr)?;
+    if least <= vc && vc <= 63 {
+        Some((vc, vr))
+    } else {
+        None
+    }
+}
+
+// The number, 0 to 255, that the text is in decimal.
+fn read_number(text: &str) -> Option<u8>
+    ensures number { IfSome result (λ n. text.now ≡ decimal n) }
+    ensures every { (n : ℕ) → n ≤ 255 → text.now ≡ decimal n → result ≡ Some n }
+{
+    if text.len() > 1 && text.as_bytes()[0] < b'1' {
+        return None;
+    }
+    text.parse::<u8>().ok()
+}

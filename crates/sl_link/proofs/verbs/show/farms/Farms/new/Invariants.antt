@@ -1,0 +1,5 @@
+use Rattle.sl_tcflow.proofs.FarmLemmas.{AreSet}
+use Rattle.sl_link.proofs.verbs.show.farms.Farms.new.Given as goal
+
+abbrev pub invariant-loop-vc : goal.invariant-loop-vc
+invariant-loop-vc l = AreSet l.window l.starts l.vc l.farms

@@ -1,0 +1,44 @@
+//! Packets that frames without segment headers can carry.
+ghost use Rattle.std.specs.Prelude.{◌≡◌, ◌≤◌, ◌↔◌, vec_len, IsTrue};
+ghost use Rattle.std.specs.List.{AllByRecursion};
+ghost use Rattle.sl_tcflow.specs.FitsTc.{FitsOn, FitsTc};
+
+use sl_packet::Delivered;
+use sl_tcframe::{TcShape, VcSet};
+
+/// Whether frames of this format can carry the packets, those of virtual channel `v` and MAP `m` on channel `64 * v + m`:
+/// on each virtual channel of `plain`, whose frames have no segment headers, they are on MAP 0 alone, and none has more
+/// octets than [`TcShape::plain_room`]. It takes no memory.
+pub fn fits_tc(shape: &TcShape, plain: &VcSet, delivered: &Delivered) -> bool
+    ensures { IsTrue result ↔ FitsTc shape.now plain.now delivered.now.lists }
+{
+    for vc in 0..64 {
+        if plain.has(vc) && !fits_on(shape, vc, delivered) {
+            return false;
+        }
+    }
+    true
+}
+
+// Whether they are such on a virtual channel without segment headers.
+fn fits_on(shape: &TcShape, vc: u8, delivered: &Delivered) -> bool
+    requires { vc ≤ 63 }
+    ensures { IsTrue result ↔ FitsOn shape.now delivered.now.lists vc }
+{
+    let channel = 64 * u16::from(vc);
+    if let Some(next) = delivered.at_or_above(channel + 1) {
+        if next < channel + 64 {
+            return false;
+        }
+    }
+    fit(shape.plain_room(), delivered.list(channel))
+}
+
+// Whether none of the packets has more octets.
+fn fit(room: u16, packets: &[Vec<u8>]) -> bool
+    ensures { IsTrue result ↔ AllByRecursion (λ packet. vec_len packet ≤ room) packets.now }
+{
+    packets
+        .iter()
+        .all(|packet| packet.len() <= usize::from(room))
+}

@@ -1,0 +1,246 @@
+//! Virtual channels without segment headers, and such as begin with a V(R) of their own, by the command line.
+use super::faulty::{InPieces, Unreadable, Unwritable};
+use super::normalise::octets;
+use super::normalise_tc::{DIVIDED_FROM_255, WHOLE};
+use super::outcome::{Outcome, text};
+use sl_link::Counted;
+use std::test::Fail;
+
+const LINK: &str = "tc --scid 1 --tm-length 32 --tc-length 24";
+
+// A packet of ten octets in a frame on virtual channel 5 without a segment header, of type AD and of type BD.
+const PLAIN: &str = "0001140e001001c0000003aabbccdd";
+
+const PLAIN_BD: &str = "2001140e001001c0000003aabbccdd";
+
+// Two packets in one such frame, and in one each.
+const BOTH: &str = "00011412001002c0010000ee1002c0020000ef";
+
+const FIRST: &str = "0001140b001002c0010000ee";
+
+const SECOND: &str = "0001140b011002c0020000ef";
+
+// The first with two octets after it, and one that comes too early.
+const WITH_TAIL: &str = "0001140d001002c0010000ee0000";
+
+const EARLY: &str = "0001140b041002c0010000ee";
+
+// Verb, options, recording, status and listing.
+type Case = (
+    &'static str,
+    &'static str,
+    &'static [&'static str],
+    u8,
+    &'static str,
+);
+
+fn cases() -> [Case; 11] {
+    [
+        (
+            "show",
+            "--plain 5",
+            &[PLAIN, PLAIN_BD, EARLY],
+            0,
+            "0 frame vc 5 ad 0 unit octets 10 accept clcw 01140001\n\
+            15 frame vc 5 bd unit octets 10 accept clcw 01140201\n\
+            30 frame vc 5 ad 4 unit octets 7 early clcw 01140a01\n",
+        ),
+        (
+            "show",
+            "--plain 4,6",
+            &[PLAIN],
+            0,
+            "0 frame vc 5 ad 0 segment middle map 16 octets 9 accept clcw 01140001\n",
+        ),
+        (
+            "check",
+            "--plain 5",
+            &[PLAIN, PLAIN_BD],
+            0,
+            "frames 2 skipped 0 packets 2 idle 0 anomalies 0\n",
+        ),
+        (
+            "check",
+            "",
+            &[PLAIN],
+            1,
+            "0 stray vc 5 map 16\nframes 1 skipped 0 packets 0 idle 0 anomalies 1\n",
+        ),
+        (
+            "check",
+            "--plain 0,5,63",
+            &[WITH_TAIL, EARLY, "0001140400"],
+            1,
+            "0 tail vc 5 map 0 octets 2\n14 early vc 5 ad 4\n26 skip empty\n\
+            frames 3 skipped 1 packets 1 idle 0 anomalies 3\n",
+        ),
+        (
+            "packets",
+            "--plain 5",
+            &[BOTH],
+            0,
+            "vc 5 map 0 apid 2 type 1 secondary 0 flags 3 count 1 octets 7 1002c0010000ee\n\
+            vc 5 map 0 apid 2 type 1 secondary 0 flags 3 count 2 octets 7 1002c0020000ef\n",
+        ),
+        ("packets", "", &[BOTH], 0, ""),
+        (
+            "check",
+            "--vr 255 --vr-of 0:0",
+            &[
+                WHOLE,
+                DIVIDED_FROM_255[0],
+                DIVIDED_FROM_255[1],
+                DIVIDED_FROM_255[2],
+            ],
+            0,
+            "frames 4 skipped 0 packets 2 idle 0 anomalies 0\n",
+        ),
+        (
+            "check",
+            "",
+            &[
+                WHOLE,
+                DIVIDED_FROM_255[0],
+                DIVIDED_FROM_255[1],
+                DIVIDED_FROM_255[2],
+            ],
+            1,
+            "16 late vc 5 ad 255\n32 stray vc 5 map 0\n48 stray vc 5 map 0\n\
+            frames 4 skipped 0 packets 1 idle 0 anomalies 3\n",
+        ),
+        (
+            "packets",
+            "--vr-of 4:9,5:255",
+            &DIVIDED_FROM_255,
+            0,
+            "vc 5 map 0 apid 2 type 1 secondary 0 flags 3 count 5 octets 23 \
+            1002c00500101111111111111111111111111111111111\n",
+        ),
+        (
+            "packets",
+            "--vr 255 --vr-of 5:0,6:255",
+            &DIVIDED_FROM_255,
+            0,
+            "",
+        ),
+    ]
+}
+
+// With streams that take all at once, and octet by octet.
+#[test]
+fn virtual_channels_are_listed_as_managed(rt: HostRuntime) -> Result<(), Fail> {
+    let alloc = rt.alloc();
+    for (verb, options, parts, status, wanted) in cases() {
+        let line = format!(in alloc; "sllink {verb} {LINK} {options}")?;
+        let recording = octets(alloc, parts)?;
+        let outcome = Outcome::of(alloc, line.as_str(), recording.as_slice())?;
+        assert!(rt; outcome.says(status, ""), "{outcome:?}");
+        assert_eq!(rt; text(outcome.output.as_slice()), wanted, "{line}");
+        let mut writer = Counted::new(InPieces(Vec::new(alloc), 1));
+        let reader = InPieces(recording.as_slice(), 1);
+        let outcome = Outcome::with(alloc, line.as_str(), reader, &mut writer)?;
+        assert!(rt; outcome.says(status, ""), "{outcome:?}");
+        assert_eq!(rt; text(writer.into_inner().0.as_slice()), wanted, "{line}");
+    }
+    Ok(())
+}
+
+#[test]
+fn normal_forms_are_as_managed(rt: HostRuntime) -> Result<(), Fail> {
+    let alloc = rt.alloc();
+    let cases: [(&str, &[&str], &[&str]); 7] = [
+        ("--plain 5", &[PLAIN], &[PLAIN]),
+        ("--plain 5", &[BOTH], &[FIRST, SECOND]),
+        ("--plain 5", &[FIRST, SECOND], &[FIRST, SECOND]),
+        ("", &[PLAIN], &[]),
+        (
+            "--vr-of 5:255",
+            &[
+                WHOLE,
+                DIVIDED_FROM_255[0],
+                DIVIDED_FROM_255[1],
+                DIVIDED_FROM_255[2],
+            ],
+            &[
+                WHOLE,
+                "00011417ff401002c0050010111111111111111111111111",
+                "0001140a00801111111111",
+            ],
+        ),
+        (
+            "--vr-of 5:1 --plain 5",
+            &[SECOND],
+            &["0001140b011002c0020000ef"],
+        ),
+        ("", &DIVIDED_FROM_255, &[]),
+    ];
+    for (options, parts, wanted) in cases {
+        let line = format!(in alloc; "sllink normalise {LINK} {options}")?;
+        let recording = octets(alloc, parts)?;
+        let outcome = Outcome::of(alloc, line.as_str(), recording.as_slice())?;
+        assert!(rt; outcome.says(0, ""), "{outcome:?}");
+        let once = octets(alloc, wanted)?;
+        assert!(rt; outcome.output == once, "{line} {outcome:?}");
+        let outcome = Outcome::of(alloc, line.as_str(), once.as_slice())?;
+        assert!(rt; outcome.output == once, "{line} {outcome:?}");
+    }
+    Ok(())
+}
+
+// A recording whose virtual channels begin with other V(R), by either way to say so: what FARM-1 reports, and that it
+// is its own normal form.
+#[test]
+fn virtual_channels_begin_with_their_own_vr(rt: HostRuntime) -> Result<(), Fail> {
+    let alloc = rt.alloc();
+    let recording = octets(
+        alloc,
+        &[
+            WHOLE,
+            DIVIDED_FROM_255[0],
+            DIVIDED_FROM_255[1],
+            DIVIDED_FROM_255[2],
+        ],
+    )?;
+    let listing = "0 frame vc 0 ad 0 segment whole map 0 octets 10 accept clcw 01000001\n\
+        16 frame vc 5 ad 255 segment first map 0 octets 10 accept clcw 01140000\n\
+        32 frame vc 5 ad 0 segment middle map 0 octets 10 accept clcw 01140001\n\
+        48 frame vc 5 ad 1 segment last map 0 octets 3 accept clcw 01140002\n";
+    for options in ["--vr-of 5:255", "--vr 255 --vr-of 0:0"] {
+        let line = format!(in alloc; "sllink show tc --scid 1 --tc-length 16 {options}")?;
+        let outcome = Outcome::of(alloc, line.as_str(), recording.as_slice())?;
+        assert!(rt; outcome.says(0, ""), "{outcome:?}");
+        assert_eq!(rt; text(outcome.output.as_slice()), listing, "{line}");
+        let line = format!(in alloc; "sllink normalise tc --scid 1 --tc-length 16 {options}")?;
+        let outcome = Outcome::of(alloc, line.as_str(), recording.as_slice())?;
+        assert!(rt; outcome.says(0, ""), "{outcome:?}");
+        assert!(rt; outcome.output == recording, "{line} {outcome:?}");
+    }
+    Ok(())
+}
+
+// Both kinds of recording refuse a text, after the managed parameters and before anything is read.
+#[test]
+fn texts_of_virtual_channels_are_refused(rt: HostRuntime) -> Result<(), Fail> {
+    let cases = [
+        ("--plain 64", "sllink: managed: plain\n"),
+        ("--plain=", "sllink: managed: plain\n"),
+        ("--plain 05", "sllink: managed: plain\n"),
+        ("--plain 6,5", "sllink: managed: plain\n"),
+        ("--plain 5, --vr-of 5", "sllink: managed: plain\n"),
+        ("--vr-of 5", "sllink: managed: start\n"),
+        ("--vr-of=", "sllink: managed: start\n"),
+        ("--vr-of 5:256 --plain 5", "sllink: managed: start\n"),
+        ("--vr-of 5:1,5:2", "sllink: managed: start\n"),
+        ("--plain 64 --vr-of 5 --limit 0", "sllink: managed: limit\n"),
+    ];
+    for (options, said) in cases {
+        for kind in ["tm", "tc"] {
+            let line = format!(in rt.alloc(); "sllink normalise {kind} --scid 1 {options}")?;
+            let mut writer = Counted::new(Unwritable);
+            let outcome = Outcome::with(rt.alloc(), line.as_str(), Unreadable, &mut writer)?;
+            assert!(rt; outcome.says(2, said), "{outcome:?}");
+            assert_eq!(rt; writer.faults(), 0);
+        }
+    }
+    Ok(())
+}

@@ -157,7 +157,7 @@ fn the_version_is_printed(rt: HostRuntime) -> Result<(), Fail> {
     Ok(())
 }
 
-// What help says of each value, below it an example, and then the same for all.
+// What help says of each value, an example, and what is the same for all.
 #[test]
 fn help_says_what_a_run_takes_and_gives(rt: HostRuntime) -> Result<(), Fail> {
     let values = [
@@ -195,12 +195,9 @@ fn help_says_what_a_run_takes_and_gives(rt: HostRuntime) -> Result<(), Fail> {
     ];
     for (line, values, example) in cases {
         let outcome = Outcome::of(rt.alloc(), line, &[])?;
-        let mut left = text(outcome.output.as_slice());
-        // In this order.
+        let said = text(outcome.output.as_slice());
         for part in values.iter().chain([example].iter()).chain(end.iter()) {
-            let (_, behind) = left.split_once(*part).unwrap_or(("", ""));
-            assert!(rt; !behind.is_empty(), "{line} {part}");
-            left = behind;
+            assert!(rt; said.contains(*part), "{line} {part}");
         }
     }
     Ok(())

@@ -14,8 +14,8 @@ pub struct TmFramer {
     len: u16,
     // How many octets were taken after the last frame.
     held: usize,
-    // These octets lie in front. It is full from the start, and octets are written over others, so that none are blanked
-    // between frames.
+    // These octets lie in front. It is full from the start, and octets are written over others, so that none are
+    // blanked between frames.
     taken: ArrayVec<u8, 2048>,
 }
 

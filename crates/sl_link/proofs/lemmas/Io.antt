@@ -1,3 +1,5 @@
 pub mod Adding
+pub mod Buffer
 pub mod Digits
+pub mod Hexadecimal
 pub mod Streams

@@ -1,10 +1,10 @@
 //! Lines of a listing, put together in a buffer before they are written.
-ghost use Rattle.std.specs.Prelude.{◌≡◌, ◌+◌, ◌*◌, ◌≤◌, [], ◌++◌, length, decimal, nat_lt};
+ghost use Rattle.std.specs.Prelude.{◌≡◌, ◌+◌, ◌*◌, ◌≤◌, [], ◌++◌, length, decimal, drop, nat_lt, take};
 ghost use Rattle.hex.specs.Hex.{encode_lower};
 ghost use Rattle.sl_link.specs.Io.Room.{HasRoomFor, lines_size, reserve};
 
+use crate::io::digits::{Decimals, long_decimal};
 use arrayvec::ArrayVec;
-use itoa::Buffer;
 use std::marker::Model;
 
 /// The size of the buffer that lines wait in.
@@ -16,18 +16,21 @@ pub const RESERVE: usize = 256;
 /// Lines of a listing that are not written yet, 65536 octets at most.
 #[derive(Drop)]
 pub struct Lines {
+    // Always full: the lines are its first octets, so nothing is blanked when they go.
     text: ArrayVec<u8, LINES_SIZE>,
+    len: usize,
+    decimals: Decimals,
 }
 
 impl Model for Lines {
-    ghost use Rattle.std.specs.Prelude.{ℕ, ◌≤◌, List, length};
+    ghost use Rattle.std.specs.Prelude.{ℕ, ◌≡◌, ◌≤◌, List, length, take};
     ghost use Rattle.sl_link.specs.Io.Room.{lines_size};
 
     ghost Value = { List ℕ };
 
-    ghost view = { λ l. l.text.items };
+    ghost view = { λ l. take l.len l.text.items };
 
-    ghost invariant = { λ l. length l.text.items ≤ lines_size };
+    ghost invariant = { λ l. (l.len ≤ lines_size) × (length l.text.items ≡ lines_size) };
 }
 
 impl Lines {
@@ -36,7 +39,9 @@ impl Lines {
         ensures { result ≡ [] }
     {
         Lines {
-            text: ArrayVec::new(),
+            text: ArrayVec::from([0; LINES_SIZE]),
+            len: 0,
+            decimals: Decimals::new(),
         }
     }
 
@@ -44,30 +49,59 @@ impl Lines {
     pub fn clear(&mut self)
         ensures { self.new ≡ [] }
     {
-        self.text.clear();
+        self.len = 0;
     }
 
     /// Their octets.
     pub fn octets(&self) -> &[u8]
         ensures { result.now ≡ self.now }
     {
-        self.text.as_slice()
+        &self.text.as_slice()[..self.len]
     }
 
     /// There may be no room for one line more.
     pub fn is_full(&self) -> bool
         ensures { result ≡ nat_lt lines_size (length self.now + reserve) }
     {
-        self.text.len() + RESERVE > LINES_SIZE
+        self.len + RESERVE > LINES_SIZE
     }
 
-    /// Adds a text, for which there is room.
+    /// How many octets more there is room for.
+    pub fn room(&self) -> usize
+        ensures { result + length self.now ≡ lines_size }
+    {
+        LINES_SIZE - self.len
+    }
+
+    /// Adds a text whose length is known when the program is built, as that of a literal is.
     #[inline(always)]
-    pub fn push(&mut self, text: &[u8])
+    pub fn push<const N: usize>(&mut self, text: &[u8; N])
+        requires { HasRoomFor N self.old }
+        ensures { self.new ≡ self.old ++ text.now }
+    {
+        self.push_first(text, N);
+    }
+
+    /// Adds the first octets of such a text, as many as are said. There is room for all of it.
+    #[inline(always)]
+    pub fn push_first<const N: usize>(&mut self, text: &[u8; N], many: usize)
+        requires room { HasRoomFor N self.old }
+        requires inside { many ≤ N }
+        ensures { self.new ≡ self.old ++ take many text.now }
+    {
+        let len = self.len;
+        put(self.text.as_mut_slice(), len, text);
+        self.len = len + many;
+    }
+
+    /// Adds any text.
+    pub fn push_text(&mut self, text: &[u8])
         requires { HasRoomFor (length text.now) self.old }
         ensures { self.new ≡ self.old ++ text.now }
     {
-        let _ = self.text.try_extend_from_slice(text);
+        let len = self.len;
+        self.text.as_mut_slice()[len..len + text.len()].copy_from_slice(text);
+        self.len = len + text.len();
     }
 
     /// Adds a number in decimal.
@@ -78,50 +112,60 @@ impl Lines {
     {
         match u8::try_from(number) {
             Ok(small) => self.push_octet(small),
-            Err(_) => self.push(Buffer::new().format(number).as_bytes()),
+            Err(_) => self.push_long(number),
         }
+    }
+
+    fn push_long(&mut self, number: u64)
+        requires { HasRoomFor 20 self.old }
+        ensures text { self.new ≡ self.old ++ decimal number }
+        ensures long { length self.new ≤ length self.old + 20 }
+    {
+        let (places, many) = long_decimal(number);
+        self.push_first(&places, many);
     }
 
     /// Adds a number of one octet in decimal. Most numbers of a listing are such, and this is faster.
     #[inline(always)]
     pub fn push_octet(&mut self, number: u8)
-        requires { HasRoomFor 3 self.old }
+        requires { HasRoomFor 4 self.old }
         ensures text { self.new ≡ self.old ++ decimal number }
         ensures short { length self.new ≤ length self.old + 3 }
     {
-        if number < 10 {
-            self.push(&[b'0' + number]);
-        } else if number < 100 {
-            self.push(&[b'0' + number / 10, b'0' + number % 10]);
-        } else {
-            self.push(&[
-                b'0' + number / 100,
-                b'0' + number / 10 % 10,
-                b'0' + number % 10,
-            ]);
-        }
+        let (places, many) = self.decimals.of_octet(number);
+        self.push_first(&places, many);
     }
 
-    /// Adds octets in hexadecimal, 128 at most.
+    /// Adds octets in hexadecimal.
+    #[inline(always)]
     pub fn push_hexadecimal(&mut self, octets: &[u8])
-        requires short { length octets.now ≤ 128 }
-        requires room { HasRoomFor (2 * length octets.now) self.old }
+        requires { HasRoomFor (2 * length octets.now) self.old }
         ensures { self.new ≡ self.old ++ encode_lower octets.now }
     {
-        let mut digits = [0; 256];
-        let written = &mut digits[..2 * octets.len()];
-        let _ = hex::encode_to_slice(octets, written);
-        self.push(written);
+        let start = self.len;
+        let end = start + 2 * octets.len();
+        let _ = hex::encode_to_slice(octets, &mut self.text.as_mut_slice()[start..end]);
+        self.len = end;
     }
 
     /// Adds a word in hexadecimal.
+    #[inline(always)]
     pub fn push_hex(&mut self, word: &[u8; 4])
         requires { HasRoomFor 8 self.old }
         ensures text { self.new ≡ self.old ++ encode_lower word.now }
         ensures len { length self.new ≡ length self.old + 8 }
     {
-        let mut digits = [0; 8];
-        let _ = hex::encode_to_slice(word, &mut digits);
-        self.push(&digits);
+        self.push_hexadecimal(word);
     }
+}
+
+// Puts a text at a place of the buffer. A copy of it can't overlap the buffer, which the compiler wouldn't know
+// of the text itself.
+#[inline(always)]
+fn put<const N: usize>(buffer: &mut [u8], at: usize, text: &[u8; N])
+    requires { at + N ≤ length buffer.old }
+    ensures { buffer.new ≡ take at buffer.old ++ (text.now ++ drop (at + N) buffer.old) }
+{
+    let octets = *text;
+    buffer[at..at + N].copy_from_slice(&octets);
 }

@@ -1,7 +1,8 @@
--- Digits of small numbers.
-use Rattle.std.proofs.Common.{◌≡◌, ℕ, ◌+◌, ◌/◌, ◌%◌, ◌<◌, ◌≤◌, [], ◌∷◌, ◌++◌, codes, refl, ◌∙◌, ap, arith}
-use Rattle.std.proofs.lemmas.Fmt.{decimal_digit, decimal_step}
+-- Digits of numbers, and tables of them.
+use Rattle.std.proofs.Common.{ℕ, ◌+◌, ◌<◌, ◌≡◌, List, [], codes, length, slice_index_or, slice_set, refl, sym, subst, inl, inr, arith}
 use Rattle.std.specs.Fmt.{digits, decimal}
+use Rattle.std.proofs.lemmas.Bool.{cases_lt}
+use Rattle.std.proofs.lemmas.List.{get_or-set_same, get_or-set_other}
 
 -- a flag is one digit
 pub decimal-set : decimal 1 ≡ codes "1"
@@ -12,14 +13,14 @@ pub decimal-clear : decimal 0 ≡ codes "0"
 unfolding digits
 decimal-clear = refl
 
--- a number of two digits, and of three
-pub decimal-two : (n : ℕ) → 10 ≤ n → n < 100 → decimal n ≡ (48 + n / 10) ∷ (48 + n % 10) ∷ []
-decimal-two n low high =
-    decimal_step n low (omega arith) ∙ ap (λ l. l ++ (48 + n % 10) ∷ []) (decimal_digit (n / 10) (omega arith))
-
-pub decimal-three : (n : ℕ) → 100 ≤ n → n < 1000 → decimal n ≡ (48 + n / 100) ∷ (48 + n / 10 % 10) ∷ (48 + n % 10) ∷ []
-decimal-three n low high =
-    let tenth : n / 10 / 10 ≡ n / 100 = omega arith in
-    decimal_step n (omega arith) (omega arith)
-    ∙ ap (λ l. l ++ (48 + n % 10) ∷ []) (decimal-two (n / 10) (omega arith) (omega arith))
-    ∙ ap (λ k. (48 + k) ∷ (48 + n / 10 % 10) ∷ (48 + n % 10) ∷ []) tenth
+-- what holds of the first entries and of the next one holds of these together
+pub filled_next : (P : ℕ → List ℕ → Type 0) (table : List (List ℕ)) (k : ℕ) (entry : List ℕ) → k < length table
+    → ((n : ℕ) → n < k → P n (slice_index_or table n [])) → P k entry
+    → (n : ℕ) → n < k + 1 → P n (slice_index_or (slice_set table k entry) n [])
+filled_next P table k entry inside before this n below =
+    elim (cases_lt n k) [
+      | inl less ↦ subst (P n) (sym (get_or-set_other table k n entry [] (omega arith))) (before n less)
+      | inr more ↦
+          let same : n ≡ k = omega arith in
+          rw same (subst (P k) (sym (get_or-set_same table k entry [] inside)) this)
+    ]

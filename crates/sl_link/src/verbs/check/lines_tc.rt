@@ -119,7 +119,7 @@ fn push_verdict(lines: &mut Lines, verdict: Verdict)
     ensures text { lines.new ≡ lines.old ++ (codes " " ++ verdict_word verdict) }
     ensures short { length lines.new ≤ length lines.old + 8 }
 {
-    lines.push(match verdict {
+    lines.push_text(match verdict {
         Verdict::Accept => b" accept",
         Verdict::Early => b" early",
         Verdict::Late => b" late",
@@ -142,7 +142,7 @@ fn told_lines(lines: &mut Lines, offset: u64, what: &[u8], vc: u8, map: u8, hold
         return 0;
     }
     lines.push_number(offset);
-    lines.push(what);
+    lines.push_text(what);
     push_map(lines, vc, map);
     lines.push(b"\n");
     1
@@ -197,7 +197,7 @@ fn octets_line(lines: &mut Lines, offset: u64, fate: &[u8], vc: u8, map: u8, oct
     ensures short { length lines.new ≤ length lines.old + (54 + length fate.now) }
 {
     lines.push_number(offset);
-    lines.push(fate);
+    lines.push_text(fate);
     push_map(lines, vc, map);
     lines.push(b" octets ");
     push_count(lines, octets);

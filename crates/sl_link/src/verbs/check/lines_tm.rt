@@ -120,7 +120,7 @@ fn octets_line(lines: &mut Lines, offset: u64, fate: &[u8], vc: u8, octets: u32)
     ensures short { length lines.new ≤ length lines.old + 64 }
 {
     lines.push_number(offset);
-    lines.push(fate);
+    lines.push_text(fate);
     lines.push_octet(vc);
     lines.push(b" octets ");
     lines.push_number(u64::from(octets));
@@ -168,7 +168,7 @@ fn vc_line(lines: &mut Lines, offset: u64, what: &[u8], vc: u8)
     ensures short { length lines.new ≤ length lines.old + 36 }
 {
     lines.push_number(offset);
-    lines.push(what);
+    lines.push_text(what);
     lines.push_octet(vc);
     lines.push(b"\n");
 }

@@ -95,7 +95,7 @@ fn push_octets<W: Write>(
     let mut left = octets;
     while !left.is_empty() {
         make_room(writer, lines)?;
-        let (part, after) = left.split_at(left.len().min(128));
+        let (part, after) = left.split_at(left.len().min(lines.room() / 2));
         lines.push_hexadecimal(part);
         left = after;
     }

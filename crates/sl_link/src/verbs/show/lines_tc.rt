@@ -45,7 +45,7 @@ pub fn push_skip(lines: &mut Lines, reason: TcSkip)
     ensures short { length lines.new ≤ length lines.old + 16 }
 {
     lines.push(b" skip ");
-    lines.push(match reason {
+    lines.push_text(match reason {
         TcSkip::Fecf => b"fecf",
         TcSkip::Version => b"version",
         TcSkip::Spacecraft => b"spacecraft",
@@ -98,7 +98,7 @@ fn push_step(lines: &mut Lines, farms: &mut Farms, vc: u8, event: FarmEvent)
 }
 
 // Nearly all are accepted, so each text is pushed where it is known. Of the sequence flags nothing is known before,
-// so their text is chosen first and pushed then: both are measured.
+// so their text is chosen first and pushed then, filled up to the longest one: both are measured.
 fn push_verdict(lines: &mut Lines, verdict: Verdict)
     requires { HasRoomFor 96 lines.old }
     ensures text { lines.new ≡ lines.old ++ (codes " " ++ verdict_word verdict ++ codes " clcw ") }
@@ -188,10 +188,11 @@ fn push_flags(lines: &mut Lines, flags: u8)
         ++ codes " map ") }
     ensures short { length lines.new ≤ length lines.old + 20 }
 {
-    lines.push(match flags {
-        0 => b" segment middle map ",
-        1 => b" segment first map ",
-        2 => b" segment last map ",
-        _ => b" segment whole map ",
-    });
+    let (text, many) = match flags {
+        0 => (b" segment middle map ", 20),
+        1 => (b" segment first map  ", 19),
+        2 => (b" segment last map   ", 18),
+        _ => (b" segment whole map  ", 19),
+    };
+    lines.push_first(text, many);
 }

@@ -30,7 +30,7 @@ pub fn push_skip(lines: &mut Lines, reason: TmSkip)
     ensures short { length lines.new ≤ length lines.old + 16 }
 {
     lines.push(b" skip ");
-    lines.push(match reason {
+    lines.push_text(match reason {
         TmSkip::Fecf => b"fecf",
         TmSkip::Version => b"version",
         TmSkip::Spacecraft => b"spacecraft",

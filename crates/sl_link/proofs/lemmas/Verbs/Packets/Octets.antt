@@ -1,24 +1,12 @@
 -- Octets in hexadecimal, part by part.
-use Rattle.std.proofs.Common.{◌≡◌, ℕ, ◌/◌, ◌%◌, List, [], ◌∷◌, ◌++◌, Option, refl, sym, ◌∙◌, ap, subst, append_assoc, append-nil}
-use Rattle.hex.specs.Hex.{encode_lower, encode_with, lower_digits}
-use Rattle.std.specs.Prelude.{slice_index}
+use Rattle.std.proofs.Common.{◌≡◌, ℕ, List, [], ◌++◌, Option, refl, sym, ◌∙◌, ap, subst, append_assoc, append-nil}
+use Rattle.hex.specs.Hex.{encode_lower}
 use Rattle.sl_link.specs.declared.link.counted.Counted.{Counted}
 use Rattle.sl_link.specs.declared.link.fault.LinkFault.{LinkFault}
 use Rattle.sl_link.specs.Io.Streams.{AddsText, StopsWriting}
 use Rattle.sl_link.proofs.lemmas.Io.Adding.{AddsText-trans, writer_stops_later, writer_stops_waiting}
+use Rattle.sl_link.proofs.lemmas.Io.Hexadecimal.{encode_append, encode_nil}
 use Rattle.sl_link.proofs.lemmas.Io.Streams.{AddsText-more, AddsText-nil}
-
-with_append : (t xs ys : List ℕ) → encode_with t (xs ++ ys) ≡ encode_with t xs ++ encode_with t ys
-unfolding encode_with
-with_append t [] ys = refl
-with_append t (x ∷ xs) ys = ap (λ l. slice_index t (x / 16) ∷ slice_index t (x % 16) ∷ l) (with_append t xs ys)
-
-encode_append : (xs ys : List ℕ) → encode_lower (xs ++ ys) ≡ encode_lower xs ++ encode_lower ys
-encode_append xs ys = with_append lower_digits xs ys
-
-encode_nil : encode_lower [] ≡ []
-unfolding encode_with
-encode_nil = refl
 
 -- some of the octets were added, and these are left
 pub record IsPushing {W : Type 0} (contents : W → Option (List ℕ)) (writer writer' : Counted W) (pending pending' octets left : List ℕ) : Type 0 where

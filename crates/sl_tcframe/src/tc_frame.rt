@@ -33,12 +33,14 @@ pub enum TcContent<'a> {
     Ad {
         /// Frame sequence number N(S).
         ns: u8,
-        /// The segment header and the octets of the segment.
+        /// The data field: a segment header and the octets of the segment, or these alone where the virtual channel has
+        /// no segment headers.
         unit: &'a [u8],
     },
     /// A unit that bypasses the acceptance checks.
     Bd {
-        /// The segment header and the octets of the segment.
+        /// The data field: a segment header and the octets of the segment, or these alone where the virtual channel has
+        /// no segment headers.
         unit: &'a [u8],
     },
     /// The control command Unlock.

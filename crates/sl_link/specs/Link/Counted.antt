@@ -11,7 +11,7 @@ stream_of c = c.stream
 abbrev pub faults_of : {T : Type 0} → Counted T → ℕ
 faults_of c = c.faults
 
--- one fault came, and no more: nothing is tried again after it
+-- one fault came: the count rose by one, unless it was at its greatest
 abbrev pub HasFailed : {T : Type 0} → Counted T → Counted T → Type 0
 HasFailed old new = faults_of new ≡ one_more (faults_of old)
 

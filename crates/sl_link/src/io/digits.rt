@@ -37,6 +37,7 @@ pub fn long_decimal(number: u64) -> ([u8; 20], usize)
     ensures digits { take result.1 result.0 ≡ decimal number }
     ensures few { result.1 ≤ 20 }
 {
+    // The greatest number has 20 digits. They end in the middle, so that 20 places follow wherever they begin.
     let mut digits = [0; 40];
     let start = write_digits(number, &mut digits, 20);
     let mut places = [0; 20];

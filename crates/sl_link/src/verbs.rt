@@ -1,7 +1,7 @@
 //! Listings of a recording, written while it is read.
 ghost use Rattle.std.specs.Prelude.{◌≡◌, ◌+◌, ◌-◌, ◌^◌, ◌<◌, ◌≤◌, ◌++◌, ◌∷◌, [], ℕ, List, length, IfOk, IfErr, OnOk};
 ghost use Rattle.std.specs.List.{concat};
-ghost use Rattle.sl_link.specs.Io.Streams.{AddsText, Translates, Stops};
+ghost use Rattle.sl_link.specs.Io.Streams.{AddsText, Translates, TranslatesAndCounts, Stops};
 ghost use Rattle.sl_link.specs.Verbs.Listing.{lines_from, counts_of, text_of, StopsListingFrames, WantedMemory, ListsFrames};
 ghost use Rattle.sl_link.specs.Pass.{PassesOver, StopsPassing};
 
@@ -134,7 +134,10 @@ pub fn list<F: Framer, V: Verb, R: Read, W: Write>(
     requires none { F.waits framer.old managed.now [] }
     requires same { (frame : List ℕ) → F.is_frame managed.now frame → V.is_frame managed.now frame }
     requires begun { V.has_listed verb.old managed.now [] }
-    ensures listing { IfOk result (Translates R.remaining W.contents reader.old reader.new
+    ensures listing { OnOk result (Translates R.remaining W.contents reader.old reader.new
+        writer.old writer.new (text_of (F.frames_of managed.now) (V.listing managed.now))
+        managed.now.max_octets) }
+    ensures totals { IfOk result (TranslatesAndCounts R.remaining W.contents reader.old reader.new
         writer.old writer.new (text_of (F.frames_of managed.now) (V.listing managed.now))
         (counts_of (F.frames_of managed.now) (V.listing managed.now)) managed.now.max_octets) }
     ensures fault { IfErr result (Stops R.remaining W.contents reader.old reader.new

@@ -1,3 +1,4 @@
+mod caller;
 mod channels;
 mod command_line;
 mod engines;

@@ -4,7 +4,7 @@ use Rattle.std.proofs.Common.{◌≡◌, ℕ, true, false, List, [], ◌∷◌, 
 use Rattle.sl_fields.specs.Fecf.{fecf_of, register_of}
 use Rattle.sl_packet.specs.IdlePacket.{idle_packet}
 use Rattle.sl_link.specs.Link.Managed.{Parameters}
-use Rattle.sl_link.specs.Normalise.Tm.{tm_normal_form, tm_counts}
+use Rattle.sl_link.specs.Normalise.Tm.{tm_form_of, tm_normal_form, tm_counts}
 use Rattle.sl_link.specs.Link.Totals.{Counts}
 
 abbrev pub link : Parameters
@@ -120,7 +120,7 @@ pub record HaveNormalForms : Type 0 where
   pub channels : HasNormalForm two_channels two_channels_normal
 
 pub normal_forms : HaveNormalForms
-unfolding idle_packet
+unfolding idle_packet tm_form_of
 normal_forms =
     record {
       nothing = refl;
@@ -160,7 +160,7 @@ pub record HaveFieldsLeftOut : Type 0 where
   pub error_control : tm_normal_form (record link { tm_length = 34; tm_fecf = true }) (damaged ++ guarded) ≡ guarded
 
 pub fields_left_out : HaveFieldsLeftOut
-unfolding idle_packet fecf_of register_of
+unfolding idle_packet fecf_of register_of tm_form_of
 fields_left_out =
     record {
       control = refl;

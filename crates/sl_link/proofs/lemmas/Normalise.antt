@@ -1,5 +1,6 @@
 pub mod Form
 pub mod FormTc
+pub mod FormTm
 pub mod Separation
 pub mod Storing
 pub mod StoringTc

@@ -107,17 +107,21 @@ pub record StopsListing {W : Type 0} (contents : W → Option (List ℕ)) (old n
 -- ---- a whole engine, over its reader and its writer before and after the call
 
 module _ {R W : Type 0} (remaining : R → Option (List ℕ)) (contents : W → Option (List ℕ)) where
-  -- All was read, no more than the limit, the text of it was written and nothing else, the totals are its
-  -- counts, and neither stream had a fault.
-  pub record Translates (reader reader' : Counted R) (writer writer' : Counted W) (text : List ℕ → List ℕ) (counts : List ℕ → Counts) (limit : ℕ) (totals : Counts) : Type 0 where
+  -- All was read, no more than the limit, the text of it was written and nothing else, and neither stream had a
+  -- fault.
+  pub record Translates (reader reader' : Counted R) (writer writer' : Counted W) (text : List ℕ → List ℕ) (limit : ℕ) : Type 0 where
     pub octets : List ℕ
     pub within : length octets ≤ limit
     pub read : Reads remaining reader reader' octets
     pub to_end : IsRead remaining reader'
     pub written : Writes contents writer writer' (text octets)
-    pub counted : totals ≡ counts octets
     pub reader_kept : faults_of reader' ≡ faults_of reader
     pub writer_kept : faults_of writer' ≡ faults_of writer
+
+  -- And the totals are the counts of the same octets, which streams that don't tell theirs leave open.
+  pub record TranslatesAndCounts (reader reader' : Counted R) (writer writer' : Counted W) (text : List ℕ → List ℕ) (counts : List ℕ → Counts) (limit : ℕ) (totals : Counts) : Type 0 where
+    pub translated : Translates reader reader' writer writer' text limit
+    pub counted : totals ≡ counts translated.octets
 
   -- What was written delivers, read as a recording, the packets that what was read delivers. `packets` gives those of a
   -- recording.

@@ -10,32 +10,19 @@ pub record AreAccepted (p : Parameters) : Type 0 where
   pub allowed : managed_of p ≡ Ok p
   pub starts : AreStarts p.starts
 
+-- The normal form of a recording delivers the packets that the recording delivers. So two normal forms are equal
+-- octet for octet exactly where the recordings deliver the same packets, and a normal form is its own normal form.
+pub record FormsTellPackets (packets : List ℕ → List (List (List ℕ))) (form : List ℕ → List ℕ) : Type 0 where
+  pub deliver : (recording : List ℕ) → packets (form recording) ≡ packets recording
+  pub exactly : (x y : List ℕ) → (form x ≡ form y) ↔ (packets x ≡ packets y)
+  pub once : (recording : List ℕ) → form (form recording) ≡ form recording
+
 -- ---- laws
 
--- The normal form of a TM recording delivers the packets that the recording delivers, on each virtual channel.
-abbrev pub TmFormsDeliver : Type 0
-TmFormsDeliver = (p : Parameters) (recording : List ℕ) → AreAccepted p → tm_packets p (tm_normal_form p recording) ≡ tm_packets p recording
-
--- So two normal forms are equal octet for octet exactly where the recordings deliver the same packets,
+-- Normal forms of TM recordings tell the packets on each virtual channel,
 abbrev pub TmFormsTellPackets : Type 0
-TmFormsTellPackets =
-    (p : Parameters) (x y : List ℕ) → AreAccepted p → (tm_normal_form p x ≡ tm_normal_form p y) ↔ (tm_packets p x ≡ tm_packets p y)
+TmFormsTellPackets = (p : Parameters) → AreAccepted p → FormsTellPackets (tm_packets p) (tm_normal_form p)
 
--- and a normal form is its own normal form.
-abbrev pub TmFormsAreTheirOwn : Type 0
-TmFormsAreTheirOwn = (p : Parameters) (recording : List ℕ) → AreAccepted p → tm_normal_form p (tm_normal_form p recording) ≡ tm_normal_form p recording
-
--- The normal form of a TC recording delivers the packets that the recording delivers, on each virtual channel and MAP.
-abbrev pub TcFormsDeliver : Type 0
-TcFormsDeliver =
-    (p : Parameters) (recording : List ℕ) → AreAccepted p → tc_packets p (tc_normal_form p recording) ≡ tc_packets p recording
-
--- So two normal forms are equal octet for octet exactly where the recordings deliver the same packets,
+-- and those of TC recordings the packets on each virtual channel and MAP.
 abbrev pub TcFormsTellPackets : Type 0
-TcFormsTellPackets =
-    (p : Parameters) (x y : List ℕ) → AreAccepted p → (tc_normal_form p x ≡ tc_normal_form p y) ↔ (tc_packets p x ≡ tc_packets p y)
-
--- and a normal form is its own normal form.
-abbrev pub TcFormsAreTheirOwn : Type 0
-TcFormsAreTheirOwn =
-    (p : Parameters) (recording : List ℕ) → AreAccepted p → tc_normal_form p (tc_normal_form p recording) ≡ tc_normal_form p recording
+TcFormsTellPackets = (p : Parameters) → AreAccepted p → FormsTellPackets (tc_packets p) (tc_normal_form p)

@@ -18,7 +18,7 @@ abbrev pub tm_packets : Parameters → List ℕ → List (List (List ℕ))
 tm_packets p recording = tm_lists (tm_format p) p.spacecraft recording
 
 -- the normal form of lists of packets
-abbrev pub tm_form_of : Parameters → List (List (List ℕ)) → List ℕ
+unfoldable pub tm_form_of : Parameters → List (List (List ℕ)) → List ℕ
 tm_form_of p lists = normal_form (tm_format p) p.spacecraft lists
 
 -- the normal form of a recording

@@ -9,14 +9,14 @@ use Rattle.sl_link.specs.Program.CommandLine.{AskFor, managed_asked}
 use Rattle.sl_link.specs.Pass.{chunk_size}
 use Rattle.sl_link.specs.Program.Engine.{text_of, counts_of, is_check, lists_frames, writes_normal_form}
 use Rattle.sl_link.specs.Link.Managed.{Parameters}
-use Rattle.sl_link.specs.Io.Streams.{IsRead, Translates, Stops}
+use Rattle.sl_link.specs.Io.Streams.{IsRead, TranslatesAndCounts, Stops}
 use Rattle.sl_link.specs.Link.Totals.{Counts}
 
 module _ {R W : Type 0} (remaining : R → Option (List ℕ)) (contents : W → Option (List ℕ)) where
-  -- the engine's text of a recording was written
+  -- the engine's text of a recording was written, and the totals are its counts of it
   abbrev pub HasWritten : Counted R → Counted R → Counted W → Counted W → Asked → Parameters → Counts → Type 0
   HasWritten reader reader' writer writer' asked managed =
-      Translates remaining contents reader reader' writer writer' (text_of asked.request.engine managed) (counts_of asked.request.engine managed) managed.max_octets
+      TranslatesAndCounts remaining contents reader reader' writer writer' (text_of asked.request.engine managed) (counts_of asked.request.engine managed) managed.max_octets
 
   -- A fault stopped the engine, or the flush after it. A listing of frames needs no memory. Of a normal form
   -- anything is written only where the writer failed, and all is read then.

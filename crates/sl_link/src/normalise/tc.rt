@@ -12,7 +12,7 @@ ghost use Rattle.sl_link.specs.Deliver.DeliveringTc.{MayWantMemoryTc};
 ghost use Rattle.sl_link.specs.Link.Managed.{tc_format};
 ghost use Rattle.sl_link.specs.Normalise.Form.{StopsForm};
 ghost use Rattle.sl_link.specs.Normalise.Tc.{tc_counts, tc_form_of, tc_normal_form, tc_packets};
-ghost use Rattle.sl_link.specs.Io.Streams.{IsRead, KeepsPackets, Stops, StopsReadingAll, Translates, WritesText};
+ghost use Rattle.sl_link.specs.Io.Streams.{IsRead, KeepsPackets, Stops, StopsReadingAll, Translates, TranslatesAndCounts, WritesText};
 ghost use Rattle.sl_link.specs.Verbs.Listing.{WantedMemory};
 ghost use Rattle.sl_link.specs.Pass.{chunk_size};
 
@@ -44,7 +44,10 @@ pub fn normalise_tc<R: Read, W: Write>(
     writer: &mut Counted<W>,
 ) -> Result<Totals, LinkFault>
     // All is read, and the normal form of it is written and nothing else.
-    ensures normal_form { IfOk result (Translates R.remaining W.contents reader.old reader.new
+    ensures normal_form { OnOk result (Translates R.remaining W.contents reader.old reader.new
+        writer.old writer.new (tc_normal_form managed.now) managed.now.max_octets) }
+    // The totals are those of what was read.
+    ensures totals { IfOk result (TranslatesAndCounts R.remaining W.contents reader.old reader.new
         writer.old writer.new (tc_normal_form managed.now) (tc_counts managed.now)
         managed.now.max_octets) }
     // The normal form delivers the packets of the recording.

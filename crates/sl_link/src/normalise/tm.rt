@@ -9,7 +9,7 @@ ghost use Rattle.sl_link.specs.Deliver.Lists.{DeliversAll, count_of, with_frame}
 ghost use Rattle.sl_link.specs.Deliver.DeliveringTm.{MayWantMemoryTm};
 ghost use Rattle.sl_link.specs.Normalise.Form.{StopsForm};
 ghost use Rattle.sl_link.specs.Normalise.Tm.{tm_counts, tm_form_of, tm_normal_form, tm_packets};
-ghost use Rattle.sl_link.specs.Io.Streams.{IsRead, KeepsPackets, Stops, StopsReadingAll, Translates, WritesText};
+ghost use Rattle.sl_link.specs.Io.Streams.{IsRead, KeepsPackets, Stops, StopsReadingAll, Translates, TranslatesAndCounts, WritesText};
 ghost use Rattle.sl_link.specs.Verbs.Listing.{WantedMemory};
 ghost use Rattle.sl_link.specs.Pass.{chunk_size};
 
@@ -41,7 +41,10 @@ pub fn normalise_tm<R: Read, W: Write>(
     writer: &mut Counted<W>,
 ) -> Result<Totals, LinkFault>
     // All is read, and the normal form of it is written and nothing else.
-    ensures normal_form { IfOk result (Translates R.remaining W.contents reader.old reader.new
+    ensures normal_form { OnOk result (Translates R.remaining W.contents reader.old reader.new
+        writer.old writer.new (tm_normal_form managed.now) managed.now.max_octets) }
+    // The totals are those of what was read.
+    ensures totals { IfOk result (TranslatesAndCounts R.remaining W.contents reader.old reader.new
         writer.old writer.new (tm_normal_form managed.now) (tm_counts managed.now)
         managed.now.max_octets) }
     // The normal form delivers the packets of the recording.

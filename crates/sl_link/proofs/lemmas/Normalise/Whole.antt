@@ -5,7 +5,7 @@ use Rattle.sl_link.specs.declared.link.counted.Counted.{Counted}
 use Rattle.sl_link.specs.declared.link.fault.LinkFault.{LinkFault}
 use Rattle.sl_link.specs.declared.link.fault.LinkFault.TheVariants.{Read, TooLong, Memory, Write}
 use Rattle.sl_link.specs.Link.Counted.{stream_of}
-use Rattle.sl_link.specs.Io.Streams.{KeepsPackets, ReadsAll, StopsReadingAll, IsReadingAllFault, IsCaused, WritesPrefix, WritesText, StopsWriting, Translates, Stops}
+use Rattle.sl_link.specs.Io.Streams.{KeepsPackets, ReadsAll, StopsReadingAll, IsReadingAllFault, IsCaused, WritesPrefix, WritesText, StopsWriting, Translates, TranslatesAndCounts, Stops}
 use Rattle.sl_link.specs.Link.Totals.{Counts}
 use Rattle.sl_link.specs.Normalise.Form.{StopsForm}
 use Rattle.sl_link.proofs.lemmas.Verbs.Shared.{caused_writing}
@@ -66,18 +66,27 @@ module _ {R W : Type 0} (remaining : R → Option (List ℕ)) (contents : W → 
   stops_at_form writer writer' octets written packets Write r same s = stops_at_writing writer writer' octets written Write r same s
 
   -- all of it is written
-  pub translates_whole : (writer writer' : Counted W) (counts : List ℕ → Counts) (totals : Counts) (octets written : List ℕ) → ReadsAll remaining reader reader' limit octets → written ≡ text octets
-      → totals ≡ counts octets → WritesText contents writer writer' written → Translates remaining contents reader reader' writer writer' text counts limit totals
-  translates_whole writer writer' counts totals octets written r same counted w =
+  pub translates_whole : (writer writer' : Counted W) (octets written : List ℕ) → ReadsAll remaining reader reader' limit octets → written ≡ text octets
+      → WritesText contents writer writer' written → Translates remaining contents reader reader' writer writer' text limit
+  translates_whole writer writer' octets written r same w =
       record {
         octets = octets;
         within = r.within;
         read = r.read;
         to_end = r.to_end;
         written = let done = w.writes in rw (← same) done;
-        counted = counted;
         reader_kept = r.no_fault;
         writer_kept = w.no_fault;
+      }
+
+  -- and counted
+  pub counts_whole : (writer writer' : Counted W) (counts : List ℕ → Counts) (totals : Counts) (octets written : List ℕ) → ReadsAll remaining reader reader' limit octets → written ≡ text octets
+      → totals ≡ counts octets → WritesText contents writer writer' written → TranslatesAndCounts remaining contents reader reader' writer writer' text counts limit totals
+  unfolding translates_whole
+  counts_whole writer writer' counts totals octets written r same counted w =
+      record {
+        translated = translates_whole writer writer' octets written r same w;
+        counted = counted;
       }
 
   -- which delivers what the octets do

@@ -11,7 +11,7 @@ use Rattle.sl_link.specs.declared.program.command_line.Engine.{Engine}
 use Rattle.sl_link.specs.declared.program.command_line.Engine.TheVariants.{ShowTm, ShowTc, CheckTm, CheckTc, PacketsTm, PacketsTc, NormaliseTm, NormaliseTc}
 use Rattle.sl_link.specs.declared.program.command_line.Asked.{Asked}
 use Rattle.sl_link.specs.Program.CommandLine.{managed_asked}
-use Rattle.sl_link.specs.Link.Counted.{stream_of, HasFailed}
+use Rattle.sl_link.specs.Link.Counted.{stream_of, faults_of, HasFailed}
 use Rattle.sl_link.specs.Pass.{chunk_size}
 use Rattle.sl_link.specs.Program.Engine.{text_of, counts_of, is_check}
 use Rattle.sl_link.specs.Link.Managed.{Parameters}
@@ -50,7 +50,8 @@ module _ {R W : Type 0} (remaining : R → Option (List ℕ)) (contents : W → 
   pub stopped_flushing : (reader reader' : Counted R) (writer mid writer' : Counted W) (asked : Asked) (managed : Parameters) (totals : Counts) (fault : LinkFault)
       → HasWritten remaining contents reader reader' writer mid asked managed totals → Keeps (contents (stream_of mid)) (contents (stream_of writer')) → fault ≡ Write → HasFailed mid writer'
       → IsStoppedBy remaining contents reader reader' writer writer' asked managed fault
-  stopped_flushing reader reader' writer mid writer' asked managed totals fault t kept is_write failed =
+  stopped_flushing reader reader' writer mid writer' asked managed totals fault counted kept is_write failed =
+      let t = counted.translated in
       record {
         cause = record {
           octets = t.octets;
@@ -66,6 +67,25 @@ module _ {R W : Type 0} (remaining : R → Option (List ℕ)) (contents : W → 
         not_memory = λ lists is_memory. let bad : Memory ≡ Write = sym is_memory ∙ is_write in cc;
         all_read = λ form same. t.to_end;
         nothing = λ form other. absurd (other is_write);
+      }
+
+  -- where the flush succeeds, it is so still
+  pub written_flushed : (reader reader' : Counted R) (writer mid writer' : Counted W) (asked : Asked) (managed : Parameters) (totals : Counts)
+      → HasWritten remaining contents reader reader' writer mid asked managed totals → Keeps (contents (stream_of mid)) (contents (stream_of writer')) → faults_of writer' ≡ faults_of mid
+      → HasWritten remaining contents reader reader' writer writer' asked managed totals
+  written_flushed reader reader' writer mid writer' asked managed totals counted kept no_fault =
+      let t = counted.translated in
+      record {
+        translated = record {
+          octets = t.octets;
+          within = t.within;
+          read = t.read;
+          to_end = t.to_end;
+          written = Appends-kept (contents (stream_of writer)) (contents (stream_of mid)) (contents (stream_of writer')) (text_of asked.request.engine managed t.octets) t.written kept;
+          reader_kept = t.reader_kept;
+          writer_kept = no_fault ∙ t.writer_kept;
+        };
+        counted = counted.counted;
       }
 
   -- after the status of success the engine has met no anomaly
@@ -90,7 +110,7 @@ module _ {R W : Type 0} (remaining : R → Option (List ℕ)) (contents : W → 
         totals = counts;
         ended = record { managed = managed; allowed = allowed; written = written };
         some = some;
-        of_check = check_met asked.request.engine managed written.octets (λ none. some (ap (λ (c : Counts). c.anomalies) written.counted ∙ none));
+        of_check = check_met asked.request.engine managed written.translated.octets (λ none. some (ap (λ (c : Counts). c.anomalies) written.counted ∙ none));
       }
   has_met_anomalies reader reader' writer writer' asked managed (Err fault) is_anomalies allowed written = absurd (cc)
 

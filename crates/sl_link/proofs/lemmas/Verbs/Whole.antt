@@ -5,7 +5,7 @@ use Rattle.sl_link.specs.declared.link.counted.Counted.{Counted}
 use Rattle.sl_link.specs.declared.link.fault.LinkFault.{LinkFault}
 use Rattle.sl_link.specs.declared.link.fault.LinkFault.TheVariants.{Read, TooLong, Memory, Write}
 use Rattle.sl_link.specs.Link.Counted.{faults_of}
-use Rattle.sl_link.specs.Io.Streams.{AddsText, WritesText, StopsWriting, Translates, Stops, IsCaused, IsListingFault, WritesPrefix}
+use Rattle.sl_link.specs.Io.Streams.{AddsText, WritesText, StopsWriting, Translates, TranslatesAndCounts, Stops, IsCaused, IsListingFault, WritesPrefix}
 use Rattle.sl_link.specs.Pass.{PassesOver, StopsPassing, IsReadersFault}
 use Rattle.sl_link.specs.Link.Totals.{Counts}
 use Rattle.sl_link.specs.Verbs.Listing.{lines_from, listing, listing_counts, rest_after, StopsListingFrames, WantedMemory, ListsFrames}
@@ -112,9 +112,8 @@ module _ {R W : Type 0} (remaining : R → Option (List ℕ)) (contents : W → 
             record { octets = s.octets; read = s.read; written = here.front; cause = sink_caused writer' s.octets fault s.no_fault s.within here.cause }
 
         -- all is written
-        pub lists_all : (writer' : Counted W) (totals : Counts) → WritesText contents end writer' pending' → totals ≡ counts (frames_of s.octets) (n - length (concat (frames_of s.octets)))
-            → Translates remaining contents reader reader' writer writer' (listing line last frames_of) (listing_counts counts frames_of) limit totals
-        lists_all writer' totals w c =
+        pub lists_all : (writer' : Counted W) → WritesText contents end writer' pending' → Translates remaining contents reader reader' writer writer' (listing line last frames_of) limit
+        lists_all writer' w =
             let all = all_written contents writer end writer' pending' (listing line last frames_of s.octets) all_added w in
             record {
               octets = s.octets;
@@ -122,10 +121,15 @@ module _ {R W : Type 0} (remaining : R → Option (List ℕ)) (contents : W → 
               read = s.read;
               to_end = s.to_end;
               written = all.writes;
-              counted = c ∙ ap (counts (frames_of s.octets)) rest_is;
               reader_kept = s.no_fault;
               writer_kept = all.no_fault;
             }
+
+        -- and counted
+        pub counts_all : (writer' : Counted W) (totals : Counts) → WritesText contents end writer' pending' → totals ≡ counts (frames_of s.octets) (n - length (concat (frames_of s.octets)))
+            → TranslatesAndCounts remaining contents reader reader' writer writer' (listing line last frames_of) (listing_counts counts frames_of) limit totals
+        unfolding lists_all
+        counts_all writer' totals w c = record { translated = lists_all writer' w; counted = c ∙ ap (counts (frames_of s.octets)) rest_is }
 
 pub write_isnt_memory : (fault : LinkFault) → fault ≡ Write → fault ≡ Memory → ⊥
 write_isnt_memory fault e h = absurd (cc)

@@ -1,6 +1,8 @@
 -- What a TC recording comes to while it is checked, as the code says it. Contracts of private functions alone cite
 -- these.
-use Rattle.std.specs.Prelude.{◌≡◌, ◌≤◌, ℕ, ◌+◌, ◌-◌, Bool, if◌then◌else◌, List, [], ◌∷◌, ◌++◌, length, codes, Result, is_err}
+use Rattle.std.specs.Prelude.{◌≡◌, ◌≤◌, ℕ, ◌+◌, ◌-◌, ◌==◌, Bool, true, false, not, ◌&&◌, is_some, if◌then◌else◌, List, [], ◌∷◌, ◌++◌, length, codes, Result, is_err}
+use Rattle.sl_cop.specs.declared.verdict.Verdict.{Verdict}
+use Rattle.sl_cop.specs.declared.verdict.Verdict.TheVariants.{Accept, Early, Late, Outside, Refused, Command}
 use Rattle.sl_packet.specs.Packets.{only_idle, without_idle}
 use Rattle.sl_tcframe.specs.declared.tc_frame.TcSkip.{TcSkip}
 use Rattle.sl_tcframe.specs.TcFrame.{TcView}
@@ -32,6 +34,19 @@ view_amiss plain offset view step =
     ++ dropped_amiss offset view.vc mid step.dropped
     ++ told_amiss offset (codes " long") view.vc mid step.long
     ++ tail_amiss offset view.vc mid step.tail
+
+-- FARM-1 discards no frame with this verdict
+abbrev pub passes : Verdict → Bool
+passes Accept = true
+passes Early = false
+passes Late = false
+passes Outside = false
+passes Refused = false
+passes Command = true
+
+-- by what a receiver made of it, a frame has no line
+abbrev pub is_quiet : StepReport → Bool
+is_quiet step = passes step.verdict && (not step.stray && (not (is_some step.dropped) && (not step.long && (step.tail == 0))))
 
 -- what a frame brought that comes after these
 pub record TellsFrameTc (r : ReceptionParameters) (offset : ℕ) (views : List TcView) (read : Result TcView TcSkip) (report : FrameReport) : Type 0 where

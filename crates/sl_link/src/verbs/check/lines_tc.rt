@@ -5,7 +5,7 @@ ghost use Rattle.sl_tcframe.specs.TcContent.{content};
 ghost use Rattle.sl_tcframe.specs.TcFrame.{IsContent};
 ghost use Rattle.sl_tcflow.specs.Receiving.{map_of};
 ghost use Rattle.sl_link.specs.Verbs.Check.Tc.{discarded_amiss, dropped_amiss, map_text, tail_amiss, verdict_amiss};
-ghost use Rattle.sl_link.specs.Verbs.Check.CheckingTc.{told_amiss, view_amiss};
+ghost use Rattle.sl_link.specs.Verbs.Check.CheckingTc.{is_quiet, told_amiss, view_amiss};
 ghost use Rattle.sl_link.specs.Io.Line.{line_at};
 ghost use Rattle.sl_link.specs.Verbs.Show.Tc.{tc_skip_word, verdict_word};
 ghost use Rattle.sl_link.specs.Io.Room.{HasRoom, HasRoomFor};
@@ -28,6 +28,7 @@ pub fn skip_line(lines: &mut Lines, offset: u64, reason: TcSkip)
 
 /// Adds the lines of what is amiss with a frame that is read, on a virtual channel without segment headers or with them, and
 /// answers how many they are.
+#[inline(always)]
 pub fn amiss_lines(
     lines: &mut Lines,
     offset: u64,
@@ -35,6 +36,32 @@ pub fn amiss_lines(
     view: &TcFrame,
     step: &TcStep,
 ) -> u64
+    requires { HasRoom lines.old }
+    ensures text { lines.new ≡ lines.old ++ concat (view_amiss plain offset view.now step.now) }
+    ensures number { result ≡ length (view_amiss plain offset view.now step.now) }
+    ensures few { result ≤ 5 }
+{
+    if is_quiet(step) {
+        return 0;
+    }
+    step_lines(lines, offset, plain, view, step)
+}
+
+// Whether nothing is amiss, as with most frames.
+#[inline(always)]
+fn is_quiet(step: &TcStep) -> bool
+    ensures { result ≡ is_quiet step.now }
+{
+    let passes = match step.verdict() {
+        Verdict::Accept | Verdict::Command => true,
+        Verdict::Early | Verdict::Late | Verdict::Outside | Verdict::Refused => false,
+    };
+    passes && !step.stray() && step.dropped().is_none() && !step.long() && step.tail() == 0
+}
+
+// The lines of what is amiss, in their order.
+#[inline(always)]
+fn step_lines(lines: &mut Lines, offset: u64, plain: bool, view: &TcFrame, step: &TcStep) -> u64
     requires { HasRoom lines.old }
     ensures text { lines.new ≡ lines.old ++ concat (view_amiss plain offset view.now step.now) }
     ensures number { result ≡ length (view_amiss plain offset view.now step.now) }

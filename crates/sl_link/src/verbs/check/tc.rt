@@ -11,7 +11,7 @@ ghost use Rattle.sl_link.specs.Deliver.Tc.{as_read, is_incomplete_around};
 ghost use Rattle.sl_link.specs.Deliver.Lists.{with_frame};
 ghost use Rattle.sl_link.specs.Link.Managed.{tc_format};
 ghost use Rattle.sl_link.specs.Verbs.Packets.Tc.{WantsMemoryTc};
-ghost use Rattle.sl_link.specs.Io.Streams.{AddsText, Stops, StopsListing, StopsWriting, Translates};
+ghost use Rattle.sl_link.specs.Io.Streams.{AddsText, Stops, StopsListing, StopsWriting, Translates, TranslatesAndCounts};
 ghost use Rattle.sl_link.specs.Verbs.Listing.{WantedMemory};
 ghost use Rattle.sl_link.specs.Pass.{chunk_size};
 ghost use Rattle.sl_link.specs.Io.Room.{HasRoom};
@@ -47,7 +47,10 @@ pub fn check_tc<R: Read, W: Write>(
     writer: &mut Counted<W>,
 ) -> Result<Totals, LinkFault>
     // All is read, and its listing is written and nothing else.
-    ensures listing { IfOk result (Translates R.remaining W.contents reader.old reader.new
+    ensures listing { OnOk result (Translates R.remaining W.contents reader.old reader.new
+        writer.old writer.new (check_tc_text managed.now) managed.now.max_octets) }
+    // The totals are those of what was read.
+    ensures totals { IfOk result (TranslatesAndCounts R.remaining W.contents reader.old reader.new
         writer.old writer.new (check_tc_text managed.now) (check_tc_counts managed.now)
         managed.now.max_octets) }
     // After a fault, whose cause is there, a prefix of the listing of what was read is written.

@@ -8,7 +8,7 @@ ghost use Rattle.sl_link.specs.Verbs.Check.Tm.{check_tm_counts, check_tm_text, t
 ghost use Rattle.sl_link.specs.Deliver.Tm.{as_read, is_incomplete_around};
 ghost use Rattle.sl_link.specs.Deliver.Lists.{with_frame};
 ghost use Rattle.sl_link.specs.Verbs.Packets.Tm.{WantsMemoryTm};
-ghost use Rattle.sl_link.specs.Io.Streams.{AddsText, Stops, StopsListing, Translates};
+ghost use Rattle.sl_link.specs.Io.Streams.{AddsText, Stops, StopsListing, Translates, TranslatesAndCounts};
 ghost use Rattle.sl_link.specs.Verbs.Listing.{WantedMemory};
 ghost use Rattle.sl_link.specs.Pass.{chunk_size};
 ghost use Rattle.sl_link.specs.Io.Room.{HasRoom, HasRoomFor};
@@ -44,7 +44,10 @@ pub fn check_tm<R: Read, W: Write>(
     writer: &mut Counted<W>,
 ) -> Result<Totals, LinkFault>
     // All is read, and its listing is written and nothing else.
-    ensures listing { IfOk result (Translates R.remaining W.contents reader.old reader.new
+    ensures listing { OnOk result (Translates R.remaining W.contents reader.old reader.new
+        writer.old writer.new (check_tm_text managed.now) managed.now.max_octets) }
+    // The totals are those of what was read.
+    ensures totals { IfOk result (TranslatesAndCounts R.remaining W.contents reader.old reader.new
         writer.old writer.new (check_tm_text managed.now) (check_tm_counts managed.now)
         managed.now.max_octets) }
     // After a fault, whose cause is there, a prefix of the listing of what was read is written.

@@ -9,7 +9,7 @@ ghost use Rattle.sl_link.specs.Deliver.Lists.{with_frame};
 ghost use Rattle.sl_link.specs.Link.Managed.{tc_format};
 ghost use Rattle.sl_link.specs.Normalise.Tc.{tc_counts};
 ghost use Rattle.sl_link.specs.Verbs.Packets.Tc.{WantsMemoryTc, packets_tc_text, tc_packet_lines};
-ghost use Rattle.sl_link.specs.Io.Streams.{AddsText, Stops, StopsListing, Translates};
+ghost use Rattle.sl_link.specs.Io.Streams.{AddsText, Stops, StopsListing, Translates, TranslatesAndCounts};
 ghost use Rattle.sl_link.specs.Verbs.Listing.{WantedMemory};
 ghost use Rattle.sl_link.specs.Pass.{chunk_size};
 
@@ -41,7 +41,10 @@ pub fn packets_tc<R: Read, W: Write>(
     writer: &mut Counted<W>,
 ) -> Result<Totals, LinkFault>
     // All is read, and its listing is written and nothing else.
-    ensures listing { IfOk result (Translates R.remaining W.contents reader.old reader.new
+    ensures listing { OnOk result (Translates R.remaining W.contents reader.old reader.new
+        writer.old writer.new (packets_tc_text managed.now) managed.now.max_octets) }
+    // The totals are those of what was read.
+    ensures totals { IfOk result (TranslatesAndCounts R.remaining W.contents reader.old reader.new
         writer.old writer.new (packets_tc_text managed.now) (tc_counts managed.now)
         managed.now.max_octets) }
     // After a fault, whose cause is there, a prefix of the listing of what was read is written.

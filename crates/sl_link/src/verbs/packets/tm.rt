@@ -7,7 +7,7 @@ ghost use Rattle.sl_link.specs.Deliver.Tm.{as_read, ended_in, is_incomplete_arou
 ghost use Rattle.sl_link.specs.Deliver.Lists.{with_frame};
 ghost use Rattle.sl_link.specs.Normalise.Tm.{tm_counts};
 ghost use Rattle.sl_link.specs.Verbs.Packets.Tm.{WantsMemoryTm, packets_tm_text, tm_packet_lines};
-ghost use Rattle.sl_link.specs.Io.Streams.{AddsText, Stops, StopsListing, Translates};
+ghost use Rattle.sl_link.specs.Io.Streams.{AddsText, Stops, StopsListing, Translates, TranslatesAndCounts};
 ghost use Rattle.sl_link.specs.Verbs.Listing.{WantedMemory};
 ghost use Rattle.sl_link.specs.Pass.{chunk_size};
 
@@ -39,7 +39,10 @@ pub fn packets_tm<R: Read, W: Write>(
     writer: &mut Counted<W>,
 ) -> Result<Totals, LinkFault>
     // All is read, and its listing is written and nothing else.
-    ensures listing { IfOk result (Translates R.remaining W.contents reader.old reader.new
+    ensures listing { OnOk result (Translates R.remaining W.contents reader.old reader.new
+        writer.old writer.new (packets_tm_text managed.now) managed.now.max_octets) }
+    // The totals are those of what was read.
+    ensures totals { IfOk result (TranslatesAndCounts R.remaining W.contents reader.old reader.new
         writer.old writer.new (packets_tm_text managed.now) (tm_counts managed.now)
         managed.now.max_octets) }
     // After a fault, whose cause is there, a prefix of the listing of what was read is written.

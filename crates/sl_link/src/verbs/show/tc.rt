@@ -4,7 +4,7 @@ ghost use Rattle.sl_tcframe.specs.TcFrame.{is_cut, tc_frame};
 ghost use Rattle.sl_link.specs.Io.Line.{line_at};
 ghost use Rattle.sl_link.specs.Link.Managed.{tc_format};
 ghost use Rattle.sl_link.specs.Verbs.Show.Tc.{show_tc_counts, show_tc_text, tc_frame_text};
-ghost use Rattle.sl_link.specs.Io.Streams.{AddsText, Stops, StopsWriting, Translates};
+ghost use Rattle.sl_link.specs.Io.Streams.{AddsText, Stops, StopsWriting, Translates, TranslatesAndCounts};
 ghost use Rattle.sl_link.specs.Verbs.Show.Farms.{farm_at, farms_after};
 ghost use Rattle.sl_link.specs.Pass.{chunk_size};
 
@@ -34,7 +34,10 @@ pub fn show_tc<R: Read, W: Write>(
     writer: &mut Counted<W>,
 ) -> Result<Totals, LinkFault>
     // All is read, and its listing is written and nothing else.
-    ensures listing { IfOk result (Translates R.remaining W.contents reader.old reader.new
+    ensures listing { OnOk result (Translates R.remaining W.contents reader.old reader.new
+        writer.old writer.new (show_tc_text managed.now) managed.now.max_octets) }
+    // The totals are those of what was read.
+    ensures totals { IfOk result (TranslatesAndCounts R.remaining W.contents reader.old reader.new
         writer.old writer.new (show_tc_text managed.now) (show_tc_counts managed.now)
         managed.now.max_octets) }
     // After a fault, whose cause is there, a prefix of the listing of what was read is written.

@@ -4,7 +4,7 @@ ghost use Rattle.sl_tmframe.specs.TmFrame.{tm_frame};
 ghost use Rattle.sl_link.specs.Io.Line.{line_at};
 ghost use Rattle.sl_link.specs.Link.Managed.{tm_format};
 ghost use Rattle.sl_link.specs.Verbs.Show.Tm.{tm_frame_text, show_tm_counts, show_tm_text};
-ghost use Rattle.sl_link.specs.Io.Streams.{AddsText, Stops, StopsWriting, Translates};
+ghost use Rattle.sl_link.specs.Io.Streams.{AddsText, Stops, StopsWriting, Translates, TranslatesAndCounts};
 ghost use Rattle.sl_link.specs.Pass.{chunk_size};
 
 use crate::io::lines::Lines;
@@ -31,7 +31,10 @@ pub fn show_tm<R: Read, W: Write>(
     writer: &mut Counted<W>,
 ) -> Result<Totals, LinkFault>
     // All is read, and its listing is written and nothing else.
-    ensures listing { IfOk result (Translates R.remaining W.contents reader.old reader.new
+    ensures listing { OnOk result (Translates R.remaining W.contents reader.old reader.new
+        writer.old writer.new (show_tm_text managed.now) managed.now.max_octets) }
+    // The totals are those of what was read.
+    ensures totals { IfOk result (TranslatesAndCounts R.remaining W.contents reader.old reader.new
         writer.old writer.new (show_tm_text managed.now) (show_tm_counts managed.now)
         managed.now.max_octets) }
     // After a fault, whose cause is there, a prefix of the listing of what was read is written.

@@ -8,7 +8,7 @@ use Rattle.sl_tcflow.proofs.PlainRecordingLemmas.{recorded_lists_fit}
 use Rattle.sl_link.specs.Link.Managed.{reception_of, tc_format}
 use Rattle.sl_link.specs.Normalise.Tc.{tc_counts, tc_form_of, tc_normal_form, tc_packets}
 use Rattle.sl_link.proofs.lemmas.Normalise.Form.{nothing_of_form, wanted_for_form}
-use Rattle.sl_link.proofs.lemmas.Normalise.Whole.{keeps_packets, stops_at_form, stops_at_reading, translates_whole}
+use Rattle.sl_link.proofs.lemmas.Normalise.Whole.{counts_whole, keeps_packets, stops_at_form, stops_at_reading, translates_whole}
 use Rattle.sl_link.proofs.lemmas.Normalise.Storing.{wanted_at_end}
 use Rattle.sl_link.proofs.normalise.tc.normalise_tc.Goals as goal
 
@@ -48,7 +48,13 @@ pub returns-clause-normal_form : goal.returns-clause-normal_form
 returns-clause-normal_form g c =
     let p = c.args.managed.now in
     let d = c.in_ok-delivered.ensures.all in
-    translates_whole g.R.Read.remaining g.W.Write.contents c.args.reader.now c.deliver.new.reader (tc_normal_form p) _ 65536 c.args.writer.now c.write_packets.new.writer (tc_counts p) _ d.octets _ d.all (ap (tc_form_of p) d.delivered) d.counted c.in_ok-write_packets.ensures.written
+    translates_whole g.R.Read.remaining g.W.Write.contents c.args.reader.now c.deliver.new.reader (tc_normal_form p) _ 65536 c.args.writer.now c.write_packets.new.writer d.octets _ d.all (ap (tc_form_of p) d.delivered) c.in_ok-write_packets.ensures.written
+
+pub returns-clause-totals : goal.returns-clause-totals
+returns-clause-totals g c =
+    let p = c.args.managed.now in
+    let d = c.in_ok-delivered.ensures.all in
+    counts_whole g.R.Read.remaining g.W.Write.contents c.args.reader.now c.deliver.new.reader (tc_normal_form p) _ 65536 c.args.writer.now c.write_packets.new.writer (tc_counts p) _ d.octets _ d.all (ap (tc_form_of p) d.delivered) d.counted c.in_ok-write_packets.ensures.written
 
 pub returns-clause-packets : goal.returns-clause-packets
 returns-clause-packets g c =

@@ -5,7 +5,7 @@ use Rattle.sl_tcflow.specs.Receiving.{map_of}
 use Rattle.sl_link.specs.Verbs.Check.Tc.{dropped_amiss, tail_amiss, verdict_amiss}
 use Rattle.sl_link.specs.Verbs.Check.CheckingTc.{told_amiss}
 use Rattle.sl_link.proofs.lemmas.Verbs.Check.Lines.{joined_five}
-use Rattle.sl_link.proofs.verbs.check.lines_tc.amiss_lines.Goals as goal
+use Rattle.sl_link.proofs.verbs.check.lines_tc.step_lines.Goals as goal
 
 pub returns-clause-text : goal.returns-clause-text
 returns-clause-text c =

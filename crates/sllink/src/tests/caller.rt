@@ -1,0 +1,119 @@
+//! Callers whose own contract is what the normal forms promise, and nothing else of the engines.
+ghost use Rattle.std.specs.Prelude.{◌≡◌, ◌↔◌, IsTrue, IfOk};
+ghost use Rattle.sl_link.specs.Normalise.Tm.{tm_normal_form, tm_packets};
+ghost use Rattle.sl_link.specs.Normalise.Tc.{tc_normal_form, tc_packets};
+
+use sl_link::{Counted, LinkFault, Managed, normalise_tc, normalise_tm};
+use std::alloc::Global;
+use std::test::Fail;
+
+// Whether two TM recordings deliver the same packets on each virtual channel, idle ones left out.
+fn have_same_tm_packets(
+    alloc: Global,
+    managed: &Managed,
+    one: &[u8],
+    other: &[u8],
+) -> Result<bool, LinkFault>
+    ensures { IfOk result (λ same. IsTrue same
+        ↔ (tm_packets managed.now one.now ≡ tm_packets managed.now other.now)) }
+{
+    let form = tm_form(alloc, managed, one)?;
+    let other_form = tm_form(alloc, managed, other)?;
+    Ok(form.as_slice() == other_form.as_slice())
+}
+
+// Whether a TM recording normalised twice is that normalised once: it is.
+fn is_tm_form_its_own(alloc: Global, managed: &Managed, recording: &[u8]) -> Result<bool, LinkFault>
+    ensures { IfOk result (λ same. IsTrue same) }
+{
+    let form = tm_form(alloc, managed, recording)?;
+    let twice = tm_form(alloc, managed, form.as_slice())?;
+    Ok(form.as_slice() == twice.as_slice())
+}
+
+// The normal form of a TM recording.
+fn tm_form(alloc: Global, managed: &Managed, recording: &[u8]) -> Result<Vec<u8>, LinkFault>
+    ensures form { IfOk result (λ form. form.items ≡ tm_normal_form managed.now recording.now) }
+    ensures packets { IfOk result (λ form. tm_packets managed.now form.items
+        ≡ tm_packets managed.now recording.now) }
+{
+    let mut reader = Counted::new(recording);
+    let mut writer = Counted::new(Vec::new(alloc));
+    normalise_tm(alloc, managed, &mut reader, &mut writer)?;
+    Ok(writer.into_inner())
+}
+
+// Whether FARM-1 lets the same packets of two TC recordings through on each virtual channel and MAP, idle ones left
+// out.
+fn have_same_tc_packets(
+    alloc: Global,
+    managed: &Managed,
+    one: &[u8],
+    other: &[u8],
+) -> Result<bool, LinkFault>
+    ensures { IfOk result (λ same. IsTrue same
+        ↔ (tc_packets managed.now one.now ≡ tc_packets managed.now other.now)) }
+{
+    let form = tc_form(alloc, managed, one)?;
+    let other_form = tc_form(alloc, managed, other)?;
+    Ok(form.as_slice() == other_form.as_slice())
+}
+
+// Whether a TC recording normalised twice is that normalised once: it is.
+fn is_tc_form_its_own(alloc: Global, managed: &Managed, recording: &[u8]) -> Result<bool, LinkFault>
+    ensures { IfOk result (λ same. IsTrue same) }
+{
+    let form = tc_form(alloc, managed, recording)?;
+    let twice = tc_form(alloc, managed, form.as_slice())?;
+    Ok(form.as_slice() == twice.as_slice())
+}
+
+// The normal form of a TC recording.
+fn tc_form(alloc: Global, managed: &Managed, recording: &[u8]) -> Result<Vec<u8>, LinkFault>
+    ensures form { IfOk result (λ form. form.items ≡ tc_normal_form managed.now recording.now) }
+    ensures packets { IfOk result (λ form. tc_packets managed.now form.items
+        ≡ tc_packets managed.now recording.now) }
+{
+    let mut reader = Counted::new(recording);
+    let mut writer = Counted::new(Vec::new(alloc));
+    normalise_tc(alloc, managed, &mut reader, &mut writer)?;
+    Ok(writer.into_inner())
+}
+
+// A frame with a packet and an idle one, the same with other counts and other idle fill, and with another packet.
+const TM: [u8; 32] = [
+    0x00, 0x10, 0x00, 0x00, 0x18, 0x00, 0x00, 0x01, 0xC0, 0x00, 0x00, 0x03, 0xAA, 0xBB, 0xCC, 0xDD,
+    0x07, 0xFF, 0xC0, 0x00, 0x00, 0x09, 0x00, 0x00, 0x00, 0x00, 0x00, 0x00, 0x00, 0x00, 0x00, 0x00,
+];
+const TM_FILLED: [u8; 32] = [
+    0x00, 0x10, 0x4D, 0xC8, 0x18, 0x00, 0x00, 0x01, 0xC0, 0x00, 0x00, 0x03, 0xAA, 0xBB, 0xCC, 0xDD,
+    0x07, 0xFF, 0x00, 0x07, 0x00, 0x09, 0x55, 0x55, 0x55, 0x55, 0x55, 0x55, 0x55, 0x55, 0x55, 0x55,
+];
+const TM_OTHER: [u8; 32] = [
+    0x00, 0x10, 0x00, 0x00, 0x18, 0x00, 0x00, 0x01, 0xC0, 0x00, 0x00, 0x03, 0xAA, 0xBB, 0xCC, 0xDE,
+    0x07, 0xFF, 0xC0, 0x00, 0x00, 0x09, 0x00, 0x00, 0x00, 0x00, 0x00, 0x00, 0x00, 0x00, 0x00, 0x00,
+];
+
+// A frame of type AD with a packet, one of type BD with the same, and one with another packet.
+const TC: [u8; 16] = [
+    0x00, 0x01, 0x00, 0x0F, 0x00, 0xC0, 0x10, 0x01, 0xC0, 0x00, 0x00, 0x03, 0xAA, 0xBB, 0xCC, 0xDD,
+];
+const TC_BYPASSING: [u8; 16] = [
+    0x20, 0x01, 0x00, 0x0F, 0x00, 0xC0, 0x10, 0x01, 0xC0, 0x00, 0x00, 0x03, 0xAA, 0xBB, 0xCC, 0xDD,
+];
+const TC_OTHER: [u8; 16] = [
+    0x00, 0x01, 0x00, 0x0F, 0x00, 0xC1, 0x10, 0x01, 0xC0, 0x00, 0x00, 0x03, 0xAA, 0xBB, 0xCC, 0xDD,
+];
+
+#[test]
+fn callers_tell_packets_by_normal_forms(rt: HostRuntime) -> Result<(), Fail> {
+    let alloc = rt.alloc();
+    let managed = Managed::new(1, 32, false, 16, false, 10, 0, 100)?;
+    assert_eq!(rt; have_same_tm_packets(alloc, &managed, &TM, &TM_FILLED), Ok(true));
+    assert_eq!(rt; have_same_tm_packets(alloc, &managed, &TM, &TM_OTHER), Ok(false));
+    assert_eq!(rt; is_tm_form_its_own(alloc, &managed, &TM_FILLED), Ok(true));
+    assert_eq!(rt; have_same_tc_packets(alloc, &managed, &TC, &TC_BYPASSING), Ok(true));
+    assert_eq!(rt; have_same_tc_packets(alloc, &managed, &TC, &TC_OTHER), Ok(false));
+    assert_eq!(rt; is_tc_form_its_own(alloc, &managed, &TC_BYPASSING), Ok(true));
+    Ok(())
+}

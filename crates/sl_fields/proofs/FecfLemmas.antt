@@ -1,5 +1,5 @@
 -- Octets that end with their error control field.
-use Rattle.std.proofs.Common.{◌≡◌, ℕ, ◌+◌, ◌-◌, ◌≤◌, ◌<◌, Bool, true, false, List, [], ◌∷◌, ◌++◌, length, take, drop, refl, ◌∙◌, ap, arith, length-append}
+use Rattle.std.proofs.Common.{◌≡◌, ℕ, ◌+◌, ◌-◌, ◌≤◌, ◌<◌, Bool, true, false, not, ◌&&◌, List, [], ◌∷◌, ◌++◌, length, take, drop, refl, ◌∙◌, ap, arith, length-append}
 use Rattle.std.proofs.Math.Seq.{take-append_seam, drop-append_seam}
 use Rattle.std.proofs.lemmas.Bool.{eq-eqb, lt-ltb}
 use Rattle.sl_fields.specs.Fecf.{fecf_of, fecf_is_good}
@@ -41,3 +41,8 @@ with_fecf_good octets some =
     let enough = lt-ltb 2 (length (octets ++ fecf_octets octets)) (omega (arith, length-with_fecf true octets)) in
     let same = eq-eqb (number_of (fecf_octets octets)) (fecf_of octets) (number_of-fecf octets) in
     rw (enough, covered_by_fecf octets, ends_with_fecf octets) same
+
+-- and where there is one, it isn't wrong
+pub with_fecf_is_good : (has : Bool) (octets : List ℕ) → 0 < length octets → (has && not (fecf_is_good (with_fecf has octets))) ≡ false
+with_fecf_is_good false octets some = refl
+with_fecf_is_good true octets some = ap not (with_fecf_good octets some)

@@ -3,7 +3,7 @@ use Rattle.std.proofs.Common.{◌≡◌, ℕ, ◌+◌, ◌-◌, ◌≤◌, true,
 use Rattle.std.proofs.lemmas.List.Elements.{filter-append}
 use Rattle.std.proofs.lemmas.List.{length-take-le, take-append-drop, take_rest}
 use Rattle.sl_packet.specs.Packet.{IsPacket, is_idle_packet}
-use Rattle.sl_packet.specs.Front.{Front, Foreign, Incomplete, Whole, front, packet_at, first_packet_of}
+use Rattle.sl_packet.specs.Front.{Front, OtherVersion, Incomplete, WholePacket, front, packet_at, first_packet_of}
 use Rattle.sl_packet.specs.Packets.{packets_of, rest_of, without_idle, only_idle}
 use Rattle.sl_packet.specs.Sink.{TakesAll, StopsTaking}
 use Rattle.sl_packet.specs.declared.sink.SinkFault.{SinkFault}
@@ -19,10 +19,10 @@ pub record IsFirst (octets packet : List ℕ) : Type 0 where
   pub inside : length packet ≤ length octets
   pub split : octets ≡ packet ++ drop (length packet) octets
 
-first_at : (f : Front) (octets packet : List ℕ) → f ≡ front octets → packet_at f octets ≡ Some packet → (len : ℕ) × (front octets ≡ Whole len) × (packet ≡ take len octets)
-first_at Foreign octets packet e h = absurd (cc)
+first_at : (f : Front) (octets packet : List ℕ) → f ≡ front octets → packet_at f octets ≡ Some packet → (len : ℕ) × (front octets ≡ WholePacket len) × (packet ≡ take len octets)
+first_at OtherVersion octets packet e h = absurd (cc)
 first_at Incomplete octets packet e h = absurd (cc)
-first_at (Whole len) octets packet e h = (len, sym e, (cc))
+first_at (WholePacket len) octets packet e h = (len, sym e, (cc))
 
 pub is_first : (octets packet : List ℕ) → first_packet_of octets ≡ Some packet → IsFirst octets packet
 is_first octets packet h =
@@ -38,10 +38,10 @@ is_first octets packet h =
       split = sym (take-append-drop len octets) ∙ ap (λ xs. xs ++ drop len octets) (sym same) ∙ ap (λ n. packet ++ drop n octets) (sym long);
     }
 
-none_at_front : (f : Front) (octets : List ℕ) → packet_at f octets ≡ None → (len : ℕ) → f ≡ Whole len → ⊥
-none_at_front Foreign octets h len e = cc
+none_at_front : (f : Front) (octets : List ℕ) → packet_at f octets ≡ None → (len : ℕ) → f ≡ WholePacket len → ⊥
+none_at_front OtherVersion octets h len e = cc
 none_at_front Incomplete octets h len e = cc
-none_at_front (Whole n) octets h len e = cc
+none_at_front (WholePacket n) octets h len e = cc
 
 pub none_first : (octets : List ℕ) → first_packet_of octets ≡ None → packets_of octets ≡ []
 none_first octets h = packets_of-none octets (none_at_front (front octets) octets h)

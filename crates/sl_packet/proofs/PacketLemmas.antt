@@ -7,7 +7,7 @@ use Rattle.std.proofs.lemmas.Nat.{pow-add, shr-shr, shr_high}
 use Rattle.sl_fields.proofs.Octets.{number_of_lt}
 use Rattle.sl_fields.specs.Field.{IsOctets, field, number_of}
 use Rattle.sl_fields.specs.PacketHeader.{packet_header}
-use Rattle.sl_packet.specs.Packet.{version_of, apid_of, stated_len, IsPacket, PacketsArePrefixFree, OnePacketIsPrefix, HeaderFieldsStandFirst}
+use Rattle.sl_packet.specs.Packet.{version_of, apid_of, stated_packet_len, IsPacket, PacketsArePrefixFree, OnePacketIsPrefix, HeaderFieldsStandFirst}
 
 -- a packet has a header and an octet at least
 pub packet_least : (packet : List ℕ) → IsPacket packet → 7 ≤ length packet
@@ -20,21 +20,21 @@ version_of-append octets more h = ap (λ xs. field 1 0 3 xs) (take-append-le 1 o
 pub apid_of-append : (octets more : List ℕ) → 2 ≤ length octets → apid_of (octets ++ more) ≡ apid_of octets
 apid_of-append octets more h = ap (λ xs. field 2 5 11 xs) (take-append-le 2 octets more h)
 
-pub stated_len-append : (octets more : List ℕ) → 6 ≤ length octets → stated_len (octets ++ more) ≡ stated_len octets
-stated_len-append octets more h = ap (λ xs. 7 + (packet_header xs).length) (take-append-le 6 octets more h)
+pub stated_packet_len-append : (octets more : List ℕ) → 6 ≤ length octets → stated_packet_len (octets ++ more) ≡ stated_packet_len octets
+stated_packet_len-append octets more h = ap (λ xs. 7 + (packet_header xs).length) (take-append-le 6 octets more h)
 
 -- nor does it matter where octets end after them
 pub version_of-take : (len : ℕ) (octets : List ℕ) → 1 ≤ len → version_of (take len octets) ≡ version_of octets
 version_of-take len octets h = ap (λ xs. field 1 0 3 xs) (take-take 1 len octets h)
 
-pub stated_len-take : (len : ℕ) (octets : List ℕ) → 6 ≤ len → stated_len (take len octets) ≡ stated_len octets
-stated_len-take len octets h = ap (λ xs. 7 + (packet_header xs).length) (take-take 6 len octets h)
+pub stated_packet_len-take : (len : ℕ) (octets : List ℕ) → 6 ≤ len → stated_packet_len (take len octets) ≡ stated_packet_len octets
+stated_packet_len-take len octets h = ap (λ xs. 7 + (packet_header xs).length) (take-take 6 len octets h)
 
 -- the octets that begin with a packet state its length
-pub stated_len-packet : (packet more : List ℕ) → IsPacket packet → stated_len (packet ++ more) ≡ length packet
-stated_len-packet packet more p =
+pub stated_packet_len-packet : (packet more : List ℕ) → IsPacket packet → stated_packet_len (packet ++ more) ≡ length packet
+stated_packet_len-packet packet more p =
     let least = packet_least packet p in
-    stated_len-append packet more (omega arith) ∙ sym p.len
+    stated_packet_len-append packet more (omega arith) ∙ sym p.len
 
 pub version_of-packet : (packet more : List ℕ) → IsPacket packet → version_of (packet ++ more) ≡ 0
 version_of-packet packet more p =
@@ -45,12 +45,12 @@ version_of-packet packet more p =
 
 pub one_packet : OnePacketIsPrefix
 one_packet p q p' q' is_p is_q same =
-    let long : length p ≡ length q = sym (stated_len-packet p p' is_p) ∙ ap stated_len same ∙ stated_len-packet q q' is_q in
+    let long : length p ≡ length q = sym (stated_packet_len-packet p p' is_p) ∙ ap stated_packet_len same ∙ stated_packet_len-packet q q' is_q in
     sym (take_at p p' (length q) long) ∙ ap (λ xs. take (length q) xs) same ∙ take_at q q' (length q) refl
 
 pub prefix_free : PacketsArePrefixFree
 prefix_free packet more is_packet is_longer =
-    let long : length packet ≡ length (packet ++ more) = sym (stated_len-packet packet more is_packet) ∙ sym is_longer.len in
+    let long : length packet ≡ length (packet ++ more) = sym (stated_packet_len-packet packet more is_packet) ∙ sym is_longer.len in
     nil_from_length more (omega (arith, length-append packet more))
 
 -- the high bits of a number of octets are those of the number of its first ones

@@ -3,8 +3,8 @@ use Rattle.std.proofs.Common.{◌≡◌, ◌⊎◌, ℕ, zero, suc, ◌+◌, ◌
 use Rattle.std.specs.List.{AllByRecursion, concat}
 use Rattle.std.proofs.lemmas.List.{drop-drop, drop_all, drop_at, take_at, take-append-drop, length-take-le}
 use Rattle.sl_packet.specs.Packet.{IsPacket}
-use Rattle.sl_packet.specs.Front.{Front, Foreign, Incomplete, Whole, front}
-use Rattle.sl_packet.specs.Packets.{whole_at, passed_at, packets_from, packets_of, rest_of, ArePacketsOf, EachHasPackets, HasPacketsOnce, OthersArePrefixes}
+use Rattle.sl_packet.specs.Front.{Front, OtherVersion, Incomplete, WholePacket, front}
+use Rattle.sl_packet.specs.Packets.{whole_at, packet_passed, packets_from, packets_of, rest_of, ArePacketsOf, EachHasPackets, HasPacketsOnce, OthersArePrefixes}
 use Rattle.sl_packet.proofs.FrontLemmas.{whole_front, whole_is_a_packet, packet_is_whole}
 
 packets_from-drop : (skip : ℕ) (octets : List ℕ) → packets_from skip octets ≡ packets_of (drop skip octets)
@@ -16,15 +16,15 @@ sub_suc : (n : ℕ) → suc n - 1 ≡ n
 sub_suc n = omega arith
 
 -- where the front is whole, its packet comes first
-pub packets_of-whole : (octets : List ℕ) (len : ℕ) → front octets ≡ Whole len → packets_of octets ≡ take len octets ∷ packets_of (drop len octets)
+pub packets_of-whole : (octets : List ℕ) (len : ℕ) → front octets ≡ WholePacket len → packets_of octets ≡ take len octets ∷ packets_of (drop len octets)
 packets_of-whole [] len h = absurd (cc)
 packets_of-whole (octet ∷ octets) zero h = absurd (let w = whole_front (octet ∷ octets) zero h in omega arith)
 packets_of-whole (octet ∷ octets) (suc len) h =
-    ap (λ f. whole_at f (octet ∷ octets) ++ packets_from (passed_at f (octet ∷ octets)) octets) h
+    ap (λ f. whole_at f (octet ∷ octets) ++ packets_from (packet_passed f (octet ∷ octets)) octets) h
     ∙ ap (λ k. take (suc len) (octet ∷ octets) ∷ packets_from k octets) (sub_suc len)
     ∙ ap (λ packets. take (suc len) (octet ∷ octets) ∷ packets) (packets_from-drop len octets)
 
-pub rest_of-whole : (octets : List ℕ) (len : ℕ) → front octets ≡ Whole len → rest_of octets ≡ rest_of (drop len octets)
+pub rest_of-whole : (octets : List ℕ) (len : ℕ) → front octets ≡ WholePacket len → rest_of octets ≡ rest_of (drop len octets)
 rest_of-whole octets len h =
     let later = packets_of (drop len octets) in
     let inside = (whole_front octets len h).inside in
@@ -33,24 +33,24 @@ rest_of-whole octets len h =
     ∙ ap (λ n. drop n octets) long ∙ sym (drop-drop (length (concat later)) len octets)
 
 -- where it isn't whole, there are none
-none_at : (f : Front) (octets after : List ℕ) → ((len : ℕ) → f ≡ Whole len → ⊥) → whole_at f octets ++ packets_from (passed_at f octets) after ≡ packets_from (length octets) after
-none_at Foreign octets after h = refl
+none_at : (f : Front) (octets after : List ℕ) → ((len : ℕ) → f ≡ WholePacket len → ⊥) → whole_at f octets ++ packets_from (packet_passed f octets) after ≡ packets_from (length octets) after
+none_at OtherVersion octets after h = refl
 none_at Incomplete octets after h = refl
-none_at (Whole len) octets after h = absurd (h len refl)
+none_at (WholePacket len) octets after h = absurd (h len refl)
 
-pub packets_of-none : (octets : List ℕ) → ((len : ℕ) → front octets ≡ Whole len → ⊥) → packets_of octets ≡ []
+pub packets_of-none : (octets : List ℕ) → ((len : ℕ) → front octets ≡ WholePacket len → ⊥) → packets_of octets ≡ []
 packets_of-none [] h = refl
 packets_of-none (octet ∷ octets) h =
     none_at (front (octet ∷ octets)) (octet ∷ octets) octets h ∙ packets_from-drop (length (octet ∷ octets)) octets
     ∙ ap packets_of (drop_all (length (octet ∷ octets)) octets (omega arith))
 
-pub rest_of-none : (octets : List ℕ) → ((len : ℕ) → front octets ≡ Whole len → ⊥) → rest_of octets ≡ octets
+pub rest_of-none : (octets : List ℕ) → ((len : ℕ) → front octets ≡ WholePacket len → ⊥) → rest_of octets ≡ octets
 rest_of-none octets h = ap (λ packets. drop (length (concat packets)) octets) (packets_of-none octets h)
 
-pub cases_front : (f : Front) → ((len : ℕ) × (f ≡ Whole len)) ⊎ ((len : ℕ) → f ≡ Whole len → ⊥)
-cases_front Foreign = inr (λ len h. cc)
+pub cases_front : (f : Front) → ((len : ℕ) × (f ≡ WholePacket len)) ⊎ ((len : ℕ) → f ≡ WholePacket len → ⊥)
+cases_front OtherVersion = inr (λ len h. cc)
 cases_front Incomplete = inr (λ len h. cc)
-cases_front (Whole len) = inl (len, refl)
+cases_front (WholePacket len) = inl (len, refl)
 
 -- a packet and what follows it
 pub packets_of-packet : (packet more : List ℕ) → IsPacket packet → packets_of (packet ++ more) ≡ packet ∷ packets_of more
@@ -82,7 +82,7 @@ rest_of-concat (packet ∷ packets) more each =
 are_same : (octets : List ℕ) (ps qs : List (List ℕ)) (r s : List ℕ) → qs ≡ ps → s ≡ r → ArePacketsOf octets ps r → ArePacketsOf octets qs s
 are_same octets ps qs r s e h a = rw (e, h) a
 
-one_before : (octets : List ℕ) (len : ℕ) (packets : List (List ℕ)) (rest : List ℕ) → front octets ≡ Whole len → ArePacketsOf (drop len octets) packets rest → ArePacketsOf octets (take len octets ∷ packets) rest
+one_before : (octets : List ℕ) (len : ℕ) (packets : List (List ℕ)) (rest : List ℕ) → front octets ≡ WholePacket len → ArePacketsOf (drop len octets) packets rest → ArePacketsOf octets (take len octets ∷ packets) rest
 one_before octets len packets rest h a = record {
   end_to_end =
       sym (take-append-drop len octets) ∙ ap (λ xs. take len octets ++ xs) a.end_to_end
@@ -91,14 +91,14 @@ one_before octets len packets rest h a = record {
   no_more = a.no_more;
 }
 
-no_packet_before : (octets : List ℕ) → ((len : ℕ) → front octets ≡ Whole len → ⊥) → ArePacketsOf octets [] octets
+no_packet_before : (octets : List ℕ) → ((len : ℕ) → front octets ≡ WholePacket len → ⊥) → ArePacketsOf octets [] octets
 no_packet_before octets h = record {
   end_to_end = refl;
   each = tt;
   no_more = λ packet more p e. h (length packet) (ap front e ∙ packet_is_whole packet more p);
 }
 
-has_packets_if : (octets : List ℕ) → ((len : ℕ) → front octets ≡ Whole len → ArePacketsOf (drop len octets) (packets_of (drop len octets)) (rest_of (drop len octets))) → ArePacketsOf octets (packets_of octets) (rest_of octets)
+has_packets_if : (octets : List ℕ) → ((len : ℕ) → front octets ≡ WholePacket len → ArePacketsOf (drop len octets) (packets_of (drop len octets)) (rest_of (drop len octets))) → ArePacketsOf octets (packets_of octets) (rest_of octets)
 has_packets_if octets later =
     elim (cases_front (front octets)) [
       | inl (len, whole) ↦
@@ -120,7 +120,7 @@ each_has_packets octets = has_packets (length octets) octets (omega arith)
 
 pub has_packets_once : HasPacketsOnce
 has_packets_once octets packets rest a =
-    let none = λ (len : ℕ) (h : front rest ≡ Whole len). a.no_more (take len rest) (drop len rest) (whole_is_a_packet rest len h).0 (sym (take-append-drop len rest)) in (
+    let none = λ (len : ℕ) (h : front rest ≡ WholePacket len). a.no_more (take len rest) (drop len rest) (whole_is_a_packet rest len h).0 (sym (take-append-drop len rest)) in (
       ap packets_of a.end_to_end ∙ packets_of-concat packets rest a.each ∙ ap (λ later. packets ++ later) (packets_of-none rest none) ∙ append-nil packets,
       ap rest_of a.end_to_end ∙ rest_of-concat packets rest a.each ∙ rest_of-none rest none,
     )

@@ -1,8 +1,8 @@
 -- The lists of packets that are kept, with an empty one for each channel after them.
 use Rattle.std.proofs.Common.{◌≡◌, ℕ, ◌+◌, ◌-◌, ◌<◌, ◌≤◌, List, [], ◌∷◌, ◌++◌, length, take, replicate, get_or, set, inl, inr, sym, ◌∙◌, ap, arith, append_assoc, length-append}
 use Rattle.std.proofs.lemmas.Bool.{cases_lt}
-use Rattle.std.proofs.lemmas.List.{length-replicate, take-replicate, replicate-append-replicate, set-append_left, get_or-take, get_or_past, length-take, length-take-le, get_or-set_same, get_or-set_other}
-use Rattle.sl_packet.specs.Delivered.{PacketLists, AddsPacket, channel_count, no_lists, with_packet}
+use Rattle.std.proofs.lemmas.List.{length-replicate, take-replicate, replicate-append-replicate, set-append_left, get_or-take, get_or_past, length-take, length-take-le}
+use Rattle.sl_packet.specs.Delivered.{channel_count, no_lists, with_packet}
 use Rattle.sl_packet.proofs.Filling.{take_filled, get_or_filled, take_set}
 use Rattle.sl_packet.specs.KeptLists.{with_empty_lists, IsGrown}
 
@@ -67,13 +67,3 @@ padded_with_packet old grown channel packet h inside fit =
     with_empty_lists-set grown channel (list ++ packet ∷ []) inside
     ∙ ap (λ xs. set xs channel (list ++ packet ∷ [])) (padded_grown old grown h)
     ∙ ap (λ xs. set (with_empty_lists old) channel (xs ++ packet ∷ [])) (sym (get_or-with_empty_lists grown channel fit) ∙ ap (λ xs. get_or xs channel []) (padded_grown old grown h))
-
--- a packet is added to one of so many lists
-pub adds_packet : (old new : PacketLists) (channel : ℕ) (packet : List ℕ) → channel < length old.lists → new.lists ≡ with_packet old.lists channel packet → AddsPacket old channel packet new
-adds_packet old new channel packet inside are =
-    let list = get_or old.lists channel [] ++ packet ∷ [] in
-    record {
-      lists = are;
-      added = ap (λ xs. get_or xs channel []) are ∙ get_or-set_same old.lists channel list [] inside;
-      others = λ other apart. ap (λ xs. get_or xs other []) are ∙ get_or-set_other old.lists channel other list [] apart;
-    }

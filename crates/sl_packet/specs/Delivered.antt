@@ -20,11 +20,9 @@ list_at d channel = slice_index_or d.lists channel []
 abbrev pub with_packet : List (List (List ℕ)) → ℕ → List ℕ → List (List (List ℕ))
 with_packet lists channel packet = slice_set lists channel (slice_index_or lists channel [] ++ packet ∷ [])
 
--- a packet was added to the list of its channel, and the others were left
-pub record AddsPacket (old : PacketLists) (channel : ℕ) (packet : List ℕ) (new : PacketLists) : Type 0 where
-  pub lists : new.lists ≡ with_packet old.lists channel packet
-  pub added : list_at new channel ≡ list_at old channel ++ packet ∷ []
-  pub others : (other : ℕ) → other ≢ channel → list_at new other ≡ list_at old other
+-- a packet was added to the list of its channel, and the other lists were left
+abbrev pub AddsPacket : PacketLists → ℕ → List ℕ → PacketLists → Type 0
+AddsPacket old channel packet new = new.lists ≡ with_packet old.lists channel packet
 
 -- the lists of a store that has none yet
 unfoldable pub no_lists : List (List (List ℕ))

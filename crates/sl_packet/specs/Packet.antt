@@ -11,14 +11,15 @@ version_of octets = field 1 0 3 (take 1 octets)
 abbrev pub apid_of : List ℕ → ℕ
 apid_of octets = field 2 5 11 (take 2 octets)
 
--- the octets of a packet with this header: six of the header, and one more than the packet data length says
-abbrev pub stated_len : List ℕ → ℕ
-stated_len octets = 7 + (packet_header (take 6 octets)).length
+-- How many octets a packet with this header has: six of the header, and one more than the packet data length says. Of
+-- fewer than six octets it is what their number states; a packet has more.
+abbrev pub stated_packet_len : List ℕ → ℕ
+stated_packet_len octets = 7 + (packet_header (take 6 octets)).length
 
 -- A space packet has version 0 and as many octets as its header states.
 pub record IsPacket (packet : List ℕ) : Type 0 where
   pub version : version_of packet ≡ 0
-  pub len : length packet ≡ stated_len packet
+  pub len : length packet ≡ stated_packet_len packet
 
 -- Octets, two or more, are of an idle packet where the APID is 2047. No other field decides this.
 abbrev pub is_idle_packet : List ℕ → Bool

@@ -4,7 +4,7 @@ use denote.Ref.{Bor}
 use Rattle.std.specs.Iterator.{YieldsFirstBy}
 use Rattle.std.specs.List.{AllByRecursion, concat, filter}
 use Rattle.sl_packet.specs.Packet.{IsPacket, is_idle_packet}
-use Rattle.sl_packet.specs.Front.{Front, Foreign, Incomplete, Whole, front, first_packet_of}
+use Rattle.sl_packet.specs.Front.{Front, OtherVersion, Incomplete, WholePacket, front, first_packet_of}
 
 -- ---- what they are
 
@@ -22,22 +22,22 @@ pub record ArePacketsOf (octets : List ℕ) (packets : List (List ℕ)) (rest : 
 
 -- the packet of a front, as a list of one or of none
 abbrev pub whole_at : Front → List ℕ → List (List ℕ)
-whole_at Foreign octets = []
+whole_at OtherVersion octets = []
 whole_at Incomplete octets = []
-whole_at (Whole len) octets = take len octets ∷ []
+whole_at (WholePacket len) octets = take len octets ∷ []
 
 -- how many of the later octets are passed over: those of the packet, or all
-abbrev pub passed_at : Front → List ℕ → ℕ
-passed_at Foreign octets = length octets
-passed_at Incomplete octets = length octets
-passed_at (Whole len) octets = len - 1
+abbrev pub packet_passed : Front → List ℕ → ℕ
+packet_passed OtherVersion octets = length octets
+packet_passed Incomplete octets = length octets
+packet_passed (WholePacket len) octets = len - 1
 
 -- the packets from the front on, after so many octets that belong to the packet before
 abbrev pub packets_from : ℕ → List ℕ → List (List ℕ)
 packets_from skip [] = []
 packets_from (suc skip) (octet ∷ octets) = packets_from skip octets
 packets_from zero (octet ∷ octets) =
-    whole_at (front (octet ∷ octets)) (octet ∷ octets) ++ packets_from (passed_at (front (octet ∷ octets)) (octet ∷ octets)) octets
+    whole_at (front (octet ∷ octets)) (octet ∷ octets) ++ packets_from (packet_passed (front (octet ∷ octets)) (octet ∷ octets)) octets
 
 -- the packets of octets
 abbrev pub packets_of : List ℕ → List (List ℕ)
@@ -81,7 +81,8 @@ OthersArePrefixes =
 abbrev pub GivesFirst : List ℕ → Option (Bor (List ℕ)) → List ℕ → Type 0
 GivesFirst = YieldsFirstBy (λ packet. packet.now) packets_of
 
--- the packet that the octets begin with is given, and what follows it is left; or none is given, and all are left
+-- The packet that the octets begin with is given, and what follows it is left; or none is given, and all are left. A
+-- `Bor` is octets that are lent, and `now` what they are. `IfSome` speaks of what is given, `IfNone` of nothing given.
 pub record GivesPacket (old : List ℕ) (given : Option (Bor (List ℕ))) (new : List ℕ) : Type 0 where
   pub packets : GivesFirst old given new
   pub first : option_map (λ packet. packet.now) given ≡ first_packet_of old

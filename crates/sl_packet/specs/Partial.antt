@@ -1,6 +1,6 @@
 -- What octets want to be a space packet, CCSDS 133.0-B.
 use Rattle.std.specs.Prelude.{◌≡◌, ◌↔◌, ℕ, ◌+◌, ◌-◌, nat_lt, if◌then◌else◌, List, ◌++◌, length}
-use Rattle.sl_packet.specs.Packet.{IsPacket, stated_len}
+use Rattle.sl_packet.specs.Packet.{IsPacket, stated_packet_len}
 use Rattle.sl_packet.specs.Front.{front, is_foreign}
 use Rattle.sl_packet.specs.Front as fronts
 use Rattle.sl_packet.specs.declared.partial.Need.{Need}
@@ -12,18 +12,18 @@ abbrev pub need_of : List ℕ → Need
 need_of octets =
     if is_foreign octets then Foreign
     else if nat_lt (length octets) 6 then Header (6 - length octets)
-    else if nat_lt (length octets) (stated_len octets) then Octets (stated_len octets - length octets)
-    else Whole (stated_len octets)
+    else if nat_lt (length octets) (stated_packet_len octets) then Octets (stated_packet_len octets - length octets)
+    else Whole (stated_packet_len octets)
 
 -- ---- laws
 
 -- octets are foreign where their front is,
 abbrev pub ForeignIsForeign : Type 0
-ForeignIsForeign = (octets : List ℕ) → need_of octets ≡ Foreign ↔ (front octets ≡ fronts.Foreign)
+ForeignIsForeign = (octets : List ℕ) → need_of octets ≡ Foreign ↔ (front octets ≡ fronts.OtherVersion)
 
 -- and whole where it is,
 abbrev pub WholeIsWhole : Type 0
-WholeIsWhole = (octets : List ℕ) (n : ℕ) → need_of octets ≡ Whole n ↔ (front octets ≡ fronts.Whole n)
+WholeIsWhole = (octets : List ℕ) (n : ℕ) → need_of octets ≡ Whole n ↔ (front octets ≡ fronts.WholePacket n)
 
 -- with so many octets more they are six,
 abbrev pub HeaderHasSixOctets : Type 0

@@ -11,7 +11,7 @@ use Rattle.sl_tcflow.specs.Placed.{at}
 use Rattle.sl_tcflow.specs.Receiving.{AreIncomplete, channel_at, map_by, segment_by}
 use Rattle.sl_tcflow.specs.Reception.{segments_of}
 use Rattle.sl_tcflow.specs.ReceptionParameters.{ReceptionParameters}
-use Rattle.sl_tcflow.specs.Series.{flags_of, header_at, octets_at}
+use Rattle.sl_tcflow.specs.Series.{flags_of, header_at, segment_data}
 use Rattle.sl_tcflow.proofs.IncompleteLemmas.{both_true, incomplete_is_told, what_is_told_is_incomplete}
 use Rattle.sl_tcflow.proofs.UnitLemmas.{map_fits}
 
@@ -111,9 +111,9 @@ what_is_told_is_dropped list next count e =
 
 pub long_is_told : LongIsTold
 long_is_told list next x =
-    ap (λ b. b && passes (octets_held list) (length (octets_at next))) (continues_is next x.goes_on)
-    ∙ ap (λ held. passes (option_map length held) (length (octets_at next))) (incomplete_is_told list x.octets x.incomplete)
-    ∙ lt-ltb 65542 (length x.octets + length (octets_at next)) x.too_many
+    ap (λ b. b && passes (octets_held list) (length (segment_data next))) (continues_is next x.goes_on)
+    ∙ ap (λ held. passes (option_map length held) (length (segment_data next))) (incomplete_is_told list x.octets x.incomplete)
+    ∙ lt-ltb 65542 (length x.octets + length (segment_data next)) x.too_many
 
 some_passes : (list : List (List ℕ)) (held : Option (List ℕ)) (more : ℕ) → incomplete_of list ≡ held → passes (option_map length held) more ≡ true
     → (octets : List ℕ) × IsIncomplete list octets × (65542 < length octets + more)
@@ -122,8 +122,8 @@ some_passes list (Some octets) more e over = (octets, what_is_told_is_incomplete
 
 pub what_is_told_is_long : WhatIsToldIsLong
 what_is_told_is_long list next e =
-    let (test, over) = both_true (continues next) (passes (octets_held list) (length (octets_at next))) e in
-    let (octets, x, too_many) = some_passes list (incomplete_of list) (length (octets_at next)) refl over in
+    let (test, over) = both_true (continues next) (passes (octets_held list) (length (segment_data next))) e in
+    let (octets, x, too_many) = some_passes list (incomplete_of list) (length (segment_data next)) refl over in
     record {
       goes_on = one_of (flags_of next) 0 2 test;
       octets = octets;

@@ -6,14 +6,14 @@ use Rattle.sl_cop.specs.Starts.{AreStarts}
 use Rattle.sl_packet.specs.Delivered.{IsDeliverable, channel_count}
 use Rattle.sl_packet.specs.Packet.{IsPacket, is_idle_packet}
 use Rattle.sl_packet.specs.Packets.{without_idle}
-use Rattle.sl_tcframe.specs.AdFrame.{room_of}
+use Rattle.sl_tcframe.specs.AdFrame.{segment_room_of}
 use Rattle.sl_tcframe.specs.TcFrame.{TcFormat}
 use Rattle.sl_tcframe.proofs.DelimitedLemmas.{delimited_once}
 use Rattle.sl_tcflow.specs.AcceptedUnit.{accepted_units, views_of}
 use Rattle.sl_tcflow.specs.Canonical.{IsFormat, AreDeliverable, NormalFormIsFrames, NoFrameIsLong, NormalFormDelivers}
 use Rattle.sl_tcflow.specs.FitsTc.{FitsTc}
 use Rattle.sl_tcflow.specs.Reception.{packets_on, segments_of}
-use Rattle.sl_tcflow.specs.ReceptionParameters.{ReceptionParameters, is_plain, start_of}
+use Rattle.sl_tcflow.specs.ReceptionParameters.{ReceptionParameters, is_plain, initial_vr}
 use Rattle.sl_tcflow.specs.Recording.{map_channels, packets_in_channel, recorded_views}
 use Rattle.sl_tcflow.specs.Series.{segment_in, segments_on}
 use Rattle.sl_tcflow.specs.TcNormalForm.{tc_frames_form, tc_normal_form_of, units_of_maps}
@@ -63,14 +63,14 @@ module _ (format : TcFormat) (spacecraft : ℕ) (r : ReceptionParameters) (lists
   packets_at : (vc mid : ℕ) → vc < 64 → mid < 64
       → packets_on (segments_of r vc mid (recorded_views format spacecraft form)) ≡ slice_index_or lists (64 * vc + mid) []
   packets_at vc mid vc_fits mid_fits =
-      let room = room_of format in
+      let room = segment_room_of format in
       let units = units_of_maps (is_plain r vc) room 0 (lists_on lists vc) in
       let all : length lists ≡ 4096 = are.all in
       let left : 64 ≤ length (drop (64 * vc) lists) = omega (arith, length-drop (64 * vc) lists, all) in
-      let small : start_of r vc < 256 = octets.each vc 0 (omega (arith, octets.count, vc_fits)) in
+      let small : initial_vr r vc < 256 = octets.each vc 0 (omega (arith, octets.count, vc_fits)) in
       ap (λ views. packets_on (segments_of r vc mid views)) views_are
-      ∙ ap (λ channel. packets_on (segments_on mid (map (segment_in (is_plain r vc)) (accepted_units r.window (start_of r vc) channel)))) (channel_back format spacecraft is known r.starts r.plain lists are fits vc vc_fits)
-      ∙ ap (λ accepted. packets_on (segments_on mid (map (segment_in (is_plain r vc)) accepted))) (all_accepted r.window vc (start_of r vc) (start_of r vc) units small (omega (arith, small)))
+      ∙ ap (λ channel. packets_on (segments_on mid (map (segment_in (is_plain r vc)) (accepted_units r.window (initial_vr r vc) channel)))) (channel_back format spacecraft is known r.starts r.plain lists are fits vc vc_fits)
+      ∙ ap (λ accepted. packets_on (segments_on mid (map (segment_in (is_plain r vc)) accepted))) (all_accepted r.window vc (initial_vr r vc) (initial_vr r vc) units small (omega (arith, small)))
       ∙ back_on format lists vc room (some_room format spacecraft is known) left (is_plain r vc) mid mid_fits (fits vc vc_fits) (some_lists 64 (64 * vc) lists are.each)
       ∙ list_on lists vc mid mid_fits
 

@@ -13,8 +13,8 @@ use Rattle.sl_tcflow.specs.NextSegment.{extended, incomplete_after, packets_afte
 use Rattle.sl_tcflow.specs.Receiving.{channel_at, ended_by, map_by, map_of, segment_by, unit_channel, verdict_on}
 use Rattle.sl_tcflow.specs.Recording.{packets_in_channel}
 use Rattle.sl_tcflow.specs.Reception.{packets_ended, packets_on, segments_of}
-use Rattle.sl_tcflow.specs.ReceptionParameters.{ReceptionParameters, is_plain, start_of}
-use Rattle.sl_tcflow.specs.Series.{flags_of, header_at, octets_at, segment_in, segments_on}
+use Rattle.sl_tcflow.specs.ReceptionParameters.{ReceptionParameters, is_plain, initial_vr}
+use Rattle.sl_tcflow.specs.Series.{flags_of, header_at, segment_data, segment_in, segments_on}
 use Rattle.sl_tcflow.proofs.FarmLemmas.{other_channel}
 use Rattle.sl_tcflow.proofs.EndedLemmas.{ended_next}
 use Rattle.sl_tcflow.proofs.OneMoreLemmas.{incomplete_next, packets_next}
@@ -42,7 +42,7 @@ ending (Some octets) = omega (arith, packets_within octets, split_count (packets
 
 module _ (held : Option (List ℕ)) (next : List ℕ) where
   abbrev octets : List ℕ
-  octets = octets_at next
+  octets = segment_data next
 
   -- what is incomplete after the next segment, and what ends with it, has no octets but those before and its own
   incomplete_most : (first continuing : Bool)
@@ -101,14 +101,14 @@ unit_len Unlock = 0
 unit_len (SetVr vr) = 0
 
 -- the segment that it is has no more after its header
-octets_within : (plain : Bool) (unit : List ℕ) → length (octets_at (segment_in plain unit)) ≤ length unit
+octets_within : (plain : Bool) (unit : List ℕ) → length (segment_data (segment_in plain unit)) ≤ length unit
 octets_within true unit = omega (arith, ap length (octets_of_unit (record { flags = 3; map = 0 }, unit)))
 octets_within false unit = omega (arith, length-drop 1 unit)
 
 abbrev IsAccepted : Bool → Verdict → Content → Type 0
 IsAccepted plain verdict content =
     (segment : List ℕ) × (map (segment_in plain) (unit_by verdict content) ≡ segment ∷ []) × (map_of plain content ≡ (header_at segment).map)
-    × (length (octets_at segment) ≤ unit_len content)
+    × (length (segment_data segment) ≤ unit_len content)
 
 none_or_accepted : (plain : Bool) (verdict : Verdict) (content : Content) → (map (segment_in plain) (unit_by verdict content) ≡ []) ⊎ IsAccepted plain verdict content
 none_or_accepted plain Accept (Ad ns unit) = inr (segment_in plain unit, refl, refl, octets_within plain unit)
@@ -161,7 +161,7 @@ module _ (r : ReceptionParameters) (views : List TcView) (next : TcView) where
             (segments_next r mid views next
             ∙ ap (λ l. segments_of r next.vc mid views ++ l) (on_none mid (λ e. other (ap₂ channel_at (sym same) e)))
             ∙ append-nil (segments_of r next.vc mid views))
-        | inr (test, apart) ↦ ap (λ l. segments_on mid (map (segment_in (is_plain r vc)) (accepted_units r.window (start_of r vc) l))) (other_channel vc views next apart)
+        | inr (test, apart) ↦ ap (λ l. segments_on mid (map (segment_in (is_plain r vc)) (accepted_units r.window (initial_vr r vc) l))) (other_channel vc views next apart)
       ]
 
   -- and its unit, if it is accepted, to those of its own

@@ -4,14 +4,14 @@ use Rattle.std.specs.List.{concat, range_with_len}
 use Rattle.std.proofs.lemmas.List.{length-drop, length-take, take_all}
 use Rattle.std.proofs.Math.Nat.{suc-mul, le-div_iff_mul-le}
 use Rattle.sl_fields.specs.SegmentHeader.{SegmentFields}
-use Rattle.sl_tcflow.specs.TcNormalForm.{segment_count, segment_octets_at, AreSegments, last, full, EachIsDivided}
+use Rattle.sl_tcflow.specs.TcNormalForm.{segment_count, piece_at, AreSegments, last, full, EachIsDivided}
 use Rattle.sl_tcflow.proofs.EachLemmas.{each-map_range}
 use Rattle.sl_tcflow.proofs.PartLemmas.{parts_joined, covers, some_parts, parts_are_series}
 use Rattle.sl_tcflow.proofs.SegmentLemmas.{part_at}
 
-only_octets : (room mid : ℕ) (packet : List ℕ) (numbers : List ℕ) → map (λ (s : SegmentFields × List ℕ). s.1) (map (part_at room mid packet) numbers) ≡ map (segment_octets_at room packet) numbers
+only_octets : (room mid : ℕ) (packet : List ℕ) (numbers : List ℕ) → map (λ (s : SegmentFields × List ℕ). s.1) (map (part_at room mid packet) numbers) ≡ map (piece_at room packet) numbers
 only_octets room mid packet [] = refl
-only_octets room mid packet (number ∷ numbers) = ap (λ l. segment_octets_at room packet number ∷ l) (only_octets room mid packet numbers)
+only_octets room mid packet (number ∷ numbers) = ap (λ l. piece_at room packet number ∷ l) (only_octets room mid packet numbers)
 
 -- each segment begins within the packet
 begins_within : (room : ℕ) (packet : List ℕ) (number : ℕ) → 0 < room → 0 < length packet → number < segment_count room packet → number * room < length packet
@@ -22,18 +22,18 @@ begins_within room packet number some long inside =
 
 -- those from a number on
 filled_from : (room : ℕ) (packet : List ℕ) (from n : ℕ) → 0 < room → 0 < length packet → 0 < n → from + n ≡ segment_count room packet
-    → AreSegments room (map (segment_octets_at room packet) (range_with_len from n))
+    → AreSegments room (map (piece_at room packet) (range_with_len from n))
 filled_from room packet from zero some long more is = absurd (omega arith)
 filled_from room packet from (suc zero) some long more is =
     let inside : from * room < length packet = begins_within room packet from some long (omega (arith, is)) in
     let left = length-drop (from * room) packet in
     let size = length-take room (drop (from * room) packet) in
-    last (segment_octets_at room packet from) (omega (arith, inside, left, size, some)) (omega (arith, size))
+    last (piece_at room packet from) (omega (arith, inside, left, size, some)) (omega (arith, size))
 filled_from room packet from (suc (suc n)) some long more is =
     let one = suc-mul from room in
     let inside : suc from * room < length packet = begins_within room packet (suc from) some long (omega (arith, is)) in
     let left = length-drop (from * room) packet in
-    full (segment_octets_at room packet from) (map (segment_octets_at room packet) (range_with_len (from + 1) (suc n)))
+    full (piece_at room packet from) (map (piece_at room packet) (range_with_len (from + 1) (suc n)))
     (length-take-le room (drop (from * room) packet) (omega (arith, one, inside, left)))
     (filled_from room packet (from + 1) (suc n) some long (omega arith) (omega (arith, is)))
 

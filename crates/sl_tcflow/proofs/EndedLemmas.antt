@@ -8,21 +8,21 @@ use Rattle.sl_tcflow.specs.Anomaly.{tail_of}
 use Rattle.sl_tcflow.specs.Incomplete.{if_fits, are_continuing, incomplete_of}
 use Rattle.sl_tcflow.specs.NextSegment.{extended, service_unit_ended, packets_of_service_unit, packets_after, rest_of_service_unit, tail_after}
 use Rattle.sl_tcflow.specs.Reception.{packets_ended}
-use Rattle.sl_tcflow.specs.Series.{flags_of, octets_at, SeriesAt, past, series_of, reassembled}
+use Rattle.sl_tcflow.specs.Series.{flags_of, segment_data, SeriesAt, past, series_of, reassembled}
 use Rattle.sl_tcflow.proofs.FitLemmas.{reassembled-push, extended_fits}
 use Rattle.sl_tcflow.proofs.OneMoreLemmas.{series_ending, ending_is}
 use Rattle.sl_tcflow.proofs.SeriesLemmas.{series_at}
 
 -- ---- by the sequence flags of the next segment
 
-ended_last : (held : Option (List ℕ)) (next : List ℕ) → flags_of next ≡ 2 → service_unit_ended held next ≡ extended held (octets_at next)
+ended_last : (held : Option (List ℕ)) (next : List ℕ) → flags_of next ≡ 2 → service_unit_ended held next ≡ extended held (segment_data next)
 ended_last held next is =
-    ap (λ flags. if flags == 3 then if_fits (octets_at next) else if flags == 2 then extended held (octets_at next) else None) is
+    ap (λ flags. if flags == 3 then if_fits (segment_data next) else if flags == 2 then extended held (segment_data next) else None) is
 
 -- what was incomplete matters to a last segment alone
 ended_other : (held other : Option (List ℕ)) (next : List ℕ) → flags_of next ≢ 2 → service_unit_ended held next ≡ service_unit_ended other next
 ended_other held other next not_2 =
-    let by = λ (before : Option (List ℕ)). ap (λ b. if flags_of next == 3 then if_fits (octets_at next) else if b then extended before (octets_at next) else None) (ne_eqb (flags_of next) 2 not_2) in
+    let by = λ (before : Option (List ℕ)). ap (λ b. if flags_of next == 3 then if_fits (segment_data next) else if b then extended before (segment_data next) else None) (ne_eqb (flags_of next) 2 not_2) in
     by held ∙ sym (by other)
 
 -- ---- whatever a service data unit has
@@ -47,11 +47,11 @@ module _ {X : Type 0} (of : List ℕ → List X) where
   in_first : (before : ℕ) (next : List ℕ) → flat_map (λ (s : SeriesAt). in_segments s.segments) (series_ending before [] next) ≡ in_unit (service_unit_ended None next)
   in_first before next =
       by (flags_of next == 3) (flags_of next == 2)
-      ∙ ap (λ l. in_unit (if flags_of next == 3 then if_fits l else if flags_of next == 2 then None else None)) (append-nil (octets_at next))
+      ∙ ap (λ l. in_unit (if flags_of next == 3 then if_fits l else if flags_of next == 2 then None else None)) (append-nil (segment_data next))
     where
       by : (three two : Bool)
           → flat_map (λ (s : SeriesAt). in_segments s.segments) (if three then series_at before (next ∷ []) ∷ [] else [])
-          ≡ in_unit (if three then if_fits (octets_at next ++ []) else if two then None else None)
+          ≡ in_unit (if three then if_fits (segment_data next ++ []) else if two then None else None)
       by true two = append-nil (in_segments (next ∷ [])) ∙ in_reassembled (next ∷ [])
       by false true = refl
       by false false = refl
@@ -70,7 +70,7 @@ module _ {X : Type 0} (of : List ℕ → List X) where
             ap (λ b. flat_map has (if b then series_at before segments ∷ [] else ending)) test
             ∙ append-nil (in_segments segments) ∙ in_reassembled segments
             ∙ ap (λ l. in_unit (if_fits l)) (reassembled-push (segment ∷ later) next)
-            ∙ ap in_unit (sym (extended_fits (reassembled (segment ∷ later)) (octets_at next)) ∙ sym (ended_last together next is))
+            ∙ ap in_unit (sym (extended_fits (reassembled (segment ∷ later)) (segment_data next)) ∙ sym (ended_last together next is))
         | inr (test, not_2) ↦
             ap (λ b. flat_map has (if b then series_at before segments ∷ [] else ending)) test
             ∙ rest ∙ ap in_unit (ended_other held together next not_2)

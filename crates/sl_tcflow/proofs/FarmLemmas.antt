@@ -11,7 +11,7 @@ use Rattle.sl_tcframe.specs.TcFrame.{TcView}
 use Rattle.sl_tcframe.specs.VcSet.{has_vc}
 use Rattle.sl_tcflow.specs.AcceptedUnit.{channel_of, event_of, farm_after}
 use Rattle.sl_tcflow.specs.Receiving.{AreIncomplete, ForIncomplete, ForProcessed, HasProcessed, HaveStepped, ReceiverState, channel_at, farm_at_start, farm_of, verdict_on}
-use Rattle.sl_tcflow.specs.ReceptionParameters.{ReceptionParameters, is_plain, start_of}
+use Rattle.sl_tcflow.specs.ReceptionParameters.{ReceptionParameters, is_plain, initial_vr}
 
 -- ---- one of the channels
 
@@ -39,14 +39,14 @@ farm_after-push w vr channel next = state_more (λ (view : TcView). event_of vie
 
 -- FARM-1 of a virtual channel after the frames of that channel
 abbrev farm_with : ReceptionParameters → ℕ → List TcView → FarmView
-farm_with r vc channel = record { window = r.window; state = farm_after r.window (start_of r vc) channel }
+farm_with r vc channel = record { window = r.window; state = farm_after r.window (initial_vr r vc) channel }
 
 -- after one frame of its virtual channel more
 farm_next : (r : ReceptionParameters) (views : List TcView) (next : TcView)
     → (farm_of r next.vc (views ++ next ∷ [])).state ≡ (farm_step r.window (farm_of r next.vc views).state (event_of next.content)).1
 farm_next r views next =
-    ap (farm_after r.window (start_of r next.vc)) (same_channel next.vc views next refl)
-    ∙ farm_after-push r.window (start_of r next.vc) (channel_of next.vc views) next
+    ap (farm_after r.window (initial_vr r next.vc)) (same_channel next.vc views next refl)
+    ∙ farm_after-push r.window (initial_vr r next.vc) (channel_of next.vc views) next
 
 -- ---- all of them
 

@@ -6,12 +6,12 @@ use Rattle.std.proofs.lemmas.List.{map-append}
 use Rattle.std.proofs.lemmas.List.Folds.{concat-append}
 use Rattle.sl_tcflow.specs.Incomplete.{if_fits}
 use Rattle.sl_tcflow.specs.NextSegment.{extended}
-use Rattle.sl_tcflow.specs.Series.{octets_at, reassembled}
+use Rattle.sl_tcflow.specs.Series.{segment_data, reassembled}
 
-pub reassembled-push : (segments : List (List ℕ)) (next : List ℕ) → reassembled (segments ++ next ∷ []) ≡ reassembled segments ++ octets_at next
+pub reassembled-push : (segments : List (List ℕ)) (next : List ℕ) → reassembled (segments ++ next ∷ []) ≡ reassembled segments ++ segment_data next
 reassembled-push segments next =
-    ap concat (map-append octets_at segments (next ∷ [])) ∙ concat-append (map octets_at segments) (octets_at next ∷ [])
-    ∙ ap (λ l. reassembled segments ++ l) (append-nil (octets_at next))
+    ap concat (map-append segment_data segments (next ∷ [])) ∙ concat-append (map segment_data segments) (segment_data next ∷ [])
+    ∙ ap (λ l. reassembled segments ++ l) (append-nil (segment_data next))
 
 pub fits_some : (octets : List ℕ) → length octets ≤ 65542 → if_fits octets ≡ Some octets
 fits_some octets few = ap (λ b. if b then Some octets else None) (le-leb (length octets) 65542 few)

@@ -10,7 +10,7 @@ use Rattle.sl_fields.specs.TcHeader.{tc_fields, tc_octets}
 use Rattle.sl_fields.proofs.FecfLemmas.{length-with_fecf}
 use Rattle.sl_fields.proofs.Octets.{length-octets_of}
 use Rattle.sl_packet.specs.Delivered.{PacketLists, list_at}
-use Rattle.sl_tcframe.specs.AdFrame.{room_of, ad_frame, ad_header, ad_len}
+use Rattle.sl_tcframe.specs.AdFrame.{segment_room_of, ad_frame, ad_header, ad_len}
 use Rattle.sl_tcframe.specs.TcFrame.{TcFormat}
 use Rattle.sl_tcframe.specs.VcSet.{has_vc}
 use Rattle.sl_tcflow.specs.FormLeft.{IsPlace, channels_left, form_left, maps_left, ns_after, piece_of}
@@ -28,7 +28,7 @@ split_maps b room mid n (packets ∷ lists) = refl
 
 module _ (format : TcFormat) (spacecraft : ℕ) (starts plain : List ℕ) (lists : List (List (List ℕ))) where
   abbrev room : ℕ
-  room = room_of format
+  room = segment_room_of format
 
   abbrev list : ℕ → List (List ℕ)
   list channel = slice_index_or lists channel []
@@ -252,9 +252,9 @@ module _ (format : TcFormat) (spacecraft : ℕ) where
       let count = length-map-range_with_len (part_at room mid packet) 0 (segment_count room packet) in
       omega (arith, parts, count, length-map (segments_of_packet room mid packet) unit_made)
 
-  pub piece_some : (b : Bool) (channel ns : ℕ) (packet : List ℕ) → 0 < room_of format → 0 < length packet → 0 < length (piece_of format spacecraft b channel ns packet)
+  pub piece_some : (b : Bool) (channel ns : ℕ) (packet : List ℕ) → 0 < segment_room_of format → 0 < length packet → 0 < length (piece_of format spacecraft b channel ns packet)
   piece_some b channel ns packet wide long =
-      frames_some (channel / 64) ns (units_of_packet b (room_of format) (channel % 64) packet) (some_units b (room_of format) (channel % 64) packet wide long)
+      frames_some (channel / 64) ns (units_of_packet b (segment_room_of format) (channel % 64) packet) (some_units b (segment_room_of format) (channel % 64) packet wide long)
 
   -- where there are no segment headers it is one frame
   pub piece_whole : (b : Bool) (channel ns : ℕ) (packet : List ℕ) → b ≡ true → ns < 256

@@ -11,7 +11,7 @@ use Rattle.sl_cop.specs.declared.verdict.Verdict.TheVariants.{Accept}
 use Rattle.sl_cop.specs.Accepted.{accepted_by}
 use Rattle.sl_cop.specs.Farm.{area_of, distance, farm_start, farm_step, state_in, verdict_in, verdicts_of}
 use Rattle.sl_packet.specs.Delivered.{IsDeliverable}
-use Rattle.sl_tcframe.specs.AdFrame.{FitAdFrame, plain_room_of, room_of, ad_frame}
+use Rattle.sl_tcframe.specs.AdFrame.{FitAdFrame, plain_room_of, segment_room_of, ad_frame}
 use Rattle.sl_tcframe.specs.TcFrame.{TcFormat, TcView, Ad, is_cut, tc_frame}
 use Rattle.sl_tcframe.specs.VcSet.{has_vc}
 use Rattle.sl_tcframe.proofs.AdFrameLemmas.{ad_frame_back, ad_frame_cut, length-ad_frame, within}
@@ -64,10 +64,10 @@ abbrev pub IsUnit : TcFormat → List ℕ → Type 0
 IsUnit format unit = (0 < length unit) × (length unit ≤ plain_room_of format)
 
 module _ (format : TcFormat) (spacecraft : ℕ) (is : IsFormat format) (known : spacecraft ≤ 1023) where
-  pub some_room : 0 < room_of format
+  pub some_room : 0 < segment_room_of format
   some_room = let least = is.least in omega (arith, fecf_len_le format.fecf)
 
-  segment_is_unit : (segment : SegmentFields × List ℕ) → IsSegment (room_of format) (λ m. 0 ≤ m) segment → IsUnit format (unit_made segment)
+  segment_is_unit : (segment : SegmentFields × List ℕ) → IsSegment (segment_room_of format) (λ m. 0 ≤ m) segment → IsUnit format (unit_made segment)
   segment_is_unit segment s =
       let size = length-append (segment_octets segment.0) segment.1 in
       let one = length-octets_of 1 (segment_fields segment.0) in
@@ -77,15 +77,15 @@ module _ (format : TcFormat) (spacecraft : ℕ) (is : IsFormat format) (known : 
 
   -- the lists of a virtual channel have units that frames can have
   pub are_units : (lists : List (List (List ℕ))) (vc : ℕ) (b : Bool) → AllByRecursion (AllByRecursion IsDeliverable) lists → (b ≡ true → FitsOn format lists vc)
-      → AllByRecursion (IsUnit format) (units_of_maps b (room_of format) 0 (lists_on lists vc))
+      → AllByRecursion (IsUnit format) (units_of_maps b (segment_room_of format) 0 (lists_on lists vc))
   are_units lists vc false each fits =
-      subst (AllByRecursion (IsUnit format)) (sym (units_are_segments (room_of format) 0 (lists_on lists vc)))
-      (each-map (IsUnit format) unit_made (segments_of_maps (room_of format) 0 (lists_on lists vc))
-      (each-weaker (IsSegment (room_of format) (λ m. 0 ≤ m)) (λ segment. IsUnit format (unit_made segment)) segment_is_unit (segments_of_maps (room_of format) 0 (lists_on lists vc))
-      (maps_parts (room_of format) 0 (lists_on lists vc) (omega (arith, length-take 64 (drop (64 * vc) lists))))))
+      subst (AllByRecursion (IsUnit format)) (sym (units_are_segments (segment_room_of format) 0 (lists_on lists vc)))
+      (each-map (IsUnit format) unit_made (segments_of_maps (segment_room_of format) 0 (lists_on lists vc))
+      (each-weaker (IsSegment (segment_room_of format) (λ m. 0 ≤ m)) (λ segment. IsUnit format (unit_made segment)) segment_is_unit (segments_of_maps (segment_room_of format) 0 (lists_on lists vc))
+      (maps_parts (segment_room_of format) 0 (lists_on lists vc) (omega (arith, length-take 64 (drop (64 * vc) lists))))))
   are_units lists vc true each fits =
       let packets = slice_index_or lists (64 * vc) [] in
-      subst (AllByRecursion (IsUnit format)) (sym (units_are_packets (room_of format) 0 (lists_on lists vc) (others_empty format lists vc (fits refl)) ∙ first_on lists vc))
+      subst (AllByRecursion (IsUnit format)) (sym (units_are_packets (segment_room_of format) 0 (lists_on lists vc) (others_empty format lists vc (fits refl)) ∙ first_on lists vc))
       (each-both IsDeliverable (λ packet. length packet ≤ plain_room_of format) (IsUnit format) (λ packet due short. ((packet_size packet due.0).0, short)) packets
       (each-at (AllByRecursion IsDeliverable) lists (64 * vc) [] tt each) (fits refl).short)
 
@@ -127,7 +127,7 @@ module _ (format : TcFormat) (spacecraft : ℕ) (is : IsFormat format) (known : 
     start vc = slice_index_or starts vc 0
 
     abbrev units_on : ℕ → List (List ℕ)
-    units_on vc = units_of_maps (has_vc plain vc) (room_of format) 0 (lists_on lists vc)
+    units_on vc = units_of_maps (has_vc plain vc) (segment_room_of format) 0 (lists_on lists vc)
 
     abbrev frames_on : ℕ → List (List ℕ)
     frames_on vc = channel_frames format spacecraft (has_vc plain vc) (start vc) vc (lists_on lists vc)

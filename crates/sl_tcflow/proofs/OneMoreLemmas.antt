@@ -8,7 +8,7 @@ use Rattle.std.proofs.lemmas.List.Elements.{filter-append}
 use Rattle.sl_tcflow.specs.Incomplete.{if_fits, are_continuing, incomplete_of}
 use Rattle.sl_tcflow.specs.NextSegment.{extended, incomplete_after}
 use Rattle.sl_tcflow.specs.Reception.{packets_in, packets_on, packets_ended}
-use Rattle.sl_tcflow.specs.Series.{flags_of, octets_at, SeriesAt, IsSeriesOf, past, completed, series_with, series_from, series_of, reassembled}
+use Rattle.sl_tcflow.specs.Series.{flags_of, segment_data, SeriesAt, IsSeriesOf, past, completed, series_with, series_from, series_of, reassembled}
 use Rattle.sl_tcflow.proofs.EachLemmas.{each-weaker}
 use Rattle.sl_tcflow.proofs.FitLemmas.{reassembled-push, extended_fits}
 use Rattle.sl_tcflow.proofs.IncompleteLemmas.{both_true, continuing_each}
@@ -16,18 +16,18 @@ use Rattle.sl_tcflow.proofs.SeriesLemmas.{IsContinuing, series_at, completed_con
 
 -- ---- by the sequence flags of the next segment
 
-after_first : (held : Option (List ℕ)) (next : List ℕ) → flags_of next ≡ 1 → incomplete_after held next ≡ if_fits (octets_at next)
+after_first : (held : Option (List ℕ)) (next : List ℕ) → flags_of next ≡ 1 → incomplete_after held next ≡ if_fits (segment_data next)
 after_first held next is =
-    ap (λ flags. if flags == 1 then if_fits (octets_at next) else if flags == 0 then extended held (octets_at next) else None) is
+    ap (λ flags. if flags == 1 then if_fits (segment_data next) else if flags == 0 then extended held (segment_data next) else None) is
 
-after_continuing : (held : Option (List ℕ)) (next : List ℕ) → flags_of next ≡ 0 → incomplete_after held next ≡ extended held (octets_at next)
+after_continuing : (held : Option (List ℕ)) (next : List ℕ) → flags_of next ≡ 0 → incomplete_after held next ≡ extended held (segment_data next)
 after_continuing held next is =
-    ap (λ flags. if flags == 1 then if_fits (octets_at next) else if flags == 0 then extended held (octets_at next) else None) is
+    ap (λ flags. if flags == 1 then if_fits (segment_data next) else if flags == 0 then extended held (segment_data next) else None) is
 
 -- what was incomplete matters to a continuing segment alone,
 after_other : (held other : Option (List ℕ)) (next : List ℕ) → flags_of next ≢ 0 → incomplete_after held next ≡ incomplete_after other next
 after_other held other next not_0 =
-    let by = λ (before : Option (List ℕ)). ap (λ b. if flags_of next == 1 then if_fits (octets_at next) else if b then extended before (octets_at next) else None) (ne_eqb (flags_of next) 0 not_0) in
+    let by = λ (before : Option (List ℕ)). ap (λ b. if flags_of next == 1 then if_fits (segment_data next) else if b then extended before (segment_data next) else None) (ne_eqb (flags_of next) 0 not_0) in
     by held ∙ sym (by other)
 
 -- ---- what is incomplete
@@ -44,14 +44,14 @@ are_continuing-push (segment ∷ later) next =
 
 -- whether a first segment is followed by continuing ones alone, and then by a continuing one
 one_more_after : (goes_on : Bool) (together held : Option (List ℕ)) (next : List ℕ)
-    → (if goes_on && are_continuing (next ∷ []) then extended together (octets_at next) else incomplete_after held next)
+    → (if goes_on && are_continuing (next ∷ []) then extended together (segment_data next) else incomplete_after held next)
     ≡ incomplete_after (if goes_on then together else held) next
 one_more_after true together held next =
     elim (eqb_tells (flags_of next) 0) [
       | inl (test, is) ↦
-          ap (λ b. if b && true then extended together (octets_at next) else incomplete_after held next) test ∙ sym (after_continuing together next is)
+          ap (λ b. if b && true then extended together (segment_data next) else incomplete_after held next) test ∙ sym (after_continuing together next is)
       | inr (test, not_0) ↦
-          ap (λ b. if b && true then extended together (octets_at next) else incomplete_after held next) test ∙ after_other held together next not_0
+          ap (λ b. if b && true then extended together (segment_data next) else incomplete_after held next) test ∙ after_other held together next not_0
     ]
 one_more_after false together held next = refl
 
@@ -62,8 +62,8 @@ only_next false false octets = refl
 
 pub incomplete_next : (list : List (List ℕ)) (next : List ℕ) → incomplete_of (list ++ next ∷ []) ≡ incomplete_after (incomplete_of list) next
 incomplete_next [] next =
-    ap (λ l. if flags_of next == 1 && true then if_fits l else None) (append-nil (octets_at next))
-    ∙ only_next (flags_of next == 1) (flags_of next == 0) (if_fits (octets_at next))
+    ap (λ l. if flags_of next == 1 && true then if_fits l else None) (append-nil (segment_data next))
+    ∙ only_next (flags_of next == 1) (flags_of next == 0) (if_fits (segment_data next))
 incomplete_next (segment ∷ later) next =
     let first = flags_of segment == 1 in
     let goes_on = are_continuing later in
@@ -73,8 +73,8 @@ incomplete_next (segment ∷ later) next =
     ap (λ b. if first && b then all else rest) (are_continuing-push later next)
     ∙ ap (λ b. if b then all else rest) (and_assoc first goes_on (are_continuing (next ∷ [])))
     ∙ ap (λ o. if (first && goes_on) && are_continuing (next ∷ []) then o else rest)
-    (ap if_fits (reassembled-push (segment ∷ later) next) ∙ sym (extended_fits (reassembled (segment ∷ later)) (octets_at next)))
-    ∙ ap (λ o. if (first && goes_on) && are_continuing (next ∷ []) then extended together (octets_at next) else o) (incomplete_next later next)
+    (ap if_fits (reassembled-push (segment ∷ later) next) ∙ sym (extended_fits (reassembled (segment ∷ later)) (segment_data next)))
+    ∙ ap (λ o. if (first && goes_on) && are_continuing (next ∷ []) then extended together (segment_data next) else o) (incomplete_next later next)
     ∙ one_more_after (first && goes_on) together (incomplete_of later) next
 
 -- ---- the series that ends with the next segment

@@ -12,7 +12,7 @@ use Rattle.sl_packet.specs.Packets.{packets_of}
 use Rattle.sl_packet.proofs.PacketsLemmas.{packets_of-packet}
 use Rattle.sl_tcflow.specs.Reception.{packets_in}
 use Rattle.sl_tcflow.specs.Series.{flags_of, IsSeries, whole, divided, SeriesAt, series_from, reassembled}
-use Rattle.sl_tcflow.specs.TcNormalForm.{segment_count, segment_octets_at, flags_at, segments_of_packet}
+use Rattle.sl_tcflow.specs.TcNormalForm.{segment_count, piece_at, flags_at, segments_of_packet}
 use Rattle.sl_tcflow.proofs.EachLemmas.{each-append, each-weaker}
 use Rattle.sl_tcflow.proofs.PushedLemmas.{counts_more}
 use Rattle.sl_tcflow.proofs.SegmentLemmas.{unit_made, part_at, part_is, header_of_unit, octets_of_unit}
@@ -22,7 +22,7 @@ use Rattle.sl_tcflow.proofs.SeriesLemmas.{IsContinuing, BeginsNone, series_at, b
 
 module _ (room : ℕ) (packet : List ℕ) where
   abbrev part : ℕ → List ℕ
-  part = segment_octets_at room packet
+  part = piece_at room packet
 
   pub parts_joined : (n : ℕ) → concat (map part (range_with_len 0 n)) ≡ take (n * room) packet
   parts_joined zero = let none = zero-mul room in ap (λ k. take k packet) (sym none)
@@ -46,7 +46,7 @@ module _ (room : ℕ) (packet : List ℕ) where
   some_parts some long = let none = zero-mul room in counts_more room packet 0 some (omega (arith, none, long))
 
 octets_of_parts : (room mid : ℕ) (packet : List ℕ) (numbers : List ℕ)
-    → reassembled (map unit_made (map (part_at room mid packet) numbers)) ≡ concat (map (segment_octets_at room packet) numbers)
+    → reassembled (map unit_made (map (part_at room mid packet) numbers)) ≡ concat (map (piece_at room packet) numbers)
 octets_of_parts room mid packet [] = refl
 octets_of_parts room mid packet (number ∷ numbers) =
     ap₂ (λ a b. a ++ b) (octets_of_unit (part_at room mid packet number)) (octets_of_parts room mid packet numbers)

@@ -9,8 +9,8 @@ use Rattle.sl_tcflow.specs.AcceptedUnit.{accepted_units, channel_of, views_of}
 use Rattle.sl_tcflow.specs.Anomaly.{stray_of, tail_of}
 use Rattle.sl_tcflow.specs.Incomplete.{incomplete_of}
 use Rattle.sl_tcflow.specs.Reception.{packets_on, segments_of}
-use Rattle.sl_tcflow.specs.ReceptionParameters.{ReceptionParameters, start_of}
-use Rattle.sl_tcflow.specs.Series.{header_at, octets_at, whole_segment}
+use Rattle.sl_tcflow.specs.ReceptionParameters.{ReceptionParameters, initial_vr}
+use Rattle.sl_tcflow.specs.Series.{header_at, segment_data, whole_segment}
 use Rattle.sl_tcflow.specs.TcNormalForm.{tc_normal_form_of}
 
 abbrev format : ℕ → TcFormat
@@ -59,7 +59,7 @@ on_5 lists = replicate 320 [] ++ lists
 pub record ArePlain : Type 0 where
   pub segment : segments_of (without (5 ∷ [])) 5 0 (read plain) ≡ whole_segment packet ∷ []
   pub header : header_at (whole_segment packet) ≡ record { flags = 3; map = 0 }
-  pub octets : octets_at (whole_segment packet) ≡ packet
+  pub octets : segment_data (whole_segment packet) ≡ packet
   pub delivers : packets (without (5 ∷ [])) 5 0 plain ≡ packet ∷ []
   pub delivers_bypassing : packets (without (5 ∷ [])) 5 0 (plain ++ bypassing) ≡ packet ∷ packet ∷ []
   pub on_no_other_map : packets (without (5 ∷ [])) 5 16 plain ≡ []
@@ -109,9 +109,9 @@ abbrev from_starts : ReceptionParameters
 from_starts = record { window = 10; starts = starts; plain = [] }
 
 pub record HaveStarts : Type 0 where
-  pub of_5 : start_of from_starts 5 ≡ 255
-  pub of_others : start_of from_starts 4 ≡ 0
-  pub accepts : accepted_units 10 (start_of from_starts 5) (channel_of 5 (read from_255)) ≡ (0xC0 ∷ first) ∷ []
+  pub of_5 : initial_vr from_starts 5 ≡ 255
+  pub of_others : initial_vr from_starts 4 ≡ 0
+  pub accepts : accepted_units 10 (initial_vr from_starts 5) (channel_of 5 (read from_255)) ≡ (0xC0 ∷ first) ∷ []
   pub delivers : packets from_starts 5 0 from_255 ≡ first ∷ []
   pub not_from_0 : packets (without []) 5 0 from_255 ≡ []
   pub normal : tc_normal_form_of (format 24) 1 starts [] (on_5 ((first ∷ []) ∷ [])) ≡ from_255

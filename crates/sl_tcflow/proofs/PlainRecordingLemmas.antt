@@ -13,14 +13,14 @@ use Rattle.sl_packet.specs.Packets.{packets_of, rest_of, without_idle}
 use Rattle.sl_packet.proofs.PacketsLemmas.{each_has_packets}
 use Rattle.sl_tcframe.specs.AdFrame.{plain_room_of}
 use Rattle.sl_tcframe.specs.TcDelimited.{tc_frames_of}
-use Rattle.sl_tcframe.specs.TcFrame.{TcFormat, TcView, Content, Ad, Bd, Unlock, SetVr, IsReadAs, Carries, header_of, parts_of, tc_frame}
+use Rattle.sl_tcframe.specs.TcFrame.{TcFormat, TcView, Content, Ad, Bd, Unlock, SetVr, IsReadAs, Carries, tc_header_of, tc_parts_of, tc_frame}
 use Rattle.sl_tcframe.specs.declared.tc_frame.TcSkip.{TcSkip}
 use Rattle.sl_tcframe.specs.declared.tc_frame.TcSkip.TheVariants.{Long}
 use Rattle.sl_tcframe.proofs.ReadLemmas.{is_read}
 use Rattle.sl_tcflow.specs.AcceptedUnit.{accepted_units, channel_of, events_of, unit_of, views_of}
 use Rattle.sl_tcflow.specs.Canonical.{RecordedListsFit}
 use Rattle.sl_tcflow.specs.Reception.{packets_in, packets_on, segments_of}
-use Rattle.sl_tcflow.specs.ReceptionParameters.{ReceptionParameters, is_plain, start_of}
+use Rattle.sl_tcflow.specs.ReceptionParameters.{ReceptionParameters, is_plain, initial_vr}
 use Rattle.sl_tcflow.specs.Recording.{recorded_views, tc_lists}
 use Rattle.sl_tcflow.specs.Series.{SeriesAt, reassembled, segment_in, segments_on, series_from, whole_segment}
 use Rattle.sl_tcflow.proofs.EachLemmas.{each-append, each-filtered, each-weaker}
@@ -35,12 +35,12 @@ use Rattle.sl_tcflow.proofs.WholeLemmas.{header_of_whole}
 abbrev AreWithin : ℕ → List (List ℕ) → Type 0
 AreWithin most units = AllByRecursion (λ unit. length unit ≤ most) units
 
-field_within : (format : TcFormat) (frame : List ℕ) → length frame ≤ format.max → length (parts_of format frame).field ≤ plain_room_of format
+field_within : (format : TcFormat) (frame : List ℕ) → length frame ≤ format.max → length (tc_parts_of format frame).field ≤ plain_room_of format
 field_within format frame short =
     omega (arith, short, length-take (length frame - 5 - (if format.fecf then 2 else 0)) (drop 5 frame))
 
 carried_within : (format : TcFormat) (frame : List ℕ) (content : Content) → length frame ≤ format.max
-    → Carries (header_of frame) (parts_of format frame).field content → AreWithin (plain_room_of format) (unit_of content)
+    → Carries (tc_header_of frame) (tc_parts_of format frame).field content → AreWithin (plain_room_of format) (unit_of content)
 carried_within format frame (Ad ns unit) short is =
     (subst (λ l. length l ≤ plain_room_of format) (sym is.4) (field_within format frame short), tt)
 carried_within format frame (Bd unit) short is =
@@ -87,11 +87,11 @@ accepted_within most (verdict ∷ verdicts) (view ∷ channel) each =
 
 -- the units that a recording's frames bring on a virtual channel
 units_within : (format : TcFormat) (spacecraft : ℕ) (r : ReceptionParameters) (vc : ℕ) (frames : List (List ℕ))
-    → AreWithin (plain_room_of format) (accepted_units r.window (start_of r vc) (channel_of vc (views_of format spacecraft frames)))
+    → AreWithin (plain_room_of format) (accepted_units r.window (initial_vr r vc) (channel_of vc (views_of format spacecraft frames)))
 units_within format spacecraft r vc frames =
     let views = views_of format spacecraft frames in
     let channel = channel_of vc views in
-    accepted_within (plain_room_of format) (verdicts_of r.window (farm_start (start_of r vc)) (events_of channel)) channel
+    accepted_within (plain_room_of format) (verdicts_of r.window (farm_start (initial_vr r vc)) (events_of channel)) channel
     (each-filtered (IsViewWithin (plain_room_of format)) (λ view. view.vc == vc) views (each_view format spacecraft frames))
 
 -- ---- whole segments
@@ -164,7 +164,7 @@ pub recorded_lists_fit : RecordedListsFit
 recorded_lists_fit format spacecraft r recording vc vc_fits plain =
     let frames = tc_frames_of format recording in
     let views : List TcView = recorded_views format spacecraft recording in
-    let units = accepted_units r.window (start_of r vc) (channel_of vc views) in
+    let units = accepted_units r.window (initial_vr r vc) (channel_of vc views) in
     let same : 64 * vc + 0 ≡ 64 * vc = omega arith in
     record {
       short = subst (λ n. AreWithin (plain_room_of format) (slice_index_or (tc_lists format spacecraft r recording) n [])) same

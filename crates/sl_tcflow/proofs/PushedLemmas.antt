@@ -9,7 +9,7 @@ use Rattle.std.proofs.Math.Nat.{suc-mul, zero-mul, div-lt_iff_lt-mul, le-div_iff
 use Rattle.sl_fields.specs.SegmentHeader.{SegmentFields}
 use Rattle.sl_tcframe.specs.AdFrame.{ad_frame, segment_unit}
 use Rattle.sl_tcframe.specs.TcFrame.{TcFormat}
-use Rattle.sl_tcflow.specs.TcNormalForm.{segment_count, segment_octets_at, flags_at, units_of_packet, frames_of_units}
+use Rattle.sl_tcflow.specs.TcNormalForm.{segment_count, piece_at, flags_at, units_of_packet, frames_of_units}
 
 module _ (format : TcFormat) (spacecraft vc : ℕ) where
   abbrev frames_from : ℕ → List (List ℕ) → List (List ℕ)
@@ -89,7 +89,7 @@ is_last_one room packet number some there =
 
 module _ (format : TcFormat) (spacecraft vc mid : ℕ) (base : List ℕ) (ns room : ℕ) (packet : List ℕ) where
   abbrev segment_at : ℕ → SegmentFields × List ℕ
-  segment_at number = (record { flags = flags_at (segment_count room packet) number; map = mid }, segment_octets_at room packet number)
+  segment_at number = (record { flags = flags_at (segment_count room packet) number; map = mid }, piece_at room packet number)
 
   abbrev unit_at : SegmentFields × List ℕ → List ℕ
   unit_at s = segment_unit s.0 s.1

@@ -21,7 +21,7 @@ use Rattle.sl_tcframe.specs.TcFrame.{TcFormat, TcView, Content, Ad, Bd, Unlock, 
 use Rattle.sl_tcflow.specs.AcceptedUnit.{accepted_ad_units, ad_unit_of, channel_of, event_of, events_of, farm_after, unit_of}
 use Rattle.sl_tcflow.specs.Receiving.{channel_at}
 use Rattle.sl_tcflow.specs.Reception.{packets_ended, packets_on, segments_of}
-use Rattle.sl_tcflow.specs.ReceptionParameters.{ReceptionParameters, is_plain, start_of}
+use Rattle.sl_tcflow.specs.ReceptionParameters.{ReceptionParameters, is_plain, initial_vr}
 use Rattle.sl_tcflow.specs.Recording.{map_channels, packets_in_channel, recorded_views}
 use Rattle.sl_tcflow.specs.ReorderedUnits.{AdUnitsAreAll, AreArrivals, ExpectedUnitIsAccepted, HaveNoBd, IsArrival, PacketsInOrder, ReceiverCountsUnits, RecordedPacketsInOrder, UnitsInOrder, VrCountsUnits, WindowIsNear, WindowNeverLocks, accepted_ad_count, recorded_packets, unit_at, segments_sent}
 use Rattle.sl_tcflow.specs.Series.{header_at, segment_in, segments_on}
@@ -193,7 +193,7 @@ expected_unit_is_accepted w vr sent channel arrivals reordered before after view
 pub receiver_counts_units : ReceiverCountsUnits
 receiver_counts_units r vc sent farms views arrivals below stepped reordered =
     let channel = channel_of vc views in
-    let counts = vr_counts_units r.window (start_of r vc) sent channel arrivals reordered channel [] (sym (append-nil channel)) in
+    let counts = vr_counts_units r.window (initial_vr r vc) sent channel arrivals reordered channel [] (sym (append-nil channel)) in
     ap (λ (f : FarmView). f.state.vr) (stepped.each vc below) ∙ counts
 
 -- ---- packets
@@ -213,11 +213,11 @@ packets_go_on list (next ∷ more) =
 pub packets_in_order : PacketsInOrder
 packets_in_order r vc mid sent views arrivals reordered none =
     let channel = channel_of vc views in
-    let units = accepted_ad_units r.window (start_of r vc) channel in
-    let front = units_in_order r.window (start_of r vc) sent channel arrivals reordered in
+    let units = accepted_ad_units r.window (initial_vr r vc) channel in
+    let front = units_in_order r.window (initial_vr r vc) sent channel arrivals reordered in
     let segment = segment_in (is_plain r vc) in
     let own : segments_on mid (map segment units) ≡ segments_of r vc mid views =
-    ap (λ l. segments_on mid (map segment l)) (ad_units_are_all r.window (start_of r vc) channel none) in
+    ap (λ l. segments_on mid (map segment l)) (ad_units_are_all r.window (initial_vr r vc) channel none) in
     let all : segments_on mid (map segment units) ++ segments_on mid (map segment front.0) ≡ segments_sent r vc mid sent =
     sym (filter-append (λ segment. (header_at segment).map == mid) (map segment units) (map segment front.0))
     ∙ ap (segments_on mid) (sym (map-append segment units front.0) ∙ ap (map segment) front.1) in

@@ -9,7 +9,7 @@ use Rattle.sl_tcflow.specs.NextSegment.{IsReported, dropped_with, long_with, qui
 use Rattle.sl_tcflow.specs.Placed.{at}
 use Rattle.sl_tcflow.specs.Receiving.{AreIncomplete, channel_at, map_by, segment_by, verdict_on}
 use Rattle.sl_tcflow.specs.ReceptionParameters.{ReceptionParameters}
-use Rattle.sl_tcflow.specs.Series.{flags_of, header_at, octets_at}
+use Rattle.sl_tcflow.specs.Series.{flags_of, header_at, segment_data}
 use Rattle.sl_tcflow.specs.StepReport.{StepReport}
 use Rattle.sl_tcflow.proofs.AnomalyLemmas.{told_at, told_none}
 use Rattle.sl_tcflow.proofs.EndedLemmas.{tail_next}
@@ -19,7 +19,7 @@ use Rattle.sl_tcflow.proofs.UnitLemmas.{ended_more, ended_none}
 pub reported_more : (r : ReceptionParameters) (old : List (Option (List ℕ))) (views : List TcView) (next : TcView) (unit : List ℕ) (vc : ℕ) (step : StepReport)
     → AreIncomplete r old views → next.vc < 64 → segment_by r views next ≡ unit ∷ []
     → map_by r next ≡ (header_at unit).map → vc ≡ next.vc → verdict_on r views next ≡ Accept
-    → IsReported (at old (channel_at vc (header_at unit).map)) (flags_of unit) (octets_at unit) step → IsReportedOf r views next step
+    → IsReported (at old (channel_at vc (header_at unit).map)) (flags_of unit) (segment_data unit) step → IsReportedOf r views next step
 reported_more r old views next unit vc step are inside unit_is mid_is same_vc accepted reported =
     let mid = (header_at unit).map in
     let ended = ended_more r old views next unit (channel_at vc mid) are inside unit_is mid_is (ap (λ n. channel_at n mid) same_vc) in
@@ -29,7 +29,7 @@ reported_more r old views next unit vc step are inside unit_is mid_is same_vc ac
       idle = reported.idle ∙ ap (λ l. length (only_idle l)) (sym ended);
       stray = told_at r old views next unit false stray_of (λ held segment. stray_with held (flags_of segment)) (λ list segment. refl) vc step.stray are inside unit_is mid_is same_vc reported.stray;
       dropped = told_at r old views next unit None dropped_of (λ held segment. dropped_with held (flags_of segment)) (λ list segment. refl) vc step.dropped are inside unit_is mid_is same_vc reported.dropped;
-      long = told_at r old views next unit false long_of (λ held segment. long_with held (flags_of segment) (octets_at segment)) (λ list segment. refl) vc step.long are inside unit_is mid_is same_vc reported.long;
+      long = told_at r old views next unit false long_of (λ held segment. long_with held (flags_of segment) (segment_data segment)) (λ list segment. refl) vc step.long are inside unit_is mid_is same_vc reported.long;
       tail = told_at r old views next unit 0 tail_of tail_after tail_next vc step.tail are inside unit_is mid_is same_vc reported.tail;
     }
 

@@ -10,8 +10,8 @@ use Rattle.sl_fields.proofs.HeaderLayout.{reads_back}
 use Rattle.sl_fields.proofs.Octets.{length-octets_of}
 use Rattle.sl_fields.proofs.Packing.{packed_lt}
 use Rattle.sl_fields.proofs.SegmentHeaderLemmas.{segment_layout}
-use Rattle.sl_tcflow.specs.Series.{header_at, octets_at, segments_on}
-use Rattle.sl_tcflow.specs.TcNormalForm.{segment_count, segment_octets_at, flags_at, segments_of_packet, units_of_packet, units_of_maps}
+use Rattle.sl_tcflow.specs.Series.{header_at, segment_data, segments_on}
+use Rattle.sl_tcflow.specs.TcNormalForm.{segment_count, piece_at, flags_at, segments_of_packet, units_of_packet, units_of_maps}
 use Rattle.sl_tcflow.proofs.EachLemmas.{each-append, each-weaker, each-map, each-flat_map, each-map_range, kept_all, kept_none}
 
 -- ---- a segment
@@ -33,7 +33,7 @@ header_of_unit segment fit =
     ap segment_header (take_at (segment_octets h) segment.1 1 (length-octets_of 1 (segment_fields h)))
     ∙ reads_back segment_layout h (packed (segment_fields h)) fit (packed_lt (segment_fields h) (segment_layout.fit h fit)) refl
 
-pub octets_of_unit : (segment : SegmentFields × List ℕ) → octets_at (unit_made segment) ≡ segment.1
+pub octets_of_unit : (segment : SegmentFields × List ℕ) → segment_data (unit_made segment) ≡ segment.1
 octets_of_unit segment = drop_at (segment_octets segment.0) segment.1 1 (length-octets_of 1 (segment_fields segment.0))
 
 map_of_unit : (room : ℕ) (On : ℕ → Type 0) (segment : SegmentFields × List ℕ) → IsSegment room On segment → (header_at (unit_made segment)).map ≡ segment.0.map
@@ -67,7 +67,7 @@ flags_fit count number = grind (arith, nat_tests)
 
 module _ (room mid : ℕ) where
   abbrev pub part_at : List ℕ → ℕ → SegmentFields × List ℕ
-  part_at packet number = (record { flags = flags_at (segment_count room packet) number; map = mid }, segment_octets_at room packet number)
+  part_at packet number = (record { flags = flags_at (segment_count room packet) number; map = mid }, piece_at room packet number)
 
   pub part_is : mid < 64 → (packet : List ℕ) (number : ℕ) → IsSegment room (λ m. m ≡ mid) (part_at packet number)
   part_is small packet number =

@@ -14,7 +14,7 @@ use Rattle.sl_tcflow.specs.NextSegment.{incomplete_after, packets_after}
 use Rattle.sl_tcflow.specs.Placed.{at, IsPlaced}
 use Rattle.sl_tcflow.specs.Receiving.{AreIncomplete, IsIncompleteAround, channel_at, map_by, map_of, segment_by, unit_channel, ended_by, verdict_on}
 use Rattle.sl_tcflow.specs.Reception.{packets_ended, segments_of}
-use Rattle.sl_tcflow.specs.ReceptionParameters.{ReceptionParameters, is_plain, start_of}
+use Rattle.sl_tcflow.specs.ReceptionParameters.{ReceptionParameters, is_plain, initial_vr}
 use Rattle.sl_tcflow.specs.Series.{header_at, segment_in, segments_on}
 use Rattle.sl_tcflow.proofs.EndedLemmas.{ended_next}
 use Rattle.sl_tcflow.proofs.FarmLemmas.{same_channel, other_channel}
@@ -52,16 +52,16 @@ pub segments_next : (r : ReceptionParameters) (mid : ℕ) (views : List TcView) 
 segments_next r mid views next =
     let channel = channel_of next.vc views in
     let segment = segment_in (is_plain r next.vc) in
-    let units = accepted_units r.window (start_of r next.vc) channel in
-    ap (λ l. segments_on mid (map segment (accepted_units r.window (start_of r next.vc) l))) (same_channel next.vc views next refl)
-    ∙ ap (λ l. segments_on mid (map segment l)) (units_from r.window (start_of r next.vc) channel next)
+    let units = accepted_units r.window (initial_vr r next.vc) channel in
+    ap (λ l. segments_on mid (map segment (accepted_units r.window (initial_vr r next.vc) l))) (same_channel next.vc views next refl)
+    ∙ ap (λ l. segments_on mid (map segment l)) (units_from r.window (initial_vr r next.vc) channel next)
     ∙ ap (segments_on mid) (map-append segment units (unit_by (verdict_on r views next) next.content))
     ∙ filter-append (λ segment. (header_at segment).map == mid) (map segment units) (segment_by r views next)
 
 segments_other : (r : ReceptionParameters) (vc mid : ℕ) (views : List TcView) (next : TcView) → (next.vc ≡ vc → ⊥)
     → segments_of r vc mid (views ++ next ∷ []) ≡ segments_of r vc mid views
 segments_other r vc mid views next other =
-    ap (λ l. segments_on mid (map (segment_in (is_plain r vc)) (accepted_units r.window (start_of r vc) l))) (other_channel vc views next other)
+    ap (λ l. segments_on mid (map (segment_in (is_plain r vc)) (accepted_units r.window (initial_vr r vc) l))) (other_channel vc views next other)
 
 -- the unit is one of its own MAP alone
 on_map : (mid : ℕ) (unit : List ℕ) → (header_at unit).map ≡ mid → segments_on mid (unit ∷ []) ≡ unit ∷ []

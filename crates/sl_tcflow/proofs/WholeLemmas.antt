@@ -9,8 +9,8 @@ use Rattle.sl_tcflow.specs.Anomaly.{dropped_of, long_of, octets_held, of_segment
 use Rattle.sl_tcflow.specs.Incomplete.{are_continuing, if_fits, incomplete_of, passes}
 use Rattle.sl_tcflow.specs.Receiving.{map_by, verdict_on}
 use Rattle.sl_tcflow.specs.Reception.{segments_of}
-use Rattle.sl_tcflow.specs.ReceptionParameters.{is_plain, start_of}
-use Rattle.sl_tcflow.specs.Series.{begins_by, continues_by, flags_of, header_at, octets_at, reassembled, segment_in, segments_on, whole_segment, PlainUnitIsWhole}
+use Rattle.sl_tcflow.specs.ReceptionParameters.{is_plain, initial_vr}
+use Rattle.sl_tcflow.specs.Series.{begins_by, continues_by, flags_of, header_at, segment_data, reassembled, segment_in, segments_on, whole_segment, PlainUnitIsWhole}
 use Rattle.sl_tcflow.proofs.EachLemmas.{each-filtered}
 use Rattle.sl_tcflow.proofs.SegmentLemmas.{header_of_unit, octets_of_unit}
 
@@ -54,7 +54,7 @@ none_on true mid units is =
 
 pub no_plain_series_is_incomplete : NoPlainSeriesIsIncomplete
 no_plain_series_is_incomplete r vc mid views plain =
-    none_on (is_plain r vc) mid (accepted_units r.window (start_of r vc) (channel_of vc views)) plain
+    none_on (is_plain r vc) mid (accepted_units r.window (initial_vr r vc) (channel_of vc views)) plain
 
 -- ---- nothing is amiss but the tail
 
@@ -67,7 +67,7 @@ module _ (list : List (List ℕ)) (unit : List ℕ) where
       ap (λ flags. if begins_by flags then octets_held list else None) (flags_of_whole unit) ∙ ap (option_map length) none
 
   none_long : long_of list (whole_segment unit) ≡ false
-  none_long = ap (λ flags. continues_by flags && passes (octets_held list) (length (octets_at (whole_segment unit)))) (flags_of_whole unit)
+  none_long = ap (λ flags. continues_by flags && passes (octets_held list) (length (segment_data (whole_segment unit)))) (flags_of_whole unit)
 
 -- of the frame's unit, if it is accepted
 told_of_whole : {X : Type 0} (none : X) (told : List ℕ → X) → ((unit : List ℕ) → told (whole_segment unit) ≡ none)

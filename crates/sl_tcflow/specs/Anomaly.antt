@@ -9,7 +9,7 @@ use Rattle.sl_tcflow.specs.Incomplete.{IsIncomplete, incomplete_of, passes}
 use Rattle.sl_tcflow.specs.Receiving.{ended_by, map_by, segment_by, verdict_on}
 use Rattle.sl_tcflow.specs.Reception.{segments_of}
 use Rattle.sl_tcflow.specs.ReceptionParameters.{ReceptionParameters, is_plain}
-use Rattle.sl_tcflow.specs.Series.{begins_by, continues_by, IsSeriesOf, SeriesAt, flags_of, octets_at, past, reassembled, series_of}
+use Rattle.sl_tcflow.specs.Series.{begins_by, continues_by, IsSeriesOf, SeriesAt, flags_of, segment_data, past, reassembled, series_of}
 use Rattle.sl_tcflow.specs.StepReport.{StepReport}
 
 -- ---- the next segment of a MAP, after those of a list
@@ -40,7 +40,7 @@ dropped_of list next = if begins next then octets_held list else None
 
 -- whether the incomplete series is given up, too long with this segment
 abbrev pub long_of : List (List ℕ) → List ℕ → Bool
-long_of list next = continues next && passes (octets_held list) (length (octets_at next))
+long_of list next = continues next && passes (octets_held list) (length (segment_data next))
 
 -- what is left of the service data unit of a series after its packets, where it isn't too long
 abbrev pub left_in : List (List ℕ) → List ℕ
@@ -70,7 +70,7 @@ pub record IsLong (list : List (List ℕ)) (next : List ℕ) : Type 0 where
   pub goes_on : (flags_of next ≡ 0) ⊎ (flags_of next ≡ 2)
   pub octets : List ℕ
   pub incomplete : IsIncomplete list octets
-  pub too_many : 65542 < length octets + length (octets_at next)
+  pub too_many : 65542 < length octets + length (segment_data next)
 
 -- A series ends with it, of a service data unit that isn't too long, and so many octets are left after its packets.
 pub record HasTail (list : List (List ℕ)) (next : List ℕ) (count : ℕ) : Type 0 where

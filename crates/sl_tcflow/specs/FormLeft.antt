@@ -3,7 +3,7 @@
 use Rattle.std.specs.Prelude.{ℕ, ◌+◌, ◌-◌, ◌*◌, ◌/◌, ◌%◌, ◌<◌, ◌≤◌, Bool, List, [], ◌++◌, length, take, drop, flat_map}
 use Rattle.std.specs.List.{concat, range_with_len, slice_index_or}
 use Rattle.sl_packet.specs.Delivered.{PacketLists, channel_count, list_at}
-use Rattle.sl_tcframe.specs.AdFrame.{room_of}
+use Rattle.sl_tcframe.specs.AdFrame.{segment_room_of}
 use Rattle.sl_tcframe.specs.TcFrame.{TcFormat}
 use Rattle.sl_tcframe.specs.VcSet.{has_vc}
 use Rattle.sl_tcflow.specs.TcNormalForm.{units_of_packet, units_of_maps, frames_of_units, channel_frames}
@@ -11,18 +11,18 @@ use Rattle.sl_tcflow.specs.TcNormalForm.{units_of_packet, units_of_maps, frames_
 -- the piece of a packet on a channel, N(S) from a number on: its frames end to end
 abbrev pub piece_of : TcFormat → ℕ → Bool → ℕ → ℕ → List ℕ → List ℕ
 piece_of format spacecraft plain channel ns packet =
-    concat (frames_of_units format spacecraft (channel / 64) ns (units_of_packet plain (room_of format) (channel % 64) packet))
+    concat (frames_of_units format spacecraft (channel / 64) ns (units_of_packet plain (segment_room_of format) (channel % 64) packet))
 
 -- the N(S) of the frame after them
 abbrev pub ns_after : TcFormat → Bool → ℕ → ℕ → List ℕ → ℕ
-ns_after format plain channel ns packet = (ns + length (units_of_packet plain (room_of format) (channel % 64) packet)) % 256
+ns_after format plain channel ns packet = (ns + length (units_of_packet plain (segment_room_of format) (channel % 64) packet)) % 256
 
 -- the octets of a virtual channel from a MAP on: those of packets of this MAP, N(S) from a number on, and of those of
 -- the later MAPs
 abbrev pub maps_left : TcFormat → ℕ → Bool → ℕ → ℕ → ℕ → List (List ℕ) → List (List (List ℕ)) → List ℕ
 maps_left format spacecraft plain vc mid ns packets later =
     concat (frames_of_units format spacecraft vc ns
-    (flat_map (units_of_packet plain (room_of format) mid) packets ++ units_of_maps plain (room_of format) (mid + 1) later))
+    (flat_map (units_of_packet plain (segment_room_of format) mid) packets ++ units_of_maps plain (segment_room_of format) (mid + 1) later))
 
 -- the octets of so many virtual channels from one on
 abbrev pub channels_left : TcFormat → ℕ → List ℕ → List ℕ → List (List (List ℕ)) → ℕ → ℕ → List ℕ

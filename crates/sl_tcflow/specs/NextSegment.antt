@@ -5,7 +5,7 @@ use Rattle.std.specs.Prelude.{◌≡◌, ℕ, ◌==◌, ◌&&◌, Bool, false, i
 use Rattle.sl_cop.specs.declared.verdict.Verdict.TheVariants.{Accept}
 use Rattle.sl_packet.specs.Packets.{only_idle, packets_of, rest_of, without_idle}
 use Rattle.sl_tcflow.specs.Incomplete.{if_fits, passes}
-use Rattle.sl_tcflow.specs.Series.{begins_by, continues_by, flags_of, octets_at}
+use Rattle.sl_tcflow.specs.Series.{begins_by, continues_by, flags_of, segment_data}
 use Rattle.sl_tcflow.specs.StepReport.{StepReport}
 
 -- ---- the series
@@ -23,7 +23,7 @@ incomplete_with held flags octets =
     else None
 
 abbrev pub incomplete_after : Option (List ℕ) → List ℕ → Option (List ℕ)
-incomplete_after held next = incomplete_with held (flags_of next) (octets_at next)
+incomplete_after held next = incomplete_with held (flags_of next) (segment_data next)
 
 -- the service data unit that ends with the next segment, whole or the last one of a series
 abbrev pub service_unit_with : Option (List ℕ) → ℕ → List ℕ → Option (List ℕ)
@@ -33,7 +33,7 @@ service_unit_with held flags octets =
     else None
 
 abbrev pub service_unit_ended : Option (List ℕ) → List ℕ → Option (List ℕ)
-service_unit_ended held next = service_unit_with held (flags_of next) (octets_at next)
+service_unit_ended held next = service_unit_with held (flags_of next) (segment_data next)
 
 -- ---- its packets
 
@@ -47,7 +47,7 @@ abbrev pub packets_with : Option (List ℕ) → ℕ → List ℕ → List (List 
 packets_with held flags octets = packets_of_service_unit (service_unit_with held flags octets)
 
 abbrev pub packets_after : Option (List ℕ) → List ℕ → List (List ℕ)
-packets_after held next = packets_with held (flags_of next) (octets_at next)
+packets_after held next = packets_with held (flags_of next) (segment_data next)
 
 -- what is left of a service data unit after its packets, if there is one
 abbrev pub rest_of_service_unit : Option (List ℕ) → List ℕ
@@ -59,7 +59,7 @@ abbrev pub tail_with : Option (List ℕ) → ℕ → List ℕ → ℕ
 tail_with held flags octets = length (rest_of_service_unit (service_unit_with held flags octets))
 
 abbrev pub tail_after : Option (List ℕ) → List ℕ → ℕ
-tail_after held next = tail_with held (flags_of next) (octets_at next)
+tail_after held next = tail_with held (flags_of next) (segment_data next)
 
 -- ---- what is amiss with it
 

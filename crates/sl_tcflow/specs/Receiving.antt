@@ -7,7 +7,7 @@ use Rattle.sl_tcframe.specs.TcFrame.{TcView, Content, Ad, Bd, Unlock, SetVr}
 use Rattle.sl_tcflow.specs.AcceptedUnit.{channel_of, event_of, farm_after, unit_by}
 use Rattle.sl_tcflow.specs.Incomplete.{incomplete_of}
 use Rattle.sl_tcflow.specs.Reception.{packets_ended, segments_of}
-use Rattle.sl_tcflow.specs.ReceptionParameters.{ReceptionParameters, is_plain, start_of}
+use Rattle.sl_tcflow.specs.ReceptionParameters.{ReceptionParameters, is_plain, initial_vr}
 use Rattle.sl_tcflow.specs.Series.{header_at, segment_in}
 
 -- the channel of a virtual channel and a MAP
@@ -24,10 +24,10 @@ pub record ReceiverState : Type 0 where
 
 -- FARM-1 of a virtual channel: at the start, and after these frames
 abbrev pub farm_at_start : ReceptionParameters → ℕ → FarmView
-farm_at_start r vc = record { window = r.window; state = farm_start (start_of r vc) }
+farm_at_start r vc = record { window = r.window; state = farm_start (initial_vr r vc) }
 
 abbrev pub farm_of : ReceptionParameters → ℕ → List TcView → FarmView
-farm_of r vc views = record { window = r.window; state = farm_after r.window (start_of r vc) (channel_of vc views) }
+farm_of r vc views = record { window = r.window; state = farm_after r.window (initial_vr r vc) (channel_of vc views) }
 
 -- the virtual channels' FARMs had these frames
 pub record HaveStepped (r : ReceptionParameters) (farms : List FarmView) (views : List TcView) : Type 0 where

@@ -5,7 +5,7 @@ use Rattle.std.specs.List.{filter}
 use Rattle.sl_packet.specs.Packets.{packets_of}
 use Rattle.sl_tcframe.specs.TcFrame.{TcView}
 use Rattle.sl_tcflow.specs.AcceptedUnit.{channel_of, accepted_units}
-use Rattle.sl_tcflow.specs.ReceptionParameters.{ReceptionParameters, is_plain, start_of}
+use Rattle.sl_tcflow.specs.ReceptionParameters.{ReceptionParameters, is_plain, initial_vr}
 use Rattle.sl_tcflow.specs.Series.{SeriesAt, past, reassembled, segment_in, segments_on, series_of}
 
 -- the packets of a service data unit: the longest list of them that lies at its front
@@ -24,7 +24,7 @@ packets_ended list next =
 -- the segments of a virtual channel and a MAP, among frames
 abbrev pub segments_of : ReceptionParameters → ℕ → ℕ → List TcView → List (List ℕ)
 segments_of r vc mid views =
-    segments_on mid (map (segment_in (is_plain r vc)) (accepted_units r.window (start_of r vc) (channel_of vc views)))
+    segments_on mid (map (segment_in (is_plain r vc)) (accepted_units r.window (initial_vr r vc) (channel_of vc views)))
 
 -- ---- laws
 

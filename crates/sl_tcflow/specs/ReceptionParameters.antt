@@ -11,8 +11,8 @@ pub record ReceptionParameters : Type 0 where
   pub plain : List ℕ
 
 -- V(R) of a virtual channel before its first frame
-abbrev pub start_of : ReceptionParameters → ℕ → ℕ
-start_of r vc = slice_index_or r.starts vc 0
+abbrev pub initial_vr : ReceptionParameters → ℕ → ℕ
+initial_vr r vc = slice_index_or r.starts vc 0
 
 -- whether its frames have no segment headers
 abbrev pub is_plain : ReceptionParameters → ℕ → Bool

@@ -12,7 +12,7 @@ use Rattle.sl_tcframe.specs.TcFrame.{TcFormat, TcView, Ad, Bd, Unlock}
 use Rattle.sl_tcflow.specs.AcceptedUnit.{accepted_ad_units, accepted_units, channel_of, event_of, farm_after}
 use Rattle.sl_tcflow.specs.Receiving.{HaveStepped, channel_at, farm_at_start}
 use Rattle.sl_tcflow.specs.Reception.{packets_on, segments_of}
-use Rattle.sl_tcflow.specs.ReceptionParameters.{ReceptionParameters, is_plain, start_of}
+use Rattle.sl_tcflow.specs.ReceptionParameters.{ReceptionParameters, is_plain, initial_vr}
 use Rattle.sl_tcflow.specs.Recording.{recorded_views, tc_lists}
 use Rattle.sl_tcflow.specs.Series.{segment_in, segments_on}
 
@@ -96,7 +96,7 @@ AdUnitsAreAll = (w vr : ℕ) (channel : List TcView) → HaveNoBd channel → ac
 -- and the packets of each MAP are a prefix of those of the units that were sent.
 abbrev pub PacketsInOrder : Type 0
 PacketsInOrder =
-    (r : ReceptionParameters) (vc mid : ℕ) (sent : List (List ℕ)) (views : List TcView) (arrivals : List Arrival) → AreReordered r.window (start_of r vc) sent (channel_of vc views) arrivals
+    (r : ReceptionParameters) (vc mid : ℕ) (sent : List (List ℕ)) (views : List TcView) (arrivals : List Arrival) → AreReordered r.window (initial_vr r vc) sent (channel_of vc views) arrivals
     → HaveNoBd (channel_of vc views)
     → IsPrefix (packets_on (segments_of r vc mid views)) (packets_on (segments_sent r vc mid sent))
 
@@ -105,7 +105,7 @@ PacketsInOrder =
 abbrev pub RecordedPacketsInOrder : Type 0
 RecordedPacketsInOrder =
     (format : TcFormat) (spacecraft : ℕ) (r : ReceptionParameters) (vc mid : ℕ) (sent : List (List ℕ)) (recording : List ℕ) (arrivals : List Arrival) → vc < 64 → mid < 64
-    → AreReordered r.window (start_of r vc) sent (recorded_channel format spacecraft vc recording) arrivals → HaveNoBd (recorded_channel format spacecraft vc recording)
+    → AreReordered r.window (initial_vr r vc) sent (recorded_channel format spacecraft vc recording) arrivals → HaveNoBd (recorded_channel format spacecraft vc recording)
     → IsPrefix (recorded_packets format spacecraft r vc mid recording) (without_idle (packets_on (segments_sent r vc mid sent)))
 
 -- In the window the Lockout flag is never set,
@@ -127,5 +127,5 @@ ExpectedUnitIsAccepted =
 abbrev pub ReceiverCountsUnits : Type 0
 ReceiverCountsUnits =
     (r : ReceptionParameters) (vc : ℕ) (sent : List (List ℕ)) (farms : List FarmView) (views : List TcView) (arrivals : List Arrival) → vc < 64
-    → HaveStepped r farms views → AreReordered r.window (start_of r vc) sent (channel_of vc views) arrivals
-    → (clcw_of vc (slice_index_or farms vc (farm_at_start r vc)).state).report ≡ expected_ns r.window (start_of r vc) (channel_of vc views)
+    → HaveStepped r farms views → AreReordered r.window (initial_vr r vc) sent (channel_of vc views) arrivals
+    → (clcw_of vc (slice_index_or farms vc (farm_at_start r vc)).state).report ≡ expected_ns r.window (initial_vr r vc) (channel_of vc views)

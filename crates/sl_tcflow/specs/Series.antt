@@ -8,8 +8,8 @@ use Rattle.sl_fields.specs.SegmentHeader.{SegmentFields, segment_header, segment
 abbrev pub header_at : List ℕ → SegmentFields
 header_at segment = segment_header (take 1 segment)
 
-abbrev pub octets_at : List ℕ → List ℕ
-octets_at segment = drop 1 segment
+abbrev pub segment_data : List ℕ → List ℕ
+segment_data segment = drop 1 segment
 
 -- the segment that a unit is. On a virtual channel without segment headers it is whole, on MAP 0: all its octets, as
 -- after a segment header that says no segmentation.
@@ -59,6 +59,12 @@ pub record IsSeriesOf (list : List (List ℕ)) (s : SeriesAt) : Type 0 where
 abbrev pub past : SeriesAt → ℕ
 past s = s.before + length s.segments
 
+-- each ends before the next begins: no segment is in two
+pub data AreApart : List SeriesAt → Type 0 where
+  none : AreApart []
+  one : (s : SeriesAt) → AreApart (s ∷ [])
+  more : (s t : SeriesAt) (later : List SeriesAt) → nat_le (past s) t.before ≡ Bool.true → AreApart (t ∷ later) → AreApart (s ∷ t ∷ later)
+
 -- ---- the series of a list, each found from its first segment with those after it
 
 -- the series that these segments so far become with later ones: one, or none
@@ -89,7 +95,13 @@ series_of list = series_from 0 list
 
 -- the reassembled service data unit
 abbrev pub reassembled : List (List ℕ) → List ℕ
-reassembled segments = concat (map octets_at segments)
+reassembled segments = concat (map segment_data segments)
+
+-- a segment has no segmentation, is on MAP 0, and its octets are all of the unit's
+pub record HasNoSegmentation (unit segment : List ℕ) : Type 0 where
+  pub flags : flags_of segment ≡ 3
+  pub map : (header_at segment).map ≡ 0
+  pub octets : segment_data segment ≡ unit
 
 -- ---- laws
 
@@ -101,21 +113,10 @@ EachIsSeries = (list : List (List ℕ)) → AllByRecursion (IsSeriesOf list) (se
 abbrev pub EachSeriesIsListed : Type 0
 EachSeriesIsListed = (list : List (List ℕ)) (s : SeriesAt) → IsSeriesOf list s → Contains (series_of list) s
 
--- One ends before the next begins: no segment is in two series.
-pub data AreApart : List SeriesAt → Type 0 where
-  none : AreApart []
-  one : (s : SeriesAt) → AreApart (s ∷ [])
-  more : (s t : SeriesAt) (later : List SeriesAt) → nat_le (past s) t.before ≡ Bool.true → AreApart (t ∷ later) → AreApart (s ∷ t ∷ later)
-
+-- One ends before the next begins.
 abbrev pub SeriesAreApart : Type 0
 SeriesAreApart = (list : List (List ℕ)) → AreApart (series_of list)
 
--- A segment has no segmentation, is on MAP 0, and its octets are all of the unit's.
-pub record HasNoSegmentation (unit segment : List ℕ) : Type 0 where
-  pub flags : flags_of segment ≡ 3
-  pub map : (header_at segment).map ≡ 0
-  pub octets : octets_at segment ≡ unit
-
--- That is the segment that a unit is on a virtual channel without segment headers.
+-- That is so of the segment that a unit is on a virtual channel without segment headers.
 abbrev pub PlainUnitIsWhole : Type 0
 PlainUnitIsWhole = (unit : List ℕ) → HasNoSegmentation unit (segment_in Bool.true unit)

@@ -4,7 +4,7 @@
 use Rattle.std.specs.Prelude.{◌≡◌, ℕ, ◌+◌, ◌-◌, ◌*◌, ◌/◌, ◌%◌, ◌<◌, ◌≤◌, ◌==◌, Bool, if◌then◌else◌, List, [], ◌∷◌, ◌++◌, length, take, drop, map, flat_map}
 use Rattle.std.specs.List.{AllByRecursion, concat, range_with_len, slice_index_or}
 use Rattle.sl_fields.specs.SegmentHeader.{SegmentFields}
-use Rattle.sl_tcframe.specs.AdFrame.{room_of, ad_frame, segment_unit}
+use Rattle.sl_tcframe.specs.AdFrame.{segment_room_of, ad_frame, segment_unit}
 use Rattle.sl_tcframe.specs.TcFrame.{TcFormat}
 use Rattle.sl_tcframe.specs.VcSet.{has_vc}
 use Rattle.sl_tcflow.specs.Series.{IsSeries}
@@ -14,8 +14,8 @@ abbrev pub segment_count : ℕ → List ℕ → ℕ
 segment_count room packet = (length packet + room - 1) / room
 
 -- the octets of the segment of that number
-abbrev pub segment_octets_at : ℕ → List ℕ → ℕ → List ℕ
-segment_octets_at room packet number = take room (drop (number * room) packet)
+abbrev pub piece_at : ℕ → List ℕ → ℕ → List ℕ
+piece_at room packet number = take room (drop (number * room) packet)
 
 -- the sequence flags of the segment of that number among so many
 abbrev pub flags_at : ℕ → ℕ → ℕ
@@ -29,7 +29,7 @@ flags_at count number =
 abbrev pub segments_of_packet : ℕ → ℕ → List ℕ → List (SegmentFields × List ℕ)
 segments_of_packet room mid packet =
     let count : ℕ = segment_count room packet in
-    map (λ number. (record { flags = flags_at count number; map = mid }, segment_octets_at room packet number)) (range_with_len 0 count)
+    map (λ number. (record { flags = flags_at count number; map = mid }, piece_at room packet number)) (range_with_len 0 count)
 
 -- the units of a packet: its segments, or itself on a virtual channel without segment headers
 abbrev pub units_of_packet : Bool → ℕ → ℕ → List ℕ → List (List ℕ)
@@ -50,7 +50,7 @@ frames_of_units format spacecraft vc ns (unit ∷ units) =
 -- the frames of a virtual channel, of its 64 lists of packets by MAP, N(S) from a number on
 abbrev pub channel_frames : TcFormat → ℕ → Bool → ℕ → ℕ → List (List (List ℕ)) → List (List ℕ)
 channel_frames format spacecraft plain vr vc lists =
-    frames_of_units format spacecraft vc vr (units_of_maps plain (room_of format) 0 lists)
+    frames_of_units format spacecraft vc vr (units_of_maps plain (segment_room_of format) 0 lists)
 
 -- The normal form of lists of packets, that of virtual channel v and MAP m at the index 64 v + m. N(S) is on each
 -- virtual channel from its V(R) before the first frame on.
@@ -63,7 +63,7 @@ tc_frames_form format spacecraft starts plain lists =
 abbrev pub tc_normal_form_of : TcFormat → ℕ → List ℕ → List ℕ → List (List (List ℕ)) → List ℕ
 tc_normal_form_of format spacecraft starts plain lists = concat (tc_frames_form format spacecraft starts plain lists)
 
--- ---- laws
+-- ---- what the segments of a packet are
 
 -- The octets of segments that have room for so many: each segment is full but the last, which has one octet or more.
 pub data AreSegments (room : ℕ) : List (List ℕ) → Type 0 where
@@ -76,6 +76,8 @@ pub record IsDividedInto (room mid : ℕ) (packet : List ℕ) (segments : List (
   pub end_to_end : concat (map (λ s. s.1) segments) ≡ packet
   pub series : IsSeries (map (λ s. segment_unit s.0 s.1) segments)
   pub on_map : AllByRecursion (λ s. s.0.map ≡ mid) segments
+
+-- ---- laws
 
 -- each packet is divided into its segments
 abbrev pub EachIsDivided : Type 0

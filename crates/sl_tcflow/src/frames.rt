@@ -3,7 +3,7 @@ ghost use Rattle.std.specs.Prelude.{◌≡◌, ◌+◌, ◌*◌, ◌%◌, ◌<�
 ghost use Rattle.std.specs.List.{concat};
 ghost use Rattle.std.specs.Vec.{vec_capacity};
 ghost use Rattle.sl_fields.specs.SegmentHeader.{SegmentFields};
-ghost use Rattle.sl_tcframe.specs.AdFrame.{room_of};
+ghost use Rattle.sl_tcframe.specs.AdFrame.{segment_room_of};
 ghost use Rattle.sl_tcflow.specs.TcNormalForm.{units_of_packet, frames_of_units};
 
 use sl_fields::SegmentHeader;
@@ -23,9 +23,9 @@ pub(crate) fn push_packet(
     requires spacecraft { spacecraft ≤ 1023 }
     requires vc { vc ≤ 63 }
     requires mid { mid ≤ 63 }
-    ensures frames { OnOk result (form.new.items ≡ form.old.items ++ concat (frames_of_units shape.now spacecraft vc ns (units_of_packet false (room_of shape.now) mid packet.now))) }
-    ensures next { IfOk result (λ next. next ≡ (ns + length (units_of_packet false (room_of shape.now) mid packet.now)) % 256) }
-    ensures room { 0 < room_of shape.now }
+    ensures frames { OnOk result (form.new.items ≡ form.old.items ++ concat (frames_of_units shape.now spacecraft vc ns (units_of_packet false (segment_room_of shape.now) mid packet.now))) }
+    ensures next { IfOk result (λ next. next ≡ (ns + length (units_of_packet false (segment_room_of shape.now) mid packet.now)) % 256) }
+    ensures room { 0 < segment_room_of shape.now }
     ensures most { OnOk result (vec_len form.new ≤ vec_len form.old + 2 * length packet.now + 7) }
     ensures kept { OnErr result (take (vec_len form.old) form.new.items ≡ form.old.items) }
     ensures capacity { vec_capacity form.old ≤ vec_capacity form.new }

@@ -8,7 +8,7 @@ ghost use Rattle.sl_packet.specs.Stopping.{IsStopped};
 ghost use Rattle.sl_tcflow.specs.NextSegment.{IsReported, incomplete_after, packets_after};
 ghost use Rattle.sl_tcflow.specs.Placed.{at, IsPlaced};
 ghost use Rattle.sl_tcflow.specs.Receiving.{channel_at};
-ghost use Rattle.sl_tcflow.specs.Series.{flags_of, header_at, octets_at, segment_in};
+ghost use Rattle.sl_tcflow.specs.Series.{flags_of, header_at, segment_data, segment_in};
 
 use crate::incomplete::Incomplete;
 use crate::segment::{FIRST, segment_of};
@@ -47,7 +47,7 @@ pub fn take_unit<S: PacketSink>(
     ensures accepted { OnOk result (let next : List ℕ = segment_in plain unit.now in let index : ℕ = channel_at vc (header_at next).map in
         TakesAll S.taking sink.old index (without_idle (packets_after (at incomplete.old.items index) next)) sink.new) }
     ensures step { IfOk result (let next : List ℕ = segment_in plain unit.now in
-        IsReported (at incomplete.old.items (channel_at vc (header_at next).map)) (flags_of next) (octets_at next)) }
+        IsReported (at incomplete.old.items (channel_at vc (header_at next).map)) (flags_of next) (segment_data next)) }
     ensures kept { OnOk result (S.failures sink.new ≡ S.failures sink.old) }
     ensures stopped { IfErr result (λ flow. let next : List ℕ = segment_in plain unit.now in let index : ℕ = channel_at vc (header_at next).map in
         IsStopped S.taking S.failing S.failures sink.old index (without_idle (packets_after (at incomplete.old.items index) next)) flow sink.new) }

@@ -1,6 +1,6 @@
 //! Segments of service data units.
 ghost use Rattle.std.specs.Prelude.{◌≡◌, ◌≤◌, ◌<◌, length};
-ghost use Rattle.sl_tcflow.specs.Series.{flags_of, header_at, octets_at, segment_in};
+ghost use Rattle.sl_tcflow.specs.Series.{flags_of, header_at, segment_data, segment_in};
 
 use sl_fields::SegmentHeader;
 
@@ -27,7 +27,7 @@ pub fn segment_of(plain: bool, unit: &[u8]) -> Segment
     requires { 0 < length unit.now }
     ensures flags { result.flags ≡ flags_of (segment_in plain unit.now) }
     ensures map { result.map ≡ (header_at (segment_in plain unit.now)).map }
-    ensures octets { result.octets.now ≡ octets_at (segment_in plain unit.now) }
+    ensures octets { result.octets.now ≡ segment_data (segment_in plain unit.now) }
     ensures short { length result.octets.now ≤ length unit.now }
     ensures most { result.flags ≤ 3 }
     ensures map_most { result.map ≤ 63 }

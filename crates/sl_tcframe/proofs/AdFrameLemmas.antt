@@ -1,28 +1,22 @@
 -- A frame of type AD as it is made, and as it is read back.
-use Rattle.std.proofs.Common.{◌≡◌, ℕ, ◌+◌, ◌<◌, ◌≤◌, ◌==◌, nat_lt, Bool, true, false, not, ◌&&◌, List, [], ◌∷◌, ◌++◌, length, Option, Some, None, Ok, if◌then◌else◌, refl, sym, ◌∙◌, ap, arith, append_assoc, length-append}
+use Rattle.std.proofs.Common.{◌≡◌, ℕ, ◌+◌, ◌<◌, ◌≤◌, ◌==◌, nat_lt, true, false, not, ◌&&◌, List, [], ◌∷◌, ◌++◌, length, Option, Some, None, Ok, if◌then◌else◌, refl, sym, ◌∙◌, ap, arith, append_assoc, length-append}
 use Rattle.std.proofs.lemmas.Bool.{eq-eqb, ne_eqb, le-ltb}
-use Rattle.sl_fields.specs.Fecf.{fecf_is_good}
-use Rattle.sl_fields.specs.FecfField.{fecf_part, with_fecf}
+use Rattle.sl_fields.specs.FecfField.{fecf_part}
 use Rattle.sl_fields.specs.Field.{packed}
 use Rattle.sl_fields.specs.TcHeader.{TcFields, FitsTcHeader, tc_header, tc_fields, tc_octets}
-use Rattle.sl_fields.proofs.FecfLemmas.{fecf_len_le, length-fecf_part, length-with_fecf, with_fecf_good}
+use Rattle.sl_fields.proofs.FecfLemmas.{fecf_len_le, length-fecf_part, length-with_fecf, with_fecf_is_good}
 use Rattle.sl_fields.proofs.HeaderLayout.{reads_back}
 use Rattle.sl_fields.proofs.Octets.{length-octets_of}
 use Rattle.sl_fields.proofs.Packing.{packed_lt}
 use Rattle.sl_fields.proofs.TcHeaderLemmas.{tc_layout}
 use Rattle.sl_tcframe.specs.declared.tc_frame.TcSkip.{TcSkip}
 use Rattle.sl_tcframe.specs.declared.tc_frame.TcSkip.TheVariants.{Fecf, Version, Spacecraft, Long, Kind, Empty}
-use Rattle.sl_tcframe.specs.TcFrame.{TcFormat, TcParts, ArePartsOf, Ad, header_of, parts_of, is_cut, content_of, unit_of, early_reason, read_as, tc_frame}
+use Rattle.sl_tcframe.specs.TcFrame.{TcFormat, TcParts, ArePartsOf, Ad, tc_header_of, tc_parts_of, is_cut, content_of, unit_content, early_reason, read_as, tc_frame}
 use Rattle.sl_tcframe.specs.AdFrame.{FitAdFrame, ad_header, ad_len, ad_frame}
 use Rattle.sl_tcframe.proofs.PartLemmas.{only_parts, parts_cut}
 
--- octets are not skipped for the error control field that is theirs
-good_if : (has : Bool) (octets : List ℕ) → 0 < length octets → (has && not (fecf_is_good (with_fecf has octets))) ≡ false
-good_if false octets some = refl
-good_if true octets some = ap not (with_fecf_good octets some)
-
 -- a data field of one octet or more under a header of type AD
-unit_is : (h : TcFields) (field : List ℕ) → h.bypass ≡ false → 0 < length field → unit_of h field ≡ Some (Ad h.ns field)
+unit_is : (h : TcFields) (field : List ℕ) → h.bypass ≡ false → 0 < length field → unit_content h field ≡ Some (Ad h.ns field)
 unit_is h [] kept some = absurd (omega arith)
 unit_is h (octet ∷ octets) kept some = rw kept refl
 
@@ -91,17 +85,17 @@ module _ (format : TcFormat) (spacecraft vc ns : ℕ) (unit : List ℕ) (fit : F
   pub ad_frame_back : tc_frame format spacecraft frame ≡ Ok (record { vc = vc; content = Ad ns unit })
   ad_frame_back =
       let parts = only_parts format frame made_of made_of_parts in
-      let header : header_of frame ≡ h = ap (λ (p : TcParts). tc_header p.header) parts ∙ header_back in
-      let field : (parts_of format frame).field ≡ unit = ap (λ (p : TcParts). p.field) parts in
-      let good = good_if format.fecf covered (omega (arith, length-covered)) in
+      let header : tc_header_of frame ≡ h = ap (λ (p : TcParts). tc_header p.header) parts ∙ header_back in
+      let field : (tc_parts_of format frame).field ≡ unit = ap (λ (p : TcParts). p.field) parts in
+      let good = with_fecf_is_good format.fecf covered (omega (arith, length-covered)) in
       let small : nat_lt format.max (length frame) ≡ false = le-ltb format.max (length frame) (let w = within in omega (arith, length-ad_frame)) in
       let some : (length unit == 0) ≡ false = ne_eqb (length unit) 0 (λ e. let s = fit.some in omega arith) in
       let kept : early_reason format spacecraft frame ≡ None =
-      ap (λ bad. if bad then Some Fecf else reason_by spacecraft format.max (length frame) (header_of frame) (parts_of format frame).field) good
-      ∙ ap (λ g. reason_by spacecraft format.max (length frame) g (parts_of format frame).field) header
+      ap (λ bad. if bad then Some Fecf else reason_by spacecraft format.max (length frame) (tc_header_of frame) (tc_parts_of format frame).field) good
+      ∙ ap (λ g. reason_by spacecraft format.max (length frame) g (tc_parts_of format frame).field) header
       ∙ ap (λ f. reason_by spacecraft format.max (length frame) h f) field
       ∙ rw (eq-eqb spacecraft spacecraft refl, small, some) refl in
-      let carried : content_of (header_of frame) (parts_of format frame).field ≡ Some (Ad ns unit) =
-      ap (λ g. content_of g (parts_of format frame).field) header ∙ ap (content_of h) field ∙ unit_is h unit refl fit.some in
-      ap (λ reason. read_as reason (header_of frame) (content_of (header_of frame) (parts_of format frame).field)) kept
-      ∙ ap (λ c. read_as None (header_of frame) c) carried ∙ ap (λ g. read_as None g (Some (Ad ns unit))) header
+      let carried : content_of (tc_header_of frame) (tc_parts_of format frame).field ≡ Some (Ad ns unit) =
+      ap (λ g. content_of g (tc_parts_of format frame).field) header ∙ ap (content_of h) field ∙ unit_is h unit refl fit.some in
+      ap (λ reason. read_as reason (tc_header_of frame) (content_of (tc_header_of frame) (tc_parts_of format frame).field)) kept
+      ∙ ap (λ c. read_as None (tc_header_of frame) c) carried ∙ ap (λ g. read_as None g (Some (Ad ns unit))) header

@@ -6,11 +6,11 @@ use Rattle.std.proofs.lemmas.List.Elements.{All-append, All-replicate}
 use Rattle.sl_fields.specs.Field.{IsOctets}
 use Rattle.sl_fields.proofs.FecfLemmas.{fecf_len_le}
 use Rattle.sl_tcframe.specs.TcFrame.{TcFormat, least_of}
-use Rattle.sl_tcframe.specs.TcFraming.{Incomplete, IncompleteBecomesFrame, Whole, front_of, len_by_four}
+use Rattle.sl_tcframe.specs.TcFraming.{Incomplete, IncompleteBecomesFrame, WholeFrame, front_of, len_by_four}
 use Rattle.sl_tcframe.proofs.FramingLemmas.{front_tells, front_whole, len_by_four-append}
 
 abbrev Becomes : TcFormat → List ℕ → Type 0
-Becomes format octets = (more : List ℕ) × IsOctets more × (front_of format (octets ++ more) ≡ Whole (length (octets ++ more)))
+Becomes format octets = (more : List ℕ) × IsOctets more × (front_of format (octets ++ more) ≡ WholeFrame (length (octets ++ more)))
 
 -- with zeros, where four octets state the length
 filled_up : (format : TcFormat) (octets : List ℕ) → 4 ≤ length octets → least_of format ≤ len_by_four octets → length octets ≤ len_by_four octets → Becomes format octets
@@ -21,7 +21,7 @@ filled_up format octets four enough short =
     let size : length (octets ++ more) ≡ len_by_four octets = omega (arith, short, length-append octets more, length-replicate {A = ℕ} wanted 0) in (
       more,
       All-replicate (λ octet. octet < 256) wanted 0 (omega arith),
-      front_whole format (octets ++ more) (omega (arith, four, short, size)) (omega (arith, enough, same)) (omega (arith, same, size)) ∙ ap Whole (same ∙ sym size),
+      front_whole format (octets ++ more) (omega (arith, four, short, size)) (omega (arith, enough, same)) (omega (arith, same, size)) ∙ ap WholeFrame (same ∙ sym size),
     )
 
 -- octets up to the fourth, which states 256 octets or more
@@ -55,6 +55,6 @@ incomplete_becomes_frame format octets each incomplete =
           let (more, are, whole) = filled_up format (octets ++ h.pad) four (omega (arith, h.many, least_few format)) (omega (arith, h.many, h.four)) in (
             h.pad ++ more,
             All-append (λ octet. octet < 256) h.pad more h.each are,
-            subst (λ l. front_of format l ≡ Whole (length l)) (append_assoc octets h.pad more) whole,
+            subst (λ l. front_of format l ≡ WholeFrame (length l)) (append_assoc octets h.pad more) whole,
           )
     ]

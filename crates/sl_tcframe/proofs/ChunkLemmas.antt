@@ -6,8 +6,8 @@ use Rattle.std.proofs.lemmas.List.{drop_at, take_at, take-append-drop}
 use Rattle.std.proofs.lemmas.List.Elements.{All-drop, All-get_or, All-take}
 use Rattle.sl_fields.specs.Field.{IsOctets}
 use Rattle.sl_tcframe.specs.TcDelimited.{IsTcDelimited, front_len, tc_frames_of, tc_remainder_of}
-use Rattle.sl_tcframe.specs.TcFrame.{TcFormat, is_cut, stated_len}
-use Rattle.sl_tcframe.specs.TcFraming.{BeginsWith, Front, Incomplete, BelowLeast, Whole, IsRest, len_by_four, front_of, TcFraming, YieldsFrame, YieldsNone, YieldsFrames, ended, yielded, paused, after_call, at_start, taken_at, AnyChunksAreTaken, ChunksAreDelimited, FrontsAreFrames, NoneFollowsBelowLeast}
+use Rattle.sl_tcframe.specs.TcFrame.{TcFormat, is_cut, stated_frame_len}
+use Rattle.sl_tcframe.specs.TcFraming.{BeginsWith, FrameFront, Incomplete, BelowLeast, WholeFrame, IsRest, len_by_four, front_of, TcFraming, YieldsFrame, YieldsNone, YieldsFrames, ended, yielded, paused, after_call, at_start, taken_at, AnyChunksAreTaken, ChunksAreDelimited, FrontsAreFrames, NoneFollowsBelowLeast}
 use Rattle.sl_tcframe.proofs.DelimitedLemmas.{IsFront, cases_front, cut_front, each_is_delimited, front_is, front_is_cut, front_some, frames_of-frame, frames_of-none, remainder_of-frame, remainder_of-none}
 use Rattle.sl_tcframe.proofs.FramingLemmas.{FrontIs, below_stays, fits_rest, four_state_it, front_below_least, front_tells, front_whole, len_by_four-append, rest_fits}
 use Rattle.sl_tcframe.proofs.PartLemmas.{facts_cut}
@@ -15,12 +15,12 @@ use Rattle.sl_tcframe.proofs.PartLemmas.{facts_cut}
 -- ---- the front
 
 -- the fifth octet changes nothing
-stated_by_four : (octets : List ℕ) → IsOctets octets → 5 ≤ length octets → len_by_four octets ≡ stated_len octets
+stated_by_four : (octets : List ℕ) → IsOctets octets → 5 ≤ length octets → len_by_four octets ≡ stated_frame_len octets
 stated_by_four octets each five = four_state_it octets five (All-get_or (λ octet. octet < 256) octets 4 0 (omega arith) each)
 
-whole_is_frame : (format : TcFormat) (octets : List ℕ) (len : ℕ) → IsOctets octets → front_of format octets ≡ Whole len → front_len format octets ≡ Some len
+whole_is_frame : (format : TcFormat) (octets : List ℕ) (len : ℕ) → IsOctets octets → front_of format octets ≡ WholeFrame len → front_len format octets ≡ Some len
 whole_is_frame format octets len each whole =
-    let w = front_tells format octets (Whole len) whole in
+    let w = front_tells format octets (WholeFrame len) whole in
     let five : 5 ≤ length octets = omega (arith, w.1, w.2) in
     front_is format octets len (record {
       header = five;
@@ -29,14 +29,14 @@ whole_is_frame format octets len each whole =
       stated = w.3 ∙ stated_by_four octets each five;
     })
 
-frame_is_whole : (format : TcFormat) (octets : List ℕ) (len : ℕ) → IsOctets octets → front_len format octets ≡ Some len → front_of format octets ≡ Whole len
+frame_is_whole : (format : TcFormat) (octets : List ℕ) (len : ℕ) → IsOctets octets → front_len format octets ≡ Some len → front_of format octets ≡ WholeFrame len
 frame_is_whole format octets len each some =
     let f = front_some format octets len some in
     let header = f.header in
     let least = f.least in
     let inside = f.inside in
     let same : len_by_four octets ≡ len = stated_by_four octets each header ∙ sym f.stated in
-    front_whole format octets (omega (arith, header)) (omega (arith, least, same)) (omega (arith, inside, same)) ∙ ap Whole same
+    front_whole format octets (omega (arith, header)) (omega (arith, least, same)) (omega (arith, inside, same)) ∙ ap WholeFrame same
 
 -- the frame that octets begin with
 begins_with : (format : TcFormat) (octets : List ℕ) (len : ℕ) → front_len format octets ≡ Some len → BeginsWith format octets len
@@ -59,7 +59,7 @@ fronts_are_frames format octets len each = (
 
 -- no frame is at a front that isn't whole
 no_frame : (format : TcFormat) (octets : List ℕ) → IsOctets octets
-    → (IsFront format octets (stated_len octets) → len_by_four octets ≡ stated_len octets → ⊥) → front_len format octets ≡ None
+    → (IsFront format octets (stated_frame_len octets) → len_by_four octets ≡ stated_frame_len octets → ⊥) → front_len format octets ≡ None
 no_frame format octets each not_so =
     elim (cases_front format octets) [
       | inl (f, some) ↦ absurd (not_so f (stated_by_four octets each f.header))
@@ -87,7 +87,7 @@ none_follows_below_least format octets more len each below begins =
     apart_from e = cc
 
 -- what is whole is a frame
-whole_is_cut : (format : TcFormat) (octets frame left : List ℕ) → octets ≡ frame ++ left → IsOctets frame → FrontIs format octets (Whole (length frame))
+whole_is_cut : (format : TcFormat) (octets frame left : List ℕ) → octets ≡ frame ++ left → IsOctets frame → FrontIs format octets (WholeFrame (length frame))
     → is_cut format frame ≡ true
 whole_is_cut format octets frame left parts each w =
     let four : 4 ≤ length frame = omega (arith, w.1, w.3) in
@@ -150,7 +150,7 @@ stays_stuck f new chunks frames behind below four (ended f') = record { none = r
 stays_stuck f new chunks' frames' behind' below four (yielded f' new' chunk frame left behind chunks frames y later) =
     absurd (apart (sym (below_stays f.format f.rest chunk below) ∙ y.whole))
   where
-    apart : BelowLeast ≡ Whole (length frame) → ⊥
+    apart : BelowLeast ≡ WholeFrame (length frame) → ⊥
     apart e = cc
 stays_stuck f new chunks' frames' behind' below four (paused f' new' chunk left behind chunks frames p later) =
     let now = below_stays f.format f.rest chunk below in
@@ -203,7 +203,7 @@ are_theirs f new chunks' frames' behind' each is_rest (yielded f' new' chunk fra
     sym (append_assoc f.rest chunk (concat chunks)) ∙ ap (λ l. l ++ concat chunks) y.parts ∙ append_assoc frame left (concat chunks) in
     let both = apart frame (left ++ concat chunks) (subst IsOctets parts each) in
     let next = are_theirs (after_call f chunk (Some frame)) new (left ∷ chunks) frames behind both.1 (fits_rest f.format [] (inl (omega arith))) later in
-    let cut = whole_is_cut f.format (f.rest ++ chunk) frame left y.parts both.0 (front_tells f.format (f.rest ++ chunk) (Whole (length frame)) y.whole) in (
+    let cut = whole_is_cut f.format (f.rest ++ chunk) frame left y.parts both.0 (front_tells f.format (f.rest ++ chunk) (WholeFrame (length frame)) y.whole) in (
       ap (tc_frames_of f.format) parts ∙ frames_of-frame f.format frame (left ++ concat chunks) cut ∙ ap (λ l. frame ∷ l) next.0,
       ap (tc_remainder_of f.format) parts ∙ remainder_of-frame f.format frame (left ++ concat chunks) cut ∙ next.1,
     )
@@ -236,7 +236,7 @@ abbrev Others : TcFraming → List (List ℕ) → Type 0
 Others f chunks = (g : TcFraming) → g.format ≡ f.format → IsRest g.format g.rest → Taken g chunks
 
 -- a whole frame has more octets than were taken before
-pub less_than_whole : (format : TcFormat) (rest chunk : List ℕ) (len : ℕ) → IsRest format rest → FrontIs format (rest ++ chunk) (Whole len) → length rest < len
+pub less_than_whole : (format : TcFormat) (rest chunk : List ℕ) (len : ℕ) → IsRest format rest → FrontIs format (rest ++ chunk) (WholeFrame len) → length rest < len
 less_than_whole format rest chunk len is_rest w =
     elim (leb_tells (length rest) 4) [
       | inl (is, few) ↦ omega (arith, few, w.1, w.3)
@@ -254,17 +254,17 @@ pause f chunk left chunks others p =
 
 step : (f : TcFraming) (chunk : List ℕ) (chunks : List (List ℕ)) → IsRest f.format f.rest → Others f chunks
     → ((frame left : List ℕ) → length left < length chunk → Taken (after_call f chunk (Some frame)) (left ∷ chunks))
-    → (front : Front) → front_of f.format (f.rest ++ chunk) ≡ front → Taken f (chunk ∷ chunks)
+    → (front : FrameFront) → front_of f.format (f.rest ++ chunk) ≡ front → Taken f (chunk ∷ chunks)
 step f chunk chunks is_rest others next Incomplete is =
     pause f chunk [] chunks others (record { front = inl is; left_is = rw is refl })
 step f chunk chunks is_rest others next BelowLeast is =
     pause f chunk (drop 4 (f.rest ++ chunk)) chunks others (record { front = inr is; left_is = rw is refl })
-step f chunk chunks is_rest others next (Whole len) is =
+step f chunk chunks is_rest others next (WholeFrame len) is =
     let octets = f.rest ++ chunk in
-    let w = front_tells f.format octets (Whole len) is in
+    let w = front_tells f.format octets (WholeFrame len) is in
     let inside : len ≤ length octets = omega (arith, w.2, w.3) in
     let size : length (take len octets) ≡ len = length-take-le len octets inside in
-    let y : YieldsFrame f chunk (take len octets) (drop len octets) = record { parts = sym (take-append-drop len octets); whole = is ∙ ap Whole (sym size) } in
+    let y : YieldsFrame f chunk (take len octets) (drop len octets) = record { parts = sym (take-append-drop len octets); whole = is ∙ ap WholeFrame (sym size) } in
     let less : length (drop len octets) < length chunk =
     omega (arith, inside, less_than_whole f.format f.rest chunk len is_rest w, length-drop len octets, length-append f.rest chunk) in
     let (frames, new, behind, later) = next (take len octets) (drop len octets) less in

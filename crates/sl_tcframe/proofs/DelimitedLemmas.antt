@@ -4,8 +4,8 @@ use Rattle.std.specs.List.{AllByRecursion, concat}
 use Rattle.std.proofs.lemmas.Bool.{le-ltb, ltb-false}
 use Rattle.std.proofs.lemmas.List.{drop-drop, drop_all, drop_at, take_at, take-append-drop, take-take, take-append-le}
 use Rattle.sl_fields.specs.TcHeader.{tc_header}
-use Rattle.sl_tcframe.specs.TcFrame.{TcFormat, is_cut, least_of, stated_len}
-use Rattle.sl_tcframe.specs.TcDelimited.{IsTcDelimited, EachIsTcDelimited, IsTcDelimitedOnce, begin_no_frame, front_len, frame_at, passed_at, tc_frames_from, tc_frames_of, tc_remainder_of}
+use Rattle.sl_tcframe.specs.TcFrame.{TcFormat, is_cut, least_of, stated_frame_len}
+use Rattle.sl_tcframe.specs.TcDelimited.{IsTcDelimited, EachIsTcDelimited, IsTcDelimitedOnce, begin_no_frame, front_len, frame_at, frame_passed, tc_frames_from, tc_frames_of, tc_remainder_of}
 use Rattle.sl_tcframe.proofs.PartLemmas.{cut_facts, facts_cut}
 
 -- ---- the front
@@ -21,30 +21,30 @@ pub record IsFront (format : TcFormat) (octets : List ℕ) (len : ℕ) : Type 0 
   pub header : 5 ≤ length octets
   pub least : least_of format ≤ len
   pub inside : len ≤ length octets
-  pub stated : len ≡ stated_len octets
+  pub stated : len ≡ stated_frame_len octets
 
-front_facts : (format : TcFormat) (octets : List ℕ) → begin_no_frame format octets ≡ false → IsFront format octets (stated_len octets)
+front_facts : (format : TcFormat) (octets : List ℕ) → begin_no_frame format octets ≡ false → IsFront format octets (stated_frame_len octets)
 front_facts format octets h =
-    let n = neither (nat_lt (length octets) 5) (nat_lt (stated_len octets) (least_of format)) (nat_lt (length octets) (stated_len octets)) h in
+    let n = neither (nat_lt (length octets) 5) (nat_lt (stated_frame_len octets) (least_of format)) (nat_lt (length octets) (stated_frame_len octets)) h in
     record {
       header = ltb-false (length octets) 5 n.0;
-      least = ltb-false (stated_len octets) (least_of format) n.1;
-      inside = ltb-false (length octets) (stated_len octets) n.2;
+      least = ltb-false (stated_frame_len octets) (least_of format) n.1;
+      inside = ltb-false (length octets) (stated_frame_len octets) n.2;
       stated = refl;
     }
 
 facts_front : (format : TcFormat) (octets : List ℕ) (len : ℕ) → IsFront format octets len → begin_no_frame format octets ≡ false
 facts_front format octets len f =
-    let least : least_of format ≤ stated_len octets = rw (← f.stated) f.least in
-    let inside : stated_len octets ≤ length octets = rw (← f.stated) f.inside in
-    rw (le-ltb (length octets) 5 f.header, le-ltb (stated_len octets) (least_of format) least, le-ltb (length octets) (stated_len octets) inside) refl
+    let least : least_of format ≤ stated_frame_len octets = rw (← f.stated) f.least in
+    let inside : stated_frame_len octets ≤ length octets = rw (← f.stated) f.inside in
+    rw (le-ltb (length octets) 5 f.header, le-ltb (stated_frame_len octets) (least_of format) least, le-ltb (length octets) (stated_frame_len octets) inside) refl
 
 -- the two cases of a front
-pub cases_front : (format : TcFormat) (octets : List ℕ) → (IsFront format octets (stated_len octets) × (front_len format octets ≡ Some (stated_len octets)))
+pub cases_front : (format : TcFormat) (octets : List ℕ) → (IsFront format octets (stated_frame_len octets) × (front_len format octets ≡ Some (stated_frame_len octets)))
     ⊎ ((begin_no_frame format octets ≡ true) × (front_len format octets ≡ None))
 cases_front format octets = go (begin_no_frame format octets) refl
   where
-    go : (b : Bool) → begin_no_frame format octets ≡ b → (IsFront format octets (stated_len octets) × (front_len format octets ≡ Some (stated_len octets)))
+    go : (b : Bool) → begin_no_frame format octets ≡ b → (IsFront format octets (stated_frame_len octets) × (front_len format octets ≡ Some (stated_frame_len octets)))
         ⊎ ((begin_no_frame format octets ≡ true) × (front_len format octets ≡ None))
     go true e = inr (e, rw e refl)
     go false e = inl (front_facts format octets e, rw e refl)
@@ -91,7 +91,7 @@ pub frames_of-front : (format : TcFormat) (octets : List ℕ) (len : ℕ) → fr
 frames_of-front format [] len h some long = absurd (omega arith)
 frames_of-front format (octet ∷ octets) zero h some long = absurd (omega arith)
 frames_of-front format (octet ∷ octets) (suc len) h some long =
-    ap (λ f. frame_at f (octet ∷ octets) ++ tc_frames_from format (passed_at f (octet ∷ octets)) octets) h
+    ap (λ f. frame_at f (octet ∷ octets) ++ tc_frames_from format (frame_passed f (octet ∷ octets)) octets) h
     ∙ ap (λ k. take (suc len) (octet ∷ octets) ∷ tc_frames_from format k octets) (sub_suc len)
     ∙ ap (λ frames. take (suc len) (octet ∷ octets) ∷ frames) (frames_from-drop format len octets)
 
@@ -107,7 +107,7 @@ remainder_of-front format octets len h some inside =
 pub frames_of-none : (format : TcFormat) (octets : List ℕ) → front_len format octets ≡ None → tc_frames_of format octets ≡ []
 frames_of-none format [] h = refl
 frames_of-none format (octet ∷ octets) h =
-    ap (λ f. frame_at f (octet ∷ octets) ++ tc_frames_from format (passed_at f (octet ∷ octets)) octets) h
+    ap (λ f. frame_at f (octet ∷ octets) ++ tc_frames_from format (frame_passed f (octet ∷ octets)) octets) h
     ∙ frames_from-drop format (length (octet ∷ octets)) octets
     ∙ ap (tc_frames_of format) (drop_all (length (octet ∷ octets)) octets (omega arith))
 
@@ -167,13 +167,13 @@ one_before format octets len frames rest f a = record {
 none_before : (format : TcFormat) (octets : List ℕ) → begin_no_frame format octets ≡ true → IsTcDelimited format octets [] octets
 none_before format octets h = record { end_to_end = refl; each = tt; no_more = h }
 
-delimited_if : (format : TcFormat) (octets : List ℕ) → (IsFront format octets (stated_len octets) → IsTcDelimited format (drop (stated_len octets) octets) (tc_frames_of format (drop (stated_len octets) octets)) (tc_remainder_of format (drop (stated_len octets) octets)))
+delimited_if : (format : TcFormat) (octets : List ℕ) → (IsFront format octets (stated_frame_len octets) → IsTcDelimited format (drop (stated_frame_len octets) octets) (tc_frames_of format (drop (stated_frame_len octets) octets)) (tc_remainder_of format (drop (stated_frame_len octets) octets)))
     → IsTcDelimited format octets (tc_frames_of format octets) (tc_remainder_of format octets)
 delimited_if format octets later =
     elim (cases_front format octets) [
       | inl (f, front) ↦
           let least = f.least in
-          let len : ℕ = stated_len octets in
+          let len : ℕ = stated_frame_len octets in
           are_same format octets (take len octets ∷ tc_frames_of format (drop len octets)) (tc_frames_of format octets) (tc_remainder_of format (drop len octets)) (tc_remainder_of format octets)
           (frames_of-front format octets len front (omega arith) (let header = f.header in omega arith)) (remainder_of-front format octets len front (omega arith) f.inside)
           (one_before format octets len (tc_frames_of format (drop len octets)) (tc_remainder_of format (drop len octets)) f (later f))
@@ -184,7 +184,7 @@ delimited_if format octets later =
 delimited : (bound : ℕ) (format : TcFormat) (octets : List ℕ) → length octets ≤ bound → IsTcDelimited format octets (tc_frames_of format octets) (tc_remainder_of format octets)
 delimited zero format octets h = delimited_if format octets (λ f. absurd (let header = f.header in omega arith))
 delimited (suc bound) format octets h =
-    delimited_if format octets (λ f. let least = f.least in let header = f.header in delimited bound format (drop (stated_len octets) octets) (omega (arith, length-drop (stated_len octets) octets)))
+    delimited_if format octets (λ f. let least = f.least in let header = f.header in delimited bound format (drop (stated_frame_len octets) octets) (omega (arith, length-drop (stated_frame_len octets) octets)))
 
 pub each_is_delimited : EachIsTcDelimited
 each_is_delimited format recording = delimited (length recording) format recording (omega arith)
@@ -201,7 +201,7 @@ delimited_once format recording frames remainder a =
 pub front_some : (format : TcFormat) (octets : List ℕ) (len : ℕ) → front_len format octets ≡ Some len → IsFront format octets len
 front_some format octets len h =
     elim (cases_front format octets) [
-      | inl (f, e) ↦ subst (IsFront format octets) (some_injective (stated_len octets) len (sym e ∙ h)) f
+      | inl (f, e) ↦ subst (IsFront format octets) (some_injective (stated_frame_len octets) len (sym e ∙ h)) f
       | inr (e, none) ↦ absurd (none_some len (sym none ∙ h))
     ]
   where

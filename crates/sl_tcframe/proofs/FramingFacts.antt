@@ -1,6 +1,6 @@
 -- Fronts of known octets, so that a wrong definition doesn't check.
 use Rattle.std.proofs.Common.{◌≡◌, ℕ, List, [], ◌∷◌, ◌++◌, refl}
-use Rattle.sl_tcframe.specs.TcFraming.{Incomplete, BelowLeast, Whole, len_by_four, front_of}
+use Rattle.sl_tcframe.specs.TcFraming.{Incomplete, BelowLeast, WholeFrame, len_by_four, front_of}
 use Rattle.sl_tcframe.proofs.TcFrameFacts.{carrier, format, with_error_control}
 
 -- the first four octets of a header, with this octet as the last of the frame length field
@@ -15,8 +15,8 @@ pub record Fronts : Type 0 where
   pub six_stated : front_of (with_error_control 16) (stating 0x05) ≡ BelowLeast
   pub seven_stated : front_of (with_error_control 16) (stating 0x06) ≡ Incomplete
   pub more_behind : front_of (format 16) (stating 0x02 ++ carrier) ≡ BelowLeast
-  pub least : front_of (format 16) (stating 0x04 ++ 0xEE ∷ []) ≡ Whole 5
-  pub whole : front_of (format 16) (carrier ++ 0xEE ∷ []) ≡ Whole 16
+  pub least : front_of (format 16) (stating 0x04 ++ 0xEE ∷ []) ≡ WholeFrame 5
+  pub whole : front_of (format 16) (carrier ++ 0xEE ∷ []) ≡ WholeFrame 16
   pub two_octets : len_by_four (0x00 ∷ 0x01 ∷ 0xFD ∷ 0x03 ∷ 0xFF ∷ []) ≡ 260
 
 pub fronts : Fronts

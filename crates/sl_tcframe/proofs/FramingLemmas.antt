@@ -5,9 +5,9 @@ use Rattle.std.proofs.lemmas.Bool.{le-ltb, lt-ltb, ltb-false}
 use Rattle.std.proofs.lemmas.Bool.Decides.{leb_tells}
 use Rattle.std.proofs.lemmas.List.{length-take, take-append-drop, take-append-le, take_at, drop_at, drop_all}
 use Rattle.sl_fields.specs.Field.{number_of}
-use Rattle.sl_tcframe.specs.TcFrame.{TcFormat, least_of, stated_len}
+use Rattle.sl_tcframe.specs.TcFrame.{TcFormat, least_of, stated_frame_len}
 use Rattle.sl_fields.specs.TcHeader.{tc_header}
-use Rattle.sl_tcframe.specs.TcFraming.{BeginsWithFrame, Front, Incomplete, BelowLeast, Whole, IsRest, TakesUpToFrame, len_by_four, front_of}
+use Rattle.sl_tcframe.specs.TcFraming.{BeginsWithFrame, FrameFront, Incomplete, BelowLeast, WholeFrame, IsRest, TakesUpToFrame, len_by_four, front_of}
 use Rattle.sl_tcframe.proofs.PartLemmas.{facts_cut}
 
 -- ---- the front
@@ -24,19 +24,19 @@ front_incomplete format octets four enough more =
     rw (le-ltb (length octets) 4 four, le-ltb (len_by_four octets) (least_of format) enough, lt-ltb (length octets) (len_by_four octets) more) refl
 
 pub front_whole : (format : TcFormat) (octets : List ℕ) → 4 ≤ length octets → least_of format ≤ len_by_four octets → len_by_four octets ≤ length octets
-    → front_of format octets ≡ Whole (len_by_four octets)
+    → front_of format octets ≡ WholeFrame (len_by_four octets)
 front_whole format octets four enough whole =
     rw (le-ltb (length octets) 4 four, le-ltb (len_by_four octets) (least_of format) enough, le-ltb (length octets) (len_by_four octets) whole) refl
 
 -- more octets state no other length
 pub len_by_four-append : (octets more : List ℕ) → 4 ≤ length octets → len_by_four (octets ++ more) ≡ len_by_four octets
-len_by_four-append octets more four = ap (λ front. stated_len (front ++ 0 ∷ [])) (take-append-le 4 octets more four)
+len_by_four-append octets more four = ap (λ front. stated_frame_len (front ++ 0 ∷ [])) (take-append-le 4 octets more four)
 
 -- what is so of the octets at each front
-abbrev pub FrontIs : TcFormat → List ℕ → Front → Type 0
+abbrev pub FrontIs : TcFormat → List ℕ → FrameFront → Type 0
 FrontIs format octets Incomplete = (length octets < 4) ⊎ ((least_of format ≤ len_by_four octets) × (length octets < len_by_four octets))
 FrontIs format octets BelowLeast = (4 ≤ length octets) × (len_by_four octets < least_of format)
-FrontIs format octets (Whole len) = (4 ≤ length octets) × (least_of format ≤ len_by_four octets) × (len_by_four octets ≤ length octets) × (len ≡ len_by_four octets)
+FrontIs format octets (WholeFrame len) = (4 ≤ length octets) × (least_of format ≤ len_by_four octets) × (len_by_four octets ≤ length octets) × (len ≡ len_by_four octets)
 
 pub front_facts : (format : TcFormat) (octets : List ℕ) → FrontIs format octets (front_of format octets)
 front_facts format octets =
@@ -57,7 +57,7 @@ front_facts format octets =
           ]
     ]
 
-pub front_tells : (format : TcFormat) (octets : List ℕ) (front : Front) → front_of format octets ≡ front → FrontIs format octets front
+pub front_tells : (format : TcFormat) (octets : List ℕ) (front : FrameFront) → front_of format octets ≡ front → FrontIs format octets front
 front_tells format octets front is = subst (FrontIs format octets) is (front_facts format octets)
 
 -- ---- what is left where no frame is whole
@@ -103,7 +103,7 @@ pub still_stuck : (format : TcFormat) (old chunk : List ℕ) → IsRest format o
     → (b : Bool) (new left : List ℕ) → TakesUpToFrame format old chunk b new left → (b ≡ false) × (new ≡ old) × (left ≡ chunk)
 still_stuck format old chunk is_rest below true new left t = absurd (differ (length new) (sym (below_stays format old chunk below) ∙ t.1))
   where
-    differ : (len : ℕ) → BelowLeast ≡ Whole len → ⊥
+    differ : (len : ℕ) → BelowLeast ≡ WholeFrame len → ⊥
     differ len e = cc
 still_stuck format old chunk is_rest below false new left t =
     let now = below_stays format old chunk below in
@@ -217,13 +217,13 @@ module _ (format : TcFormat) (old chunk : List ℕ) (fits : FitsRest format old)
       | inr b ↦ omega (arith, b.1)
     ]
 
-    pub takes_whole : len_by_four first ≤ length whole → len_by_four first ≡ stated_len whole → TakesUpToFrame format old chunk true whole behind
+    pub takes_whole : len_by_four first ≤ length whole → len_by_four first ≡ stated_frame_len whole → TakesUpToFrame format old chunk true whole behind
     takes_whole many stated =
         let exact : length whole ≡ len_by_four first = omega (arith, many, many_taken (len_by_four first) first later at_most) in
         let same = same_len four in
         let inside : len_by_four (old ++ chunk) ≤ length (old ++ chunk) = omega (arith, same, many, ap length all_parts, length-append whole behind) in (
           all_parts,
-          front_whole format (old ++ chunk) (all_four four) (omega (arith, same, enough)) inside ∙ ap Whole (same ∙ sym exact),
+          front_whole format (old ++ chunk) (all_four four) (omega (arith, same, enough)) inside ∙ ap WholeFrame (same ∙ sym exact),
           facts_cut format whole (omega (arith, enough, exact)) (exact ∙ stated),
         )
 
@@ -236,7 +236,7 @@ module _ (format : TcFormat) (old chunk : List ℕ) (fits : FitsRest format old)
         front_incomplete format (old ++ chunk) (all_four four) (omega (arith, same, enough)) (omega (arith, same, short, ap length all)) in
         (inl front, rw front all, rw front none, fits_rest format whole (inr (omega (arith, enough, same, ap len_by_four all), omega (arith, short, same, ap len_by_four all))))
 
-    pub takes_either : (b : Bool) → (b ≡ true → (len_by_four first ≤ length whole) × (len_by_four first ≡ stated_len whole))
+    pub takes_either : (b : Bool) → (b ≡ true → (len_by_four first ≤ length whole) × (len_by_four first ≡ stated_frame_len whole))
         → (b ≡ false → length whole < len_by_four first) → TakesUpToFrame format old chunk b whole behind
     takes_either true is_whole is_part = let w = is_whole refl in takes_whole w.0 w.1
     takes_either false is_whole is_part = takes_part (is_part refl)
@@ -256,7 +256,7 @@ len_told octets len told = by (nat_lt (length octets) 4) refl told
     by false is told = (ltb-false (length octets) 4 is, sym (ap or_zero told))
 
 -- the fifth octet of a header states nothing of the length
-pub four_state_it : (octets : List ℕ) → 5 ≤ length octets → slice_index_or octets 4 0 < 256 → len_by_four octets ≡ stated_len octets
+pub four_state_it : (octets : List ℕ) → 5 ≤ length octets → slice_index_or octets 4 0 < 256 → len_by_four octets ≡ stated_frame_len octets
 four_state_it [] five small = absurd (omega arith)
 four_state_it (a ∷ []) five small = absurd (omega arith)
 four_state_it (a ∷ b ∷ []) five small = absurd (omega arith)
@@ -269,8 +269,8 @@ four_state_it (a ∷ b ∷ c ∷ d ∷ e ∷ more) five small =
 -- ---- octets that begin with a whole frame
 
 -- octets after the fifth change nothing of the stated length
-stated_len-append : (octets more : List ℕ) → 5 ≤ length octets → stated_len (octets ++ more) ≡ stated_len octets
-stated_len-append octets more five = ap (λ front. (tc_header front).length + 1) (take-append-le 5 octets more five)
+stated_frame_len-append : (octets more : List ℕ) → 5 ≤ length octets → stated_frame_len (octets ++ more) ≡ stated_frame_len octets
+stated_frame_len-append octets more five = ap (λ front. (tc_header front).length + 1) (take-append-le 5 octets more five)
 
 pub begins_with_frame : (format : TcFormat) (octets frame later : List ℕ) (len : ℕ) → slice_index_or octets 4 0 < 256
     → (if nat_lt (length octets) 4 then None else Some (len_by_four octets)) ≡ Some len → least_of format ≤ len
@@ -278,11 +278,11 @@ pub begins_with_frame : (format : TcFormat) (octets frame later : List ℕ) (len
 begins_with_frame format octets frame later len small stated least parts size =
     let told = len_told octets len stated in
     let inside : len ≤ length octets = omega (arith, ap length parts, length-append frame later, size) in
-    let same : len ≡ stated_len frame =
-    told.1 ∙ four_state_it octets (omega (arith, least, inside)) small ∙ ap stated_len parts
-    ∙ stated_len-append frame later (omega (arith, least, size)) in
+    let same : len ≡ stated_frame_len frame =
+    told.1 ∙ four_state_it octets (omega (arith, least, inside)) small ∙ ap stated_frame_len parts
+    ∙ stated_frame_len-append frame later (omega (arith, least, size)) in
     record {
       parts = parts;
-      whole = front_whole format octets told.0 (omega (arith, least, told.1)) (omega (arith, inside, told.1)) ∙ ap Whole (sym told.1 ∙ sym size);
+      whole = front_whole format octets told.0 (omega (arith, least, told.1)) (omega (arith, inside, told.1)) ∙ ap WholeFrame (sym told.1 ∙ sym size);
       cut = facts_cut format frame (omega (arith, least, size)) (size ∙ same);
     }

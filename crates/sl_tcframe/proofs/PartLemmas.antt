@@ -5,7 +5,7 @@ use Rattle.std.proofs.lemmas.Bool.{not-true, ltb-false, eqb-true, le-ltb, eq-eqb
 use Rattle.std.proofs.lemmas.List.{take-append-drop, drop-drop}
 use Rattle.sl_fields.specs.FecfField.{fecf_len}
 use Rattle.sl_fields.specs.TcHeader.{tc_header}
-use Rattle.sl_tcframe.specs.TcFrame.{TcFormat, TcParts, ArePartsOf, field_len, is_cut, least_of, parts_of, stated_len}
+use Rattle.sl_tcframe.specs.TcFrame.{TcFormat, TcParts, ArePartsOf, field_len, is_cut, least_of, tc_parts_of, stated_frame_len}
 
 -- both hold
 pub both : (a b : Bool) → (a && b) ≡ true → (a ≡ true) × (b ≡ true)
@@ -15,17 +15,17 @@ both false b h = absurd (cc)
 
 -- what it is to be a frame by the frame length field
 pub cut_facts : (format : TcFormat) (frame : List ℕ) → is_cut format frame ≡ true
-    → (least_of format ≤ length frame) × (length frame ≡ stated_len frame)
+    → (least_of format ≤ length frame) × (length frame ≡ stated_frame_len frame)
 cut_facts format frame h =
-    let b = both (not (nat_lt (length frame) (least_of format))) (length frame == stated_len frame) h in (
+    let b = both (not (nat_lt (length frame) (least_of format))) (length frame == stated_frame_len frame) h in (
       ltb-false (length frame) (least_of format) (not-true _ b.0),
-      eqb-true (length frame) (stated_len frame) b.1,
+      eqb-true (length frame) (stated_frame_len frame) b.1,
     )
 
-pub facts_cut : (format : TcFormat) (frame : List ℕ) → least_of format ≤ length frame → length frame ≡ stated_len frame
+pub facts_cut : (format : TcFormat) (frame : List ℕ) → least_of format ≤ length frame → length frame ≡ stated_frame_len frame
     → is_cut format frame ≡ true
 facts_cut format frame least stated =
-    rw (le-ltb (length frame) (least_of format) least, eq-eqb (length frame) (stated_len frame) stated) refl
+    rw (le-ltb (length frame) (least_of format) least, eq-eqb (length frame) (stated_frame_len frame) stated) refl
 
 -- a list in three parts, of which two have these lengths
 three_parts : (a b : ℕ) (xs : List ℕ) → xs ≡ take a xs ++ take b (drop a xs) ++ drop (a + b) xs
@@ -34,7 +34,7 @@ three_parts a b xs =
     ap (λ l. take b (drop a xs) ++ l) (sym (drop-drop b a xs)) ∙ take-append-drop b (drop a xs) in
     sym (append_assoc (take a xs) (take b (drop a xs)) (drop (a + b) xs) ∙ ap (λ l. take a xs ++ l) tail ∙ take-append-drop a xs)
 
-pub has_parts : (format : TcFormat) (frame : List ℕ) → is_cut format frame ≡ true → ArePartsOf format frame (parts_of format frame)
+pub has_parts : (format : TcFormat) (frame : List ℕ) → is_cut format frame ≡ true → ArePartsOf format frame (tc_parts_of format frame)
 has_parts format frame cut =
     let facts = cut_facts format frame cut in
     let least = facts.0 in
@@ -71,7 +71,7 @@ same_header : (format : TcFormat) (frame : List ℕ) (p : TcParts) → ArePartsO
 same_header format frame p a =
     ap (λ n. take n frame) (sym a.header) ∙ ap (take (length p.header)) a.in_order ∙ (cut_parts p.header p.field p.fecf).0
 
-pub only_parts : (format : TcFormat) (frame : List ℕ) (p : TcParts) → ArePartsOf format frame p → parts_of format frame ≡ p
+pub only_parts : (format : TcFormat) (frame : List ℕ) (p : TcParts) → ArePartsOf format frame p → tc_parts_of format frame ≡ p
 only_parts format frame p a =
     let cut = cut_parts p.header p.field p.fecf in
     let all = all_octets format frame p a in
@@ -87,5 +87,5 @@ only_parts format frame p a =
 pub parts_cut : (format : TcFormat) (frame : List ℕ) (p : TcParts) → ArePartsOf format frame p → is_cut format frame ≡ true
 parts_cut format frame p a =
     let all = all_octets format frame p a in
-    let stated : length frame ≡ stated_len frame = a.stated ∙ ap (λ h. (tc_header h).length + 1) (sym (same_header format frame p a)) in
+    let stated : length frame ≡ stated_frame_len frame = a.stated ∙ ap (λ h. (tc_header h).length + 1) (sym (same_header format frame p a)) in
     facts_cut format frame (omega arith) stated

@@ -6,7 +6,7 @@ use Rattle.sl_fields.specs.Fecf.{fecf_is_good}
 use Rattle.sl_fields.specs.TcHeader.{TcFields}
 use Rattle.sl_tcframe.specs.declared.tc_frame.TcSkip.{TcSkip}
 use Rattle.sl_tcframe.specs.declared.tc_frame.TcSkip.TheVariants.{Fecf, Version, Spacecraft, Long, Kind, Empty, Command}
-use Rattle.sl_tcframe.specs.TcFrame.{TcFormat, TcView, Content, Ad, Bd, Unlock, SetVr, Carries, HasReason, IsReadAs, header_of, parts_of, command_of, content_of, order_of, early_reason, read_as, tc_frame}
+use Rattle.sl_tcframe.specs.TcFrame.{TcFormat, TcView, Content, Ad, Bd, Unlock, SetVr, Carries, HasReason, IsReadAs, tc_header_of, tc_parts_of, command_of, content_of, order_of, early_reason, read_as, tc_frame}
 
 -- ---- tests, and what they tell
 
@@ -235,10 +235,10 @@ one_content h field (SetVr vr) (SetVr vr') p q = cc
 
 module _ (format : TcFormat) (spacecraft : ℕ) (frame : List ℕ) where
   abbrev h : TcFields
-  h = header_of frame
+  h = tc_header_of frame
 
   abbrev carried : List ℕ
-  carried = (parts_of format frame).field
+  carried = (tc_parts_of format frame).field
 
   abbrev Has : TcSkip → Type 0
   Has = HasReason format spacecraft frame

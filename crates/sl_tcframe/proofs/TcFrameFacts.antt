@@ -4,7 +4,7 @@ use Rattle.sl_fields.specs.Fecf.{fecf_of, register_of}
 use Rattle.sl_fields.specs.SegmentHeader.{SegmentFields}
 use Rattle.sl_tcframe.specs.declared.tc_frame.TcSkip.TheVariants.{Fecf, Version, Spacecraft, Long, Kind, Empty, Command}
 use Rattle.sl_tcframe.specs.TcFrame.{TcFormat, TcView, Content, Ad, Bd, Unlock, SetVr, is_cut, tc_frame}
-use Rattle.sl_tcframe.specs.AdFrame.{FitAdFrame, ad_frame, plain_room_of, room_of, segment_unit}
+use Rattle.sl_tcframe.specs.AdFrame.{FitAdFrame, ad_frame, plain_room_of, segment_room_of, segment_unit}
 use Rattle.sl_tcframe.specs.TcDelimited.{tc_frames_of, tc_remainder_of}
 
 abbrev pub format : ℕ → TcFormat
@@ -111,7 +111,7 @@ pub record ArePlain : Type 0 where
   pub as_with_a_header : ad_frame (with_error_control 16) 1 0 0 (0xC0 ∷ 0xAA ∷ []) ≡ 0x00 ∷ 0x01 ∷ 0x00 ∷ 0x08 ∷ 0x00 ∷ 0xC0 ∷ 0xAA ∷ 0x33 ∷ 0x59 ∷ []
   pub room : plain_room_of (format 16) ≡ 11
   pub room_with_error_control : plain_room_of (with_error_control 1024) ≡ 1017
-  pub segment_room : room_of (format 16) ≡ 10
+  pub segment_room : segment_room_of (format 16) ≡ 10
 
 pub frames_are_plain : ArePlain
 unfolding fecf_of register_of

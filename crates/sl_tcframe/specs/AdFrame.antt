@@ -5,13 +5,13 @@ use Rattle.sl_fields.specs.SegmentHeader.{SegmentFields, segment_octets}
 use Rattle.sl_fields.specs.TcHeader.{TcFields, tc_octets}
 use Rattle.sl_tcframe.specs.TcFrame.{TcFormat, Ad, is_cut, tc_frame}
 
--- the octets of a data field at most
+-- how many octets a data field has at most
 abbrev pub plain_room_of : TcFormat → ℕ
 plain_room_of format = format.max - 5 - fecf_len format.fecf
 
--- those of a segment at most, after its header
-abbrev pub room_of : TcFormat → ℕ
-room_of format = format.max - 6 - fecf_len format.fecf
+-- and a segment, after its header
+abbrev pub segment_room_of : TcFormat → ℕ
+segment_room_of format = format.max - 6 - fecf_len format.fecf
 
 -- the header of a frame of so many octets
 abbrev pub ad_header : ℕ → ℕ → ℕ → ℕ → TcFields
@@ -27,7 +27,7 @@ ad_header spacecraft vc ns len =
       ns = ns;
     }
 
--- the octets of a frame with so many octets in its data field
+-- how many octets a frame has with so many in its data field
 abbrev pub ad_len : TcFormat → ℕ → ℕ
 ad_len format octets = 5 + octets + fecf_len format.fecf
 

@@ -1,14 +1,14 @@
 -- A recording of TC frames: frames end to end, each as long as its frame length field says, and a remainder.
 use Rattle.std.specs.Prelude.{◌≡◌, ℕ, zero, suc, ◌-◌, nat_lt, Bool, true, ◌||◌, if◌then◌else◌, List, [], ◌∷◌, ◌++◌, length, take, drop, Option, None, Some}
 use Rattle.std.specs.List.{AllByRecursion, concat}
-use Rattle.sl_tcframe.specs.TcFrame.{TcFormat, stated_len, least_of, is_cut}
+use Rattle.sl_tcframe.specs.TcFrame.{TcFormat, stated_frame_len, least_of, is_cut}
 
 -- No frame begins with these octets: there are fewer than a header has, the stated length is below the least
 -- of a frame, or there are fewer octets than the stated length. The first four octets state the length, but no
 -- frame is as short as four octets, so where there are only these no frame begins whatever they state.
 abbrev pub begin_no_frame : TcFormat → List ℕ → Bool
 begin_no_frame format octets =
-    nat_lt (length octets) 5 || (nat_lt (stated_len octets) (least_of format) || nat_lt (length octets) (stated_len octets))
+    nat_lt (length octets) 5 || (nat_lt (stated_frame_len octets) (least_of format) || nat_lt (length octets) (stated_frame_len octets))
 
 -- The frames of a recording lie end to end from the first octet on, each as long as its frame length field says, up to
 -- the first offset at which no frame begins. The octets from there on are the remainder.
@@ -24,7 +24,7 @@ pub record IsTcDelimited (format : TcFormat) (recording : List ℕ) (frames : Li
 
 -- the length of the frame that octets begin with
 abbrev pub front_len : TcFormat → List ℕ → Option ℕ
-front_len format octets = if begin_no_frame format octets then None else Some (stated_len octets)
+front_len format octets = if begin_no_frame format octets then None else Some (stated_frame_len octets)
 
 -- that frame, as a list of one or of none
 abbrev pub frame_at : Option ℕ → List ℕ → List (List ℕ)
@@ -32,9 +32,9 @@ frame_at None octets = []
 frame_at (Some len) octets = take len octets ∷ []
 
 -- how many of the later octets are passed over: those of the frame, or all
-abbrev pub passed_at : Option ℕ → List ℕ → ℕ
-passed_at None octets = length octets
-passed_at (Some len) octets = len - 1
+abbrev pub frame_passed : Option ℕ → List ℕ → ℕ
+frame_passed None octets = length octets
+frame_passed (Some len) octets = len - 1
 
 -- the frames from the front on, after so many octets that belong to the frame before
 abbrev pub tc_frames_from : TcFormat → ℕ → List ℕ → List (List ℕ)
@@ -42,7 +42,7 @@ tc_frames_from format skip [] = []
 tc_frames_from format (suc skip) (octet ∷ octets) = tc_frames_from format skip octets
 tc_frames_from format zero (octet ∷ octets) =
     frame_at (front_len format (octet ∷ octets)) (octet ∷ octets)
-    ++ tc_frames_from format (passed_at (front_len format (octet ∷ octets)) (octet ∷ octets)) octets
+    ++ tc_frames_from format (frame_passed (front_len format (octet ∷ octets)) (octet ∷ octets)) octets
 
 -- the frames of a recording
 abbrev pub tc_frames_of : TcFormat → List ℕ → List (List ℕ)

@@ -28,28 +28,28 @@ pub record ArePartsOf (format : TcFormat) (frame : List ℕ) (p : TcParts) : Typ
   pub stated : length frame ≡ (tc_header p.header).length + 1
 
 -- the header that a frame begins with
-abbrev pub header_of : List ℕ → TcFields
-header_of frame = tc_header (take 5 frame)
+abbrev pub tc_header_of : List ℕ → TcFields
+tc_header_of frame = tc_header (take 5 frame)
 
--- the octets of a frame without a data field, the fewest that a frame can have
+-- how many octets a frame has without a data field, which is the fewest that one can have
 abbrev pub least_of : TcFormat → ℕ
 least_of format = 5 + fecf_len format.fecf
 
--- the octets of the frame that begins here, as its frame length field states them
-abbrev pub stated_len : List ℕ → ℕ
-stated_len octets = (header_of octets).length + 1
+-- how many octets the frame that begins here has, as its frame length field states
+abbrev pub stated_frame_len : List ℕ → ℕ
+stated_frame_len octets = (tc_header_of octets).length + 1
 
 -- octets that are one frame by the frame length field
 abbrev pub is_cut : TcFormat → List ℕ → Bool
-is_cut format octets = not (nat_lt (length octets) (least_of format)) && length octets == stated_len octets
+is_cut format octets = not (nat_lt (length octets) (least_of format)) && length octets == stated_frame_len octets
 
--- the octets of the data field
+-- how many octets the data field has
 abbrev pub field_len : TcFormat → List ℕ → ℕ
 field_len format frame = length frame - 5 - fecf_len format.fecf
 
 -- the parts, by where they lie
-abbrev pub parts_of : TcFormat → List ℕ → TcParts
-parts_of format frame =
+abbrev pub tc_parts_of : TcFormat → List ℕ → TcParts
+tc_parts_of format frame =
     record {
       header = take 5 frame;
       field = take (field_len format frame) (drop 5 frame);
@@ -58,8 +58,9 @@ parts_of format frame =
 
 -- ---- what a frame carries
 
--- A frame of type AD or BD carries a unit, its whole data field: a segment header and the octets after it.
--- One of type BC carries a control command for FARM-1: Unlock, or Set V(R) with the value to be set.
+-- A frame of type AD or BD carries a unit, its whole data field, which begins with a segment header but on virtual
+-- channels that have none. One of type BC carries a control command for FARM-1: Unlock, or Set V(R) with the value to
+-- be set.
 pub data Content : Type 0 where
   Ad : (ns : ℕ) (unit : List ℕ) → Content
   Bd : (unit : List ℕ) → Content
@@ -76,26 +77,6 @@ Carries h field (Bd unit) = (h.bypass ≡ true) × (h.command ≡ false) × (fie
 Carries h field Unlock = (h.bypass ≡ true) × (h.command ≡ true) × (field ≡ 0x00 ∷ [])
 Carries h field (SetVr vr) = (h.bypass ≡ true) × (h.command ≡ true) × (field ≡ 0x82 ∷ 0x00 ∷ vr ∷ [])
 
--- the control command that a data field is
-abbrev pub command_of : List ℕ → Option Content
-command_of [] = None
-command_of (code ∷ []) = if code == 0x00 then Some Unlock else None
-command_of (code ∷ second ∷ []) = None
-command_of (code ∷ second ∷ third ∷ []) = if code == 0x82 && second == 0x00 then Some (SetVr third) else None
-command_of (code ∷ second ∷ third ∷ fourth ∷ more) = None
-
--- the unit that a data field is, in a frame of type AD or BD
-abbrev pub unit_of : TcFields → List ℕ → Option Content
-unit_of h [] = None
-unit_of h (octet ∷ octets) = Some (if h.bypass then Bd (octet ∷ octets) else Ad h.ns (octet ∷ octets))
-
--- what a data field carries, where it carries something
-abbrev pub content_of : TcFields → List ℕ → Option Content
-content_of h field =
-    if not h.command then unit_of h field
-    else if h.bypass then command_of field
-    else None
-
 -- ---- whether a frame is skipped
 
 -- Why a frame is skipped: a wrong error control field where the format has one; another version than 0;
@@ -103,14 +84,14 @@ content_of h field =
 -- flag; no data field; and a frame of type BC that is no control command.
 abbrev pub HasReason : TcFormat → ℕ → List ℕ → TcSkip → Type 0
 HasReason format spacecraft frame Fecf = (format.fecf ≡ true) × (fecf_is_good frame ≡ false)
-HasReason format spacecraft frame Version = (header_of frame).version ≢ 0
-HasReason format spacecraft frame Spacecraft = (header_of frame).spacecraft ≢ spacecraft
+HasReason format spacecraft frame Version = (tc_header_of frame).version ≢ 0
+HasReason format spacecraft frame Spacecraft = (tc_header_of frame).spacecraft ≢ spacecraft
 HasReason format spacecraft frame Long = format.max < length frame
-HasReason format spacecraft frame Kind = ((header_of frame).bypass ≡ false) × ((header_of frame).command ≡ true)
-HasReason format spacecraft frame Empty = (parts_of format frame).field ≡ []
+HasReason format spacecraft frame Kind = ((tc_header_of frame).bypass ≡ false) × ((tc_header_of frame).command ≡ true)
+HasReason format spacecraft frame Empty = (tc_parts_of format frame).field ≡ []
 HasReason format spacecraft frame Command =
-    ((header_of frame).bypass ≡ true) × ((header_of frame).command ≡ true)
-    × ((content : Content) → Carries (header_of frame) (parts_of format frame).field content → ⊥)
+    ((tc_header_of frame).bypass ≡ true) × ((tc_header_of frame).command ≡ true)
+    × ((content : Content) → Carries (tc_header_of frame) (tc_parts_of format frame).field content → ⊥)
 
 -- the reasons in the order in which they are looked for
 abbrev pub order_of : TcSkip → ℕ
@@ -122,17 +103,6 @@ order_of Kind = 5
 order_of Empty = 6
 order_of Command = 7
 
--- the first of these reasons that holds, but for the last
-abbrev pub early_reason : TcFormat → ℕ → List ℕ → Option TcSkip
-early_reason format spacecraft frame =
-    if format.fecf && not (fecf_is_good frame) then Some Fecf
-    else if not ((header_of frame).version == 0) then Some Version
-    else if not ((header_of frame).spacecraft == spacecraft) then Some Spacecraft
-    else if nat_lt format.max (length frame) then Some Long
-    else if not (header_of frame).bypass && (header_of frame).command then Some Kind
-    else if length (parts_of format frame).field == 0 then Some Empty
-    else None
-
 -- ---- a frame as it is read for a spacecraft
 
 -- what a frame shows to whoever reads it
@@ -143,11 +113,46 @@ pub record TcView : Type 0 where
 -- a frame is skipped for the first reason that holds, and is read where none does
 abbrev pub IsReadAs : TcFormat → ℕ → List ℕ → Result TcView TcSkip → Type 0
 IsReadAs format spacecraft frame (Ok view) =
-    ((reason : TcSkip) → HasReason format spacecraft frame reason → ⊥) × (view.vc ≡ (header_of frame).vc)
-    × Carries (header_of frame) (parts_of format frame).field view.content
+    ((reason : TcSkip) → HasReason format spacecraft frame reason → ⊥) × (view.vc ≡ (tc_header_of frame).vc)
+    × Carries (tc_header_of frame) (tc_parts_of format frame).field view.content
 IsReadAs format spacecraft frame (Err reason) =
     HasReason format spacecraft frame reason
     × ((earlier : TcSkip) → order_of earlier < order_of reason → HasReason format spacecraft frame earlier → ⊥)
+
+-- ---- the same, as functions of the octets
+
+-- The law `tc_frames_are_read` says that the reading of a frame is that of `tc_frame`, and that there is no other.
+
+-- the control command that a data field is
+abbrev pub command_of : List ℕ → Option Content
+command_of [] = None
+command_of (code ∷ []) = if code == 0x00 then Some Unlock else None
+command_of (code ∷ second ∷ []) = None
+command_of (code ∷ second ∷ third ∷ []) = if code == 0x82 && second == 0x00 then Some (SetVr third) else None
+command_of (code ∷ second ∷ third ∷ fourth ∷ more) = None
+
+-- the unit that a data field is, in a frame of type AD or BD
+abbrev pub unit_content : TcFields → List ℕ → Option Content
+unit_content h [] = None
+unit_content h (octet ∷ octets) = Some (if h.bypass then Bd (octet ∷ octets) else Ad h.ns (octet ∷ octets))
+
+-- what a data field carries, where it carries something
+abbrev pub content_of : TcFields → List ℕ → Option Content
+content_of h field =
+    if not h.command then unit_content h field
+    else if h.bypass then command_of field
+    else None
+
+-- the first of these reasons that holds, but for the last
+abbrev pub early_reason : TcFormat → ℕ → List ℕ → Option TcSkip
+early_reason format spacecraft frame =
+    if format.fecf && not (fecf_is_good frame) then Some Fecf
+    else if not ((tc_header_of frame).version == 0) then Some Version
+    else if not ((tc_header_of frame).spacecraft == spacecraft) then Some Spacecraft
+    else if nat_lt format.max (length frame) then Some Long
+    else if not (tc_header_of frame).bypass && (tc_header_of frame).command then Some Kind
+    else if length (tc_parts_of format frame).field == 0 then Some Empty
+    else None
 
 -- what is read under this header, or why it is skipped
 abbrev pub read_as : Option TcSkip → TcFields → Option Content → Result TcView TcSkip
@@ -157,7 +162,9 @@ read_as None h None = Err Command
 
 abbrev pub tc_frame : TcFormat → ℕ → List ℕ → Result TcView TcSkip
 tc_frame format spacecraft frame =
-    read_as (early_reason format spacecraft frame) (header_of frame) (content_of (header_of frame) (parts_of format frame).field)
+    read_as (early_reason format spacecraft frame) (tc_header_of frame) (content_of (tc_header_of frame) (tc_parts_of format frame).field)
+
+-- ---- ranges
 
 -- a unit has 1 to 1019 octets
 abbrev pub IsContent : Content → Type 0
@@ -175,11 +182,11 @@ pub record IsInRange (view : TcView) : Type 0 where
 
 -- octets that are one frame by their length field have these parts,
 abbrev pub EachHasParts : Type 0
-EachHasParts = (format : TcFormat) (frame : List ℕ) → is_cut format frame ≡ true → ArePartsOf format frame (parts_of format frame)
+EachHasParts = (format : TcFormat) (frame : List ℕ) → is_cut format frame ≡ true → ArePartsOf format frame (tc_parts_of format frame)
 
 -- no others,
 abbrev pub HasPartsOnce : Type 0
-HasPartsOnce = (format : TcFormat) (frame : List ℕ) (p : TcParts) → ArePartsOf format frame p → parts_of format frame ≡ p
+HasPartsOnce = (format : TcFormat) (frame : List ℕ) (p : TcParts) → ArePartsOf format frame p → tc_parts_of format frame ≡ p
 
 -- and no other octets have parts
 abbrev pub OnlyFramesHaveParts : Type 0

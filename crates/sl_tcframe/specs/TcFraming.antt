@@ -4,35 +4,35 @@ use Rattle.std.specs.Borrow.{Bor}
 use Rattle.std.specs.List.{concat}
 use Rattle.sl_fields.specs.Field.{IsOctets}
 use Rattle.sl_tcframe.specs.TcDelimited.{IsTcDelimited}
-use Rattle.sl_tcframe.specs.TcFrame.{TcFormat, is_cut, least_of, stated_len}
+use Rattle.sl_tcframe.specs.TcFrame.{TcFormat, is_cut, least_of, stated_frame_len}
 use Rattle.sl_tcframe.specs.declared.tc_framer.TcFramer.TheInside.{Inside}
 
 -- ---- the front of octets
 
-pub data Front : Type 0 where
+pub data FrameFront : Type 0 where
   -- octets are wanting, for the frame length field or for a frame
-  Incomplete : Front
+  Incomplete : FrameFront
   -- a length is stated that is below the least of a frame
-  BelowLeast : Front
+  BelowLeast : FrameFront
   -- a frame of so many octets is there
-  Whole : ℕ → Front
+  WholeFrame : ℕ → FrameFront
 
 -- The frame length field ends with the fourth octet; 0 stands for the fifth, the frame sequence number, which is no part
 -- of it.
 abbrev pub len_by_four : List ℕ → ℕ
-len_by_four octets = stated_len (take 4 octets ++ 0 ∷ [])
+len_by_four octets = stated_frame_len (take 4 octets ++ 0 ∷ [])
 
-abbrev pub front_of : TcFormat → List ℕ → Front
+abbrev pub front_of : TcFormat → List ℕ → FrameFront
 front_of format octets =
     if nat_lt (length octets) 4 then Incomplete
     else if nat_lt (len_by_four octets) (least_of format) then BelowLeast
     else if nat_lt (length octets) (len_by_four octets) then Incomplete
-    else Whole (len_by_four octets)
+    else WholeFrame (len_by_four octets)
 
-abbrev pub is_below_least : Front → Bool
+abbrev pub is_below_least : FrameFront → Bool
 is_below_least Incomplete = false
 is_below_least BelowLeast = true
-is_below_least (Whole len) = false
+is_below_least (WholeFrame len) = false
 
 -- ---- what was taken
 
@@ -72,18 +72,18 @@ pub record IsTcFramer (f : Inside) : Type 0 where
 -- the others are left.
 pub record YieldsFrame (old : TcFraming) (chunk frame left : List ℕ) : Type 0 where
   pub parts : old.rest ++ chunk ≡ frame ++ left
-  pub whole : front_of old.format (old.rest ++ chunk) ≡ Whole (length frame)
+  pub whole : front_of old.format (old.rest ++ chunk) ≡ WholeFrame (length frame)
 
 -- the octets that are taken where no frame is whole: all, or four that state a length below the least
-abbrev pub taken_at : Front → List ℕ → List ℕ
+abbrev pub taken_at : FrameFront → List ℕ → List ℕ
 taken_at Incomplete octets = octets
 taken_at BelowLeast octets = take 4 octets
-taken_at (Whole len) octets = []
+taken_at (WholeFrame len) octets = []
 
-abbrev pub left_at : Front → List ℕ → List ℕ
+abbrev pub left_at : FrameFront → List ℕ → List ℕ
 left_at Incomplete octets = []
 left_at BelowLeast octets = drop 4 octets
-left_at (Whole len) octets = octets
+left_at (WholeFrame len) octets = octets
 
 -- No frame is whole, and these octets of the chunk are left.
 pub record YieldsNone (old : TcFraming) (chunk left : List ℕ) : Type 0 where
@@ -121,13 +121,13 @@ StaysStuck old chunk answer left = IsStuck old → (left ≡ chunk) × IsNone an
 -- octets begin with a whole frame, and these come after it
 pub record BeginsWithFrame (format : TcFormat) (octets frame later : List ℕ) : Type 0 where
   pub parts : octets ≡ frame ++ later
-  pub whole : front_of format octets ≡ Whole (length frame)
+  pub whole : front_of format octets ≡ WholeFrame (length frame)
   pub cut : is_cut format frame ≡ true
 
 -- octets are taken until a frame is whole, or none is
 abbrev pub TakesUpToFrame : TcFormat → List ℕ → List ℕ → Bool → List ℕ → List ℕ → Type 0
 TakesUpToFrame format old chunk true new left =
-    (old ++ chunk ≡ new ++ left) × (front_of format (old ++ chunk) ≡ Whole (length new)) × (is_cut format new ≡ true)
+    (old ++ chunk ≡ new ++ left) × (front_of format (old ++ chunk) ≡ WholeFrame (length new)) × (is_cut format new ≡ true)
 TakesUpToFrame format old chunk false new left =
     ((front_of format (old ++ chunk) ≡ Incomplete) ⊎ (front_of format (old ++ chunk) ≡ BelowLeast))
     × (new ≡ taken_at (front_of format (old ++ chunk)) (old ++ chunk))
@@ -155,7 +155,7 @@ BeginsWith format octets len =
 -- A frame is whole at the front of octets exactly where they begin with one,
 abbrev pub FrontsAreFrames : Type 0
 FrontsAreFrames =
-    (format : TcFormat) (octets : List ℕ) (len : ℕ) → IsOctets octets → (front_of format octets ≡ Whole len) ↔ BeginsWith format octets len
+    (format : TcFormat) (octets : List ℕ) (len : ℕ) → IsOctets octets → (front_of format octets ≡ WholeFrame len) ↔ BeginsWith format octets len
 
 -- and after a stated length below the least none begins here, whatever follows.
 abbrev pub NoneFollowsBelowLeast : Type 0
@@ -175,7 +175,7 @@ ChunksAreDelimited =
 abbrev pub IncompleteBecomesFrame : Type 0
 IncompleteBecomesFrame =
     (format : TcFormat) (octets : List ℕ) → IsOctets octets → front_of format octets ≡ Incomplete
-    → (more : List ℕ) × IsOctets more × (front_of format (octets ++ more) ≡ Whole (length (octets ++ more)))
+    → (more : List ℕ) × IsOctets more × (front_of format (octets ++ more) ≡ WholeFrame (length (octets ++ more)))
 
 -- Any chunks are taken so.
 abbrev pub AnyChunksAreTaken : Type 0

@@ -2,7 +2,7 @@
 ghost use Rattle.std.specs.Prelude.{◌≡◌, ◌+◌, ◌<◌, ◌≤◌, ◌++◌, length, vec_len, OnOk, OnErr};
 ghost use Rattle.std.specs.Vec.{vec_capacity};
 ghost use Rattle.sl_fields.specs.TcHeader.{tc_octets};
-ghost use Rattle.sl_tcframe.specs.AdFrame.{ad_frame, ad_header, ad_len, plain_room_of, room_of, segment_unit};
+ghost use Rattle.sl_tcframe.specs.AdFrame.{ad_frame, ad_header, ad_len, plain_room_of, segment_room_of, segment_unit};
 
 use crate::tc_shape::TcShape;
 use sl_fields::{SegmentHeader, TcHeader, fecf_field};
@@ -25,7 +25,7 @@ pub fn push_tc(
 ) -> Result<(), AllocError>
     requires spacecraft { spacecraft ≤ 1023 }
     requires vc { vc ≤ 63 }
-    requires segment { length octets.now ≤ room_of shape.now }
+    requires segment { length octets.now ≤ segment_room_of shape.now }
     ensures added { OnOk result (out.new.items ≡ out.old.items ++ ad_frame shape.now spacecraft vc ns (segment_unit header octets.now)) }
     ensures len { OnOk result (vec_len out.new ≡ vec_len out.old + ad_len shape.now (1 + length octets.now)) }
     ensures unchanged { OnErr result (out.new.items ≡ out.old.items) }
@@ -73,7 +73,7 @@ fn push_unit(
 ) -> Result<(), AllocError>
     requires spacecraft { spacecraft ≤ 1023 }
     requires vc { vc ≤ 63 }
-    requires unit { length segment.now + length octets.now ≤ 1 + room_of shape.now }
+    requires unit { length segment.now + length octets.now ≤ 1 + segment_room_of shape.now }
     ensures added { OnOk result (out.new.items ≡ out.old.items ++ ad_frame shape.now spacecraft vc ns (segment.now ++ octets.now)) }
     ensures len { OnOk result (vec_len out.new ≡ vec_len out.old + ad_len shape.now (length segment.now + length octets.now)) }
     ensures unchanged { OnErr result (out.new.items ≡ out.old.items) }
@@ -95,7 +95,7 @@ fn push_unit(
 
 // Octets of the frame with so many octets in its data field.
 fn frame_len(shape: &TcShape, unit: usize) -> u16
-    requires { unit ≤ 1 + room_of shape.now }
+    requires { unit ≤ 1 + segment_room_of shape.now }
     ensures value { result ≡ ad_len shape.now unit }
     ensures least { 5 ≤ result }
     ensures most { result ≤ 1024 }

@@ -1,6 +1,6 @@
 //! The TC transfer frame, as it is read.
 ghost use Rattle.std.specs.Prelude.{◌≡◌, ◌-◌, ◌<◌, ◌≤◌, true, length, drop, option_map, IfSome};
-ghost use Rattle.sl_tcframe.specs.TcFrame.{header_of, command_of, content_of, early_reason, is_cut, parts_of, IsContent};
+ghost use Rattle.sl_tcframe.specs.TcFrame.{tc_header_of, command_of, content_of, early_reason, is_cut, tc_parts_of, IsContent};
 ghost use Rattle.sl_tcframe.specs.TcContent.{content};
 
 use crate::tc_shape::TcShape;
@@ -113,7 +113,7 @@ impl<'a> TcFrame<'a> {
 #[inline(always)]
 fn split_header(octets: &[u8]) -> (TcHeader, &[u8])
     requires { 5 ≤ length octets.now }
-    ensures header { result.0 ≡ header_of octets.now }
+    ensures header { result.0 ≡ tc_header_of octets.now }
     ensures behind { result.1.now ≡ drop 5 octets.now }
 {
     match octets.split_first_chunk::<5>() {
@@ -131,8 +131,8 @@ fn early_skip_of(
     octets: &[u8],
     field: &[u8],
 ) -> Option<TcSkip>
-    requires header { header.now ≡ header_of octets.now }
-    requires field { field.now ≡ (parts_of shape.now octets.now).field }
+    requires header { header.now ≡ tc_header_of octets.now }
+    requires field { field.now ≡ (tc_parts_of shape.now octets.now).field }
     ensures { result ≡ early_reason shape.now spacecraft octets.now }
 {
     if shape.fecf && !fecf_good(octets) {

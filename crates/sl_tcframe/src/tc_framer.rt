@@ -2,7 +2,7 @@
 ghost use Rattle.std.specs.Prelude.{◌≡◌, ◌↔◌, IsTrue, ◌-◌, ◌≤◌, ◌<◌, ◌++◌, nat_lt, true, false, length, take, drop, Some, None, IfSome, IfNone, if◌then◌else◌};
 ghost use Rattle.std.specs.Borrow.{sem};
 ghost use Rattle.std.specs.Io.BufRead.{Rests};
-ghost use Rattle.sl_tcframe.specs.TcFrame.{is_cut, stated_len};
+ghost use Rattle.sl_tcframe.specs.TcFrame.{is_cut, stated_frame_len};
 ghost use Rattle.sl_tcframe.specs.TcFraming.{BeginsWithFrame, BelowLeast, IsRest, TakesUpToFrame, front_of, is_below_least, len_by_four};
 
 use crate::tc_shape::TcShape;
@@ -158,7 +158,7 @@ fn complete(shape: &TcShape, taken: &mut ArrayVec<u8, 1024>, chunk: &mut &[u8]) 
 fn is_whole(octets: &[u8], len: usize) -> bool
     requires stated { len ≡ len_by_four octets.now }
     requires header { 5 ≤ len }
-    ensures whole { result ≡ true → (len ≤ length octets.now) × (len ≡ stated_len octets.now) }
+    ensures whole { result ≡ true → (len ≤ length octets.now) × (len ≡ stated_frame_len octets.now) }
     ensures part { result ≡ false → length octets.now < len }
 {
     octets.len() >= len

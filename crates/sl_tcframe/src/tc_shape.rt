@@ -1,6 +1,6 @@
 //! The managed format of TC transfer frames.
 ghost use Rattle.std.specs.Prelude.{◌≡◌, ◌+◌, ◌≤◌, length};
-ghost use Rattle.sl_tcframe.specs.AdFrame.{plain_room_of, room_of};
+ghost use Rattle.sl_tcframe.specs.AdFrame.{plain_room_of, segment_room_of};
 ghost use Rattle.sl_tcframe.specs.TcFrame.{is_cut, least_of};
 
 use sl_fields::{ShapeFault, TcHeader};
@@ -68,7 +68,7 @@ impl TcShape {
 
     /// Octets of a segment at most, after its segment header: 8 to 1018.
     pub fn room(&self) -> u16
-        ensures value { result ≡ room_of self.now }
+        ensures value { result ≡ segment_room_of self.now }
         ensures least { 8 ≤ result }
         ensures most { result ≤ 1018 }
     {

@@ -13,7 +13,7 @@ use Rattle.sl_tmflow.specs.Among.{IsAmong}
 use Rattle.sl_tmflow.specs.Anomaly.{EachForeignStartIsTold, EachGapIsTold, EachToldIsAForeignStart, EachToldIsAGap, foreign_of, gap_after, gap_of}
 use Rattle.sl_tmflow.specs.Channel.{is_consecutive}
 use Rattle.sl_tmflow.specs.ChannelState.{foreign_in}
-use Rattle.sl_tmflow.specs.PacketStart.{IsStart, offsets_from, starts_from}
+use Rattle.sl_tmflow.specs.PacketStart.{IsStart, packet_offsets, starts_from}
 use Rattle.sl_tmflow.proofs.ChannelLemmas.{last_count-push}
 use Rattle.sl_tmflow.proofs.EachIncompleteLemmas.{not_foreign}
 use Rattle.sl_tmflow.proofs.EachLemmas.{has_last}
@@ -105,14 +105,14 @@ packet_not_foreign packet more p =
     not_foreign (length (packet ++ more)) (version_of (packet ++ more)) (version_of-append packet more some ∙ p.version)
 
 foreign_offsets : (octets : List ℕ) (offset : ℕ) (packets : List (List ℕ)) (rest : List ℕ) → AllByRecursion IsPacket packets → drop offset octets ≡ concat packets ++ rest
-    → list_any (λ start. is_foreign (drop start octets)) (offsets_from offset packets rest) ≡ is_foreign rest
+    → list_any (λ start. is_foreign (drop start octets)) (packet_offsets offset packets rest) ≡ is_foreign rest
 foreign_offsets octets offset [] [] each parts = refl
 foreign_offsets octets offset [] (octet ∷ rest) each parts = or_false (is_foreign (drop offset octets)) ∙ ap is_foreign parts
 foreign_offsets octets offset (packet ∷ packets) rest each parts =
     let later : drop offset octets ≡ packet ++ (concat packets ++ rest) = parts ∙ append_assoc packet (concat packets) rest in
     let behind : drop (offset + length packet) octets ≡ concat packets ++ rest =
     sym (drop-drop (length packet) offset octets) ∙ ap (drop (length packet)) later ∙ drop_at packet (concat packets ++ rest) (length packet) refl in
-    ap (λ b. b || list_any (λ start. is_foreign (drop start octets)) (offsets_from (offset + length packet) packets rest))
+    ap (λ b. b || list_any (λ start. is_foreign (drop start octets)) (packet_offsets (offset + length packet) packets rest))
     (ap is_foreign later ∙ packet_not_foreign packet (concat packets ++ rest) each.0)
     ∙ foreign_offsets octets (offset + length packet) packets rest each.1 behind
 

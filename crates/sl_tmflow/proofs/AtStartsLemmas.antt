@@ -3,11 +3,11 @@ use Rattle.std.proofs.Common.{◌≡◌, ℕ, ◌+◌, List, [], ◌∷◌, ◌+
 use Rattle.std.specs.List.{AllByRecursion, concat, flat_map}
 use Rattle.std.proofs.lemmas.List.{drop-drop, drop_at, take-append-drop}
 use Rattle.sl_packet.specs.Packet.{IsPacket}
-use Rattle.sl_packet.specs.Front.{Whole, front}
+use Rattle.sl_packet.specs.Front.{WholePacket, front}
 use Rattle.sl_packet.specs.Packets.{packets_of, rest_of}
 use Rattle.sl_packet.proofs.FrontLemmas.{whole_is_a_packet}
 use Rattle.sl_packet.proofs.PacketsLemmas.{each_has_packets}
-use Rattle.sl_tmflow.specs.PacketStart.{offsets_from, starts_from}
+use Rattle.sl_tmflow.specs.PacketStart.{packet_offsets, starts_from}
 
 -- ---- lists of lists
 
@@ -27,7 +27,7 @@ at_rest f (octet ∷ rest) = f (octet ∷ rest)
 
 at_offsets : (f g : List ℕ → List (List ℕ)) → ((packet more : List ℕ) → IsPacket packet → f (packet ++ more) ≡ g packet)
     → (octets : List ℕ) (offset : ℕ) (packets : List (List ℕ)) (rest : List ℕ) → AllByRecursion IsPacket packets → drop offset octets ≡ concat packets ++ rest
-    → flat_map (λ start. f (drop start octets)) (offsets_from offset packets rest) ≡ flat_map g packets ++ at_rest f rest
+    → flat_map (λ start. f (drop start octets)) (packet_offsets offset packets rest) ≡ flat_map g packets ++ at_rest f rest
 at_offsets f g at_packet octets offset [] [] each parts = refl
 at_offsets f g at_packet octets offset [] (octet ∷ rest) each parts = append-nil (f (drop offset octets)) ∙ ap f parts
 at_offsets f g at_packet octets offset (packet ∷ packets) rest each parts =
@@ -46,7 +46,7 @@ at_starts f g at_packet pointer octets =
     at_offsets f g at_packet octets pointer (packets_of (drop pointer octets)) (rest_of (drop pointer octets)) has.each has.end_to_end
 
 -- no packet is whole in what packets leave
-pub none_in_rest : (octets : List ℕ) (len : ℕ) → front (rest_of octets) ≡ Whole len → ⊥
+pub none_in_rest : (octets : List ℕ) (len : ℕ) → front (rest_of octets) ≡ WholePacket len → ⊥
 none_in_rest octets len whole =
     (each_has_packets octets).no_more (take len (rest_of octets)) (drop len (rest_of octets)) (whole_is_a_packet (rest_of octets) len whole).0
     (sym (take-append-drop len (rest_of octets)))

@@ -8,7 +8,7 @@ use Rattle.sl_fields.proofs.FecfLemmas.{fecf_len_le}
 use Rattle.sl_packet.specs.Delivered.{IsDeliverable}
 use Rattle.sl_packet.specs.Packet.{IsPacket}
 use Rattle.sl_packet.specs.Packets.{without_idle}
-use Rattle.sl_tmframe.specs.PacketFrame.{FitFrame, room_of}
+use Rattle.sl_tmframe.specs.PacketFrame.{FitFrame, field_room_of}
 use Rattle.sl_tmframe.specs.TmDelimited.{tm_frames_of}
 use Rattle.sl_tmframe.specs.TmFrame.{TmFormat, TmView, tm_frame}
 use Rattle.sl_tmframe.proofs.DelimitedLemmas.{AreWhole, only_frames}
@@ -16,7 +16,8 @@ use Rattle.sl_tmframe.proofs.PacketFrameLemmas.{length-packet_frame, packet_fram
 use Rattle.sl_tmflow.specs.Canonical.{IsFormat, NormalFormIsFrames, NormalFormDelivers}
 use Rattle.sl_tmflow.specs.Channel.{views_of, channel_of}
 use Rattle.sl_tmflow.specs.Delivery.{deliveries_of, packets_delivered}
-use Rattle.sl_tmflow.specs.NormalForm.{with_filling, filling, packet_offsets, data_field_of, first_of, IsLeastStart, channel_frame, channel_frames, frames_from_channel, normal_form}
+use Rattle.sl_tmflow.specs.NormalForm.{with_filling, filling, data_field_of, first_of, IsLeastStart, channel_frame, channel_frames, frames_from_channel, normal_form}
+use Rattle.sl_tmflow.specs.PacketStart.{packet_offsets}
 use Rattle.sl_tmflow.specs.Recording.{packets_on, virtual_channels}
 use Rattle.sl_tmflow.proofs.CutDeliveryLemmas.{all_delivered}
 use Rattle.sl_tmflow.proofs.CutViewLemmas.{views_from}
@@ -30,10 +31,10 @@ start_inside room number offsets None least = tt
 start_inside room number offsets (Some first) least = let lies = least.1 in let below = lies.below in omega arith
 
 -- the room of a data field
-wide_room : (format : TmFormat) → IsFormat format → 24 ≤ room_of format
+wide_room : (format : TmFormat) → IsFormat format → 24 ≤ field_room_of format
 wide_room format is = let least = is.least in let last = fecf_len_le format.fecf in omega arith
 
-short_room : (format : TmFormat) → IsFormat format → room_of format ≤ 65536
+short_room : (format : TmFormat) → IsFormat format → field_room_of format ≤ 65536
 short_room format is = let most = is.most in omega arith
 
 -- the frames of a virtual channel are of it
@@ -44,9 +45,9 @@ each_of_channel room vc mc packets (suc many) number = (refl, each_of_channel ro
 -- ---- the frames of packets that fill so many data fields
 
 module _ (format : TmFormat) (spacecraft vc mc : ℕ) (packets : List (List ℕ)) (count : ℕ) (is : IsFormat format) (fits : spacecraft ≤ 1023) (vc_fits : vc ≤ 7)
-    (size : length (concat packets) ≡ count * room_of format) where
+    (size : length (concat packets) ≡ count * field_room_of format) where
   abbrev room : ℕ
-  room = room_of format
+  room = field_room_of format
 
   abbrev frames : ℕ → ℕ → List (List ℕ)
   frames number many = map (channel_frame format spacecraft vc mc packets) (range_with_len number many)
@@ -59,7 +60,7 @@ module _ (format : TmFormat) (spacecraft vc mc : ℕ) (packets : List (List ℕ)
       length-take-le room (drop (number * room) (concat packets)) (omega (arith, up_to, next, one, size, length-drop (number * room) (concat packets)))
 
   frame_fits : (number : ℕ) → number < count
-      → FitFrame format spacecraft vc ((mc + number) % 256) (number % 256) (first_of room number (packet_offsets 0 packets)) (data_field_of room number (concat packets))
+      → FitFrame format spacecraft vc ((mc + number) % 256) (number % 256) (first_of room number (packet_offsets 0 packets [])) (data_field_of room number (concat packets))
   frame_fits number below =
       let wide = wide_room format is in
       record {
@@ -69,7 +70,7 @@ module _ (format : TmFormat) (spacecraft vc mc : ℕ) (packets : List (List ℕ)
         vc_fits = vc_fits;
         mc_fits = mod_below (mc + number) 256 (omega arith);
         vcc_fits = mod_below number 256 (omega arith);
-        points_inside = start_inside room number (packet_offsets 0 packets) (first_of room number (packet_offsets 0 packets)) (each_pointer_is_least room number packets (omega (arith, wide)));
+        points_inside = start_inside room number (packet_offsets 0 packets []) (first_of room number (packet_offsets 0 packets [])) (each_pointer_is_least room number packets (omega (arith, wide)));
         fills = field_filled number below;
       }
 
@@ -77,7 +78,7 @@ module _ (format : TmFormat) (spacecraft vc mc : ℕ) (packets : List (List ℕ)
   frames_whole zero number inside = tt
   frames_whole (suc many) number inside =
       let fit = frame_fits number (omega (arith, inside)) in (
-        length-packet_frame format spacecraft vc ((mc + number) % 256) (number % 256) (first_of room number (packet_offsets 0 packets)) (data_field_of room number (concat packets)) fit,
+        length-packet_frame format spacecraft vc ((mc + number) % 256) (number % 256) (first_of room number (packet_offsets 0 packets [])) (data_field_of room number (concat packets)) fit,
         frames_whole many (number + 1) (omega (arith, inside)),
       )
 
@@ -86,7 +87,7 @@ module _ (format : TmFormat) (spacecraft vc mc : ℕ) (packets : List (List ℕ)
   frames_back (suc many) number inside =
       let fit = frame_fits number (omega (arith, inside)) in
       ap₂ (λ read views. cons_option (result_ok read) views)
-      (packet_frame_back format spacecraft vc ((mc + number) % 256) (number % 256) (first_of room number (packet_offsets 0 packets)) (data_field_of room number (concat packets)) fit)
+      (packet_frame_back format spacecraft vc ((mc + number) % 256) (number % 256) (first_of room number (packet_offsets 0 packets [])) (data_field_of room number (concat packets)) fit)
       (frames_back many (number + 1) (omega (arith, inside)))
 
 -- ---- the frames of a virtual channel
@@ -94,34 +95,34 @@ module _ (format : TmFormat) (spacecraft vc mc : ℕ) (packets : List (List ℕ)
 -- as they are read
 abbrev channel_views : TmFormat → ℕ → ℕ → List (List ℕ) → List TmView
 channel_views format vc mc packets =
-    let room = room_of format in
+    let room = field_room_of format in
     let filled = with_filling room packets in
     views_from room vc mc filled 0 (length (concat filled) / room)
 
 channel_of_own : (format : TmFormat) (vc mc : ℕ) (packets : List (List ℕ)) → AllByRecursion (λ view. view.vc ≡ vc) (channel_views format vc mc packets)
 channel_of_own format vc mc packets =
-    let filled = with_filling (room_of format) packets in
-    each_of_channel (room_of format) vc mc filled (length (concat filled) / room_of format) 0
+    let filled = with_filling (field_room_of format) packets in
+    each_of_channel (field_room_of format) vc mc filled (length (concat filled) / field_room_of format) 0
 
 module _ (format : TmFormat) (spacecraft vc mc : ℕ) (packets : List (List ℕ)) (is : IsFormat format) (fits : spacecraft ≤ 1023) (vc_fits : vc ≤ 7)
     (each : AllByRecursion IsDeliverable packets) where
   abbrev filled : List (List ℕ)
-  filled = with_filling (room_of format) packets
+  filled = with_filling (field_room_of format) packets
 
   abbrev frame_count : ℕ
-  frame_count = length (concat filled) / room_of format
+  frame_count = length (concat filled) / field_room_of format
 
   filled_each : AllByRecursion IsPacket filled
   filled_each =
       let wide = wide_room format is in
-      let fill = filling_is (room_of format) (length (concat packets)) (omega (arith, wide)) (short_room format is) in
-      each-append IsPacket packets (filling (room_of format) (length (concat packets))) (due_packets packets each) fill.0
+      let fill = filling_is (field_room_of format) (length (concat packets)) (omega (arith, wide)) (short_room format is) in
+      each-append IsPacket packets (filling (field_room_of format) (length (concat packets))) (due_packets packets each) fill.0
 
-  filled_size : length (concat filled) ≡ frame_count * room_of format
+  filled_size : length (concat filled) ≡ frame_count * field_room_of format
   filled_size =
       let wide = wide_room format is in
-      let parts = div-add-mod' (length (concat filled)) (room_of format) in
-      let none = filled_whole (room_of format) packets (omega (arith, wide)) (short_room format is) in
+      let parts = div-add-mod' (length (concat filled)) (field_room_of format) in
+      let none = filled_whole (field_room_of format) packets (omega (arith, wide)) (short_room format is) in
       omega arith
 
   pub channel_whole : AreWhole format.len (channel_frames format spacecraft vc mc packets)
@@ -133,8 +134,8 @@ module _ (format : TmFormat) (spacecraft vc mc : ℕ) (packets : List (List ℕ)
   pub channel_delivers : without_idle (packets_delivered (deliveries_of (channel_views format vc mc packets))) ≡ packets
   channel_delivers =
       let wide = wide_room format is in
-      ap without_idle (all_delivered (room_of format) vc mc filled frame_count (omega (arith, wide)) filled_each filled_size)
-      ∙ filled_without_idle (room_of format) packets (omega (arith, wide)) (short_room format is) each
+      ap without_idle (all_delivered (field_room_of format) vc mc filled frame_count (omega (arith, wide)) filled_each filled_size)
+      ∙ filled_without_idle (field_room_of format) packets (omega (arith, wide)) (short_room format is) each
 
 -- ---- the frames of all virtual channels
 

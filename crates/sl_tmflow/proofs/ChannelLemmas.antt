@@ -1,15 +1,16 @@
 -- What is kept of a channel is what its frames leave, frame by frame.
-use Rattle.std.proofs.Common.{◌≡◌, ℕ, ◌<◌, ◌≤◌, ◌==◌, Bool, true, false, if◌then◌else◌, List, [], ◌∷◌, ◌++◌, length, take, drop, set, Option, None, Some, inl, inr, refl, sym, ◌∙◌, ap, subst, arith, append-nil}
+use Rattle.std.proofs.Common.{◌≡◌, ℕ, ◌<◌, ◌≤◌, ◌==◌, nat_eq, Bool, true, false, if◌then◌else◌, List, [], ◌∷◌, ◌++◌, length, take, drop, set, Option, None, Some, inl, inr, refl, sym, ◌∙◌, ap, subst, arith, append-nil}
 use Rattle.std.specs.List.{flat_map, slice_index_or}
+use Rattle.std.specs.Option.{option_eq}
 use Rattle.std.proofs.lemmas.Bool.Decides.{eqb_tells}
 use Rattle.std.proofs.lemmas.List.{get_or_default, get_or-set_same, get_or-set_other}
 use Rattle.std.proofs.lemmas.List.Elements.{filter-append}
-use Rattle.sl_packet.specs.Front.{Front, Foreign, Incomplete, Whole, front}
+use Rattle.sl_packet.specs.Front.{Front, OtherVersion, Incomplete, WholePacket, front}
 use Rattle.sl_packet.specs.Packets.{rest_of}
 use Rattle.sl_tmframe.specs.TmFrame.{TmView, DataField, Packets, Idle, Opaque}
 use Rattle.sl_tmflow.specs.Channel.{channel_of, follows, last_count, packet_data}
 use Rattle.sl_tmflow.specs.ChannelState.{ChannelState, no_frame, held_step, kept_of, kept_octets, incomplete_in, held_after, state_after, packets_after}
-use Rattle.sl_tmflow.specs.Delivery.{Continuation, Ends, Continues, Breaks, agreeing_pointer, ended, field_step, front_step, outcome_of, outcome_of_front, packets_ending, same_pointer, step_of}
+use Rattle.sl_tmflow.specs.Delivery.{Continuation, Ends, Continues, Breaks, agreeing_pointer, ended, field_step, front_step, outcome_of, outcome_of_front, packets_ending, step_of}
 use Rattle.sl_tmflow.specs.Incomplete.{frame_incomplete, incomplete_octets}
 use Rattle.sl_tmflow.specs.Extraction.{ExtractorState, HasSeen, HasProcessed, ended_by, held_as}
 use Rattle.sl_tmflow.specs.PacketStart.{whole_packets}
@@ -73,9 +74,9 @@ ends_or_breaks true packet octets = refl
 ends_or_breaks false packet octets = refl
 
 not_past_start : (pointer before : ℕ) (field all : List ℕ) (f : Front) → kept_of (front_step (Some pointer) before field all f) all ≡ []
-not_past_start pointer before field all Foreign = refl
+not_past_start pointer before field all OtherVersion = refl
 not_past_start pointer before field all Incomplete = refl
-not_past_start pointer before field all (Whole len) = ends_or_breaks (same_pointer (Some pointer) (agreeing_pointer len before field)) (take len all) all
+not_past_start pointer before field all (WholePacket len) = ends_or_breaks (option_eq nat_eq (Some pointer) (agreeing_pointer len before field)) (take len all) all
 
 if_follows : (b : Bool) (s : Continuation) (octets : List ℕ) → kept_of s octets ≡ [] → kept_of (if b then s else Breaks) octets ≡ []
 if_follows true s octets none = none
@@ -94,14 +95,14 @@ none_kept (Some count) (octet ∷ held) next pointer octets is =
 -- what starts in the frame
 
 none_incomplete : (f : Front) → incomplete_in f [] ≡ []
-none_incomplete Foreign = refl
+none_incomplete OtherVersion = refl
 none_incomplete Incomplete = refl
-none_incomplete (Whole len) = refl
+none_incomplete (WholePacket len) = refl
 
 rest_held : (view : TmView) (octet : ℕ) (rest : List ℕ) (f : Front) → held_as (incomplete_in f (octet ∷ rest)) ≡ incomplete_octets (outcome_of_front f view (octet ∷ rest) [])
-rest_held view octet rest Foreign = refl
+rest_held view octet rest OtherVersion = refl
 rest_held view octet rest Incomplete = refl
-rest_held view octet rest (Whole len) = refl
+rest_held view octet rest (WholePacket len) = refl
 
 held_at_rest : (view : TmView) (rest : List ℕ) → held_as (incomplete_in (front rest) rest) ≡ at_rest (λ l. incomplete_octets (outcome_of view l [])) rest
 held_at_rest view [] = ap held_as (none_incomplete (front []))

@@ -6,7 +6,7 @@ use Rattle.std.proofs.lemmas.List.{map-append, map-id, take-append-drop, take-ap
 use Rattle.std.proofs.lemmas.List.Concat.{flat_map_single}
 use Rattle.std.proofs.Math.Nat.{zero-mul}
 use Rattle.std.proofs.Math.Seq.{take-append-add, drop-append_seam, take-nil}
-use Rattle.sl_packet.specs.Front.{Incomplete, Whole, front}
+use Rattle.sl_packet.specs.Front.{Incomplete, WholePacket, front}
 use Rattle.sl_packet.specs.Packet.{IsPacket}
 use Rattle.sl_packet.specs.Packets.{packets_of, rest_of}
 use Rattle.sl_packet.proofs.FrontLemmas.{packet_is_whole}
@@ -66,7 +66,7 @@ at_some_rest f (octet ∷ octets) some = refl
 in_begun : (view : TmView) (later : List TmView) (octets : List ℕ) → 0 < length octets → front octets ≡ Incomplete
     → delivered_in view later octets ≡ delivered_from (outcome_of_front Incomplete view octets later)
 in_begun view later octets some incomplete =
-    let none : (len : ℕ) → front octets ≡ Whole len → ⊥ = λ len whole. let both : Incomplete ≡ Whole len = sym incomplete ∙ whole in cc in
+    let none : (len : ℕ) → front octets ≡ WholePacket len → ⊥ = λ len whole. let both : Incomplete ≡ WholePacket len = sym incomplete ∙ whole in cc in
     let at = λ (l : List ℕ). delivered_from (outcome_of view l later) in
     ap₂ (λ ps rest. ps ++ at_rest at rest) (packets_of-none octets none) (rest_of-none octets none)
     ∙ at_some_rest at octets some ∙ ap (λ f. delivered_from (outcome_of_front f view octets later)) incomplete

@@ -5,7 +5,8 @@ use Rattle.std.proofs.lemmas.List.{drop-drop, drop-append-le}
 use Rattle.std.proofs.Math.Nat.{add-mul, one-mul, zero-mul, suc-mul}
 use Rattle.std.proofs.Math.Seq.{drop-append-add}
 use Rattle.sl_packet.specs.Packet.{IsPacket}
-use Rattle.sl_tmflow.specs.NormalForm.{packet_offsets, data_field_of, first_of}
+use Rattle.sl_tmflow.specs.NormalForm.{data_field_of, first_of}
+use Rattle.sl_tmflow.specs.PacketStart.{packet_offsets}
 use Rattle.sl_tmflow.proofs.FieldStartLemmas.{found_in, first_is, lies_elsewhere, skip_packet}
 
 -- the first header pointer of a data field of so many octets, where the next packet starts at this offset
@@ -32,7 +33,7 @@ module _ (room : ℕ) (packets : List (List ℕ)) where
       }
 
   pub pointer_is : (number : ℕ) (before : List ℕ) (todo : List (List ℕ)) (count : ℕ) → 0 < room → IsCut number before todo (suc count)
-      → first_of room number (packet_offsets 0 packets) ≡ pointer_at room (length before)
+      → first_of room number (packet_offsets 0 packets []) ≡ pointer_at room (length before)
   pointer_is number before todo count some s =
       first_is room packets number (length before) (before ++ concat todo) todo some (omega (arith, s.size, suc-mul count room, length-append before (concat todo))) (record {
         found = s.found;

@@ -10,7 +10,8 @@ use Rattle.sl_tmframe.specs.PacketFrame.{packet_view}
 use Rattle.sl_tmframe.specs.TmFrame.{TmView}
 use Rattle.sl_tmflow.specs.Channel.{follows, packet_data}
 use Rattle.sl_tmflow.specs.Delivery.{Outcome, Completes, StillIncomplete, Undelivered, Continuation, Ends, Continues, agreeing_pointer, step_of, after_step, outcome_after}
-use Rattle.sl_tmflow.specs.NormalForm.{packet_offsets, data_field_of, first_of}
+use Rattle.sl_tmflow.specs.NormalForm.{data_field_of, first_of}
+use Rattle.sl_tmflow.specs.PacketStart.{packet_offsets}
 use Rattle.sl_tmflow.proofs.CutLemmas.{pointer_at, IsCut, pointer_is, field_is, past_covered}
 use Rattle.sl_tmflow.proofs.StepLemmas.{EndsIn, GoesOnPast, ends_step, continues_step, incomplete_before_end}
 
@@ -48,7 +49,7 @@ after_continues s passed rest e = ap (λ c. delivered_from (after_step c passed 
 module _ (room vc mc : ℕ) (packets : List (List ℕ)) where
   -- the view of the frame of a number, from 0, that carries packets
   abbrev pub view_at : ℕ → TmView
-  view_at number = packet_view vc ((mc + number) % 256) (number % 256) (first_of room number (packet_offsets 0 packets)) (data_field_of room number (concat packets))
+  view_at number = packet_view vc ((mc + number) % 256) (number % 256) (first_of room number (packet_offsets 0 packets [])) (data_field_of room number (concat packets))
 
   abbrev pub views_from : ℕ → ℕ → List TmView
   views_from number count = map view_at (range_with_len number count)
@@ -64,7 +65,7 @@ module _ (room vc mc : ℕ) (packets : List (List ℕ)) where
       let long : length rest ≡ room - length more = length-take-le (room - length more) (concat todo) (omega (arith, s.size, suc-mul count room, ends)) in
       let full : length all ≡ room = omega (arith, ap length all_is, length-append more rest, long, ends) in
       record {
-        first = first_of room number (packet_offsets 0 packets);
+        first = first_of room number (packet_offsets 0 packets []);
         carried = all;
         is_packets = refl;
         is_packet = p;
@@ -91,7 +92,7 @@ module _ (room vc mc : ℕ) (packets : List (List ℕ)) where
       ∙ sym (append-nil (so_far ++ more)) in
       record {
         is_read = λ same. cc;
-        no_start = λ first carried same. let p : first ≡ first_of room number (packet_offsets 0 packets) = cc in p ∙ pointer_is room packets number more todo count some s ∙ none;
+        no_start = λ first carried same. let p : first ≡ first_of room number (packet_offsets 0 packets []) = cc in p ∙ pointer_is room packets number more todo count some s ∙ none;
         incomplete =
             incomplete_before_end (so_far ++ all) (drop room more) (so_far ++ more) [] p parts
             (omega (arith, length-append so_far all, length-append so_far more, ap length all_is, full, longer));

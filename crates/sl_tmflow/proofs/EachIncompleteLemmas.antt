@@ -4,8 +4,8 @@ use Rattle.std.specs.List.{AllByRecursion, concat}
 use Rattle.std.proofs.lemmas.Bool.Decides.{nat_tests}
 use Rattle.std.proofs.lemmas.List.{take-append-drop}
 use mathlib.Core.List.{IsPrefix}
-use Rattle.sl_packet.specs.Packet.{version_of, stated_len, IsPacket}
-use Rattle.sl_packet.specs.Front.{Front, Foreign, Incomplete, Whole, is_foreign, front}
+use Rattle.sl_packet.specs.Packet.{version_of, stated_packet_len, IsPacket}
+use Rattle.sl_packet.specs.Front.{Front, OtherVersion, Incomplete, WholePacket, is_foreign, front}
 use Rattle.sl_packet.proofs.FrontLemmas.{whole_is_a_packet, incomplete_may_become_whole}
 use Rattle.sl_packet.proofs.PacketLemmas.{version_of-append}
 use Rattle.sl_tmframe.specs.TmFrame.{TmView, DataField, Packets, Idle, Opaque}
@@ -31,7 +31,7 @@ begun_version octets incomplete some =
 pub not_foreign : (n version : ℕ) → version ≡ 0 → (nat_lt 0 n && not (version == 0)) ≡ false
 not_foreign n version none = grind (arith, nat_tests)
 
-foreign_test : (foreign fewer : Bool) (len : ℕ) → foreign ≡ false → (if foreign then Foreign else if fewer then Incomplete else Whole len) ≡ Foreign → ⊥
+foreign_test : (foreign fewer : Bool) (len : ℕ) → foreign ≡ false → (if foreign then OtherVersion else if fewer then Incomplete else WholePacket len) ≡ OtherVersion → ⊥
 foreign_test true fewer len test e = cc
 foreign_test false true len test e = cc
 foreign_test false false len test e = cc
@@ -41,11 +41,11 @@ begins : (octets : List ℕ) → version_of octets ≡ 0 → ((packet : List ℕ
 begins octets version none = cases (front octets) refl
   where
     cases : (f : Front) → front octets ≡ f → f ≡ Incomplete
-    cases Foreign e =
-        absurd (foreign_test (is_foreign octets) (nat_lt (length octets) (stated_len octets)) (stated_len octets)
+    cases OtherVersion e =
+        absurd (foreign_test (is_foreign octets) (nat_lt (length octets) (stated_packet_len octets)) (stated_packet_len octets)
         (not_foreign (length octets) (version_of octets) version) e)
     cases Incomplete e = refl
-    cases (Whole len) e =
+    cases (WholePacket len) e =
         absurd (none (take len octets) (whole_is_a_packet octets len e).0 (drop len octets, take-append-drop len octets))
 
 -- ---- each that is listed is incomplete

@@ -4,7 +4,7 @@ use Rattle.std.proofs.lemmas.Bool.{cases_lt}
 use Rattle.std.proofs.lemmas.List.{append_cancel_left, length_push, take-append-drop, take-append-le, take_at, nil_from_length}
 use Rattle.std.specs.List.{AllByRecursion, concat}
 use Rattle.sl_packet.specs.Packet.{IsPacket}
-use Rattle.sl_packet.specs.Front.{Incomplete, Whole, front}
+use Rattle.sl_packet.specs.Front.{Incomplete, WholePacket, front}
 use Rattle.sl_packet.specs.Packets.{packets_of, rest_of}
 use Rattle.sl_packet.proofs.PacketLemmas.{one_packet}
 use Rattle.sl_packet.proofs.PacketsLemmas.{rest_of-concat, rest_of-none}
@@ -54,7 +54,7 @@ rest_within octets = omega (arith, length-drop (length (concat (packets_of octet
 pub not_last_is_whole : (octets : List ℕ) (first : Option ℕ) (start later : ℕ)
     → IsStart octets first start → IsStart octets first later → start < later → front (drop start octets) ≡ Incomplete → ⊥
 not_last_is_whole octets first start later s t less incomplete =
-    let none = λ (len : ℕ) (whole : front (drop start octets) ≡ Whole len). let both : Incomplete ≡ Whole len = sym incomplete ∙ whole in absurd (cc) in
+    let none = λ (len : ℕ) (whole : front (drop start octets) ≡ WholePacket len). let both : Incomplete ≡ WholePacket len = sym incomplete ∙ whole in absurd (cc) in
     let pointers : s.pointer ≡ t.pointer = same_some s.pointer t.pointer (sym s.pointed ∙ t.pointed) in
     let all : drop start octets ≡ rest_of (drop later octets) =
     sym (rest_of-none (drop start octets) none) ∙ sym (rest_from_start octets first start s)

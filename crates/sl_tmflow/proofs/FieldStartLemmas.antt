@@ -13,11 +13,12 @@ use Rattle.sl_packet.specs.Packets.{packets_of}
 use Rattle.sl_packet.proofs.HandOver.{is_first, none_first}
 use Rattle.sl_packet.proofs.PacketsLemmas.{packets_of-concat}
 use Rattle.sl_tmflow.specs.FieldStart.{starts_past}
-use Rattle.sl_tmflow.specs.NormalForm.{packet_offsets, lies_in, first_of}
+use Rattle.sl_tmflow.specs.NormalForm.{lies_in, first_of}
+use Rattle.sl_tmflow.specs.PacketStart.{packet_offsets}
 
 -- the first of these offsets that lies in the data field of a number
 abbrev pub found_in : ℕ → ℕ → ℕ → List (List ℕ) → Option ℕ
-found_in room number offset packets = find (lies_in room number) (packet_offsets offset packets)
+found_in room number offset packets = find (lies_in room number) (packet_offsets offset packets [])
 
 -- an offset lies in the data field of its own number alone
 pub lies_here : (room number start : ℕ) → start < room → lies_in room number (number * room + start) ≡ true
@@ -76,7 +77,7 @@ todo_is room packets number start octets todo at =
 
 -- the first packet start of the data field
 pub first_is : (room : ℕ) (packets : List (List ℕ)) (number start : ℕ) (octets : List ℕ) (todo : List (List ℕ)) → 0 < room → room ≤ length octets
-    → IsAtField room packets number start octets todo → first_of room number (packet_offsets 0 packets) ≡ (if nat_lt start room then Some start else None)
+    → IsAtField room packets number start octets todo → first_of room number (packet_offsets 0 packets []) ≡ (if nat_lt start room then Some start else None)
 first_is room packets number start octets [] some more at =
     let beyond : room ≤ start = omega (arith, at.here, ap length at.parts, length-append at.before []) in
     let test : nat_lt start room ≡ false = grind (arith, nat_tests) in

@@ -9,22 +9,22 @@ use Rattle.std.proofs.lemmas.Nat.{div-add-mod', div-mul-add}
 use Rattle.std.proofs.Math.Nat.{add-mul, zero-mul, zero-div, zero-mod, le-div_iff_mul-le, mod-eq_of_lt, mul-add-mod_self_right}
 use Rattle.std.proofs.Math.Seq.{drop-append_seam, drop-cons}
 use Rattle.sl_packet.specs.IdlePacket.{idle_packet}
-use Rattle.sl_tmframe.specs.PacketFrame.{room_of}
+use Rattle.sl_tmframe.specs.PacketFrame.{field_room_of}
 use Rattle.sl_tmframe.specs.TmFrame.{TmFormat}
 use Rattle.sl_tmflow.specs.FormLeft.{FormProgress, IsPending, IsLeft, IsAllMade, AddsPiece, start_in, fields_in, beyond_fields, channel_packets, filled_packets, filling_of, piece_of, passed, HasMore, HasPackets, after_packet, next_channel, packets_in, packets_left}
 use Rattle.sl_tmflow.specs.NormalForm.{with_filling, filling, fill_of, channel_frame, channel_frames, frames_from_channel}
 use Rattle.sl_packet.specs.Packet.{IsPacket}
-use Rattle.sl_tmflow.proofs.IncompleteListLemmas.{stated_len-most}
+use Rattle.sl_tmflow.proofs.IncompleteListLemmas.{stated_packet_len-most}
 use Rattle.sl_tmflow.proofs.FillLemmas.{no_filling, none_left, fill_is_least, filled_whole}
 use Rattle.sl_tmflow.proofs.FormLemmas.{fields_are, two_ranges, count_later, starts_here, starts_no_later, pending_next, found_here, no_frames}
 
 -- ---- the next packet
 
-pub left_next : (s : FormProgress) (left packet : List ℕ) (later : List (List ℕ)) (taken : ℕ) → 0 < room_of s.format → length s.octets < room_of s.format
+pub left_next : (s : FormProgress) (left packet : List ℕ) (later : List (List ℕ)) (taken : ℕ) → 0 < field_room_of s.format → length s.octets < field_room_of s.format
     → drop s.taken (filled_packets s) ≡ packet ∷ later → drop taken (filled_packets s) ≡ later → taken ≤ length (channel_packets s) + 1 → IsLeft s left
     → (more : List ℕ) × ((left ≡ piece_of s packet ++ more) × IsLeft (after_packet s packet taken) more)
 left_next s left packet later taken roomy few here there most l =
-    let room = room_of s.format in
+    let room = field_room_of s.format in
     let filled = filled_packets s in
     let all = s.octets ++ packet in
     let many = fields_in s.format all in
@@ -80,11 +80,11 @@ none_beyond (packets ∷ lists) (suc v) beyond = none_beyond lists v (omega arit
 from_channel : (format : TmFormat) (spacecraft : ℕ) (lists : List (List (List ℕ))) (v mc : ℕ)
     → concat (frames_from_channel format spacecraft v mc (drop v lists))
     ≡ concat (channel_frames format spacecraft v mc (slice_index_or lists v []))
-    ++ concat (frames_from_channel format spacecraft (v + 1) (mc + length (concat (with_filling (room_of format) (slice_index_or lists v []))) / room_of format) (drop (v + 1) lists))
+    ++ concat (frames_from_channel format spacecraft (v + 1) (mc + length (concat (with_filling (field_room_of format) (slice_index_or lists v []))) / field_room_of format) (drop (v + 1) lists))
 from_channel format spacecraft lists v mc =
     let packets = slice_index_or lists v [] in
-    let filled = with_filling (room_of format) packets in
-    let total = length (concat filled) / room_of format in
+    let filled = with_filling (field_room_of format) packets in
+    let total = length (concat filled) / field_room_of format in
     let frames = channel_frames format spacecraft v mc packets in
     elim (leb_tells (suc v) (length lists)) [
       | inl (test, inside) ↦
@@ -103,10 +103,10 @@ from_channel format spacecraft lists v mc =
     ]
 
 -- at the front of a channel its frames and those of the channels after it are left
-pub left_at_front : (s : FormProgress) (before : ℕ) → 0 < room_of s.format → s.taken ≡ 0 → s.counter ≡ 0 → s.octets ≡ [] → s.start ≡ 0 → s.master ≡ before % 256
+pub left_at_front : (s : FormProgress) (before : ℕ) → 0 < field_room_of s.format → s.taken ≡ 0 → s.counter ≡ 0 → s.octets ≡ [] → s.start ≡ 0 → s.master ≡ before % 256
     → IsLeft s (concat (frames_from_channel s.format s.spacecraft s.vc before (drop s.vc (take 8 s.lists))))
 left_at_front s before roomy taken counter octets start master =
-    let room = room_of s.format in
+    let room = field_room_of s.format in
     let filled = filled_packets s in
     let total = length (concat filled) / room in
     let none : 0 * room ≡ 0 = zero-mul room in
@@ -148,8 +148,8 @@ few_filling room len =
 
 few_filled : (s : FormProgress) → length (filled_packets s) ≤ length (channel_packets s) + 1
 few_filled s =
-    let fill = filling (room_of s.format) (length (concat (channel_packets s))) in
-    omega (arith, length-append (channel_packets s) fill, few_filling (room_of s.format) (length (concat (channel_packets s))))
+    let fill = filling (field_room_of s.format) (length (concat (channel_packets s))) in
+    omega (arith, length-append (channel_packets s) fill, few_filling (field_room_of s.format) (length (concat (channel_packets s))))
 
 -- the packets of a virtual channel, among all
 pub channel_is : (s : FormProgress) → s.vc < 8 → channel_packets s ≡ slice_index_or s.lists s.vc []
@@ -160,23 +160,23 @@ pub packet_here : (s : FormProgress) → s.taken < length (channel_packets s)
     → drop s.taken (filled_packets s) ≡ slice_index_or (channel_packets s) s.taken [] ∷ drop (s.taken + 1) (filled_packets s)
 packet_here s inside =
     let packets = channel_packets s in
-    let fill = filling (room_of s.format) (length (concat packets)) in
+    let fill = filling (field_room_of s.format) (length (concat packets)) in
     drop-append-le s.taken packets fill (omega arith) ∙ ap (λ l. l ++ fill) (drop-cons packets s.taken [] inside)
     ∙ ap (λ n. slice_index_or packets s.taken [] ∷ (drop n packets ++ fill)) (sym (add-one s.taken))
     ∙ ap (λ l. slice_index_or packets s.taken [] ∷ l) (sym (drop-append-le (s.taken + 1) packets fill (omega (arith, inside))))
 
 -- the octets of the channel, where no packet is left beyond these
 octets_of_all : (s : FormProgress) (left : List ℕ) (later : List (List ℕ)) → drop s.taken (filled_packets s) ≡ later → (l : IsLeft s left)
-    → length (concat (filled_packets s)) ≡ l.count * room_of s.format + length s.octets + length (concat later)
+    → length (concat (filled_packets s)) ≡ l.count * field_room_of s.format + length s.octets + length (concat later)
 octets_of_all s left later is l =
     let p = l.pending in
     omega (arith, ap length p.parts, length-append p.made (s.octets ++ concat (drop s.taken (filled_packets s))), length-append s.octets (concat (drop s.taken (filled_packets s))), p.size, ap (λ ps. length (concat ps)) is)
 
 -- octets beyond whole data fields are left only before the filling
-last_taken : (s : FormProgress) (left : List ℕ) → 7 ≤ room_of s.format → room_of s.format ≤ 65536 → length s.octets < room_of s.format → 0 < length s.octets
+last_taken : (s : FormProgress) (left : List ℕ) → 7 ≤ field_room_of s.format → field_room_of s.format ≤ 65536 → length s.octets < field_room_of s.format → 0 < length s.octets
     → length (channel_packets s) ≤ s.taken → IsLeft s left → s.taken ≡ length (channel_packets s)
 last_taken s left wide short few some beyond l =
-    let room = room_of s.format in
+    let room = field_room_of s.format in
     elim (leb_tells s.taken (length (channel_packets s))) [
       | inl (test, inside) ↦ omega (arith, inside, beyond)
       | inr (test, over) ↦
@@ -197,10 +197,10 @@ length_take_most (suc n) [] = omega arith
 length_take_most (suc n) (x ∷ xs) = let e = length_take_most n xs in omega arith
 
 -- where octets are left alone, the filling is next, and the last
-pub filling_here : (s : FormProgress) (left : List ℕ) → 7 ≤ room_of s.format → room_of s.format ≤ 65536 → length s.octets < room_of s.format → 0 < length s.octets
+pub filling_here : (s : FormProgress) (left : List ℕ) → 7 ≤ field_room_of s.format → field_room_of s.format ≤ 65536 → length s.octets < field_room_of s.format → 0 < length s.octets
     → length (channel_packets s) ≤ s.taken → IsLeft s left → drop s.taken (filled_packets s) ≡ filling_of s ∷ []
 filling_here s left wide short few some beyond l =
-    let room = room_of s.format in
+    let room = field_room_of s.format in
     let packets = channel_packets s in
     let fill = filling room (length (concat packets)) in
     let last = last_taken s left wide short few some beyond l in
@@ -224,7 +224,7 @@ after_filling s taken is = drop_all taken (filled_packets s) (omega (arith, few_
 -- ---- pieces
 
 -- a packet's piece
-pub adds_packet : (s s' : FormProgress) (packet before after : List ℕ) → 0 < room_of s.format → length s.octets < room_of s.format → s.taken < length (channel_packets s)
+pub adds_packet : (s s' : FormProgress) (packet before after : List ℕ) → 0 < field_room_of s.format → length s.octets < field_room_of s.format → s.taken < length (channel_packets s)
     → slice_index_or (channel_packets s) s.taken [] ≡ packet → s' ≡ after_packet s packet (s.taken + 1) → after ≡ before ++ piece_of s packet → AddsPiece s before after s'
 adds_packet s s' packet before after roomy few inside is next added =
     let later = drop (s.taken + 1) (filled_packets s) in
@@ -236,7 +236,7 @@ adds_packet s s' packet before after roomy few inside is next added =
     }
 
 -- the piece of the packet that fills up
-pub adds_filling : (s s' : FormProgress) (taken : ℕ) (before after : List ℕ) → 7 ≤ room_of s.format → room_of s.format ≤ 65536 → length s.octets < room_of s.format → 0 < length s.octets
+pub adds_filling : (s s' : FormProgress) (taken : ℕ) (before after : List ℕ) → 7 ≤ field_room_of s.format → field_room_of s.format ≤ 65536 → length s.octets < field_room_of s.format → 0 < length s.octets
     → length (channel_packets s) ≤ s.taken → taken ≡ length (channel_packets s) + 1 → s' ≡ after_packet s (filling_of s) taken → after ≡ before ++ piece_of s (filling_of s) → AddsPiece s before after s'
 adds_filling s s' taken before after wide short few some beyond last next added =
     record {
@@ -268,9 +268,9 @@ passed_is s octets packet frames taken is many = rw (is, many) refl
 -- ---- the next channel
 
 -- where no packet is left, and no octets, no frame is
-none_many : (s : FormProgress) (left : List ℕ) → 0 < room_of s.format → length (channel_packets s) ≤ s.taken → s.octets ≡ [] → (l : IsLeft s left) → l.many ≡ 0
+none_many : (s : FormProgress) (left : List ℕ) → 0 < field_room_of s.format → length (channel_packets s) ≤ s.taken → s.octets ≡ [] → (l : IsLeft s left) → l.many ≡ 0
 none_many s left roomy beyond nothing l =
-    let room = room_of s.format in
+    let room = field_room_of s.format in
     let packets = channel_packets s in
     let fill = filling room (length (concat packets)) in
     let no_octets = ap length nothing in
@@ -288,10 +288,10 @@ none_many s left roomy beyond nothing l =
           counted (l.count * room + 0) (octets_of_all s left [] none l ∙ omega (arith, no_octets)) refl
     ]
   where
-    counted : (n : ℕ) → length (concat (filled_packets s)) ≡ n → n ≡ l.count * room_of s.format + 0 → l.many ≡ 0
-    counted n size is = let frames = ap (λ k. k / room_of s.format) (size ∙ is) ∙ div-mul-add l.count (room_of s.format) 0 roomy in omega (arith, l.all, frames)
+    counted : (n : ℕ) → length (concat (filled_packets s)) ≡ n → n ≡ l.count * field_room_of s.format + 0 → l.many ≡ 0
+    counted n size is = let frames = ap (λ k. k / field_room_of s.format) (size ∙ is) ∙ div-mul-add l.count (field_room_of s.format) 0 roomy in omega (arith, l.all, frames)
 
-pub left_next_channel : (s : FormProgress) (left : List ℕ) → 0 < room_of s.format → length (channel_packets s) ≤ s.taken → s.octets ≡ [] → IsLeft s left → IsLeft (next_channel s) left
+pub left_next_channel : (s : FormProgress) (left : List ℕ) → 0 < field_room_of s.format → length (channel_packets s) ≤ s.taken → s.octets ≡ [] → IsLeft s left → IsLeft (next_channel s) left
 left_next_channel s left roomy beyond nothing l =
     let none = none_many s left roomy beyond nothing l in
     let within = l.pending.within in
@@ -305,7 +305,7 @@ left_next_channel s left roomy beyond nothing l =
 -- after the last channel nothing is left
 pub none_left_after : (s : FormProgress) → 8 ≤ s.vc → IsAllMade s
 none_left_after s beyond left l =
-    let room = room_of s.format in
+    let room = field_room_of s.format in
     let few : length (take 8 s.lists) ≤ 8 = length_take_most 8 s.lists in
     let none = none_beyond (take 8 s.lists) s.vc (omega (arith, few, beyond)) in
     let no_packets : filled_packets s ≡ [] = ap (with_filling room) none ∙ no_filling room in
@@ -327,7 +327,7 @@ some_packets s left m l =
         λ none. elim m.more [
           | inl taken ↦ absurd (omega (arith, taken, ap length none))
           | inr some ↦
-              let no_packets : filled_packets s ≡ [] = ap (with_filling (room_of s.format)) (is ∙ none) ∙ no_filling (room_of s.format) in
+              let no_packets : filled_packets s ≡ [] = ap (with_filling (field_room_of s.format)) (is ∙ none) ∙ no_filling (field_room_of s.format) in
               let p = l.pending in
               let later = concat (drop s.taken (filled_packets s)) in
               let size = ap length p.parts in
@@ -360,7 +360,7 @@ ok_both (Err e) f p q = tt
 
 -- no packet has more than 65,542 octets
 pub longest_packet : (packet : List ℕ) → IsPacket packet → length packet ≤ 65542
-longest_packet packet is = let len = is.len in let most = stated_len-most packet in omega (arith, len, most)
+longest_packet packet is = let len = is.len in let most = stated_packet_len-most packet in omega (arith, len, most)
 
 -- ---- there is a last piece
 
@@ -370,7 +370,7 @@ fewer_after s packet inside some =
     omega (arith, here)
 
 -- also where the packet fills up
-pub fewer_filled : (s : FormProgress) (left packet : List ℕ) (taken : ℕ) → 7 ≤ room_of s.format → room_of s.format ≤ 65536 → length s.octets < room_of s.format → 0 < length s.octets
+pub fewer_filled : (s : FormProgress) (left packet : List ℕ) (taken : ℕ) → 7 ≤ field_room_of s.format → field_room_of s.format ≤ 65536 → length s.octets < field_room_of s.format → 0 < length s.octets
     → length (channel_packets s) ≤ s.taken → s.vc < length (take 8 s.lists) → taken ≡ length (channel_packets s) + 1 → IsLeft s left → packets_left (after_packet s packet taken) < packets_left s
 fewer_filled s left packet taken wide short few some beyond inside is l =
     let last = last_taken s left wide short few some beyond l in

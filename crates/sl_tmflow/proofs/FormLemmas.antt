@@ -6,11 +6,12 @@ use Rattle.std.proofs.lemmas.List.{length-drop, take-append-drop, take-append-le
 use Rattle.std.proofs.lemmas.Nat.{div-add-mod', mod_below}
 use Rattle.std.proofs.Math.Nat.{add-mul, suc-mul, zero-mul, one-mul, zero-div}
 use Rattle.std.proofs.Math.Seq.{drop-append_seam}
-use Rattle.sl_tmframe.specs.PacketFrame.{room_of, packet_frame}
+use Rattle.sl_tmframe.specs.PacketFrame.{field_room_of, packet_frame}
 use Rattle.sl_tmframe.specs.TmFrame.{TmFormat}
 use Rattle.sl_tmflow.specs.FormLeft.{IsPending, start_in, field_frames}
 use Rattle.sl_tmflow.specs.declared.form.Heading.{Heading}
-use Rattle.sl_tmflow.specs.NormalForm.{packet_offsets, first_of, data_field_of, channel_frame, frames_of_packets, channel_frames}
+use Rattle.sl_tmflow.specs.NormalForm.{first_of, data_field_of, channel_frame, frames_of_packets, channel_frames}
+use Rattle.sl_tmflow.specs.PacketStart.{packet_offsets}
 use Rattle.sl_tmflow.proofs.FieldStartLemmas.{lies_here, lies_elsewhere, no_later, skip_packet}
 use Rattle.sl_tmflow.proofs.FillLemmas.{no_filling}
 
@@ -40,7 +41,7 @@ two_ranges f (suc n) from m =
 
 module _ (format : TmFormat) (spacecraft vc before : ℕ) (packets : List (List ℕ)) where
   abbrev room : ℕ
-  room = room_of format
+  room = field_room_of format
 
   abbrev frame_at : ℕ → List ℕ
   frame_at = channel_frame format spacecraft vc before packets
@@ -49,7 +50,7 @@ module _ (format : TmFormat) (spacecraft vc before : ℕ) (packets : List (List 
   heading_with master counter = record { spacecraft = spacecraft; vc = vc; master = master; counter = counter }
 
   abbrev first_at : ℕ → Option ℕ
-  first_at number = first_of room number (packet_offsets 0 packets)
+  first_at number = first_of room number (packet_offsets 0 packets [])
 
   -- the octets after those of so many data fields have the next one at their front
   field_is : (number : ℕ) (made octets more : List ℕ) → concat packets ≡ made ++ (octets ++ more) → length made ≡ number * room → room ≤ length octets
@@ -111,12 +112,12 @@ module _ (room : ℕ) (packets : List (List ℕ)) (count start : ℕ) (octets pa
   beyond_few : length (drop (many * room) all) < room
   beyond_few = let parts = div-add-mod' (length all) room in let below = mod_below (length all) room (omega (arith, few)) in omega (arith, parts, below, length-drop (many * room) all)
 
-  pub starts_here : first_of room count (packet_offsets 0 packets) ≡ Some start
+  pub starts_here : first_of room count (packet_offsets 0 packets []) ≡ Some start
   starts_here =
       let back : count * room + start - count * room ≡ start = omega arith in
       rw (p.first packet later refl, back) refl
 
-  pub starts_no_later : (number : ℕ) → count < number → number < count + many → first_of room number (packet_offsets 0 packets) ≡ None
+  pub starts_no_later : (number : ℕ) → count < number → number < count + many → first_of room number (packet_offsets 0 packets []) ≡ None
   starts_no_later number above below =
       let least : (number + 1) * room ≤ (count + many) * room = mul-le-mul_right room (omega (arith, below)) in
       let one = add-mul number 1 room in
@@ -155,5 +156,5 @@ module _ (room : ℕ) (packets : List (List ℕ)) (count start : ℕ) (octets pa
 -- a channel without packets has no frames
 pub no_frames : (format : TmFormat) (spacecraft vc mc : ℕ) → channel_frames format spacecraft vc mc [] ≡ []
 no_frames format spacecraft vc mc =
-    ap (frames_of_packets format spacecraft vc mc) (no_filling (room_of format))
-    ∙ ap (λ n. map (channel_frame format spacecraft vc mc []) (range_with_len 0 n)) (zero-div (room_of format))
+    ap (frames_of_packets format spacecraft vc mc) (no_filling (field_room_of format))
+    ∙ ap (λ n. map (channel_frame format spacecraft vc mc []) (range_with_len 0 n)) (zero-div (field_room_of format))

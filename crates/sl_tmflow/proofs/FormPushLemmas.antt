@@ -9,7 +9,7 @@ use Rattle.sl_fields.proofs.FecfLemmas.{fecf_len_le}
 use Rattle.sl_fields.proofs.Octets.{length-octets_of}
 use Rattle.sl_fields.specs.TmHeader.{tm_fields, tm_octets}
 use Rattle.sl_tmframe.proofs.PacketFrameLemmas.{with_fecf_whole}
-use Rattle.sl_tmframe.specs.PacketFrame.{packet_frame_header, room_of}
+use Rattle.sl_tmframe.specs.PacketFrame.{packet_frame_header, field_room_of}
 use Rattle.sl_tmframe.specs.TmFrame.{TmFormat}
 use Rattle.sl_tmflow.specs.FormLeft.{field_frames, fields_in, beyond_fields, filled_up, headed_frame, heading_after}
 use Rattle.sl_tmflow.specs.declared.form.Heading.{Heading}
@@ -18,17 +18,17 @@ use Rattle.sl_tmflow.proofs.FillLemmas.{fill_inside, fill_is_least, filling_is}
 
 -- ---- how many data fields
 
-pub none_filled : (format : TmFormat) (octets : List ℕ) → length octets < room_of format → fields_in format octets ≡ 0
+pub none_filled : (format : TmFormat) (octets : List ℕ) → length octets < field_room_of format → fields_in format octets ≡ 0
 none_filled format octets few =
-    let none : length octets ≡ 0 * room_of format + length octets = omega (arith, zero-mul (room_of format)) in
-    ap (λ n. n / room_of format) none ∙ div-mul-add 0 (room_of format) (length octets) few
+    let none : length octets ≡ 0 * field_room_of format + length octets = omega (arith, zero-mul (field_room_of format)) in
+    ap (λ n. n / field_room_of format) none ∙ div-mul-add 0 (field_room_of format) (length octets) few
 
-pub few_beyond : (format : TmFormat) (octets : List ℕ) → length octets < room_of format → beyond_fields format octets ≡ octets
-few_beyond format octets few = ap (λ n. drop (n * room_of format) octets) (none_filled format octets few) ∙ ap (λ n. drop n octets) (zero-mul (room_of format))
+pub few_beyond : (format : TmFormat) (octets : List ℕ) → length octets < field_room_of format → beyond_fields format octets ≡ octets
+few_beyond format octets few = ap (λ n. drop (n * field_room_of format) octets) (none_filled format octets few) ∙ ap (λ n. drop n octets) (zero-mul (field_room_of format))
 
-pub none_beyond_filling : (format : TmFormat) (octets : List ℕ) → 7 ≤ room_of format → room_of format ≤ 65536 → beyond_fields format (filled_up format octets) ≡ []
+pub none_beyond_filling : (format : TmFormat) (octets : List ℕ) → 7 ≤ field_room_of format → field_room_of format ≤ 65536 → beyond_fields format (filled_up format octets) ≡ []
 none_beyond_filling format octets wide short =
-    let room = room_of format in
+    let room = field_room_of format in
     let len = length octets in
     let all = filled_up format octets in
     let size : length all ≡ len + fill_of room len = length-append octets (concat (filling room len)) ∙ ap (λ n. len + n) (filling_is room len wide short).1 in
@@ -36,27 +36,27 @@ none_beyond_filling format octets wide short =
     let parts = div-add-mod' (length all) room in
     drop_all (length all / room * room) all (omega (arith, whole, parts))
 
-pub one_more_field : (format : TmFormat) (left field later : List ℕ) → 0 < room_of format → left ≡ field ++ later → length field ≡ room_of format
+pub one_more_field : (format : TmFormat) (left field later : List ℕ) → 0 < field_room_of format → left ≡ field ++ later → length field ≡ field_room_of format
     → fields_in format left ≡ suc (fields_in format later)
 one_more_field format left field later roomy divided whole =
-    let one = one-mul (room_of format) in
-    let size : length left ≡ length later + 1 * room_of format = omega (arith, ap length divided, length-append field later, whole, one) in
-    let more = ap (λ n. n / room_of format) size ∙ add-mul-div_right (length later) 1 roomy in
+    let one = one-mul (field_room_of format) in
+    let size : length left ≡ length later + 1 * field_room_of format = omega (arith, ap length divided, length-append field later, whole, one) in
+    let more = ap (λ n. n / field_room_of format) size ∙ add-mul-div_right (length later) 1 roomy in
     omega (arith, more)
 
-pub next_field : (format : TmFormat) (heading : Heading) (first : Option ℕ) (left field later : List ℕ) → 0 < room_of format → left ≡ field ++ later → length field ≡ room_of format
+pub next_field : (format : TmFormat) (heading : Heading) (first : Option ℕ) (left field later : List ℕ) → 0 < field_room_of format → left ≡ field ++ later → length field ≡ field_room_of format
     → field_frames format (fields_in format left) heading first left
     ≡ headed_frame format heading first field ++ field_frames format (fields_in format later) (heading_after heading 1) None later
 next_field format heading first left field later roomy divided whole =
-    let front : take (room_of format) left ≡ field = ap (λ n. take n left) (sym whole) ∙ ap (take (length field)) divided ∙ take-append_seam field later in
-    let back : drop (room_of format) left ≡ later = ap (λ n. drop n left) (sym whole) ∙ ap (drop (length field)) divided ∙ drop-append_seam field later in
+    let front : take (field_room_of format) left ≡ field = ap (λ n. take n left) (sym whole) ∙ ap (take (length field)) divided ∙ take-append_seam field later in
+    let back : drop (field_room_of format) left ≡ later = ap (λ n. drop n left) (sym whole) ∙ ap (drop (length field)) divided ∙ drop-append_seam field later in
     let many = fields_in format later in
     ap (λ n. field_frames format n heading first left) (one_more_field format left field later roomy divided whole)
-    ∙ ap (λ f. headed_frame format heading first f ++ field_frames format many (heading_after heading 1) None (drop (room_of format) left)) front
+    ∙ ap (λ f. headed_frame format heading first f ++ field_frames format many (heading_after heading 1) None (drop (field_room_of format) left)) front
     ∙ ap (λ l. headed_frame format heading first field ++ field_frames format many (heading_after heading 1) None l) back
 
 -- a frame has the octets of its format
-pub frame_size : (format : TmFormat) (heading : Heading) (first : Option ℕ) (field : List ℕ) → 8 ≤ format.len → length field ≡ room_of format
+pub frame_size : (format : TmFormat) (heading : Heading) (first : Option ℕ) (field : List ℕ) → 8 ≤ format.len → length field ≡ field_room_of format
     → length (headed_frame format heading first field) ≡ format.len
 frame_size format heading first field long whole =
     let header = packet_frame_header heading.spacecraft heading.vc heading.master heading.counter first in
@@ -69,7 +69,7 @@ pub record IsPushing (format : TmFormat) (heading : Heading) (end : List ℕ) (s
   pub sizes : len + fields_in format left * format.len ≡ size
 
 pub pushes_next : (format : TmFormat) (heading : Heading) (end : List ℕ) (size : ℕ) (first : Option ℕ) (left field later form form' : List ℕ) (len len' : ℕ)
-    → 0 < room_of format → 8 ≤ format.len → left ≡ field ++ later → length field ≡ room_of format
+    → 0 < field_room_of format → 8 ≤ format.len → left ≡ field ++ later → length field ≡ field_room_of format
     → form' ≡ form ++ headed_frame format heading first field → len ≡ length form → len' ≡ length form'
     → IsPushing format heading end size first left form len
     → IsPushing format (heading_after heading 1) end size None later form' len'
@@ -85,7 +85,7 @@ pushes_next format heading end size first left field later form form' len len' r
     }
 
 -- no data field is left
-pub all_pushed : (format : TmFormat) (heading : Heading) (end : List ℕ) (size : ℕ) (first : Option ℕ) (left form : List ℕ) (len : ℕ) → length left < room_of format
+pub all_pushed : (format : TmFormat) (heading : Heading) (end : List ℕ) (size : ℕ) (first : Option ℕ) (left form : List ℕ) (len : ℕ) → length left < field_room_of format
     → IsPushing format heading end size first left form len → (form ≡ end) × (len ≡ size)
 all_pushed format heading end size first left form len few p =
     let none = none_filled format left few in
@@ -97,7 +97,7 @@ all_pushed format heading end size first left form len few p =
 
 -- ---- octets and a packet after them
 
-module _ (format : TmFormat) (octets head rest packet : List ℕ) (roomy : 0 < room_of format) (whole : length (octets ++ head) ≡ room_of format) (divided : packet ≡ head ++ rest) where
+module _ (format : TmFormat) (octets head rest packet : List ℕ) (roomy : 0 < field_room_of format) (whole : length (octets ++ head) ≡ field_room_of format) (divided : packet ≡ head ++ rest) where
   both : octets ++ packet ≡ (octets ++ head) ++ rest
   both = ap (λ l. octets ++ l) divided ∙ sym (append_assoc octets head rest)
 
@@ -106,13 +106,13 @@ module _ (format : TmFormat) (octets head rest packet : List ℕ) (roomy : 0 < r
 
   pub field_of_first : fields_in format (octets ++ head) ≡ 1
   field_of_first =
-      one_more_field format (octets ++ head) (octets ++ head) [] roomy (sym (append-nil (octets ++ head))) whole ∙ ap suc (zero-div (room_of format))
+      one_more_field format (octets ++ head) (octets ++ head) [] roomy (sym (append-nil (octets ++ head))) whole ∙ ap suc (zero-div (field_room_of format))
 
-  pub beyond_both : (from : ℕ) → from ≡ length rest - length rest % room_of format → beyond_fields format (octets ++ packet) ≡ drop from rest
+  pub beyond_both : (from : ℕ) → from ≡ length rest - length rest % field_room_of format → beyond_fields format (octets ++ packet) ≡ drop from rest
   beyond_both from is =
-      let fields = div-add-mod' (length rest) (room_of format) in
-      let rooms = suc-mul (fields_in format rest) (room_of format) in
-      let at : fields_in format (octets ++ packet) * room_of format ≡ length (octets ++ head) + from = omega (arith, ap (λ n. n * room_of format) fields_of_both, rooms, fields, whole, is) in
+      let fields = div-add-mod' (length rest) (field_room_of format) in
+      let rooms = suc-mul (fields_in format rest) (field_room_of format) in
+      let at : fields_in format (octets ++ packet) * field_room_of format ≡ length (octets ++ head) + from = omega (arith, ap (λ n. n * field_room_of format) fields_of_both, rooms, fields, whole, is) in
       ap (λ n. drop n (octets ++ packet)) at ∙ ap (drop (length (octets ++ head) + from)) both ∙ sym (drop-drop from (length (octets ++ head)) ((octets ++ head) ++ rest)) ∙ ap (drop from) (drop-append_seam (octets ++ head) rest)
 
   pub frames_of_both : (heading : Heading) (first : Option ℕ) (form form₁ form₂ : List ℕ)
@@ -124,7 +124,7 @@ module _ (format : TmFormat) (octets head rest packet : List ℕ) (roomy : 0 < r
       let others = field_frames format (fields_in format rest) (heading_after heading 1) None rest in
       let alone : field_frames format (fields_in format (octets ++ head)) heading first (octets ++ head) ≡ frame =
       next_field format heading first (octets ++ head) (octets ++ head) [] roomy (sym (append-nil (octets ++ head))) whole
-      ∙ ap (λ n. frame ++ field_frames format n (heading_after heading 1) None []) (zero-div (room_of format)) ∙ append-nil frame in
+      ∙ ap (λ n. frame ++ field_frames format n (heading_after heading 1) None []) (zero-div (field_room_of format)) ∙ append-nil frame in
       two ∙ ap (λ f. f ++ others) (one ∙ ap (λ f. form ++ f) alone) ∙ append_assoc form frame others
       ∙ ap (λ l. form ++ l) (sym (next_field format heading first (octets ++ packet) (octets ++ head) rest roomy both whole))
 
@@ -138,14 +138,14 @@ thrice (suc many) room len wide short =
 pub piece_fits : (many room len octets : ℕ) → 24 ≤ room → len ≤ room + 8 → many * room ≤ octets → octets ≤ 67584 → many * len ≤ 90112
 piece_fits many room len octets wide short fields most = let t = thrice many room len wide short in omega arith
 
-pub small_piece : (format : TmFormat) (octets packet : List ℕ) → 24 ≤ room_of format → room_of format ≤ 2042 → length octets < room_of format → length packet ≤ 65542
+pub small_piece : (format : TmFormat) (octets packet : List ℕ) → 24 ≤ field_room_of format → field_room_of format ≤ 2042 → length octets < field_room_of format → length packet ≤ 65542
     → fields_in format (octets ++ packet) * format.len ≤ 90112
 small_piece format octets packet wide short few most =
     let all = octets ++ packet in
     let last = fecf_len_le format.fecf in
-    let parts = div-add-mod' (length all) (room_of format) in
+    let parts = div-add-mod' (length all) (field_room_of format) in
     let size = length-append octets packet in
-    piece_fits (fields_in format all) (room_of format) format.len 67584 wide (omega (arith, wide, last)) (omega (arith, parts, size, few, short, most)) (omega arith)
+    piece_fits (fields_in format all) (field_room_of format) format.len 67584 wide (omega (arith, wide, last)) (omega (arith, parts, size, few, short, most)) (omega arith)
 
 pub short_filling : (room : ℕ) (octets : List ℕ) → 24 ≤ room → room ≤ 2042 → length (concat (filling room (length octets))) ≤ 65542
 short_filling room octets wide short =

@@ -3,7 +3,7 @@ use Rattle.std.proofs.Common.{◌≡◌, ◌≢◌, ℕ, ◌+◌, true, List, []
 use Rattle.std.specs.List.{AllByRecursion, concat}
 use Rattle.std.proofs.lemmas.List.{map-append}
 use Rattle.std.proofs.lemmas.List.Folds.{concat-append}
-use Rattle.sl_packet.specs.Front.{Front, Foreign, Incomplete, Whole, front}
+use Rattle.sl_packet.specs.Front.{Front, OtherVersion, Incomplete, WholePacket, front}
 use Rattle.sl_tmframe.specs.TmFrame.{TmView, Opaque}
 use Rattle.sl_tmflow.specs.Channel.{is_consecutive, AreConsecutive, packet_data, reassembly}
 use Rattle.sl_tmflow.specs.Delivery.{Outcome, StillIncomplete, Continuation, Ends, Continues, Breaks, step_of, after_step, outcome_after, outcome_of_front, outcome_of}
@@ -134,9 +134,9 @@ incomplete_to_outcome passed view octets (next ∷ later) last so_far o =
 
 front_incomplete : (f : Front) (view : TmView) (octets : List ℕ) (later : List TmView) (so_far : List ℕ) → outcome_of_front f view octets later ≡ StillIncomplete so_far
     → (f ≡ Incomplete) × (outcome_after 0 view octets later ≡ StillIncomplete so_far)
-front_incomplete Foreign view octets later so_far e = absurd (cc)
+front_incomplete OtherVersion view octets later so_far e = absurd (cc)
 front_incomplete Incomplete view octets later so_far e = (refl, e)
-front_incomplete (Whole len) view octets later so_far e = absurd (cc)
+front_incomplete (WholePacket len) view octets later so_far e = absurd (cc)
 
 -- a packet start has this outcome where its packet is incomplete after all later frames, and only there
 pub outcome_incomplete : (view : TmView) (octets : List ℕ) (later : List TmView) (so_far : List ℕ) → outcome_of view octets later ≡ StillIncomplete so_far

@@ -2,8 +2,8 @@
 use Rattle.std.proofs.Common.{◌≡◌, ◌⊎◌, ℕ, ◌<◌, ◌≤◌, nat_lt, Bool, true, false, if◌then◌else◌, List, [], ◌∷◌, ◌++◌, length, drop, map, None, Some, inl, inr, refl, sym, ◌∙◌, ap, ap₂, subst, arith, length-append, length-drop}
 use Rattle.std.specs.List.{AllByRecursion, concat, flat_map}
 use Rattle.std.proofs.lemmas.Bool.{ltb-true}
-use Rattle.sl_packet.specs.Packet.{stated_len, IsPacket}
-use Rattle.sl_packet.specs.Front.{Foreign, Incomplete, Whole, is_foreign, front}
+use Rattle.sl_packet.specs.Packet.{stated_packet_len, IsPacket}
+use Rattle.sl_packet.specs.Front.{OtherVersion, Incomplete, WholePacket, is_foreign, front}
 use Rattle.sl_packet.specs.Packets.{packets_of, rest_of}
 use Rattle.sl_packet.proofs.FrontLemmas.{packet_is_whole}
 use Rattle.sl_tmframe.specs.TmFrame.{TmView, DataField, Packets, Idle, Opaque}
@@ -131,21 +131,21 @@ each_is_begun : (channel : List TmView) → AllByRecursion IsBegun (incomplete_o
 each_is_begun [] = tt
 each_is_begun (view ∷ later) = each-append IsBegun (frame_incomplete view later) (incomplete_of later) (frame_begun view later view.field) (each_is_begun later)
 
-incomplete_test : (foreign fewer : Bool) (len : ℕ) → (if foreign then Foreign else if fewer then Incomplete else Whole len) ≡ Incomplete → fewer ≡ true
+incomplete_test : (foreign fewer : Bool) (len : ℕ) → (if foreign then OtherVersion else if fewer then Incomplete else WholePacket len) ≡ Incomplete → fewer ≡ true
 incomplete_test true fewer len e = absurd (cc)
 incomplete_test false true len e = refl
 incomplete_test false false len e = absurd (cc)
 
 -- so it has fewer octets than its header states
-pub fewer_than_stated : (octets : List ℕ) → front octets ≡ Incomplete → length octets < stated_len octets
+pub fewer_than_stated : (octets : List ℕ) → front octets ≡ Incomplete → length octets < stated_packet_len octets
 fewer_than_stated octets e =
-    ltb-true (length octets) (stated_len octets) (incomplete_test (is_foreign octets) (nat_lt (length octets) (stated_len octets)) (stated_len octets) e)
+    ltb-true (length octets) (stated_packet_len octets) (incomplete_test (is_foreign octets) (nat_lt (length octets) (stated_packet_len octets)) (stated_packet_len octets) e)
 
 -- a header states 65,542 octets at most
-pub stated_len-most : (octets : List ℕ) → stated_len octets ≤ 65542
-stated_len-most octets = omega arith
+pub stated_packet_len-most : (octets : List ℕ) → stated_packet_len octets ≤ 65542
+stated_packet_len-most octets = omega arith
 
 pub incomplete_is_short : IncompleteIsShort
 incomplete_is_short channel =
-    each-weaker IsBegun IsShort (λ octets b. (b.1, omega (arith, fewer_than_stated octets b.0, stated_len-most octets)))
+    each-weaker IsBegun IsShort (λ octets b. (b.1, omega (arith, fewer_than_stated octets b.0, stated_packet_len-most octets)))
     (incomplete_of channel) (each_is_begun channel)

@@ -3,7 +3,8 @@ use Rattle.std.proofs.Common.{◌≡◌, ℕ, ◌+◌, ◌-◌, ◌*◌, ◌/◌
 use Rattle.std.proofs.lemmas.Bool.{eqb-true}
 use Rattle.std.proofs.lemmas.Nat.{div-add-mod', mod_below}
 use Rattle.sl_tmflow.specs.Among.{IsAmong}
-use Rattle.sl_tmflow.specs.NormalForm.{packet_offsets, lies_in, first_of, LiesIn, IsLeastStart, EachPointerIsLeast}
+use Rattle.sl_tmflow.specs.NormalForm.{lies_in, first_of, LiesIn, IsLeastStart, EachPointerIsLeast}
+use Rattle.sl_tmflow.specs.PacketStart.{packet_offsets}
 use Rattle.sl_tmflow.proofs.FieldStartLemmas.{lies_here}
 
 -- an offset has the number of the data field in which it lies, and of no other
@@ -22,7 +23,7 @@ tells room number offset lies =
     ap (lies_in room number) (sym back) ∙ lies_here room number (offset - number * room) (omega arith)
 
 -- packets that lie end to end start at no offset before the first one
-none_before : (offset : ℕ) (packets : List (List ℕ)) (start : ℕ) → IsAmong start (packet_offsets offset packets) → offset ≤ start
+none_before : (offset : ℕ) (packets : List (List ℕ)) (start : ℕ) → IsAmong start (packet_offsets offset packets []) → offset ≤ start
 none_before offset [] start among = absurd among
 none_before offset (packet ∷ packets) start (inl same) = omega arith
 none_before offset (packet ∷ packets) start (inr among) = omega (arith, none_before (offset + length packet) packets start among)
@@ -46,8 +47,8 @@ one_more room number offset offsets (Some first) outside least = (
 
 -- one offset before the others, of packets that lie end to end
 with_first : (room number offset : ℕ) (packet : List ℕ) (packets : List (List ℕ)) → 0 < room → (b : Bool) → lies_in room number offset ≡ b
-    → IsLeastStart room number (packet_offsets (offset + length packet) packets) (first_of room number (packet_offsets (offset + length packet) packets))
-    → IsLeastStart room number (packet_offsets offset (packet ∷ packets)) (first_of room number (packet_offsets offset (packet ∷ packets)))
+    → IsLeastStart room number (packet_offsets (offset + length packet) packets []) (first_of room number (packet_offsets (offset + length packet) packets []))
+    → IsLeastStart room number (packet_offsets offset (packet ∷ packets) []) (first_of room number (packet_offsets offset (packet ∷ packets) []))
 with_first room number offset packet packets some true test later =
     let lies = lies_there room number offset some test in
     let from = lies.from in
@@ -58,12 +59,12 @@ with_first room number offset packet packets some true test later =
       λ start among there. omega (arith, back, none_before offset (packet ∷ packets) start among),
     )
 with_first room number offset packet packets some false test later =
-    let offsets = packet_offsets (offset + length packet) packets in
+    let offsets = packet_offsets (offset + length packet) packets [] in
     rw (test) (one_more room number offset offsets (first_of room number offsets)
     (λ lies. let both : true ≡ false = sym (tells room number offset lies) ∙ test in cc) later)
 
 least_from : (room number offset : ℕ) (packets : List (List ℕ)) → 0 < room
-    → IsLeastStart room number (packet_offsets offset packets) (first_of room number (packet_offsets offset packets))
+    → IsLeastStart room number (packet_offsets offset packets []) (first_of room number (packet_offsets offset packets []))
 least_from room number offset [] some = λ start among lies. absurd among
 least_from room number offset (packet ∷ packets) some =
     with_first room number offset packet packets some (lies_in room number offset) refl (least_from room number (offset + length packet) packets some)

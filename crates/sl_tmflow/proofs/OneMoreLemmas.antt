@@ -6,7 +6,7 @@ use Rattle.std.proofs.lemmas.List.{map-append, map-id, take_at}
 use Rattle.std.proofs.lemmas.List.Concat.{flat_map_single}
 use Rattle.std.proofs.lemmas.List.Elements.{filter-append}
 use Rattle.sl_packet.specs.Packet.{IsPacket}
-use Rattle.sl_packet.specs.Front.{Front, Foreign, Incomplete, Whole, front}
+use Rattle.sl_packet.specs.Front.{Front, OtherVersion, Incomplete, WholePacket, front}
 use Rattle.sl_packet.specs.Packets.{whole_at, packets_of, rest_of}
 use Rattle.sl_packet.proofs.FrontLemmas.{packet_is_whole}
 use Rattle.sl_tmframe.specs.TmFrame.{TmView, DataField, Packets, Idle, Opaque}
@@ -44,9 +44,9 @@ outcome_after-push n view octets (v ∷ later) next passed so_many =
 
 front-push : (f : Front) (view : TmView) (octets : List ℕ) (later : List TmView) (next : TmView)
     → outcome_of_front f view octets (later ++ next ∷ []) ≡ with_next (length later + 1) (last_of view later) next (outcome_of_front f view octets later)
-front-push Foreign view octets later next = refl
+front-push OtherVersion view octets later next = refl
 front-push Incomplete view octets later next = outcome_after-push 0 view octets later next (length later + 1) (omega arith)
-front-push (Whole len) view octets later next = refl
+front-push (WholePacket len) view octets later next = refl
 
 pub outcome_of-push : (view : TmView) (octets : List ℕ) (later : List TmView) (next : TmView)
     → outcome_of view octets (later ++ next ∷ []) ≡ with_next (length later + 1) (last_of view later) next (outcome_of view octets later)
@@ -130,20 +130,20 @@ ends_elsewhere number frame start packet passed other =
 
 pub at_last : (frame start : ℕ) (view : TmView) (octets : List ℕ) (f : Front)
     → packets_at frame (delivery_of frame start (outcome_of_front f view octets [])) ≡ whole_at f octets
-at_last frame start view octets Foreign = refl
+at_last frame start view octets OtherVersion = refl
 at_last frame start view octets Incomplete = refl
-at_last frame start view octets (Whole len) = ends_there frame frame start (take len octets) 0 (omega arith)
+at_last frame start view octets (WholePacket len) = ends_there frame frame start (take len octets) 0 (omega arith)
 
 packet_first : (packet more : List ℕ) → IsPacket packet → whole_at (front (packet ++ more)) (packet ++ more) ≡ packet ∷ []
 packet_first packet more p =
     ap (λ f. whole_at f (packet ++ more)) (packet_is_whole packet more p) ∙ ap (λ l. l ∷ []) (take_at packet more (length packet) refl)
 
-none_first : (octets : List ℕ) (f : Front) → ((len : ℕ) → f ≡ Whole len → ⊥) → whole_at f octets ≡ []
-none_first octets Foreign none = refl
+none_first : (octets : List ℕ) (f : Front) → ((len : ℕ) → f ≡ WholePacket len → ⊥) → whole_at f octets ≡ []
+none_first octets OtherVersion none = refl
 none_first octets Incomplete none = refl
-none_first octets (Whole len) none = absurd (none len refl)
+none_first octets (WholePacket len) none = absurd (none len refl)
 
-none_at_rest : (rest : List ℕ) → ((len : ℕ) → front rest ≡ Whole len → ⊥) → at_rest (λ l. whole_at (front l) l) rest ≡ []
+none_at_rest : (rest : List ℕ) → ((len : ℕ) → front rest ≡ WholePacket len → ⊥) → at_rest (λ l. whole_at (front l) l) rest ≡ []
 none_at_rest [] none = refl
 none_at_rest (octet ∷ rest) none = none_first (octet ∷ rest) (front (octet ∷ rest)) none
 

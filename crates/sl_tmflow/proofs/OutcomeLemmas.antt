@@ -4,7 +4,7 @@ use Rattle.std.specs.List.{AllByRecursion, concat}
 use Rattle.std.proofs.lemmas.Bool.{cases_lt}
 use Rattle.std.proofs.lemmas.List.{take-append-drop, same_from_push, take_at, length_push}
 use Rattle.sl_packet.specs.Packet.{IsPacket}
-use Rattle.sl_packet.specs.Front.{Front, Foreign, Incomplete, Whole, front}
+use Rattle.sl_packet.specs.Front.{Front, OtherVersion, Incomplete, WholePacket, front}
 use Rattle.sl_packet.proofs.FrontLemmas.{whole_is_a_packet, packet_is_whole}
 use Rattle.sl_tmframe.specs.TmFrame.{TmView, DataField, Packets, Idle, Opaque}
 use Rattle.sl_tmflow.specs.Channel.{is_consecutive, packet_data, data_of, reassembly}
@@ -123,7 +123,7 @@ delivered_after first start run passed view octets (next ∷ later) packet n o s
           (delivered_after first start (run ++ next ∷ []) (passed + 1) next (octets ++ packet_data next) later packet n now one_more there.1)
     ]
 
-whole_delivered : (view : TmView) (octets : List ℕ) (len : ℕ) → front octets ≡ Whole len → IsDeliveredBy view octets [] (take len octets)
+whole_delivered : (view : TmView) (octets : List ℕ) (len : ℕ) → front octets ≡ WholePacket len → IsDeliveredBy view octets [] (take len octets)
 whole_delivered view octets len whole =
     record {
       is_packet = (whole_is_a_packet octets len whole).0;
@@ -142,9 +142,9 @@ pub outcome_delivered : (view : TmView) (octets : List ℕ) (later : List TmView
 outcome_delivered view octets later packet n e = cases (front octets) refl e
   where
     cases : (f : Front) → front octets ≡ f → outcome_of_front f view octets later ≡ Completes packet n → IsDeliveredWithin view octets later packet n
-    cases Foreign is outcome = absurd (cc)
+    cases OtherVersion is outcome = absurd (cc)
     cases Incomplete is outcome = delivered_after view octets [] 0 view octets later packet n (is_incomplete_at_start view octets is) refl outcome
-    cases (Whole len) is outcome =
+    cases (WholePacket len) is outcome =
         let same = same_outcome (take len octets) packet 0 n outcome in
         record {
           run = [];

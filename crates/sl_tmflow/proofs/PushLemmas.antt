@@ -5,7 +5,7 @@ use Rattle.std.proofs.lemmas.Bool.Decides.{eqb_tells}
 use Rattle.std.proofs.lemmas.List.{map-append, map-id, take_at}
 use Rattle.std.proofs.lemmas.List.Concat.{flat_map_single}
 use Rattle.sl_packet.specs.Packet.{IsPacket}
-use Rattle.sl_packet.specs.Front.{Front, Foreign, Incomplete, Whole, front}
+use Rattle.sl_packet.specs.Front.{Front, OtherVersion, Incomplete, WholePacket, front}
 use Rattle.sl_packet.specs.Packets.{whole_at, packets_of, rest_of}
 use Rattle.sl_packet.proofs.FrontLemmas.{packet_is_whole}
 use Rattle.sl_tmframe.specs.TmFrame.{TmView, DataField, Packets, Idle, Opaque}
@@ -104,9 +104,9 @@ frame_more frame view later next = cases view.field refl
 
 at_end : (frame start : ℕ) (view : TmView) (octets : List ℕ) (f : Front)
     → packets_delivered (delivery_of frame start (outcome_of_front f view octets [])) ≡ whole_at f octets
-at_end frame start view octets Foreign = refl
+at_end frame start view octets OtherVersion = refl
 at_end frame start view octets Incomplete = refl
-at_end frame start view octets (Whole len) = refl
+at_end frame start view octets (WholePacket len) = refl
 
 -- what starts in the last frame and is delivered ends in it
 last_frame : (frame : ℕ) (view : TmView) → packets_delivered (frame_deliveries frame view []) ≡ packets_at frame (frame_deliveries frame view [])

@@ -9,7 +9,7 @@ use Rattle.sl_packet.specs.Packets.{packets_of, rest_of}
 use Rattle.sl_packet.proofs.PacketLemmas.{packet_least}
 use Rattle.sl_packet.proofs.PacketsLemmas.{packets_of-concat, rest_of-concat, each_has_packets}
 use Rattle.sl_tmflow.specs.Among.{IsAmong}
-use Rattle.sl_tmflow.specs.PacketStart.{IsStart, offsets_from, starts_from}
+use Rattle.sl_tmflow.specs.PacketStart.{IsStart, packet_offsets, starts_from}
 use Rattle.sl_tmflow.proofs.EachLemmas.{each-append}
 
 -- ---- each that is listed is one
@@ -42,7 +42,7 @@ concat-one_more before packet = concat-append before (packet ∷ []) ∙ ap (λ 
 
 offsets_are_starts : (field : List ℕ) (pointer offset : ℕ) (before packets : List (List ℕ)) (rest : List ℕ) → AllByRecursion IsPacket before
     → AllByRecursion IsPacket packets → drop pointer field ≡ concat before ++ (concat packets ++ rest) → offset ≡ pointer + length (concat before)
-    → AllByRecursion (IsStart field (Some pointer)) (offsets_from offset packets rest)
+    → AllByRecursion (IsStart field (Some pointer)) (packet_offsets offset packets rest)
 offsets_are_starts field pointer offset before [] [] done each parts here = tt
 offsets_are_starts field pointer offset before [] (octet ∷ rest) done each parts here =
     (starts_here field pointer offset before (octet ∷ rest) done parts here (omega arith), tt)
@@ -72,7 +72,7 @@ each_is_start (Some pointer) field =
 -- ---- each one is listed
 
 among_offsets : (offset start : ℕ) (before packets : List (List ℕ)) (rest : List ℕ) → start ≡ offset + length (concat before)
-    → 0 < length (concat packets ++ rest) → IsAmong start (offsets_from offset (before ++ packets) rest)
+    → 0 < length (concat packets ++ rest) → IsAmong start (packet_offsets offset (before ++ packets) rest)
 among_offsets offset start [] [] [] here some = absurd (omega arith)
 among_offsets offset start [] [] (octet ∷ rest) here some = inl (omega arith)
 among_offsets offset start [] (packet ∷ packets) rest here some = inl (omega arith)
@@ -101,12 +101,12 @@ abbrev pub AreRising : List ℕ → Type 0
 AreRising [] = ⊤
 AreRising (offset ∷ offsets) = AllByRecursion (λ later. offset < later) offsets × AreRising offsets
 
-offsets_above : (low offset : ℕ) (packets : List (List ℕ)) (rest : List ℕ) → low < offset → AllByRecursion (λ later. low < later) (offsets_from offset packets rest)
+offsets_above : (low offset : ℕ) (packets : List (List ℕ)) (rest : List ℕ) → low < offset → AllByRecursion (λ later. low < later) (packet_offsets offset packets rest)
 offsets_above low offset [] [] above = tt
 offsets_above low offset [] (octet ∷ rest) above = (above, tt)
 offsets_above low offset (packet ∷ packets) rest above = (above, offsets_above low (offset + length packet) packets rest (omega arith))
 
-offsets_rise : (offset : ℕ) (packets : List (List ℕ)) (rest : List ℕ) → AllByRecursion IsPacket packets → AreRising (offsets_from offset packets rest)
+offsets_rise : (offset : ℕ) (packets : List (List ℕ)) (rest : List ℕ) → AllByRecursion IsPacket packets → AreRising (packet_offsets offset packets rest)
 offsets_rise offset [] [] each = tt
 offsets_rise offset [] (octet ∷ rest) each = (tt, tt)
 offsets_rise offset (packet ∷ packets) rest each =

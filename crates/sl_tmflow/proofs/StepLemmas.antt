@@ -1,14 +1,15 @@
 -- What the next frame does to an incomplete packet: it ends there, or goes on, or never ends.
-use Rattle.std.proofs.Common.{◌≡◌, ◌≢◌, ℕ, ◌+◌, ◌-◌, ◌<◌, ◌≤◌, Bool, true, false, if◌then◌else◌, List, [], ◌++◌, length, take, drop, Option, None, Some, is_some, refl, sym, ◌∙◌, ap, subst, arith, append-nil, append_assoc, eqb-true, eq-eqb, le-ltb}
+use Rattle.std.proofs.Common.{◌≡◌, ◌≢◌, ℕ, ◌+◌, ◌-◌, ◌<◌, ◌≤◌, nat_eq, Bool, true, false, if◌then◌else◌, List, [], ◌++◌, length, take, drop, Option, None, Some, is_some, refl, sym, ◌∙◌, ap, subst, arith, append-nil, append_assoc, eqb-true, eq-eqb, le-ltb}
+use Rattle.std.specs.Option.{option_eq}
 use Rattle.std.proofs.lemmas.List.{take-append-drop, take-append-le, take_at, length-take-le}
 use mathlib.Core.List.{IsPrefix}
 use Rattle.sl_packet.specs.Packet.{IsPacket}
-use Rattle.sl_packet.specs.Front.{Front, Foreign, Incomplete, Whole, front}
+use Rattle.sl_packet.specs.Front.{Front, OtherVersion, Incomplete, WholePacket, front}
 use Rattle.sl_packet.proofs.PacketLemmas.{one_packet}
 use Rattle.sl_packet.proofs.FrontLemmas.{whole_is_a_packet, packet_is_whole, foreign_is_no_packet, incomplete_may_become_whole}
 use Rattle.sl_tmframe.specs.TmFrame.{TmView, DataField, Packets, Idle, Opaque}
 use Rattle.sl_tmflow.specs.Channel.{is_consecutive, data_of}
-use Rattle.sl_tmflow.specs.Delivery.{agreeing_pointer, same_pointer, Ends, Continues, Breaks, front_step, field_step, step_of}
+use Rattle.sl_tmflow.specs.Delivery.{agreeing_pointer, Ends, Continues, Breaks, front_step, field_step, step_of}
 
 -- ---- octets that begin a packet
 
@@ -24,9 +25,9 @@ pub incomplete_before_end : (octets more packet rest : List ℕ) → IsPacket pa
 incomplete_before_end octets more packet rest p same short = cases (front octets) refl
   where
     cases : (f : Front) → front octets ≡ f → f ≡ Incomplete
-    cases Foreign e = absurd (foreign_is_no_packet octets more packet rest e same p)
+    cases OtherVersion e = absurd (foreign_is_no_packet octets more packet rest e same p)
     cases Incomplete e = refl
-    cases (Whole len) e =
+    cases (WholePacket len) e =
         let whole = whole_is_a_packet octets len e in
         let split : take len octets ++ (drop len octets ++ more) ≡ packet ++ rest =
         sym (append_assoc (take len octets) (drop len octets) more) ∙ ap (λ l. l ++ more) (take-append-drop len octets) ∙ same in
@@ -40,35 +41,35 @@ pub incomplete_before : (octets more : List ℕ) → front (octets ++ more) ≡ 
 incomplete_before octets more incomplete = cases (front octets) refl
   where
     cases : (f : Front) → front octets ≡ f → f ≡ Incomplete
-    cases Foreign e =
+    cases OtherVersion e =
         let (rest, p) = incomplete_may_become_whole (octets ++ more) incomplete in
         absurd (foreign_is_no_packet octets (more ++ rest) ((octets ++ more) ++ rest) [] e
         (sym (append_assoc octets more rest) ∙ sym (append-nil ((octets ++ more) ++ rest))) p)
     cases Incomplete e = refl
-    cases (Whole len) e =
+    cases (WholePacket len) e =
         let whole = whole_is_a_packet octets len e in
         let split : take len octets ++ (drop len octets ++ more) ≡ octets ++ more =
         sym (append_assoc (take len octets) (drop len octets) more) ∙ ap (λ l. l ++ more) (take-append-drop len octets) in
-        let there : front (octets ++ more) ≡ Whole (length (take len octets)) =
+        let there : front (octets ++ more) ≡ WholePacket (length (take len octets)) =
         ap front (sym split) ∙ packet_is_whole (take len octets) (drop len octets ++ more) whole.0 in
-        let both : Incomplete ≡ Whole (length (take len octets)) = sym incomplete ∙ there in
+        let both : Incomplete ≡ WholePacket (length (take len octets)) = sym incomplete ∙ there in
         absurd (cc)
 
 -- where no packet is whole, none lies at the front
 pub incomplete_is_no_packet : (octets packet : List ℕ) → IsPacket packet → front octets ≡ Incomplete → IsPrefix packet octets → ⊥
 incomplete_is_no_packet octets packet p incomplete prefix =
-    let both : Incomplete ≡ Whole (length packet) = sym incomplete ∙ ap front (sym prefix.1) ∙ packet_is_whole packet prefix.0 p in
+    let both : Incomplete ≡ WholePacket (length packet) = sym incomplete ∙ ap front (sym prefix.1) ∙ packet_is_whole packet prefix.0 p in
     cc
 
 -- ---- pointers
 
-same_pointers : (a b : Option ℕ) → same_pointer a b ≡ true → a ≡ b
+same_pointers : (a b : Option ℕ) → option_eq nat_eq a b ≡ true → a ≡ b
 same_pointers None None same = refl
 same_pointers None (Some b) same = absurd (cc)
 same_pointers (Some a) None same = absurd (cc)
 same_pointers (Some a) (Some b) same = ap Some (eqb-true a b same)
 
-pointers_same : (a : Option ℕ) → same_pointer a a ≡ true
+pointers_same : (a : Option ℕ) → option_eq nat_eq a a ≡ true
 pointers_same None = refl
 pointers_same (Some a) = eq-eqb a a refl
 
@@ -103,11 +104,11 @@ no_end None packet e = cc
 no_end (Some first) packet e = cc
 
 front_ends : (first : Option ℕ) (before : ℕ) (field all : List ℕ) (f : Front) (packet : List ℕ) → front_step first before field all f ≡ Ends packet
-    → (len : ℕ) × (f ≡ Whole len) × (first ≡ agreeing_pointer len before field) × (take len all ≡ packet)
-front_ends first before field all Foreign packet e = absurd (cc)
+    → (len : ℕ) × (f ≡ WholePacket len) × (first ≡ agreeing_pointer len before field) × (take len all ≡ packet)
+front_ends first before field all OtherVersion packet e = absurd (cc)
 front_ends first before field all Incomplete packet e = absurd (no_end first packet e)
-front_ends first before field all (Whole len) packet e =
-    let test = ends_test (same_pointer first (agreeing_pointer len before field)) (take len all) packet e in
+front_ends first before field all (WholePacket len) packet e =
+    let test = ends_test (option_eq nat_eq first (agreeing_pointer len before field)) (take len all) packet e in
     (len, refl, same_pointers first (agreeing_pointer len before field) test.0, test.1)
 
 -- the octets with which a step ends are a packet
@@ -135,9 +136,9 @@ field_ends octets Opaque packet e = absurd (cc)
 pub ends_field : (octets : List ℕ) (field : DataField) (packet : List ℕ) → EndsIn octets field packet → field_step octets field ≡ Ends packet
 ends_field octets field packet x =
     let all : octets ++ x.carried ≡ packet ++ x.ends.0 = sym x.ends.1 in
-    let is_whole : front (octets ++ x.carried) ≡ Whole (length packet) = ap front all ∙ packet_is_whole packet x.ends.0 x.is_packet in
-    let test : same_pointer x.first (agreeing_pointer (length packet) (length octets) x.carried) ≡ true =
-    ap (λ first. same_pointer first (agreeing_pointer (length packet) (length octets) x.carried)) x.agrees
+    let is_whole : front (octets ++ x.carried) ≡ WholePacket (length packet) = ap front all ∙ packet_is_whole packet x.ends.0 x.is_packet in
+    let test : option_eq nat_eq x.first (agreeing_pointer (length packet) (length octets) x.carried) ≡ true =
+    ap (λ first. option_eq nat_eq first (agreeing_pointer (length packet) (length octets) x.carried)) x.agrees
     ∙ pointers_same (agreeing_pointer (length packet) (length octets) x.carried) in
     ap (field_step octets) x.is_packets
     ∙ ap (front_step x.first (length octets) x.carried (octets ++ x.carried)) is_whole
@@ -154,10 +155,10 @@ no_pointer (Some first) e = absurd (cc)
 
 front_continues : (first : Option ℕ) (before : ℕ) (field all : List ℕ) (f : Front) → front_step first before field all f ≡ Continues
     → (f ≡ Incomplete) × (first ≡ None)
-front_continues first before field all Foreign e = absurd (cc)
+front_continues first before field all OtherVersion e = absurd (cc)
 front_continues first before field all Incomplete e = (refl, no_pointer first e)
-front_continues first before field all (Whole len) e =
-    absurd (continues_test (same_pointer first (agreeing_pointer len before field)) (take len all) e)
+front_continues first before field all (WholePacket len) e =
+    absurd (continues_test (option_eq nat_eq first (agreeing_pointer len before field)) (take len all) e)
 
 pub field_continues : (octets : List ℕ) (field : DataField) → front octets ≡ Incomplete → field_step octets field ≡ Continues → GoesOnPast octets field
 field_continues octets (Packets first carried) incomplete e =

@@ -1,7 +1,7 @@
 -- What an extractor keeps of a virtual channel of CCSDS 132.0-B, and what the next frame makes of it. These
 -- are the code's steps, not the standard's: contracts of private functions alone cite what a step does.
 use Rattle.std.specs.Prelude.{ℕ, Bool, false, List, [], ◌∷◌, ◌++◌, drop, Option, None, Some}
-use Rattle.sl_packet.specs.Front.{Front, Foreign, Incomplete, Whole, front, is_foreign}
+use Rattle.sl_packet.specs.Front.{Front, OtherVersion, Incomplete, WholePacket, front, is_foreign}
 use Rattle.sl_packet.specs.Packets.{rest_of}
 use Rattle.sl_tmframe.specs.TmFrame.{TmView, DataField, Packets, Idle, Opaque}
 use Rattle.sl_tmflow.specs.Channel.{follows, packet_data}
@@ -53,9 +53,9 @@ lost_by state next = lost_of (step_in state next) state.held
 
 -- octets that begin an incomplete packet
 abbrev pub incomplete_in : Front → List ℕ → List ℕ
-incomplete_in Foreign octets = []
+incomplete_in OtherVersion octets = []
 incomplete_in Incomplete octets = octets
-incomplete_in (Whole len) octets = []
+incomplete_in (WholePacket len) octets = []
 
 -- the octets that are held after a data field, where these were held before the packets that start in it
 abbrev pub held_after : DataField → List ℕ → List ℕ

@@ -1,11 +1,12 @@
 -- Which packets a virtual channel of CCSDS 132.0-B delivers. A packet is found by its start in a frame, and by
 -- the run of frames after that one in which it ends. That the pointers of these frames have to agree with the
 -- packet (`agreeing_pointer`) is this project's mission profile.
-use Rattle.std.specs.Prelude.{◌≡◌, ◌≢◌, ⊤, ◌⊎◌, ℕ, ◌+◌, ◌-◌, ◌<◌, ◌≤◌, ◌==◌, nat_lt, Bool, true, false, if◌then◌else◌, List, [], ◌∷◌, ◌++◌, length, take, drop, map, Option, None, Some, is_some}
+use Rattle.std.specs.Prelude.{◌≡◌, ◌≢◌, ⊤, ◌⊎◌, ℕ, ◌+◌, ◌-◌, ◌<◌, ◌≤◌, ◌==◌, nat_eq, nat_lt, if◌then◌else◌, List, [], ◌∷◌, ◌++◌, length, take, drop, map, Option, None, Some, is_some}
 use Rattle.std.specs.List.{AllByRecursion, filter, flat_map}
+use Rattle.std.specs.Option.{option_eq}
 use mathlib.Core.List.{IsPrefix}
 use Rattle.sl_packet.specs.Packet.{IsPacket}
-use Rattle.sl_packet.specs.Front.{Front, Foreign, Incomplete, Whole, front}
+use Rattle.sl_packet.specs.Front.{Front, OtherVersion, Incomplete, WholePacket, front}
 use Rattle.sl_tmflow.specs.Among.{IsAmong}
 use Rattle.sl_tmframe.specs.TmFrame.{TmView, DataField, Packets, Idle, Opaque}
 use Rattle.sl_tmflow.specs.Channel.{follows, AreConsecutive, packet_data, reassembly}
@@ -79,18 +80,12 @@ ended (Ends packet) = packet ∷ []
 ended Continues = []
 ended Breaks = []
 
-abbrev pub same_pointer : Option ℕ → Option ℕ → Bool
-same_pointer None None = true
-same_pointer None (Some b) = false
-same_pointer (Some a) None = false
-same_pointer (Some a) (Some b) = a == b
-
 -- a packet ends here if the pointer agrees; an incomplete one goes on only where no packet starts
 abbrev pub front_step : Option ℕ → ℕ → List ℕ → List ℕ → Front → Continuation
-front_step first before field all Foreign = Breaks
+front_step first before field all OtherVersion = Breaks
 front_step first before field all Incomplete = if is_some first then Breaks else Continues
-front_step first before field all (Whole len) =
-    if same_pointer first (agreeing_pointer len before field) then Ends (take len all) else Breaks
+front_step first before field all (WholePacket len) =
+    if option_eq nat_eq first (agreeing_pointer len before field) then Ends (take len all) else Breaks
 
 abbrev pub field_step : List ℕ → DataField → Continuation
 field_step octets (Packets first field) = front_step first (length octets) field (octets ++ field) (front (octets ++ field))
@@ -116,9 +111,9 @@ outcome_after passed view octets (next ∷ later) =
     after_step (step_of view octets next) (passed + 1) (outcome_after (passed + 1) next (octets ++ packet_data next) later)
 
 abbrev pub outcome_of_front : Front → TmView → List ℕ → List TmView → Outcome
-outcome_of_front Foreign view octets later = Undelivered
+outcome_of_front OtherVersion view octets later = Undelivered
 outcome_of_front Incomplete view octets later = outcome_after 0 view octets later
-outcome_of_front (Whole len) view octets later = Completes (take len octets) 0
+outcome_of_front (WholePacket len) view octets later = Completes (take len octets) 0
 
 -- of a packet start, with the octets of its frame from it on, and the frames that come later
 abbrev pub outcome_of : TmView → List ℕ → List TmView → Outcome

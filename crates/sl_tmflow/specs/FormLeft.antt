@@ -5,9 +5,10 @@ use Rattle.std.specs.Prelude.{◌≡◌, ℕ, zero, suc, ◌+◌, ◌-◌, ◌*�
 use Rattle.std.specs.List.{concat, find, range_with_len, slice_index_or}
 use Rattle.std.specs.Global.{Vec}
 use Rattle.std.specs.Vec.{vec_capacity, vec_len}
-use Rattle.sl_tmframe.specs.PacketFrame.{room_of, packet_frame}
+use Rattle.sl_tmframe.specs.PacketFrame.{field_room_of, packet_frame}
 use Rattle.sl_tmframe.specs.TmFrame.{TmFormat}
-use Rattle.sl_tmflow.specs.NormalForm.{filling, with_filling, packet_offsets, lies_in, channel_frame, frames_from_channel, normal_form}
+use Rattle.sl_tmflow.specs.NormalForm.{filling, with_filling, lies_in, channel_frame, frames_from_channel, normal_form}
+use Rattle.sl_tmflow.specs.PacketStart.{packet_offsets}
 use Rattle.sl_tmflow.specs.declared.form.Heading.{Heading}
 
 -- ---- how far it is
@@ -45,11 +46,11 @@ abbrev pub channel_packets : FormProgress → List (List ℕ)
 channel_packets s = slice_index_or (take 8 s.lists) s.vc []
 
 abbrev pub filled_packets : FormProgress → List (List ℕ)
-filled_packets s = with_filling (room_of s.format) (channel_packets s)
+filled_packets s = with_filling (field_room_of s.format) (channel_packets s)
 
 -- the first of the offsets, from one on, at which packets start end to end, that lies in the data field of a number
 abbrev pub start_in : ℕ → ℕ → ℕ → List (List ℕ) → Option ℕ
-start_in room number offset packets = find (lies_in room number) (packet_offsets offset packets)
+start_in room number offset packets = find (lies_in room number) (packet_offsets offset packets [])
 
 -- of the packets of a channel so many data fields were made, and these octets are left of the packets that were taken
 pub record IsPending (room : ℕ) (packets : List (List ℕ)) (count start : ℕ) (octets : List ℕ) (later : List (List ℕ)) : Type 0 where
@@ -69,10 +70,10 @@ pub record IsLeft (s : FormProgress) (left : List ℕ) : Type 0 where
   pub count : ℕ
   pub many : ℕ
   pub most : s.taken ≤ length (channel_packets s) + 1
-  pub all : count + many ≡ length (concat (filled_packets s)) / room_of s.format
+  pub all : count + many ≡ length (concat (filled_packets s)) / field_room_of s.format
   pub master_is : s.master ≡ (before + count) % 256
   pub counter_is : s.counter ≡ count % 256
-  pub pending : IsPending (room_of s.format) (filled_packets s) count s.start s.octets (drop s.taken (filled_packets s))
+  pub pending : IsPending (field_room_of s.format) (filled_packets s) count s.start s.octets (drop s.taken (filled_packets s))
   pub left_is : left ≡ concat (map (channel_frame s.format s.spacecraft s.vc before (filled_packets s)) (range_with_len count many))
       ++ concat (frames_from_channel s.format s.spacecraft (s.vc + 1) (before + (count + many)) (drop (s.vc + 1) (take 8 s.lists)))
 
@@ -148,15 +149,15 @@ headed_frame format h first field = packet_frame format h.spacecraft h.vc h.mast
 abbrev pub field_frames : TmFormat → ℕ → Heading → Option ℕ → List ℕ → List ℕ
 field_frames format zero h first octets = []
 field_frames format (suc many) h first octets =
-    headed_frame format h first (take (room_of format) octets)
-    ++ field_frames format many (heading_after h 1) None (drop (room_of format) octets)
+    headed_frame format h first (take (field_room_of format) octets)
+    ++ field_frames format many (heading_after h 1) None (drop (field_room_of format) octets)
 
 -- the data fields that octets fill, and the octets beyond them
 abbrev pub fields_in : TmFormat → List ℕ → ℕ
-fields_in format octets = length octets / room_of format
+fields_in format octets = length octets / field_room_of format
 
 abbrev pub beyond_fields : TmFormat → List ℕ → List ℕ
-beyond_fields format octets = drop (fields_in format octets * room_of format) octets
+beyond_fields format octets = drop (fields_in format octets * field_room_of format) octets
 
 -- their frames, and how many octets those are
 abbrev pub frames_of : TmFormat → Heading → Option ℕ → List ℕ → List ℕ
@@ -172,11 +173,11 @@ pub record HasMore (s : FormProgress) : Type 0 where
 
 -- octets, filled up
 abbrev pub filled_up : TmFormat → List ℕ → List ℕ
-filled_up format octets = octets ++ concat (filling (room_of format) (length octets))
+filled_up format octets = octets ++ concat (filling (field_room_of format) (length octets))
 
 -- the idle packet that fills up what is left of a virtual channel, or nothing
 abbrev pub filling_of : FormProgress → List ℕ
-filling_of s = concat (filling (room_of s.format) (length s.octets))
+filling_of s = concat (filling (field_room_of s.format) (length s.octets))
 
 -- the frames that a packet completes
 abbrev pub piece_of : FormProgress → List ℕ → List ℕ

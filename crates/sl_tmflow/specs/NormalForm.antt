@@ -4,9 +4,10 @@
 use Rattle.std.specs.Prelude.{◌≡◌, ◌⊎◌, ℕ, ◌+◌, ◌-◌, ◌*◌, ◌/◌, ◌%◌, ◌<◌, ◌≤◌, ◌==◌, ◌||◌, nat_lt, Bool, not, if◌then◌else◌, List, [], ◌∷◌, ◌++◌, length, take, drop, map, Option, None, Some, option_map}
 use Rattle.std.specs.List.{concat, find, range_with_len}
 use Rattle.sl_packet.specs.IdlePacket.{idle_packet}
-use Rattle.sl_tmframe.specs.PacketFrame.{room_of, packet_frame}
+use Rattle.sl_tmframe.specs.PacketFrame.{field_room_of, packet_frame}
 use Rattle.sl_tmframe.specs.TmFrame.{TmFormat}
 use Rattle.sl_tmflow.specs.Among.{IsAmong}
+use Rattle.sl_tmflow.specs.PacketStart.{packet_offsets}
 
 -- ---- the packets of a channel, divided into data fields
 
@@ -24,11 +25,6 @@ filling room len = if fill_of room len == 0 then [] else idle_packet (fill_of ro
 -- packets, filled up
 abbrev pub with_filling : ℕ → List (List ℕ) → List (List ℕ)
 with_filling room packets = packets ++ filling room (length (concat packets))
-
--- the offsets at which packets that lie end to end start
-abbrev pub packet_offsets : ℕ → List (List ℕ) → List ℕ
-packet_offsets offset [] = []
-packet_offsets offset (packet ∷ packets) = offset ∷ packet_offsets (offset + length packet) packets
 
 -- the data field of a number, from 0
 abbrev pub data_field_of : ℕ → ℕ → List ℕ → List ℕ
@@ -49,16 +45,16 @@ first_of room number offsets = option_map (λ offset. offset - number * room) (f
 abbrev pub channel_frame : TmFormat → ℕ → ℕ → ℕ → List (List ℕ) → ℕ → List ℕ
 channel_frame format spacecraft vc mc packets number =
     packet_frame format spacecraft vc ((mc + number) % 256) (number % 256)
-    (first_of (room_of format) number (packet_offsets 0 packets))
-    (data_field_of (room_of format) number (concat packets))
+    (first_of (field_room_of format) number (packet_offsets 0 packets []))
+    (data_field_of (field_room_of format) number (concat packets))
 
 abbrev pub frames_of_packets : TmFormat → ℕ → ℕ → ℕ → List (List ℕ) → List (List ℕ)
 frames_of_packets format spacecraft vc mc packets =
-    map (channel_frame format spacecraft vc mc packets) (range_with_len 0 (length (concat packets) / room_of format))
+    map (channel_frame format spacecraft vc mc packets) (range_with_len 0 (length (concat packets) / field_room_of format))
 
 abbrev pub channel_frames : TmFormat → ℕ → ℕ → ℕ → List (List ℕ) → List (List ℕ)
 channel_frames format spacecraft vc mc packets =
-    frames_of_packets format spacecraft vc mc (with_filling (room_of format) packets)
+    frames_of_packets format spacecraft vc mc (with_filling (field_room_of format) packets)
 
 -- the frames of virtual channels with these packets, from one virtual channel on, after so many frames
 abbrev pub frames_from_channel : TmFormat → ℕ → ℕ → ℕ → List (List (List ℕ)) → List (List ℕ)
@@ -71,7 +67,7 @@ frames_from_channel format spacecraft vc mc (packets ∷ lists) =
 abbrev pub normal_form : TmFormat → ℕ → List (List (List ℕ)) → List ℕ
 normal_form format spacecraft lists = concat (frames_from_channel format spacecraft 0 0 lists)
 
--- ---- laws
+-- ---- what the filling and the pointer are
 
 -- the filling is the least that may be
 pub record IsLeastFill (room len fill : ℕ) : Type 0 where
@@ -99,4 +95,4 @@ IsLeastStart room number offsets (Some first) =
 abbrev pub EachPointerIsLeast : Type 0
 EachPointerIsLeast =
     (room number : ℕ) (packets : List (List ℕ)) → 0 < room
-    → IsLeastStart room number (packet_offsets 0 packets) (first_of room number (packet_offsets 0 packets))
+    → IsLeastStart room number (packet_offsets 0 packets []) (first_of room number (packet_offsets 0 packets []))

@@ -17,16 +17,16 @@ pub record IsStart (field : List ℕ) (first : Option ℕ) (start : ℕ) : Type 
   pub here : start ≡ pointer + length (concat before)
   pub inside : start < length field
 
--- the offsets of packets that lie end to end from an offset on, and of octets after them
-abbrev pub offsets_from : ℕ → List (List ℕ) → List ℕ → List ℕ
-offsets_from offset [] [] = []
-offsets_from offset [] (octet ∷ octets) = offset ∷ []
-offsets_from offset (packet ∷ packets) rest = offset ∷ offsets_from (offset + length packet) packets rest
+-- the offsets of packets that lie end to end from an offset on, and of octets after them, if there are any
+abbrev pub packet_offsets : ℕ → List (List ℕ) → List ℕ → List ℕ
+packet_offsets offset [] [] = []
+packet_offsets offset [] (octet ∷ octets) = offset ∷ []
+packet_offsets offset (packet ∷ packets) rest = offset ∷ packet_offsets (offset + length packet) packets rest
 
 -- the packet starts of a data field, in order
 abbrev pub starts_from : Option ℕ → List ℕ → List ℕ
 starts_from None field = []
-starts_from (Some pointer) field = offsets_from pointer (packets_of (drop pointer field)) (rest_of (drop pointer field))
+starts_from (Some pointer) field = packet_offsets pointer (packets_of (drop pointer field)) (rest_of (drop pointer field))
 
 -- those of a frame
 abbrev pub starts_of : DataField → List ℕ

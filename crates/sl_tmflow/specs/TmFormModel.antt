@@ -1,7 +1,7 @@
 -- A `TmForm` is how far it is. The octets that it keeps don't fill a data field.
 use Rattle.std.specs.Prelude.{◌<◌, ◌≤◌, length}
 use Rattle.std.specs.Vec.{vec_capacity}
-use Rattle.sl_tmframe.specs.PacketFrame.{room_of}
+use Rattle.sl_tmframe.specs.PacketFrame.{field_room_of}
 use Rattle.sl_tmflow.specs.FormLeft.{FormProgress, FormState}
 use Rattle.sl_tmflow.specs.declared.form.TmForm.TheInside.{Inside}
 
@@ -24,5 +24,5 @@ form_state f = record { progress = form_progress f; octets_room = vec_capacity f
 
 pub record IsTmForm (f : Inside) : Type 0 where
   pub spacecraft : f.heading.spacecraft ≤ 1023
-  pub few : length f.octets.items < room_of f.shape
-  pub start : f.start < room_of f.shape
+  pub few : length f.octets.items < field_room_of f.shape
+  pub start : f.start < field_room_of f.shape

@@ -3,7 +3,7 @@ ghost use Rattle.std.specs.Prelude.{ℕ, List, [], ◌≡◌, ◌≢◌, ◌+◌
 ghost use Rattle.std.specs.List.{AllByRecursion, concat, slice_index_or};
 ghost use Rattle.std.specs.Vec.{vec_len, vec_capacity};
 ghost use Rattle.sl_packet.specs.Delivered.{HasNone, IsDeliverable, list_at};
-ghost use Rattle.sl_tmframe.specs.PacketFrame.{room_of};
+ghost use Rattle.sl_tmframe.specs.PacketFrame.{field_room_of};
 ghost use Rattle.sl_tmflow.specs.Canonical.{AreDeliverable, IsFormat};
 ghost use Rattle.sl_tmflow.specs.FormLeft.{IsLeft, AddsPiece, IsAllMade, KeepsLeft, IsOfPackets, HasRoom, LacksRoom, HasMore, HasFewer, HasNoMore, form_of, piece_room, octets_room, heading_after, frames_of, frames_len, fields_in, beyond_fields, filled_up, passed};
 ghost use Rattle.sl_tmflow.specs.NormalForm.{fill_of, filling};
@@ -230,15 +230,15 @@ fn add(
 ) -> Result<usize, AllocError>
     requires spacecraft { heading.spacecraft ≤ 1023 }
     requires vc { heading.vc ≤ 7 }
-    requires start { start < room_of shape.now }
-    requires few { length octets.old.items < room_of shape.now }
+    requires start { start < field_room_of shape.now }
+    requires few { length octets.old.items < field_room_of shape.now }
     ensures frames { OnOk result (form.new.items ≡ form.old.items
         ++ frames_of shape.now heading (Some start) (octets.old.items ++ packet.now)) }
     ensures beyond { OnOk result (octets.new.items
         ≡ beyond_fields shape.now (octets.old.items ++ packet.now)) }
     ensures count { IfOk result (λ frames. frames
         ≡ fields_in shape.now (octets.old.items ++ packet.now)) }
-    ensures few { length octets.new.items < room_of shape.now }
+    ensures few { length octets.new.items < field_room_of shape.now }
     ensures full { OnErr result (octets_room ≤ vec_capacity octets.old → vec_capacity form.old
         < vec_len form.old + frames_len shape.now (octets.old.items ++ packet.now)) }
     ensures keeps { vec_capacity octets.old ≤ vec_capacity octets.new }
@@ -271,15 +271,15 @@ fn fill(
 ) -> Result<usize, AllocError>
     requires spacecraft { heading.spacecraft ≤ 1023 }
     requires vc { heading.vc ≤ 7 }
-    requires start { start < room_of shape.now }
-    requires few { length octets.old.items < room_of shape.now }
+    requires start { start < field_room_of shape.now }
+    requires few { length octets.old.items < field_room_of shape.now }
     ensures frames { OnOk result (form.new.items ≡ form.old.items
         ++ frames_of shape.now heading (Some start) (filled_up shape.now octets.old.items)) }
     ensures beyond { OnOk result (octets.new.items
         ≡ beyond_fields shape.now (filled_up shape.now octets.old.items)) }
     ensures count { IfOk result (λ frames. frames
         ≡ fields_in shape.now (filled_up shape.now octets.old.items)) }
-    ensures few { length octets.new.items < room_of shape.now }
+    ensures few { length octets.new.items < field_room_of shape.now }
     ensures full { OnErr result (octets_room ≤ vec_capacity octets.old → vec_capacity form.old
         < vec_len form.old + frames_len shape.now (filled_up shape.now octets.old.items)) }
     ensures keeps { vec_capacity octets.old ≤ vec_capacity octets.new }
@@ -336,7 +336,7 @@ fn push_fields(
 ) -> Result<(), AllocError>
     requires spacecraft { heading.spacecraft ≤ 1023 }
     requires vc { heading.vc ≤ 7 }
-    requires first { IfSome first (λ first. first < room_of shape.now) }
+    requires first { IfSome first (λ first. first < field_room_of shape.now) }
     ensures frames { OnOk result (form.new.items
         ≡ form.old.items ++ frames_of shape.now heading first octets.now) }
     ensures size { OnOk result (vec_len form.new

@@ -1,18 +1,16 @@
 -- A frame of packets as it is made, and as it is read back.
-use Rattle.std.proofs.Common.{◌≡◌, ℕ, ◌-◌, ◌<◌, ◌≤◌, ◌==◌, Bool, true, false, not, ◌&&◌, List, [], ◌++◌, length, take, Option, Some, None, IfSome, Ok, unwrap_or, if◌then◌else◌, refl, sym, ◌∙◌, ap, arith, append-nil, length-append}
-use Rattle.std.proofs.Math.Seq.{take-append_seam}
+use Rattle.std.proofs.Common.{◌≡◌, ℕ, ◌<◌, ◌≤◌, ◌==◌, false, not, List, [], ◌++◌, length, Option, Some, None, IfSome, Ok, unwrap_or, if◌then◌else◌, refl, sym, ◌∙◌, ap, arith, append-nil, length-append}
 use Rattle.std.proofs.lemmas.Bool.{eq-eqb, ne_eqb, lt-ltb}
-use Rattle.sl_fields.specs.Fecf.{fecf_of}
 use Rattle.sl_fields.specs.FecfField.{fecf_part, fecf_len, with_fecf}
-use Rattle.sl_fields.specs.Field.{number_of, packed}
+use Rattle.sl_fields.specs.Field.{packed}
 use Rattle.sl_fields.specs.TmHeader.{TmFields, FitsTmHeader, tm_header, tm_fields, tm_octets}
-use Rattle.sl_fields.proofs.FecfLemmas.{fecf_len_le, length-fecf_part, number_of-fecf}
+use Rattle.sl_fields.proofs.FecfLemmas.{fecf_len_le, length-fecf_part, with_fecf_is_good}
 use Rattle.sl_fields.proofs.HeaderLayout.{reads_back}
 use Rattle.sl_fields.proofs.Octets.{length-octets_of}
 use Rattle.sl_fields.proofs.Packing.{packed_lt}
 use Rattle.sl_fields.proofs.TmHeaderLemmas.{tm_layout}
-use Rattle.sl_tmframe.specs.TmFrame.{TmFormat, TmParts, TmView, DataField, Packets, header_of, parts_of, skip_reason, class_of, view_of, read_as, tm_frame}
-use Rattle.sl_tmframe.specs.PacketFrame.{FitFrame, room_of, pointer_value, packet_frame_header, packet_frame, packet_view}
+use Rattle.sl_tmframe.specs.TmFrame.{TmFormat, TmParts, TmView, DataField, Packets, tm_header_of, tm_parts_of, skip_reason, class_of, view_of, read_as, tm_frame}
+use Rattle.sl_tmframe.specs.PacketFrame.{FitFrame, field_room_of, pointer_value, packet_frame_header, packet_frame, packet_view}
 use Rattle.sl_tmframe.specs.declared.tm_frame.TmSkip.{TmSkip}
 use Rattle.sl_tmframe.specs.declared.tm_frame.TmSkip.TheVariants.{Fecf, Version, Spacecraft}
 use Rattle.sl_tmframe.proofs.PartLemmas.{only_parts}
@@ -36,20 +34,8 @@ pub header_is : (spacecraft vc mc vcc pointer : ℕ) (first : Option ℕ) (heade
 header_is spacecraft vc mc vcc pointer None header made e = rw (made, e) refl
 header_is spacecraft vc mc vcc pointer (Some first) header made e = rw (made, e) refl
 
--- octets are not skipped for the error control field that is theirs
-fecf_fits : (has : Bool) (octets frame field : List ℕ) → frame ≡ with_fecf has octets → field ≡ fecf_part has octets
-    → (has && not (number_of field == fecf_of (take (length frame - 2) frame))) ≡ false
-fecf_fits false octets frame field whole ends = refl
-fecf_fits true octets frame field whole ends =
-    let long : length frame - 2 ≡ length octets =
-    omega (arith, ap length whole, length-append octets (fecf_part true octets), length-fecf_part true octets) in
-    let covered : take (length frame - 2) frame ≡ octets =
-    ap (λ n. take n frame) long ∙ ap (take (length octets)) whole ∙ take-append_seam octets (fecf_part true octets) in
-    let same = eq-eqb (number_of field) (fecf_of (take (length frame - 2) frame)) (ap number_of ends ∙ number_of-fecf octets ∙ ap fecf_of (sym covered)) in
-    ap not same
-
 -- a frame has the octets of its format
-pub with_fecf_whole : (format : TmFormat) (header field : List ℕ) → 8 ≤ format.len → length header ≡ 6 → length field ≡ room_of format
+pub with_fecf_whole : (format : TmFormat) (header field : List ℕ) → 8 ≤ format.len → length header ≡ 6 → length field ≡ field_room_of format
     → length (with_fecf format.fecf (header ++ field)) ≡ format.len
 with_fecf_whole format header field least six fills =
     let last : fecf_len format.fecf ≤ 2 = fecf_len_le format.fecf in
@@ -110,7 +96,7 @@ module _ (format : TmFormat) (spacecraft vc mc vcc : ℕ) (first : Option ℕ) (
     mc = fit.mc_fits;
     vcc = fit.vcc_fits;
     segment = omega arith;
-    first = let m = fit.most in pointer_lt first (room_of format) (omega arith) fit.points_inside;
+    first = let m = fit.most in pointer_lt first (field_room_of format) (omega arith) fit.points_inside;
   }
 
   header_back : tm_header (tm_octets h) ≡ h
@@ -121,7 +107,7 @@ module _ (format : TmFormat) (spacecraft vc mc vcc : ℕ) (first : Option ℕ) (
       let least = fit.least in
       with_fecf_whole format (tm_octets h) field (omega arith) (length-octets_of 6 (tm_fields h)) fit.fills
 
-  made_of_parts : parts_of format frame ≡ made_of
+  made_of_parts : tm_parts_of format frame ≡ made_of
   made_of_parts = only_parts format frame made_of (record {
     whole = length-packet_frame;
     in_order = ap (λ l. l ++ fecf_part format.fecf (tm_octets h ++ field)) (sym (append-nil (tm_octets h ++ field)));
@@ -132,14 +118,15 @@ module _ (format : TmFormat) (spacecraft vc mc vcc : ℕ) (first : Option ℕ) (
 
   pub packet_frame_back : tm_frame format spacecraft frame ≡ Ok (packet_view vc mc vcc first field)
   packet_frame_back =
-      let header : header_of frame ≡ h = ap (λ (p : TmParts). tm_header p.header) made_of_parts ∙ header_back in
-      let good = fecf_fits format.fecf (tm_octets h ++ field) frame (parts_of format frame).fecf refl (ap (λ (p : TmParts). p.fecf) made_of_parts) in
+      let header : tm_header_of frame ≡ h = ap (λ (p : TmParts). tm_header p.header) made_of_parts ∙ header_back in
+      let some : 0 < length (tm_octets h ++ field) = omega (arith, length-append (tm_octets h) field, length-octets_of 6 (tm_fields h)) in
+      let good = with_fecf_is_good format.fecf (tm_octets h ++ field) some in
       let kept : skip_reason format spacecraft frame ≡ None =
-      ap (λ bad. if bad then Some Fecf else reason_by spacecraft (header_of frame)) good ∙ ap (reason_by spacecraft) header
+      ap (λ bad. if bad then Some Fecf else reason_by spacecraft (tm_header_of frame)) good ∙ ap (reason_by spacecraft) header
       ∙ ap (λ same. if not same then Some Spacecraft else None) (eq-eqb spacecraft spacecraft refl) in
       let most = fit.most in
-      let class = class_is spacecraft vc mc vcc first field (room_of format) (omega arith) fit.fills fit.points_inside in
+      let class = class_is spacecraft vc mc vcc first field (field_room_of format) (omega arith) fit.fills fit.points_inside in
       let shown : view_of format frame ≡ packet_view vc mc vcc first field =
-      ap (λ g. shown_by g (parts_of format frame)) header ∙ ap (shown_by h) made_of_parts
+      ap (λ g. shown_by g (tm_parts_of format frame)) header ∙ ap (shown_by h) made_of_parts
       ∙ ap (λ (c : DataField). record { vc = vc; mc_count = mc; vc_count = vcc; control = None; field = c }) class in
       ap (λ reason. read_as reason (view_of format frame)) kept ∙ ap Ok shown

@@ -5,7 +5,7 @@ use Rattle.std.proofs.lemmas.List.{take-append-drop, drop-drop}
 use Rattle.sl_fields.specs.FecfField.{fecf_len}
 use Rattle.sl_fields.specs.TmHeader.{tm_header}
 use Rattle.sl_fields.proofs.FecfLemmas.{fecf_len_le}
-use Rattle.sl_tmframe.specs.TmFrame.{TmFormat, TmParts, ArePartsOf, header_of, control_len, field_len, parts_of}
+use Rattle.sl_tmframe.specs.TmFrame.{TmFormat, TmParts, ArePartsOf, tm_header_of, control_len, field_len, tm_parts_of}
 
 -- a list in four parts, of which three have these lengths
 four_parts : (a b c : ℕ) (xs : List ℕ) → xs ≡ take a xs ++ take b (drop a xs) ++ take c (drop (a + b) xs) ++ drop (a + b + c) xs
@@ -22,10 +22,10 @@ pub either_le : (b : Bool) (n : ℕ) → (if b then n else 0) ≤ n
 either_le true n = omega arith
 either_le false n = omega arith
 
-pub has_parts : (format : TmFormat) (frame : List ℕ) → 12 ≤ format.len → length frame ≡ format.len → ArePartsOf format frame (parts_of format frame)
+pub has_parts : (format : TmFormat) (frame : List ℕ) → 12 ≤ format.len → length frame ≡ format.len → ArePartsOf format frame (tm_parts_of format frame)
 has_parts format frame room whole =
     let f : ℕ = field_len format frame in
-    let control : control_len frame ≤ 4 = either_le (header_of frame).control 4 in
+    let control : control_len frame ≤ 4 = either_le (tm_header_of frame).control 4 in
     let fecf : fecf_len format.fecf ≤ 2 = fecf_len_le format.fecf in
     let field : field_len format frame ≡ length frame - 6 - control_len frame - fecf_len format.fecf = refl in
     let behind = length-drop (6 + field_len format frame) frame in
@@ -64,7 +64,7 @@ same_parts : (h h' f f' c c' e e' : List ℕ) → h ≡ h' → f ≡ f' → c �
     → parts h f c e ≡ parts h' f' c' e'
 same_parts h h' f f' c c' e e' p q r s = rw (p, q, r, s) refl
 
-pub only_parts : (format : TmFormat) (frame : List ℕ) (p : TmParts) → ArePartsOf format frame p → parts_of format frame ≡ p
+pub only_parts : (format : TmFormat) (frame : List ℕ) (p : TmParts) → ArePartsOf format frame p → tm_parts_of format frame ≡ p
 only_parts format frame p a =
     let cut = cut_parts p.header p.field p.control p.fecf in
     let header : take 6 frame ≡ p.header = ap (λ n. take n frame) (sym a.header) ∙ ap (take (length p.header)) a.in_order ∙ cut.0 in

@@ -1,14 +1,15 @@
 -- Octets are skipped for the first reason that holds, or are a frame of one class.
-use Rattle.std.proofs.Common.{◌≡◌, ◌≢◌, ℕ, suc, ◌-◌, ◌<◌, ◌==◌, Bool, true, false, not, ◌&&◌, if◌then◌else◌, List, ◌++◌, length, take, Option, None, Some, Result, Ok, Err, inl, inr, refl, sym, ◌∙◌, ap, subst, arith, length-append}
-use Rattle.std.proofs.Math.Seq.{take-append_seam}
+use Rattle.std.proofs.Common.{◌≡◌, ◌≢◌, ℕ, suc, ◌+◌, ◌-◌, ◌<◌, ◌≤◌, ◌==◌, nat_lt, Bool, true, false, not, ◌&&◌, if◌then◌else◌, List, ◌++◌, length, take, drop, Option, None, Some, Result, Ok, Err, inl, inr, refl, sym, ◌∙◌, ap, subst, arith, length-append}
+use Rattle.std.proofs.Math.Seq.{take-append_seam, drop-append_seam}
+use Rattle.std.proofs.lemmas.Bool.{lt-ltb}
 use Rattle.std.proofs.lemmas.Bool.Decides.{eqb_tells, leb_tells}
-use Rattle.sl_fields.specs.Fecf.{fecf_of}
+use Rattle.sl_fields.specs.Fecf.{fecf_of, fecf_is_good}
 use Rattle.sl_fields.specs.FecfField.{fecf_len}
 use Rattle.sl_fields.specs.Field.{number_of}
 use Rattle.sl_fields.specs.TmHeader.{TmFields, tm_header}
 use Rattle.sl_tmframe.specs.declared.tm_frame.TmSkip.{TmSkip}
 use Rattle.sl_tmframe.specs.declared.tm_frame.TmSkip.TheVariants.{Fecf, Version, Spacecraft}
-use Rattle.sl_tmframe.specs.TmFrame.{TmFormat, TmParts, ArePartsOf, HasReason, order_of, DataField, Packets, Idle, Opaque, IsOffset, PointsTo, HasClass, TmView, ShowsControl, Shows, AreReadAs, EachIsRead, IsReadOnce, parts_of, is_fecf_good, skip_reason, class_of, view_of, read_as, tm_frame}
+use Rattle.sl_tmframe.specs.TmFrame.{TmFormat, TmParts, ArePartsOf, HasReason, order_of, DataField, Packets, Idle, Opaque, IsOffset, PointsTo, HasClass, TmView, ShowsControl, Shows, AreReadAs, EachIsRead, IsReadOnce, tm_parts_of, skip_reason, class_of, view_of, read_as, tm_frame}
 use Rattle.sl_tmframe.proofs.PartLemmas.{has_parts, only_parts}
 
 -- ---- the first reason
@@ -25,12 +26,16 @@ tells_other a b =
     ]
 
 -- an error control field is wrong where there is one
-tells_wrong : (has : Bool) (a b c : ℕ) → (has ≡ true → b ≡ c) → Tells (has && not (a == b)) ((has ≡ true) × (a ≢ c))
-tells_wrong false a b c h = λ p. cc
-tells_wrong true a b c h =
+tells_wrong : (has long : Bool) (a a' b b' : ℕ) → (has ≡ true → (long ≡ true) × (a ≡ a') × (b ≡ b'))
+    → Tells (has && not (long && a == b)) ((has ≡ true) × (a' ≢ b'))
+tells_wrong false long a a' b b' h = λ p. cc
+tells_wrong true false a a' b b' h = absurd (let never = (h refl).0 in cc)
+tells_wrong true true a a' b b' h =
+    let is = (h refl).1 in
+    let is' = (h refl).2 in
     elim (eqb_tells a b) [
-      | inl (e, same) ↦ rw e (λ (p : (true ≡ true) × (a ≢ c)). p.1 (same ∙ h refl))
-      | inr (e, other) ↦ rw e (refl, λ (p : a ≡ c). other (p ∙ sym (h refl)))
+      | inl (e, same) ↦ rw e (λ (p : (true ≡ true) × (a' ≢ b')). p.1 (sym is ∙ same ∙ is'))
+      | inr (e, other) ↦ rw e (refl, λ (p : a' ≡ b'). other (is ∙ p ∙ sym is'))
     ]
 
 module _ (Has : TmSkip → Type 0) where
@@ -188,26 +193,32 @@ one_view p v w s t =
 
 -- ---- the laws
 
--- the octets before the error control field
+-- the error control field, and the octets before it
 covered_is : (format : TmFormat) (frame : List ℕ) (p : TmParts) → ArePartsOf format frame p → format.fecf ≡ true
-    → take (length frame - 2) frame ≡ p.header ++ p.field ++ p.control
+    → (nat_lt 2 (length frame) ≡ true) × (drop (length frame - 2) frame ≡ p.fecf) × (take (length frame - 2) frame ≡ p.header ++ p.field ++ p.control)
 covered_is format frame p a has =
     let covered = p.header ++ p.field ++ p.control in
     let two : length p.fecf ≡ 2 = a.fecf ∙ ap fecf_len has in
-    let long : length frame - 2 ≡ length covered = omega (arith, ap length a.in_order, length-append covered p.fecf) in
-    ap (λ n. take n frame) long ∙ ap (take (length covered)) a.in_order ∙ take-append_seam covered p.fecf
+    let whole : length frame ≡ length covered + 2 = omega (arith, ap length a.in_order, length-append covered p.fecf) in
+    let long : length frame - 2 ≡ length covered = omega arith in
+    let least : 6 ≤ length covered = omega (arith, length-append (p.header ++ p.field) p.control, length-append p.header p.field, a.header) in (
+      lt-ltb 2 (length frame) (omega arith),
+      ap (λ n. drop n frame) long ∙ ap (drop (length covered)) a.in_order ∙ drop-append_seam covered p.fecf,
+      ap (λ n. take n frame) long ∙ ap (take (length covered)) a.in_order ∙ take-append_seam covered p.fecf,
+    )
 
 module _ (format : TmFormat) (spacecraft : ℕ) (frame : List ℕ) where
   abbrev parts : TmParts
-  parts = parts_of format frame
+  parts = tm_parts_of format frame
 
   abbrev h : TmFields
   h = tm_header parts.header
 
   first_reason : ArePartsOf format frame parts → Finds (HasReason format spacecraft parts) (skip_reason format spacecraft frame)
   first_reason a =
-      first_found (HasReason format spacecraft parts) (format.fecf && not (is_fecf_good format frame)) (not (h.version == 0)) (not (h.spacecraft == spacecraft))
-      (tells_wrong format.fecf (number_of parts.fecf) (fecf_of (take (length frame - 2) frame)) (fecf_of (parts.header ++ parts.field ++ parts.control)) (λ has. ap fecf_of (covered_is format frame parts a has)))
+      first_found (HasReason format spacecraft parts) (format.fecf && not (fecf_is_good frame)) (not (h.version == 0)) (not (h.spacecraft == spacecraft))
+      (tells_wrong format.fecf (nat_lt 2 (length frame)) (number_of (drop (length frame - 2) frame)) (number_of parts.fecf) (fecf_of (take (length frame - 2) frame)) (fecf_of (parts.header ++ parts.field ++ parts.control))
+      (λ has. let c = covered_is format frame parts a has in (c.0, ap number_of c.1, ap fecf_of c.2)))
       (tells_other h.version 0)
       (tells_other h.spacecraft spacecraft)
 
@@ -241,7 +252,7 @@ each_is_read format spacecraft frame room whole =
 pub is_read_once : IsReadOnce
 is_read_once format spacecraft frame p read r =
     let same = only_parts format frame p r.parts in
-    let a : ArePartsOf format frame (parts_of format frame) = subst (ArePartsOf format frame) (sym same) r.parts in
+    let a : ArePartsOf format frame (tm_parts_of format frame) = subst (ArePartsOf format frame) (sym same) r.parts in
     let its : AreReadAs format spacecraft p (tm_frame format spacecraft frame) =
     subst (λ (q : TmParts). AreReadAs format spacecraft q (tm_frame format spacecraft frame)) same (are_read format spacecraft frame a) in
     (same, one_read format spacecraft p (tm_frame format spacecraft frame) read its r.reading)

@@ -3,7 +3,7 @@ use Rattle.std.proofs.Common.{◌≡◌, ℕ, true, false, arith, List, [], ◌�
 use Rattle.sl_fields.specs.Fecf.{fecf_of, register_of}
 use Rattle.sl_tmframe.specs.declared.tm_frame.TmSkip.TheVariants.{Fecf, Version, Spacecraft}
 use Rattle.sl_tmframe.specs.TmFrame.{TmFormat, TmView, DataField, Packets, Idle, Opaque, tm_frame}
-use Rattle.sl_tmframe.specs.PacketFrame.{FitFrame, packet_frame, room_of}
+use Rattle.sl_tmframe.specs.PacketFrame.{FitFrame, packet_frame, field_room_of}
 
 abbrev format : ℕ → TmFormat
 format len = record { len = len; fecf = false }
@@ -72,8 +72,8 @@ pub record AreWritten : Type 0 where
   pub start : packet_frame (format 32) 1 0 0 0 (Some 0) field ≡ header 0x18 0x00 ++ field
   pub none : packet_frame (format 32) 1 7 77 200 None field ≡ 0x00 ∷ 0x1E ∷ 77 ∷ 200 ∷ 0x1F ∷ 0xFF ∷ field
   pub error_control : packet_frame (with_error_control 34) 1 0 0 0 (Some 0) field ≡ header 0x18 0x00 ++ field ++ 0x5E ∷ 0x0C ∷ []
-  pub room : room_of (format 32) ≡ 26
-  pub guarded_room : room_of (with_error_control 2048) ≡ 2040
+  pub room : field_room_of (format 32) ≡ 26
+  pub guarded_room : field_room_of (with_error_control 2048) ≡ 2040
 
 pub frames_are_written : AreWritten
 unfolding fecf_of register_of

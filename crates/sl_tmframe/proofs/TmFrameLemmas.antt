@@ -4,7 +4,7 @@ use Rattle.std.proofs.lemmas.List.{drop-drop, drop-take, take-take}
 use Rattle.sl_fields.specs.FecfField.{fecf_len}
 use Rattle.sl_fields.specs.TmHeader.{TmFields}
 use Rattle.sl_fields.proofs.FecfLemmas.{fecf_len_le}
-use Rattle.sl_tmframe.specs.TmFrame.{TmFormat, TmView, DataField, header_of, class_of, view_of, skip_reason, read_as, tm_frame}
+use Rattle.sl_tmframe.specs.TmFrame.{TmFormat, TmView, DataField, tm_header_of, class_of, view_of, skip_reason, read_as, tm_frame}
 
 -- Octets in which `last` come last and `word` before them, all after the first six: those between are the
 -- octets after the first six without both,
@@ -52,7 +52,7 @@ view_with format frame h =
 pub read_parts : (format : TmFormat) (spacecraft : ℕ) (frame covered field : List ℕ) (h : TmFields) (control : Option (List ℕ)) (class : DataField)
     → 12 ≤ length frame
     → skip_reason format spacecraft frame ≡ None
-    → h ≡ header_of frame
+    → h ≡ tm_header_of frame
     → covered ≡ take (length (drop 6 frame) - fecf_len format.fecf) (drop 6 frame)
     → field ≡ take (length covered - (if h.control then 4 else 0)) covered
     → control ≡ (if h.control then Some (drop (length covered - 4) covered) else None)

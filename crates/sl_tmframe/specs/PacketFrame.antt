@@ -5,9 +5,9 @@ use Rattle.sl_fields.specs.FecfField.{fecf_len, with_fecf}
 use Rattle.sl_fields.specs.TmHeader.{TmFields, tm_octets}
 use Rattle.sl_tmframe.specs.TmFrame.{TmFormat, TmView, Packets, tm_frame}
 
--- the octets of a data field, where there is no operational control field
-abbrev pub room_of : TmFormat → ℕ
-room_of format = format.len - 6 - fecf_len format.fecf
+-- how many octets a data field has, where there is no operational control field
+abbrev pub field_room_of : TmFormat → ℕ
+field_room_of format = format.len - 6 - fecf_len format.fecf
 
 -- the first header pointer, 2047 where no packet starts in the data field
 abbrev pub pointer_value : Option ℕ → ℕ
@@ -46,8 +46,8 @@ pub record FitFrame (format : TmFormat) (spacecraft vc mc vcc : ℕ) (first : Op
   pub vc_fits : vc ≤ 7
   pub mc_fits : mc < 256
   pub vcc_fits : vcc < 256
-  pub points_inside : IfSome first (λ offset. offset < room_of format)
-  pub fills : length field ≡ room_of format
+  pub points_inside : IfSome first (λ offset. offset < field_room_of format)
+  pub fills : length field ≡ field_room_of format
 
 -- what the frame shows to whoever reads it
 abbrev pub packet_view : ℕ → ℕ → ℕ → Option ℕ → List ℕ → TmView

@@ -1,7 +1,7 @@
 -- The TM transfer frame, CCSDS 132.0-B: its parts, why one is skipped, and what it carries.
 use Rattle.std.specs.Prelude.{◌≡◌, ◌≢◌, ◌⊎◌, ⊤, ℕ, ◌+◌, ◌-◌, ◌<◌, ◌≤◌, ◌==◌, nat_lt, Bool, true, false, not, ◌&&◌, ◌||◌, if◌then◌else◌, List, ◌++◌, length, take, drop, Option, None, Some, IfSome, Result, Ok, Err}
 use Rattle.sl_fields.specs.Field.{number_of}
-use Rattle.sl_fields.specs.Fecf.{fecf_of}
+use Rattle.sl_fields.specs.Fecf.{fecf_of, fecf_is_good}
 use Rattle.sl_fields.specs.FecfField.{fecf_len}
 use Rattle.sl_fields.specs.TmHeader.{TmFields, tm_header}
 use Rattle.sl_tmframe.specs.declared.tm_frame.TmSkip.{TmSkip}
@@ -32,20 +32,20 @@ pub record ArePartsOf (format : TmFormat) (frame : List ℕ) (p : TmParts) : Typ
   pub fecf : length p.fecf ≡ fecf_len format.fecf
 
 -- the header that a frame begins with
-abbrev pub header_of : List ℕ → TmFields
-header_of frame = tm_header (take 6 frame)
+abbrev pub tm_header_of : List ℕ → TmFields
+tm_header_of frame = tm_header (take 6 frame)
 
--- the octets of the operational control field
+-- how many octets the operational control field has
 abbrev pub control_len : List ℕ → ℕ
-control_len frame = if (header_of frame).control then 4 else 0
+control_len frame = if (tm_header_of frame).control then 4 else 0
 
--- the octets of the data field
+-- how many octets the data field has
 abbrev pub field_len : TmFormat → List ℕ → ℕ
 field_len format frame = length frame - 6 - control_len frame - fecf_len format.fecf
 
 -- the parts, by where they lie
-abbrev pub parts_of : TmFormat → List ℕ → TmParts
-parts_of format frame =
+abbrev pub tm_parts_of : TmFormat → List ℕ → TmParts
+tm_parts_of format frame =
     record {
       header = take 6 frame;
       field = take (field_len format frame) (drop 6 frame);
@@ -127,24 +127,19 @@ AreReadAs format spacecraft p (Err reason) =
     × ((earlier : TmSkip) → order_of earlier < order_of reason → HasReason format spacecraft p earlier → ⊥)
 
 -- The octets have these parts, and are read as this. The law `tm_frames_are_read` says that the parts are those of
--- `parts_of` and the reading is that of `tm_frame`, and that there are no others.
+-- `tm_parts_of` and the reading is that of `tm_frame`, and that there are no others.
 pub record IsReadAs (format : TmFormat) (spacecraft : ℕ) (frame : List ℕ) (p : TmParts) (read : Result TmView TmSkip) : Type 0 where
   pub parts : ArePartsOf format frame p
   pub reading : AreReadAs format spacecraft p read
 
 -- ---- the same, as functions of the octets
 
--- the error control field is that of the octets before it
-abbrev pub is_fecf_good : TmFormat → List ℕ → Bool
-is_fecf_good format frame =
-    number_of (parts_of format frame).fecf == fecf_of (take (length frame - 2) frame)
-
 -- the first reason that holds
 abbrev pub skip_reason : TmFormat → ℕ → List ℕ → Option TmSkip
 skip_reason format spacecraft frame =
-    if format.fecf && not (is_fecf_good format frame) then Some Fecf
-    else if not ((header_of frame).version == 0) then Some Version
-    else if not ((header_of frame).spacecraft == spacecraft) then Some Spacecraft
+    if format.fecf && not (fecf_is_good frame) then Some Fecf
+    else if not ((tm_header_of frame).version == 0) then Some Version
+    else if not ((tm_header_of frame).spacecraft == spacecraft) then Some Spacecraft
     else None
 
 -- a frame with this header and this data field is opaque
@@ -163,17 +158,17 @@ class_of header field =
 
 -- the operational control field, where there is one
 abbrev pub control_of : TmFormat → List ℕ → Option (List ℕ)
-control_of format frame = if (header_of frame).control then Some (parts_of format frame).control else None
+control_of format frame = if (tm_header_of frame).control then Some (tm_parts_of format frame).control else None
 
 -- what the frame shows
 abbrev pub view_of : TmFormat → List ℕ → TmView
 view_of format frame =
     record {
-      vc = (header_of frame).vc;
-      mc_count = (header_of frame).mc;
-      vc_count = (header_of frame).vcc;
+      vc = (tm_header_of frame).vc;
+      mc_count = (tm_header_of frame).mc;
+      vc_count = (tm_header_of frame).vcc;
       control = control_of format frame;
-      field = class_of (header_of frame) (parts_of format frame).field;
+      field = class_of (tm_header_of frame) (tm_parts_of format frame).field;
     }
 
 -- what it shows, or why it is skipped
@@ -202,21 +197,21 @@ pub record IsInRange (view : TmView) : Type 0 where
 
 -- octets of the format's length have these parts
 abbrev pub EachHasParts : Type 0
-EachHasParts = (format : TmFormat) (frame : List ℕ) → 12 ≤ format.len → length frame ≡ format.len → ArePartsOf format frame (parts_of format frame)
+EachHasParts = (format : TmFormat) (frame : List ℕ) → 12 ≤ format.len → length frame ≡ format.len → ArePartsOf format frame (tm_parts_of format frame)
 
 -- and no others
 abbrev pub HasPartsOnce : Type 0
-HasPartsOnce = (format : TmFormat) (frame : List ℕ) (p : TmParts) → ArePartsOf format frame p → parts_of format frame ≡ p
+HasPartsOnce = (format : TmFormat) (frame : List ℕ) (p : TmParts) → ArePartsOf format frame p → tm_parts_of format frame ≡ p
 
 -- octets of the format's length are read, or skipped, as this says,
 abbrev pub EachIsRead : Type 0
 EachIsRead =
     (format : TmFormat) (spacecraft : ℕ) (frame : List ℕ) → 12 ≤ format.len → length frame ≡ format.len
-    → IsReadAs format spacecraft frame (parts_of format frame) (tm_frame format spacecraft frame)
+    → IsReadAs format spacecraft frame (tm_parts_of format frame) (tm_frame format spacecraft frame)
 
 -- and in no other way
 abbrev pub IsReadOnce : Type 0
 IsReadOnce =
     (format : TmFormat) (spacecraft : ℕ) (frame : List ℕ) (p : TmParts) (read : Result TmView TmSkip)
     → IsReadAs format spacecraft frame p read
-    → (parts_of format frame ≡ p) × (tm_frame format spacecraft frame ≡ read)
+    → (tm_parts_of format frame ≡ p) × (tm_frame format spacecraft frame ≡ read)

@@ -2,7 +2,7 @@
 ghost use Rattle.std.specs.Prelude.{◌≡◌, ◌+◌, ◌<◌, ◌≤◌, ◌++◌, length, IfSome, OnOk, OnErr};
 ghost use Rattle.std.specs.Vec.{vec_len, vec_capacity};
 ghost use Rattle.sl_fields.specs.TmHeader.{tm_octets};
-ghost use Rattle.sl_tmframe.specs.PacketFrame.{packet_frame, packet_frame_header, room_of};
+ghost use Rattle.sl_tmframe.specs.PacketFrame.{packet_frame, packet_frame_header, field_room_of};
 
 use crate::tm_shape::TmShape;
 use sl_fields::{TmHeader, fecf_field};
@@ -29,8 +29,8 @@ pub fn push_tm(
 ) -> Result<(), AllocError>
     requires spacecraft { spacecraft ≤ 1023 }
     requires vc { vc ≤ 7 }
-    requires first { IfSome first (λ first. first < room_of shape.now) }
-    requires field { length octets.now ≡ room_of shape.now }
+    requires first { IfSome first (λ first. first < field_room_of shape.now) }
+    requires field { length octets.now ≡ field_room_of shape.now }
     ensures added { OnOk result (out.new.items ≡ out.old.items ++ packet_frame shape.now spacecraft vc mc vcc first octets.now) }
     ensures unchanged { OnErr result (out.new.items ≡ out.old.items) }
     // Memory is refused only where there was no room for the frame.

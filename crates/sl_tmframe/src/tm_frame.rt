@@ -1,6 +1,6 @@
 //! The TM transfer frame, as it is read.
 ghost use Rattle.std.specs.Prelude.{◌≡◌, ◌-◌, ◌<◌, ◌≤◌, length, take, drop, if◌then◌else◌, Some, None};
-ghost use Rattle.sl_tmframe.specs.TmFrame.{header_of, class_of, skip_reason, IsInField};
+ghost use Rattle.sl_tmframe.specs.TmFrame.{tm_header_of, class_of, skip_reason, IsInField};
 ghost use Rattle.sl_tmframe.specs.TmField.{data_field};
 
 use crate::tm_shape::TmShape;
@@ -119,7 +119,7 @@ impl<'a> TmFrame<'a> {
 #[inline(always)]
 fn split_header(octets: &[u8]) -> (TmHeader, &[u8])
     requires { 6 ≤ length octets.now }
-    ensures header { result.0 ≡ header_of octets.now }
+    ensures header { result.0 ≡ tm_header_of octets.now }
     ensures behind { result.1.now ≡ drop 6 octets.now }
 {
     match octets.split_first_chunk::<6>() {
@@ -132,7 +132,7 @@ fn split_header(octets: &[u8]) -> (TmHeader, &[u8])
 #[inline(always)]
 fn skip_of(shape: &TmShape, header: &TmHeader, spacecraft: u16, octets: &[u8]) -> Option<TmSkip>
     requires frame { length octets.now ≡ shape.now.len }
-    requires header { header.now ≡ header_of octets.now }
+    requires header { header.now ≡ tm_header_of octets.now }
     ensures { result ≡ skip_reason shape.now spacecraft octets.now }
 {
     if shape.fecf && !fecf_good(octets) {

@@ -1,6 +1,6 @@
 //! The managed format of TM transfer frames.
 ghost use Rattle.std.specs.Prelude.{◌≡◌, ◌≤◌};
-ghost use Rattle.sl_tmframe.specs.PacketFrame.{room_of};
+ghost use Rattle.sl_tmframe.specs.PacketFrame.{field_room_of};
 
 use sl_fields::ShapeFault;
 use std::marker::Model;
@@ -59,7 +59,7 @@ impl TmShape {
 
     /// Octets of the data field of a frame without an operational control field, 24 to 2042.
     pub fn room(&self) -> u16
-        ensures value { result ≡ room_of self.now }
+        ensures value { result ≡ field_room_of self.now }
         ensures least { 24 ≤ result }
         ensures most { result ≤ 2042 }
     {

@@ -1,5 +1,5 @@
 -- The packets that end in one frame, as they are handed to the store of delivered packets.
-use Rattle.std.proofs.Common.{◌≡◌, ℕ, ◌+◌, ◌-◌, ◌*◌, ◌/◌, ◌^◌, ◌<◌, ◌≤◌, ◌==◌, Bool, true, false, Option, Some, None, List, [], ◌∷◌, ◌++◌, length, take, drop, Result, Ok, Err, refl, sym, ◌∙◌, ap, arith, append_assoc, append-nil, length-drop, if◌then◌else◌}
+use Rattle.std.proofs.Common.{◌≡◌, ℕ, ◌+◌, ◌-◌, ◌*◌, ◌/◌, ◌^◌, ◌<◌, ◌≤◌, ◌==◌, Bool, true, false, Option, Some, None, List, [], ◌∷◌, ◌++◌, length, take, drop, Result, Ok, Err, sym, ◌∙◌, ap, arith, append_assoc, append-nil, length-drop, if◌then◌else◌}
 use Rattle.std.specs.List.{slice_index_or, slice_set}
 use Rattle.std.proofs.lemmas.List.{length-set, length-take, set-get_or, set-set}
 use Rattle.std.proofs.lemmas.Nat.{mod_below}
@@ -8,9 +8,10 @@ use Rattle.sl_packet.specs.Delivered.{PacketLists, AddsPacket}
 use Rattle.sl_packet.specs.Packets.{without_idle, only_idle}
 use Rattle.sl_packet.specs.Sink.{TakesAll}
 use Rattle.sl_tmframe.specs.declared.tm_frame.TmSkip.{TmSkip}
-use Rattle.sl_tmframe.specs.TmFrame.{TmFormat, TmView, Packets, Idle, Opaque, read_as, skip_reason, view_of, tm_frame, is_opaque, header_of, parts_of, field_len}
+use Rattle.sl_tmframe.specs.TmFrame.{TmFormat, TmView, Packets, Idle, Opaque, read_as, skip_reason, view_of, tm_frame, is_opaque, tm_header_of, tm_parts_of, field_len}
 use Rattle.sl_tmflow.specs.Channel.{channel_of, data_of}
 use Rattle.sl_packet.proofs.CountLemmas.{split_count}
+use Rattle.sl_packet.proofs.DeliveredLemmas.{list_at-with_packet}
 use Rattle.sl_tmflow.proofs.PushLemmas.{ended_few}
 use Rattle.sl_link.specs.Deliver.Tm.{ended_in}
 use Rattle.sl_link.specs.Deliver.Lists.{with_packets}
@@ -25,9 +26,10 @@ takes_all (packet ∷ packets) old new channel inside t =
     let mid = t.0 in
     let before = slice_index_or old.lists channel [] in
     let one = before ++ packet ∷ [] in
-    let longer : channel < length mid.lists = omega (arith, ap length t.1.lists, length-set old.lists channel one) in
+    let longer : channel < length mid.lists = omega (arith, ap length t.1, length-set old.lists channel one) in
     takes_all packets mid new channel longer t.2
-    ∙ ap (λ l. slice_set mid.lists channel (l ++ packets)) (t.1.added ∙ refl) ∙ ap (λ l. slice_set l channel (one ++ packets)) t.1.lists
+    ∙ ap (λ l. slice_set mid.lists channel (l ++ packets)) (ap (λ l. slice_index_or l channel []) t.1 ∙ list_at-with_packet old.lists channel packet inside)
+    ∙ ap (λ l. slice_set l channel (one ++ packets)) t.1
     ∙ set-set old.lists channel one (one ++ packets) ∙ ap (slice_set old.lists channel) (append_assoc before (packet ∷ []) packets)
 
 -- ---- the virtual channel of a frame
@@ -61,8 +63,8 @@ read_within : (format : TmFormat) (frame : List ℕ) (views : List TmView) (reas
     → length (ended_in views (read_as reason (view_of format frame))) ≤ length frame
 read_within format frame views (Some reason) long = omega arith
 read_within format frame views None long =
-    let header = header_of frame in
-    let field = (parts_of format frame).field in
+    let header = tm_header_of frame in
+    let field = (tm_parts_of format frame).field in
     let view = view_of format frame in
     let whole = class_within (is_opaque header field) (header.first == 2046) (header.first == 2047) header.first field in
     let few = ended_few (channel_of view.vc views) view in

@@ -14,7 +14,7 @@ use Rattle.sl_packet.specs.Packet.{is_idle_packet}
 use Rattle.sl_packet.specs.Packets.{without_idle, only_idle}
 use Rattle.sl_packet.proofs.CountLemmas.{split_count}
 use Rattle.sl_tcframe.specs.declared.tc_frame.TcSkip.{TcSkip}
-use Rattle.sl_tcframe.specs.TcFrame.{TcFormat, TcView, Content, Ad, Bd, Unlock, SetVr, command_of, content_of, early_reason, field_len, header_of, parts_of, read_as, tc_frame, unit_of}
+use Rattle.sl_tcframe.specs.TcFrame.{TcFormat, TcView, Content, Ad, Bd, Unlock, SetVr, command_of, content_of, early_reason, field_len, tc_header_of, tc_parts_of, read_as, tc_frame, unit_content}
 use Rattle.sl_tcflow.specs.AcceptedUnit.{views_of}
 use Rattle.sl_tcflow.specs.Receiving.{ReceiverState, HasProcessed, ended_by, unit_channel}
 use Rattle.sl_tcflow.specs.ReceptionParameters.{ReceptionParameters, is_plain}
@@ -39,15 +39,15 @@ abbrev pub IsOfChannel : ReceptionParameters → Result TcView TcSkip → Type 0
 IsOfChannel r (Ok view) = unit_channel r view < channel_count
 IsOfChannel r (Err reason) = ⊤
 
-read_channel : (r : ReceptionParameters) (reason : Option TcSkip) (frame : List ℕ) (content : Option Content) → IsOfChannel r (read_as reason (header_of frame) content)
+read_channel : (r : ReceptionParameters) (reason : Option TcSkip) (frame : List ℕ) (content : Option Content) → IsOfChannel r (read_as reason (tc_header_of frame) content)
 read_channel r (Some reason) frame content = tt
 read_channel r None frame None = tt
 read_channel r None frame (Some content) =
-    let vc : (header_of frame).vc < 64 = mod_below (number_of (take 5 frame) / 2 ^ 18) 64 (omega arith) in
-    let small = small_map (is_plain r (header_of frame).vc) content in omega (arith, vc, small)
+    let vc : (tc_header_of frame).vc < 64 = mod_below (number_of (take 5 frame) / 2 ^ 18) 64 (omega arith) in
+    let small = small_map (is_plain r (tc_header_of frame).vc) content in omega (arith, vc, small)
 
 pub of_channel : (r : ReceptionParameters) (p : Parameters) (frame : List ℕ) → IsOfChannel r (as_read p frame)
-of_channel r p frame = read_channel r (early_reason (tc_format p) p.spacecraft frame) frame (content_of (header_of frame) (parts_of (tc_format p) frame).field)
+of_channel r p frame = read_channel r (early_reason (tc_format p) p.spacecraft frame) frame (content_of (tc_header_of frame) (tc_parts_of (tc_format p) frame).field)
 
 pub channel_fits : (r : ReceptionParameters) (p : Parameters) (frame : List ℕ) (view : TcView) → as_read p frame ≡ Ok view → unit_channel r view < channel_count
 channel_fits r p frame view is = subst (IsOfChannel r) is (of_channel r p frame)
@@ -57,7 +57,7 @@ abbrev unit_len_of : Result TcView TcSkip → ℕ
 unit_len_of (Ok view) = unit_len view.content
 unit_len_of (Err reason) = 0
 
-unit_most : (h : TcFields) (field : List ℕ) → unit_len_of (read_as None h (unit_of h field)) ≤ length field
+unit_most : (h : TcFields) (field : List ℕ) → unit_len_of (read_as None h (unit_content h field)) ≤ length field
 unit_most h [] = omega arith
 unit_most h (octet ∷ octets) = by h.bypass
   where
@@ -77,7 +77,7 @@ command_most h (code ∷ second ∷ third ∷ []) = let none = no_unit h (SetVr 
 command_most h (code ∷ second ∷ third ∷ fourth ∷ more) = omega arith
 
 read_most : (reason : Option TcSkip) (h : TcFields) (field : List ℕ) (command bypass : Bool)
-    → unit_len_of (read_as reason h (if not command then unit_of h field else if bypass then command_of field else None)) ≤ length field
+    → unit_len_of (read_as reason h (if not command then unit_content h field else if bypass then command_of field else None)) ≤ length field
 read_most (Some reason) h field command bypass = omega arith
 read_most None h field false bypass = unit_most h field
 read_most None h field true true = command_most h field
@@ -85,8 +85,8 @@ read_most None h field true false = omega arith
 
 pub unit_within : (p : Parameters) (frame : List ℕ) → unit_len_of (as_read p frame) ≤ length frame
 unit_within p frame =
-    let h = header_of frame in
-    let field = (parts_of (tc_format p) frame).field in
+    let h = tc_header_of frame in
+    let field = (tc_parts_of (tc_format p) frame).field in
     let most = read_most (early_reason (tc_format p) p.spacecraft frame) h field h.command h.bypass in
     omega (arith, most, length-take (field_len (tc_format p) frame) (drop 5 frame), length-drop 5 frame)
 

@@ -6,7 +6,7 @@ use Rattle.std.proofs.lemmas.List.Elements.{All-append, All-nil}
 use Rattle.sl_fields.specs.Field.{IsOctets}
 use Rattle.sl_tcframe.specs.TcDelimited.{front_len, tc_frames_of}
 use Rattle.sl_tcframe.specs.TcFrame.{is_cut}
-use Rattle.sl_tcframe.specs.TcFraming.{BelowLeast, HasTaken, IsRest, IsStuck, TcFraming, Whole, YieldsFrame, YieldsNone, after_call}
+use Rattle.sl_tcframe.specs.TcFraming.{BelowLeast, HasTaken, IsRest, IsStuck, TcFraming, WholeFrame, YieldsFrame, YieldsNone, after_call}
 use Rattle.sl_tcframe.proofs.ChunkLemmas.{below_again, less_than_whole, none_below, pause_parts, pause_rest, rest_is_no_frame}
 use Rattle.sl_tcframe.proofs.DelimitedLemmas.{frames_of-none}
 use Rattle.sl_tcframe.proofs.FramingLemmas.{below_stays, fits_rest, front_tells}
@@ -39,7 +39,7 @@ module _ (f : TcFraming) (p : Parameters) (rest chunk left : List ℕ) (w : TcWa
 
   -- ---- a frame
 
-  apart : (len : ℕ) → BelowLeast ≡ Whole len → ⊥
+  apart : (len : ℕ) → BelowLeast ≡ WholeFrame len → ⊥
   apart len e = cc
 
   pub cuts : (frame : List ℕ) → YieldsFrame f chunk frame left → is_cut f.format frame ≡ true → CutsFrame (is_tc_frame p) rest chunk left frame
@@ -48,7 +48,7 @@ module _ (f : TcFraming) (p : Parameters) (rest chunk left : List ℕ) (w : TcWa
         | inl none ↦ rest_alone none
         | inr stuck ↦ absurd (apart (length frame) (sym (below_stays f.format f.rest chunk stuck) ∙ y.whole))
       ] in
-      let less = less_than_whole f.format f.rest chunk (length frame) w.taken (front_tells f.format (f.rest ++ chunk) (Whole (length frame)) y.whole) in
+      let less = less_than_whole f.format f.rest chunk (length frame) w.taken (front_tells f.format (f.rest ++ chunk) (WholeFrame (length frame)) y.whole) in
       record {
         parts = ap (λ l. l ++ chunk) alone ∙ y.parts;
         some = omega (arith, less, ap length y.parts, length-append f.rest chunk, length-append frame left);

@@ -3,14 +3,14 @@ use Rattle.std.proofs.lemmas.Bool.{eqb-true, eqb-false}
 use Rattle.std.proofs.lemmas.List.{length-drop, length-take, take_at}
 use Rattle.sl_fields.specs.FecfField.{fecf_len}
 use Rattle.sl_fields.proofs.FecfLemmas.{fecf_len_le}
-use Rattle.sl_tcframe.specs.AdFrame.{room_of, ad_frame, segment_unit}
+use Rattle.sl_tcframe.specs.AdFrame.{segment_room_of, ad_frame, segment_unit}
 use Rattle.sl_tcflow.proofs.PushedLemmas.{none_divided, divided_next, all_divided, none_few, few_next, few_fit}
 use Rattle.sl_tcflow.proofs.RefusedLemmas.{on_err}
 use Rattle.sl_tcflow.proofs.frames.push_packet.Goals as goal
 
 pub loop-left-init : goal.loop-left-init
 loop-left-init c = (
-  none_divided c.args.shape.now c.args.spacecraft c.args.vc c.args.mid c.args.form.now.items c.args.ns (room_of c.args.shape.now) c.args.packet.now c.ranges.ns.fits,
+  none_divided c.args.shape.now c.args.spacecraft c.args.vc c.args.mid c.args.form.now.items c.args.ns (segment_room_of c.args.shape.now) c.args.packet.now c.ranges.ns.fits,
   none_few (vec_len c.args.form.now) (length c.args.packet.now),
   omega arith,
 )
@@ -27,7 +27,7 @@ loop-left-preserved c =
     let left = eqb-false _ _ (sym c.is_empty.ensures ∙ c.loop-left-test.true) in
     let taken : length c.split_segment.result.0.now ≡ min c.from-room.result (length c.loop-left.left.now) = ap length c.split_segment.ensures.octets ∙ length-take c.from-room.result c.loop-left.left.now in
     let later : length c.split_segment.result.1.now ≡ length c.loop-left.left.now - c.from-room.result = ap length c.split_segment.ensures.later ∙ length-drop c.from-room.result c.loop-left.left.now in (
-      divided_next c.args.shape.now c.args.spacecraft c.args.vc c.args.mid c.args.form.now.items c.args.ns (room_of c.args.shape.now) c.args.packet.now
+      divided_next c.args.shape.now c.args.spacecraft c.args.vc c.args.mid c.args.form.now.items c.args.ns (segment_room_of c.args.shape.now) c.args.packet.now
           c.loop-left.left.now c.split_segment.result.0.now c.split_segment.result.1.now (length c.loop-left.left.now == length c.args.packet.now) c.is_empty-in-loop-left.result
           c.loop-left.ns ((c.loop-left.ns + 1) % 256) c.loop-left.form.items c.push_tc.new.out.items
           (omega (arith, room, c.room.ensures.least, c.from-room.ensures)) (omega (arith, left)) (c.loop-left.auto.ns-fits).fits
@@ -62,10 +62,10 @@ returns-in_err-push_tc-clause-full c =
 
 pub returns-clause-frames : goal.returns-clause-frames
 returns-clause-frames c =
-    (all_divided c.args.shape.now c.args.spacecraft c.args.vc c.args.mid c.args.form.now.items c.args.ns (room_of c.args.shape.now) c.args.packet.now c.loop-left.left.now c.loop-left.ns c.loop-left.form.items
+    (all_divided c.args.shape.now c.args.spacecraft c.args.vc c.args.mid c.args.form.now.items c.args.ns (segment_room_of c.args.shape.now) c.args.packet.now c.loop-left.left.now c.loop-left.ns c.loop-left.form.items
     (omega (arith, c.from-room.ensures ∙ c.room.ensures.value, c.room.ensures.least, c.from-room.ensures)) (eqb-true _ _ (sym c.is_empty.ensures ∙ c.loop-left-test.false)) c.loop-left.invariant.0).form_is
 
 pub returns-clause-next : goal.returns-clause-next
 returns-clause-next c =
-    (all_divided c.args.shape.now c.args.spacecraft c.args.vc c.args.mid c.args.form.now.items c.args.ns (room_of c.args.shape.now) c.args.packet.now c.loop-left.left.now c.loop-left.ns c.loop-left.form.items
+    (all_divided c.args.shape.now c.args.spacecraft c.args.vc c.args.mid c.args.form.now.items c.args.ns (segment_room_of c.args.shape.now) c.args.packet.now c.loop-left.left.now c.loop-left.ns c.loop-left.form.items
     (omega (arith, c.from-room.ensures ∙ c.room.ensures.value, c.room.ensures.least, c.from-room.ensures)) (eqb-true _ _ (sym c.is_empty.ensures ∙ c.loop-left-test.false)) c.loop-left.invariant.0).next_is

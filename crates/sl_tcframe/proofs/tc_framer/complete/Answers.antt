@@ -1,5 +1,5 @@
 use Rattle.std.proofs.Common.{◌≡◌, ◌-◌, ◌<◌, ◌≤◌, length, take, refl, sym, ap, ◌∙◌, arith}
-use Rattle.sl_tcframe.specs.TcFrame.{least_of, stated_len}
+use Rattle.sl_tcframe.specs.TcFrame.{least_of, stated_frame_len}
 use Rattle.sl_tcframe.specs.TcFraming.{len_by_four}
 use Rattle.sl_tcframe.proofs.FramingLemmas.{len_by_four-append, len_told, filled, rest_fits, takes_either, takes_low, unfilled}
 use Rattle.sl_tcframe.proofs.tc_framer.complete.Goals as goal
@@ -37,5 +37,5 @@ returns-clause-taken c =
     rw (c.fill-2.ensures.taken, c.fill-2.ensures.left, c.fill.ensures.taken, c.fill.ensures.left, len_is)
     (takes_either c.args.shape.now c.args.taken.now.items c.args.chunk.now.now (rest_fits c.args.shape.now c.args.taken.now.items c.requires) (omega (arith, told.0, ap length is)) enough
     c.is_whole.result
-    (λ yes. let w = c.is_whole.ensures.whole yes in (omega (arith, w.0, len_is, ap length whole_is), sym len_is ∙ w.1 ∙ ap stated_len whole_is))
+    (λ yes. let w = c.is_whole.ensures.whole yes in (omega (arith, w.0, len_is, ap length whole_is), sym len_is ∙ w.1 ∙ ap stated_frame_len whole_is))
     (λ no. let short = c.is_whole.ensures.part no in omega (arith, short, len_is, ap length whole_is)))

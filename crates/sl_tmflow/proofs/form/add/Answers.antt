@@ -2,7 +2,7 @@ use Rattle.std.proofs.Common.{◌≡◌, ◌<◌, ◌-◌, ◌*◌, ◌/◌, ◌
 use Rattle.std.proofs.lemmas.List.{take-append-drop, take_rest}
 use Rattle.std.proofs.lemmas.Result.{err_from_is_err_and}
 use Rattle.std.proofs.Math.Nat.{one-mul, suc-mul}
-use Rattle.sl_tmframe.specs.PacketFrame.{room_of}
+use Rattle.sl_tmframe.specs.PacketFrame.{field_room_of}
 use Rattle.sl_tmflow.specs.FormLeft.{field_frames, fields_in, frames_of}
 use Rattle.sl_tmflow.proofs.FormPushLemmas.{none_filled, few_beyond, field_of_first, fields_of_both, beyond_both, frames_of_both}
 use Rattle.sl_tmflow.proofs.form.add.Goals as goal
@@ -14,7 +14,7 @@ returns-then-packet-wanted-clause-frames c =
     let octets = c.args.octets.now.items in
     let packet = c.args.packet.now in
     let room = c.from-room.ensures ∙ c.room.ensures.value in
-    let few : length (octets ++ packet) < room_of format = omega (arith, c.if-packet-wanted.true, length-append octets packet, room, c.len.ensures, c.requires.few) in
+    let few : length (octets ++ packet) < field_room_of format = omega (arith, c.if-packet-wanted.true, length-append octets packet, room, c.len.ensures, c.requires.few) in
     sym (append-nil form) ∙ ap (λ n. form ++ field_frames format n c.args.heading (Some c.args.start) (octets ++ packet)) (sym (none_filled format (octets ++ packet) few))
 
 pub returns-then-packet-wanted-clause-beyond : goal.returns-then-packet-wanted-clause-beyond
@@ -23,7 +23,7 @@ returns-then-packet-wanted-clause-beyond c =
     let octets = c.args.octets.now.items in
     let packet = c.args.packet.now in
     let room = c.from-room.ensures ∙ c.room.ensures.value in
-    let few : length (octets ++ packet) < room_of format = omega (arith, c.if-packet-wanted.true, length-append octets packet, room, c.len.ensures, c.requires.few) in
+    let few : length (octets ++ packet) < field_room_of format = omega (arith, c.if-packet-wanted.true, length-append octets packet, room, c.len.ensures, c.requires.few) in
     c.in_ok-extend_from_slice.ensures.items ∙ sym (few_beyond format (octets ++ packet) few)
 
 pub returns-in_err-pushed-clause-full : goal.returns-in_err-pushed-clause-full
@@ -34,9 +34,9 @@ returns-in_err-pushed-clause-full c =
     let head = c.split_at.result.0.now in
     let rest = c.split_at.result.1.now in
     let room = c.from-room.ensures ∙ c.room.ensures.value in
-    let roomy : 0 < room_of format = omega (arith, room, c.room.ensures.least, c.from-room.ensures) in
+    let roomy : 0 < field_room_of format = omega (arith, room, c.room.ensures.least, c.from-room.ensures) in
     let divided : packet ≡ head ++ rest = rw (c.split_at.ensures.front, c.split_at.ensures.back) (sym (take-append-drop (c.from-room.result - c.len.result) packet)) in
-    let whole : length (octets ++ head) ≡ room_of format = omega (arith, length-append octets head, c.split_at.ensures.front_len, room, c.len.ensures, c.requires.few) in
+    let whole : length (octets ++ head) ≡ field_room_of format = omega (arith, length-append octets head, c.split_at.ensures.front_len, room, c.len.ensures, c.requires.few) in
     let pushed = c.as_slice.ensures.value ∙ c.in_ok-extend_from_slice-2.ensures.items in
     let first = ap (λ l. fields_in format l * format.len) pushed in
     let one = ap (λ n. n * format.len) (field_of_first format octets head rest packet roomy whole divided) in
@@ -54,9 +54,9 @@ returns-in_err-push_fields-clause-full c =
     let head = c.split_at.result.0.now in
     let rest = c.split_at.result.1.now in
     let room = c.from-room.ensures ∙ c.room.ensures.value in
-    let roomy : 0 < room_of format = omega (arith, room, c.room.ensures.least, c.from-room.ensures) in
+    let roomy : 0 < field_room_of format = omega (arith, room, c.room.ensures.least, c.from-room.ensures) in
     let divided : packet ≡ head ++ rest = rw (c.split_at.ensures.front, c.split_at.ensures.back) (sym (take-append-drop (c.from-room.result - c.len.result) packet)) in
-    let whole : length (octets ++ head) ≡ room_of format = omega (arith, length-append octets head, c.split_at.ensures.front_len, room, c.len.ensures, c.requires.few) in
+    let whole : length (octets ++ head) ≡ field_room_of format = omega (arith, length-append octets head, c.split_at.ensures.front_len, room, c.len.ensures, c.requires.few) in
     let pushed = c.as_slice.ensures.value ∙ c.in_ok-extend_from_slice-2.ensures.items in
     let first = ap (λ l. fields_in format l * format.len) pushed in
     let one = ap (λ n. n * format.len) (field_of_first format octets head rest packet roomy whole divided) in
@@ -75,9 +75,9 @@ returns-clause-frames c =
     let head = c.split_at.result.0.now in
     let rest = c.split_at.result.1.now in
     let room = c.from-room.ensures ∙ c.room.ensures.value in
-    let roomy : 0 < room_of format = omega (arith, room, c.room.ensures.least, c.from-room.ensures) in
+    let roomy : 0 < field_room_of format = omega (arith, room, c.room.ensures.least, c.from-room.ensures) in
     let divided : packet ≡ head ++ rest = rw (c.split_at.ensures.front, c.split_at.ensures.back) (sym (take-append-drop (c.from-room.result - c.len.result) packet)) in
-    let whole : length (octets ++ head) ≡ room_of format = omega (arith, length-append octets head, c.split_at.ensures.front_len, room, c.len.ensures, c.requires.few) in
+    let whole : length (octets ++ head) ≡ field_room_of format = omega (arith, length-append octets head, c.split_at.ensures.front_len, room, c.len.ensures, c.requires.few) in
     let pushed = c.as_slice.ensures.value ∙ c.in_ok-extend_from_slice-2.ensures.items in
     let middle = c.push_fields-pushed.new.form.items in
     let one = c.in_ok-pushed.ensures.frames ∙ ap (λ l. form ++ frames_of format c.args.heading (Some c.args.start) l) pushed in
@@ -92,9 +92,9 @@ returns-clause-beyond c =
     let head = c.split_at.result.0.now in
     let rest = c.split_at.result.1.now in
     let room = c.from-room.ensures ∙ c.room.ensures.value in
-    let roomy : 0 < room_of format = omega (arith, room, c.room.ensures.least, c.from-room.ensures) in
+    let roomy : 0 < field_room_of format = omega (arith, room, c.room.ensures.least, c.from-room.ensures) in
     let divided : packet ≡ head ++ rest = rw (c.split_at.ensures.front, c.split_at.ensures.back) (sym (take-append-drop (c.from-room.result - c.len.result) packet)) in
-    let whole : length (octets ++ head) ≡ room_of format = omega (arith, length-append octets head, c.split_at.ensures.front_len, room, c.len.ensures, c.requires.few) in
+    let whole : length (octets ++ head) ≡ field_room_of format = omega (arith, length-append octets head, c.split_at.ensures.front_len, room, c.len.ensures, c.requires.few) in
     let from = length rest - length rest % c.from-room.result in
     let is = ap (λ n. length rest - length rest % n) room in
     rw (c.in_ok-extend_from_slice-3.ensures.items, c.clear.ensures.items, take_rest) (sym (beyond_both format octets head rest packet roomy whole divided from is))
@@ -107,7 +107,7 @@ returns-clause-count c =
     let head = c.split_at.result.0.now in
     let rest = c.split_at.result.1.now in
     let room = c.from-room.ensures ∙ c.room.ensures.value in
-    let roomy : 0 < room_of format = omega (arith, room, c.room.ensures.least, c.from-room.ensures) in
+    let roomy : 0 < field_room_of format = omega (arith, room, c.room.ensures.least, c.from-room.ensures) in
     let divided : packet ≡ head ++ rest = rw (c.split_at.ensures.front, c.split_at.ensures.back) (sym (take-append-drop (c.from-room.result - c.len.result) packet)) in
-    let whole : length (octets ++ head) ≡ room_of format = omega (arith, length-append octets head, c.split_at.ensures.front_len, room, c.len.ensures, c.requires.few) in
+    let whole : length (octets ++ head) ≡ field_room_of format = omega (arith, length-append octets head, c.split_at.ensures.front_len, room, c.len.ensures, c.requires.few) in
     omega (arith, fields_of_both format octets head rest packet roomy whole divided, ap (λ n. length rest / n) room)

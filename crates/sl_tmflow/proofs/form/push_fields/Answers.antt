@@ -2,7 +2,7 @@ use Rattle.std.proofs.Common.{◌≡◌, ◌<◌, ◌≤◌, ◌*◌, ◌++◌, 
 use Rattle.std.proofs.lemmas.List.{take-append-drop}
 use Rattle.std.proofs.lemmas.Result.{err_from_is_err_and}
 use Rattle.std.proofs.Math.Nat.{suc-mul}
-use Rattle.sl_tmframe.specs.PacketFrame.{room_of}
+use Rattle.sl_tmframe.specs.PacketFrame.{field_room_of}
 use Rattle.sl_tmflow.specs.FormLeft.{fields_in}
 use Rattle.sl_tmflow.proofs.FormPushLemmas.{pushes_next, all_pushed, one_more_field}
 use Rattle.sl_tmflow.proofs.form.push_fields.Goals as goal
@@ -15,12 +15,12 @@ loop-left-preserved c =
     let format = c.args.shape.now in
     let room = c.from-room.ensures ∙ c.room.ensures.value in
     let long : 8 ≤ format.len = omega (arith, c.room.ensures.value, c.room.ensures.least) in
-    let roomy : 0 < room_of format = omega (arith, room, c.room.ensures.least, c.from-room.ensures) in
+    let roomy : 0 < field_room_of format = omega (arith, room, c.room.ensures.least, c.from-room.ensures) in
     let left = c.loop-left.left.now in
     let field = c.split_at.result.0.now in
     let later = c.split_at.result.1.now in
     let parts : left ≡ field ++ later = rw (c.split_at.ensures.front, c.split_at.ensures.back) (sym (take-append-drop c.from-room.result left)) in
-    let whole : length field ≡ room_of format = c.split_at.ensures.front_len ∙ room in
+    let whole : length field ≡ field_room_of format = c.split_at.ensures.front_len ∙ room in
     rw (c.after-heading.ensures) (
       pushes_next format c.loop-left.heading _ _ c.loop-left.first left field later c.loop-left.form.items c.push_tm.new.out.items (vec_len c.loop-left.form) (vec_len c.push_tm.new.out)
           roomy long parts whole c.in_ok-push_tm.ensures.added (omega arith) (omega arith) c.loop-left.invariant.0,
@@ -31,12 +31,12 @@ pub returns-in_err-push_tm-clause-full : goal.returns-in_err-push_tm-clause-full
 returns-in_err-push_tm-clause-full c =
     let format = c.args.shape.now in
     let room = c.from-room.ensures ∙ c.room.ensures.value in
-    let roomy : 0 < room_of format = omega (arith, room, c.room.ensures.least, c.from-room.ensures) in
+    let roomy : 0 < field_room_of format = omega (arith, room, c.room.ensures.least, c.from-room.ensures) in
     let left = c.loop-left.left.now in
     let field = c.split_at.result.0.now in
     let later = c.split_at.result.1.now in
     let parts : left ≡ field ++ later = rw (c.split_at.ensures.front, c.split_at.ensures.back) (sym (take-append-drop c.from-room.result left)) in
-    let whole : length field ≡ room_of format = c.split_at.ensures.front_len ∙ room in
+    let whole : length field ≡ field_room_of format = c.split_at.ensures.front_len ∙ room in
     let more = one_more_field format left field later roomy parts whole in
     let lengths = suc-mul (fields_in format later) format.len in
     let sizes = c.loop-left.invariant.0.sizes in

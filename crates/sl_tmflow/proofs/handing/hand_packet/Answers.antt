@@ -2,10 +2,10 @@ use Rattle.std.proofs.Common.{◌≡◌, ◌∙◌, ◌++◌, ◌∷◌, [], ap,
 use Rattle.sl_packet.specs.Packet.{IsPacket}
 use Rattle.sl_packet.specs.Packets.{packets_of, without_idle, only_idle}
 use Rattle.sl_packet.specs.Sink.{TakesAll}
-use Rattle.sl_packet.proofs.PacketLemmas.{stated_len-packet}
+use Rattle.sl_packet.proofs.PacketLemmas.{stated_packet_len-packet}
 use Rattle.sl_packet.proofs.PacketsLemmas.{packets_of-packet}
 use Rattle.sl_packet.specs.Stopping.{IsStopped}
-use Rattle.sl_tmflow.proofs.IncompleteListLemmas.{stated_len-most}
+use Rattle.sl_tmflow.proofs.IncompleteListLemmas.{stated_packet_len-most}
 use Rattle.sl_tmflow.proofs.handing.hand_packet.Goals as goal
 
 -- a packet has no other packets
@@ -13,7 +13,7 @@ alone : (packet : List ℕ) → IsPacket packet → packets_of packet ≡ packet
 alone packet p = ap packets_of (sym (append-nil packet)) ∙ packets_of-packet packet [] p
 
 pub hand-requires-clause-short : goal.hand-requires-clause-short
-hand-requires-clause-short g c = omega (arith, stated_len-packet c.args.packet.now [] c.requires.packet, stated_len-most (c.args.packet.now ++ []))
+hand-requires-clause-short g c = omega (arith, stated_packet_len-packet c.args.packet.now [] c.requires.packet, stated_packet_len-most (c.args.packet.now ++ []))
 
 pub returns-in-Err-clause-stopped : goal.returns-in-Err-clause-stopped
 returns-in-Err-clause-stopped g c =

@@ -8,7 +8,7 @@ use Rattle.std.proofs.lemmas.Nat.{mod_below}
 use Rattle.sl_fields.specs.Field.{number_of}
 use Rattle.sl_cop.specs.Farm.{FarmView, farm_step}
 use Rattle.sl_tcframe.specs.declared.tc_frame.TcSkip.{TcSkip}
-use Rattle.sl_tcframe.specs.TcFrame.{TcView, Content, header_of, parts_of, content_of, early_reason, read_as, tc_frame}
+use Rattle.sl_tcframe.specs.TcFrame.{TcView, Content, tc_header_of, tc_parts_of, content_of, early_reason, read_as, tc_frame}
 use Rattle.sl_tcframe.specs.VcSet.{has_vc}
 use Rattle.sl_tcflow.specs.AcceptedUnit.{event_of, views_of}
 use Rattle.sl_tcflow.specs.Receiving.{HaveStepped, farm_at_start}
@@ -24,13 +24,13 @@ abbrev IsChannel : Result TcView TcSkip → Type 0
 IsChannel (Ok view) = view.vc < 64
 IsChannel (Err reason) = ⊤
 
-channel_of_read : (early : Option TcSkip) (frame : List ℕ) (content : Option Content) → IsChannel (read_as early (header_of frame) content)
+channel_of_read : (early : Option TcSkip) (frame : List ℕ) (content : Option Content) → IsChannel (read_as early (tc_header_of frame) content)
 channel_of_read (Some reason) frame content = tt
 channel_of_read None frame None = tt
 channel_of_read None frame (Some content) = mod_below (number_of (take 5 frame) / 2 ^ 18) 64 (omega arith)
 
 is_channel : (p : Parameters) (frame : List ℕ) → IsChannel (tc_frame (tc_format p) p.spacecraft frame)
-is_channel p frame = channel_of_read (early_reason (tc_format p) p.spacecraft frame) frame (content_of (header_of frame) (parts_of (tc_format p) frame).field)
+is_channel p frame = channel_of_read (early_reason (tc_format p) p.spacecraft frame) frame (content_of (tc_header_of frame) (tc_parts_of (tc_format p) frame).field)
 
 module _ (p : Parameters) (farms : List FarmView) (before : List (List ℕ)) (h : HasFarms p farms before) where
   abbrev seen : List TcView

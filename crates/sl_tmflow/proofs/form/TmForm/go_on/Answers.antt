@@ -4,7 +4,7 @@ use Rattle.std.proofs.lemmas.List.{length-map, nil_from_length}
 use Rattle.std.specs.List.{slice_index_or}
 use Rattle.std.specs.Vec.{vec_items}
 use Rattle.sl_packet.specs.Delivered.{list_at}
-use Rattle.sl_tmframe.specs.PacketFrame.{room_of}
+use Rattle.sl_tmframe.specs.PacketFrame.{field_room_of}
 use Rattle.sl_tmflow.specs.FormLeft.{channel_packets}
 use Rattle.sl_tmflow.specs.TmFormModel.{form_progress}
 use Rattle.sl_tmflow.proofs.FormLeftLemmas.{channel_is, left_next_channel, no_more_after, none_left_after}
@@ -15,7 +15,7 @@ loop-self-preserved c =
     let i = c.loop-self.invariant in
     let s = form_progress c.loop-self.self-inside in
     let few = i.1.1.1.1.few in
-    let roomy : 0 < room_of s.format = omega (arith, few) in
+    let roomy : 0 < field_room_of s.format = omega (arith, few) in
     let test : s.vc < 8 = omega (arith, c.loop-self-test.true) in
     let is : list_at c.loop-self.self-inside.delivered.now c.from.result ≡ channel_packets s = ap (λ n. slice_index_or s.lists n []) c.from.ensures ∙ sym (channel_is s test) in
     let long : length (channel_packets s) ≡ length c.list-packets.result.now = sym (ap length (c.list-packets.ensures.packets ∙ is)) ∙ length-map c.list-packets.result.now vec_items in

@@ -1,7 +1,19 @@
--- Places for the digits of a number of one octet. Contracts of private functions alone cite it.
-use Rattle.std.specs.Prelude.{◌≡◌, ◌≤◌, ℕ, List, decimal, slice_index, take}
+-- Digits of numbers. Contracts of private functions alone cite it.
+use Rattle.std.specs.Prelude.{◌≡◌, ◌≤◌, ℕ, ◌+◌, ◌/◌, ◌%◌, List, [], ◌∷◌, ◌++◌, decimal, slice_index, take}
 
 -- the places begin with the digits of the number, and the last place says how many these are, three at most
 pub record AreDigits (number : ℕ) (places : List ℕ) : Type 0 where
   pub digits : take (slice_index places 3) places ≡ decimal number
   pub few : slice_index places 3 ≤ 3
+
+-- the places begin with the digits of the number, which are so many
+pub record IsFront (number : ℕ) (places : List ℕ) (many : ℕ) : Type 0 where
+  pub digits : take many places ≡ decimal number
+  pub few : many ≤ 16
+
+-- two digits of a number below 100, and four of one below 10,000, with the zeros before them
+abbrev pub two_digits : ℕ → List ℕ
+two_digits n = (48 + n / 10) ∷ (48 + n % 10) ∷ []
+
+abbrev pub four_digits : ℕ → List ℕ
+four_digits n = two_digits (n / 100) ++ two_digits (n % 100)

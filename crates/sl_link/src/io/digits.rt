@@ -1,15 +1,25 @@
 //! Numbers in decimal, as the crate `itoa` writes them.
-ghost use Rattle.std.specs.Prelude.{◌≡◌, ◌≤◌, ◌<◌, ℕ, [], decimal, slice_index_or, take};
-ghost use Rattle.sl_link.specs.Io.Digits.{AreDigits};
+ghost use Rattle.std.specs.Prelude.{◌≡◌, ◌*◌, ◌≤◌, ◌<◌, ◌^◌, ℕ, [], decimal, slice_index_or, take};
+ghost use Rattle.sl_link.specs.Io.Digits.{AreDigits, IsFront, four_digits, two_digits};
 
 use itoa::{Buffer, write_digits};
 
-/// The digits of each octet, which are worked out once.
+/// The digits of numbers that were worked out before.
 #[derive(Drop)]
 pub struct Decimals {
-    // Three places that begin with the digits, and then how many these are.
+    // Of each octet three places that begin with the digits, and then how many these are.
     octets: [[u8; 4]; 256],
+    front: Front,
     ghost in_decimal: { (n : ℕ) → n < 256 → AreDigits n (slice_index_or octets n []) },
+}
+
+// A number: places that begin with its digits, and how many these are.
+#[derive(Clone, Copy)]
+struct Front {
+    number: u64,
+    places: [u8; 16],
+    many: usize,
+    ghost is_front: { IsFront number places many },
 }
 
 impl Decimals {
@@ -17,6 +27,7 @@ impl Decimals {
     pub fn new() -> Decimals {
         Decimals {
             octets: octets_in_decimal(),
+            front: front_of(0),
         }
     }
 
@@ -29,20 +40,58 @@ impl Decimals {
         let places = self.octets[usize::from(octet)];
         (places, usize::from(places[3]))
     }
+
+    /// The last four digits of a number, of which there are more.
+    #[inline(always)]
+    pub fn last_four(&self, number: u16) -> [u8; 4]
+        requires { number < 10000 }
+        ensures { result ≡ four_digits number }
+    {
+        let [first, second] = self.last_two((number / 100) as u8);
+        let [third, fourth] = self.last_two((number % 100) as u8);
+        [first, second, third, fourth]
+    }
+
+    // The last two, which are those of a number over a hundred.
+    #[inline(always)]
+    fn last_two(&self, number: u8) -> [u8; 2]
+        requires { number < 100 }
+        ensures { result ≡ two_digits number }
+    {
+        let [_, first, second, _] = self.octets[usize::from(100 + number)];
+        [first, second]
+    }
+
+    /// What stands before the last four digits of a number: places that begin with its digits, and how many these are.
+    /// It is mostly what it was, as offsets rise little by little, and then nothing is worked out.
+    #[inline(always)]
+    pub fn front(&mut self, number: u64) -> ([u8; 16], usize)
+        requires { number * 10000 < 2 ^ 64 }
+        ensures digits { take result.1 result.0 ≡ decimal number }
+        ensures few { result.1 ≤ 16 }
+    {
+        if self.front.number != number {
+            self.front = front_of(number);
+        }
+        (self.front.places, self.front.many)
+    }
 }
 
-/// A number in decimal: places that begin with its digits, and how many these are.
-#[inline(always)]
-pub fn long_decimal(number: u64) -> ([u8; 20], usize)
-    ensures digits { take result.1 result.0 ≡ decimal number }
-    ensures few { result.1 ≤ 20 }
+#[cold]
+fn front_of(number: u64) -> Front
+    requires { number * 10000 < 2 ^ 64 }
+    ensures { result.number ≡ number }
 {
-    // The greatest number has 20 digits. They end in the middle, so that 20 places follow wherever they begin.
-    let mut digits = [0; 40];
-    let start = write_digits(number, &mut digits, 20);
-    let mut places = [0; 20];
-    places.copy_from_slice(&digits[start..start + 20]);
-    (places, 20 - start)
+    // It has 16 digits at most. They end in the middle, so that 16 places follow wherever they begin.
+    let mut digits = [0; 32];
+    let start = write_digits(number, &mut digits, 16);
+    let mut places = [0; 16];
+    places.copy_from_slice(&digits[start..start + 16]);
+    Front {
+        number,
+        places,
+        many: 16 - start,
+    }
 }
 
 fn octets_in_decimal() -> [[u8; 4]; 256]

@@ -1,9 +1,9 @@
 //! Lines of a listing, put together in a buffer before they are written.
-ghost use Rattle.std.specs.Prelude.{◌≡◌, ◌+◌, ◌*◌, ◌≤◌, [], ◌++◌, length, decimal, drop, nat_lt, take};
+ghost use Rattle.std.specs.Prelude.{◌≡◌, ◌+◌, ◌*◌, ◌^◌, ◌≤◌, ◌<◌, [], ◌++◌, length, decimal, drop, nat_lt, take};
 ghost use Rattle.hex.specs.Hex.{encode_lower};
 ghost use Rattle.sl_link.specs.Io.Room.{HasRoomFor, lines_size, reserve};
 
-use crate::io::digits::{Decimals, long_decimal};
+use crate::io::digits::Decimals;
 use arrayvec::ArrayVec;
 use std::marker::Model;
 
@@ -117,11 +117,33 @@ impl Lines {
     }
 
     fn push_long(&mut self, number: u64)
-        requires { HasRoomFor 20 self.old }
+        requires room { HasRoomFor 20 self.old }
+        requires long { 100 ≤ number }
         ensures text { self.new ≡ self.old ++ decimal number }
         ensures long { length self.new ≤ length self.old + 20 }
     {
-        let (places, many) = long_decimal(number);
+        let digits = self.decimals.last_four((number % 10_000) as u16);
+        let front = number / 10_000;
+        if front > 0 {
+            self.push_front(front);
+            self.push(&digits);
+        } else if number >= 1000 {
+            self.push(&digits);
+        } else {
+            let [_, hundreds, tens, units] = digits;
+            self.push(&[hundreds, tens, units]);
+        }
+    }
+
+    // Adds what stands before the last four digits of a number.
+    #[inline(always)]
+    fn push_front(&mut self, front: u64)
+        requires room { HasRoomFor 16 self.old }
+        requires front { front * 10000 < 2 ^ 64 }
+        ensures text { self.new ≡ self.old ++ decimal front }
+        ensures short { length self.new ≤ length self.old + 16 }
+    {
+        let (places, many) = self.decimals.front(front);
         self.push_first(&places, many);
     }
 

@@ -170,11 +170,7 @@ fn step(farms: &mut [Farm; 64], frame: &TcFrame) -> Verdict
     ensures verdict { (r : ReceptionParameters) (views : List TcView) → HaveStepped r farms.old views → result ≡ verdict_on r views frame.now }
     ensures farms { (r : ReceptionParameters) (views : List TcView) → HaveStepped r farms.old views → HaveStepped r farms.new (views ++ frame.now ∷ []) }
 {
-    let vc = usize::from(frame.vc());
-    let mut farm = farms[vc];
-    let verdict = farm.step(event_in(&frame.content()));
-    farms[vc] = farm;
-    verdict
+    farms[usize::from(frame.vc())].step(event_in(&frame.content()))
 }
 
 // What a frame is to FARM-1.

@@ -62,13 +62,13 @@ pub fn push_tc_plain(
 }
 
 // Adds a frame of type AD whose data field is a segment header, or none, and the octets after it.
-fn push_unit(
+fn push_unit<const N: usize>(
     out: &mut Vec<u8>,
     shape: &TcShape,
     spacecraft: u16,
     vc: u8,
     ns: u8,
-    segment: &[u8],
+    segment: &[u8; N],
     octets: &[u8],
 ) -> Result<(), AllocError>
     requires spacecraft { spacecraft ≤ 1023 }

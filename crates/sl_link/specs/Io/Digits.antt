@@ -7,7 +7,7 @@ pub record AreDigits (number : ℕ) (places : List ℕ) : Type 0 where
   pub few : slice_index places 3 ≤ 3
 
 -- the places begin with the digits of the number, which are so many
-pub record IsFront (number : ℕ) (places : List ℕ) (many : ℕ) : Type 0 where
+pub record AreLeading (number : ℕ) (places : List ℕ) (many : ℕ) : Type 0 where
   pub digits : take many places ≡ decimal number
   pub few : many ≤ 16
 

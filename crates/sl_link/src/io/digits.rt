@@ -1,6 +1,6 @@
 //! Numbers in decimal, as the crate `itoa` writes them.
 ghost use Rattle.std.specs.Prelude.{◌≡◌, ◌*◌, ◌≤◌, ◌<◌, ◌^◌, ℕ, [], decimal, slice_index_or, take};
-ghost use Rattle.sl_link.specs.Io.Digits.{AreDigits, IsFront, four_digits, two_digits};
+ghost use Rattle.sl_link.specs.Io.Digits.{AreDigits, AreLeading, four_digits, two_digits};
 
 use itoa::{Buffer, write_digits};
 
@@ -9,25 +9,25 @@ use itoa::{Buffer, write_digits};
 pub struct Decimals {
     // Of each octet three places that begin with the digits, and then how many these are.
     octets: [[u8; 4]; 256],
-    front: Front,
+    leading: Leading,
     ghost in_decimal: { (n : ℕ) → n < 256 → AreDigits n (slice_index_or octets n []) },
 }
 
-// A number: places that begin with its digits, and how many these are.
+// The digits of a long number but for its last four, as a number, and places that begin with them.
 #[derive(Clone, Copy)]
-struct Front {
+struct Leading {
     number: u64,
     places: [u8; 16],
     many: usize,
-    ghost is_front: { IsFront number places many },
+    ghost are_leading: { AreLeading number places many },
 }
 
 impl Decimals {
-    /// Those of all octets.
+    /// Those of all octets, and of 0.
     pub fn new() -> Decimals {
         Decimals {
             octets: octets_in_decimal(),
-            front: front_of(0),
+            leading: leading_of(0),
         }
     }
 
@@ -41,7 +41,7 @@ impl Decimals {
         (places, usize::from(places[3]))
     }
 
-    /// The last four digits of a number, of which there are more.
+    /// The last four digits of a long number, given as the number that they are.
     #[inline(always)]
     pub fn last_four(&self, number: u16) -> [u8; 4]
         requires { number < 10000 }
@@ -52,7 +52,7 @@ impl Decimals {
         [first, second, third, fourth]
     }
 
-    // The last two, which are those of a number over a hundred.
+    // Two digits, which are the last ones of a number over a hundred.
     #[inline(always)]
     fn last_two(&self, number: u8) -> [u8; 2]
         requires { number < 100 }
@@ -62,23 +62,23 @@ impl Decimals {
         [first, second]
     }
 
-    /// What stands before the last four digits of a number: places that begin with its digits, and how many these are.
-    /// It is mostly what it was, as offsets rise little by little, and then nothing is worked out.
+    /// The leading digits of a long number, given as the number that they are: places that begin with them, and how many
+    /// they are. Offsets rise little by little, so they are mostly those of the call before, and nothing is worked out.
     #[inline(always)]
-    pub fn front(&mut self, number: u64) -> ([u8; 16], usize)
+    pub fn leading(&mut self, number: u64) -> ([u8; 16], usize)
         requires { number * 10000 < 2 ^ 64 }
         ensures digits { take result.1 result.0 ≡ decimal number }
         ensures few { result.1 ≤ 16 }
     {
-        if self.front.number != number {
-            self.front = front_of(number);
+        if self.leading.number != number {
+            self.leading = leading_of(number);
         }
-        (self.front.places, self.front.many)
+        (self.leading.places, self.leading.many)
     }
 }
 
 #[cold]
-fn front_of(number: u64) -> Front
+fn leading_of(number: u64) -> Leading
     requires { number * 10000 < 2 ^ 64 }
     ensures { result.number ≡ number }
 {
@@ -87,7 +87,7 @@ fn front_of(number: u64) -> Front
     let start = write_digits(number, &mut digits, 16);
     let mut places = [0; 16];
     places.copy_from_slice(&digits[start..start + 16]);
-    Front {
+    Leading {
         number,
         places,
         many: 16 - start,

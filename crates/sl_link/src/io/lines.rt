@@ -116,6 +116,7 @@ impl Lines {
         }
     }
 
+    // Adds a number of more than two digits.
     fn push_long(&mut self, number: u64)
         requires room { HasRoomFor 20 self.old }
         requires long { 100 ≤ number }
@@ -123,9 +124,9 @@ impl Lines {
         ensures long { length self.new ≤ length self.old + 20 }
     {
         let digits = self.decimals.last_four((number % 10_000) as u16);
-        let front = number / 10_000;
-        if front > 0 {
-            self.push_front(front);
+        let leading = number / 10_000;
+        if leading > 0 {
+            self.push_leading(leading);
             self.push(&digits);
         } else if number >= 1000 {
             self.push(&digits);
@@ -135,15 +136,15 @@ impl Lines {
         }
     }
 
-    // Adds what stands before the last four digits of a number.
+    // Adds the leading digits of a long number.
     #[inline(always)]
-    fn push_front(&mut self, front: u64)
+    fn push_leading(&mut self, leading: u64)
         requires room { HasRoomFor 16 self.old }
-        requires front { front * 10000 < 2 ^ 64 }
-        ensures text { self.new ≡ self.old ++ decimal front }
+        requires leading { leading * 10000 < 2 ^ 64 }
+        ensures text { self.new ≡ self.old ++ decimal leading }
         ensures short { length self.new ≤ length self.old + 16 }
     {
-        let (places, many) = self.decimals.front(front);
+        let (places, many) = self.decimals.leading(leading);
         self.push_first(&places, many);
     }
 

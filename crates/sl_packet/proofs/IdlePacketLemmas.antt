@@ -1,20 +1,33 @@
 -- The idle packet of so many octets is one.
-use Rattle.std.proofs.Common.{◌≡◌, ℕ, ◌+◌, ◌-◌, ◌<◌, ◌≤◌, ◌==◌, nat_lt, true, length, take, replicate, refl, sym, ◌∙◌, ap, arith, length-append}
+use Rattle.std.proofs.Common.{◌≡◌, ℕ, ◌+◌, ◌-◌, ◌<◌, ◌≤◌, ◌==◌, nat_lt, true, false, length, take, replicate, refl, sym, ◌∙◌, ap, arith, length-append}
 use Rattle.std.proofs.lemmas.Bool.{and_from, lt-ltb, eq-eqb}
 use Rattle.std.proofs.lemmas.List.{length-replicate, take_at}
 use Rattle.std.proofs.lemmas.List.Elements.{All-append, All-replicate}
 use Rattle.byteorder.specs.Numbers.{length-bytes_high_first}
 use Rattle.sl_fields.specs.Field.{IsOctets, packed}
-use Rattle.sl_fields.specs.PacketHeader.{FitsPacketHeader, packet_fields, packet_header, packet_octets}
+use Rattle.sl_fields.specs.PacketHeader.{PacketFields, FitsPacketHeader, packet_fields, packet_header, packet_octets}
 use Rattle.sl_fields.proofs.HeaderLayout.{reads_back}
 use Rattle.sl_fields.proofs.Octets.{octets-bytes}
 use Rattle.sl_fields.proofs.PacketHeaderLemmas.{packet_layout}
 use Rattle.sl_fields.proofs.Packing.{packed_lt}
-use Rattle.sl_packet.specs.IdlePacket.{idle_header, idle_packet}
+use Rattle.sl_packet.specs.IdlePacket.{idle_packet}
 use Rattle.sl_packet.specs.Packet.{apid_of, is_idle_packet, IsPacket}
 use Rattle.sl_packet.proofs.PacketLemmas.{header_fields}
 
-pub idle_header_fits : (n : ℕ) → n ≤ 65542 → FitsPacketHeader (idle_header n)
+-- its header, which reads back
+abbrev idle_header : ℕ → PacketFields
+idle_header len =
+    record {
+      version = 0;
+      kind = 0;
+      secondary = false;
+      apid = 2047;
+      flags = 3;
+      count = 0;
+      length = len - 7;
+    }
+
+idle_header_fits : (n : ℕ) → n ≤ 65542 → FitsPacketHeader (idle_header n)
 idle_header_fits n most = record {
   version = omega arith;
   kind = omega arith;
@@ -24,7 +37,6 @@ idle_header_fits n most = record {
   length = omega arith;
 }
 
--- its header is read back
 packet_header-idle : (n : ℕ) → n ≤ 65542 → packet_header (packet_octets (idle_header n)) ≡ idle_header n
 packet_header-idle n most =
     let fits = idle_header_fits n most in

@@ -1,25 +1,17 @@
 -- The idle packet that is written where octets are to be filled. Its APID is that of idle packets, CCSDS
 -- 133.0-B; its other fields and its data are this project's mission profile.
-use Rattle.std.specs.Prelude.{◌≡◌, ℕ, ◌-◌, ◌≤◌, true, false, List, ◌++◌, length, replicate}
-use Rattle.sl_fields.specs.PacketHeader.{PacketFields, packet_octets}
+use Rattle.std.specs.Prelude.{◌≡◌, ℕ, ◌-◌, ◌≤◌, true, List, [], ◌∷◌, ◌++◌, length, replicate}
+use Rattle.sl_fields.specs.Field.{octets_of}
 use Rattle.sl_packet.specs.Packet.{IsPacket, is_idle_packet}
 
--- the header of an idle packet of so many octets: telemetry, unsegmented, with count 0
-abbrev pub idle_header : ℕ → PacketFields
-idle_header len =
-    record {
-      version = 0;
-      kind = 0;
-      secondary = false;
-      apid = 2047;
-      flags = 3;
-      count = 0;
-      length = len - 7;
-    }
+-- The fields of its header, with their widths: version 0, telemetry, no secondary header, the APID of idle packets,
+-- unsegmented, count 0, and of so many octets in all.
+abbrev pub idle_fields : ℕ → List (ℕ × ℕ)
+idle_fields len = (3, 0) ∷ (1, 0) ∷ (1, 0) ∷ (11, 2047) ∷ (2, 3) ∷ (14, 0) ∷ (16, len - 7) ∷ []
 
 -- its data are zeros
 unfoldable pub idle_packet : ℕ → List ℕ
-idle_packet len = packet_octets (idle_header len) ++ replicate (len - 6) 0
+idle_packet len = octets_of 6 (idle_fields len) ++ replicate (len - 6) 0
 
 -- ---- laws
 

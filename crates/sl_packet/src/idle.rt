@@ -1,8 +1,8 @@
 //! Idle packets.
 ghost use Rattle.std.specs.Prelude.{◌≡◌, ◌<◌, ◌≤◌, ◌+◌, ◌++◌, OnOk, OnErr};
 ghost use Rattle.std.specs.Vec.{vec_len, vec_capacity};
-ghost use Rattle.sl_fields.specs.PacketHeader.{packet_octets};
-ghost use Rattle.sl_packet.specs.IdlePacket.{idle_header, idle_packet};
+ghost use Rattle.sl_fields.specs.Field.{octets_of};
+ghost use Rattle.sl_packet.specs.IdlePacket.{idle_fields, idle_packet};
 ghost use Rattle.sl_packet.specs.Packet.{is_idle_packet};
 
 use byteorder::{BigEndian, ByteOrder};
@@ -42,7 +42,7 @@ pub fn push_idle(out: &mut Vec<u8>, len: u32) -> Result<(), AllocError>
 
 // The header of an idle packet with this length field.
 fn idle_header(length: u16) -> [u8; 6]
-    ensures { result ≡ packet_octets (idle_header (length + 7)) }
+    ensures { result ≡ octets_of 6 (idle_fields (length + 7)) }
 {
     match PacketHeader::new(0, 0, false, IDLE, 3, 0, length) {
         Some(header) => header.write(),

@@ -1,17 +1,18 @@
 -- A packet divided into segments: they are full but the last one, and they are the packet.
-use Rattle.std.proofs.Common.{◌≡◌, ℕ, zero, suc, ◌+◌, ◌-◌, ◌*◌, ◌<◌, ◌≤◌, List, [], ◌∷◌, length, drop, map, refl, sym, ◌∙◌, ap, subst, arith, length-take-le}
+use Rattle.std.proofs.Common.{◌≡◌, ℕ, zero, suc, ◌+◌, ◌-◌, ◌*◌, ◌<◌, ◌≤◌, List, [], ◌∷◌, length, drop, map, refl, sym, ◌∙◌, ap, ap₂, subst, arith, length-take-le}
 use Rattle.std.specs.List.{concat, range_with_len}
 use Rattle.std.proofs.lemmas.List.{length-drop, length-take, take_all}
 use Rattle.std.proofs.Math.Nat.{suc-mul, le-div_iff_mul-le}
 use Rattle.sl_fields.specs.SegmentHeader.{SegmentFields}
-use Rattle.sl_tcflow.specs.TcNormalForm.{segment_count, piece_at, AreSegments, last, full, EachIsDivided}
+use Rattle.sl_tcflow.specs.TcNormalForm.{segment_count, piece_at, segment_of, AreSegments, last, full, EachIsDivided}
+use Rattle.sl_tcflow.specs.Series.{header_at, segment_data}
 use Rattle.sl_tcflow.proofs.EachLemmas.{each-map_range}
-use Rattle.sl_tcflow.proofs.PartLemmas.{parts_joined, covers, some_parts, parts_are_series}
-use Rattle.sl_tcflow.proofs.SegmentLemmas.{part_at}
+use Rattle.sl_tcflow.proofs.PartLemmas.{parts_joined, covers, some_parts, units_are_series}
+use Rattle.sl_tcflow.proofs.SegmentLemmas.{part_at, part_is, header_of_unit, octets_of_unit}
 
-only_octets : (room mid : ℕ) (packet : List ℕ) (numbers : List ℕ) → map (λ (s : SegmentFields × List ℕ). s.1) (map (part_at room mid packet) numbers) ≡ map (piece_at room packet) numbers
+only_octets : (room mid : ℕ) (packet : List ℕ) (numbers : List ℕ) → map segment_data (map (segment_of room mid packet) numbers) ≡ map (piece_at room packet) numbers
 only_octets room mid packet [] = refl
-only_octets room mid packet (number ∷ numbers) = ap (λ l. piece_at room packet number ∷ l) (only_octets room mid packet numbers)
+only_octets room mid packet (number ∷ numbers) = ap₂ (λ a b. a ∷ b) (octets_of_unit (part_at room mid packet number)) (only_octets room mid packet numbers)
 
 -- each segment begins within the packet
 begins_within : (room : ℕ) (packet : List ℕ) (number : ℕ) → 0 < room → 0 < length packet → number < segment_count room packet → number * room < length packet
@@ -44,6 +45,8 @@ each_is_divided room mid packet some small long =
     record {
       filled = subst (AreSegments room) (sym octets) (filled_from room packet 0 count some long (some_parts room packet some long) (omega arith));
       end_to_end = ap concat octets ∙ parts_joined room packet count ∙ take_all (count * room) packet (covers room packet some);
-      series = parts_are_series room mid packet some small long;
-      on_map = each-map_range (λ (s : SegmentFields × List ℕ). s.0.map ≡ mid) (part_at room mid packet) (λ number. refl) 0 count;
+      series = units_are_series room mid packet some small long;
+      on_map =
+          each-map_range (λ segment. (header_at segment).map ≡ mid) (segment_of room mid packet)
+          (λ n. ap (λ (h : SegmentFields). h.map) (header_of_unit (part_at room mid packet n) (part_is room mid small packet n).header)) 0 count;
     }

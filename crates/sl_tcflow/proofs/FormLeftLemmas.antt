@@ -2,23 +2,22 @@
 use Rattle.std.proofs.Common.{◌≡◌, ℕ, zero, suc, ◌+◌, ◌-◌, ◌*◌, ◌/◌, ◌%◌, ◌<◌, ◌≤◌, ◌==◌, Bool, true, false, if◌then◌else◌, List, [], ◌∷◌, ◌++◌, length, take, drop, flat_map, inl, inr, refl, sym, ◌∙◌, ap, ap₂, subst, arith, append_assoc, append-nil, length-append, ne_eqb}
 use Rattle.std.specs.List.{concat, range_with_len, slice_index_or}
 use Rattle.std.proofs.lemmas.Bool.Decides.{eqb_tells, leb_tells}
-use Rattle.std.proofs.lemmas.List.{length-map, drop_all, drop_more, drop-drop, get_or-drop, get_or_past}
+use Rattle.std.proofs.lemmas.List.{drop_all, drop_more, drop-drop, get_or-drop, get_or_past}
 use Rattle.std.proofs.lemmas.List.Folds.{concat-append}
 use Rattle.std.proofs.lemmas.List.FromFn.{length-map-range_with_len}
 use Rattle.std.proofs.Math.Seq.{take-nil}
-use Rattle.sl_fields.specs.TcHeader.{tc_fields, tc_octets}
+use Rattle.sl_fields.specs.Field.{octets_of}
 use Rattle.sl_fields.proofs.FecfLemmas.{length-with_fecf}
 use Rattle.sl_fields.proofs.Octets.{length-octets_of}
 use Rattle.sl_packet.specs.Delivered.{PacketLists, list_at}
-use Rattle.sl_tcframe.specs.AdFrame.{segment_room_of, ad_frame, ad_header, ad_len}
+use Rattle.sl_tcframe.specs.AdFrame.{segment_room_of, ad_fields, ad_frame, ad_len}
 use Rattle.sl_tcframe.specs.TcFrame.{TcFormat}
 use Rattle.sl_tcframe.specs.VcSet.{has_vc}
 use Rattle.sl_tcflow.specs.FormLeft.{IsPlace, channels_left, form_left, maps_left, ns_after, piece_of}
 use Rattle.sl_tcflow.specs.FormPiece.{AddsPiece}
-use Rattle.sl_tcflow.specs.TcNormalForm.{segment_count, segments_of_packet, units_of_packet, units_of_maps, frames_of_units, channel_frames, tc_normal_form_of}
+use Rattle.sl_tcflow.specs.TcNormalForm.{segment_count, segment_of, units_of_packet, units_of_maps, frames_of_units, channel_frames, tc_normal_form_of}
 use Rattle.sl_tcflow.proofs.PartLemmas.{some_parts}
 use Rattle.sl_tcflow.proofs.PushedLemmas.{frames_from_same, frames_from-append}
-use Rattle.sl_tcflow.proofs.SegmentLemmas.{part_at, unit_made}
 
 -- the MAPs from one on are that one and those after it
 split_maps : (b : Bool) (room mid n : ℕ) (lists : List (List (List ℕ)))
@@ -234,9 +233,9 @@ module _ (format : TcFormat) (spacecraft : ℕ) (starts plain : List ℕ) (lists
 module _ (format : TcFormat) (spacecraft : ℕ) where
   frame_some : (vc ns : ℕ) (unit : List ℕ) → 0 < length (ad_frame format spacecraft vc ns unit)
   frame_some vc ns unit =
-      let h = ad_header spacecraft vc ns (ad_len format (length unit)) in
-      let covered = tc_octets h ++ unit in
-      omega (arith, length-with_fecf format.fecf covered, length-append (tc_octets h) unit, length-octets_of 5 (tc_fields h))
+      let h = ad_fields spacecraft vc ns (ad_len format (length unit)) in
+      let covered = octets_of 5 h ++ unit in
+      omega (arith, length-with_fecf format.fecf covered, length-append (octets_of 5 h) unit, length-octets_of 5 h)
 
   frames_some : (vc ns : ℕ) (units : List (List ℕ)) → 0 < length units → 0 < length (concat (frames_of_units format spacecraft vc ns units))
   frames_some vc ns [] some = absurd (omega arith)
@@ -249,8 +248,8 @@ module _ (format : TcFormat) (spacecraft : ℕ) where
   some_units true room mid packet wide long = omega arith
   some_units false room mid packet wide long =
       let parts = some_parts room packet wide long in
-      let count = length-map-range_with_len (part_at room mid packet) 0 (segment_count room packet) in
-      omega (arith, parts, count, length-map (segments_of_packet room mid packet) unit_made)
+      let count = length-map-range_with_len (segment_of room mid packet) 0 (segment_count room packet) in
+      omega (arith, parts, count)
 
   pub piece_some : (b : Bool) (channel ns : ℕ) (packet : List ℕ) → 0 < segment_room_of format → 0 < length packet → 0 < length (piece_of format spacecraft b channel ns packet)
   piece_some b channel ns packet wide long =

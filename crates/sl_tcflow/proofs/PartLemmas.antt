@@ -12,10 +12,10 @@ use Rattle.sl_packet.specs.Packets.{packets_of}
 use Rattle.sl_packet.proofs.PacketsLemmas.{packets_of-packet}
 use Rattle.sl_tcflow.specs.Reception.{packets_in}
 use Rattle.sl_tcflow.specs.Series.{flags_of, IsSeries, whole, divided, SeriesAt, series_from, reassembled}
-use Rattle.sl_tcflow.specs.TcNormalForm.{segment_count, piece_at, flags_at, segments_of_packet}
+use Rattle.sl_tcflow.specs.TcNormalForm.{segment_count, piece_at, flags_at, segment_of}
 use Rattle.sl_tcflow.proofs.EachLemmas.{each-append, each-weaker}
 use Rattle.sl_tcflow.proofs.PushedLemmas.{counts_more}
-use Rattle.sl_tcflow.proofs.SegmentLemmas.{unit_made, part_at, part_is, header_of_unit, octets_of_unit}
+use Rattle.sl_tcflow.proofs.SegmentLemmas.{unit_made, part_at, part_is, segments_of_packet, units_of_parts, header_of_unit, octets_of_unit}
 use Rattle.sl_tcflow.proofs.SeriesLemmas.{IsContinuing, BeginsNone, series_at, begins_whole, begins_divided, completed_all, none_begin, continuing_begins_none, last_begins_none}
 
 -- ---- their octets
@@ -86,17 +86,16 @@ series_of_parts (suc (suc n)) unit flags some =
     (divided (unit 0) (unit (suc n)) middle (flags 0 ∙ first_of_many (suc (suc n)) (omega arith))
     (continuing (suc (suc n)) unit flags 1 n (omega arith) (omega arith)) (flags (suc n) ∙ last_of_many (suc (suc n)) (suc n) (omega arith) (omega arith)))
 
-units_of_parts : (room mid : ℕ) (packet : List ℕ) (numbers : List ℕ) → map unit_made (map (part_at room mid packet) numbers) ≡ map (λ n. unit_made (part_at room mid packet n)) numbers
-units_of_parts room mid packet [] = refl
-units_of_parts room mid packet (number ∷ numbers) = ap (λ l. unit_made (part_at room mid packet number) ∷ l) (units_of_parts room mid packet numbers)
+pub units_are_series : (room mid : ℕ) (packet : List ℕ) → 0 < room → mid < 64 → 0 < length packet
+    → IsSeries (map (segment_of room mid packet) (range_with_len 0 (segment_count room packet)))
+units_are_series room mid packet some small long =
+    series_of_parts (segment_count room packet) (segment_of room mid packet)
+    (λ n. ap (λ (h : SegmentFields). h.flags) (header_of_unit (part_at room mid packet n) (part_is room mid small packet n).header))
+    (some_parts room packet some long)
 
 pub parts_are_series : (room mid : ℕ) (packet : List ℕ) → 0 < room → mid < 64 → 0 < length packet → IsSeries (map unit_made (segments_of_packet room mid packet))
 parts_are_series room mid packet some small long =
-    let count = segment_count room packet in
-    subst IsSeries (sym (units_of_parts room mid packet (range_with_len 0 count)))
-    (series_of_parts count (λ n. unit_made (part_at room mid packet n))
-    (λ n. ap (λ (h : SegmentFields). h.flags) (header_of_unit (part_at room mid packet n) (part_is room mid small packet n).header))
-    (some_parts room packet some long))
+    subst IsSeries (sym (units_of_parts room mid packet (range_with_len 0 (segment_count room packet)))) (units_are_series room mid packet some small long)
 
 -- ---- a series first of all
 

@@ -1,6 +1,6 @@
 -- The packets of a virtual channel without segment headers, and the segments that they are.
 use Rattle.std.proofs.Common.{◌≡◌, ℕ, zero, suc, ◌+◌, ◌-◌, ◌*◌, ◌<◌, ◌≤◌, Bool, false, true, List, [], ◌∷◌, ◌++◌, length, take, drop, map, flat_map, inl, inr, refl, sym, ◌∙◌, ap, subst, arith, length-take, length-take-le}
-use Rattle.std.specs.List.{AllByRecursion, slice_index_or}
+use Rattle.std.specs.List.{AllByRecursion, range_with_len, slice_index_or}
 use Rattle.std.proofs.lemmas.Bool.Decides.{leb_tells}
 use Rattle.std.proofs.lemmas.List.{get_or-drop, get_or-take, get_or_past, map-id, take_all}
 use Rattle.sl_fields.specs.SegmentHeader.{SegmentFields}
@@ -10,10 +10,10 @@ use Rattle.sl_tcframe.specs.TcFrame.{TcFormat}
 use Rattle.sl_tcflow.specs.FitsTc.{FitsOn}
 use Rattle.sl_tcflow.specs.Reception.{packets_on}
 use Rattle.sl_tcflow.specs.Series.{segment_in, segments_on, whole_segment}
-use Rattle.sl_tcflow.specs.TcNormalForm.{segment_count, segments_of_packet, units_of_maps}
+use Rattle.sl_tcflow.specs.TcNormalForm.{segment_count, piece_at, flags_at, units_of_maps}
 use Rattle.sl_tcflow.proofs.EachLemmas.{each-at}
 use Rattle.sl_tcflow.proofs.PartLemmas.{packet_size, packets_back}
-use Rattle.sl_tcflow.proofs.SegmentLemmas.{on_all, on_none, packets_parts, parts_of_map, unit_made, units_are_packets, units_are_segments}
+use Rattle.sl_tcflow.proofs.SegmentLemmas.{on_all, on_none, packets_parts, part_at, parts_of_map, segments_of_packet, unit_made, units_are_packets, units_are_segments}
 
 -- ---- the lists of a virtual channel
 
@@ -49,7 +49,9 @@ one_part packet is = let size = packet_size packet is in omega (arith, size.0, s
 whole_part : (packet : List ℕ) → IsPacket packet → segments_of_packet most 0 packet ≡ (record { flags = 3; map = 0 }, packet) ∷ []
 whole_part packet is =
     let one = one_part packet is in
-    rw one (ap (λ (octets : List ℕ). (let h : SegmentFields = record { flags = 3; map = 0 } in h, octets) ∷ []) (take_all most packet (packet_size packet is).1))
+    ap (λ n. map (part_at most 0 packet) (range_with_len 0 n)) one
+    ∙ ap (λ n. (let h : SegmentFields = record { flags = flags_at n 0; map = 0 } in h, piece_at most packet 0) ∷ []) one
+    ∙ ap (λ (octets : List ℕ). (let h : SegmentFields = record { flags = 3; map = 0 } in h, octets) ∷ []) (take_all most packet (packet_size packet is).1)
 
 whole_parts : (packets : List (List ℕ)) → AllByRecursion IsPacket packets
     → map whole_segment packets ≡ map unit_made (flat_map (segments_of_packet most 0) packets)

@@ -2,14 +2,14 @@
 use Rattle.std.proofs.Common.{◌≡◌, ℕ, zero, suc, ◌+◌, ◌-◌, ◌*◌, ◌%◌, ◌<◌, ◌≤◌, min, ◌==◌, Bool, false, if◌then◌else◌, List, [], ◌∷◌, ◌++◌, length, take, drop, map, inl, inr, refl, sym, subst, ◌∙◌, ap, arith, length-append, append_assoc, append-nil, add-one}
 use Rattle.std.specs.List.{concat, range_with_len}
 use Rattle.std.proofs.lemmas.Bool.Decides.{leb_tells, nat_tests}
-use Rattle.std.proofs.lemmas.List.{drop-drop, length-drop, map-append}
+use Rattle.std.proofs.lemmas.List.{drop-drop, length-drop}
 use Rattle.std.proofs.lemmas.List.Folds.{concat-append}
 use Rattle.std.proofs.lemmas.List.FromFn.{map-range_with_len_more}
 use Rattle.std.proofs.Math.Nat.{suc-mul, zero-mul, div-lt_iff_lt-mul, le-div_iff_mul-le}
 use Rattle.sl_fields.specs.SegmentHeader.{SegmentFields}
 use Rattle.sl_tcframe.specs.AdFrame.{ad_frame, segment_unit}
 use Rattle.sl_tcframe.specs.TcFrame.{TcFormat}
-use Rattle.sl_tcflow.specs.TcNormalForm.{segment_count, piece_at, flags_at, units_of_packet, frames_of_units}
+use Rattle.sl_tcflow.specs.TcNormalForm.{segment_count, flags_at, segment_of, units_of_packet, frames_of_units}
 
 module _ (format : TcFormat) (spacecraft vc : ℕ) where
   abbrev frames_from : ℕ → List (List ℕ) → List (List ℕ)
@@ -88,15 +88,12 @@ is_last_one room packet number some there =
     ]
 
 module _ (format : TcFormat) (spacecraft vc mid : ℕ) (base : List ℕ) (ns room : ℕ) (packet : List ℕ) where
-  abbrev segment_at : ℕ → SegmentFields × List ℕ
-  segment_at number = (record { flags = flags_at (segment_count room packet) number; map = mid }, piece_at room packet number)
-
-  abbrev unit_at : SegmentFields × List ℕ → List ℕ
-  unit_at s = segment_unit s.0 s.1
+  abbrev unit_at : ℕ → List ℕ
+  unit_at = segment_of room mid packet
 
   -- the units of so many segments
   abbrev units_to : ℕ → List (List ℕ)
-  units_to number = map unit_at (map segment_at (range_with_len 0 number))
+  units_to number = map unit_at (range_with_len 0 number)
 
   -- so many segments of the packet were added, and these octets are left
   pub record IsDivided (left : List ℕ) (next : ℕ) (form : List ℕ) : Type 0 where
@@ -131,17 +128,16 @@ module _ (format : TcFormat) (spacecraft vc mid : ℕ) (base : List ℕ) (ns roo
       let last_is : last ≡ (s.number + 1 == count) = is_last ∙ ap (λ n. n == 0) (rest ∙ ap (λ n. n - room) size) ∙ is_last_one room packet s.number some more in
       let flags : (if first then (if last then 3 else 1) else (if last then 2 else 0)) ≡ flags_at count s.number = rw (first_is, last_is) (sym (flags_are count s.number more)) in
       let next_frame = ad_frame format spacecraft vc next (segment_unit (record { flags = if first then (if last then 3 else 1) else (if last then 2 else 0); map = mid }) octets) in
-      let same : next_frame ≡ ad_frame format spacecraft vc (next % 256) (unit_at (segment_at s.number)) = same_frame next (next % 256) _ _ octets _ (omega arith) flags (taken ∙ ap (take room) s.left_is) in
+      let same : next_frame ≡ ad_frame format spacecraft vc (next % 256) (unit_at s.number) = same_frame next (next % 256) _ _ octets _ (omega arith) flags (taken ∙ ap (take room) s.left_is) in
       let one = suc-mul s.number room in
       record {
         number = suc s.number;
         left_is = dropped ∙ ap (drop room) s.left_is ∙ drop-drop room (s.number * room) packet ∙ ap (λ n. drop n packet) (omega (arith, one));
         so_far = more;
         pushed = subst (λ units. IsPushed format spacecraft vc base ns units next' form')
-            (sym (map-append unit_at (map segment_at (range_with_len 0 s.number)) (segment_at s.number ∷ []))
-            ∙ ap (map unit_at) (sym (map-range_with_len_more segment_at 0 s.number s.number (omega arith)) ∙ ap (λ n. map segment_at (range_with_len 0 n)) (add-one s.number)))
-            (pushed_more format spacecraft vc base ns (units_to s.number) (unit_at (segment_at s.number) ∷ []) next next' form form' s.pushed
-            (added ∙ ap (λ l. form ++ l) (same ∙ sym (append-nil (ad_frame format spacecraft vc (next % 256) (unit_at (segment_at s.number)))))) up);
+            (sym (map-range_with_len_more unit_at 0 s.number s.number (omega arith)) ∙ ap (λ n. map unit_at (range_with_len 0 n)) (add-one s.number))
+            (pushed_more format spacecraft vc base ns (units_to s.number) (unit_at s.number ∷ []) next next' form form' s.pushed
+            (added ∙ ap (λ l. form ++ l) (same ∙ sym (append-nil (ad_frame format spacecraft vc (next % 256) (unit_at s.number))))) up);
       }
     where
       same_frame : (ns ns' flags flags' : ℕ) (octets octets' : List ℕ) → ns ≡ ns' → flags ≡ flags' → octets ≡ octets'

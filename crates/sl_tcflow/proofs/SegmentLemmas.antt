@@ -1,6 +1,6 @@
 -- Segments of packets as the units that they are in frames, and these on their MAPs.
 use Rattle.std.proofs.Common.{◌≡◌, ◌≢◌, ℕ, zero, suc, ◌+◌, ◌*◌, ◌<◌, ◌≤◌, ◌==◌, true, false, List, [], ◌∷◌, ◌++◌, length, drop, map, flat_map, refl, sym, ◌∙◌, ap, ap₂, arith, append-nil, eq-eqb, ne_eqb}
-use Rattle.std.specs.List.{AllByRecursion, slice_index_or}
+use Rattle.std.specs.List.{AllByRecursion, range_with_len, slice_index_or}
 use Rattle.std.proofs.lemmas.Bool.Decides.{nat_tests}
 use Rattle.std.proofs.lemmas.List.{drop_at, take_at, map-append, length-take}
 use Rattle.std.proofs.lemmas.List.Elements.{filter-append}
@@ -11,7 +11,7 @@ use Rattle.sl_fields.proofs.Octets.{length-octets_of}
 use Rattle.sl_fields.proofs.Packing.{packed_lt}
 use Rattle.sl_fields.proofs.SegmentHeaderLemmas.{segment_layout}
 use Rattle.sl_tcflow.specs.Series.{header_at, segment_data, segments_on}
-use Rattle.sl_tcflow.specs.TcNormalForm.{segment_count, piece_at, flags_at, segments_of_packet, units_of_packet, units_of_maps}
+use Rattle.sl_tcflow.specs.TcNormalForm.{segment_count, piece_at, flags_at, segment_of, units_of_packet, units_of_maps}
 use Rattle.sl_tcflow.proofs.EachLemmas.{each-append, each-weaker, each-map, each-flat_map, each-map_range, kept_all, kept_none}
 
 -- ---- a segment
@@ -69,6 +69,10 @@ module _ (room mid : ℕ) where
   abbrev pub part_at : List ℕ → ℕ → SegmentFields × List ℕ
   part_at packet number = (record { flags = flags_at (segment_count room packet) number; map = mid }, piece_at room packet number)
 
+  -- as their headers and their octets
+  abbrev pub segments_of_packet : List ℕ → List (SegmentFields × List ℕ)
+  segments_of_packet packet = map (part_at packet) (range_with_len 0 (segment_count room packet))
+
   pub part_is : mid < 64 → (packet : List ℕ) (number : ℕ) → IsSegment room (λ m. m ≡ mid) (part_at packet number)
   part_is small packet number =
       record {
@@ -77,11 +81,16 @@ module _ (room mid : ℕ) where
         on = refl;
       }
 
-  pub packet_parts : mid < 64 → (packet : List ℕ) → AllByRecursion (IsSegment room (λ m. m ≡ mid)) (segments_of_packet room mid packet)
+  pub packet_parts : mid < 64 → (packet : List ℕ) → AllByRecursion (IsSegment room (λ m. m ≡ mid)) (segments_of_packet packet)
   packet_parts small packet = each-map_range (IsSegment room (λ m. m ≡ mid)) (part_at packet) (part_is small packet) 0 (segment_count room packet)
 
-  pub packets_parts : mid < 64 → (packets : List (List ℕ)) → AllByRecursion (IsSegment room (λ m. m ≡ mid)) (flat_map (segments_of_packet room mid) packets)
-  packets_parts small packets = each-flat_map (IsSegment room (λ m. m ≡ mid)) (segments_of_packet room mid) (packet_parts small) packets
+  pub packets_parts : mid < 64 → (packets : List (List ℕ)) → AllByRecursion (IsSegment room (λ m. m ≡ mid)) (flat_map segments_of_packet packets)
+  packets_parts small packets = each-flat_map (IsSegment room (λ m. m ≡ mid)) segments_of_packet (packet_parts small) packets
+
+  -- which are the units of a packet
+  pub units_of_parts : (packet : List ℕ) (numbers : List ℕ) → map unit_made (map (part_at packet) numbers) ≡ map (segment_of room mid packet) numbers
+  units_of_parts packet [] = refl
+  units_of_parts packet (number ∷ numbers) = ap (λ l. segment_of room mid packet number ∷ l) (units_of_parts packet numbers)
 
 -- ---- those of a virtual channel's MAPs
 
@@ -93,7 +102,7 @@ segments_of_maps room mid (packets ∷ lists) = flat_map (segments_of_packet roo
 pub flat_units : (room mid : ℕ) (packets : List (List ℕ)) → flat_map (units_of_packet false room mid) packets ≡ map unit_made (flat_map (segments_of_packet room mid) packets)
 flat_units room mid [] = refl
 flat_units room mid (packet ∷ packets) =
-    ap (λ l. map unit_made (segments_of_packet room mid packet) ++ l) (flat_units room mid packets)
+    ap₂ (λ a b. a ++ b) (sym (units_of_parts room mid packet (range_with_len 0 (segment_count room packet)))) (flat_units room mid packets)
     ∙ sym (map-append unit_made (segments_of_packet room mid packet) (flat_map (segments_of_packet room mid) packets))
 
 pub units_are_segments : (room from : ℕ) (lists : List (List (List ℕ))) → units_of_maps false room from lists ≡ map unit_made (segments_of_maps room from lists)

@@ -2,7 +2,8 @@
 -- service data unit may be is the mission profile's.
 use Rattle.std.specs.Prelude.{◌≡◌, ℕ, ◌+◌, ◌==◌, ◌||◌, nat_le, Bool, if◌then◌else◌, List, [], ◌∷◌, ◌++◌, length, take, drop, map, Contains}
 use Rattle.std.specs.List.{AllByRecursion, concat, filter}
-use Rattle.sl_fields.specs.SegmentHeader.{SegmentFields, segment_header, segment_octets}
+use Rattle.sl_fields.specs.Field.{octets_of}
+use Rattle.sl_fields.specs.SegmentHeader.{SegmentFields, segment_header}
 
 -- the segment header of a segment, and the octets after it
 abbrev pub header_at : List ℕ → SegmentFields
@@ -12,9 +13,9 @@ abbrev pub segment_data : List ℕ → List ℕ
 segment_data segment = drop 1 segment
 
 -- the segment that a unit is. On a virtual channel without segment headers it is whole, on MAP 0: all its octets, as
--- after a segment header that says no segmentation.
+-- after a segment header with sequence flags 3, no segmentation, and MAP 0.
 abbrev pub whole_segment : List ℕ → List ℕ
-whole_segment unit = segment_octets (record { flags = 3; map = 0 }) ++ unit
+whole_segment unit = octets_of 1 ((2, 3) ∷ (6, 0) ∷ []) ++ unit
 
 abbrev pub segment_in : Bool → List ℕ → List ℕ
 segment_in plain unit = if plain then whole_segment unit else unit

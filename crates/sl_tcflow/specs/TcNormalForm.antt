@@ -1,13 +1,13 @@
 -- The normal form of a TC recording: the delivered packets of each virtual channel and MAP in frames of type AD
 -- that have nothing of the recording's own. All of it is this project's mission profile; the frames are those of
 -- CCSDS 232.0-B.
-use Rattle.std.specs.Prelude.{◌≡◌, ℕ, ◌+◌, ◌-◌, ◌*◌, ◌/◌, ◌%◌, ◌<◌, ◌≤◌, ◌==◌, Bool, if◌then◌else◌, List, [], ◌∷◌, ◌++◌, length, take, drop, map, flat_map}
+use Rattle.std.specs.Prelude.{◌≡◌, ℕ, ◌+◌, ◌-◌, ◌*◌, ◌/◌, ◌%◌, ◌<◌, ◌≤◌, ◌==◌, Bool, false, if◌then◌else◌, List, [], ◌∷◌, ◌++◌, length, take, drop, map, flat_map}
 use Rattle.std.specs.List.{AllByRecursion, concat, range_with_len, slice_index_or}
-use Rattle.sl_fields.specs.SegmentHeader.{SegmentFields}
-use Rattle.sl_tcframe.specs.AdFrame.{segment_room_of, ad_frame, segment_unit}
+use Rattle.sl_fields.specs.Field.{octets_of}
+use Rattle.sl_tcframe.specs.AdFrame.{segment_room_of, ad_frame}
 use Rattle.sl_tcframe.specs.TcFrame.{TcFormat}
 use Rattle.sl_tcframe.specs.VcSet.{has_vc}
-use Rattle.sl_tcflow.specs.Series.{IsSeries}
+use Rattle.sl_tcflow.specs.Series.{IsSeries, header_at, reassembled, segment_data}
 
 -- how many segments a packet needs: each is full but the last, which has one octet or more
 abbrev pub segment_count : ℕ → List ℕ → ℕ
@@ -25,16 +25,15 @@ flags_at count number =
     else if number + 1 == count then 2
     else 0
 
--- the segments of a packet on a MAP, as their headers and their octets
-abbrev pub segments_of_packet : ℕ → ℕ → List ℕ → List (SegmentFields × List ℕ)
-segments_of_packet room mid packet =
-    let count : ℕ = segment_count room packet in
-    map (λ number. (record { flags = flags_at count number; map = mid }, piece_at room packet number)) (range_with_len 0 count)
+-- that segment, on a MAP: its header, the sequence flags and the MAP with their widths, and its octets
+abbrev pub segment_of : ℕ → ℕ → List ℕ → ℕ → List ℕ
+segment_of room mid packet number =
+    octets_of 1 ((2, flags_at (segment_count room packet) number) ∷ (6, mid) ∷ []) ++ piece_at room packet number
 
 -- the units of a packet: its segments, or itself on a virtual channel without segment headers
 abbrev pub units_of_packet : Bool → ℕ → ℕ → List ℕ → List (List ℕ)
 units_of_packet plain room mid packet =
-    if plain then packet ∷ [] else map (λ s. segment_unit s.0 s.1) (segments_of_packet room mid packet)
+    if plain then packet ∷ [] else map (segment_of room mid packet) (range_with_len 0 (segment_count room packet))
 
 -- those of the packets of a virtual channel's MAPs, 64 lists by rising MAP
 abbrev pub units_of_maps : Bool → ℕ → ℕ → List (List (List ℕ)) → List (List ℕ)
@@ -71,15 +70,15 @@ pub data AreSegments (room : ℕ) : List (List ℕ) → Type 0 where
   full : (octets : List ℕ) (later : List (List ℕ)) → length octets ≡ room → AreSegments room later → AreSegments room (octets ∷ later)
 
 -- A packet is divided into these segments.
-pub record IsDividedInto (room mid : ℕ) (packet : List ℕ) (segments : List (SegmentFields × List ℕ)) : Type 0 where
-  pub filled : AreSegments room (map (λ s. s.1) segments)
-  pub end_to_end : concat (map (λ s. s.1) segments) ≡ packet
-  pub series : IsSeries (map (λ s. segment_unit s.0 s.1) segments)
-  pub on_map : AllByRecursion (λ s. s.0.map ≡ mid) segments
+pub record IsDividedInto (room mid : ℕ) (packet : List ℕ) (segments : List (List ℕ)) : Type 0 where
+  pub filled : AreSegments room (map segment_data segments)
+  pub end_to_end : reassembled segments ≡ packet
+  pub series : IsSeries segments
+  pub on_map : AllByRecursion (λ segment. (header_at segment).map ≡ mid) segments
 
 -- ---- laws
 
 -- each packet is divided into its segments
 abbrev pub EachIsDivided : Type 0
 EachIsDivided =
-    (room mid : ℕ) (packet : List ℕ) → 0 < room → mid < 64 → 0 < length packet → IsDividedInto room mid packet (segments_of_packet room mid packet)
+    (room mid : ℕ) (packet : List ℕ) → 0 < room → mid < 64 → 0 < length packet → IsDividedInto room mid packet (units_of_packet false room mid packet)

@@ -1,5 +1,5 @@
 -- A frame of type AD as it is made, and as it is read back.
-use Rattle.std.proofs.Common.{◌≡◌, ℕ, ◌+◌, ◌<◌, ◌≤◌, ◌==◌, nat_lt, true, false, not, ◌&&◌, List, [], ◌∷◌, ◌++◌, length, Option, Some, None, Ok, if◌then◌else◌, refl, sym, ◌∙◌, ap, arith, append_assoc, length-append}
+use Rattle.std.proofs.Common.{◌≡◌, ℕ, ◌+◌, ◌-◌, ◌<◌, ◌≤◌, ◌==◌, nat_lt, true, false, not, ◌&&◌, List, [], ◌∷◌, ◌++◌, length, Option, Some, None, Ok, if◌then◌else◌, refl, sym, ◌∙◌, ap, arith, append_assoc, length-append}
 use Rattle.std.proofs.lemmas.Bool.{eq-eqb, ne_eqb, le-ltb}
 use Rattle.sl_fields.specs.FecfField.{fecf_part}
 use Rattle.sl_fields.specs.Field.{packed}
@@ -12,8 +12,22 @@ use Rattle.sl_fields.proofs.TcHeaderLemmas.{tc_layout}
 use Rattle.sl_tcframe.specs.declared.tc_frame.TcSkip.{TcSkip}
 use Rattle.sl_tcframe.specs.declared.tc_frame.TcSkip.TheVariants.{Fecf, Version, Spacecraft, Long, Kind, Empty}
 use Rattle.sl_tcframe.specs.TcFrame.{TcFormat, TcParts, ArePartsOf, Ad, tc_header_of, tc_parts_of, is_cut, content_of, unit_content, early_reason, read_as, tc_frame}
-use Rattle.sl_tcframe.specs.AdFrame.{FitAdFrame, ad_header, ad_len, ad_frame}
+use Rattle.sl_tcframe.specs.AdFrame.{FitAdFrame, ad_len, ad_frame}
 use Rattle.sl_tcframe.proofs.PartLemmas.{only_parts, parts_cut}
+
+-- the header of a frame of type AD of so many octets, which reads back
+abbrev ad_header : ℕ → ℕ → ℕ → ℕ → TcFields
+ad_header spacecraft vc ns len =
+    record {
+      version = 0;
+      bypass = false;
+      command = false;
+      spare = 0;
+      spacecraft = spacecraft;
+      vc = vc;
+      length = len - 1;
+      ns = ns;
+    }
 
 -- a data field of one octet or more under a header of type AD
 unit_is : (h : TcFields) (field : List ℕ) → h.bypass ≡ false → 0 < length field → unit_content h field ≡ Some (Ad h.ns field)

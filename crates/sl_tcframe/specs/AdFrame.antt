@@ -1,8 +1,8 @@
 -- The TC transfer frame of type AD that is written.
-use Rattle.std.specs.Prelude.{◌≡◌, ℕ, ◌+◌, ◌-◌, ◌<◌, ◌≤◌, true, false, List, ◌++◌, length, Ok}
+use Rattle.std.specs.Prelude.{◌≡◌, ℕ, ◌+◌, ◌-◌, ◌<◌, ◌≤◌, true, List, [], ◌∷◌, ◌++◌, length, Ok}
 use Rattle.sl_fields.specs.FecfField.{fecf_len, with_fecf}
+use Rattle.sl_fields.specs.Field.{octets_of}
 use Rattle.sl_fields.specs.SegmentHeader.{SegmentFields, segment_octets}
-use Rattle.sl_fields.specs.TcHeader.{TcFields, tc_octets}
 use Rattle.sl_tcframe.specs.TcFrame.{TcFormat, Ad, is_cut, tc_frame}
 
 -- how many octets a data field has at most
@@ -13,19 +13,10 @@ plain_room_of format = format.max - 5 - fecf_len format.fecf
 abbrev pub segment_room_of : TcFormat → ℕ
 segment_room_of format = format.max - 6 - fecf_len format.fecf
 
--- the header of a frame of so many octets
-abbrev pub ad_header : ℕ → ℕ → ℕ → ℕ → TcFields
-ad_header spacecraft vc ns len =
-    record {
-      version = 0;
-      bypass = false;
-      command = false;
-      spare = 0;
-      spacecraft = spacecraft;
-      vc = vc;
-      length = len - 1;
-      ns = ns;
-    }
+-- The fields of the header of a frame of so many octets, with their widths: version 0, bypass flag and control command
+-- flag 0, spare bits 0, the spacecraft, the virtual channel, the frame length, 1 less than the octets, and N(S).
+abbrev pub ad_fields : ℕ → ℕ → ℕ → ℕ → List (ℕ × ℕ)
+ad_fields spacecraft vc ns len = (2, 0) ∷ (1, 0) ∷ (1, 0) ∷ (2, 0) ∷ (10, spacecraft) ∷ (6, vc) ∷ (10, len - 1) ∷ (8, ns) ∷ []
 
 -- how many octets a frame has with so many in its data field
 abbrev pub ad_len : TcFormat → ℕ → ℕ
@@ -34,7 +25,7 @@ ad_len format octets = 5 + octets + fecf_len format.fecf
 -- a frame of type AD, with its N(S) and the unit that its data field is
 abbrev pub ad_frame : TcFormat → ℕ → ℕ → ℕ → List ℕ → List ℕ
 ad_frame format spacecraft vc ns unit =
-    with_fecf format.fecf (tc_octets (ad_header spacecraft vc ns (ad_len format (length unit))) ++ unit)
+    with_fecf format.fecf (octets_of 5 (ad_fields spacecraft vc ns (ad_len format (length unit))) ++ unit)
 
 -- the unit that a segment is: its header, and its octets
 abbrev pub segment_unit : SegmentFields → List ℕ → List ℕ

@@ -1,8 +1,8 @@
 //! The TC transfer frame of type AD, as it is written.
 ghost use Rattle.std.specs.Prelude.{◌≡◌, ◌+◌, ◌<◌, ◌≤◌, ◌++◌, length, vec_len, OnOk, OnErr};
 ghost use Rattle.std.specs.Vec.{vec_capacity};
-ghost use Rattle.sl_fields.specs.TcHeader.{tc_octets};
-ghost use Rattle.sl_tcframe.specs.AdFrame.{ad_frame, ad_header, ad_len, plain_room_of, segment_room_of, segment_unit};
+ghost use Rattle.sl_fields.specs.Field.{octets_of};
+ghost use Rattle.sl_tcframe.specs.AdFrame.{ad_fields, ad_frame, ad_len, plain_room_of, segment_room_of, segment_unit};
 
 use crate::tc_shape::TcShape;
 use sl_fields::{SegmentHeader, TcHeader, fecf_field};
@@ -110,7 +110,7 @@ fn frame_header(spacecraft: u16, vc: u8, ns: u8, len: u16) -> [u8; 5]
     requires vc { vc ≤ 63 }
     requires least { 1 ≤ len }
     requires most { len ≤ 1024 }
-    ensures { result ≡ tc_octets (ad_header spacecraft vc ns len) }
+    ensures { result ≡ octets_of 5 (ad_fields spacecraft vc ns len) }
 {
     match TcHeader::new(0, false, false, 0, spacecraft, vc, len - 1, ns) {
         Some(header) => header.write(),

@@ -7,9 +7,9 @@ use Rattle.std.proofs.Math.Nat.{add-mul-div_right, suc-mul, zero-mul, one-mul, z
 use Rattle.std.proofs.Math.Seq.{drop-append_seam, take-append_seam}
 use Rattle.sl_fields.proofs.FecfLemmas.{fecf_len_le}
 use Rattle.sl_fields.proofs.Octets.{length-octets_of}
-use Rattle.sl_fields.specs.TmHeader.{tm_fields, tm_octets}
+use Rattle.sl_fields.specs.Field.{octets_of}
 use Rattle.sl_tmframe.proofs.PacketFrameLemmas.{with_fecf_whole}
-use Rattle.sl_tmframe.specs.PacketFrame.{packet_frame_header, field_room_of}
+use Rattle.sl_tmframe.specs.PacketFrame.{field_room_of, frame_fields}
 use Rattle.sl_tmframe.specs.TmFrame.{TmFormat}
 use Rattle.sl_tmflow.specs.FormLeft.{field_frames, fields_in, beyond_fields, filled_up, headed_frame, heading_after}
 use Rattle.sl_tmflow.specs.declared.form.Heading.{Heading}
@@ -59,8 +59,8 @@ next_field format heading first left field later roomy divided whole =
 pub frame_size : (format : TmFormat) (heading : Heading) (first : Option ℕ) (field : List ℕ) → 8 ≤ format.len → length field ≡ field_room_of format
     → length (headed_frame format heading first field) ≡ format.len
 frame_size format heading first field long whole =
-    let header = packet_frame_header heading.spacecraft heading.vc heading.master heading.counter first in
-    with_fecf_whole format (tm_octets header) field long (length-octets_of 6 (tm_fields header)) whole
+    let header = frame_fields heading.spacecraft heading.vc heading.master heading.counter first in
+    with_fecf_whole format (octets_of 6 header) field long (length-octets_of 6 header) whole
 
 -- ---- frames that were pushed so far
 

@@ -10,10 +10,27 @@ use Rattle.sl_fields.proofs.Octets.{length-octets_of}
 use Rattle.sl_fields.proofs.Packing.{packed_lt}
 use Rattle.sl_fields.proofs.TmHeaderLemmas.{tm_layout}
 use Rattle.sl_tmframe.specs.TmFrame.{TmFormat, TmParts, TmView, DataField, Packets, tm_header_of, tm_parts_of, skip_reason, class_of, view_of, read_as, tm_frame}
-use Rattle.sl_tmframe.specs.PacketFrame.{FitFrame, field_room_of, pointer_value, packet_frame_header, packet_frame, packet_view}
+use Rattle.sl_tmframe.specs.PacketFrame.{FitFrame, field_room_of, pointer_value, packet_frame, packet_view}
 use Rattle.sl_tmframe.specs.declared.tm_frame.TmSkip.{TmSkip}
 use Rattle.sl_tmframe.specs.declared.tm_frame.TmSkip.TheVariants.{Fecf, Version, Spacecraft}
 use Rattle.sl_tmframe.proofs.PartLemmas.{only_parts}
+
+-- the header of a frame of packets, which reads back
+abbrev pub packet_frame_header : ℕ → ℕ → ℕ → ℕ → Option ℕ → TmFields
+packet_frame_header spacecraft vc mc vcc first =
+    record {
+      version = 0;
+      spacecraft = spacecraft;
+      vc = vc;
+      control = false;
+      mc = mc;
+      vcc = vcc;
+      secondary = false;
+      sync = false;
+      order = false;
+      segment = 3;
+      first = pointer_value first;
+    }
 
 -- the header as it is made, with 2047 for no pointer
 pub header_is : (spacecraft vc mc vcc pointer : ℕ) (first : Option ℕ) (header : TmFields)

@@ -1,8 +1,8 @@
 -- The TM transfer frame of packets that is written: without an operational control field, a secondary
 -- header or the synchronisation flag.
-use Rattle.std.specs.Prelude.{◌≡◌, ℕ, ◌-◌, ◌<◌, ◌≤◌, false, List, ◌++◌, length, Option, None, Some, IfSome, Ok}
+use Rattle.std.specs.Prelude.{◌≡◌, ℕ, ◌-◌, ◌<◌, ◌≤◌, List, [], ◌∷◌, ◌++◌, length, Option, None, Some, IfSome, Ok}
 use Rattle.sl_fields.specs.FecfField.{fecf_len, with_fecf}
-use Rattle.sl_fields.specs.TmHeader.{TmFields, tm_octets}
+use Rattle.sl_fields.specs.Field.{octets_of}
 use Rattle.sl_tmframe.specs.TmFrame.{TmFormat, TmView, Packets, tm_frame}
 
 -- how many octets a data field has, where there is no operational control field
@@ -14,26 +14,18 @@ abbrev pub pointer_value : Option ℕ → ℕ
 pointer_value None = 2047
 pointer_value (Some first) = first
 
-abbrev pub packet_frame_header : ℕ → ℕ → ℕ → ℕ → Option ℕ → TmFields
-packet_frame_header spacecraft vc mc vcc first =
-    record {
-      version = 0;
-      spacecraft = spacecraft;
-      vc = vc;
-      control = false;
-      mc = mc;
-      vcc = vcc;
-      secondary = false;
-      sync = false;
-      order = false;
-      segment = 3;
-      first = pointer_value first;
-    }
+-- The fields of its header, with their widths: version 0, the spacecraft, the virtual channel, no operational control
+-- field, the two frame counts, no secondary header, no synchronisation flag, packet order flag 0, segment length
+-- identifier 3, and the pointer.
+abbrev pub frame_fields : ℕ → ℕ → ℕ → ℕ → Option ℕ → List (ℕ × ℕ)
+frame_fields spacecraft vc mc vcc first =
+    (2, 0) ∷ (10, spacecraft) ∷ (3, vc) ∷ (1, 0) ∷ (8, mc) ∷ (8, vcc) ∷ (1, 0) ∷ (1, 0) ∷ (1, 0) ∷ (2, 3)
+    ∷ (11, pointer_value first) ∷ []
 
 -- a frame of packets, with its counts, its first header pointer and its data field
 abbrev pub packet_frame : TmFormat → ℕ → ℕ → ℕ → ℕ → Option ℕ → List ℕ → List ℕ
 packet_frame format spacecraft vc mc vcc first field =
-    with_fecf format.fecf (tm_octets (packet_frame_header spacecraft vc mc vcc first) ++ field)
+    with_fecf format.fecf (octets_of 6 (frame_fields spacecraft vc mc vcc first) ++ field)
 
 -- ---- laws
 

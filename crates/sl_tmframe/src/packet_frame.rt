@@ -1,8 +1,8 @@
 //! The TM transfer frame of packets, as it is written.
 ghost use Rattle.std.specs.Prelude.{◌≡◌, ◌+◌, ◌<◌, ◌≤◌, ◌++◌, length, IfSome, OnOk, OnErr};
 ghost use Rattle.std.specs.Vec.{vec_len, vec_capacity};
-ghost use Rattle.sl_fields.specs.TmHeader.{tm_octets};
-ghost use Rattle.sl_tmframe.specs.PacketFrame.{packet_frame, packet_frame_header, field_room_of};
+ghost use Rattle.sl_fields.specs.Field.{octets_of};
+ghost use Rattle.sl_tmframe.specs.PacketFrame.{packet_frame, frame_fields, field_room_of};
 
 use crate::tm_shape::TmShape;
 use sl_fields::{TmHeader, fecf_field};
@@ -53,7 +53,7 @@ fn frame_header(spacecraft: u16, vc: u8, mc: u8, vcc: u8, first: Option<u16>) ->
     requires spacecraft { spacecraft ≤ 1023 }
     requires vc { vc ≤ 7 }
     requires first { IfSome first (λ first. first < 2046) }
-    ensures { result ≡ tm_octets (packet_frame_header spacecraft vc mc vcc first) }
+    ensures { result ≡ octets_of 6 (frame_fields spacecraft vc mc vcc first) }
 {
     let pointer = first.unwrap_or(NONE_STARTS);
     match TmHeader::new(

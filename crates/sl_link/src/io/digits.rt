@@ -1,5 +1,5 @@
 //! Numbers in decimal, as the crate `itoa` writes them.
-ghost use Rattle.std.specs.Prelude.{◌≡◌, ◌*◌, ◌≤◌, ◌<◌, ◌^◌, ℕ, [], decimal, slice_index_or, take};
+ghost use Rattle.std.specs.Prelude.{◌≡◌, ◌*◌, ◌≤◌, ◌<◌, ◌^◌, ℕ, [], decimal, slice_index_or, take, IfSome};
 ghost use Rattle.sl_link.specs.Io.Digits.{AreDigits, AreLeading, four_digits, two_digits};
 
 use itoa::{Buffer, write_digits};
@@ -62,22 +62,30 @@ impl Decimals {
         [first, second]
     }
 
-    /// The leading digits of a long number, given as the number that they are: places that begin with them, and how many
-    /// they are. Offsets rise little by little, so they are mostly those of the call before, and nothing is worked out.
+    /// The leading digits of a long number, given as the number that they are, where they were those of the number before:
+    /// places that begin with them, and how many they are. They mostly were, since offsets rise little by little.
     #[inline(always)]
-    pub fn leading(&mut self, number: u64) -> ([u8; 16], usize)
+    pub fn leading(&self, number: u64) -> Option<([u8; 16], usize)>
+        ensures digits { IfSome result (λ leading. take leading.1 leading.0 ≡ decimal number) }
+        ensures few { IfSome result (λ leading. leading.1 ≤ 16) }
+    {
+        if self.leading.number != number {
+            return None;
+        }
+        Some((self.leading.places, self.leading.many))
+    }
+
+    /// The same, worked out, and kept for the next number.
+    pub fn new_leading(&mut self, number: u64) -> ([u8; 16], usize)
         requires { number * 10000 < 2 ^ 64 }
         ensures digits { take result.1 result.0 ≡ decimal number }
         ensures few { result.1 ≤ 16 }
     {
-        if self.leading.number != number {
-            self.leading = leading_of(number);
-        }
+        self.leading = leading_of(number);
         (self.leading.places, self.leading.many)
     }
 }
 
-#[cold]
 fn leading_of(number: u64) -> Leading
     requires { number * 10000 < 2 ^ 64 }
     ensures { result.number ≡ number }

@@ -123,29 +123,44 @@ impl Lines {
         ensures text { self.new ≡ self.old ++ decimal number }
         ensures long { length self.new ≤ length self.old + 20 }
     {
-        let digits = self.decimals.last_four((number % 10_000) as u16);
-        let leading = number / 10_000;
-        if leading > 0 {
-            self.push_leading(leading);
-            self.push(&digits);
+        let last = self.decimals.last_four((number % 10_000) as u16);
+        if number >= 10_000 {
+            match self.decimals.leading(number / 10_000) {
+                Some(leading) => self.push_two(leading, &last),
+                // Nothing stays to be done after that call, so nothing is saved for it where it isn't made.
+                None => self.push_anew(number / 10_000, &last),
+            }
         } else if number >= 1000 {
-            self.push(&digits);
+            self.push(&last);
         } else {
-            let [_, hundreds, tens, units] = digits;
+            let [_, hundreds, tens, units] = last;
             self.push(&[hundreds, tens, units]);
         }
     }
 
-    // Adds the leading digits of a long number.
-    #[inline(always)]
-    fn push_leading(&mut self, leading: u64)
-        requires room { HasRoomFor 16 self.old }
+    // Adds leading digits that are new, and the last four.
+    #[cold]
+    fn push_anew(&mut self, leading: u64, last: &[u8; 4])
+        requires room { HasRoomFor 20 self.old }
         requires leading { leading * 10000 < 2 ^ 64 }
-        ensures text { self.new ≡ self.old ++ decimal leading }
-        ensures short { length self.new ≤ length self.old + 16 }
+        ensures text { self.new ≡ self.old ++ (decimal leading ++ last.now) }
+        ensures short { length self.new ≤ length self.old + 20 }
     {
-        let (places, many) = self.decimals.leading(leading);
+        let leading = self.decimals.new_leading(leading);
+        self.push_two(leading, last);
+    }
+
+    // Adds the first ones of these places, as many as are said, and the last four digits.
+    #[inline(always)]
+    fn push_two(&mut self, leading: ([u8; 16], usize), last: &[u8; 4])
+        requires room { HasRoomFor 20 self.old }
+        requires few { leading.1 ≤ 16 }
+        ensures text { self.new ≡ self.old ++ (take leading.1 leading.0 ++ last.now) }
+        ensures short { length self.new ≤ length self.old + 20 }
+    {
+        let (places, many) = leading;
         self.push_first(&places, many);
+        self.push(last);
     }
 
     /// Adds a number of one octet in decimal. Most numbers of a listing are such, and this is faster.

@@ -50,7 +50,7 @@ pub record HasProcessed (r : ReceptionParameters) (state : ReceiverState) (views
 abbrev pub IsWorking : ReceiverState → Type 0
 IsWorking state = (r : ReceptionParameters) × (views : List TcView) × HasProcessed r state views
 
--- A fault came at the last of these frames.
+-- A fault came, and the FARM-1s are as these frames leave them.
 pub record HasFailedAfter (r : ReceptionParameters) (state : ReceiverState) (views : List TcView) : Type 0 where
   pub failed : state.has_failed ≡ true
   pub farms : HaveStepped r state.farms views

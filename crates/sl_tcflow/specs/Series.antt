@@ -1,5 +1,4 @@
--- Segments and the series of them that carry one service data unit, CCSDS 232.0-B. How long a reassembled
--- service data unit may be is the mission profile's.
+-- Segments and the series of them that carry one service data unit, CCSDS 232.0-B.
 use Rattle.std.specs.Prelude.{◌≡◌, ℕ, ◌+◌, ◌==◌, ◌||◌, nat_le, Bool, if◌then◌else◌, List, [], ◌∷◌, ◌++◌, length, take, drop, map, Contains}
 use Rattle.std.specs.List.{AllByRecursion, concat, filter}
 use Rattle.sl_fields.specs.Field.{octets_of}
@@ -118,6 +117,7 @@ EachSeriesIsListed = (list : List (List ℕ)) (s : SeriesAt) → IsSeriesOf list
 abbrev pub SeriesAreApart : Type 0
 SeriesAreApart = (list : List (List ℕ)) → AreApart (series_of list)
 
--- That is so of the segment that a unit is on a virtual channel without segment headers.
+-- The segment that a unit is on a virtual channel without segment headers has no segmentation, is on MAP 0, and has all
+-- octets of the unit.
 abbrev pub PlainUnitIsWhole : Type 0
 PlainUnitIsWhole = (unit : List ℕ) → HasNoSegmentation unit (segment_in Bool.true unit)

@@ -40,7 +40,7 @@ abbrev pub units_of_maps : Bool → ℕ → ℕ → List (List (List ℕ)) → L
 units_of_maps plain room mid [] = []
 units_of_maps plain room mid (packets ∷ lists) = flat_map (units_of_packet plain room mid) packets ++ units_of_maps plain room (mid + 1) lists
 
--- frames of type AD of these units, N(S) from a number on
+-- frames of type AD of these units, N(S) from a number on, modulo 256
 abbrev pub frames_of_units : TcFormat → ℕ → ℕ → ℕ → List (List ℕ) → List (List ℕ)
 frames_of_units format spacecraft vc ns [] = []
 frames_of_units format spacecraft vc ns (unit ∷ units) =

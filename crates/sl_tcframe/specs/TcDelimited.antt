@@ -10,8 +10,8 @@ abbrev pub begin_no_frame : TcFormat → List ℕ → Bool
 begin_no_frame format octets =
     nat_lt (length octets) 5 || (nat_lt (stated_frame_len octets) (least_of format) || nat_lt (length octets) (stated_frame_len octets))
 
--- The frames of a recording lie end to end from the first octet on, each as long as its frame length field says, up to
--- the first offset at which no frame begins. The octets from there on are the remainder.
+-- The frames of a recording lie end to end from the first octet on, each as long as its frame length field says and no
+-- shorter than the least, up to the first offset at which no frame begins. The octets from there on are the remainder.
 pub record IsTcDelimited (format : TcFormat) (recording : List ℕ) (frames : List (List ℕ)) (remainder : List ℕ) : Type 0 where
   pub end_to_end : recording ≡ concat frames ++ remainder
   pub each : AllByRecursion (λ frame. is_cut format frame ≡ true) frames

@@ -40,8 +40,8 @@ first_of room number offsets = option_map (λ offset. offset - number * room) (f
 
 -- ---- the frames
 
--- the frame of a number, from 0, of a virtual channel with these packets, filled up, of which the first
--- frame has this master channel frame count
+-- the frame of a number, from 0, of a virtual channel with these packets, filled up, before which there are so many
+-- frames of other virtual channels
 abbrev pub channel_frame : TmFormat → ℕ → ℕ → ℕ → List (List ℕ) → ℕ → List ℕ
 channel_frame format spacecraft vc mc packets number =
     packet_frame format spacecraft vc ((mc + number) % 256) (number % 256)

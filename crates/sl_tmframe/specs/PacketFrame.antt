@@ -15,8 +15,8 @@ pointer_value None = 2047
 pointer_value (Some first) = first
 
 -- The fields of its header, with their widths: version 0, the spacecraft, the virtual channel, no operational control
--- field, the two frame counts, no secondary header, no synchronisation flag, packet order flag 0, segment length
--- identifier 3, and the pointer.
+-- field, the master and the virtual channel frame count, no secondary header, no synchronisation flag, packet order flag
+-- 0, segment length identifier 3, and the pointer.
 abbrev pub frame_fields : ℕ → ℕ → ℕ → ℕ → Option ℕ → List (ℕ × ℕ)
 frame_fields spacecraft vc mc vcc first =
     (2, 0) ∷ (10, spacecraft) ∷ (3, vc) ∷ (1, 0) ∷ (8, mc) ∷ (8, vcc) ∷ (1, 0) ∷ (1, 0) ∷ (1, 0) ∷ (2, 3)

@@ -107,8 +107,8 @@ pub record StopsListing {W : Type 0} (contents : W → Option (List ℕ)) (old n
 -- ---- a whole engine, over its reader and its writer before and after the call
 
 module _ {R W : Type 0} (remaining : R → Option (List ℕ)) (contents : W → Option (List ℕ)) where
-  -- All was read, no more than the limit, the text of it was written and nothing else, and neither stream had a
-  -- fault.
+  -- All was read, no more than the limit, the text of it was written and nothing else, and the number of faults of
+  -- neither stream rose.
   pub record Translates (reader reader' : Counted R) (writer writer' : Counted W) (text : List ℕ → List ℕ) (limit : ℕ) : Type 0 where
     pub octets : List ℕ
     pub within : length octets ≤ limit

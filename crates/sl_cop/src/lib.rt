@@ -18,6 +18,3 @@ pub use farm_event::FarmEvent;
 pub use starts::Starts;
 pub use verdict::Verdict;
 pub use window::Window;
-
-#[cfg(test)]
-mod tests;

@@ -21,6 +21,3 @@ pub use packet::{first_packet, need};
 pub use packets::Packets;
 pub use partial::Need;
 pub use sink::{HandedOver, PacketSink, SinkFault, hand_over};
-
-#[cfg(test)]
-mod tests;

@@ -21,6 +21,3 @@ pub use form::{PIECE_ROOM, TcForm};
 pub use receiver::Receiver;
 pub use reframe::reframe_tc;
 pub use step::TcStep;
-
-#[cfg(test)]
-mod tests;

@@ -19,6 +19,3 @@ pub use tc_frame::{TcContent, TcFrame, TcSkip};
 pub use tc_framer::TcFramer;
 pub use tc_shape::TcShape;
 pub use vc_set::VcSet;
-
-#[cfg(test)]
-mod tests;

@@ -17,6 +17,3 @@ pub use extractor::Extractor;
 pub use form::TmForm;
 pub use reframe::reframe_tm;
 pub use step::TmStep;
-
-#[cfg(test)]
-mod tests;

@@ -15,6 +15,3 @@ pub use packet_frame::push_tm;
 pub use tm_frame::{TmField, TmFrame, TmSkip};
 pub use tm_framer::TmFramer;
 pub use tm_shape::TmShape;
-
-#[cfg(test)]
-mod tests;

@@ -1,7 +1,7 @@
 //! Virtual channels without segment headers. The expected values follow from the standard's bits.
 use super::receiver::{are, step_of};
 use super::reframe::{delivered_of, form_with};
-use crate::{Receiver, fits_tc};
+use sl_tcflow::{Receiver, fits_tc};
 use sl_cop::{Starts, Verdict, Window};
 use sl_packet::Delivered;
 use sl_tcframe::{TcShape, VcSet};

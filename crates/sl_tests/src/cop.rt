@@ -2,7 +2,7 @@
 //! the bits of the word.
 mod starts;
 
-use crate::{Farm, FarmEvent, Verdict, Window};
+use sl_cop::{Farm, FarmEvent, Verdict, Window};
 use std::test::Fail;
 
 // What becomes of a frame that is so much ahead of V(R): the positive part goes up to `last_early`, and the

@@ -1,5 +1,5 @@
 //! Sets of virtual channels, as they are made and read.
-use crate::VcSet;
+use sl_tcframe::VcSet;
 use std::test::Fail;
 
 // The set of virtual channels 0 and 63.

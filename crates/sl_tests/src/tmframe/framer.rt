@@ -1,5 +1,5 @@
 //! Frames out of a recording that comes in chunks.
-use crate::{TmFramer, TmShape};
+use sl_tmframe::{TmFramer, TmShape};
 use std::test::Fail;
 
 // Two frames of 32 octets, the second one of numbered octets, and six octets of a third one.

@@ -2,7 +2,7 @@
 //! control fields are known from outside.
 mod framer;
 
-use crate::{TmField, TmFrame, TmShape, TmSkip, push_tm};
+use sl_tmframe::{TmField, TmFrame, TmShape, TmSkip, push_tm};
 use sl_fields::ShapeFault;
 use std::test::Fail;
 

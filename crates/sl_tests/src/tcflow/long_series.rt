@@ -1,6 +1,6 @@
 //! Series of segments up to the greatest service data unit and past it.
 use super::receiver::{are, received, receiver};
-use crate::Receiver;
+use sl_tcflow::Receiver;
 use sl_cop::Verdict;
 use sl_fields::SegmentHeader;
 use sl_packet::Delivered;

@@ -1,5 +1,5 @@
 //! The initial V(R) of virtual channels, as they are given, changed and read.
-use crate::Starts;
+use sl_cop::Starts;
 use std::test::Fail;
 
 // V(R) 9 for all virtual channels but the least, which has 0, and the greatest, which has 255.

@@ -3,7 +3,7 @@
 mod framer;
 mod vc_set;
 
-use crate::{TcContent, TcFrame, TcShape, TcSkip, push_tc, push_tc_plain};
+use sl_tcframe::{TcContent, TcFrame, TcShape, TcSkip, push_tc, push_tc_plain};
 use sl_fields::{SegmentHeader, ShapeFault};
 use std::test::Fail;
 

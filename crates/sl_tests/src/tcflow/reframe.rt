@@ -1,6 +1,6 @@
 //! The normal form of known packets. The expected frames follow from the standard's bits.
 use super::receiver::{are, received, receiver};
-use crate::{fits_tc, reframe_tc};
+use sl_tcflow::{fits_tc, reframe_tc};
 use sl_cop::Starts;
 use sl_packet::{Delivered, hand_over};
 use sl_tcframe::{TcShape, VcSet};

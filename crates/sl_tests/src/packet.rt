@@ -1,7 +1,7 @@
 //! Packets of known octets: what is expected follows from the standard's bits.
 ghost use Rattle.std.specs.Prelude.{◌≡◌, ◌++◌};
 
-use crate::{
+use sl_packet::{
     Delivered, FlowFault, Need, PacketSink, Packets, SinkFault, first_packet, hand_over, is_idle,
     need, push_idle,
 };

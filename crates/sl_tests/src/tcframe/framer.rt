@@ -1,6 +1,6 @@
 //! Frames out of a recording that comes in chunks.
 use super::FRAME;
-use crate::{TcFramer, TcShape};
+use sl_tcframe::{TcFramer, TcShape};
 use std::test::Fail;
 
 // A frame of 16 octets, one of 7, and four octets that state a length of three.

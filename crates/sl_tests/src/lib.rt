@@ -1,0 +1,16 @@
+//! Tests of the public calls of the libraries below `sl_link`, a module each: what is expected is known from outside.
+//! They stand in a crate of their own, since a crate with tests is proved once more with them.
+#![tactic(auto)]
+
+#[cfg(test)]
+mod cop;
+#[cfg(test)]
+mod packet;
+#[cfg(test)]
+mod tcflow;
+#[cfg(test)]
+mod tcframe;
+#[cfg(test)]
+mod tmflow;
+#[cfg(test)]
+mod tmframe;

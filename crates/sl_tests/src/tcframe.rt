@@ -3,8 +3,8 @@
 mod framer;
 mod vc_set;
 
-use sl_tcframe::{TcContent, TcFrame, TcShape, TcSkip, push_tc, push_tc_plain};
 use sl_fields::{SegmentHeader, ShapeFault};
+use sl_tcframe::{TcContent, TcFrame, TcShape, TcSkip, push_tc, push_tc_plain};
 use std::test::Fail;
 
 // Spacecraft 1, virtual channel 0, type AD, N(S) 0: an unsegmented unit that is one packet.

@@ -2,8 +2,8 @@
 //! bits.
 ghost use Rattle.std.specs.Prelude.{◌≡◌, ⊤};
 
-use sl_tmflow::{Extractor, TmForm, TmStep, reframe_tm};
 use sl_packet::{Delivered, FlowFault, PacketSink, SinkFault, hand_over};
+use sl_tmflow::{Extractor, TmForm, TmStep, reframe_tm};
 use sl_tmframe::{TmFrame, TmShape};
 use std::test::Fail;
 

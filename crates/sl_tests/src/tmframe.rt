@@ -2,8 +2,8 @@
 //! control fields are known from outside.
 mod framer;
 
-use sl_tmframe::{TmField, TmFrame, TmShape, TmSkip, push_tm};
 use sl_fields::ShapeFault;
+use sl_tmframe::{TmField, TmFrame, TmShape, TmSkip, push_tm};
 use std::test::Fail;
 
 // Spacecraft 1, virtual channel 0, counts 0: a packet at the front, and an idle packet to the end.

@@ -4,8 +4,8 @@ use super::long_series::{longest_and_more, segments_received};
 use super::receiver::{
     DIVIDED, DROPPED_2, FIRST_1, FIRST_2, LAST_1, LAST_2, STRAY_1, are, receiver, step_of,
 };
-use sl_tcflow::Receiver;
 use sl_packet::{Delivered, PacketSink};
+use sl_tcflow::Receiver;
 use std::test::Fail;
 
 // A first segment without octets.

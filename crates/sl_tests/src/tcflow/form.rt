@@ -1,8 +1,8 @@
 //! The normal form piece by piece.
 use super::reframe::{delivered_of, form_with};
-use sl_tcflow::{PIECE_ROOM, TcForm, fits_tc};
 use sl_cop::Starts;
 use sl_packet::{Delivered, hand_over};
+use sl_tcflow::{PIECE_ROOM, TcForm, fits_tc};
 use sl_tcframe::{TcShape, VcSet};
 use std::test::Fail;
 

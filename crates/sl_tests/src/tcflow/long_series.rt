@@ -1,9 +1,9 @@
 //! Series of segments up to the greatest service data unit and past it.
 use super::receiver::{are, received, receiver};
-use sl_tcflow::Receiver;
 use sl_cop::Verdict;
 use sl_fields::SegmentHeader;
 use sl_packet::Delivered;
+use sl_tcflow::Receiver;
 use sl_tcframe::{TcShape, push_tc};
 use std::test::Fail;
 

@@ -1,9 +1,9 @@
 //! Virtual channels without segment headers. The expected values follow from the standard's bits.
 use super::receiver::{are, step_of};
 use super::reframe::{delivered_of, form_with};
-use sl_tcflow::{Receiver, fits_tc};
 use sl_cop::{Starts, Verdict, Window};
 use sl_packet::Delivered;
+use sl_tcflow::{Receiver, fits_tc};
 use sl_tcframe::{TcShape, VcSet};
 use std::test::Fail;
 

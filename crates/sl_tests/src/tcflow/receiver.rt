@@ -1,8 +1,8 @@
 //! Frames of known octets, what FARM-1 answers to them, and the packets that end with their units. The expected
 //! values follow from the standard's bits.
-use sl_tcflow::{Receiver, TcStep};
 use sl_cop::{Starts, Verdict, Window};
 use sl_packet::{Delivered, PacketSink};
+use sl_tcflow::{Receiver, TcStep};
 use sl_tcframe::{TcFrame, TcShape, VcSet};
 use std::test::Fail;
 

@@ -1,8 +1,8 @@
 //! The normal form of known packets. The expected frames follow from the standard's bits.
 use super::receiver::{are, received, receiver};
-use sl_tcflow::{fits_tc, reframe_tc};
 use sl_cop::Starts;
 use sl_packet::{Delivered, hand_over};
+use sl_tcflow::{fits_tc, reframe_tc};
 use sl_tcframe::{TcShape, VcSet};
 use std::alloc::Global;
 use std::test::Fail;

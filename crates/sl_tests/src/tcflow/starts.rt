@@ -1,9 +1,9 @@
 //! Virtual channels that begin with a V(R) of their own.
 use super::receiver::{are, received};
 use super::reframe::form_with;
-use sl_tcflow::Receiver;
 use sl_cop::{Starts, Verdict, Window};
 use sl_packet::Delivered;
+use sl_tcflow::Receiver;
 use sl_tcframe::{TcShape, VcSet};
 use std::test::Fail;
 

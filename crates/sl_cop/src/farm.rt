@@ -87,25 +87,7 @@ impl Farm {
         requires { vc ≤ 63 }
         ensures { result ≡ clcw_of vc self.now.state }
     {
-        match Clcw::new(
-            0,
-            0,
-            0,
-            1,
-            vc,
-            0,
-            false,
-            false,
-            self.lockout,
-            false,
-            self.retransmit,
-            self.farm_b,
-            false,
-            self.vr,
-        ) {
-            Some(word) => word,
-            None => unreachable!(),
-        }
+        Clcw::of_farm(vc, self.lockout, self.retransmit, self.farm_b, self.vr)
     }
 
     // Takes a frame of type AD.

@@ -1,5 +1,5 @@
 -- The Communications Link Control Word (CLCW), CCSDS 232.0-B: four octets.
-use Rattle.std.specs.Prelude.{ℕ, ◌^◌, ◌<◌, Bool, List, [], ◌∷◌}
+use Rattle.std.specs.Prelude.{ℕ, ◌^◌, ◌<◌, Bool, false, List, [], ◌∷◌}
 use Rattle.sl_fields.specs.Field.{bit_of, field, flag, octets_of}
 
 -- the fields of the word, in their order
@@ -29,6 +29,27 @@ pub record FitsClcw (w : ClcwFields) : Type 0 where
   pub spare : w.spare < 2 ^ 2
   pub farm_b : w.farm_b < 2 ^ 2
   pub report : w.report < 2 ^ 8
+
+-- The word that reports the state of FARM-1 on a virtual channel: CLCW version 0, status 0, COP-1 in effect, no spare bit,
+-- and the flags No RF Available, No Bit Lock and Wait 0.
+abbrev pub farm_word : ℕ → Bool → Bool → ℕ → ℕ → ClcwFields
+farm_word vc lockout retransmit farm_b report =
+    record {
+      word = 0;
+      version = 0;
+      status = 0;
+      cop = 1;
+      vc = vc;
+      spare = 0;
+      no_rf = false;
+      no_lock = false;
+      lockout = lockout;
+      wait = false;
+      retransmit = retransmit;
+      farm_b = farm_b;
+      spare_end = false;
+      report = report;
+    }
 
 -- the word that four octets are
 abbrev pub clcw_word : List ℕ → ClcwFields

@@ -1,5 +1,5 @@
 -- The primary header of a space packet, CCSDS 133.0-B: six octets.
-use Rattle.std.specs.Prelude.{ℕ, ◌^◌, ◌<◌, Bool, List, [], ◌∷◌}
+use Rattle.std.specs.Prelude.{ℕ, ◌^◌, ◌<◌, Bool, false, List, [], ◌∷◌}
 use Rattle.sl_fields.specs.Field.{bit_of, field, flag, octets_of}
 
 -- the fields of the header, in their order
@@ -20,6 +20,19 @@ pub record FitsPacketHeader (h : PacketFields) : Type 0 where
   pub flags : h.flags < 2 ^ 2
   pub count : h.count < 2 ^ 14
   pub length : h.length < 2 ^ 16
+
+-- the header of an unsegmented telemetry packet without secondary header: version 0 and sequence flags 3
+abbrev pub telemetry_header : ℕ → ℕ → ℕ → PacketFields
+telemetry_header apid count length =
+    record {
+      version = 0;
+      kind = 0;
+      secondary = false;
+      apid = apid;
+      flags = 3;
+      count = count;
+      length = length;
+    }
 
 -- the header that six octets are
 abbrev pub packet_header : List ℕ → PacketFields

@@ -1,5 +1,5 @@
 -- The segment header of a TC transfer frame's data field, CCSDS 232.0-B: one octet.
-use Rattle.std.specs.Prelude.{ℕ, ◌^◌, ◌<◌, List, [], ◌∷◌}
+use Rattle.std.specs.Prelude.{ℕ, ◌^◌, ◌<◌, Bool, if◌then◌else◌, List, [], ◌∷◌}
 use Rattle.sl_fields.specs.Field.{field, octets_of}
 
 -- the fields of the header, in their order
@@ -11,6 +11,10 @@ pub record SegmentFields : Type 0 where
 pub record FitsSegmentHeader (h : SegmentFields) : Type 0 where
   pub flags : h.flags < 2 ^ 2
   pub map : h.map < 2 ^ 6
+
+-- the sequence flags of a segment that is the first one of its unit or not, and the last one or not
+abbrev pub sequence_flags : Bool → Bool → ℕ
+sequence_flags first last = if first then (if last then 3 else 1) else (if last then 2 else 0)
 
 -- the header that one octet is
 abbrev pub segment_header : List ℕ → SegmentFields

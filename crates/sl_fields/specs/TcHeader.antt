@@ -1,5 +1,5 @@
 -- The primary header of a TC transfer frame, CCSDS 232.0-B: five octets.
-use Rattle.std.specs.Prelude.{ℕ, ◌^◌, ◌<◌, Bool, List, [], ◌∷◌}
+use Rattle.std.specs.Prelude.{ℕ, ◌^◌, ◌<◌, Bool, false, List, [], ◌∷◌}
 use Rattle.sl_fields.specs.Field.{bit_of, field, flag, octets_of}
 
 -- the fields of the header, in their order
@@ -21,6 +21,20 @@ pub record FitsTcHeader (h : TcFields) : Type 0 where
   pub vc : h.vc < 2 ^ 6
   pub length : h.length < 2 ^ 10
   pub ns : h.ns < 2 ^ 8
+
+-- the header of a frame of type AD: version 0, bypass flag 0, control command flag 0 and spare bits 0
+abbrev pub ad_header : ℕ → ℕ → ℕ → ℕ → TcFields
+ad_header spacecraft vc length ns =
+    record {
+      version = 0;
+      bypass = false;
+      command = false;
+      spare = 0;
+      spacecraft = spacecraft;
+      vc = vc;
+      length = length;
+      ns = ns;
+    }
 
 -- the header that five octets are
 abbrev pub tc_header : List ℕ → TcFields

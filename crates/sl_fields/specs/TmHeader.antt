@@ -1,5 +1,5 @@
 -- The primary header of a TM transfer frame, CCSDS 132.0-B: six octets.
-use Rattle.std.specs.Prelude.{ℕ, ◌^◌, ◌<◌, Bool, List, [], ◌∷◌}
+use Rattle.std.specs.Prelude.{ℕ, ◌^◌, ◌<◌, Bool, false, List, [], ◌∷◌}
 use Rattle.sl_fields.specs.Field.{bit_of, field, flag, octets_of}
 
 -- the fields of the header, in their order
@@ -25,6 +25,24 @@ pub record FitsTmHeader (h : TmFields) : Type 0 where
   pub vcc : h.vcc < 2 ^ 8
   pub segment : h.segment < 2 ^ 2
   pub first : h.first < 2 ^ 11
+
+-- The header of a frame of packets: version 0, no operational control field, no secondary header, synchronisation flag 0,
+-- packet order flag 0 and segment length identifier 3.
+abbrev pub packets_header : ℕ → ℕ → ℕ → ℕ → ℕ → TmFields
+packets_header spacecraft vc mc vcc first =
+    record {
+      version = 0;
+      spacecraft = spacecraft;
+      vc = vc;
+      control = false;
+      mc = mc;
+      vcc = vcc;
+      secondary = false;
+      sync = false;
+      order = false;
+      segment = 3;
+      first = first;
+    }
 
 -- the header that six octets are
 abbrev pub tm_header : List ℕ → TmFields

@@ -1,7 +1,7 @@
 //! The Communications Link Control Word.
-ghost use Rattle.std.specs.Prelude.{◌≡◌, ℕ, ◌^◌, ◌<◌, List, length, SomeIff};
+ghost use Rattle.std.specs.Prelude.{◌≡◌, ℕ, ◌^◌, ◌<◌, ◌≤◌, List, length, SomeIff};
 ghost use Rattle.sl_fields.specs.Field.{IsOctets};
-ghost use Rattle.sl_fields.specs.Clcw.{ClcwFields, clcw_word, FitsClcw, clcw_octets};
+ghost use Rattle.sl_fields.specs.Clcw.{ClcwFields, clcw_word, farm_word, FitsClcw, clcw_octets};
 
 use crate::bits::{field, flag, pack};
 use byteorder::{BigEndian, ByteOrder};
@@ -96,6 +96,32 @@ impl Clcw {
             spare_end,
             report,
         })
+    }
+
+    /// The word that reports the state of FARM-1 on the virtual channel `vc`, 0 to 63: CLCW version 0, status 0, COP-1 in
+    /// effect, no spare bit, and the flags No RF Available, No Bit Lock and Wait 0. `farm_b` is 0 to 3, and `report` is
+    /// V(R).
+    pub fn of_farm(vc: u8, lockout: bool, retransmit: bool, farm_b: u8, report: u8) -> Clcw
+        requires vc { vc ≤ 63 }
+        requires farm_b { farm_b ≤ 3 }
+        ensures { result ≡ farm_word vc lockout retransmit farm_b report }
+    {
+        Clcw {
+            word: 0,
+            version: 0,
+            status: 0,
+            cop: 1,
+            vc,
+            spare: 0,
+            no_rf: false,
+            no_lock: false,
+            lockout,
+            wait: false,
+            retransmit,
+            farm_b,
+            spare_end: false,
+            report,
+        }
     }
 
     /// The word that the octets are.

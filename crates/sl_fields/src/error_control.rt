@@ -7,6 +7,7 @@ ghost use Rattle.sl_fields.specs.FecfRegister.{register_number, TakesIn};
 ghost use Rattle.sl_fields.specs.FecfWords.{word_of, words_sum};
 ghost use Rattle.sl_fields.specs.Field.{number_of};
 
+use crate::ends::back;
 use crate::slices::SLICES;
 use crate::words::WORDS;
 use byteorder::{BigEndian, ByteOrder};
@@ -59,10 +60,7 @@ pub fn without_fecf(has_fecf: bool, octets: &[u8]) -> &[u8]
     if !has_fecf {
         return octets;
     }
-    match octets.split_last_chunk::<2>() {
-        Some((covered, _)) => covered,
-        None => unreachable!(),
-    }
+    back::<2>(octets).0
 }
 
 // The register of the division, as its two octets.

@@ -7,6 +7,7 @@
 
 mod bits;
 mod clcw;
+mod ends;
 mod error_control;
 pub mod laws;
 mod packet_header;
@@ -18,6 +19,7 @@ mod tm_header;
 mod words;
 
 pub use clcw::Clcw;
+pub use ends::{back, front};
 pub use error_control::{fecf, fecf_field, fecf_good, without_fecf};
 pub use packet_header::PacketHeader;
 pub use segment_header::SegmentHeader;

@@ -1,7 +1,7 @@
 //! The primary header of a space packet.
-ghost use Rattle.std.specs.Prelude.{◌≡◌, ℕ, ◌^◌, ◌<◌, List, length, SomeIff};
+ghost use Rattle.std.specs.Prelude.{◌≡◌, ℕ, ◌^◌, ◌<◌, ◌≤◌, List, length, SomeIff};
 ghost use Rattle.sl_fields.specs.Field.{IsOctets};
-ghost use Rattle.sl_fields.specs.PacketHeader.{PacketFields, packet_header, FitsPacketHeader, packet_octets};
+ghost use Rattle.sl_fields.specs.PacketHeader.{PacketFields, packet_header, telemetry_header, FitsPacketHeader, packet_octets};
 
 use crate::bits::{field, flag, pack};
 use byteorder::{BigEndian, ByteOrder};
@@ -68,6 +68,24 @@ impl PacketHeader {
             count,
             length,
         })
+    }
+
+    /// The header of an unsegmented telemetry packet without secondary header: version 0 and sequence flags 3. `apid` is
+    /// 0 to 2047 and `count` 0 to 16,383; `length` is the octets of the packet data field minus 1.
+    pub fn of_telemetry(apid: u16, count: u16, length: u16) -> PacketHeader
+        requires apid { apid ≤ 2047 }
+        requires count { count ≤ 16383 }
+        ensures { result ≡ telemetry_header apid count length }
+    {
+        PacketHeader {
+            version: 0,
+            kind: 0,
+            secondary: false,
+            apid,
+            flags: 3,
+            count,
+            length,
+        }
     }
 
     /// The header that the octets are.

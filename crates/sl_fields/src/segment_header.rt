@@ -1,7 +1,7 @@
 //! The segment header of a TC transfer frame.
-ghost use Rattle.std.specs.Prelude.{◌≡◌, ℕ, ◌^◌, ◌<◌, List, length, SomeIff};
+ghost use Rattle.std.specs.Prelude.{◌≡◌, ℕ, ◌^◌, ◌<◌, ◌≤◌, List, length, SomeIff};
 ghost use Rattle.sl_fields.specs.Field.{IsOctets};
-ghost use Rattle.sl_fields.specs.SegmentHeader.{SegmentFields, segment_header, FitsSegmentHeader, segment_octets};
+ghost use Rattle.sl_fields.specs.SegmentHeader.{SegmentFields, segment_header, sequence_flags, FitsSegmentHeader, segment_octets};
 
 use crate::bits::{field, pack};
 use byteorder::{BigEndian, ByteOrder};
@@ -42,6 +42,24 @@ impl SegmentHeader {
             return None;
         }
         Some(SegmentHeader { flags, map })
+    }
+
+    /// The header of a segment on the MAP `map`, 0 to 63, which is the first one of its unit or not, and the last one or
+    /// not. One that is both has no segmentation.
+    pub fn of_segment(first: bool, last: bool, map: u8) -> SegmentHeader
+        requires { map ≤ 63 }
+        ensures { let fields : SegmentFields = record {
+          flags = sequence_flags first last;
+          map = map;
+        } in result ≡ fields }
+    {
+        let flags = match (first, last) {
+            (true, true) => 3,
+            (true, false) => 1,
+            (false, true) => 2,
+            (false, false) => 0,
+        };
+        SegmentHeader { flags, map }
     }
 
     /// The header that the octet is.

@@ -1,7 +1,7 @@
 //! The primary header of a TC transfer frame.
-ghost use Rattle.std.specs.Prelude.{◌≡◌, ℕ, ◌^◌, ◌<◌, List, length, SomeIff};
+ghost use Rattle.std.specs.Prelude.{◌≡◌, ℕ, ◌^◌, ◌<◌, ◌≤◌, List, length, SomeIff};
 ghost use Rattle.sl_fields.specs.Field.{IsOctets};
-ghost use Rattle.sl_fields.specs.TcHeader.{TcFields, tc_header, FitsTcHeader, tc_octets};
+ghost use Rattle.sl_fields.specs.TcHeader.{TcFields, ad_header, tc_header, FitsTcHeader, tc_octets};
 
 use crate::bits::{field, flag, pack};
 use byteorder::{BigEndian, ByteOrder};
@@ -72,6 +72,26 @@ impl TcHeader {
             length,
             ns,
         })
+    }
+
+    /// The header of a frame of type AD: version 0, bypass flag 0, control command flag 0 and spare bits 0. `spacecraft`
+    /// and `length`, the octets of the frame minus 1, are 0 to 1023, and `vc` is 0 to 63.
+    pub fn of_ad(spacecraft: u16, vc: u8, length: u16, ns: u8) -> TcHeader
+        requires spacecraft { spacecraft ≤ 1023 }
+        requires vc { vc ≤ 63 }
+        requires length { length ≤ 1023 }
+        ensures { result ≡ ad_header spacecraft vc length ns }
+    {
+        TcHeader {
+            version: 0,
+            bypass: false,
+            command: false,
+            spare: 0,
+            spacecraft,
+            vc,
+            length,
+            ns,
+        }
     }
 
     /// The header that the octets are.

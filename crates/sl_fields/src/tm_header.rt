@@ -1,7 +1,7 @@
 //! The primary header of a TM transfer frame.
-ghost use Rattle.std.specs.Prelude.{◌≡◌, ℕ, ◌^◌, ◌<◌, List, length, SomeIff};
+ghost use Rattle.std.specs.Prelude.{◌≡◌, ℕ, ◌^◌, ◌<◌, ◌≤◌, List, length, SomeIff};
 ghost use Rattle.sl_fields.specs.Field.{IsOctets};
-ghost use Rattle.sl_fields.specs.TmHeader.{TmFields, tm_header, FitsTmHeader, tm_octets};
+ghost use Rattle.sl_fields.specs.TmHeader.{TmFields, tm_header, FitsTmHeader, packets_header, tm_octets};
 
 use crate::bits::{field, flag, pack};
 use byteorder::{BigEndian, ByteOrder};
@@ -84,6 +84,30 @@ impl TmHeader {
             segment,
             first,
         })
+    }
+
+    /// The header of a frame of packets: version 0, no operational control field, no secondary header, synchronisation
+    /// flag 0, packet order flag 0 and segment length identifier 3. `spacecraft` is 0 to 1023, `vc` 0 to 7 and `first` 0
+    /// to 2047; `mc` and `vcc` are the master and the virtual channel frame count.
+    pub fn of_packets(spacecraft: u16, vc: u8, mc: u8, vcc: u8, first: u16) -> TmHeader
+        requires spacecraft { spacecraft ≤ 1023 }
+        requires vc { vc ≤ 7 }
+        requires first { first ≤ 2047 }
+        ensures { result ≡ packets_header spacecraft vc mc vcc first }
+    {
+        TmHeader {
+            version: 0,
+            spacecraft,
+            vc,
+            control: false,
+            mc,
+            vcc,
+            secondary: false,
+            sync: false,
+            order: false,
+            segment: 3,
+            first,
+        }
     }
 
     /// The header that the octets are.

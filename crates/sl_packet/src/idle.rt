@@ -44,8 +44,5 @@ pub fn push_idle(out: &mut Vec<u8>, len: u32) -> Result<(), AllocError>
 fn idle_header(length: u16) -> [u8; 6]
     ensures { result ≡ octets_of 6 (idle_fields (length + 7)) }
 {
-    match PacketHeader::new(0, 0, false, IDLE, 3, 0, length) {
-        Some(header) => header.write(),
-        None => unreachable!(),
-    }
+    PacketHeader::of_telemetry(IDLE, 0, length).write()
 }

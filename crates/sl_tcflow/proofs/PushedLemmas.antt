@@ -6,7 +6,7 @@ use Rattle.std.proofs.lemmas.List.{drop-drop, length-drop}
 use Rattle.std.proofs.lemmas.List.Folds.{concat-append}
 use Rattle.std.proofs.lemmas.List.FromFn.{map-range_with_len_more}
 use Rattle.std.proofs.Math.Nat.{suc-mul, zero-mul, div-lt_iff_lt-mul, le-div_iff_mul-le}
-use Rattle.sl_fields.specs.SegmentHeader.{SegmentFields}
+use Rattle.sl_fields.specs.SegmentHeader.{SegmentFields, sequence_flags}
 use Rattle.sl_tcframe.specs.AdFrame.{ad_frame, segment_unit}
 use Rattle.sl_tcframe.specs.TcFrame.{TcFormat}
 use Rattle.sl_tcflow.specs.TcNormalForm.{segment_count, flags_at, segment_of, units_of_packet, frames_of_units}
@@ -115,7 +115,7 @@ module _ (format : TcFormat) (spacecraft vc mid : ℕ) (base : List ℕ) (ns roo
   pub divided_next : (left octets later : List ℕ) (first last : Bool) (next next' : ℕ) (form form' : List ℕ) → 0 < room → 0 < length left → next < 256
       → octets ≡ take room left → later ≡ drop room left → first ≡ (length left == length packet) → last ≡ (length later == 0)
       → (s : IsDivided left next form)
-      → form' ≡ form ++ ad_frame format spacecraft vc next (segment_unit (record { flags = if first then (if last then 3 else 1) else (if last then 2 else 0); map = mid }) octets)
+      → form' ≡ form ++ ad_frame format spacecraft vc next (segment_unit (record { flags = sequence_flags first last; map = mid }) octets)
       → next' ≡ (next + 1) % 256
       → IsDivided later next' form'
   divided_next left octets later first last next next' form form' some there small taken dropped is_first is_last s added up =
@@ -126,8 +126,8 @@ module _ (format : TcFormat) (spacecraft vc mid : ℕ) (base : List ℕ) (ns roo
       let more : s.number < count = counts_more room packet s.number some inside in
       let first_is : first ≡ (s.number == 0) = is_first ∙ ap (λ n. n == length packet) size ∙ is_first_one room (length packet) s.number some inside in
       let last_is : last ≡ (s.number + 1 == count) = is_last ∙ ap (λ n. n == 0) (rest ∙ ap (λ n. n - room) size) ∙ is_last_one room packet s.number some more in
-      let flags : (if first then (if last then 3 else 1) else (if last then 2 else 0)) ≡ flags_at count s.number = rw (first_is, last_is) (sym (flags_are count s.number more)) in
-      let next_frame = ad_frame format spacecraft vc next (segment_unit (record { flags = if first then (if last then 3 else 1) else (if last then 2 else 0); map = mid }) octets) in
+      let flags : sequence_flags first last ≡ flags_at count s.number = rw (first_is, last_is) (sym (flags_are count s.number more)) in
+      let next_frame = ad_frame format spacecraft vc next (segment_unit (record { flags = sequence_flags first last; map = mid }) octets) in
       let same : next_frame ≡ ad_frame format spacecraft vc (next % 256) (unit_at s.number) = same_frame next (next % 256) _ _ octets _ (omega arith) flags (taken ∙ ap (take room) s.left_is) in
       let one = suc-mul s.number room in
       record {

@@ -1,8 +1,7 @@
 //! The frames of a packet in the normal form.
-ghost use Rattle.std.specs.Prelude.{◌≡◌, ◌+◌, ◌*◌, ◌%◌, ◌<◌, ◌≤◌, ◌++◌, false, if◌then◌else◌, length, take, drop, vec_len, IfOk, OnOk, OnErr};
+ghost use Rattle.std.specs.Prelude.{◌≡◌, ◌+◌, ◌*◌, ◌%◌, ◌<◌, ◌≤◌, ◌++◌, false, length, take, drop, vec_len, IfOk, OnOk, OnErr};
 ghost use Rattle.std.specs.List.{concat};
 ghost use Rattle.std.specs.Vec.{vec_capacity};
-ghost use Rattle.sl_fields.specs.SegmentHeader.{SegmentFields};
 ghost use Rattle.sl_tcframe.specs.AdFrame.{segment_room_of};
 ghost use Rattle.sl_tcflow.specs.TcNormalForm.{units_of_packet, frames_of_units};
 
@@ -37,7 +36,7 @@ pub(crate) fn push_packet(
     while !left.is_empty() {
         let first = left.len() == packet.len();
         let (octets, later) = split_segment(left, room);
-        let header = header_of(first, later.is_empty(), mid);
+        let header = SegmentHeader::of_segment(first, later.is_empty(), mid);
         push_tc(form, shape, spacecraft, vc, ns, header, octets)?;
         ns = ns.wrapping_add(1);
         left = later;
@@ -54,24 +53,4 @@ fn split_segment(left: &[u8], room: usize) -> (&[u8], &[u8])
         return (left, &[]);
     }
     left.split_at(room)
-}
-
-// The header of a segment of a packet, which is the packet's first one or not, and its last one or not.
-fn header_of(first: bool, last: bool, mid: u8) -> SegmentHeader
-    requires { mid ≤ 63 }
-    ensures { let fields : SegmentFields = record {
-      flags = if first then (if last then 3 else 1) else (if last then 2 else 0);
-      map = mid;
-    } in result ≡ fields }
-{
-    let flags = match (first, last) {
-        (true, true) => 3,
-        (true, false) => 1,
-        (false, true) => 2,
-        (false, false) => 0,
-    };
-    match SegmentHeader::new(flags, mid) {
-        Some(header) => header,
-        None => unreachable!(),
-    }
 }

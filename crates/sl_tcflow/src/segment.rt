@@ -2,7 +2,7 @@
 ghost use Rattle.std.specs.Prelude.{◌≡◌, ◌≤◌, ◌<◌, length};
 ghost use Rattle.sl_tcflow.specs.Series.{flags_of, header_at, segment_data, segment_in};
 
-use sl_fields::SegmentHeader;
+use sl_fields::{SegmentHeader, front};
 
 /// The sequence flags of a continuing, a first and a last segment, and of one with no segmentation (CCSDS 232.0-B).
 pub const CONTINUING: u8 = 0;
@@ -39,15 +39,11 @@ pub fn segment_of(plain: bool, unit: &[u8]) -> Segment
             octets: unit,
         };
     }
-    match unit.split_first_chunk::<1>() {
-        Some((header, octets)) => {
-            let header = SegmentHeader::read(header);
-            Segment {
-                flags: header.flags(),
-                map: header.map(),
-                octets,
-            }
-        }
-        None => unreachable!(),
+    let (header, octets) = front::<1>(unit);
+    let header = SegmentHeader::read(header);
+    Segment {
+        flags: header.flags(),
+        map: header.map(),
+        octets,
     }
 }

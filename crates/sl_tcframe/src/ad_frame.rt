@@ -112,8 +112,5 @@ fn frame_header(spacecraft: u16, vc: u8, ns: u8, len: u16) -> [u8; 5]
     requires most { len ≤ 1024 }
     ensures { result ≡ octets_of 5 (ad_fields spacecraft vc ns len) }
 {
-    match TcHeader::new(0, false, false, 0, spacecraft, vc, len - 1, ns) {
-        Some(header) => header.write(),
-        None => unreachable!(),
-    }
+    TcHeader::of_ad(spacecraft, vc, len - 1, ns).write()
 }

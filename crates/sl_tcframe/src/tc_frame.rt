@@ -4,7 +4,7 @@ ghost use Rattle.sl_tcframe.specs.TcFrame.{tc_header_of, command_of, content_of,
 ghost use Rattle.sl_tcframe.specs.TcContent.{content};
 
 use crate::tc_shape::TcShape;
-use sl_fields::{TcHeader, fecf_good, without_fecf};
+use sl_fields::{TcHeader, fecf_good, front, without_fecf};
 use std::marker::Model;
 
 /// Why a TC transfer frame is skipped: the first of these that holds.
@@ -116,10 +116,8 @@ fn split_header(octets: &[u8]) -> (TcHeader, &[u8])
     ensures header { result.0 ≡ tc_header_of octets.now }
     ensures behind { result.1.now ≡ drop 5 octets.now }
 {
-    match octets.split_first_chunk::<5>() {
-        Some((header, behind)) => (TcHeader::read(header), behind),
-        None => unreachable!(),
-    }
+    let (header, behind) = front::<5>(octets);
+    (TcHeader::read(header), behind)
 }
 
 // The first reason to skip a frame under this header with this data field, but for a wrong command.

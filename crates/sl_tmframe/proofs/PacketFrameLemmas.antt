@@ -3,7 +3,7 @@ use Rattle.std.proofs.Common.{◌≡◌, ℕ, ◌<◌, ◌≤◌, ◌==◌, fals
 use Rattle.std.proofs.lemmas.Bool.{eq-eqb, ne_eqb, lt-ltb}
 use Rattle.sl_fields.specs.FecfField.{fecf_part, fecf_len, with_fecf}
 use Rattle.sl_fields.specs.Field.{packed}
-use Rattle.sl_fields.specs.TmHeader.{TmFields, FitsTmHeader, tm_header, tm_fields, tm_octets}
+use Rattle.sl_fields.specs.TmHeader.{TmFields, FitsTmHeader, packets_header, tm_header, tm_fields, tm_octets}
 use Rattle.sl_fields.proofs.FecfLemmas.{fecf_len_le, length-fecf_part, with_fecf_is_good}
 use Rattle.sl_fields.proofs.HeaderLayout.{reads_back}
 use Rattle.sl_fields.proofs.Octets.{length-octets_of}
@@ -15,41 +15,10 @@ use Rattle.sl_tmframe.specs.declared.tm_frame.TmSkip.{TmSkip}
 use Rattle.sl_tmframe.specs.declared.tm_frame.TmSkip.TheVariants.{Fecf, Version, Spacecraft}
 use Rattle.sl_tmframe.proofs.PartLemmas.{only_parts}
 
--- the header of a frame of packets, which reads back
-abbrev pub packet_frame_header : ℕ → ℕ → ℕ → ℕ → Option ℕ → TmFields
-packet_frame_header spacecraft vc mc vcc first =
-    record {
-      version = 0;
-      spacecraft = spacecraft;
-      vc = vc;
-      control = false;
-      mc = mc;
-      vcc = vcc;
-      secondary = false;
-      sync = false;
-      order = false;
-      segment = 3;
-      first = pointer_value first;
-    }
-
--- the header as it is made, with 2047 for no pointer
-pub header_is : (spacecraft vc mc vcc pointer : ℕ) (first : Option ℕ) (header : TmFields)
-    → header ≡ record {
-      version = 0;
-      spacecraft = spacecraft;
-      vc = vc;
-      control = false;
-      mc = mc;
-      vcc = vcc;
-      secondary = false;
-      sync = false;
-      order = false;
-      segment = 3;
-      first = pointer;
-    }
-    → pointer ≡ unwrap_or first 2047 → header ≡ packet_frame_header spacecraft vc mc vcc first
-header_is spacecraft vc mc vcc pointer None header made e = rw (made, e) refl
-header_is spacecraft vc mc vcc pointer (Some first) header made e = rw (made, e) refl
+-- the first header pointer as it is made, with 2047 for none
+pub pointer_is : (first : Option ℕ) → unwrap_or first 2047 ≡ pointer_value first
+pointer_is None = refl
+pointer_is (Some first) = refl
 
 -- a frame has the octets of its format
 pub with_fecf_whole : (format : TmFormat) (header field : List ℕ) → 8 ≤ format.len → length header ≡ 6 → length field ≡ field_room_of format
@@ -70,7 +39,7 @@ pointer_lt (Some first) room most inside = omega arith
 -- the pointer is read as it was written
 class_is : (spacecraft vc mc vcc : ℕ) (first : Option ℕ) (field : List ℕ) (room : ℕ)
     → room ≤ 2042 → length field ≡ room → IfSome first (λ offset. offset < room)
-    → class_of (packet_frame_header spacecraft vc mc vcc first) field ≡ Packets first field
+    → class_of (packets_header spacecraft vc mc vcc (pointer_value first)) field ≡ Packets first field
 class_is spacecraft vc mc vcc None field room most fills inside = refl
 class_is spacecraft vc mc vcc (Some first) field room most fills inside =
     rw (ne_eqb first 2046 (λ e. omega arith), ne_eqb first 2047 (λ e. omega arith), lt-ltb first (length field) (omega arith)) refl
@@ -91,7 +60,7 @@ shown_by h p =
 
 module _ (format : TmFormat) (spacecraft vc mc vcc : ℕ) (first : Option ℕ) (field : List ℕ) (fit : FitFrame format spacecraft vc mc vcc first field) where
   abbrev h : TmFields
-  h = packet_frame_header spacecraft vc mc vcc first
+  h = packets_header spacecraft vc mc vcc (pointer_value first)
 
   abbrev frame : List ℕ
   frame = packet_frame format spacecraft vc mc vcc first field

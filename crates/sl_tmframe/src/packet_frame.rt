@@ -56,10 +56,5 @@ fn frame_header(spacecraft: u16, vc: u8, mc: u8, vcc: u8, first: Option<u16>) ->
     ensures { result ≡ octets_of 6 (frame_fields spacecraft vc mc vcc first) }
 {
     let pointer = first.unwrap_or(NONE_STARTS);
-    match TmHeader::new(
-        0, spacecraft, vc, false, mc, vcc, false, false, false, 3, pointer,
-    ) {
-        Some(header) => header.write(),
-        None => unreachable!(),
-    }
+    TmHeader::of_packets(spacecraft, vc, mc, vcc, pointer).write()
 }

@@ -4,7 +4,7 @@ ghost use Rattle.sl_tmframe.specs.TmFrame.{tm_header_of, class_of, skip_reason, 
 ghost use Rattle.sl_tmframe.specs.TmField.{data_field};
 
 use crate::tm_shape::TmShape;
-use sl_fields::{TmHeader, fecf_good, without_fecf};
+use sl_fields::{TmHeader, back, fecf_good, front, without_fecf};
 use std::marker::Model;
 
 /// Why a TM transfer frame is skipped: the first of these that holds.
@@ -122,10 +122,8 @@ fn split_header(octets: &[u8]) -> (TmHeader, &[u8])
     ensures header { result.0 ≡ tm_header_of octets.now }
     ensures behind { result.1.now ≡ drop 6 octets.now }
 {
-    match octets.split_first_chunk::<6>() {
-        Some((header, behind)) => (TmHeader::read(header), behind),
-        None => unreachable!(),
-    }
+    let (header, behind) = front::<6>(octets);
+    (TmHeader::read(header), behind)
 }
 
 // The first reason to skip the octets of a frame under this header.
@@ -157,10 +155,8 @@ fn split_control<'a>(header: &TmHeader, behind: &'a [u8]) -> (&'a [u8], Option<[
     if !header.control() {
         return (behind, None);
     }
-    match behind.split_last_chunk::<4>() {
-        Some((field, control)) => (field, Some(*control)),
-        None => unreachable!(),
-    }
+    let (field, control) = back::<4>(behind);
+    (field, Some(*control))
 }
 
 // What a data field under this header carries.

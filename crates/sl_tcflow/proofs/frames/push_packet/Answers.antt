@@ -33,7 +33,7 @@ loop-left-preserved c =
           (omega (arith, room, c.room.ensures.least, c.from-room.ensures)) (omega (arith, left)) (c.loop-left.auto.ns-fits).fits
           (c.split_segment.ensures.octets ∙ ap (λ n. take n c.loop-left.left.now) room) (c.split_segment.ensures.later ∙ ap (λ n. drop n c.loop-left.left.now) room)
           refl c.is_empty-in-loop-left.ensures c.loop-left.invariant.0
-          (c.in_ok-push_tc.ensures.added ∙ ap (λ h. c.loop-left.form.items ++ ad_frame c.args.shape.now c.args.spacecraft c.args.vc c.loop-left.ns (segment_unit h c.split_segment.result.0.now)) c.header_of-header.ensures)
+          (c.in_ok-push_tc.ensures.added ∙ ap (λ h. c.loop-left.form.items ++ ad_frame c.args.shape.now c.args.spacecraft c.args.vc c.loop-left.ns (segment_unit h c.split_segment.result.0.now)) c.of_segment-header.ensures)
           refl,
       few_next (vec_len c.args.form.now) (length c.args.packet.now) (vec_len c.loop-left.form) (vec_len c.push_tc.new.out) (length c.loop-left.left.now) (length c.split_segment.result.1.now)
           (length c.split_segment.result.0.now) (6 + fecf_len c.args.shape.now.fecf) c.from-room.result

@@ -31,10 +31,10 @@ start_inside room number offsets None least = tt
 start_inside room number offsets (Some first) least = let lies = least.1 in let below = lies.below in omega arith
 
 -- the room of a data field
-wide_room : (format : TmFormat) → IsFormat format → 24 ≤ field_room_of format
+pub wide_room : (format : TmFormat) → IsFormat format → 24 ≤ field_room_of format
 wide_room format is = let least = is.least in let last = fecf_len_le format.fecf in omega arith
 
-short_room : (format : TmFormat) → IsFormat format → field_room_of format ≤ 65536
+pub short_room : (format : TmFormat) → IsFormat format → field_room_of format ≤ 2042
 short_room format is = let most = is.most in omega arith
 
 -- the frames of a virtual channel are of it
@@ -115,14 +115,14 @@ module _ (format : TmFormat) (spacecraft vc mc : ℕ) (packets : List (List ℕ)
   filled_each : AllByRecursion IsPacket filled
   filled_each =
       let wide = wide_room format is in
-      let fill = filling_is (field_room_of format) (length (concat packets)) (omega (arith, wide)) (short_room format is) in
+      let fill = filling_is (field_room_of format) (length (concat packets)) (omega (arith, wide)) (omega (arith, short_room format is)) in
       each-append IsPacket packets (filling (field_room_of format) (length (concat packets))) (due_packets packets each) fill.0
 
   filled_size : length (concat filled) ≡ frame_count * field_room_of format
   filled_size =
       let wide = wide_room format is in
       let parts = div-add-mod' (length (concat filled)) (field_room_of format) in
-      let none = filled_whole (field_room_of format) packets (omega (arith, wide)) (short_room format is) in
+      let none = filled_whole (field_room_of format) packets (omega (arith, wide)) (omega (arith, short_room format is)) in
       omega arith
 
   pub channel_whole : AreWhole format.len (channel_frames format spacecraft vc mc packets)
@@ -135,7 +135,7 @@ module _ (format : TmFormat) (spacecraft vc mc : ℕ) (packets : List (List ℕ)
   channel_delivers =
       let wide = wide_room format is in
       ap without_idle (all_delivered (field_room_of format) vc mc filled frame_count (omega (arith, wide)) filled_each filled_size)
-      ∙ filled_without_idle (field_room_of format) packets (omega (arith, wide)) (short_room format is) each
+      ∙ filled_without_idle (field_room_of format) packets (omega (arith, wide)) (omega (arith, short_room format is)) each
 
 -- ---- the frames of all virtual channels
 

@@ -2,6 +2,7 @@
 use Rattle.std.specs.Prelude.{◌<◌, ◌≤◌, length}
 use Rattle.std.specs.Vec.{vec_capacity}
 use Rattle.sl_tmframe.specs.PacketFrame.{field_room_of}
+use Rattle.sl_tmflow.specs.Canonical.{IsFormat}
 use Rattle.sl_tmflow.specs.FormLeft.{FormProgress, FormState}
 use Rattle.sl_tmflow.specs.declared.form.TmForm.TheInside.{Inside}
 
@@ -23,6 +24,7 @@ abbrev pub form_state : Inside → FormState
 form_state f = record { progress = form_progress f; octets_room = vec_capacity f.octets }
 
 pub record IsTmForm (f : Inside) : Type 0 where
+  pub format : IsFormat f.shape
   pub spacecraft : f.heading.spacecraft ≤ 1023
   pub few : length f.octets.items < field_room_of f.shape
   pub start : f.start < field_room_of f.shape

@@ -91,9 +91,9 @@ impl<'d> TmForm<'d> {
             (form_of shape.now spacecraft delivered.now.lists) ≡ take 8 delivered.now.lists }
         ensures memory { result.octets_room ≡ 0 }
     {
+        // For the proof alone, at no cost: what every format and every store of packets is.
         has_format(shape);
         has_packets(delivered);
-        shape.room();
         TmForm {
             shape: *shape,
             delivered,
@@ -188,7 +188,6 @@ impl<'d> TmForm<'d> {
         ensures keeps { self.old.octets_room ≤ self.new.octets_room }
         ensures capacity { vec_capacity form.old ≤ vec_capacity form.new }
     {
-        self.shape.room();
         let (shape, heading, start) = (self.shape, self.heading, self.start);
         let taken = self.taken;
         let packets = self.delivered.list(u16::from(heading.vc));
@@ -209,7 +208,6 @@ impl<'d> TmForm<'d> {
         ensures progress { self.new.progress ≡ passed self.old.progress frames taken }
         ensures keeps { self.new.octets_room ≡ self.old.octets_room }
     {
-        self.shape.room();
         self.heading = self.heading.after(frames);
         self.taken = taken;
         if frames > 0 {
@@ -365,18 +363,18 @@ fn push_fields(
     Ok(())
 }
 
-// The format of a `TmShape` is one that frames may have.
+// The format of a `TmShape` is one that frames may have: its length is read, and dropped.
+#[inline(always)]
 fn has_format(shape: &TmShape)
     ensures { IsFormat shape.now }
 {
-    shape.len();
+    let _ = shape.len();
 }
 
-// The packets of a `Delivered` may be delivered.
+// The packets of a `Delivered` may be delivered: one list is lent, and dropped.
+#[inline(always)]
 fn has_packets(delivered: &Delivered)
     ensures { AreDeliverable (take 8 delivered.now.lists) }
 {
-    for vc in 0..8 {
-        delivered.list(vc);
-    }
+    let _ = delivered.list(0);
 }

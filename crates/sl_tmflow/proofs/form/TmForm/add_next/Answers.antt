@@ -7,6 +7,7 @@ use Rattle.sl_packet.specs.Delivered.{IsDeliverable, list_at}
 use Rattle.sl_tmframe.specs.PacketFrame.{field_room_of}
 use Rattle.sl_tmflow.specs.FormLeft.{FormState, HasMore, channel_packets, filling_of, packets_left}
 use Rattle.sl_tmflow.specs.TmFormModel.{form_progress}
+use Rattle.sl_tmflow.proofs.CanonicalLemmas.{short_room, wide_room}
 use Rattle.sl_tmflow.proofs.FormPushLemmas.{short_filling, small_piece}
 use Rattle.sl_tmflow.proofs.FormLeftLemmas.{adds_filling, adds_packet, channel_is, each_index, fewer_after, fewer_filled, longest_packet, octets_left, passed_is}
 use Rattle.sl_tmflow.proofs.form.TmForm.add_next.Goals as goal
@@ -15,8 +16,8 @@ pub returns-in_err-frames-clause-full : goal.returns-in_err-frames-clause-full
 returns-in_err-frames-clause-full c =
     let i = form_progress c.self.inside in
     let few = c.self.invariant.few in
-    let wide : 24 ≤ field_room_of i.format = omega (arith, c.room.ensures.value, c.room.ensures.least) in
-    let short : field_room_of i.format ≤ 2042 = omega (arith, c.room.ensures.value, c.room.ensures.most) in
+    let wide : 24 ≤ field_room_of i.format = omega (arith, wide_room i.format c.self.invariant.format) in
+    let short : field_room_of i.format ≤ 2042 = omega (arith, short_room i.format c.self.invariant.format) in
     let long : length (list_at c.self.inside.delivered.now c.from.result) ≡ length c.list-packets.result.now = sym (ap length c.list-packets.ensures.packets) ∙ length-map c.list-packets.result.now vec_items in
     let due = each_index IsDeliverable (list_at c.self.inside.delivered.now c.from.result) i.taken [] (omega (arith, long, c.if-taken-packets.true)) c.list-packets.ensures.deliverable in
     let packet : slice_index_or (list_at c.self.inside.delivered.now c.from.result) i.taken [] ≡ c.as_slice-packet.result.now =
@@ -60,8 +61,8 @@ pub returns-in_err-frames-2-clause-full : goal.returns-in_err-frames-2-clause-fu
 returns-in_err-frames-2-clause-full c =
     let i = form_progress c.self.inside in
     let few = c.self.invariant.few in
-    let wide : 24 ≤ field_room_of i.format = omega (arith, c.room.ensures.value, c.room.ensures.least) in
-    let short : field_room_of i.format ≤ 2042 = omega (arith, c.room.ensures.value, c.room.ensures.most) in
+    let wide : 24 ≤ field_room_of i.format = omega (arith, wide_room i.format c.self.invariant.format) in
+    let short : field_room_of i.format ≤ 2042 = omega (arith, short_room i.format c.self.invariant.format) in
     let fits = small_piece i.format i.octets (filling_of i) wide short few (short_filling (field_room_of i.format) i.octets wide short) in
     let out = err_from_is_err_and c.from_residual-in_err-frames-2.result c.from_residual-in_err-frames-2.ensures.1 in
     rw (out.1, ← c.self.view_is) (λ ready. let full = c.in_err-frames-2.ensures.full ready in omega (arith, full, fits))
@@ -72,8 +73,8 @@ returns-clause-piece c =
     let more : HasMore i = subst (λ (t : FormState). HasMore t.progress) (sym c.self.view_is) c.requires.more in
     let in_range = more.inside in
     let few = c.self.invariant.few in
-    let wide : 7 ≤ field_room_of i.format = omega (arith, c.room.ensures.value, c.room.ensures.least) in
-    let short : field_room_of i.format ≤ 65536 = omega (arith, c.room.ensures.value, c.room.ensures.most) in
+    let wide : 7 ≤ field_room_of i.format = omega (arith, wide_room i.format c.self.invariant.format) in
+    let short : field_room_of i.format ≤ 65536 = omega (arith, short_room i.format c.self.invariant.format) in
     let is : list_at c.self.inside.delivered.now c.from.result ≡ channel_packets i = ap (λ n. slice_index_or i.lists n []) c.from.ensures ∙ sym (channel_is i (omega (arith, in_range))) in
     let long : length (channel_packets i) ≡ length c.list-packets.result.now = sym (ap length (c.list-packets.ensures.packets ∙ is)) ∙ length-map c.list-packets.result.now vec_items in
     let beyond : length (channel_packets i) ≤ i.taken = omega (arith, c.if-taken-packets.false, long) in
@@ -88,8 +89,8 @@ returns-clause-fewer c =
     let more : HasMore i = subst (λ (t : FormState). HasMore t.progress) (sym c.self.view_is) c.requires.more in
     let in_range = more.inside in
     let few = c.self.invariant.few in
-    let wide : 7 ≤ field_room_of i.format = omega (arith, c.room.ensures.value, c.room.ensures.least) in
-    let short : field_room_of i.format ≤ 65536 = omega (arith, c.room.ensures.value, c.room.ensures.most) in
+    let wide : 7 ≤ field_room_of i.format = omega (arith, wide_room i.format c.self.invariant.format) in
+    let short : field_room_of i.format ≤ 65536 = omega (arith, short_room i.format c.self.invariant.format) in
     let is : list_at c.self.inside.delivered.now c.from.result ≡ channel_packets i = ap (λ n. slice_index_or i.lists n []) c.from.ensures ∙ sym (channel_is i (omega (arith, in_range))) in
     let long : length (channel_packets i) ≡ length c.list-packets.result.now = sym (ap length (c.list-packets.ensures.packets ∙ is)) ∙ length-map c.list-packets.result.now vec_items in
     let beyond : length (channel_packets i) ≤ i.taken = omega (arith, c.if-taken-packets.false, long) in

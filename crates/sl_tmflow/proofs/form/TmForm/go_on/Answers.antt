@@ -27,7 +27,7 @@ loop-self-preserved c =
       (λ left l. left_next_channel s left roomy beyond nothing (i.0 left l)),
       (
         (λ left l. let here = i.0 left l in let most = here.most in let fewer = no_more_after s inside most in omega (arith, fewer, i.1.0 left l)),
-        (i.1.1.0, (i.1.1.1.0, record { spacecraft = i.1.1.1.1.spacecraft; few = i.1.1.1.1.few; start = i.1.1.1.1.start })),
+        (i.1.1.0, (i.1.1.1.0, record { format = i.1.1.1.1.format; spacecraft = i.1.1.1.1.spacecraft; few = i.1.1.1.1.few; start = i.1.1.1.1.start })),
       ),
     )
 

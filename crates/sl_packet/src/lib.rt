@@ -12,6 +12,7 @@ pub mod laws;
 mod packet;
 mod packets;
 mod partial;
+mod reassembly;
 mod sink;
 
 pub use delivered::Delivered;
@@ -20,4 +21,5 @@ pub use idle::{is_idle, push_idle};
 pub use packet::{first_packet, need};
 pub use packets::Packets;
 pub use partial::Need;
+pub use reassembly::{add_part, give_back};
 pub use sink::{HandedOver, PacketSink, SinkFault, hand_over};

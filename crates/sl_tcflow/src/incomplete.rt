@@ -9,12 +9,15 @@ ghost use Rattle.sl_tcflow.specs.NextSegment.{IsReported, continued_report, exte
 use crate::hand::hand;
 use crate::segment::{CONTINUING, FIRST, LAST, Segment};
 use crate::step::{QUIET, TcStep};
-use sl_packet::{FlowFault, PacketSink};
+use sl_packet::{FlowFault, PacketSink, add_part, give_back};
 use std::alloc::Global;
 use std::marker::Model;
 
 /// The longest service data unit, as long as the longest packet.
 const MOST_OCTETS: usize = 65542;
+
+/// The most memory that is kept for the next series.
+const MOST_KEPT: usize = 4096;
 
 /// The octets so far of the series that is incomplete, if one is.
 #[derive(Drop)]
@@ -104,7 +107,7 @@ impl Incomplete {
     {
         let dropped = self.give_up();
         self.is_begun = true;
-        match self.octets.extend_from_slice(octets) {
+        match add_part(&mut self.octets, octets) {
             Ok(()) => Ok(TcStep { dropped, ..QUIET }),
             Err(_) => Err(FlowFault::Memory),
         }
@@ -132,7 +135,7 @@ impl Incomplete {
                 ..QUIET
             });
         }
-        match self.octets.extend_from_slice(octets) {
+        match add_part(&mut self.octets, octets) {
             Ok(()) => Ok(QUIET),
             Err(_) => Err(FlowFault::Memory),
         }
@@ -163,19 +166,32 @@ impl Incomplete {
             return Ok(step);
         }
         let ended = hand(sink, channel, self.octets.as_slice());
-        self.give_up();
+        self.close();
         ended
     }
 
-    // Gives up the series that is incomplete, and answers how many octets it had, if one was.
+    // Forgets a series that has ended. The memory of a short one is kept for the next.
+    #[inline(always)]
+    fn close(&mut self)
+        ensures { self.new ≡ None }
+    {
+        if self.octets.capacity() > MOST_KEPT {
+            self.give_up();
+            return;
+        }
+        self.is_begun = false;
+        self.octets.clear();
+    }
+
+    // Gives up the series that is incomplete, if one is, and the memory that it takes. Answers how many octets it had.
     #[inline(always)]
     fn give_up(&mut self) -> Option<u32>
         ensures none { self.new ≡ None }
         ensures held { result ≡ option_map length self.old }
     {
-        let held = self.held();
+        let held = self.held()?;
         self.is_begun = false;
-        self.octets.clear();
-        held
+        give_back(&mut self.octets);
+        Some(held)
     }
 }

@@ -11,6 +11,7 @@ pub mod DeliveryLemmas
 pub mod EachIncompleteLemmas
 pub mod EachLemmas
 pub mod EndLemmas
+pub mod EnoughLemmas
 pub mod FieldStartLemmas
 pub mod FillLemmas
 pub mod FormLeftLemmas

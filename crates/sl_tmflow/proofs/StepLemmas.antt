@@ -1,5 +1,5 @@
 -- What the next frame does to an incomplete packet: it ends there, or goes on, or never ends.
-use Rattle.std.proofs.Common.{◌≡◌, ◌≢◌, ℕ, ◌+◌, ◌-◌, ◌<◌, ◌≤◌, nat_eq, Bool, true, false, if◌then◌else◌, List, [], ◌++◌, length, take, drop, Option, None, Some, is_some, refl, sym, ◌∙◌, ap, subst, arith, append-nil, append_assoc, eqb-true, eq-eqb, le-ltb}
+use Rattle.std.proofs.Common.{◌≡◌, ◌≢◌, ℕ, ◌+◌, ◌-◌, ◌<◌, ◌≤◌, nat_eq, Bool, true, false, if◌then◌else◌, List, [], ◌++◌, length, take, drop, Option, None, Some, is_some, refl, sym, ◌∙◌, ap, arith, append-nil, append_assoc, eqb-true, eq-eqb, le-ltb}
 use Rattle.std.specs.Option.{option_eq}
 use Rattle.std.proofs.lemmas.List.{take-append-drop, take-append-le, take_at, length-take-le}
 use mathlib.Core.List.{IsPrefix}
@@ -110,12 +110,6 @@ front_ends first before field all Incomplete packet e = absurd (no_end first pac
 front_ends first before field all (WholePacket len) packet e =
     let test = ends_test (option_eq nat_eq first (agreeing_pointer len before field)) (take len all) packet e in
     (len, refl, same_pointers first (agreeing_pointer len before field) test.0, test.1)
-
--- the octets with which a step ends are a packet
-pub ended_is_packet : (first : Option ℕ) (before : ℕ) (field all : List ℕ) (len : ℕ) → Ends (take len all) ≡ front_step first before field all (front all) → IsPacket (take len all)
-ended_is_packet first before field all len e =
-    let (n, is_whole, agrees, packet_is) = front_ends first before field all (front all) (take len all) (sym e) in
-    subst IsPacket packet_is (whole_is_a_packet all n is_whole).0
 
 pub field_ends : (octets : List ℕ) (field : DataField) (packet : List ℕ) → field_step octets field ≡ Ends packet → EndsIn octets field packet
 field_ends octets (Packets first carried) packet e =

@@ -12,9 +12,9 @@ ghost use Rattle.sl_tmflow.specs.PacketStart.{whole_packets};
 ghost use Rattle.sl_packet.specs.Stopping.{IsStopped};
 
 use crate::handing::{hand, hand_packet};
-use crate::progress::{Progress, progress_in};
+use crate::progress::{Progress, add_field};
 use crate::step::{NOTHING, TmStep};
-use sl_packet::{FlowFault, Need, PacketSink, need};
+use sl_packet::{FlowFault, Need, PacketSink, add_part, give_back, need};
 use sl_tmframe::{TmField, TmFrame};
 use std::alloc::Global;
 use std::marker::Model;
@@ -133,7 +133,7 @@ impl Channel {
         }
     }
 
-    // Gives up the packet that is incomplete, if one is.
+    // Gives up the packet that is incomplete, if one is, and the memory that it takes.
     fn break_off(&mut self) -> TmStep
         ensures count { self.new.count ≡ self.old.count }
         ensures held { self.new.held ≡ [] }
@@ -142,7 +142,9 @@ impl Channel {
         ensures dropped { result.dropped ≡ length self.old.held }
     {
         let dropped = self.held.len() as u32;
-        self.held.clear();
+        if dropped > 0 {
+            give_back(&mut self.held);
+        }
         TmStep { dropped, ..NOTHING }
     }
 
@@ -164,7 +166,8 @@ impl Channel {
         vc: u16,
         sink: &mut S,
     ) -> Result<TmStep, FlowFault>
-        requires { vc ≤ 7 }
+        requires vc { vc ≤ 7 }
+        requires short { length octets.now ≤ 2042 }
         ensures count { self.new.count ≡ self.old.count }
         ensures held { OnOk result (self.new.held ≡ kept_of (field_step self.old.held (Packets first octets.now)) (self.old.held ++ octets.now)) }
         ensures accepted { OnOk result (TakesAll S.taking sink.old vc (without_idle (ended (field_step self.old.held (Packets first octets.now)))) sink.new) }
@@ -176,10 +179,11 @@ impl Channel {
         ensures stopped { IfErr result (λ flow. IsStopped S.taking S.failing S.failures sink.old vc (without_idle (ended (field_step self.old.held (Packets first octets.now)))) flow sink.new) }
     {
         let before = self.held.len();
-        if self.held.extend_from_slice(octets).is_err() {
-            return Err(FlowFault::Memory);
-        }
-        match progress_in(self.held.as_slice(), before, first) {
+        let progress = match add_field(&mut self.held, first, octets) {
+            Ok(progress) => progress,
+            Err(_) => return Err(FlowFault::Memory),
+        };
+        match progress {
             Progress::Ends(len) => {
                 let outcome = hand_packet(sink, vc, &self.held.as_slice()[..len]);
                 self.held.clear();
@@ -248,7 +252,7 @@ impl Channel {
         };
         let begun = incomplete(remainder);
         self.held.clear();
-        if !begun.is_empty() && self.held.extend_from_slice(begun).is_err() {
+        if !begun.is_empty() && add_part(&mut self.held, begun).is_err() {
             return Err(FlowFault::Memory);
         }
         Ok(TmStep {

@@ -6,7 +6,7 @@ ghost use Rattle.sl_packet.specs.Sink.{TakesAll};
 ghost use Rattle.sl_packet.specs.Stopping.{IsStopped};
 
 use crate::step::{NOTHING, TmStep};
-use sl_packet::{FlowFault, PacketSink, hand_over};
+use sl_packet::{FlowFault, PacketSink, hand_over, is_idle};
 
 /// Hands the sink a packet, unless it is idle.
 pub(crate) fn hand_packet<S: PacketSink>(
@@ -24,9 +24,15 @@ pub(crate) fn hand_packet<S: PacketSink>(
     ensures stopped { IfErr result (λ flow. IsStopped S.taking S.failing S.failures sink.old vc (without_idle (packet.now ∷ [])) flow sink.new) }
     ensures not_memory { IfErr result (λ flow. flow ≢ FlowFault.Memory) }
 {
-    match hand(sink, vc, packet) {
-        Ok(handed) => Ok(handed.0),
-        Err(flow) => Err(flow),
+    if is_idle(packet) {
+        return Ok(TmStep { idle: 1, ..NOTHING });
+    }
+    match sink.packet(vc, packet) {
+        Ok(()) => Ok(TmStep {
+            packets: 1,
+            ..NOTHING
+        }),
+        Err(fault) => Err(FlowFault::Sink(fault)),
     }
 }
 

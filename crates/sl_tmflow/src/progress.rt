@@ -1,10 +1,13 @@
 //! An incomplete packet at the next frame of packets.
-ghost use Rattle.std.specs.Prelude.{◌≡◌, ◌≤◌, ◌-◌, ℕ, nat_lt, if◌then◌else◌, length, drop, None, Some};
+ghost use Rattle.std.specs.Prelude.{◌≡◌, ◌≤◌, ◌<◌, ◌+◌, ◌^◌, ◌++◌, ℕ, length, take, IfOk, OnErr};
 ghost use Rattle.sl_packet.specs.Front.{front};
-ghost use Rattle.sl_tmflow.specs.Delivery.{front_step};
-ghost use Rattle.sl_tmflow.specs.Progress.{progress_step};
+ghost use Rattle.sl_tmframe.specs.TmFrame.{Packets};
+ghost use Rattle.sl_tmflow.specs.Delivery.{agreeing_pointer, field_step, front_step};
+ghost use Rattle.sl_tmflow.specs.Progress.{IsEnough, progress_step};
 
-use sl_packet::{Need, need};
+use sl_packet::laws::needs_tell_packets;
+use sl_packet::{Need, add_part, need};
+use std::alloc::AllocError;
 
 /// What a frame of packets does to an incomplete packet.
 #[derive(Clone, Copy)]
@@ -15,10 +18,53 @@ pub(crate) enum Progress {
     Breaks,
 }
 
-/// What octets, of which so many came before the data field, and the pointer of its frame make of a packet.
-pub(crate) fn progress_in(octets: &[u8], before: usize, first: Option<u16>) -> Progress
-    requires { before ≤ length octets.now }
-    ensures step { progress_step result octets.now ≡ front_step first before (drop before octets.now) octets.now (front octets.now) }
+/// Adds to an incomplete packet what it wants of a data field, and says what the frame with that field and this pointer
+/// does to it.
+pub(crate) fn add_field(
+    held: &mut Vec<u8>,
+    first: Option<u16>,
+    field: &[u8],
+) -> Result<Progress, AllocError>
+    requires held { length held.old.items ≤ 65541 }
+    requires short { length field.now ≤ 2042 }
+    ensures step { IfOk result (λ progress. progress_step progress held.new.items
+        ≡ field_step held.old.items (Packets first field.now)) }
+    ensures inside { IfOk result (λ progress.
+        (len : ℕ) → progress ≡ Progress.Ends len → len ≤ length held.new.items) }
+    // All of the field is there where the packet goes on, and the octets before it are as they were.
+    ensures all { IfOk result (λ progress.
+        progress ≡ Progress.Continues → held.new.items ≡ held.old.items ++ field.now) }
+    ensures most { IfOk result (λ progress.
+        progress ≡ Progress.Continues → length held.new.items ≤ 65541) }
+    ensures before { IfOk result (λ _. take (length held.old.items) held.new.items ≡ held.old.items) }
+    ensures unchanged { OnErr result (held.new.items ≡ held.old.items) }
+{
+    let before = held.len();
+    let part = wanted(held.as_slice(), field);
+    add_part(held, part)?;
+    Ok(progress_in(held.as_slice(), before, field, first))
+}
+
+// The first octets of a data field, as many as the packet wants that is incomplete before it; all where it wants more.
+fn wanted<'a>(held: &[u8], field: &'a [u8]) -> &'a [u8]
+    requires held { length held.now ≤ 65541 }
+    requires short { length field.now ≤ 2042 }
+    ensures { IsEnough held.now field.now result.now }
+{
+    needs_tell_packets();
+    match need(held) {
+        Need::Octets(wanted) if wanted as usize <= field.len() => &field[..wanted as usize],
+        Need::Header(_) | Need::Octets(_) => field,
+        Need::Foreign | Need::Whole(_) => &[],
+    }
+}
+
+// What octets make of a packet: so many came before this data field, whose frame has this pointer, and then those that
+// were wanted of it.
+fn progress_in(octets: &[u8], before: usize, field: &[u8], first: Option<u16>) -> Progress
+    requires { before + length field.now < 2 ^ 64 }
+    ensures step { progress_step result octets.now
+        ≡ front_step first before field.now octets.now (front octets.now) }
     ensures inside { (len : ℕ) → result ≡ Progress.Ends len → len ≤ length octets.now }
     ensures short { result ≡ Progress.Continues → length octets.now ≤ 65541 }
 {
@@ -28,7 +74,7 @@ pub(crate) fn progress_in(octets: &[u8], before: usize, first: Option<u16>) -> P
         Need::Header(_) | Need::Octets(_) => Progress::Continues,
         Need::Whole(len) => {
             let len = len as usize;
-            if first.map(usize::from) == agreeing_pointer(octets.len(), before, len) {
+            if first.map(usize::from) == agreeing_pointer(len, before, field) {
                 Progress::Ends(len)
             } else {
                 Progress::Breaks
@@ -37,11 +83,12 @@ pub(crate) fn progress_in(octets: &[u8], before: usize, first: Option<u16>) -> P
     }
 }
 
-// The pointer that agrees with a packet of `len` of these octets.
-fn agreeing_pointer(all: usize, before: usize, len: usize) -> Option<usize>
-    ensures { result ≡ (if nat_lt len all then Some (len - before) else None) }
+// The pointer that agrees with a packet of this length, so much of which came before the data field.
+fn agreeing_pointer(len: usize, before: usize, field: &[u8]) -> Option<usize>
+    requires { before + length field.now < 2 ^ 64 }
+    ensures { result ≡ agreeing_pointer len before field.now }
 {
-    if len < all {
+    if len < before + field.len() {
         Some(len.saturating_sub(before))
     } else {
         None

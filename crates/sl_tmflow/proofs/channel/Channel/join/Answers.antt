@@ -1,12 +1,14 @@
-use Rattle.std.proofs.Common.{◌≡◌, take, drop, sym, subst}
+use Rattle.std.proofs.Common.{◌∙◌, take, sym, ap, subst}
 use Rattle.sl_packet.specs.Packet.{IsPacket}
-use Rattle.sl_tmflow.proofs.StepLemmas.{ended_is_packet}
+use Rattle.sl_tmframe.specs.TmFrame.{Packets}
+use Rattle.sl_tmflow.specs.Progress.{progress_step}
+use Rattle.sl_tmflow.proofs.StepLemmas.{field_ends}
 use Rattle.sl_tmflow.proofs.channel.Channel.join.Goals as goal
 
 pub hand_packet-outcome-requires-clause-packet : goal.hand_packet-outcome-requires-clause-packet
 hand_packet-outcome-requires-clause-packet g c =
-    let all = c.as_slice.result.now in
-    let before = c.len-before.result in
-    let same : c.as_slice-in-Ends.result.now ≡ all = cc in
-    subst (λ l. IsPacket (take c.in-Ends.len l)) (sym same)
-    (ended_is_packet c.args.first before (drop before all) all c.in-Ends.len c.in-Ends.ensures.step)
+    let all = c.add_field.new.held.items in
+    let packet = take c.in-Ends.len all in
+    let step = sym c.in-Ok.ensures.step ∙ ap (λ it. progress_step it all) c.in-Ends.is in
+    subst (λ l. IsPacket (take c.in-Ends.len l)) (sym c.as_slice.ensures.value)
+    (field_ends c.self.inside.held.items (Packets c.args.first c.args.octets.now) packet step).is_packet

@@ -1,6 +1,6 @@
 //! FARM-1 on one virtual channel.
-ghost use Rattle.std.specs.Prelude.{◌≡◌, ◌≤◌};
-ghost use Rattle.sl_cop.specs.Farm.{area_of, counted, farm_start, farm_step, verdict_in};
+ghost use Rattle.std.specs.Prelude.{◌≡◌, ◌≤◌, SomeIff};
+ghost use Rattle.sl_cop.specs.Farm.{FarmState, IsWidth, area_of, counted, farm_start, farm_step, verdict_in};
 ghost use Rattle.sl_cop.specs.FarmClcw.{clcw_of};
 
 use crate::farm_event::FarmEvent;
@@ -50,6 +50,36 @@ impl Farm {
         }
     }
 
+    /// In a state that was read before by [`vr`](Farm::vr), [`lockout`](Farm::lockout),
+    /// [`retransmit`](Farm::retransmit) and [`farm_b`](Farm::farm_b), as a caller stores it. `None` exactly where the
+    /// FARM-B counter is over 3.
+    pub fn restore(
+        window: Window,
+        vr: u8,
+        lockout: bool,
+        retransmit: bool,
+        farm_b: u8,
+    ) -> Option<Farm>
+        ensures { let state : FarmState = record {
+          vr = vr;
+          lockout = lockout;
+          retransmit = retransmit;
+          farm_b = farm_b;
+        } in let view : FarmView = record { window = window; state = state }
+            in SomeIff result (farm_b ≤ 3) view }
+    {
+        if farm_b > 3 {
+            return None;
+        }
+        Some(Farm {
+            window,
+            vr,
+            lockout,
+            retransmit,
+            farm_b,
+        })
+    }
+
     /// Takes the next frame of the virtual channel, and answers what becomes of it.
     pub fn step(&mut self, event: FarmEvent) -> Verdict
         ensures verdict { result ≡ (farm_step self.old.window self.old.state event).0 }
@@ -80,6 +110,38 @@ impl Farm {
         ensures { result ≡ self.now.state.vr }
     {
         self.vr
+    }
+
+    /// The Lockout flag: the state is the lockout state.
+    pub fn lockout(&self) -> bool
+        ensures { result ≡ self.now.state.lockout }
+    {
+        self.lockout
+    }
+
+    /// The Retransmit flag: a frame of type AD was discarded as early, and since then neither an accepted one nor a
+    /// control command has cleared it.
+    pub fn retransmit(&self) -> bool
+        ensures { result ≡ self.now.state.retransmit }
+    {
+        self.retransmit
+    }
+
+    /// The FARM-B counter, 0 to 3: how many frames of type BD and control commands were taken, modulo 4.
+    pub fn farm_b(&self) -> u8
+        ensures value { result ≡ self.now.state.farm_b }
+        ensures most { result ≤ 3 }
+    {
+        self.farm_b
+    }
+
+    /// The sliding window.
+    pub fn window(&self) -> Window
+        ensures value { result ≡ self.now.window }
+        ensures width { IsWidth self.now.window }
+        ensures most { self.now.window ≤ 254 }
+    {
+        self.window
     }
 
     /// The Communications Link Control Word that reports the state, for the virtual channel 0 to 63.

@@ -1,5 +1,5 @@
 //! The sliding window of FARM-1.
-ghost use Rattle.std.specs.Prelude.{SomeIff};
+ghost use Rattle.std.specs.Prelude.{◌≡◌, ◌≤◌, SomeIff};
 ghost use Rattle.sl_cop.specs.Farm.{IsWidth};
 
 use std::marker::Model;
@@ -33,5 +33,14 @@ impl Window {
             return None;
         }
         Some(Window { width: w })
+    }
+
+    /// The width, even, 2 to 254.
+    pub fn width(&self) -> u8
+        ensures value { result ≡ self.now }
+        ensures width { IsWidth self.now }
+        ensures most { self.now ≤ 254 }
+    {
+        self.width
     }
 }

@@ -2,8 +2,8 @@
 ghost use Rattle.std.specs.Prelude.{◌≡◌, ◌++◌};
 
 use sl_packet::{
-    Delivered, FlowFault, Need, PacketSink, Packets, SinkFault, first_packet, hand_over, is_idle,
-    need, push_idle,
+    Delivered, FlowFault, Need, PacketSink, Packets, SinkFault, add_part, first_packet, give_back,
+    hand_over, is_idle, need, push_idle,
 };
 use std::test::Fail;
 
@@ -203,6 +203,23 @@ fn a_refused_packet_stops_what_is_handed_over(rt: HostRuntime) -> Result<(), Fai
     assert_eq!(rt; fault, Some(SinkFault::Refused));
     assert_eq!(rt; (sink.channel, sink.refused), (9, 1));
     assert_eq!(rt; sink.octets.as_slice(), &PACKET[..]);
+    Ok(())
+}
+
+// That a vector with room isn't moved to more memory, no clause says.
+#[test]
+fn memory_for_parts_ends_with_the_longest_packet(rt: HostRuntime) -> Result<(), Fail> {
+    let mut longest = Vec::new(rt.alloc());
+    longest.resize(65542, 0x33)?;
+    let mut octets = Vec::new(rt.alloc());
+    for part in longest.chunks(1019) {
+        assert!(rt; octets.len() + part.len() <= 65542);
+        add_part(&mut octets, part)?;
+    }
+    assert_eq!(rt; octets.as_slice(), longest.as_slice());
+    assert_eq!(rt; octets.capacity(), 65542);
+    give_back(&mut octets);
+    assert_eq!(rt; (octets.len(), octets.capacity()), (0, 0));
     Ok(())
 }
 

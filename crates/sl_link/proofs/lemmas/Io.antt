@@ -1,5 +1,6 @@
 pub mod Adding
 pub mod Buffer
 pub mod Digits
+pub mod Halves
 pub mod Hexadecimal
 pub mod Streams

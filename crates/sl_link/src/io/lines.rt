@@ -4,6 +4,7 @@ ghost use Rattle.hex.specs.Hex.{encode_lower};
 ghost use Rattle.sl_link.specs.Io.Room.{HasRoomFor, lines_size, reserve};
 
 use crate::io::digits::Decimals;
+use crate::io::hexadecimal::Hexadecimals;
 use arrayvec::ArrayVec;
 use std::marker::Model;
 
@@ -20,6 +21,7 @@ pub struct Lines {
     text: ArrayVec<u8, LINES_SIZE>,
     len: usize,
     decimals: Decimals,
+    hexadecimals: Hexadecimals,
 }
 
 impl Model for Lines {
@@ -42,6 +44,7 @@ impl Lines {
             text: ArrayVec::from([0; LINES_SIZE]),
             len: 0,
             decimals: Decimals::new(),
+            hexadecimals: Hexadecimals::new(),
         }
     }
 
@@ -180,10 +183,9 @@ impl Lines {
         requires { HasRoomFor (2 * length octets.now) self.old }
         ensures { self.new ≡ self.old ++ encode_lower octets.now }
     {
-        let start = self.len;
-        let end = start + 2 * octets.len();
-        let _ = hex::encode_to_slice(octets, &mut self.text.as_mut_slice()[start..end]);
-        self.len = end;
+        let len = self.len;
+        self.hexadecimals.put(octets, self.text.as_mut_slice(), len);
+        self.len = len + 2 * octets.len();
     }
 
     /// Adds a word in hexadecimal.
@@ -193,7 +195,8 @@ impl Lines {
         ensures text { self.new ≡ self.old ++ encode_lower word.now }
         ensures len { length self.new ≡ length self.old + 8 }
     {
-        self.push_hexadecimal(word);
+        let text = self.hexadecimals.of_word(word);
+        self.push(&text);
     }
 }
 

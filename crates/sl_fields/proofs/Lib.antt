@@ -1,4 +1,5 @@
 pub mod ClcwLemmas
+pub mod DecimalLemmas
 pub mod FecfFacts
 pub mod FecfLemmas
 pub mod FecfSliceLemmas
@@ -9,6 +10,7 @@ pub mod Division
 pub mod Flags
 pub mod HeaderFacts
 pub mod HeaderLayout
+pub mod JoinedLemmas
 pub mod Octets
 pub mod PacketHeaderLemmas
 pub mod Packing

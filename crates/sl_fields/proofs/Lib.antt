@@ -11,10 +11,12 @@ pub mod Flags
 pub mod HeaderFacts
 pub mod HeaderLayout
 pub mod JoinedLemmas
+pub mod ListLemmas
 pub mod Octets
 pub mod PacketHeaderLemmas
 pub mod Packing
 pub mod RemainderLemmas
 pub mod SegmentHeaderLemmas
 pub mod TcHeaderLemmas
+pub mod Tells
 pub mod TmHeaderLemmas

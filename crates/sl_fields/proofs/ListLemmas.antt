@@ -35,6 +35,10 @@ module _ {X : Type 0} (P : X → Type 0) where
   each-among [] x later each = each.0
   each-among (e ∷ earlier) x later each = each-among earlier x later each.1
 
+  pub each-every : ((x : X) → P x) → (xs : List X) → AllByRecursion P xs
+  each-every every [] = tt
+  each-every every (x ∷ xs) = (every x, each-every every xs)
+
   pub each-flat_map : {Y : Type 0} (f : Y → List X) (ys : List Y) → AllByRecursion (λ y. AllByRecursion P (f y)) ys → AllByRecursion P (flat_map f ys)
   each-flat_map f [] each = tt
   each-flat_map f (y ∷ ys) each = each-append (f y) (flat_map f ys) each.0 (each-flat_map f ys each.1)

@@ -2,7 +2,7 @@ use Rattle.std.proofs.Common.{suc, ◌≡◌, ◌<◌, ◌≤◌, ◌∷◌, [],
 use Rattle.std.proofs.Math.Seq.{take-suc}
 use Rattle.std.specs.List.{AllByRecursion}
 use Rattle.sl_packet.specs.Delivered.{IsDeliverable, list_at}
-use Rattle.sl_tmflow.proofs.EachLemmas.{each-append}
+use Rattle.sl_fields.proofs.ListLemmas.{each-append}
 use Rattle.sl_tmflow.proofs.form.has_packets.Goals as goal
 
 pub loop-vc-preserved : goal.loop-vc-preserved

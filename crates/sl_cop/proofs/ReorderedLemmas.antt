@@ -1,5 +1,5 @@
 -- Copies of frames of type AD that arrive in any order: which are accepted.
-use Rattle.std.proofs.Common.{◌≡◌, ◌⊎◌, ℕ, zero, suc, ◌+◌, ◌-◌, ◌%◌, ◌<◌, ◌≤◌, false, List, [], ◌∷◌, ◌++◌, length, map, inl, inr, refl, sym, ◌∙◌, ap, subst, arith, append_assoc, append-nil, length-append}
+use Rattle.std.proofs.Common.{◌≡◌, ◌⊎◌, ℕ, ◌+◌, ◌-◌, ◌%◌, ◌<◌, ◌≤◌, false, List, [], ◌∷◌, ◌++◌, length, map, inl, inr, refl, sym, ◌∙◌, ap, subst, arith, append_assoc, append-nil, length-append}
 use Rattle.std.specs.List.{range_with_len}
 use Rattle.sl_cop.specs.declared.farm_event.FarmEvent.{FarmEvent}
 use Rattle.sl_cop.specs.declared.farm_event.FarmEvent.TheVariants.{Ad}
@@ -9,6 +9,7 @@ use Rattle.sl_cop.specs.Accepted.{if_accepted, accepted_by}
 use Rattle.sl_cop.specs.Farm.{FarmState, IsStep, distance, farm_start, farm_step, negative_width, positive_width, state_after, verdicts_of}
 use Rattle.sl_cop.specs.Reordered.{Arrival, Copy, OfTypeBd, UnlockCommand, ns_of, event_at, index_of, accepted_indices, accepted_count, state_at, IsNear, IsInWindow, AreNear, AreInWindow, AcceptedInOrder, VrCountsAccepted, InWindowAreNear, WindowKeepsOpen, ExpectedIsAccepted}
 use Rattle.sl_cop.proofs.FarmLemmas.{each_has_step}
+use Rattle.sl_fields.proofs.ListLemmas.{range-push}
 
 -- ---- numbers
 
@@ -32,13 +33,6 @@ next_ns : (vr m : ℕ) → (ns_of vr m + 1) % 256 ≡ ns_of vr (m + 1)
 next_ns vr m = omega arith
 
 -- ---- lists
-
-range_more : (from n to : ℕ) → from + n ≡ to → range_with_len from (n + 1) ≡ range_with_len from n ++ to ∷ []
-range_more from zero to is = let same : from ≡ to = omega (arith, is) in ap (λ k. k ∷ []) same
-range_more from (suc n) to is =
-    let one_more : suc n + 1 ≡ suc (n + 1) = omega arith in
-    let later : from + 1 + n ≡ to = omega (arith, is) in
-    ap (range_with_len from) one_more ∙ ap (λ l. from ∷ l) (range_more (from + 1) n to later)
 
 module _ {A : Type 0} (P : List A → Type 0) (more : (before : List A) (next : A) → P before → P (before ++ next ∷ [])) where
   after_these : (before list : List A) → P before → P (before ++ list)
@@ -151,7 +145,7 @@ counted_more w vr before arrival earlier near =
           let count : accepted_count w vr (before ++ arrival ∷ []) ≡ m + 1 =
           ap (λ l. length l) same ∙ length-append (accepted_indices w vr before) (m ∷ []) in
           let last : 0 + m ≡ m = omega arith in (
-            same ∙ ap (λ l. l ++ m ∷ []) earlier.0 ∙ sym (range_more 0 m m last) ∙ ap (range_with_len 0) (sym count),
+            same ∙ ap (λ l. l ++ m ∷ []) earlier.0 ∙ sym (range-push 0 m m last) ∙ ap (range_with_len 0) (sym count),
             state ∙ vr_is ∙ ap (ns_of vr) (sym count),
           )
     ]

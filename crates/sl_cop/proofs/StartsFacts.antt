@@ -1,10 +1,11 @@
 -- V(R) that are changed, texts that name some, and texts that name none, so that a wrong definition doesn't check.
-use Rattle.std.proofs.Common.{◌≡◌, ℕ, zero, suc, ◌≤◌, ◌==◌, Bool, true, false, if◌then◌else◌, List, [], ◌∷◌, ◌++◌, length, slice_index_or, replicate, refl, ap, arith}
+use Rattle.std.proofs.Common.{◌≡◌, ℕ, suc, ◌≤◌, true, List, [], ◌∷◌, ◌++◌, length, slice_index_or, replicate, refl, ap, arith}
 use Rattle.std.specs.Fmt.{decimal, digits}
-use Rattle.std.proofs.lemmas.Bool.{eqb-false}
 use Rattle.std.proofs.lemmas.Fmt.{decimal_injective, decimal_nonempty}
 use Rattle.sl_cop.specs.Starts.{Item, Lists, over_from, starts_over}
-use Rattle.sl_cop.proofs.StartsTextLemmas.{HasNo, has_colon, has_more, has_one, item_parts, unpadded}
+use Rattle.sl_cop.proofs.StartsTextLemmas.{has_colon, has_more, has_one, item_parts}
+use Rattle.sl_fields.proofs.DecimalLemmas.{unpadded}
+use Rattle.sl_fields.proofs.JoinedLemmas.{has_no, is_without}
 
 abbrev of : ℕ → ℕ → Item
 of vc vr = record { vc = vc; vr = vr }
@@ -46,20 +47,6 @@ lists_least_and_greatest =
 
 abbrev pub IsRefused : List ℕ → Type 0
 IsRefused text = (items : List Item) → Lists 0 text items → ⊥
-
--- whether a text has none of this character
-abbrev is_without : ℕ → List ℕ → Bool
-is_without c [] = true
-is_without c (x ∷ text) = if x == c then false else is_without c text
-
-has_no : (c : ℕ) (text : List ℕ) → is_without c text ≡ true → HasNo c text
-has_no c [] without = λ i inside. absurd (omega (arith, inside))
-has_no c (x ∷ text) without = by (x == c) refl without (λ rest. has_no c text rest)
-  where
-    by : (same : Bool) → (x == c) ≡ same → (if same then false else is_without c text) ≡ true → (is_without c text ≡ true → HasNo c text) → HasNo c (x ∷ text)
-    by true is never later i inside = absurd (omega (arith, ap {B = ℕ} (λ b. if b then 1 else 0) never))
-    by false is rest later zero inside = eqb-false x c is
-    by false is rest later (suc i) inside = later rest i (omega arith)
 
 -- what the numbers of one item are: those before and after its colon
 pub record HasNumbers (least : ℕ) (first rest : List ℕ) : Type 0 where

@@ -1,7 +1,8 @@
 -- The initial V(R) of FARM-1, CCSDS 232.1-B, on each of the 64 virtual channels of TC frames, as a list of numbers, and the
 -- text that names some of them.
-use Rattle.std.specs.Prelude.{◌≡◌, ◌≢◌, ℕ, suc, ◌<◌, ◌≤◌, ◌==◌, if◌then◌else◌, List, [], ◌∷◌, ◌++◌, length, slice_index_or, slice_set, All}
+use Rattle.std.specs.Prelude.{◌≡◌, ◌≢◌, ℕ, suc, ◌<◌, ◌≤◌, ◌==◌, if◌then◌else◌, List, [], ◌∷◌, ◌++◌, map, length, slice_index_or, slice_set, All}
 use Rattle.std.specs.Fmt.{decimal}
+use Rattle.std.specs.List.{join_with_byte}
 
 -- one initial V(R), 0 to 255, for each of the virtual channels 0 to 63
 pub record AreStarts (starts : List ℕ) : Type 0 where
@@ -46,15 +47,9 @@ AreItems least (item ∷ items) = IsItem least item × AreItems (suc item.vc) it
 abbrev pub item_text : Item → List ℕ
 item_text item = decimal item.vc ++ 58 ∷ decimal item.vr
 
--- each item after a comma
-abbrev pub after_commas : List Item → List ℕ
-after_commas [] = []
-after_commas (item ∷ items) = 44 ∷ item_text item ++ after_commas items
-
 -- the items, joined by commas
 abbrev pub items_text : List Item → List ℕ
-items_text [] = []
-items_text (item ∷ items) = item_text item ++ after_commas items
+items_text items = join_with_byte 44 (map item_text items)
 
 -- the text lists these items, one or more, whose virtual channels rise strictly from the least on, up to 63, and whose
 -- V(R) are 255 at most

@@ -1,8 +1,8 @@
 //! The V(R) at which FARM-1 of each virtual channel begins.
 ghost use Rattle.std.specs.Prelude.{◌≡◌, ◌≤◌, ℕ, List, IfSome, Some, replicate, slice_index_or, slice_set};
-ghost use Rattle.std.specs.Fmt.{decimal};
 ghost use Rattle.sl_cop.specs.Starts.{AreNamed, AreStarts, IsItem, Item, Lists, item_text, starts_over};
 
+use sl_fields::read_decimal;
 use std::marker::Model;
 
 /// The initial V(R) of FARM-1, the receiver frame sequence number of CCSDS 232.1-B, for each of the 64 virtual channels
@@ -98,22 +98,11 @@ fn read_item(text: &str, least: u8) -> Option<(u8, u8)>
         ≡ Some (item.vc, item.vr) }
 {
     let (vc, vr) = text.split_once(':')?;
-    let vc = read_number(vc)?;
-    let vr = read_number(vr)?;
+    let vc = read_decimal(vc)?;
+    let vr = read_decimal(vr)?;
     if least <= vc && vc <= 63 {
         Some((vc, vr))
     } else {
         None
     }
-}
-
-// The number, 0 to 255, that the text is in decimal.
-fn read_number(text: &str) -> Option<u8>
-    ensures number { IfSome result (λ n. text.now ≡ decimal n) }
-    ensures every { (n : ℕ) → n ≤ 255 → text.now ≡ decimal n → result ≡ Some n }
-{
-    if text.len() > 1 && text.as_bytes()[0] < b'1' {
-        return None;
-    }
-    text.parse::<u8>().ok()
 }

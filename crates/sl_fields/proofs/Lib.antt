@@ -1,4 +1,5 @@
 pub mod ClcwLemmas
+pub mod DecimalLemmas
 pub mod FecfFacts
 pub mod FecfLemmas
 pub mod FecfSliceLemmas
@@ -9,10 +10,13 @@ pub mod Division
 pub mod Flags
 pub mod HeaderFacts
 pub mod HeaderLayout
+pub mod JoinedLemmas
+pub mod ListLemmas
 pub mod Octets
 pub mod PacketHeaderLemmas
 pub mod Packing
 pub mod RemainderLemmas
 pub mod SegmentHeaderLemmas
 pub mod TcHeaderLemmas
+pub mod Tells
 pub mod TmHeaderLemmas

@@ -21,7 +21,7 @@ incomplete_tests true i n h = absurd (cc)
 incomplete_tests false true n h = (refl, refl)
 incomplete_tests false false n h = absurd (cc)
 
-foreign_tests : (f i : Bool) (n : ℕ) → (if f then OtherVersion else if i then Incomplete else WholePacket n) ≡ OtherVersion → f ≡ true
+pub foreign_tests : (f i : Bool) (n : ℕ) → (if f then OtherVersion else if i then Incomplete else WholePacket n) ≡ OtherVersion → f ≡ true
 foreign_tests true i n h = refl
 foreign_tests false true n h = absurd (cc)
 foreign_tests false false n h = absurd (cc)
@@ -31,13 +31,13 @@ from_tests true i n e h = absurd (cc)
 from_tests false true n e h = absurd (cc)
 from_tests false false n e h = refl
 
-foreign_true : (n v : ℕ) → (nat_lt 0 n && not (v == 0)) ≡ true → (0 < n) × (v ≡ 0 → ⊥)
+pub foreign_true : (n v : ℕ) → (nat_lt 0 n && not (v == 0)) ≡ true → (0 < n) × (v ≡ 0 → ⊥)
 foreign_true n v h = grind (arith, nat_tests)
 
 foreign_false : (n v : ℕ) → (nat_lt 0 n && not (v == 0)) ≡ false → 0 < n → v ≡ 0
 foreign_false n v h some = grind (arith, nat_tests)
 
-not_foreign : (n v : ℕ) → v ≡ 0 → (nat_lt 0 n && not (v == 0)) ≡ false
+pub not_foreign : (n v : ℕ) → v ≡ 0 → (nat_lt 0 n && not (v == 0)) ≡ false
 not_foreign n v h = grind (arith, nat_tests)
 
 -- a whole front is of version 0 and states its length, and so many octets are there

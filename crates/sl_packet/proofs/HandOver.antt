@@ -5,8 +5,7 @@ use Rattle.std.proofs.lemmas.List.{length-take-le, take-append-drop, take_rest}
 use Rattle.sl_packet.specs.Packet.{IsPacket, is_idle_packet}
 use Rattle.sl_packet.specs.Front.{Front, OtherVersion, Incomplete, WholePacket, front, packet_at, first_packet_of}
 use Rattle.sl_packet.specs.Packets.{packets_of, rest_of, without_idle, only_idle}
-use Rattle.sl_packet.specs.Sink.{TakesAll, StopsTaking}
-use Rattle.sl_packet.specs.declared.sink.SinkFault.{SinkFault}
+use Rattle.sl_packet.specs.Sink.{TakesAll}
 use Rattle.sl_packet.proofs.PacketLemmas.{packet_least}
 use Rattle.sl_packet.proofs.FrontLemmas.{whole_is_a_packet, whole_front}
 use Rattle.sl_packet.proofs.PacketsLemmas.{packets_of-whole, rest_of-whole, packets_of-none, rest_of-none}
@@ -93,18 +92,6 @@ module _ {S : Type 0} (taking : S → ℕ → List ℕ → S → Type 0) where
     pub rest : left ≡ rest_of octets
 
   module _ (failures : S → ℕ) (old : S) (channel : ℕ) (octets : List ℕ) where
-    pub handed_none : HasHanded failures old channel octets octets old 0 0
-    handed_none = record {
-      done = [];
-      in_order = refl;
-      rest = refl;
-      takes = refl;
-      kept = refl;
-      due_count = refl;
-      idle_count = refl;
-      room = omega arith;
-    }
-
     -- the octets that are left as the code takes them, with what is equal to the counts
     pub handed_at : (left joined : List ℕ) (n : ℕ) (new last : S) (packets packets' idle idle' : ℕ) → joined ≡ left → last ≡ new → packets' ≡ packets → idle' ≡ idle → HasHanded failures old channel octets (drop n left) new packets idle → HasHanded failures old channel octets (take (length joined - n) (drop n joined)) last packets' idle'
     handed_at left joined n new last packets packets' idle idle' same_left same_sink same_packets same_idle handed =
@@ -152,30 +139,6 @@ module _ {S : Type 0} (taking : S → ℕ → List ℕ → S → Type 0) where
             due_count = omega (arith, ap length (without_idle-due handed.done packet [] is_due), length-append (without_idle handed.done) (packet ∷ []));
             idle_count = handed.idle_count ∙ ap length (sym (only_idle-due handed.done packet is_due));
             room = omega (arith, length-drop (length packet) left);
-          }
-
-      -- there is room for one more in the counts
-      pub handed_room : (packet : List ℕ) → first_packet_of left ≡ Some packet → packets + idle + 7 ≤ length octets
-      handed_room packet h =
-          let first = is_first left packet h in
-          let inside = first.inside in
-          let least = packet_least packet first.is in
-          let room = handed.room in
-          omega arith
-
-      pub stops_taking : (failing : S → ℕ → List ℕ → SinkFault → S → Type 0) (packet : List ℕ) (new : S) (fault : SinkFault) → first_packet_of left ≡ Some packet → is_idle_packet packet ≡ false → failing mid channel packet fault new → StopsTaking taking failing old channel (without_idle (packets_of octets)) fault new
-      stops_taking failing packet new fault h is_due failed =
-          let first = is_first left packet h in
-          record {
-            accepted = without_idle handed.done;
-            refused = packet;
-            later = without_idle (packets_of (drop (length packet) left));
-            in_order =
-                ap without_idle (handed.in_order ∙ ap (λ xs. handed.done ++ xs) first.packets)
-                ∙ without_idle-due handed.done packet (packets_of (drop (length packet) left)) is_due;
-            before = mid;
-            takes = handed.takes;
-            fails = failed;
           }
 
       -- where no packet is left, all are handed over

@@ -1,9 +1,10 @@
 -- The list of a channel among those that are kept, and what each packet in them is.
-use Rattle.std.proofs.Common.{◌≡◌, ℕ, zero, suc, ◌+◌, ◌-◌, max, ◌<◌, ◌≤◌, List, [], ◌∷◌, ◌++◌, length, map, take, replicate, get_or, set, refl, sym, ◌∙◌, ap, subst, arith, length-append, append-nil, append_assoc}
+use Rattle.std.proofs.Common.{◌≡◌, ℕ, ◌+◌, ◌-◌, max, ◌<◌, ◌≤◌, List, [], ◌∷◌, ◌++◌, length, map, take, replicate, get_or, set, refl, sym, ◌∙◌, ap, subst, arith, length-append, append_assoc}
 use Rattle.std.proofs.lemmas.List.{get_or-map, get_or_past, length-map, map_push, map-set, set-get_or, length-replicate, replicate_more}
 use Rattle.std.specs.List.{AllByRecursion}
 use Rattle.std.specs.Vec.{vec_items}
 use Rattle.std.specs.declared.vec.Vec.{Vec}
+use Rattle.sl_fields.proofs.ListLemmas.{each-append, each-at, each-replicate, each-set, each-take}
 use Rattle.sl_packet.specs.Delivered.{channel_count, no_lists, IsDeliverable, with_packet}
 use Rattle.sl_packet.specs.KeptLists.{with_empty_lists, IsGrown}
 use Rattle.sl_packet.proofs.PaddedLemmas.{get_or-with_empty_lists}
@@ -47,14 +48,6 @@ pub record HasReached (old new : List (List (List ℕ))) (channel : ℕ) : Type 
   pub grown : IsGrown old new
   pub no_further : length new ≤ max (length old) (channel + 1)
 
-pub reached_none : (old : List (List (List ℕ))) (channel : ℕ) → HasReached old old channel
-reached_none old channel =
-    let none : length old - length old ≡ 0 = omega arith in
-    record {
-      grown = sym (append-nil old) ∙ ap (λ k. old ++ replicate k []) (sym none);
-      no_further = omega arith;
-    }
-
 pub reached_more : (old lists new : List (List (List ℕ))) (channel : ℕ) → HasReached old lists channel → new ≡ lists ++ [] ∷ [] → length lists ≤ channel → HasReached old new channel
 reached_more old lists new channel h e before =
     let k = length lists - length old in
@@ -69,40 +62,17 @@ reached_more old lists new channel h e before =
 
 -- ---- what holds of each
 
-AllByRecursion-get_or : {X : Type 0} (P : X → Type 0) (xs : List X) (i : ℕ) (d : X) → P d → AllByRecursion P xs → P (get_or xs i d)
-AllByRecursion-get_or P [] i d one all = one
-AllByRecursion-get_or P (x ∷ xs) zero d one all = all.0
-AllByRecursion-get_or P (x ∷ xs) (suc i) d one all = AllByRecursion-get_or P xs i d one all.1
-
-AllByRecursion-set : {X : Type 0} (P : X → Type 0) (xs : List X) (i : ℕ) (x : X) → P x → AllByRecursion P xs → AllByRecursion P (set xs i x)
-AllByRecursion-set P [] i x one all = tt
-AllByRecursion-set P (y ∷ xs) zero x one all = (one, all.1)
-AllByRecursion-set P (y ∷ xs) (suc i) x one all = (all.0, AllByRecursion-set P xs i x one all.1)
-
-AllByRecursion-append : {X : Type 0} (P : X → Type 0) (xs ys : List X) → AllByRecursion P xs → AllByRecursion P ys → AllByRecursion P (xs ++ ys)
-AllByRecursion-append P [] ys all more = more
-AllByRecursion-append P (x ∷ xs) ys all more = (all.0, AllByRecursion-append P xs ys all.1 more)
-
-AllByRecursion-replicate : {X : Type 0} (P : X → Type 0) (n : ℕ) (x : X) → P x → AllByRecursion P (replicate n x)
-AllByRecursion-replicate P zero x one = tt
-AllByRecursion-replicate P (suc n) x one = (one, AllByRecursion-replicate P n x one)
-
-AllByRecursion-take : {X : Type 0} (P : X → Type 0) (n : ℕ) (xs : List X) → AllByRecursion P xs → AllByRecursion P (take n xs)
-AllByRecursion-take P zero xs all = tt
-AllByRecursion-take P (suc n) [] all = tt
-AllByRecursion-take P (suc n) (x ∷ xs) all = (all.0, AllByRecursion-take P n xs all.1)
-
 abbrev AllDeliverable : List (List ℕ) → Type 0
 AllDeliverable packets = AllByRecursion IsDeliverable packets
 
 pub due_at : (kept : List (List (List ℕ))) (i : ℕ) → length kept ≤ channel_count → AllByRecursion AllDeliverable kept → AllDeliverable (get_or (with_empty_lists kept) i [])
-due_at kept i fit all = subst AllDeliverable (sym (get_or-with_empty_lists kept i fit)) (AllByRecursion-get_or AllDeliverable kept i [] tt all)
+due_at kept i fit all = subst AllDeliverable (sym (get_or-with_empty_lists kept i fit)) (each-at AllDeliverable kept i [] tt all)
 
 -- and so is each of the lists with empty ones after them
 filled_due : (n k : ℕ) (kept empty lists : List (List (List ℕ))) → empty ≡ replicate k [] → lists ≡ take n (kept ++ empty) → AllByRecursion AllDeliverable kept → AllByRecursion AllDeliverable lists
 filled_due n k kept empty lists none is all =
-    let after : AllByRecursion AllDeliverable empty = subst (AllByRecursion AllDeliverable) (sym none) (AllByRecursion-replicate AllDeliverable k [] tt) in
-    subst (AllByRecursion AllDeliverable) (sym is) (AllByRecursion-take AllDeliverable n (kept ++ empty) (AllByRecursion-append AllDeliverable kept empty all after))
+    let after : AllByRecursion AllDeliverable empty = subst (AllByRecursion AllDeliverable) (sym none) (each-replicate AllDeliverable k [] tt) in
+    subst (AllByRecursion AllDeliverable) (sym is) (each-take AllDeliverable n (kept ++ empty) (each-append AllDeliverable kept empty all after))
 
 no_lists_are : no_lists ≡ replicate channel_count []
 unfolding no_lists
@@ -118,10 +88,10 @@ all_due kept all = filled_due channel_count channel_count kept no_lists (with_em
 pub grown_due : (old new : List (List (List ℕ))) → IsGrown old new → AllByRecursion AllDeliverable old → AllByRecursion AllDeliverable new
 grown_due old new grown all =
     let empty = replicate (length new - length old) [] in
-    subst (AllByRecursion AllDeliverable) (sym grown) (AllByRecursion-append AllDeliverable old empty all (AllByRecursion-replicate AllDeliverable (length new - length old) [] tt))
+    subst (AllByRecursion AllDeliverable) (sym grown) (each-append AllDeliverable old empty all (each-replicate AllDeliverable (length new - length old) [] tt))
 
 pub with_packet_due : (lists : List (List (List ℕ))) (channel : ℕ) (packet : List ℕ) → AllByRecursion AllDeliverable lists → IsDeliverable packet → AllByRecursion AllDeliverable (with_packet lists channel packet)
 with_packet_due lists channel packet all due =
     let list = get_or lists channel [] in
-    AllByRecursion-set AllDeliverable lists channel (list ++ packet ∷ [])
-    (AllByRecursion-append IsDeliverable list (packet ∷ []) (AllByRecursion-get_or AllDeliverable lists channel [] tt all) (due, tt)) all
+    each-set AllDeliverable lists channel (list ++ packet ∷ [])
+    (each-append IsDeliverable list (packet ∷ []) (each-at AllDeliverable lists channel [] tt all) (due, tt)) all

@@ -1,24 +1,21 @@
 -- Packets, and what of them stands in their first octets.
 use Rattle.std.proofs.Common.{◌≡◌, ℕ, ◌+◌, ◌-◌, ◌*◌, ◌/◌, ◌%◌, ◌^◌, ◌<◌, ◌≤◌, List, [], ◌∷◌, ◌++◌, length, take, drop, refl, sym, ◌∙◌, ap, arith, length-append, length-drop}
 use Rattle.std.proofs.Math.Nat.{add-mul, mul_assoc, add_assoc}
-use Rattle.std.proofs.lemmas.List.{take-append-le, take-take, take-append-drop, take_at, length-take, nil_from_length}
+use Rattle.std.proofs.lemmas.List.{take-append-le, take-take, take-append-drop, take_at, length-take}
 use Rattle.std.proofs.lemmas.List.Elements.{All-take, All-drop}
 use Rattle.std.proofs.lemmas.Nat.{pow-add, shr-shr, shr_high}
 use Rattle.sl_fields.proofs.Octets.{number_of_lt}
 use Rattle.sl_fields.specs.Field.{IsOctets, field, number_of}
 use Rattle.sl_fields.specs.PacketHeader.{packet_header}
-use Rattle.sl_packet.specs.Packet.{version_of, apid_of, stated_packet_len, IsPacket, PacketsArePrefixFree, OnePacketIsPrefix, HeaderFieldsStandFirst}
+use Rattle.sl_packet.specs.Packet.{version_of, stated_packet_len, IsPacket, OnePacketIsPrefix, HeaderFieldsStandFirst}
 
 -- a packet has a header and an octet at least
 pub packet_least : (packet : List ℕ) → IsPacket packet → 7 ≤ length packet
 packet_least packet p = let e = p.len in omega arith
 
--- what more octets follow the version, the APID and the header doesn't change them
+-- what more octets follow the version and the header doesn't change them
 pub version_of-append : (octets more : List ℕ) → 1 ≤ length octets → version_of (octets ++ more) ≡ version_of octets
 version_of-append octets more h = ap (λ xs. field 1 0 3 xs) (take-append-le 1 octets more h)
-
-pub apid_of-append : (octets more : List ℕ) → 2 ≤ length octets → apid_of (octets ++ more) ≡ apid_of octets
-apid_of-append octets more h = ap (λ xs. field 2 5 11 xs) (take-append-le 2 octets more h)
 
 pub stated_packet_len-append : (octets more : List ℕ) → 6 ≤ length octets → stated_packet_len (octets ++ more) ≡ stated_packet_len octets
 stated_packet_len-append octets more h = ap (λ xs. 7 + (packet_header xs).length) (take-append-le 6 octets more h)
@@ -47,11 +44,6 @@ pub one_packet : OnePacketIsPrefix
 one_packet p q p' q' is_p is_q same =
     let long : length p ≡ length q = sym (stated_packet_len-packet p p' is_p) ∙ ap stated_packet_len same ∙ stated_packet_len-packet q q' is_q in
     sym (take_at p p' (length q) long) ∙ ap (λ xs. take (length q) xs) same ∙ take_at q q' (length q) refl
-
-pub prefix_free : PacketsArePrefixFree
-prefix_free packet more is_packet is_longer =
-    let long : length packet ≡ length (packet ++ more) = sym (stated_packet_len-packet packet more is_packet) ∙ sym is_longer.len in
-    nil_from_length more (omega (arith, length-append packet more))
 
 -- the high bits of a number of octets are those of the number of its first ones
 number_of-append : (xs ys : List ℕ) → number_of (xs ++ ys) ≡ number_of xs * 256 ^ length ys + number_of ys

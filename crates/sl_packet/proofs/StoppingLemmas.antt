@@ -1,10 +1,15 @@
 -- The handing over of packets to a sink, list after list.
-use Rattle.std.proofs.Common.{◌≡◌, ℕ, List, [], ◌∷◌, ◌++◌, sym, ◌∙◌, ap, append_assoc, subst}
+use Rattle.std.proofs.Common.{◌≡◌, ℕ, List, [], ◌∷◌, ◌++◌, Result, Ok, Err, OnErr, sym, ◌∙◌, ap, append_assoc, subst}
 use Rattle.sl_packet.specs.Sink.{TakesAll, one_more}
 use Rattle.sl_packet.specs.declared.flow_fault.FlowFault.{FlowFault}
 use Rattle.sl_packet.specs.declared.flow_fault.FlowFault.TheVariants.{Memory, Sink, Failed}
 use Rattle.sl_packet.specs.declared.sink.SinkFault.{SinkFault}
 use Rattle.sl_packet.specs.Stopping.{CountsFault, IsStopped}
+
+-- what holds where there is an error, too
+pub on_err : {A E : Type 0} (r : Result A E) (P : Type 0) → P → OnErr r P
+on_err (Ok a) P p = tt
+on_err (Err e) P p = p
 
 module _ {S : Type 0} (taking : S → ℕ → List ℕ → S → Type 0) where
   -- one list after another is all of them

@@ -7,14 +7,10 @@ use Rattle.sl_fields.specs.TcHeader.{tc_header}
 use Rattle.sl_tcframe.specs.TcFrame.{TcFormat, is_cut, least_of, stated_frame_len}
 use Rattle.sl_tcframe.specs.TcDelimited.{IsTcDelimited, EachIsTcDelimited, IsTcDelimitedOnce, begin_no_frame, front_len, frame_at, frame_passed, tc_frames_from, tc_frames_of, tc_remainder_of}
 use Rattle.sl_tcframe.proofs.PartLemmas.{cut_facts, facts_cut}
+use Rattle.std.proofs.lemmas.Bool.{or_parts}
+use Rattle.std.proofs.lemmas.Option.{none-some, same_Some}
 
 -- ---- the front
-
-neither : (a b c : Bool) → (a || (b || c)) ≡ false → (a ≡ false) × (b ≡ false) × (c ≡ false)
-neither false false false h = (refl, refl, refl)
-neither true b c h = absurd (cc)
-neither false true c h = absurd (cc)
-neither false false true h = absurd (cc)
 
 -- what is so of a frame's length at the front
 pub record IsFront (format : TcFormat) (octets : List ℕ) (len : ℕ) : Type 0 where
@@ -25,11 +21,12 @@ pub record IsFront (format : TcFormat) (octets : List ℕ) (len : ℕ) : Type 0 
 
 front_facts : (format : TcFormat) (octets : List ℕ) → begin_no_frame format octets ≡ false → IsFront format octets (stated_frame_len octets)
 front_facts format octets h =
-    let n = neither (nat_lt (length octets) 5) (nat_lt (stated_frame_len octets) (least_of format)) (nat_lt (length octets) (stated_frame_len octets)) h in
+    let header = or_parts (nat_lt (length octets) 5) (nat_lt (stated_frame_len octets) (least_of format) || nat_lt (length octets) (stated_frame_len octets)) h in
+    let stated = or_parts (nat_lt (stated_frame_len octets) (least_of format)) (nat_lt (length octets) (stated_frame_len octets)) header.1 in
     record {
-      header = ltb-false (length octets) 5 n.0;
-      least = ltb-false (stated_frame_len octets) (least_of format) n.1;
-      inside = ltb-false (length octets) (stated_frame_len octets) n.2;
+      header = ltb-false (length octets) 5 header.0;
+      least = ltb-false (stated_frame_len octets) (least_of format) stated.0;
+      inside = ltb-false (length octets) (stated_frame_len octets) stated.1;
       stated = refl;
     }
 
@@ -201,15 +198,9 @@ delimited_once format recording frames remainder a =
 pub front_some : (format : TcFormat) (octets : List ℕ) (len : ℕ) → front_len format octets ≡ Some len → IsFront format octets len
 front_some format octets len h =
     elim (cases_front format octets) [
-      | inl (f, e) ↦ subst (IsFront format octets) (some_injective (stated_frame_len octets) len (sym e ∙ h)) f
-      | inr (e, none) ↦ absurd (none_some len (sym none ∙ h))
+      | inl (f, e) ↦ subst (IsFront format octets) (same_Some (stated_frame_len octets) len (sym e ∙ h)) f
+      | inr (e, none) ↦ absurd (none-some len (sym none ∙ h))
     ]
-  where
-    some_injective : (a b : ℕ) → Some a ≡ Some b → a ≡ b
-    some_injective a b e = cc
-
-    none_some : (a : ℕ) → None ≡ Some a → ⊥
-    none_some a e = cc
 
 pub front_is_cut : (format : TcFormat) (octets : List ℕ) (len : ℕ) → front_len format octets ≡ Some len → is_cut format (take len octets) ≡ true
 front_is_cut format octets len h = front_cut format octets len (front_some format octets len h)

@@ -98,13 +98,13 @@ below_stays format octets more below =
     let facts = front_tells format octets BelowLeast below in
     front_below_least format (octets ++ more) (omega (arith, facts.0, length-append octets more)) (omega (arith, facts.1, len_by_four-append octets more facts.0))
 
+pub below_is_not_whole : (len : ℕ) → BelowLeast ≡ WholeFrame len → ⊥
+below_is_not_whole len e = cc
+
 -- four octets that state a length below the least stay the last ones
 pub still_stuck : (format : TcFormat) (old chunk : List ℕ) → IsRest format old → front_of format old ≡ BelowLeast
     → (b : Bool) (new left : List ℕ) → TakesUpToFrame format old chunk b new left → (b ≡ false) × (new ≡ old) × (left ≡ chunk)
-still_stuck format old chunk is_rest below true new left t = absurd (differ (length new) (sym (below_stays format old chunk below) ∙ t.1))
-  where
-    differ : (len : ℕ) → BelowLeast ≡ WholeFrame len → ⊥
-    differ len e = cc
+still_stuck format old chunk is_rest below true new left t = absurd (below_is_not_whole (length new) (sym (below_stays format old chunk below) ∙ t.1))
 still_stuck format old chunk is_rest below false new left t =
     let now = below_stays format old chunk below in
     let four : length old ≡ 4 = elim is_rest [
@@ -152,13 +152,6 @@ module _ (format : TcFormat) (old chunk : List ℕ) (fits : FitsRest format old)
 
   abbrev later : List ℕ
   later = unfilled 4 old chunk
-
-  -- there are four octets, unless the chunk is used up
-  pub takes_few : length first < 4 → TakesUpToFrame format old chunk false first later
-  takes_few few =
-      let all = few_taken 4 old chunk few in
-      let front : front_of format (old ++ chunk) ≡ Incomplete = front_few format (old ++ chunk) (omega (arith, few, ap length all)) in
-      (inl front, rw front all, rw front (few_left 4 old chunk few), fits_rest format first (inl (omega (arith, few))))
 
   -- what four octets state, all state
   same_len : 4 ≤ length first → len_by_four (old ++ chunk) ≡ len_by_four first

@@ -1,23 +1,18 @@
 -- A frame is its parts, and no others.
-use Rattle.std.proofs.Common.{◌≡◌, ℕ, ◌+◌, ◌-◌, ◌≤◌, ◌==◌, nat_lt, Bool, true, false, not, ◌&&◌, List, ◌++◌, length, take, drop, refl, sym, ◌∙◌, ap, arith, append_assoc, length-append, length-drop, length-take-le}
+use Rattle.std.proofs.Common.{◌≡◌, ℕ, ◌+◌, ◌-◌, ◌≤◌, ◌==◌, nat_lt, true, not, List, ◌++◌, length, take, drop, refl, sym, ◌∙◌, ap, arith, append_assoc, length-append, length-drop, length-take-le}
 use Rattle.std.proofs.Math.Seq.{take-append_seam, drop-append_seam, drop-append-add}
 use Rattle.std.proofs.lemmas.Bool.{not-true, ltb-false, eqb-true, le-ltb, eq-eqb}
 use Rattle.std.proofs.lemmas.List.{take-append-drop, drop-drop}
 use Rattle.sl_fields.specs.FecfField.{fecf_len}
 use Rattle.sl_fields.specs.TcHeader.{tc_header}
 use Rattle.sl_tcframe.specs.TcFrame.{TcFormat, TcParts, ArePartsOf, field_len, is_cut, least_of, tc_parts_of, stated_frame_len}
-
--- both hold
-pub both : (a b : Bool) → (a && b) ≡ true → (a ≡ true) × (b ≡ true)
-both true true h = (refl, refl)
-both true false h = absurd (cc)
-both false b h = absurd (cc)
+use Rattle.std.proofs.lemmas.Bool.{and_parts}
 
 -- what it is to be a frame by the frame length field
 pub cut_facts : (format : TcFormat) (frame : List ℕ) → is_cut format frame ≡ true
     → (least_of format ≤ length frame) × (length frame ≡ stated_frame_len frame)
 cut_facts format frame h =
-    let b = both (not (nat_lt (length frame) (least_of format))) (length frame == stated_frame_len frame) h in (
+    let b = and_parts (not (nat_lt (length frame) (least_of format))) (length frame == stated_frame_len frame) h in (
       ltb-false (length frame) (least_of format) (not-true _ b.0),
       eqb-true (length frame) (stated_frame_len frame) b.1,
     )

@@ -1,5 +1,5 @@
 -- A frame is skipped for the first reason that holds, or carries one content.
-use Rattle.std.proofs.Common.{◌≡◌, ◌≢◌, ℕ, suc, ◌+◌, ◌<◌, ◌≤◌, ◌==◌, nat_lt, leb, Bool, true, false, not, ◌&&◌, if◌then◌else◌, List, [], ◌∷◌, length, Option, None, Some, Result, Ok, Err, inl, inr, refl, sym, ◌∙◌, ap, subst, arith}
+use Rattle.std.proofs.Common.{◌≡◌, ◌≢◌, ℕ, suc, ◌+◌, ◌<◌, ◌≤◌, ◌==◌, nat_lt, Bool, true, false, not, ◌&&◌, if◌then◌else◌, List, [], ◌∷◌, length, Option, None, Some, Result, Ok, Err, inl, inr, refl, sym, ◌∙◌, ap, subst, arith}
 use Rattle.std.proofs.lemmas.Bool.{ne_eqb}
 use Rattle.std.proofs.lemmas.Bool.Decides.{eqb_tells, leb_tells}
 use Rattle.sl_fields.specs.Fecf.{fecf_is_good}
@@ -7,39 +7,14 @@ use Rattle.sl_fields.specs.TcHeader.{TcFields}
 use Rattle.sl_tcframe.specs.declared.tc_frame.TcSkip.{TcSkip}
 use Rattle.sl_tcframe.specs.declared.tc_frame.TcSkip.TheVariants.{Fecf, Version, Spacecraft, Long, Kind, Empty, Command}
 use Rattle.sl_tcframe.specs.TcFrame.{TcFormat, TcView, Content, Ad, Bd, Unlock, SetVr, Carries, HasReason, IsReadAs, tc_header_of, tc_parts_of, command_of, content_of, order_of, early_reason, read_as, tc_frame}
+use Rattle.sl_fields.proofs.Tells.{Tells, tells_both, tells_less, tells_other}
 
 -- ---- tests, and what they tell
-
-abbrev Tells : Bool → Type 0 → Type 0
-Tells true A = A
-Tells false A = A → ⊥
-
-tells_both : (a b : Bool) → Tells (a && not b) ((a ≡ true) × (b ≡ false))
-tells_both true false = (refl, refl)
-tells_both true true = λ p. cc
-tells_both false b = λ p. cc
 
 tells_command_alone : (a b : Bool) → Tells (not a && b) ((a ≡ false) × (b ≡ true))
 tells_command_alone false true = (refl, refl)
 tells_command_alone false false = λ p. cc
 tells_command_alone true b = λ p. cc
-
-tells_other : (a b : ℕ) → Tells (not (a == b)) (a ≢ b)
-tells_other a b =
-    elim (eqb_tells a b) [
-      | inl (e, same) ↦ rw e (λ (other : a ≢ b). other same)
-      | inr (e, other) ↦ rw e other
-    ]
-
-less_is : (a b : ℕ) → nat_lt a b ≡ leb (suc a) b
-less_is a b = refl
-
-tells_less : (a b : ℕ) → Tells (nat_lt a b) (a < b)
-tells_less a b =
-    elim (leb_tells (suc a) b) [
-      | inl (e, less) ↦ rw (less_is a b ∙ e) (omega arith)
-      | inr (e, other) ↦ rw (less_is a b ∙ e) (λ (less : a < b). omega arith)
-    ]
 
 tells_empty : (octets : List ℕ) → Tells (length octets == 0) (octets ≡ [])
 tells_empty [] = refl

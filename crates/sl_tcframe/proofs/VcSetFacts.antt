@@ -1,10 +1,12 @@
 -- Texts that list virtual channels, and texts that don't, so that a wrong definition doesn't check.
-use Rattle.std.proofs.Common.{◌≡◌, ◌≢◌, ℕ, zero, suc, ◌<◌, ◌≤◌, true, false, List, [], ◌∷◌, length, refl, ap, arith}
+use Rattle.std.proofs.Common.{◌≡◌, ℕ, suc, ◌≤◌, true, false, List, [], ◌∷◌, length, refl, ap, arith}
 use Rattle.std.specs.Fmt.{decimal, digits}
 use Rattle.std.proofs.lemmas.Fmt.{decimal_injective, decimal_nonempty}
 use Rattle.sl_tcframe.specs.VcSet.{Lists, has_vc, with_vc}
 use Rattle.sl_tcframe.specs.VcSetModel.{numbers_from}
-use Rattle.sl_tcframe.proofs.VcTextLemmas.{HasNoComma, has_more, has_one, unpadded}
+use Rattle.sl_fields.proofs.DecimalLemmas.{unpadded}
+use Rattle.sl_fields.proofs.JoinedLemmas.{has_no}
+use Rattle.sl_tcframe.proofs.VcTextLemmas.{has_more, has_one}
 
 pub record AreSets : Type 0 where
   pub none : has_vc [] 5 ≡ false
@@ -34,40 +36,30 @@ lists_one_channel = record { some = omega arith; rising = (omega arith, omega ar
 abbrev pub IsRefused : List ℕ → Type 0
 IsRefused text = (vcs : List ℕ) → Lists 0 text vcs → ⊥
 
-none_in : HasNoComma []
-none_in i inside = absurd (omega arith)
-
-none_before : (c : ℕ) (text : List ℕ) → c ≢ 44 → HasNoComma text → HasNoComma (c ∷ text)
-none_before c text other none zero inside = other
-none_before c text other none (suc i) inside = none i (omega arith)
-
-digit : (c : ℕ) → 44 < c → HasNoComma (c ∷ [])
-digit c above = none_before c [] (λ e. omega arith) none_in
-
 -- the empty text,
 pub empty : IsRefused []
 empty vcs listed =
-    let one = has_one 0 [] vcs none_in listed in
+    let one = has_one 0 [] vcs (has_no 44 [] refl) listed in
     absurd (omega (arith, ap length one.is, decimal_nonempty one.vc (let high = one.high in omega arith)))
 
 -- `5,`,
 pub trailing : IsRefused (0x35 ∷ 0x2C ∷ [])
 trailing vcs listed =
-    let more = has_more 0 (0x35 ∷ 0x2C ∷ []) (0x35 ∷ []) [] vcs refl (digit 0x35 (omega arith)) listed in
-    let one = has_one (suc more.vc) [] more.above none_in more.listed in
+    let more = has_more 0 (0x35 ∷ 0x2C ∷ []) (0x35 ∷ []) [] vcs refl (has_no 44 (0x35 ∷ []) refl) listed in
+    let one = has_one (suc more.vc) [] more.above (has_no 44 [] refl) more.listed in
     absurd (omega (arith, ap length one.is, decimal_nonempty one.vc (let high = one.high in omega arith)))
 
 -- `05`,
 pub padded : IsRefused (0x30 ∷ 0x35 ∷ [])
 padded vcs listed =
-    let one = has_one 0 (0x30 ∷ 0x35 ∷ []) vcs (none_before 0x30 (0x35 ∷ []) (λ e. omega arith) (digit 0x35 (omega arith))) listed in
-    absurd (omega (arith, unpadded (0x30 ∷ 0x35 ∷ []) one.vc one.high one.is (omega arith)))
+    let one = has_one 0 (0x30 ∷ 0x35 ∷ []) vcs (has_no 44 (0x30 ∷ 0x35 ∷ []) refl) listed in
+    absurd (omega (arith, unpadded (0x30 ∷ 0x35 ∷ []) one.vc (let high = one.high in omega arith) one.is (omega arith)))
 
 -- a blank and `5`,
 pub blank : IsRefused (0x20 ∷ 0x35 ∷ [])
 blank vcs listed =
-    let one = has_one 0 (0x20 ∷ 0x35 ∷ []) vcs (none_before 0x20 (0x35 ∷ []) (λ e. omega arith) (digit 0x35 (omega arith))) listed in
-    absurd (omega (arith, unpadded (0x20 ∷ 0x35 ∷ []) one.vc one.high one.is (omega arith)))
+    let one = has_one 0 (0x20 ∷ 0x35 ∷ []) vcs (has_no 44 (0x20 ∷ 0x35 ∷ []) refl) listed in
+    absurd (omega (arith, unpadded (0x20 ∷ 0x35 ∷ []) one.vc (let high = one.high in omega arith) one.is (omega arith)))
 
 -- a number is the one that its digits are of
 is_number : (n vc : ℕ) → n ≤ 64 → vc ≤ 63 → decimal n ≡ decimal vc → n ≡ vc
@@ -77,21 +69,21 @@ is_number n vc small high is = decimal_injective n vc (omega arith) (omega arith
 pub repeated : IsRefused (0x35 ∷ 0x2C ∷ 0x35 ∷ [])
 unfolding digits
 repeated vcs listed =
-    let more = has_more 0 (0x35 ∷ 0x2C ∷ 0x35 ∷ []) (0x35 ∷ []) (0x35 ∷ []) vcs refl (digit 0x35 (omega arith)) listed in
-    let one = has_one (suc more.vc) (0x35 ∷ []) more.above (digit 0x35 (omega arith)) more.listed in
+    let more = has_more 0 (0x35 ∷ 0x2C ∷ 0x35 ∷ []) (0x35 ∷ []) (0x35 ∷ []) vcs refl (has_no 44 (0x35 ∷ []) refl) listed in
+    let one = has_one (suc more.vc) (0x35 ∷ []) more.above (has_no 44 (0x35 ∷ []) refl) more.listed in
     absurd (omega (arith, is_number 5 more.vc (omega arith) more.high more.is, is_number 5 one.vc (omega arith) one.high one.is, one.low))
 
 -- `6,5`,
 pub falling : IsRefused (0x36 ∷ 0x2C ∷ 0x35 ∷ [])
 unfolding digits
 falling vcs listed =
-    let more = has_more 0 (0x36 ∷ 0x2C ∷ 0x35 ∷ []) (0x36 ∷ []) (0x35 ∷ []) vcs refl (digit 0x36 (omega arith)) listed in
-    let one = has_one (suc more.vc) (0x35 ∷ []) more.above (digit 0x35 (omega arith)) more.listed in
+    let more = has_more 0 (0x36 ∷ 0x2C ∷ 0x35 ∷ []) (0x36 ∷ []) (0x35 ∷ []) vcs refl (has_no 44 (0x36 ∷ []) refl) listed in
+    let one = has_one (suc more.vc) (0x35 ∷ []) more.above (has_no 44 (0x35 ∷ []) refl) more.listed in
     absurd (omega (arith, is_number 6 more.vc (omega arith) more.high more.is, is_number 5 one.vc (omega arith) one.high one.is, one.low))
 
 -- `64`
 pub above_the_greatest : IsRefused (0x36 ∷ 0x34 ∷ [])
 unfolding digits
 above_the_greatest vcs listed =
-    let one = has_one 0 (0x36 ∷ 0x34 ∷ []) vcs (none_before 0x36 (0x34 ∷ []) (λ e. omega arith) (digit 0x34 (omega arith))) listed in
+    let one = has_one 0 (0x36 ∷ 0x34 ∷ []) vcs (has_no 44 (0x36 ∷ 0x34 ∷ []) refl) listed in
     absurd (omega (arith, is_number 64 one.vc (omega arith) one.high one.is, one.high))

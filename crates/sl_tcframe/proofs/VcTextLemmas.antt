@@ -1,91 +1,31 @@
--- A number in decimal, as it is read, and a text of several, as it is split.
-use Rattle.std.proofs.Common.{◌≡◌, ◌≢◌, ℕ, zero, suc, ◌^◌, ◌<◌, ◌≤◌, List, [], ◌∷◌, ◌++◌, length, drop, slice_index_or, Option, None, Some, Result, Ok, Err, refl, sym, ap, subst, ◌∙◌, arith}
+-- A text of several virtual channels, as it is split.
+use Rattle.std.proofs.Common.{◌≡◌, ℕ, suc, ◌≤◌, List, [], ◌∷◌, ◌++◌, inl, sym, subst, ◌∙◌, arith}
 use Rattle.std.specs.Fmt.{decimal}
-use Rattle.std.specs.Str.Parse.{AllDigits, ParsesUnsigned, digits_value, without_leading_plus}
-use Rattle.std.proofs.lemmas.Fmt.{decimal_digit, decimal_injective, decimal-digits_value, digits_decimal, first_decimal, parse-decimal}
-use Rattle.std.proofs.lemmas.List.{append-nil, length-drop}
-use Rattle.std.proofs.lemmas.Str.Parse.{IsNumeralModel, numerals_by_value, tells_digits, not_in_digits, without_leading_plus_none, without_leading_plus_plus}
-use Rattle.sl_tcframe.specs.VcSet.{Lists, vc_text}
+use Rattle.std.specs.List.{AllByRecursion}
+use Rattle.std.proofs.lemmas.Fmt.{decimal_injective}
+use Rattle.sl_fields.proofs.DecimalLemmas.{decimal_has_no}
+use Rattle.sl_fields.proofs.JoinedLemmas.{HasNo, has_first, has_only, joined_more, joined_once}
+use Rattle.sl_tcframe.specs.VcSet.{AreRising, Lists}
 
-own : IsNumeralModel (AllDigits 10) (digits_value 10)
-own = numerals_by_value (AllDigits 10) tells_digits
+abbrev IsVc : ℕ → Type 0
+IsVc vc = vc ≤ 63
 
--- ---- one number
+-- a number in decimal has no comma,
+no_comma : (vc : ℕ) → IsVc vc → HasNo 44 (decimal vc)
+no_comma vc small = decimal_has_no 44 vc (inl (omega arith)) (omega arith)
 
--- a text of one character, or one that begins with 1 or above
-abbrev pub IsUnpadded : List ℕ → Type 0
-IsUnpadded text = 1 < length text → 49 ≤ slice_index_or text 0 0
+-- and is of one number
+same_number : (vc other : ℕ) → IsVc vc → IsVc other → decimal vc ≡ decimal other → vc ≡ other
+same_number vc other small low is = decimal_injective vc other (omega arith) (omega arith) is
 
-one : (text : List ℕ) → 0 < length text → IsUnpadded text → slice_index_or text 0 0 ≡ 48 → length text ≡ 1
-one [] some lead e = absurd (omega arith)
-one (c ∷ []) some lead e = refl
-one (c ∷ d ∷ rest) some lead e = absurd (omega (arith, lead (omega arith)))
+-- each number of those that rise is 63 at most
+each_vc : (least : ℕ) (vcs : List ℕ) → AreRising least vcs → AllByRecursion IsVc vcs
+each_vc least [] rising = tt
+each_vc least (vc ∷ vcs) rising = (rising.1, each_vc (suc vc) vcs rising.2)
 
--- such a text that is read as a number is that number in decimal
-pub read_decimal : {E : Type 0} (r : Result ℕ E) (text : List ℕ) (vc : ℕ) → ParsesUnsigned 8 10 text r → r ≡ Ok vc → IsUnpadded text → text ≡ decimal vc
-read_decimal r text vc parsed is lead =
-    let read = subst (λ l. ParsesUnsigned 8 10 text l) is parsed in
-    let plain : slice_index_or text 0 0 ≢ 43 = λ e. absurd (omega (arith, lead (omega (arith, ap length (without_leading_plus_plus text e), length-drop 1 text, read.0.0.0)))) in
-    let same : without_leading_plus text ≡ text = without_leading_plus_none text plain in
-    let digits : AllDigits 10 text = subst (AllDigits 10) same read.0.0.1 in
-    let some : 0 < length text = omega (arith, ap length same, read.0.0.0) in
-    let value : vc ≡ digits_value 10 text = read.1 ∙ ap (digits_value 10) same in
-    let small : digits_value 10 text < 2 ^ 64 = omega (arith, ap (digits_value 10) same, read.0.1) in
-    sym (decimal-digits_value own text digits some (one text some lead) small) ∙ ap decimal (sym value)
-
-abbrev option_len : {A : Type 0} → Option A → ℕ
-option_len None = 0
-option_len (Some x) = 1
-
-abbrev option_value : Option ℕ → ℕ
-option_value None = 0
-option_value (Some x) = x
-
-abbrev ok_of : {E : Type 0} → Result ℕ E → Option ℕ
-ok_of (Ok n) = Some n
-ok_of (Err e) = None
-
-pub not_none : {A : Type 0} {x : A} → None ≡ Some x → ⊥
-not_none e = absurd (omega (arith, ap option_len e))
-
-pub the_same : {x y : ℕ} → Some x ≡ Some y → x ≡ y
-the_same e = ap option_value e
-
-abbrev option_list : Option (List ℕ) → List ℕ
-option_list None = []
-option_list (Some l) = l
-
-pub the_same_list : {x y : List ℕ} → Some x ≡ Some y → x ≡ y
-the_same_list e = ap option_list e
-
--- a number in decimal is read as it,
-pub reads_it : {E : Type 0} (r : Result ℕ E) (text : List ℕ) (n vc : ℕ) → ParsesUnsigned 8 10 text r → r ≡ Ok n → vc ≤ 63 → text ≡ decimal vc → n ≡ vc
-reads_it r text n vc read number small is = the_same (ap ok_of (sym number ∙ parse-decimal 8 vc text r (omega arith) (omega arith) is read))
-
-pub reads_one : {E : Type 0} (r : Result ℕ E) (e : E) (text : List ℕ) (vc : ℕ) → ParsesUnsigned 8 10 text r → r ≡ Err e → vc ≤ 63 → text ≡ decimal vc → ⊥
-reads_one r e text vc read failed small is = not_none (ap ok_of (sym failed ∙ parse-decimal 8 vc text r (omega arith) (omega arith) is read))
-
--- and isn't padded
-pub unpadded : (text : List ℕ) (vc : ℕ) → vc ≤ 63 → text ≡ decimal vc → IsUnpadded text
-unpadded text zero small is many = absurd (omega (arith, ap length (is ∙ decimal_digit 0 (omega arith))))
-unpadded text (suc n) small is many = omega (arith, first_decimal (suc n) (omega arith) (omega arith), ap (λ l. slice_index_or l 0 0) is)
-
--- ---- several
-
-abbrev pub HasNoComma : List ℕ → Type 0
-HasNoComma text = (i : ℕ) → i < length text → slice_index_or text i 0 ≢ 44
-
-no_comma : (vc : ℕ) → vc ≤ 63 → HasNoComma (decimal vc)
-no_comma vc small = not_in_digits own (decimal vc) 44 (digits_decimal own vc (omega arith)) (λ between. absurd (omega (arith, between.0)))
-
--- a text is split at its first comma in one way
-one_split : (a b s t : List ℕ) → HasNoComma a → HasNoComma b → a ++ 44 ∷ s ≡ b ++ 44 ∷ t → (a ≡ b) × (s ≡ t)
-one_split [] [] s t na nb is = (refl, ap (drop 1) is)
-one_split [] (y ∷ b) s t na nb is = absurd (nb 0 (omega arith) (sym (ap (λ l. slice_index_or l 0 0) is)))
-one_split (x ∷ a) [] s t na nb is = absurd (na 0 (omega arith) (ap (λ l. slice_index_or l 0 0) is))
-one_split (x ∷ a) (y ∷ b) s t na nb is =
-    let rest = one_split a b s t (λ i inside. na (suc i) (omega arith)) (λ i inside. nb (suc i) (omega arith)) (ap (drop 1) is) in
-    (ap (λ v. v ∷ a) (ap (λ l. slice_index_or l 0 0) is) ∙ ap (λ l. y ∷ l) rest.0, rest.1)
+clear : (least : ℕ) (vcs : List ℕ) → AreRising least vcs → AllByRecursion (λ vc. HasNo 44 (decimal vc)) vcs
+clear least [] rising = tt
+clear least (vc ∷ vcs) rising = (no_comma vc rising.1, clear (suc vc) vcs rising.2)
 
 -- what a text before and after its first comma is, where it lists numbers
 pub record HasMore (least : ℕ) (first rest vcs : List ℕ) : Type 0 where
@@ -97,26 +37,18 @@ pub record HasMore (least : ℕ) (first rest vcs : List ℕ) : Type 0 where
   pub listed : Lists (suc vc) rest above
   pub both : vcs ≡ vc ∷ above
 
-pub has_more : (least : ℕ) (text first rest vcs : List ℕ) → text ≡ first ++ 44 ∷ rest → HasNoComma first → Lists least text vcs → HasMore least first rest vcs
-has_more least text first rest [] split none listed = absurd (omega (arith, listed.some))
-has_more least text first rest (vc ∷ []) split none listed =
-    let is : first ++ 44 ∷ rest ≡ decimal vc = sym split ∙ listed.written ∙ append-nil (decimal vc) in
-    absurd (comma_in first rest (decimal vc) is (no_comma vc listed.rising.1))
-  where
-    comma_in : (a s b : List ℕ) → a ++ 44 ∷ s ≡ b → HasNoComma b → ⊥
-    comma_in [] s b is nb = nb 0 (omega (arith, ap length is)) (sym (ap (λ l. slice_index_or l 0 0) is))
-    comma_in (x ∷ a) s [] is nb = absurd (omega (arith, ap length is))
-    comma_in (x ∷ a) s (y ∷ b) is nb = comma_in a s b (ap (drop 1) is) (λ i inside. nb (suc i) (omega arith))
-has_more least text first rest (vc ∷ v ∷ vcs) split none listed =
-    let two = one_split first (decimal vc) rest (vc_text (v ∷ vcs)) none (no_comma vc listed.rising.1) (sym split ∙ listed.written) in
+pub has_more : (least : ℕ) (text first rest vcs : List ℕ) → text ≡ first ++ 44 ∷ rest → HasNo 44 first → Lists least text vcs → HasMore least first rest vcs
+has_more least text first rest vcs split none listed =
+    let it = has_first 44 decimal text first rest vcs split none listed.some (clear least vcs listed.rising) listed.written in
+    let rising = subst (AreRising least) it.both listed.rising in
     record {
-      vc = vc;
-      above = v ∷ vcs;
-      low = listed.rising.0;
-      high = listed.rising.1;
-      is = two.0;
-      listed = record { some = omega arith; rising = listed.rising.2; written = two.1 };
-      both = refl;
+      vc = it.item;
+      above = it.others;
+      low = rising.0;
+      high = rising.1;
+      is = it.written;
+      listed = record { some = it.some; rising = rising.2; written = it.joined };
+      both = it.both;
     }
 
 -- the number of a text without a comma that lists numbers
@@ -127,31 +59,19 @@ pub record HasOne (least : ℕ) (text vcs : List ℕ) : Type 0 where
   pub is : text ≡ decimal vc
   pub alone : vcs ≡ vc ∷ []
 
-pub has_one : (least : ℕ) (text vcs : List ℕ) → HasNoComma text → Lists least text vcs → HasOne least text vcs
-has_one least text [] none listed = absurd (omega (arith, listed.some))
-has_one least text (vc ∷ []) none listed =
-    record { vc = vc; low = listed.rising.0; high = listed.rising.1; is = listed.written ∙ append-nil (decimal vc); alone = refl }
-has_one least text (vc ∷ v ∷ vcs) none listed = absurd (comma_after (decimal vc) (vc_text (v ∷ vcs)) text none listed.written)
-  where
-    comma_after : (a s b : List ℕ) → HasNoComma b → b ≡ a ++ 44 ∷ s → ⊥
-    comma_after [] s b nb is = nb 0 (omega (arith, ap length is)) (ap (λ l. slice_index_or l 0 0) is)
-    comma_after (x ∷ a) s [] nb is = absurd (omega (arith, ap length is))
-    comma_after (x ∷ a) s (y ∷ b) nb is = comma_after a s b (λ i inside. nb (suc i) (omega arith)) (ap (drop 1) is)
+pub has_one : (least : ℕ) (text vcs : List ℕ) → HasNo 44 text → Lists least text vcs → HasOne least text vcs
+has_one least text vcs none listed =
+    let it = has_only 44 decimal text vcs none listed.some listed.written in
+    let rising = subst (AreRising least) it.alone listed.rising in
+    record { vc = it.item; low = rising.0; high = rising.1; is = it.written; alone = it.alone }
 
--- ---- a text lists numbers in one way
+-- a number before those of a text
+pub lists_more : (least : ℕ) (text first rest : List ℕ) (vc : ℕ) (vcs : List ℕ) → text ≡ first ++ 44 ∷ rest → least ≤ vc → vc ≤ 63 → first ≡ decimal vc → Lists (suc vc) rest vcs → Lists least text (vc ∷ vcs)
+lists_more least text first rest vc vcs split low high is listed =
+    record { some = omega arith; rising = (low, high, listed.rising); written = joined_more 44 decimal text first rest vc vcs split is listed.some listed.written }
 
-same_number : (vc other : ℕ) → vc ≤ 63 → other ≤ 63 → decimal vc ≡ decimal other → vc ≡ other
-same_number vc other small low is = decimal_injective vc other (omega arith) (omega arith) is
-
+-- a text lists numbers in one way
 pub lists_once : (least : ℕ) (text vcs others : List ℕ) → Lists least text vcs → Lists least text others → vcs ≡ others
-lists_once least text [] others listed other = absurd (omega (arith, listed.some))
-lists_once least text (vc ∷ []) others listed other =
-    let written : text ≡ decimal vc = listed.written ∙ append-nil (decimal vc) in
-    let only = has_one least text others (subst HasNoComma (sym written) (no_comma vc listed.rising.1)) other in
-    ap (λ v. v ∷ []) (same_number vc only.vc listed.rising.1 only.high (sym written ∙ only.is)) ∙ sym only.alone
-lists_once least text (vc ∷ v ∷ vcs) others listed other =
-    let more = has_more least text (decimal vc) (vc_text (v ∷ vcs)) others listed.written (no_comma vc listed.rising.1) other in
-    let same : vc ≡ more.vc = same_number vc more.vc listed.rising.1 more.high more.is in
-    let rest : Lists (suc vc) (vc_text (v ∷ vcs)) (v ∷ vcs) = record { some = omega arith; rising = listed.rising.2; written = refl } in
-    let above : Lists (suc vc) (vc_text (v ∷ vcs)) more.above = subst (λ n. Lists (suc n) (vc_text (v ∷ vcs)) more.above) (sym same) more.listed in
-    ap (λ l. vc ∷ l) (lists_once (suc vc) (vc_text (v ∷ vcs)) (v ∷ vcs) more.above rest above) ∙ ap (λ n. n ∷ more.above) same ∙ sym more.both
+lists_once least text vcs others listed other =
+    joined_once 44 decimal IsVc no_comma same_number vcs others (each_vc least vcs listed.rising) (each_vc least others other.rising) listed.some other.some
+    (sym listed.written ∙ other.written)

@@ -29,11 +29,6 @@ front_of format octets =
     else if nat_lt (length octets) (len_by_four octets) then Incomplete
     else WholeFrame (len_by_four octets)
 
-abbrev pub is_below_least : FrameFront → Bool
-is_below_least Incomplete = false
-is_below_least BelowLeast = true
-is_below_least (WholeFrame len) = false
-
 -- ---- what was taken
 
 -- the octets that were taken after the last frame

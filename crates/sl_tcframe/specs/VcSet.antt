@@ -1,6 +1,7 @@
 -- A set of virtual channels, as its numbers in rising order, and the text that lists them.
-use Rattle.std.specs.Prelude.{◌≡◌, ℕ, suc, ◌<◌, ◌≤◌, ◌==◌, nat_lt, Bool, false, ◌||◌, if◌then◌else◌, List, [], ◌∷◌, ◌++◌, length}
+use Rattle.std.specs.Prelude.{◌≡◌, ℕ, suc, ◌<◌, ◌≤◌, ◌==◌, nat_lt, Bool, false, ◌||◌, if◌then◌else◌, List, [], ◌∷◌, map, length}
 use Rattle.std.specs.Fmt.{decimal}
+use Rattle.std.specs.List.{join_with_byte}
 
 -- whether the channel is one of them
 abbrev pub has_vc : List ℕ → ℕ → Bool
@@ -19,15 +20,9 @@ AreRising least (vc ∷ vcs) = (least ≤ vc) × (vc ≤ 63) × AreRising (suc v
 
 -- ---- as text
 
--- each number in decimal, after a comma
-abbrev pub after_commas : List ℕ → List ℕ
-after_commas [] = []
-after_commas (vc ∷ vcs) = 44 ∷ decimal vc ++ after_commas vcs
-
 -- the numbers in decimal, joined by commas
 abbrev pub vc_text : List ℕ → List ℕ
-vc_text [] = []
-vc_text (vc ∷ vcs) = decimal vc ++ after_commas vcs
+vc_text vcs = join_with_byte 44 (map decimal vcs)
 
 -- the text lists these numbers, which are one or more, rise strictly from the least on, and are 63 at most
 pub record Lists (least : ℕ) (text vcs : List ℕ) : Type 0 where

@@ -3,7 +3,7 @@ ghost use Rattle.std.specs.Prelude.{◌≡◌, ◌↔◌, IsTrue, ◌-◌, ◌�
 ghost use Rattle.std.specs.Borrow.{sem};
 ghost use Rattle.std.specs.Io.BufRead.{Rests};
 ghost use Rattle.sl_tcframe.specs.TcFrame.{is_cut, stated_frame_len};
-ghost use Rattle.sl_tcframe.specs.TcFraming.{BeginsWithFrame, BelowLeast, IsRest, TakesUpToFrame, front_of, is_below_least, len_by_four};
+ghost use Rattle.sl_tcframe.specs.TcFraming.{BeginsWithFrame, BelowLeast, IsRest, TakesUpToFrame, front_of, len_by_four};
 
 use crate::tc_shape::TcShape;
 use arrayvec::ArrayVec;

@@ -3,6 +3,7 @@ ghost use Rattle.std.specs.Prelude.{◌≡◌, ℕ, ◌≤◌, List, [], IfSome,
 ghost use Rattle.std.specs.Fmt.{decimal};
 ghost use Rattle.sl_tcframe.specs.VcSet.{AreRising, Lists, has_vc, with_vc};
 
+use sl_fields::read_decimal;
 use std::marker::Model;
 
 /// A set of TC virtual channels of CCSDS 232.0-B, by their identifiers, the numbers 0 to 63.
@@ -92,11 +93,10 @@ fn read_vc(text: &str, least: u8) -> Option<u8>
     ensures number { IfSome result (λ vc. (least ≤ vc) × (vc ≤ 63) × (text.now ≡ decimal vc)) }
     ensures every { (vc : ℕ) → least ≤ vc → vc ≤ 63 → text.now ≡ decimal vc → result ≡ Some vc }
 {
-    if text.len() > 1 && text.as_bytes()[0] < b'1' {
-        return None;
-    }
-    match text.parse::<u8>() {
-        Ok(vc) if least <= vc && vc <= 63 => Some(vc),
-        _ => None,
+    let vc = read_decimal(text)?;
+    if least <= vc && vc <= 63 {
+        Some(vc)
+    } else {
+        None
     }
 }

@@ -1,5 +1,5 @@
 -- Gaps of a channel, and octets of another packet version in a data field: they are told where they are.
-use Rattle.std.proofs.Common.{◌≡◌, ◌≢◌, ℕ, ◌+◌, ◌<◌, ◌≤◌, ◌%◌, ◌==◌, ◌&&◌, ◌||◌, nat_lt, Bool, true, false, not, if◌then◌else◌, List, [], ◌∷◌, ◌++◌, length, drop, None, Some, inl, inr, refl, sym, ◌∙◌, ap, subst, arith, append_assoc, length-drop}
+use Rattle.std.proofs.Common.{◌≡◌, ◌≢◌, ℕ, ◌+◌, ◌<◌, ◌≤◌, ◌%◌, ◌==◌, ◌&&◌, ◌||◌, nat_lt, Bool, true, false, not, if◌then◌else◌, List, [], ◌∷◌, ◌++◌, length, drop, None, Some, refl, sym, ◌∙◌, ap, subst, arith, append_assoc, length-drop}
 use Rattle.std.specs.List.{AllByRecursion, concat, list_any}
 use Rattle.std.proofs.lemmas.Bool.Decides.{nat_tests}
 use Rattle.std.proofs.lemmas.List.{drop-drop, drop_at}
@@ -9,15 +9,15 @@ use Rattle.sl_packet.specs.Front.{is_foreign}
 use Rattle.sl_packet.proofs.PacketLemmas.{packet_least, version_of-append}
 use Rattle.sl_packet.proofs.PacketsLemmas.{each_has_packets}
 use Rattle.sl_tmframe.specs.TmFrame.{DataField, Packets, Idle, Opaque}
-use Rattle.sl_tmflow.specs.Among.{IsAmong}
 use Rattle.sl_tmflow.specs.Anomaly.{EachForeignStartIsTold, EachGapIsTold, EachToldIsAForeignStart, EachToldIsAGap, foreign_of, gap_after, gap_of}
 use Rattle.sl_tmflow.specs.Channel.{is_consecutive}
 use Rattle.sl_tmflow.specs.ChannelState.{foreign_in}
 use Rattle.sl_tmflow.specs.PacketStart.{IsStart, packet_offsets, starts_from}
 use Rattle.sl_tmflow.proofs.ChannelLemmas.{last_count-push}
-use Rattle.sl_tmflow.proofs.EachIncompleteLemmas.{not_foreign}
-use Rattle.sl_tmflow.proofs.EachLemmas.{has_last}
+use Rattle.sl_tmflow.proofs.EachLemmas.{some_passes, has_last}
 use Rattle.sl_tmflow.proofs.StartLemmas.{each_is_start, is_among}
+use Rattle.sl_packet.proofs.FrontLemmas.{foreign_true, not_foreign}
+use Rattle.std.proofs.Math.Bool.{or-false}
 
 -- ---- gaps
 
@@ -46,19 +46,6 @@ each_told_is_a_gap (view ∷ later) next expected e =
 
 -- ---- elements that pass a test
 
-or_true : (b : Bool) → (b || true) ≡ true
-or_true true = refl
-or_true false = refl
-
-or_false : (b : Bool) → (b || false) ≡ b
-or_false true = refl
-or_false false = refl
-
-any_among : {X : Type 0} (p : X → Bool) (x : X) (xs : List X) → IsAmong x xs → p x ≡ true → list_any p xs ≡ true
-any_among p x [] there e = absurd there
-any_among p x (y ∷ ys) (inl here) e = ap (λ b. b || list_any p ys) (ap p (sym here) ∙ e)
-any_among p x (y ∷ ys) (inr there) e = ap (λ b. p y || b) (any_among p x ys there e) ∙ or_true (p y)
-
 any_found : {X : Type 0} (P : X → Type 0) (p : X → Bool) (xs : List X) → AllByRecursion P xs → list_any p xs ≡ true → (x : X) × P x × (p x ≡ true)
 any_found P p [] each e = absurd (cc)
 any_found P p (x ∷ xs) each e = cases (p x) refl e (any_found P p xs each.1)
@@ -72,15 +59,12 @@ any_found P p (x ∷ xs) each e = cases (p x) refl e (any_found P p xs each.1)
 foreign_test : (n version : ℕ) → 0 < n → version ≢ 0 → (nat_lt 0 n && not (version == 0)) ≡ true
 foreign_test n version some other = grind (arith, nat_tests)
 
-version_test : (n version : ℕ) → (nat_lt 0 n && not (version == 0)) ≡ true → version ≢ 0
-version_test n version foreign none = let both : true ≡ false = sym foreign ∙ not_foreign n version none in cc
-
 pub each_foreign_start_is_told : EachForeignStartIsTold
 each_foreign_start_is_told field x =
     let inside = x.is_start.inside in
     let some : 0 < length (drop x.start x.octets) = omega (arith, length-drop x.start x.octets) in
     subst (λ f. foreign_of f ≡ true) (sym x.carries)
-    (any_among (λ start. is_foreign (drop start x.octets)) x.start (starts_from x.first x.octets) (is_among x.octets x.first x.start x.is_start)
+    (some_passes (λ start. is_foreign (drop start x.octets)) x.start (starts_from x.first x.octets) (is_among x.octets x.first x.start x.is_start)
     (foreign_test (length (drop x.start x.octets)) (version_of (drop x.start x.octets)) some x.version))
 
 pub each_told_is_a_foreign_start : EachToldIsAForeignStart
@@ -93,7 +77,7 @@ each_told_is_a_foreign_start (Packets first octets) e =
       carries = refl;
       start = start;
       is_start = is_start;
-      version = version_test (length (drop start octets)) (version_of (drop start octets)) told;
+      version = (foreign_true (length (drop start octets)) (version_of (drop start octets)) told).1;
     }
 each_told_is_a_foreign_start Idle e = absurd (cc)
 each_told_is_a_foreign_start Opaque e = absurd (cc)
@@ -107,7 +91,7 @@ packet_not_foreign packet more p =
 foreign_offsets : (octets : List ℕ) (offset : ℕ) (packets : List (List ℕ)) (rest : List ℕ) → AllByRecursion IsPacket packets → drop offset octets ≡ concat packets ++ rest
     → list_any (λ start. is_foreign (drop start octets)) (packet_offsets offset packets rest) ≡ is_foreign rest
 foreign_offsets octets offset [] [] each parts = refl
-foreign_offsets octets offset [] (octet ∷ rest) each parts = or_false (is_foreign (drop offset octets)) ∙ ap is_foreign parts
+foreign_offsets octets offset [] (octet ∷ rest) each parts = or-false (is_foreign (drop offset octets)) ∙ ap is_foreign parts
 foreign_offsets octets offset (packet ∷ packets) rest each parts =
     let later : drop offset octets ≡ packet ++ (concat packets ++ rest) = parts ∙ append_assoc packet (concat packets) rest in
     let behind : drop (offset + length packet) octets ≡ concat packets ++ rest =

@@ -12,7 +12,8 @@ use Rattle.sl_tmflow.specs.PacketStart.{IsStart, starts_from, starts_of}
 use Rattle.sl_tmflow.proofs.AtStartsLemmas.{flat_map-pieces}
 use Rattle.sl_tmflow.proofs.DeliveryLemmas.{among-left, among-right, among-flat_map, delivery_with, start_delivery}
 use Rattle.sl_tmflow.proofs.EachIncompleteLemmas.{each_incomplete_is_listed, incomplete_at_start, incomplete_start_outcome}
-use Rattle.sl_tmflow.proofs.EachLemmas.{each-append, each-weaker, each-flat_map, count_of_one, some_of_each, has_last, same_place}
+use Rattle.sl_fields.proofs.ListLemmas.{each-append, each-flat_map, each-weaker}
+use Rattle.sl_tmflow.proofs.EachLemmas.{count_of_one, some_of_each, has_last, same_place}
 use Rattle.sl_tmflow.proofs.IncompleteLemmas.{last_of, last_of-push}
 use Rattle.sl_tmflow.proofs.IncompleteListLemmas.{incomplete_cases, incomplete_is_short}
 use Rattle.sl_tmflow.proofs.OneMoreLemmas.{with_next, outcome_of-push}

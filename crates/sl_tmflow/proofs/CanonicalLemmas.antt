@@ -21,8 +21,9 @@ use Rattle.sl_tmflow.specs.PacketStart.{packet_offsets}
 use Rattle.sl_tmflow.specs.Recording.{packets_on, virtual_channels}
 use Rattle.sl_tmflow.proofs.CutDeliveryLemmas.{all_delivered}
 use Rattle.sl_tmflow.proofs.CutViewLemmas.{views_from}
-use Rattle.sl_tmflow.proofs.EachLemmas.{each-append, each-weaker, filter_all, filter_none}
-use Rattle.sl_tmflow.proofs.FillLemmas.{due_packets, filled_whole, filled_without_idle, filling_is}
+use Rattle.sl_fields.proofs.ListLemmas.{each-append, each-weaker, filter_all, filter_none}
+use Rattle.sl_packet.proofs.WithoutIdleLemmas.{due_packets}
+use Rattle.sl_tmflow.proofs.FillLemmas.{filled_whole, filled_without_idle, filling_is}
 use Rattle.sl_tmflow.proofs.LeastStartLemmas.{each_pointer_is_least}
 
 -- the first packet start of a data field lies in it

@@ -127,9 +127,6 @@ held_by_frame count held next =
 
 -- ---- one frame more
 
-pub new_seen : HasSeen no_frame []
-new_seen = record { count = refl; held = refl }
-
 seen_first : (state : ChannelState) (next : TmView) → HasSeen state [] → HasSeen (state_after state next) (next ∷ [])
 seen_first state next s =
     record {

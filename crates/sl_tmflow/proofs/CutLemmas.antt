@@ -1,5 +1,5 @@
 -- Packets that lie end to end, divided into data fields: what of them a data field begins with, and what lies beyond it.
-use Rattle.std.proofs.Common.{◌≡◌, ℕ, suc, ◌+◌, ◌-◌, ◌*◌, ◌<◌, ◌≤◌, nat_lt, if◌then◌else◌, List, [], ◌∷◌, ◌++◌, length, take, drop, Option, None, Some, refl, sym, ◌∙◌, ap, arith, length-append, length-drop}
+use Rattle.std.proofs.Common.{◌≡◌, ℕ, suc, ◌+◌, ◌-◌, ◌*◌, ◌<◌, ◌≤◌, nat_lt, if◌then◌else◌, List, [], ◌∷◌, ◌++◌, length, take, drop, Option, None, Some, sym, ◌∙◌, ap, arith, length-append, length-drop}
 use Rattle.std.specs.List.{AllByRecursion, concat}
 use Rattle.std.proofs.lemmas.List.{drop-drop, drop-append-le}
 use Rattle.std.proofs.Math.Nat.{add-mul, one-mul, zero-mul, suc-mul}
@@ -35,13 +35,7 @@ module _ (room : ℕ) (packets : List (List ℕ)) where
   pub pointer_is : (number : ℕ) (before : List ℕ) (todo : List (List ℕ)) (count : ℕ) → 0 < room → IsCut number before todo (suc count)
       → first_of room number (packet_offsets 0 packets []) ≡ pointer_at room (length before)
   pointer_is number before todo count some s =
-      first_is room packets number (length before) (before ++ concat todo) todo some (omega (arith, s.size, suc-mul count room, length-append before (concat todo))) (record {
-        found = s.found;
-        before = before;
-        parts = refl;
-        here = refl;
-        each = s.each;
-      })
+      first_is room number (length before) packets todo some (omega (arith, s.size, suc-mul count room)) (s.found number (omega arith))
 
   pub field_is : (number : ℕ) (before : List ℕ) (todo : List (List ℕ)) (count : ℕ) → IsCut number before todo count
       → data_field_of room number (concat packets) ≡ take room (before ++ concat todo)

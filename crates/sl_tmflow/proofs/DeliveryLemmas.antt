@@ -7,7 +7,7 @@ use Rattle.sl_tmflow.specs.Channel.{data_of}
 use Rattle.sl_tmflow.specs.Among.{IsAmong}
 use Rattle.sl_tmflow.specs.PacketStart.{IsStart, starts_from, starts_of}
 use Rattle.sl_tmflow.specs.Delivery.{Delivery, IsDelivery, Outcome, Completes, StillIncomplete, Undelivered, outcome_of, delivery_of, frame_deliveries, deliveries_from, deliveries_of, EachIsDelivery, EachIsListed, StartsBefore, AreInOrder, DeliveriesAreInOrder}
-use Rattle.sl_tmflow.proofs.EachLemmas.{each-append, each-weaker, each-flat_map}
+use Rattle.sl_fields.proofs.ListLemmas.{each-append, each-flat_map, each-weaker}
 use Rattle.sl_tmflow.proofs.StartLemmas.{each_is_start, is_among, AreRising, starts_rise}
 use Rattle.sl_tmflow.proofs.OutcomeLemmas.{outcome_delivered, delivered_outcome}
 

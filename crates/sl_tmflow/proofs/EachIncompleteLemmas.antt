@@ -1,12 +1,11 @@
 -- The incomplete packets of a channel, as they are listed: each is incomplete, and each that is is there.
-use Rattle.std.proofs.Common.{◌≡◌, ℕ, ◌≤◌, ◌==◌, ◌&&◌, nat_lt, Bool, true, false, not, if◌then◌else◌, List, [], ◌∷◌, ◌++◌, length, drop, take, map, Option, inl, refl, sym, ◌∙◌, subst, arith, append_assoc, length-append, length-drop, ap}
+use Rattle.std.proofs.Common.{◌≡◌, ℕ, ◌≤◌, nat_lt, List, [], ◌∷◌, ◌++◌, length, drop, take, map, Option, inl, refl, sym, ◌∙◌, subst, arith, append_assoc, length-append, length-drop, ap}
 use Rattle.std.specs.List.{AllByRecursion, concat}
-use Rattle.std.proofs.lemmas.Bool.Decides.{nat_tests}
 use Rattle.std.proofs.lemmas.List.{take-append-drop}
 use mathlib.Core.List.{IsPrefix}
 use Rattle.sl_packet.specs.Packet.{version_of, stated_packet_len, IsPacket}
 use Rattle.sl_packet.specs.Front.{Front, OtherVersion, Incomplete, WholePacket, is_foreign, front}
-use Rattle.sl_packet.proofs.FrontLemmas.{whole_is_a_packet, incomplete_may_become_whole}
+use Rattle.sl_packet.proofs.FrontLemmas.{foreign_tests, not_foreign, whole_is_a_packet, incomplete_may_become_whole}
 use Rattle.sl_packet.proofs.PacketLemmas.{version_of-append}
 use Rattle.sl_tmframe.specs.TmFrame.{TmView, DataField, Packets, Idle, Opaque}
 use Rattle.sl_tmflow.specs.Among.{IsAmong}
@@ -15,11 +14,13 @@ use Rattle.sl_tmflow.specs.Delivery.{Outcome, Completes, StillIncomplete, Undeli
 use Rattle.sl_tmflow.specs.Incomplete.{IsIncomplete, IsIncompleteAt, incomplete_octets, frame_incomplete, incomplete_of, EachListedIsIncomplete, EachIncompleteIsListed, IncompleteIsCounted, WhatIsCountedIsIncomplete}
 use Rattle.sl_tmflow.specs.PacketStart.{IsStart, starts_from}
 use Rattle.sl_tmflow.proofs.DeliveryLemmas.{among-left, among-right, among-flat_map}
-use Rattle.sl_tmflow.proofs.EachLemmas.{each-append, each-weaker, each-flat_map, count_of_one, some_of_each}
+use Rattle.sl_fields.proofs.ListLemmas.{each-append, each-flat_map, each-weaker}
+use Rattle.sl_tmflow.proofs.EachLemmas.{count_of_one, some_of_each}
 use Rattle.sl_tmflow.proofs.IncompleteLemmas.{IsIncompleteAfter, last_of, outcome_incomplete, incomplete_outcome}
 use Rattle.sl_tmflow.proofs.IncompleteListLemmas.{field_incomplete, one_is_incomplete}
 use Rattle.sl_tmflow.proofs.StartLemmas.{each_is_start, is_among}
 use Rattle.sl_tmflow.proofs.StepLemmas.{incomplete_is_no_packet}
+use Rattle.std.proofs.lemmas.Bool.{both_ways}
 
 -- ---- octets that begin a packet
 
@@ -28,22 +29,14 @@ begun_version : (octets : List ℕ) → front octets ≡ Incomplete → 1 ≤ le
 begun_version octets incomplete some =
     let (more, packet) = incomplete_may_become_whole octets incomplete in sym (version_of-append octets more some) ∙ packet.version
 
-pub not_foreign : (n version : ℕ) → version ≡ 0 → (nat_lt 0 n && not (version == 0)) ≡ false
-not_foreign n version none = grind (arith, nat_tests)
-
-foreign_test : (foreign fewer : Bool) (len : ℕ) → foreign ≡ false → (if foreign then OtherVersion else if fewer then Incomplete else WholePacket len) ≡ OtherVersion → ⊥
-foreign_test true fewer len test e = cc
-foreign_test false true len test e = cc
-foreign_test false false len test e = cc
-
 -- octets of version 0 begin one where none is whole
 begins : (octets : List ℕ) → version_of octets ≡ 0 → ((packet : List ℕ) → IsPacket packet → IsPrefix packet octets → ⊥) → front octets ≡ Incomplete
 begins octets version none = cases (front octets) refl
   where
     cases : (f : Front) → front octets ≡ f → f ≡ Incomplete
     cases OtherVersion e =
-        absurd (foreign_test (is_foreign octets) (nat_lt (length octets) (stated_packet_len octets)) (stated_packet_len octets)
-        (not_foreign (length octets) (version_of octets) version) e)
+        let foreign = foreign_tests (is_foreign octets) (nat_lt (length octets) (stated_packet_len octets)) (stated_packet_len octets) e in
+        absurd (both_ways (is_foreign octets) (not_foreign (length octets) (version_of octets) version) foreign)
     cases Incomplete e = refl
     cases (WholePacket len) e =
         absurd (none (take len octets) (whole_is_a_packet octets len e).0 (drop len octets, take-append-drop len octets))

@@ -1,24 +1,8 @@
--- What holds of each element of a list, and where an element stands.
-use Rattle.std.proofs.Common.{◌≡◌, ◌⊎◌, ℕ, zero, suc, ◌<◌, ◌≤◌, Bool, true, false, List, [], ◌∷◌, ◌++◌, length, take, inl, inr, refl, sym, ◌∙◌, ap, arith, append-nil}
-use Rattle.std.specs.List.{AllByRecursion, concat, filter, flat_map}
+-- Where an element stands in a list.
+use Rattle.std.proofs.Common.{◌≡◌, ◌⊎◌, ℕ, ◌<◌, ◌≤◌, Bool, true, ◌||◌, List, [], ◌∷◌, ◌++◌, length, inl, inr, refl, sym, ◌∙◌, ap, arith, append-nil}
+use Rattle.std.specs.List.{AllByRecursion, concat, list_any}
+use Rattle.std.proofs.lemmas.Bool.{or_right}
 use Rattle.sl_tmflow.specs.Among.{IsAmong}
-
-pub each-append : {X : Type 0} (P : X → Type 0) (xs ys : List X) → AllByRecursion P xs → AllByRecursion P ys → AllByRecursion P (xs ++ ys)
-each-append P [] ys left right = right
-each-append P (x ∷ xs) ys left right = (left.0, each-append P xs ys left.1 right)
-
-pub each-taken : {X : Type 0} (P : X → Type 0) (n : ℕ) (xs : List X) → AllByRecursion P xs → AllByRecursion P (take n xs)
-each-taken P zero xs each = tt
-each-taken P (suc n) [] each = tt
-each-taken P (suc n) (x ∷ xs) each = (each.0, each-taken P n xs each.1)
-
-pub each-weaker : {X : Type 0} (P Q : X → Type 0) → ((x : X) → P x → Q x) → (xs : List X) → AllByRecursion P xs → AllByRecursion Q xs
-each-weaker P Q weaker [] each = tt
-each-weaker P Q weaker (x ∷ xs) each = (weaker x each.0, each-weaker P Q weaker xs each.1)
-
-pub each-flat_map : {X A : Type 0} (P : A → Type 0) (f : X → List A) (xs : List X) → AllByRecursion (λ x. AllByRecursion P (f x)) xs → AllByRecursion P (flat_map f xs)
-each-flat_map P f [] each = tt
-each-flat_map P f (x ∷ xs) each = each-append P (f x) (flat_map f xs) each.0 (each-flat_map P f xs each.1)
 
 -- a list of octets that is among one at most has all of the octets
 pub count_of_one : (octets : List ℕ) (all : List (List ℕ)) → length all ≤ 1 → IsAmong octets all → length (concat all) ≡ length octets
@@ -32,19 +16,11 @@ pub some_of_each : (P : List ℕ → Type 0) (all : List (List ℕ)) → AllByRe
 some_of_each P [] each some = absurd (omega arith)
 some_of_each P (one ∷ more) each some = (one, each.0)
 
--- a test that each element passes keeps all of them, and one that none passes keeps none
-pub filter_all : {X : Type 0} (p : X → Bool) (xs : List X) → AllByRecursion (λ x. p x ≡ true) xs → filter p xs ≡ xs
-filter_all p [] each = refl
-filter_all p (x ∷ xs) each = rw (each.0, filter_all p xs each.1) refl
-
-pub filter_none : {X : Type 0} (p : X → Bool) (xs : List X) → AllByRecursion (λ x. p x ≡ false) xs → filter p xs ≡ []
-filter_none p [] each = refl
-filter_none p (x ∷ xs) each = rw (each.0) (filter_none p xs each.1)
-
--- one that stands in the list
-pub each-at : {X : Type 0} (P : X → Type 0) (earlier : List X) (x : X) (later : List X) → AllByRecursion P (earlier ++ x ∷ later) → P x
-each-at P [] x later each = each.0
-each-at P (e ∷ earlier) x later each = each-at P earlier x later each.1
+-- where one that stands in it passes a test, some do
+pub some_passes : {X : Type 0} (p : X → Bool) (x : X) (xs : List X) → IsAmong x xs → p x ≡ true → list_any p xs ≡ true
+some_passes p x [] there e = absurd there
+some_passes p x (y ∷ ys) (inl here) e = ap (λ b. b || list_any p ys) (ap p (sym here) ∙ e)
+some_passes p x (y ∷ ys) (inr there) e = or_right (p y) (list_any p ys) (some_passes p x ys there e)
 
 pub head_same : {X : Type 0} (x y : X) (xs ys : List X) → x ∷ xs ≡ y ∷ ys → x ≡ y
 head_same x y xs ys same = cc

@@ -13,9 +13,10 @@ use Rattle.sl_tmflow.specs.Channel.{data_of, packet_data, reassembly}
 use Rattle.sl_tmflow.specs.PacketStart.{IsStart}
 use Rattle.sl_tmflow.specs.Delivery.{IsDeliveredBy, Delivery, IsDelivery, EndsAreInOrder, EachEndsByTheNextStart, start_offset, NoneOverlap}
 use Rattle.sl_tmflow.specs.Incomplete.{HasNoStart}
-use Rattle.sl_tmflow.proofs.EachLemmas.{head_same}
+use Rattle.sl_tmflow.proofs.EachLemmas.{same_place}
 use Rattle.sl_tmflow.proofs.IncompleteLemmas.{reassembly-append, reassembly-push}
 use Rattle.sl_tmflow.proofs.OutcomeLemmas.{delivered_tail, incomplete_before_more, delivered_goes_on}
+use Rattle.std.proofs.lemmas.Option.{same_Some}
 
 -- ---- lists that begin alike
 
@@ -30,22 +31,12 @@ longer_begins xs zs ys ws same fewer =
       append_cancel_left xs zs (drop n ys ++ ws) (sym same ∙ ap (λ l. l ++ ws) split ∙ append_assoc xs (drop n ys) ws),
     )
 
--- what stands at one place
-same_there : {X : Type 0} (xs ys : List X) (x y : X) (zs ws : List X) → ys ++ y ∷ ws ≡ xs ++ x ∷ zs → length xs ≡ length ys → x ≡ y
-same_there xs ys x y zs ws same places =
-    let (more, longer, rest) = longer_begins xs (x ∷ zs) ys (y ∷ ws) same (omega arith) in
-    let none : more ≡ [] = nil_from_length more (omega (arith, ap length longer, length-append xs more)) in
-    head_same x y zs ws (rest ∙ ap (λ l. l ++ y ∷ ws) none)
-
 -- ---- in one frame
 
 -- what packets leave from a start on is what they leave from the pointer on
 rest_from_start : (octets : List ℕ) (first : Option ℕ) (start : ℕ) (s : IsStart octets first start)
     → rest_of (drop s.pointer octets) ≡ rest_of (drop start octets)
 rest_from_start octets first start s = ap rest_of s.end_to_end ∙ rest_of-concat s.before (drop start octets) s.packets
-
-same_some : (a b : ℕ) → Some a ≡ Some b → a ≡ b
-same_some a b same = cc
 
 rest_within : (octets : List ℕ) → length (rest_of octets) ≤ length octets
 rest_within octets = omega (arith, length-drop (length (concat (packets_of octets))) octets)
@@ -55,7 +46,7 @@ pub not_last_is_whole : (octets : List ℕ) (first : Option ℕ) (start later : 
     → IsStart octets first start → IsStart octets first later → start < later → front (drop start octets) ≡ Incomplete → ⊥
 not_last_is_whole octets first start later s t less incomplete =
     let none = λ (len : ℕ) (whole : front (drop start octets) ≡ WholePacket len). let both : Incomplete ≡ WholePacket len = sym incomplete ∙ whole in absurd (cc) in
-    let pointers : s.pointer ≡ t.pointer = same_some s.pointer t.pointer (sym s.pointed ∙ t.pointed) in
+    let pointers : s.pointer ≡ t.pointer = same_Some s.pointer t.pointer (sym s.pointed ∙ t.pointed) in
     let all : drop start octets ≡ rest_of (drop later octets) =
     sym (rest_of-none (drop start octets) none) ∙ sym (rest_from_start octets first start s)
     ∙ ap (λ p. rest_of (drop p octets)) pointers ∙ rest_from_start octets first later t in
@@ -93,8 +84,8 @@ start_in_frame : (channel : List TmView) (d e : Delivery) (x : IsDelivery channe
     → IsStart x.octets x.first e.start
 start_in_frame channel d e x y same =
     let view : x.view ≡ y.view =
-    same_there x.before y.before x.view y.view (x.run ++ x.after) (y.run ++ y.after) (sym (from_frame channel e y) ∙ from_frame channel d x)
-    (omega (arith, x.frame, y.frame)) in
+    (same_place x.before y.before x.view y.view (x.run ++ x.after) (y.run ++ y.after) (sym (from_frame channel d x) ∙ from_frame channel e y)
+    (omega (arith, x.frame, y.frame))).0 in
     let (first, octets) = at_start x.view.field x.first x.octets y.first y.octets x.field (ap (λ v. v.field) view ∙ y.field) in
     subst (λ o. IsStart o x.first e.start) octets (subst (λ f. IsStart y.octets f e.start) first y.start)
 
@@ -176,7 +167,7 @@ ends_by_offset (first ∷ before) (other ∷ others) packet more rest done each 
 ends_by_start : (octets : List ℕ) (first : Option ℕ) (start later : ℕ) (packet more : List ℕ) → IsStart octets first start → IsStart octets first later → start < later
     → IsPacket packet → packet ++ more ≡ drop start octets → start + length packet ≤ later
 ends_by_start octets first start later packet more s t less p begins =
-    let pointers : s.pointer ≡ t.pointer = same_some s.pointer t.pointer (sym s.pointed ∙ t.pointed) in
+    let pointers : s.pointer ≡ t.pointer = same_Some s.pointer t.pointer (sym s.pointed ∙ t.pointed) in
     let same : concat s.before ++ (packet ++ more) ≡ concat t.before ++ drop later octets =
     ap (λ l. concat s.before ++ l) begins ∙ sym s.end_to_end ∙ ap (λ n. drop n octets) pointers ∙ t.end_to_end in
     let here = s.here in
@@ -208,7 +199,7 @@ offset_is channel d x =
     ap (λ l. length (reassembly [] l) + d.start) before
 
 agreeing_some : (ends : Bool) (place pointer : ℕ) → (if ends then Some place else None) ≡ Some pointer → place ≡ pointer
-agreeing_some true place pointer e = same_some place pointer e
+agreeing_some true place pointer e = same_Some place pointer e
 agreeing_some false place pointer e = absurd (cc)
 
 -- a packet ends before the pointer of a frame after its start, or at it

@@ -13,7 +13,7 @@ use Rattle.sl_packet.specs.Packets.{packets_of, without_idle}
 use Rattle.sl_packet.proofs.IdlePacketLemmas.{idle_packet_is_a_packet, idle_packet_is_idle, length-idle_packet}
 use Rattle.sl_packet.proofs.PacketsLemmas.{packets_of-concat}
 use Rattle.sl_tmflow.specs.NormalForm.{fill_of, filling, with_filling, IsLeastFill}
-use Rattle.sl_tmflow.proofs.EachLemmas.{each-append, each-weaker, filter_all, filter_none}
+use Rattle.sl_fields.proofs.ListLemmas.{each-append, each-weaker, filter_all, filter_none}
 
 -- the filling for a gap of fewer octets than the room
 abbrev wide_enough : ℕ → ℕ → ℕ
@@ -65,13 +65,6 @@ past_two_rooms room left gap other zero some there narrow whole (inr wide) e = l
 past_two_rooms room left gap other (suc zero) some there narrow whole (inr wide) e = let o = one-mul room in absurd (omega arith)
 past_two_rooms room left gap other (suc (suc d)) some there narrow whole (inr wide) e =
     let o = at_least_two room (suc (suc d)) (omega arith) (λ h. absurd (omega arith)) in omega arith
-
--- octets that are left after whole rooms of whole rooms have another room
-pub room_left : (room count left all : ℕ) → 0 < room → count * room + left ≡ all → all % room ≡ 0 → 0 < left → room ≤ left
-room_left room count left all roomy parts whole some =
-    let same : all / room * room + all % room ≡ all = div-add-mod' all room in
-    let d = whole_rooms room count (all / room) left (omega arith) some in
-    some_rooms room d.0 left d.1 some
 
 -- where octets are left in the last room, filled up by the rest of it
 least_gap : (room len gap : ℕ) → 7 ≤ room → 0 < len % room → gap + len % room ≡ room → gap < room → (gap ≡ 0 → ⊥) → IsLeastFill room len (wide_enough room gap)
@@ -178,11 +171,6 @@ filled_whole room packets some short =
     let len = length (concat packets) in
     ap (λ n. n % room) (ap length (sym (filled_octets room packets)) ∙ length-append (concat packets) (concat (filling room len)) ∙ ap (λ n. len + n) (filling_is room len some short).1)
     ∙ (fill_is_least room len some).fills
-
--- packets that may be delivered are packets
-pub due_packets : (packets : List (List ℕ)) → AllByRecursion IsDeliverable packets → AllByRecursion IsPacket packets
-due_packets [] each = tt
-due_packets (packet ∷ packets) each = (each.0.0, due_packets packets each.1)
 
 -- and without the idle packet that fills them up they are as they were
 pub filled_without_idle : (room : ℕ) (packets : List (List ℕ)) → 7 ≤ room → room ≤ 65536 → AllByRecursion IsDeliverable packets → without_idle (with_filling room packets) ≡ packets

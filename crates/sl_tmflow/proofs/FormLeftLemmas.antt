@@ -1,8 +1,8 @@
 -- What is left of a normal form that is made piece by piece, from piece to piece and from channel to channel.
-use Rattle.std.proofs.Common.{◌≡◌, ℕ, zero, suc, ◌+◌, ◌-◌, ◌*◌, ◌/◌, ◌%◌, ◌<◌, ◌≤◌, ◌==◌, false, if◌then◌else◌, List, [], ◌∷◌, ◌++◌, length, take, drop, map, Some, refl, sym, ◌∙◌, ap, ap₂, subst, arith, inl, inr, length-append, append_assoc, append-nil, add-one, Result, Ok, Err, OnOk}
-use Rattle.std.specs.List.{AllByRecursion, concat, range_with_len, slice_index_or}
+use Rattle.std.proofs.Common.{◌≡◌, ℕ, suc, ◌+◌, ◌-◌, ◌*◌, ◌/◌, ◌%◌, ◌<◌, ◌≤◌, ◌==◌, false, if◌then◌else◌, List, [], ◌∷◌, ◌++◌, length, take, drop, map, Some, refl, sym, ◌∙◌, ap, ap₂, subst, arith, inl, inr, length-append, append_assoc, append-nil, add-one}
+use Rattle.std.specs.List.{concat, range_with_len, slice_index_or}
 use Rattle.std.proofs.lemmas.Bool.Decides.{eqb_tells, leb_tells}
-use Rattle.std.proofs.lemmas.List.{drop_all, drop-append-le, get_or-take, nil_from_length}
+use Rattle.std.proofs.lemmas.List.{get_or_past, length-take, drop_all, drop-append-le, get_or-take, nil_from_length}
 use Rattle.std.proofs.lemmas.List.Folds.{concat-append}
 use Rattle.std.proofs.lemmas.List.FromFn.{length-map-range_with_len}
 use Rattle.std.proofs.lemmas.Nat.{div-add-mod', div-mul-add}
@@ -71,11 +71,6 @@ left_next s left packet later taken roomy few here there most l =
 
 -- ---- from channel to channel
 
-none_beyond : (lists : List (List (List ℕ))) (v : ℕ) → length lists ≤ v → slice_index_or lists v [] ≡ []
-none_beyond [] v beyond = refl
-none_beyond (packets ∷ lists) zero beyond = absurd (omega arith)
-none_beyond (packets ∷ lists) (suc v) beyond = none_beyond lists v (omega arith)
-
 -- the frames from a channel on are its own and those of the channels after it
 from_channel : (format : TmFormat) (spacecraft : ℕ) (lists : List (List (List ℕ))) (v mc : ℕ)
     → concat (frames_from_channel format spacecraft v mc (drop v lists))
@@ -93,7 +88,7 @@ from_channel format spacecraft lists v mc =
           ∙ ap (λ n. concat frames ++ concat (frames_from_channel format spacecraft (v + 1) (mc + n) (drop (suc v) lists))) (length-map-range_with_len (channel_frame format spacecraft v mc filled) 0 total)
           ∙ ap (λ n. concat frames ++ concat (frames_from_channel format spacecraft (v + 1) (mc + total) (drop n lists))) (sym (add-one v))
       | inr (test, beyond) ↦
-          let none = none_beyond lists v (omega (arith, beyond)) in
+          let none = get_or_past lists v [] (omega (arith, beyond)) in
           let all : concat (frames_from_channel format spacecraft v mc (drop v lists)) ≡ [] =
           ap (λ l. concat (frames_from_channel format spacecraft v mc l)) (drop_all v lists (omega (arith, beyond))) in
           let own : concat frames ≡ [] = ap (λ ps. concat (channel_frames format spacecraft v mc ps)) none ∙ ap concat (no_frames format spacecraft v mc) in
@@ -190,11 +185,6 @@ last_taken s left wide short few some beyond l =
 
 one_packet : (room len : ℕ) → (fill_of room len == 0) ≡ false → filling room len ≡ concat (filling room len) ∷ []
 one_packet room len test = rw (test) (ap (λ q. q ∷ []) (sym (append-nil (idle_packet (fill_of room len)))))
-
-length_take_most : {A : Type 0} (n : ℕ) (xs : List A) → length (take n xs) ≤ n
-length_take_most zero xs = omega arith
-length_take_most (suc n) [] = omega arith
-length_take_most (suc n) (x ∷ xs) = let e = length_take_most n xs in omega arith
 
 -- where octets are left alone, the filling is next, and the last
 pub filling_here : (s : FormProgress) (left : List ℕ) → 7 ≤ field_room_of s.format → field_room_of s.format ≤ 65536 → length s.octets < field_room_of s.format → 0 < length s.octets
@@ -306,8 +296,8 @@ left_next_channel s left roomy beyond nothing l =
 pub none_left_after : (s : FormProgress) → 8 ≤ s.vc → IsAllMade s
 none_left_after s beyond left l =
     let room = field_room_of s.format in
-    let few : length (take 8 s.lists) ≤ 8 = length_take_most 8 s.lists in
-    let none = none_beyond (take 8 s.lists) s.vc (omega (arith, few, beyond)) in
+    let few : length (take 8 s.lists) ≤ 8 = omega (arith, length-take 8 s.lists) in
+    let none = get_or_past (take 8 s.lists) s.vc [] (omega (arith, few, beyond)) in
     let no_packets : filled_packets s ≡ [] = ap (with_filling room) none ∙ no_filling room in
     let frames : length (concat (filled_packets s)) / room ≡ 0 = ap (λ ps. length (concat ps) / room) no_packets ∙ zero-div room in
     let many : l.many ≡ 0 = omega (arith, l.all, frames) in
@@ -348,15 +338,6 @@ octets_left s m beyond =
         | inr (test, left) ↦ omega (arith, left)
       ]
     ]
-
-pub each_index : {X : Type 0} (P : X → Type 0) (xs : List X) (k : ℕ) (d : X) → k < length xs → AllByRecursion P xs → P (slice_index_or xs k d)
-each_index P [] k d inside each = absurd (omega arith)
-each_index P (x ∷ xs) zero d inside each = each.0
-each_index P (x ∷ xs) (suc k) d inside each = each_index P xs k d (omega arith) each.1
-
-pub ok_both : {T E P Q R : Type 0} (r : Result T E) → (P → Q → R) → OnOk r P → OnOk r Q → OnOk r R
-ok_both (Ok x) f p q = f p q
-ok_both (Err e) f p q = tt
 
 -- no packet has more than 65,542 octets
 pub longest_packet : (packet : List ℕ) → IsPacket packet → length packet ≤ 65542

@@ -1,7 +1,6 @@
 -- What an extractor hands over, one frame after another.
 use Rattle.std.proofs.Common.{◌≡◌, ℕ, ◌==◌, not, if◌then◌else◌, List, [], ◌∷◌, ◌++◌, inl, inr, sym, ◌∙◌, ap, subst, append_assoc, append-nil}
 use Rattle.std.proofs.lemmas.Bool.Decides.{eqb_tells}
-use Rattle.std.proofs.lemmas.List.Elements.{filter-append}
 use Rattle.sl_packet.specs.Packet.{is_idle_packet}
 use Rattle.sl_packet.specs.Packets.{without_idle}
 use Rattle.sl_tmframe.specs.TmFrame.{TmView}
@@ -16,9 +15,7 @@ use Rattle.sl_tmflow.proofs.KeptListLemmas.{packets_are_kept}
 use Rattle.sl_tmflow.proofs.KeptPacketLemmas.{packets_are_sublist}
 use Rattle.sl_tmflow.proofs.PushLemmas.{delivered_push}
 use Rattle.sl_tmflow.proofs.SublistLemmas.{sublist_filter}
-
-without_idle-append : (xs ys : List (List ℕ)) → without_idle (xs ++ ys) ≡ without_idle xs ++ without_idle ys
-without_idle-append xs ys = filter-append (λ packet. not (is_idle_packet packet)) xs ys
+use Rattle.sl_packet.proofs.WithoutIdleLemmas.{without_idle-append}
 
 -- the packets that a frame adds to those of a virtual channel
 handed_step : (vc : ℕ) (views : List TmView) (next : TmView)

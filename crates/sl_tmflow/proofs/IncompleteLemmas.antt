@@ -8,7 +8,7 @@ use Rattle.sl_tmframe.specs.TmFrame.{TmView, Opaque}
 use Rattle.sl_tmflow.specs.Channel.{is_consecutive, AreConsecutive, packet_data, reassembly}
 use Rattle.sl_tmflow.specs.Delivery.{Outcome, StillIncomplete, Continuation, Ends, Continues, Breaks, step_of, after_step, outcome_after, outcome_of_front, outcome_of}
 use Rattle.sl_tmflow.specs.Incomplete.{HasNoStart}
-use Rattle.sl_tmflow.proofs.EachLemmas.{each-append}
+use Rattle.sl_fields.proofs.ListLemmas.{each-append}
 use Rattle.sl_tmflow.proofs.StepLemmas.{GoesOnPast, step_continues, continues_step, incomplete_before}
 
 -- ---- the relation

@@ -11,7 +11,7 @@ use Rattle.sl_tmflow.specs.Channel.{packet_data, data_of}
 use Rattle.sl_tmflow.specs.PacketStart.{IsStart, starts_from, starts_of}
 use Rattle.sl_tmflow.specs.Delivery.{Outcome, Completes, StillIncomplete, Undelivered, outcome_of_front, outcome_of}
 use Rattle.sl_tmflow.specs.Incomplete.{HasNoStart, incomplete_octets, frame_incomplete, incomplete_of, OneIsIncomplete, IsShort, IncompleteIsShort}
-use Rattle.sl_tmflow.proofs.EachLemmas.{each-append, each-weaker, each-flat_map}
+use Rattle.sl_fields.proofs.ListLemmas.{each-append, each-flat_map, each-weaker}
 use Rattle.sl_tmflow.proofs.StartLemmas.{each_is_start}
 use Rattle.sl_tmflow.proofs.IncompleteLemmas.{outcome_incomplete}
 use Rattle.sl_tmflow.proofs.AtStartsLemmas.{at_rest, at_starts}

@@ -1,13 +1,14 @@
 -- The packets that the kept frames deliver are those of the whole channel of which all frames were kept.
-use Rattle.std.proofs.Common.{◌≡◌, ℕ, zero, suc, ◌+◌, ◌-◌, ◌<◌, ◌≤◌, ◌==◌, ◌||◌, Bool, true, false, if◌then◌else◌, List, [], ◌∷◌, inl, inr, refl, sym, ◌∙◌, ap, ap₂, subst, arith, eq-eqb}
+use Rattle.std.proofs.Common.{◌≡◌, ℕ, zero, suc, ◌+◌, ◌-◌, ◌<◌, ◌≤◌, ◌==◌, Bool, true, false, if◌then◌else◌, List, [], ◌∷◌, inl, inr, refl, sym, ◌∙◌, ap, ap₂, subst, arith, eq-eqb}
 use Rattle.std.specs.List.{AllByRecursion, filter, list_all, list_any, range_with_len}
 use Rattle.std.proofs.lemmas.Bool.{and_from, and_parts, cases_eq, eqb-true, or_cases}
 use Rattle.sl_tmflow.specs.Among.{IsAmong}
 use Rattle.sl_tmflow.specs.Delivery.{AreInOrder, Delivery, IsDelivery, StartsBefore, deliveries_of, packets_delivered}
 use Rattle.sl_tmflow.specs.Loss.{FewAreLost, IsSameDelivery, PacketsAreKept, RunIsKept, TestTellsRun, keeps_run}
 use Rattle.sl_tmflow.proofs.DeliveryLemmas.{are_in_order, each_is_delivery, each_is_listed}
-use Rattle.sl_tmflow.proofs.EachLemmas.{each-weaker}
-use Rattle.sl_tmflow.proofs.KeptPacketLemmas.{IsLeftOf, each-both, each_among, left_later, not_both_ways, same_order}
+use Rattle.sl_fields.proofs.ListLemmas.{each-both, each-filter, each-weaker}
+use Rattle.sl_tmflow.proofs.EachLemmas.{some_passes}
+use Rattle.sl_tmflow.proofs.KeptPacketLemmas.{IsLeftOf, each_among, left_later, not_both_ways, same_order}
 use Rattle.sl_tmflow.proofs.KeptRunLemmas.{apart, kept_runs_are_left, runs_are_kept}
 use Rattle.sl_tmflow.proofs.LocalLemmas.{none_is_new}
 
@@ -20,16 +21,6 @@ any_among number (first ∷ numbers) passes =
       | inl here ↦ inl (sym (eqb-true first number here))
       | inr there ↦ inr (any_among number numbers there)
     ]
-
-or_right : (a b : Bool) → b ≡ true → (a || b) ≡ true
-or_right true b is = refl
-or_right false b is = is
-
-among_any : (number : ℕ) (numbers : List ℕ) → IsAmong number numbers → list_any (λ kept. kept == number) numbers ≡ true
-among_any number [] there = absurd there
-among_any number (first ∷ numbers) (inl here) = ap (λ b. b || list_any (λ kept. kept == number) numbers) (eq-eqb first number (sym here))
-among_any number (first ∷ numbers) (inr there) =
-    or_right (first == number) (list_any (λ kept. kept == number) numbers) (among_any number numbers there)
 
 all_range : (test : ℕ → Bool) (from n : ℕ) → list_all test (range_with_len from n) ≡ true
     → (number : ℕ) → from ≤ number → number < from + n → test number ≡ true
@@ -56,7 +47,7 @@ run_from_test numbers whole passes number above below =
 test_from_run : (numbers : List ℕ) (whole : Delivery) → RunIsKept numbers whole → keeps_run numbers whole ≡ true
 test_from_run numbers whole run =
     range_all (λ n. list_any (λ kept. kept == n) numbers) whole.frame (whole.ending + 1 - whole.frame)
-    (λ number above below. among_any number numbers (run number above (omega arith)))
+    (λ number above below. some_passes (λ kept. kept == number) number numbers (run number above (omega arith)) (eq-eqb number number refl))
 
 pub test_tells_run : TestTellsRun
 test_tells_run numbers whole = (run_from_test numbers whole, test_from_run numbers whole)
@@ -74,16 +65,6 @@ module _ {X : Type 0} where
       subst (λ b. IsAmong x (if b then y ∷ filter test ys else filter test ys)) (sym (ap test (sym here) ∙ passes)) (inl here)
   filter_among test x (y ∷ ys) (inr there) passes = among_kept (test y) x y (filter test ys) (filter_among test x ys there passes)
 
-  each_kept : (b : Bool) (Q : X → Type 0) (x : X) (xs : List X) → (b ≡ true → Q x) → AllByRecursion Q xs → AllByRecursion Q (if b then x ∷ xs else xs)
-  each_kept true Q x xs here each = (here refl, each)
-  each_kept false Q x xs here each = each
-
-  each_filter : (test : X → Bool) (P Q : X → Type 0) → ((x : X) → test x ≡ true → P x → Q x) → (xs : List X) → AllByRecursion P xs
-      → AllByRecursion Q (filter test xs)
-  each_filter test P Q passed [] each = tt
-  each_filter test P Q passed (x ∷ xs) each =
-      each_kept (test x) Q x (filter test xs) (λ is. passed x is each.0) (each_filter test P Q passed xs each.1)
-
 order_kept : (b : Bool) (d : Delivery) (deliveries : List Delivery) → AllByRecursion (StartsBefore d) deliveries → AreInOrder deliveries
     → AreInOrder (if b then d ∷ deliveries else deliveries)
 order_kept true d deliveries after order = (after, order)
@@ -93,7 +74,7 @@ in_order-filter : (test : Delivery → Bool) (deliveries : List Delivery) → Ar
 in_order-filter test [] order = tt
 in_order-filter test (d ∷ deliveries) order =
     order_kept (test d) d (filter test deliveries)
-    (each_filter test (StartsBefore d) (StartsBefore d) (λ e passes after. after) deliveries order.0) (in_order-filter test deliveries order.1)
+    (each-filter (StartsBefore d) (StartsBefore d) test (λ e passes after. after) deliveries order.0) (in_order-filter test deliveries order.1)
 
 -- ---- the same packets
 
@@ -150,6 +131,6 @@ packets_are_kept channel numbers kept left =
           (test_from_run numbers whole (runs_are_kept numbers d whole left.few_lost same)),
       same,
     )) (deliveries_of kept) (each_is_delivery kept))
-    (each_filter test (IsDelivery channel) (IsKeptOf numbers left.few_lost (deliveries_of kept))
+    (each-filter (IsDelivery channel) (IsKeptOf numbers left.few_lost (deliveries_of kept)) test
     (λ whole passes y. let (d, x, same) = kept_runs_are_left channel numbers kept whole left y (run_from_test numbers whole passes) in
     (d, each_is_listed kept d x, same)) all (each_is_delivery channel))

@@ -6,14 +6,9 @@ use Rattle.sl_tmflow.specs.Delivery.{AreInOrder, Delivery, IsDelivery, StartsBef
 use Rattle.sl_tmflow.specs.Loss.{FewAreLost, IsSameDelivery, PacketsAreSublist}
 use Rattle.sl_tmflow.specs.Sublist.{IsSublist}
 use Rattle.sl_tmflow.proofs.DeliveryLemmas.{are_in_order, each_is_delivery, each_is_listed}
-use Rattle.sl_tmflow.proofs.EachLemmas.{each-weaker}
+use Rattle.sl_fields.proofs.ListLemmas.{each-both, each-weaker}
 use Rattle.sl_tmflow.proofs.KeptRunLemmas.{apart}
 use Rattle.sl_tmflow.proofs.LocalLemmas.{none_is_new}
-
-pub each-both : {X : Type 0} (P Q R : X → Type 0) → ((x : X) → P x → Q x → R x) → (xs : List X) → AllByRecursion P xs → AllByRecursion Q xs
-    → AllByRecursion R xs
-each-both P Q R joined [] left right = tt
-each-both P Q R joined (x ∷ xs) left right = (joined x left.0 right.0, each-both P Q R joined xs left.1 right.1)
 
 pub each_among : {X : Type 0} (P : X → Type 0) (x : X) (xs : List X) → AllByRecursion P xs → IsAmong x xs → P x
 each_among P x [] each there = absurd there

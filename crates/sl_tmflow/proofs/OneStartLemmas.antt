@@ -9,7 +9,8 @@ use Rattle.sl_tmflow.specs.Channel.{packet_data, reassembly}
 use Rattle.sl_tmflow.specs.Incomplete.{HasNoStart, IsIncomplete, OneStartIsIncomplete}
 use Rattle.sl_tmflow.specs.PacketStart.{IsStart}
 use Rattle.sl_tmflow.proofs.EachIncompleteLemmas.{incomplete_start_outcome}
-use Rattle.sl_tmflow.proofs.EachLemmas.{each-at, same_place}
+use Rattle.sl_fields.proofs.ListLemmas.{each-among}
+use Rattle.sl_tmflow.proofs.EachLemmas.{same_place}
 use Rattle.sl_tmflow.proofs.EndLemmas.{longer_begins, not_last_is_whole, at_start}
 use Rattle.sl_tmflow.proofs.IncompleteLemmas.{outcome_incomplete}
 use Rattle.sl_tmflow.proofs.StepLemmas.{incomplete_before}
@@ -20,7 +21,7 @@ none_in_later_frame : (channel : List TmView) (octets others : List ℕ) (x : Is
 none_in_later_frame channel octets others x y less =
     let (between, is, rest) = longer_begins (x.before ++ x.view ∷ []) x.run y.before (y.view ∷ y.run)
     (sym y.in_order ∙ x.in_order ∙ sym (append_assoc x.before (x.view ∷ []) x.run)) (omega (arith, length_push x.before x.view)) in
-    let none : y.first ≡ None = each-at HasNoStart between y.view y.run (subst (AllByRecursion HasNoStart) rest x.no_start) y.first y.field y.carries in
+    let none : y.first ≡ None = each-among HasNoStart between y.view y.run (subst (AllByRecursion HasNoStart) rest x.no_start) y.first y.field y.carries in
     let both : Some y.start.pointer ≡ None = sym y.start.pointed ∙ none in
     cc
 

@@ -10,7 +10,8 @@ use Rattle.sl_tmframe.specs.TmFrame.{TmView, DataField, Packets, Idle, Opaque}
 use Rattle.sl_tmflow.specs.Channel.{is_consecutive, packet_data, data_of, reassembly}
 use Rattle.sl_tmflow.specs.Delivery.{agreeing_pointer, IsDeliveredBy, Outcome, Completes, Continuation, Ends, Continues, Breaks, step_of, after_step, outcome_after, outcome_of_front, outcome_of}
 use Rattle.sl_tmflow.specs.Incomplete.{HasNoStart}
-use Rattle.sl_tmflow.proofs.EachLemmas.{each-append, each-at, some_element, has_last, cases_last}
+use Rattle.sl_fields.proofs.ListLemmas.{each-among, each-append}
+use Rattle.sl_tmflow.proofs.EachLemmas.{some_element, has_last, cases_last}
 use Rattle.sl_tmflow.proofs.StepLemmas.{EndsIn, GoesOnPast, step_ends, ends_step, step_continues, continues_step, agreeing_none, prefix_of_first, incomplete_before_end, incomplete_is_no_packet}
 use Rattle.sl_tmflow.proofs.IncompleteLemmas.{IsIncompleteAfter, reassembly-append, reassembly-cons, reassembly-push, is_incomplete_at_start, is_incomplete_one_more, consecutive_to_last}
 
@@ -53,7 +54,7 @@ agreed_earlier : (packet start : List ℕ) (run earlier : List TmView) (next : T
     → length (reassembly start run) < length packet → AllByRecursion HasNoStart run → run ≡ earlier ++ next ∷ later → next.field ≡ Packets first field
     → first ≡ agreeing_pointer (length packet) (length (reassembly start earlier)) field
 agreed_earlier packet start run earlier next later first field short none same is =
-    let no_start : HasNoStart next = each-at HasNoStart earlier next later (rw (← same) none) in
+    let no_start : HasNoStart next = each-among HasNoStart earlier next later (rw (← same) none) in
     let inside = reassembled_inside start earlier next later first field is in
     let long : length (reassembly start run) ≡ length (reassembly start (earlier ++ next ∷ later)) = ap (λ l. length (reassembly start l)) same in
     no_start first field is ∙ sym (agreeing_none (length packet) (length (reassembly start earlier)) field (omega arith))

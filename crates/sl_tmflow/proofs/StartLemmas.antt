@@ -1,16 +1,15 @@
 -- The packet starts of a data field: those that are listed, and no others.
-use Rattle.std.proofs.Common.{◌≡◌, ℕ, ◌+◌, ◌-◌, ◌<◌, List, [], ◌∷◌, ◌++◌, length, drop, Option, None, Some, inl, inr, refl, sym, ◌∙◌, ap, subst, arith, length-append, length-drop, append-nil, append_assoc}
+use Rattle.std.proofs.Common.{◌≡◌, ℕ, ◌+◌, ◌-◌, ◌<◌, List, [], ◌∷◌, ◌++◌, length, drop, Option, None, Some, inl, inr, refl, sym, ◌∙◌, ap, subst, arith, length-append, length-drop, append_assoc}
 use Rattle.std.specs.Prelude.{⊤}
 use Rattle.std.specs.List.{AllByRecursion, concat}
 use Rattle.std.proofs.lemmas.List.{drop-drop, drop_at}
-use Rattle.std.proofs.lemmas.List.Folds.{concat-append}
 use Rattle.sl_packet.specs.Packet.{IsPacket}
 use Rattle.sl_packet.specs.Packets.{packets_of, rest_of}
 use Rattle.sl_packet.proofs.PacketLemmas.{packet_least}
 use Rattle.sl_packet.proofs.PacketsLemmas.{packets_of-concat, rest_of-concat, each_has_packets}
 use Rattle.sl_tmflow.specs.Among.{IsAmong}
 use Rattle.sl_tmflow.specs.PacketStart.{IsStart, packet_offsets, starts_from}
-use Rattle.sl_tmflow.proofs.EachLemmas.{each-append}
+use Rattle.sl_fields.proofs.ListLemmas.{concat-push, each-append}
 
 -- ---- each that is listed is one
 
@@ -36,10 +35,6 @@ starts_here field pointer start before after packets parts here some =
       inside = omega arith;
     }
 
--- one packet more before the start
-concat-one_more : (before : List (List ℕ)) (packet : List ℕ) → concat (before ++ packet ∷ []) ≡ concat before ++ packet
-concat-one_more before packet = concat-append before (packet ∷ []) ∙ ap (λ octets. concat before ++ octets) (append-nil packet)
-
 offsets_are_starts : (field : List ℕ) (pointer offset : ℕ) (before packets : List (List ℕ)) (rest : List ℕ) → AllByRecursion IsPacket before
     → AllByRecursion IsPacket packets → drop pointer field ≡ concat before ++ (concat packets ++ rest) → offset ≡ pointer + length (concat before)
     → AllByRecursion (IsStart field (Some pointer)) (packet_offsets offset packets rest)
@@ -51,7 +46,7 @@ offsets_are_starts field pointer offset before (packet ∷ packets) rest done ea
     let nested : (packet ++ concat packets) ++ rest ≡ packet ++ (concat packets ++ rest) = append_assoc packet (concat packets) rest in
     let some : 0 < length ((packet ++ concat packets) ++ rest) =
     omega (arith, length-append (packet ++ concat packets) rest, length-append packet (concat packets)) in
-    let one_more : concat (before ++ packet ∷ []) ≡ concat before ++ packet = concat-one_more before packet in
+    let one_more : concat (before ++ packet ∷ []) ≡ concat before ++ packet = concat-push before packet in
     let parts' : drop pointer field ≡ concat (before ++ packet ∷ []) ++ (concat packets ++ rest) =
     parts ∙ ap (λ octets. concat before ++ octets) nested ∙ sym (append_assoc (concat before) packet (concat packets ++ rest))
     ∙ ap (λ octets. octets ++ (concat packets ++ rest)) (sym one_more) in

@@ -227,18 +227,3 @@ next_channel s =
       octets = s.octets;
       start = s.start;
     }
-
--- before the first packet
-abbrev pub form_begun : TmFormat → ℕ → List (List (List ℕ)) → FormProgress
-form_begun format spacecraft lists =
-    record {
-      format = format;
-      spacecraft = spacecraft;
-      lists = lists;
-      vc = 0;
-      taken = 0;
-      master = 0;
-      counter = 0;
-      octets = [];
-      start = 0;
-    }

@@ -6,7 +6,6 @@ pub mod ChannelState
 pub mod Delivery
 pub mod Extraction
 pub mod ExtractorModel
-pub mod FieldStart
 pub mod FormLeft
 pub mod Incomplete
 pub mod Loss

@@ -11,19 +11,6 @@ use Rattle.sl_tmframe.specs.TmDelimited.{IsTmDelimited, tm_frames_from, tm_frame
 abbrev pub AreWhole : ℕ → List (List ℕ) → Type 0
 AreWhole len frames = AllByRecursion (λ frame. length frame ≡ len) frames
 
-pub concat-last : (frames : List (List ℕ)) (frame : List ℕ) → concat (frames ++ frame ∷ []) ≡ concat frames ++ frame
-concat-last [] frame = append-nil frame
-concat-last (f ∷ frames) frame = ap (λ l. f ++ l) (concat-last frames frame) ∙ sym (append_assoc f (concat frames) frame)
-
-pub AreWhole-last : (len : ℕ) (frames : List (List ℕ)) (frame : List ℕ) → AreWhole len frames → length frame ≡ len → AreWhole len (frames ++ frame ∷ [])
-AreWhole-last len [] frame h e = (e, tt)
-AreWhole-last len (f ∷ frames) frame h e = (h.0, AreWhole-last len frames frame h.1 e)
-
-pub length-concat : (len : ℕ) (frames : List (List ℕ)) → AreWhole len frames → length (concat frames) ≡ length frames * len
-length-concat len [] h = sym (zero-mul len)
-length-concat len (f ∷ frames) h =
-    length-append f (concat frames) ∙ omega (arith, h.0, length-concat len frames h.1, suc-mul (length frames) len)
-
 -- a whole frame in front is the first frame
 pub frames_of-first : (len : ℕ) (frame rest : List ℕ) → 0 < len → length frame ≡ len → tm_frames_of len (frame ++ rest) ≡ frame ∷ tm_frames_of len rest
 frames_of-first len frame rest some e =
@@ -97,23 +84,3 @@ is_delimited len recording some =
       whole = tm_frames_from-whole len count recording (omega (arith, parts));
       short = omega (arith, parts, length-drop (count * len) recording, mod_below (length recording) len some);
     }
-
--- ---- octets that come later
-
-regrouped : (len : ℕ) (x y : List ℕ) → 0 < len → x ++ y ≡ concat (tm_frames_of len x) ++ (tm_remainder_of len x ++ y)
-regrouped len x y some =
-    ap (λ l. l ++ y) (is_delimited len x some).end_to_end ∙ append_assoc (concat (tm_frames_of len x)) (tm_remainder_of len x) y
-
--- more octets make more frames of the remainder
-pub frames_of-more : (len : ℕ) (x y : List ℕ) → 0 < len → tm_frames_of len (x ++ y) ≡ tm_frames_of len x ++ tm_frames_of len (tm_remainder_of len x ++ y)
-frames_of-more len x y some =
-    ap (tm_frames_of len) (regrouped len x y some) ∙ frames_of-concat len (tm_frames_of len x) (tm_remainder_of len x ++ y) some (is_delimited len x some).whole
-
-pub remainder_of-more : (len : ℕ) (x y : List ℕ) → 0 < len → tm_remainder_of len (x ++ y) ≡ tm_remainder_of len (tm_remainder_of len x ++ y)
-remainder_of-more len x y some =
-    ap (tm_remainder_of len) (regrouped len x y some) ∙ remainder_of-concat len (tm_frames_of len x) (tm_remainder_of len x ++ y) some (is_delimited len x some).whole
-
--- the octets of the frames and of the remainder are all
-pub length-delimited : (len : ℕ) (x : List ℕ) → 0 < len → length x ≡ length (concat (tm_frames_of len x)) + length (tm_remainder_of len x)
-length-delimited len x some =
-    ap length (is_delimited len x some).end_to_end ∙ length-append (concat (tm_frames_of len x)) (tm_remainder_of len x)

@@ -11,19 +11,9 @@ use Rattle.sl_tmframe.specs.declared.tm_frame.TmSkip.{TmSkip}
 use Rattle.sl_tmframe.specs.declared.tm_frame.TmSkip.TheVariants.{Fecf, Version, Spacecraft}
 use Rattle.sl_tmframe.specs.TmFrame.{TmFormat, TmParts, ArePartsOf, HasReason, order_of, DataField, Packets, Idle, Opaque, IsOffset, PointsTo, HasClass, TmView, ShowsControl, Shows, AreReadAs, EachIsRead, IsReadOnce, tm_parts_of, skip_reason, class_of, view_of, read_as, tm_frame}
 use Rattle.sl_tmframe.proofs.PartLemmas.{has_parts, only_parts}
+use Rattle.sl_fields.proofs.Tells.{Tells, tells_other}
 
 -- ---- the first reason
-
-abbrev Tells : Bool → Type 0 → Type 0
-Tells true A = A
-Tells false A = A → ⊥
-
-tells_other : (a b : ℕ) → Tells (not (a == b)) (a ≢ b)
-tells_other a b =
-    elim (eqb_tells a b) [
-      | inl (e, same) ↦ rw e (λ (other : a ≢ b). other same)
-      | inr (e, other) ↦ rw e other
-    ]
 
 -- an error control field is wrong where there is one
 tells_wrong : (has long : Bool) (a a' b b' : ℕ) → (has ≡ true → (long ≡ true) × (a ≡ a') × (b ≡ b'))

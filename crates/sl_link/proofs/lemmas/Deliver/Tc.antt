@@ -28,7 +28,7 @@ use Rattle.sl_link.specs.Verbs.Packets.Tc.{WantsMemoryTc}
 use Rattle.sl_link.specs.Tally.{HasCounted}
 use Rattle.sl_link.specs.Verbs.Show.Tc.{tc_skipped_of}
 use Rattle.sl_link.specs.declared.tally.Tally.{Tally}
-use Rattle.sl_tmframe.proofs.DelimitedLemmas.{concat-last}
+use Rattle.sl_fields.proofs.ListLemmas.{concat-push}
 use Rattle.sl_link.proofs.lemmas.Deliver.Lists.{items, items_change, no_items, views_step}
 use Rattle.sl_tcflow.proofs.ChannelLemmas.{held_in, held_other, held_own, packets_other, packets_own, small_map, unit_len}
 
@@ -196,7 +196,7 @@ within_next p frames frame within =
       split_count (ended_in (reception_of p) seen r),
       packets_more p frames frame,
       idle_more p frames frame,
-      ap length (concat-last frames frame),
+      ap length (concat-push frames frame),
       length-append (concat frames) frame,
     )
 
@@ -256,7 +256,7 @@ counted_fits p frames frame receiver t packets idle d packets_are idle_are =
       idle_are,
       packets_more p frames frame,
       idle_more p frames frame,
-      ap length (concat-last frames frame),
+      ap length (concat-push frames frame),
       length-append (concat frames) frame,
     )
 

@@ -1,7 +1,7 @@
 -- Frames handed over one by one, and chunks read one after another.
 use Rattle.std.proofs.Common.{◌≡◌, ℕ, ◌+◌, ◌<◌, List, [], ◌∷◌, ◌++◌, length, refl, sym, ◌∙◌, ap, subst, arith, append_assoc, append-nil, length-append}
 use Rattle.std.specs.List.{concat, AllByRecursion}
-use Rattle.std.proofs.lemmas.List.Folds.{concat-append}
+use Rattle.sl_fields.proofs.ListLemmas.{concat-push, each-append}
 use Rattle.sl_link.specs.declared.link.fault.LinkFault.{LinkFault}
 use Rattle.sl_link.specs.Pass.{CutsFrame, TakesChunk, StopsInChunk}
 
@@ -14,19 +14,12 @@ pub record IsHanding {F S : Type 0} (is_frame : List ℕ → Type 0) (waits : F 
   pub whole : AllByRecursion is_frame frames
   pub taken : took start sink' (before ++ frames)
 
-last : (is_frame : List ℕ → Type 0) (xs : List (List ℕ)) (x : List ℕ) → AllByRecursion is_frame xs → is_frame x → AllByRecursion is_frame (xs ++ x ∷ [])
-last is_frame [] x a h = (h, tt)
-last is_frame (y ∷ ys) x a h = (a.0, last is_frame ys x a.1 h)
-
 -- frames at the front are the first ones
 fronts : (is_frame : List ℕ → Type 0) (frames_of : List ℕ → List (List ℕ)) → ((frame more : List ℕ) → is_frame frame → frames_of (frame ++ more) ≡ frame ∷ frames_of more)
     → (frames : List (List ℕ)) (more : List ℕ) → AllByRecursion is_frame frames → frames_of (concat frames ++ more) ≡ frames ++ frames_of more
 fronts is_frame frames_of front [] more a = refl
 fronts is_frame frames_of front (frame ∷ frames) more a =
     ap frames_of (append_assoc frame (concat frames) more) ∙ front frame (concat frames ++ more) a.0 ∙ ap (λ fs. frame ∷ fs) (fronts is_frame frames_of front frames more a.1)
-
-concat_last : (frames : List (List ℕ)) (frame : List ℕ) → concat (frames ++ frame ∷ []) ≡ concat frames ++ frame
-concat_last frames frame = concat-append frames (frame ∷ []) ∙ ap (λ l. concat frames ++ l) (append-nil frame)
 
 module _ {F S : Type 0} (is_frame : List ℕ → Type 0) (waits : F → List ℕ → Type 0) (took : S → S → List (List ℕ) → Type 0) where
   pub handing_none : (framer : F) (start sink : S) (before : List (List ℕ)) (rest chunk : List ℕ) → waits framer rest → took start sink before
@@ -44,7 +37,7 @@ module _ {F S : Type 0} (is_frame : List ℕ → Type 0) (waits : F → List ℕ
     pub parts_next : (left' frame : List ℕ) → (g : CutsFrame is_frame h.rest left left' frame) → octets ≡ concat (h.frames ++ frame ∷ []) ++ left'
     parts_next left' frame g =
         h.parts ∙ ap (λ l. concat h.frames ++ l) g.parts ∙ sym (append_assoc (concat h.frames) frame left')
-        ∙ ap (λ l. l ++ left') (sym (concat_last h.frames frame))
+        ∙ ap (λ l. l ++ left') (sym (concat-push h.frames frame))
 
     pub handing_next : (framer' : F) (sink' : S) (left' frame : List ℕ) → CutsFrame is_frame h.rest left left' frame → waits framer' []
         → took start sink' ((before ++ h.frames) ++ frame ∷ []) → IsHanding is_frame waits took framer' start sink' before octets left'
@@ -53,7 +46,7 @@ module _ {F S : Type 0} (is_frame : List ℕ → Type 0) (waits : F → List ℕ
       rest = [];
       waiting = w;
       parts = parts_next left' frame g;
-      whole = last is_frame h.frames frame h.whole g.whole;
+      whole = each-append is_frame h.frames (frame ∷ []) h.whole (g.whole, tt);
       taken = subst (took start sink') (append_assoc before h.frames (frame ∷ [])) t;
     }
 
@@ -69,7 +62,7 @@ module _ {F S : Type 0} (is_frame : List ℕ → Type 0) (waits : F → List ℕ
           length-append (concat before) (concat h.frames),
           ap length (parts_next left' frame g),
           length-append (concat (h.frames ++ frame ∷ [])) left',
-          ap length (concat_last h.frames frame),
+          ap length (concat-push h.frames frame),
           length-append (concat h.frames) frame,
         )
 
@@ -90,6 +83,6 @@ module _ {F S : Type 0} (is_frame : List ℕ → Type 0) (waits : F → List ℕ
       handed_some stopped sink' left' frame fault g s = record {
         frames = h.frames ++ frame ∷ [];
         later = frames_of left';
-        in_order = ap frames_of (parts_next left' frame g) ∙ fronts is_frame frames_of front (h.frames ++ frame ∷ []) left' (last is_frame h.frames frame h.whole g.whole);
+        in_order = ap frames_of (parts_next left' frame g) ∙ fronts is_frame frames_of front (h.frames ++ frame ∷ []) left' (each-append is_frame h.frames (frame ∷ []) h.whole (g.whole, tt));
         at = subst (λ fs. stopped start sink' fs fault) (append_assoc before h.frames (frame ∷ [])) s;
       }

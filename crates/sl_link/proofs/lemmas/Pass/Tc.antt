@@ -9,7 +9,7 @@ use Rattle.sl_tcframe.specs.TcFrame.{is_cut}
 use Rattle.sl_tcframe.specs.TcFraming.{BelowLeast, HasTaken, IsRest, IsStuck, TcFraming, WholeFrame, YieldsFrame, YieldsNone, after_call}
 use Rattle.sl_tcframe.proofs.ChunkLemmas.{below_again, less_than_whole, none_below, pause_parts, pause_rest, rest_is_no_frame}
 use Rattle.sl_tcframe.proofs.DelimitedLemmas.{frames_of-none}
-use Rattle.sl_tcframe.proofs.FramingLemmas.{below_stays, fits_rest, front_tells}
+use Rattle.sl_tcframe.proofs.FramingLemmas.{below_is_not_whole, below_stays, fits_rest, front_tells}
 use Rattle.sl_link.specs.Link.Managed.{Parameters, tc_format}
 use Rattle.sl_link.specs.Pass.{CutsFrame, WaitsAfter}
 use Rattle.sl_link.specs.Pass.Tc.{TcWaits, is_tc_frame, tc_frames}
@@ -39,14 +39,11 @@ module _ (f : TcFraming) (p : Parameters) (rest chunk left : List ℕ) (w : TcWa
 
   -- ---- a frame
 
-  apart : (len : ℕ) → BelowLeast ≡ WholeFrame len → ⊥
-  apart len e = cc
-
   pub cuts : (frame : List ℕ) → YieldsFrame f chunk frame left → is_cut f.format frame ≡ true → CutsFrame (is_tc_frame p) rest chunk left frame
   cuts frame y cut =
       let alone : rest ≡ f.rest = elim w.later [
         | inl none ↦ rest_alone none
-        | inr stuck ↦ absurd (apart (length frame) (sym (below_stays f.format f.rest chunk stuck) ∙ y.whole))
+        | inr stuck ↦ absurd (below_is_not_whole (length frame) (sym (below_stays f.format f.rest chunk stuck) ∙ y.whole))
       ] in
       let less = less_than_whole f.format f.rest chunk (length frame) w.taken (front_tells f.format (f.rest ++ chunk) (WholeFrame (length frame)) y.whole) in
       record {

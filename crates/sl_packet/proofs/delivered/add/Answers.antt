@@ -1,15 +1,12 @@
-use Rattle.std.proofs.Common.{◌≤◌, ◌<◌, length, Result, Ok, Err, OnErr, sym, ◌∙◌, ap, subst, arith}
+use Rattle.std.proofs.Common.{◌≤◌, ◌<◌, length, sym, ◌∙◌, ap, subst, arith}
 use Rattle.std.proofs.lemmas.List.{length-map}
 use Rattle.std.specs.List.{AllByRecursion}
 use Rattle.sl_packet.specs.Delivered.{IsDeliverable, channel_count}
 use Rattle.sl_packet.specs.KeptLists.{lists_in, with_empty_lists}
 use Rattle.sl_packet.proofs.PaddedLemmas.{padded_grown, padded_with_packet}
 use Rattle.sl_packet.proofs.KeptLemmas.{packet_added, nothing_added, grown_due, with_packet_due}
+use Rattle.sl_packet.proofs.StoppingLemmas.{on_err}
 use Rattle.sl_packet.proofs.delivered.add.Goals as goal
-
-on_err : {A E : Type 0} (r : Result A E) (P : Type 0) → P → OnErr r P
-on_err (Ok a) P p = tt
-on_err (Err e) P p = p
 
 pub returns-in_err-reach-clause-refused : goal.returns-in_err-reach-clause-refused
 returns-in_err-reach-clause-refused c =

@@ -1,7 +1,7 @@
 use Rattle.std.proofs.Common.{length, arith, length-take-le}
 use Rattle.std.specs.List.{AllByRecursion}
+use Rattle.sl_fields.proofs.ListLemmas.{each-taken}
 use Rattle.sl_packet.specs.Delivered.{IsDeliverable}
-use Rattle.sl_tmflow.proofs.EachLemmas.{each-taken}
 use Rattle.sl_tmflow.proofs.form.has_packets.Goals as goal
 
 pub returns : goal.returns

@@ -12,12 +12,7 @@ use Rattle.sl_tmflow.proofs.IncompleteListLemmas.{one_is_incomplete, incomplete_
 use Rattle.sl_link.specs.Verbs.Check.CheckingTm.{held_amiss}
 use Rattle.sl_link.specs.Io.Line.{line_at}
 use Rattle.sl_link.proofs.lemmas.Verbs.Check.Lines.{joined}
-
-range_more : (a n : ℕ) → range_with_len a (suc n) ≡ range_with_len a n ++ (a + n) ∷ []
-range_more a zero = let e : a ≡ a + 0 = omega arith in ap (λ k. k ∷ []) e
-range_more a (suc n) =
-    let e : (a + 1) + n ≡ a + suc n = omega arith in
-    ap (λ l. a ∷ l) (range_more (a + 1) n ∙ ap (λ k. range_with_len (a + 1) n ++ k ∷ []) e)
+use Rattle.sl_fields.proofs.ListLemmas.{range-push}
 
 abbrev held_line : ℕ → ℕ → ℕ → List ℕ
 held_line offset vc octets = line_at offset (codes " open vc " ++ decimal vc ++ codes " octets " ++ decimal octets)
@@ -45,8 +40,8 @@ one_more : (offset vc held : ℕ) (views : List TmView) → held ≡ length (con
 one_more offset vc held views e =
     let of_channel : ℕ → List (List ℕ) = λ vc. map (λ octets. held_line offset vc (length octets)) (incomplete_of (channel_of vc views)) in
     let channel = channel_of vc views in
-    let here : 0 + vc ≡ vc = omega arith in
-    ap (flat_map of_channel) (range_more 0 vc ∙ ap (λ k. range_with_len 0 vc ++ k ∷ []) here) ∙ flat_map-append of_channel (range_with_len 0 vc) (vc ∷ [])
+    let next : suc vc ≡ vc + 1 = omega arith in
+    ap (flat_map of_channel) (ap (range_with_len 0) next ∙ range-push 0 vc vc (omega arith)) ∙ flat_map-append of_channel (range_with_len 0 vc) (vc ∷ [])
     ∙ ap (λ l. incomplete_to offset views vc ++ l) (append-nil (of_channel vc)
     ∙ one_line offset vc (incomplete_of channel) (one_is_incomplete channel) (incomplete_is_short channel) ∙ ap (held_amiss offset vc) (sym e))
 

@@ -3,7 +3,7 @@ use Rattle.std.proofs.Common.{◌≡◌, ℕ, ◌+◌, List, ◌∷◌, [], ◌+
 use Rattle.std.specs.Prelude.{is_err}
 use Rattle.std.specs.List.{concat}
 use Rattle.sl_tmframe.specs.TmFrame.{tm_frame}
-use Rattle.sl_tmframe.proofs.DelimitedLemmas.{concat-last}
+use Rattle.sl_fields.proofs.ListLemmas.{concat-push}
 use Rattle.sl_link.specs.declared.link.counted.Counted.{Counted}
 use Rattle.sl_link.specs.declared.link.fault.LinkFault.{LinkFault}
 use Rattle.sl_link.specs.declared.tally.Tally.{Tally}
@@ -30,7 +30,7 @@ pub counted_more : (p : Parameters) (frames : List (List ℕ)) (frame : List ℕ
     → t'.frames ≡ t.frames + 1 → t'.skipped ≡ t.skipped + (if is_err (tm_frame (tm_format p) p.spacecraft frame) then 1 else 0)
     → HasCounted (tm_skipped_of (tm_format p) p.spacecraft) (frames ++ frame ∷ []) t'
 counted_more p frames frame t t' a octets one skipped = record {
-  octets = omega (arith, octets, a.octets, ap length (concat-last frames frame), length-append (concat frames) frame);
+  octets = omega (arith, octets, a.octets, ap length (concat-push frames frame), length-append (concat frames) frame);
   frames = omega (arith, one, a.frames, length-append frames (frame ∷ []));
   skipped = omega (arith, skipped, a.skipped, tm_skipped_of-append (tm_format p) p.spacecraft frames (frame ∷ []));
 }

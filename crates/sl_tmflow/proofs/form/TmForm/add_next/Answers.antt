@@ -9,7 +9,8 @@ use Rattle.sl_tmflow.specs.FormLeft.{FormState, HasMore, channel_packets, fillin
 use Rattle.sl_tmflow.specs.TmFormModel.{form_progress}
 use Rattle.sl_tmflow.proofs.CanonicalLemmas.{short_room, wide_room}
 use Rattle.sl_tmflow.proofs.FormPushLemmas.{short_filling, small_piece}
-use Rattle.sl_tmflow.proofs.FormLeftLemmas.{adds_filling, adds_packet, channel_is, each_index, fewer_after, fewer_filled, longest_packet, octets_left, passed_is}
+use Rattle.sl_tmflow.proofs.FormLeftLemmas.{adds_filling, adds_packet, channel_is, fewer_after, fewer_filled, longest_packet, octets_left, passed_is}
+use Rattle.std.proofs.lemmas.List.Elements.{All-from_recursion}
 use Rattle.sl_tmflow.proofs.form.TmForm.add_next.Goals as goal
 
 pub returns-in_err-frames-clause-full : goal.returns-in_err-frames-clause-full
@@ -19,7 +20,7 @@ returns-in_err-frames-clause-full c =
     let wide : 24 ≤ field_room_of i.format = omega (arith, wide_room i.format c.self.invariant.format) in
     let short : field_room_of i.format ≤ 2042 = omega (arith, short_room i.format c.self.invariant.format) in
     let long : length (list_at c.self.inside.delivered.now c.from.result) ≡ length c.list-packets.result.now = sym (ap length c.list-packets.ensures.packets) ∙ length-map c.list-packets.result.now vec_items in
-    let due = each_index IsDeliverable (list_at c.self.inside.delivered.now c.from.result) i.taken [] (omega (arith, long, c.if-taken-packets.true)) c.list-packets.ensures.deliverable in
+    let due = All-from_recursion IsDeliverable (list_at c.self.inside.delivered.now c.from.result) c.list-packets.ensures.deliverable i.taken [] (omega (arith, long, c.if-taken-packets.true)) in
     let packet : slice_index_or (list_at c.self.inside.delivered.now c.from.result) i.taken [] ≡ c.as_slice-packet.result.now =
     ap (λ ps. slice_index_or ps i.taken []) (sym c.list-packets.ensures.packets)
     ∙ get_or-map vec_items c.list-packets.result.now i.taken c.index-packets-taken.result [] (omega (arith, c.if-taken-packets.true))

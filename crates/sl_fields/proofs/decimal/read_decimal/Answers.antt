@@ -1,7 +1,7 @@
 use Rattle.std.proofs.Common.{slice_index_or, ap, arith}
-use Rattle.sl_cop.proofs.StartsTextLemmas.{IsUnpadded, reads_decimal, reads_it, unpadded}
-use Rattle.sl_cop.proofs.starts.read_number.Goals.{else-text-gt1-via-then-text-gt1+else-as_bytes-lt49, else-text-gt1-via-else-text-gt1}
-use Rattle.sl_cop.proofs.starts.read_number.Goals as goal
+use Rattle.sl_fields.proofs.DecimalLemmas.{IsUnpadded, reads_decimal, reads_it, unpadded}
+use Rattle.sl_fields.proofs.decimal.read_decimal.Goals.{else-text-gt1-via-then-text-gt1+else-as_bytes-lt49, else-text-gt1-via-else-text-gt1}
+use Rattle.sl_fields.proofs.decimal.read_decimal.Goals as goal
 
 pub returns-then-as_bytes-lt49-clause-every : goal.returns-then-as_bytes-lt49-clause-every
 returns-then-as_bytes-lt49-clause-every c n small is =

@@ -1,0 +1,14 @@
+//! A number of one octet as text.
+ghost use Rattle.std.specs.Prelude.{◌≡◌, ◌≤◌, ℕ, IfSome, Some};
+ghost use Rattle.std.specs.Fmt.{decimal};
+
+/// The number, 0 to 255, that the text is in decimal without leading zeros; `None` for any other text.
+pub fn read_decimal(text: &str) -> Option<u8>
+    ensures number { IfSome result (λ n. text.now ≡ decimal n) }
+    ensures every { (n : ℕ) → n ≤ 255 → text.now ≡ decimal n → result ≡ Some n }
+{
+    if text.len() > 1 && text.as_bytes()[0] < b'1' {
+        return None;
+    }
+    text.parse::<u8>().ok()
+}

@@ -1,6 +1,0 @@
--- What holds where a call is refused.
-use Rattle.std.proofs.Common.{Result, Ok, Err, OnErr}
-
-pub on_err : {A E : Type 0} (r : Result A E) (P : Type 0) → P → OnErr r P
-on_err (Ok a) P p = tt
-on_err (Err e) P p = p

@@ -1,6 +1,6 @@
 use Rattle.std.proofs.Common.{length, arith, length-take-le}
 use Rattle.std.specs.List.{AllByRecursion}
-use Rattle.sl_fields.proofs.ListLemmas.{each-taken}
+use Rattle.sl_fields.proofs.ListLemmas.{each-take}
 use Rattle.sl_packet.specs.Delivered.{IsDeliverable}
 use Rattle.sl_tmflow.proofs.form.has_packets.Goals as goal
 
@@ -9,5 +9,5 @@ returns c =
     let lists = c.args.delivered.now.lists in
     record {
       eight = length-take-le 8 lists (omega (arith, c.list.ensures.channels));
-      each = each-taken (AllByRecursion IsDeliverable) 8 lists c.list.ensures.each_deliverable;
+      each = each-take (AllByRecursion IsDeliverable) 8 lists c.list.ensures.each_deliverable;
     }

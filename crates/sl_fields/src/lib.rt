@@ -24,6 +24,3 @@ pub use segment_header::SegmentHeader;
 pub use shape_fault::ShapeFault;
 pub use tc_header::TcHeader;
 pub use tm_header::TmHeader;
-
-#[cfg(test)]
-mod tests;

@@ -28,6 +28,3 @@ pub use segment_header::SegmentHeader;
 pub use shape_fault::ShapeFault;
 pub use tc_header::TcHeader;
 pub use tm_header::TmHeader;
-
-#[cfg(test)]
-mod tests;

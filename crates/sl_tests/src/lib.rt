@@ -5,7 +5,11 @@
 #[cfg(test)]
 mod cop;
 #[cfg(test)]
+mod fields;
+#[cfg(test)]
 mod packet;
+#[cfg(test)]
+mod support;
 #[cfg(test)]
 mod tcflow;
 #[cfg(test)]

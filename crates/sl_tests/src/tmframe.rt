@@ -2,20 +2,15 @@
 //! control fields are known from outside.
 mod framer;
 
+use crate::support::recordings::TM_FRAME;
+use crate::support::tm::{frame, read, shape};
 use sl_fields::ShapeFault;
 use sl_tmframe::{TmField, TmFrame, TmShape, TmSkip, push_tm};
 use std::test::Fail;
 
-// Spacecraft 1, virtual channel 0, counts 0: a packet at the front, and an idle packet to the end.
-const FRAME: [u8; 32] = [
-    0x00, 0x10, 0x00, 0x00, 0x18, 0x00, //
-    0x00, 0x01, 0xC0, 0x00, 0x00, 0x03, 0xAA, 0xBB, 0xCC, 0xDD, //
-    0x07, 0xFF, 0xC0, 0x00, 0x00, 0x09, 0, 0, 0, 0, 0, 0, 0, 0, 0, 0,
-];
-
 // The frame with this header.
 fn with_header(header: [u8; 6]) -> [u8; 32] {
-    let mut frame = FRAME;
+    let mut frame = TM_FRAME;
     frame[..6].copy_from_slice(&header);
     frame
 }
@@ -36,19 +31,49 @@ fn has_packets(frame: &TmFrame, start: Option<u16>, field: &[u8]) -> bool {
     }
 }
 
+// Length, error control, and room of a format.
+fn parts(shape: &TmShape) -> (u16, bool, u16) {
+    (shape.len(), shape.fecf(), shape.room())
+}
+
+// Virtual channel, counts and operational control field of a frame.
+fn view(frame: &TmFrame) -> (u8, (u8, u8), Option<[u8; 4]>) {
+    (
+        frame.vc(),
+        (frame.mc_count(), frame.vc_count()),
+        frame.control(),
+    )
+}
+
+// Whether the data field of a frame holds no packets, and then whether it is idle.
+fn is_idle(frame: &TmFrame) -> Option<bool> {
+    match frame.field() {
+        TmField::Idle => Some(true),
+        TmField::Opaque => Some(false),
+        TmField::Packets { .. } => None,
+    }
+}
+
+// Adds a frame of spacecraft 1 with the data field of `TM_FRAME`.
+fn push(
+    out: &mut Vec<u8>,
+    shape: &TmShape,
+    (vc, mc, vcc): (u8, u8, u8),
+    first: Option<u16>,
+) -> Result<(), Fail> {
+    if vc > 7 || first.is_some_and(|first| first >= 26) || shape.room() != 26 {
+        return Err("no such frame".into());
+    }
+    Ok(push_tm(out, shape, 1, vc, mc, vcc, first, &TM_FRAME[6..])?)
+}
+
 #[test]
 fn formats_and_their_rooms(rt: HostRuntime) -> Result<(), Fail> {
     for len in [0, 31, 2049, 65535] {
-        assert_eq!(rt;
-            TmShape::new(len, false),
-            Err(ShapeFault::TmLength),
-            "at {len}"
-        );
-        assert_eq!(rt;
-            TmShape::new(len, true),
-            Err(ShapeFault::TmLength),
-            "at {len}"
-        );
+        for fecf in [false, true] {
+            let fault = shape(len, fecf).err();
+            assert_eq!(rt; fault, Some(ShapeFault::TmLength), "at {len}");
+        }
     }
     for (len, fecf, room) in [
         (32, false, 26),
@@ -56,68 +81,57 @@ fn formats_and_their_rooms(rt: HostRuntime) -> Result<(), Fail> {
         (2048, false, 2042),
         (2048, true, 2040),
     ] {
-        let shape = TmShape::new(len, fecf)?;
-        assert_eq!(rt; shape.len(), len);
-        assert_eq!(rt; shape.fecf(), fecf);
-        assert_eq!(rt; shape.room(), room, "at {len}");
+        assert_eq!(rt; parts(&shape(len, fecf)?), (len, fecf, room));
     }
     Ok(())
 }
 
 #[test]
 fn frames_of_packets_are_read(rt: HostRuntime) -> Result<(), Fail> {
-    let shape = TmShape::new(32, false)?;
-    for (header, (vc, mc, vcc), first) in [
-        ([0x00, 0x10, 0x00, 0x00, 0x18, 0x00], (0, 0, 0), Some(0)),
-        ([0x00, 0x1A, 0x07, 0x09, 0x18, 0x0A], (5, 7, 9), Some(10)),
-        ([0x00, 0x1E, 0xFF, 0x01, 0x18, 0x19], (7, 255, 1), Some(25)),
-        ([0x00, 0x10, 0x01, 0xFF, 0x1F, 0xFF], (0, 1, 255), None),
+    let shape = shape(32, false)?;
+    for (header, vc, counts, first) in [
+        ([0x00, 0x10, 0x00, 0x00, 0x18, 0x00], 0, (0, 0), Some(0)),
+        ([0x00, 0x1A, 0x07, 0x09, 0x18, 0x0A], 5, (7, 9), Some(10)),
+        ([0x00, 0x1E, 0xFF, 0x01, 0x18, 0x19], 7, (255, 1), Some(25)),
+        ([0x00, 0x10, 0x01, 0xFF, 0x1F, 0xFF], 0, (1, 255), None),
     ] {
         let octets = with_header(header);
-        let frame = TmFrame::read(&shape, 1, &octets).or(Err("skipped"))?;
-        assert_eq!(rt; frame.vc(), vc, "at {header:?}");
-        assert_eq!(rt; frame.mc_count(), mc, "at {header:?}");
-        assert_eq!(rt; frame.vc_count(), vcc, "at {header:?}");
-        assert_eq!(rt; frame.control(), None, "at {header:?}");
-        assert!(rt; has_packets(&frame, first, &FRAME[6..]), "at {header:?}");
+        let frame = frame(&shape, &octets)?;
+        assert_eq!(rt; view(&frame), (vc, counts, None), "at {header:?}");
+        assert!(rt; has_packets(&frame, first, &TM_FRAME[6..]), "at {header:?}");
     }
     Ok(())
 }
 
 #[test]
-fn the_error_control_field_is_no_part_of_the_data_field(rt: HostRuntime) -> Result<(), Fail> {
-    let shape = TmShape::new(34, true)?;
+fn control_fields_are_no_part_of_the_data_field(rt: HostRuntime) -> Result<(), Fail> {
+    // An error control field.
+    let with_fecf = shape(34, true)?;
     let octets = protected([0x00, 0x10, 0x00, 0x00, 0x18, 0x00], [0x5E, 0x0C]);
-    let frame = TmFrame::read(&shape, 1, &octets).or(Err("skipped"))?;
-    assert!(rt; has_packets(&frame, Some(0), &FRAME[6..]));
-    Ok(())
-}
-
-#[test]
-fn the_operational_control_field_is_before_the_error_control_field(
-    rt: HostRuntime,
-) -> Result<(), Fail> {
+    assert!(rt; has_packets(&frame(&with_fecf, &octets)?, Some(0), &TM_FRAME[6..]));
+    // An operational control field before it.
     let octets = [
         0x00, 0x1B, 0x07, 0x09, 0x18, 0x0A, //
         0x00, 0x01, 0xC0, 0x00, 0x00, 0x03, 0xAA, 0xBB, 0xCC, 0xDD, //
         0x07, 0xFF, 0xC0, 0x00, 0x00, 0x09, 0, 0, 0, 0, 0, 0, //
         0x01, 0x02, 0x03, 0x04, 0x59, 0x09,
     ];
-    let shape = TmShape::new(34, true)?;
-    let frame = TmFrame::read(&shape, 1, &octets).or(Err("skipped"))?;
-    assert_eq!(rt; frame.control(), Some([0x01, 0x02, 0x03, 0x04]));
-    assert!(rt; has_packets(&frame, Some(10), &FRAME[6..28]));
+    let control = Some([0x01, 0x02, 0x03, 0x04]);
+    let with_both = frame(&with_fecf, &octets)?;
+    assert_eq!(rt; view(&with_both), (5, (7, 9), control));
+    assert!(rt; has_packets(&with_both, Some(10), &TM_FRAME[6..28]));
     // The same octets of a format without error control.
-    let shape = TmShape::new(34, false)?;
-    let frame = TmFrame::read(&shape, 1, &octets).or(Err("skipped"))?;
-    assert_eq!(rt; frame.control(), Some([0x03, 0x04, 0x59, 0x09]));
-    assert!(rt; has_packets(&frame, Some(10), &octets[6..30]));
+    let control = Some([0x03, 0x04, 0x59, 0x09]);
+    let without = shape(34, false)?;
+    let without_fecf = frame(&without, &octets)?;
+    assert_eq!(rt; view(&without_fecf), (5, (7, 9), control));
+    assert!(rt; has_packets(&without_fecf, Some(10), &octets[6..30]));
     Ok(())
 }
 
 #[test]
 fn idle_and_opaque_frames(rt: HostRuntime) -> Result<(), Fail> {
-    let shape = TmShape::new(32, false)?;
+    let shape = shape(32, false)?;
     for (header, idle) in [
         // Pointer 2046.
         ([0x00, 0x10, 0x00, 0x00, 0x1F, 0xFE], true),
@@ -131,20 +145,16 @@ fn idle_and_opaque_frames(rt: HostRuntime) -> Result<(), Fail> {
         ([0x00, 0x10, 0x00, 0x00, 0x1F, 0xFD], false),
     ] {
         let octets = with_header(header);
-        let frame = TmFrame::read(&shape, 1, &octets).or(Err("skipped"))?;
-        match frame.field() {
-            TmField::Idle => assert!(rt; idle, "at {header:?}"),
-            TmField::Opaque => assert!(rt; !idle, "at {header:?}"),
-            TmField::Packets { .. } => assert!(rt; false, "at {header:?}"),
-        }
+        let found = is_idle(&frame(&shape, &octets)?);
+        assert_eq!(rt; found, Some(idle), "at {header:?}");
     }
     Ok(())
 }
 
 #[test]
 fn the_first_reason_to_skip_a_frame(rt: HostRuntime) -> Result<(), Fail> {
-    let shape = TmShape::new(34, true)?;
-    let unprotected = TmShape::new(32, false)?;
+    let with_fecf = shape(34, true)?;
+    let unprotected = shape(32, false)?;
     for (header, fecf, (reason, without_fecf)) in [
         // Nothing is wrong,
         (
@@ -182,28 +192,24 @@ fn the_first_reason_to_skip_a_frame(rt: HostRuntime) -> Result<(), Fail> {
             (Some(TmSkip::Fecf), Some(TmSkip::Version)),
         ),
     ] {
-        let skip = TmFrame::read(&shape, 1, &protected(header, fecf)).err();
+        let skip = read(&with_fecf, 1, &protected(header, fecf))?.err();
         assert_eq!(rt; skip, reason, "at {header:?} {fecf:?}");
-        let skip = TmFrame::read(&unprotected, 1, &with_header(header)).err();
+        let skip = read(&unprotected, 1, &with_header(header))?.err();
         assert_eq!(rt; skip, without_fecf, "at {header:?}");
     }
-    assert_eq!(rt;
-        TmFrame::read(&unprotected, 2, &FRAME).err(),
-        Some(TmSkip::Spacecraft)
-    );
+    let skip = read(&unprotected, 2, &TM_FRAME)?.err();
+    assert_eq!(rt; skip, Some(TmSkip::Spacecraft));
     Ok(())
 }
 
 #[test]
 fn frames_of_packets_are_added_after_what_is_there(rt: HostRuntime) -> Result<(), Fail> {
-    let field = &FRAME[6..];
-    let shape = TmShape::new(32, false)?;
     let mut octets = vec![in rt.alloc(); 0xEE]?;
-    push_tm(&mut octets, &shape, 1, 0, 0, 0, Some(0), field)?;
+    push(&mut octets, &shape(32, false)?, (0, 0, 0), Some(0))?;
     assert_eq!(rt; octets.len(), 33);
-    assert_eq!(rt; octets.get(1..), Some(&FRAME[..]));
-    let shape = TmShape::new(34, true)?;
-    for (header, fecf, (vc, mc, vcc), first) in [
+    assert_eq!(rt; octets.get(1..), Some(&TM_FRAME[..]));
+    let with_fecf = shape(34, true)?;
+    for (header, fecf, numbers, first) in [
         (
             [0x00, 0x10, 0x00, 0x00, 0x18, 0x00],
             [0x5E, 0x0C],
@@ -224,7 +230,7 @@ fn frames_of_packets_are_added_after_what_is_there(rt: HostRuntime) -> Result<()
         ),
     ] {
         let mut octets = vec![in rt.alloc(); 0xEE]?;
-        push_tm(&mut octets, &shape, 1, vc, mc, vcc, first, field)?;
+        push(&mut octets, &with_fecf, numbers, first)?;
         assert_eq!(rt; octets.first(), Some(&0xEE));
         assert_eq!(rt;
             octets.get(1..),

@@ -1,48 +1,55 @@
 //! The normal form piece by piece.
-use super::reframe::{delivered_of, form_with};
-use sl_cop::Starts;
-use sl_packet::{Delivered, hand_over};
+use crate::support::cop::all;
+use crate::support::packets::{delivered_of, longest};
+use crate::support::recordings::{COMMAND, LEAST};
+use crate::support::tc::{form_of, no_channels, shape};
+use sl_packet::Delivered;
 use sl_tcflow::{PIECE_ROOM, TcForm, fits_tc};
-use sl_tcframe::{TcShape, VcSet};
+use sl_tcframe::TcShape;
+use std::alloc::AllocError;
 use std::test::Fail;
-
-const PACKET: [u8; 10] = [0x10, 0x01, 0xC0, 0x00, 0x00, 0x03, 0xAA, 0xBB, 0xCC, 0xDD];
-
-const LEAST: [u8; 7] = [0x10, 0x02, 0xC0, 0x01, 0x00, 0x00, 0xEE];
 
 // Packets on the first two MAPs of virtual channel 0, and on the first and the last virtual channel after it.
 const PACKETS: [(u16, &[u8]); 6] = [
     (0, &LEAST),
-    (1, &PACKET),
+    (1, &COMMAND),
     (1, &LEAST),
-    (64, &PACKET),
+    (64, &COMMAND),
     (4032, &LEAST),
-    (4095, &PACKET),
+    (4095, &COMMAND),
 ];
 
 // Octets of the frames of each, of 16 octets at most.
 const LENS: [usize; 6] = [13, 16, 13, 16, 13, 16];
 
-#[test]
-fn pieces_are_the_form(rt: HostRuntime) -> Result<(), Fail> {
-    let shape = TcShape::new(16, false)?;
-    let starts = Starts::all(254);
-    let none = VcSet::new();
-    let delivered = delivered_of(rt.alloc(), &PACKETS)?;
-    if !fits_tc(&shape, &none, &delivered) {
+// The form with segment headers on each virtual channel, and the same V(R).
+fn pieces_of<'d>(shape: &TcShape, vr: u8, delivered: &'d Delivered) -> Result<TcForm<'d>, Fail> {
+    let plain = no_channels();
+    if !fits_tc(shape, &plain, delivered) {
         return Err(Fail::from("no such frames"));
     }
-    let mut pieces = TcForm::new(shape, 1, starts, none, &delivered);
+    Ok(TcForm::new(*shape, 1, all(vr), plain, delivered))
+}
+
+fn next(pieces: &mut TcForm, form: &mut Vec<u8>) -> Result<bool, AllocError> {
+    pieces.next(form)
+}
+
+#[test]
+fn pieces_are_the_form(rt: HostRuntime) -> Result<(), Fail> {
+    let shape = shape(16, false)?;
+    let delivered = delivered_of(rt.alloc(), &PACKETS)?;
+    let mut pieces = pieces_of(&shape, 254, &delivered)?;
     let mut form = Vec::new(rt.alloc());
     for len in &LENS {
         let mut piece = Vec::with_capacity(rt.alloc(), PIECE_ROOM)?;
-        assert!(rt; pieces.next(&mut piece)?);
+        assert!(rt; next(&mut pieces, &mut piece)?);
         assert_eq!(rt; piece.len(), *len);
         form.extend_from_slice(&piece)?;
     }
-    assert!(rt; !pieces.next(&mut form)?);
-    assert!(rt; !pieces.next(&mut form)?);
-    let whole = form_with(rt.alloc(), &shape, &starts, &none, &PACKETS)?;
+    assert!(rt; !next(&mut pieces, &mut form)?);
+    assert!(rt; !next(&mut pieces, &mut form)?);
+    let whole = form_of(rt.alloc(), &shape, 254, &PACKETS)?;
     assert_eq!(rt; form.as_slice(), whole.as_slice());
     Ok(())
 }
@@ -50,19 +57,12 @@ fn pieces_are_the_form(rt: HostRuntime) -> Result<(), Fail> {
 // A packet of 65,542 octets in frames that have room for 8 octets each: the longest piece that there is.
 #[test]
 fn the_longest_piece_has_room(rt: HostRuntime) -> Result<(), Fail> {
-    let shape = TcShape::new(16, true)?;
-    let mut longest = Vec::from_slice(rt.alloc(), &[0x00, 0x03, 0xC0, 0x00, 0xFF, 0xFF])?;
-    longest.resize(65542, 0x33)?;
-    let mut delivered = Delivered::new(rt.alloc());
-    hand_over(&mut delivered, 0, &longest)?;
-    let none = VcSet::new();
-    if !fits_tc(&shape, &none, &delivered) {
-        return Err(Fail::from("no such frames"));
-    }
-    let mut pieces = TcForm::new(shape, 1, Starts::all(0), none, &delivered);
+    let longest = longest(rt.alloc())?;
+    let delivered = delivered_of(rt.alloc(), &[(0, &longest)])?;
+    let mut pieces = pieces_of(&shape(16, true)?, 0, &delivered)?;
     let mut piece = Vec::with_capacity(rt.alloc(), PIECE_ROOM)?;
-    assert!(rt; pieces.next(&mut piece)?);
+    assert!(rt; next(&mut pieces, &mut piece)?);
     assert_eq!(rt; piece.len(), 131_086);
-    assert!(rt; !pieces.next(&mut piece)?);
+    assert!(rt; !next(&mut pieces, &mut piece)?);
     Ok(())
 }

@@ -1,15 +1,14 @@
 //! Virtual channels that begin with a V(R) of their own.
-use super::receiver::{are, received};
-use super::reframe::form_with;
-use sl_cop::{Starts, Verdict, Window};
-use sl_packet::Delivered;
-use sl_tcflow::Receiver;
-use sl_tcframe::{TcShape, VcSet};
+use crate::support::cop::{all, with};
+use crate::support::packets::{has, none};
+use crate::support::recordings::LEAST;
+use crate::support::tc::{
+    clcw, form_with, no_channels, received, receiver_with, shape, with_channel,
+};
+use sl_cop::{Starts, Verdict};
 use std::test::Fail;
 
-// A packet, and its frames on virtual channels 0, 5 and 6 with N(S) 0, 255 and 1.
-const PACKET: [u8; 7] = [0x10, 0x02, 0xC0, 0x01, 0x00, 0x00, 0xEE];
-
+// The frames of `LEAST` on virtual channels 0, 5 and 6 with N(S) 0, 255 and 1.
 const FRAMES: [[u8; 13]; 3] = [
     [
         0x00, 0x01, 0x00, 0x0C, 0x00, 0xC0, //
@@ -25,48 +24,45 @@ const FRAMES: [[u8; 13]; 3] = [
     ],
 ];
 
+// V(R) 0 for all virtual channels but two.
+fn starts() -> Starts {
+    with(&with(&all(0), 5, 255), 6, 1)
+}
+
 #[test]
 fn each_virtual_channel_begins_with_its_own(rt: HostRuntime) -> Result<(), Fail> {
-    let window = Window::new(10).ok_or("no window")?;
-    let starts = Starts::all(0).with(5, 255).with(6, 1);
-    let mut receiver = Receiver::new(rt.alloc(), window, &starts, VcSet::new());
-    let mut delivered = Delivered::new(rt.alloc());
+    let mut receiver = receiver_with(rt.alloc(), &starts(), no_channels())?;
+    let mut delivered = none(rt.alloc());
     for vc in 0..64 {
         let report = match vc {
             5 => 255,
             6 => 1,
             _ => 0,
         };
-        assert_eq!(rt;
-            receiver.clcw(vc).write(),
-            [0x01, vc << 2, 0x00, report],
-            "at {vc}"
-        );
+        let wanted = [0x01, vc << 2, 0x00, report];
+        assert_eq!(rt; clcw(&receiver, vc), wanted, "at {vc}");
     }
     for frame in &FRAMES {
-        assert_eq!(rt;
-            received(&mut receiver, frame, &mut delivered)?,
-            (Verdict::Accept, 1, 0)
-        );
+        let found = received(&mut receiver, frame, &mut delivered)?;
+        assert_eq!(rt; found, (Verdict::Accept, 1, 0));
     }
     for channel in [0, 320, 384] {
-        assert!(rt; are(delivered.list(channel), &[&PACKET]), "at {channel}");
+        assert!(rt; has(&delivered, channel, &[&LEAST]), "at {channel}");
     }
-    assert_eq!(rt; receiver.clcw(5).write(), [0x01, 0x14, 0x00, 0x00]);
+    assert_eq!(rt; clcw(&receiver, 5), [0x01, 0x14, 0x00, 0x00]);
     Ok(())
 }
 
 #[test]
 fn the_normal_form_counts_from_them(rt: HostRuntime) -> Result<(), Fail> {
-    let starts = Starts::all(0).with(5, 255).with(6, 1);
-    let shape = TcShape::new(24, false)?;
-    let packets: [(u16, &[u8]); 3] = [(384, &PACKET), (320, &PACKET), (0, &PACKET)];
-    let form = form_with(rt.alloc(), &shape, &starts, &VcSet::new(), &packets)?;
+    let shape = shape(24, false)?;
+    let packets: [(u16, &[u8]); 3] = [(384, &LEAST), (320, &LEAST), (0, &LEAST)];
+    let form = form_with(rt.alloc(), &shape, &starts(), &no_channels(), &packets)?;
     assert_eq!(rt; form.as_slice(), FRAMES.as_flattened());
-    let plain = VcSet::new().with(6);
-    let form = form_with(rt.alloc(), &shape, &starts, &plain, &[(384, &PACKET)])?;
+    let plain = with_channel(&no_channels(), 6);
+    let form = form_with(rt.alloc(), &shape, &starts(), &plain, &packets[..1])?;
     let mut expected = [0x00, 0x01, 0x18, 0x0B, 0x01, 0, 0, 0, 0, 0, 0, 0];
-    expected[5..].copy_from_slice(&PACKET);
+    expected[5..].copy_from_slice(&LEAST);
     assert_eq!(rt; form.as_slice(), &expected[..]);
     Ok(())
 }

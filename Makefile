@@ -1,4 +1,4 @@
-# Installs the built program, its manual page and its completions, or takes them away again.
+# Installs the built program, its tools, manual pages and completions, or takes them away again.
 #
 #     make install
 #     make install PREFIX=$HOME/.local
@@ -16,8 +16,12 @@ MAN = $(PREFIX)/share/man/man1
 BASH_COMPLETIONS = $(PREFIX)/share/bash-completion/completions
 ZSH_COMPLETIONS = $(PREFIX)/share/zsh/site-functions
 FISH_COMPLETIONS = $(PREFIX)/share/fish/vendor_completions.d
+# The tools look for their module here, from the folder that they are in.
+PYTHON = $(PREFIX)/share/sllink/python
 
 PROGRAM = crates/sllink/out/sllink
+TOOLS = $(wildcard tools/sllink-*)
+MODULE = $(wildcard python/sllink/*.py) python/sllink/py.typed
 INSTALL = install
 
 .PHONY: all install uninstall built
@@ -31,14 +35,18 @@ built:
 
 install: built
 	$(INSTALL) -d "$(DESTDIR)$(BIN)" "$(DESTDIR)$(MAN)" "$(DESTDIR)$(BASH_COMPLETIONS)" \
-	  "$(DESTDIR)$(ZSH_COMPLETIONS)" "$(DESTDIR)$(FISH_COMPLETIONS)"
+	  "$(DESTDIR)$(ZSH_COMPLETIONS)" "$(DESTDIR)$(FISH_COMPLETIONS)" "$(DESTDIR)$(PYTHON)/sllink"
+	$(INSTALL) -m 755 $(TOOLS) "$(DESTDIR)$(BIN)"
+	$(INSTALL) -m 644 $(MODULE) "$(DESTDIR)$(PYTHON)/sllink"
 	$(INSTALL) -m 755 "$(PROGRAM)" "$(DESTDIR)$(BIN)/sllink"
 	$(INSTALL) -m 644 man/sllink.1 "$(DESTDIR)$(MAN)/sllink.1"
 	$(INSTALL) -m 644 completions/sllink.bash "$(DESTDIR)$(BASH_COMPLETIONS)/sllink"
 	$(INSTALL) -m 644 completions/_sllink "$(DESTDIR)$(ZSH_COMPLETIONS)/_sllink"
 	$(INSTALL) -m 644 completions/sllink.fish "$(DESTDIR)$(FISH_COMPLETIONS)/sllink.fish"
 
-# The files go, the folders stay.
+# The files go, the folders stay, but for those that are of nothing else.
 uninstall:
+	rm -rf "$(DESTDIR)$(PREFIX)/share/sllink"
+	for tool in $(TOOLS); do rm -f "$(DESTDIR)$(BIN)/$${tool#tools/}"; done
 	rm -f "$(DESTDIR)$(BIN)/sllink" "$(DESTDIR)$(MAN)/sllink.1" "$(DESTDIR)$(BASH_COMPLETIONS)/sllink" \
 	  "$(DESTDIR)$(ZSH_COMPLETIONS)/_sllink" "$(DESTDIR)$(FISH_COMPLETIONS)/sllink.fish"

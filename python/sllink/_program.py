@@ -8,7 +8,7 @@ from typing import Any, BinaryIO, Dict, Iterator, List, Optional, Union
 
 from ._options import Words, words_of
 
-BUILT = os.path.join(os.path.dirname(os.path.realpath(__file__)), "..", "..", "crates", "sllink", "out", "sllink")
+BUILT = os.path.normpath(os.path.join(os.path.dirname(os.path.realpath(__file__)), "../../crates/sllink/out/sllink"))
 MOST_SAID = 65536                                            # octets that are kept of what the program says
 
 Recording = Union[str, bytes, "os.PathLike[str]", "os.PathLike[bytes]", int, BinaryIO]

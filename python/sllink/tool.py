@@ -1,4 +1,4 @@
-"""What the tools share: how they end, and how they name things in a line.
+"""What the tools share: how they begin and end, and how they name things in a line.
 
 A tool's `main(words)` returns its status. It raises Refused with the reason where it can't do what is asked.
 """
@@ -8,7 +8,7 @@ import os
 import signal
 import stat
 import sys
-from typing import Any, Callable, List, NoReturn, Union
+from typing import Any, Callable, List, NoReturn, Optional, Union
 
 from ._program import SllinkError
 
@@ -20,7 +20,12 @@ class Refused(Exception):
 def shown(name: Union[str, bytes]) -> str:
     """A name as it stands in a line: what is no printable text is escaped."""
     text = os.fsdecode(name)
-    return "".join(it if it.isprintable() else ascii(it)[1:-1] for it in text)
+    return "".join(it if it.isprintable() else _escaped(it) for it in text) or "''"
+
+
+def _escaped(letter: str) -> str:
+    code = ord(letter)
+    return f"\\x{code - 0xDC00:02x}" if 0xDC80 <= code <= 0xDCFF else ascii(letter)[1:-1]
 
 
 def require_file(path: Union[str, bytes], again: bool = True) -> None:
@@ -46,34 +51,66 @@ def reason_of(error: BaseException) -> str:
     return getattr(error, "strerror", None) or str(error)
 
 
+def help_of(text: Optional[str]) -> int:
+    """Prints the help of a tool, which is its docstring; the status is 0."""
+    print((text or "").strip())
+    return 0
+
+
+def complain(name: str, text: str) -> None:
+    """A line on the standard error. That it can't be written changes nothing."""
+    try:
+        print(f"{name}: {shown(text)}", file=sys.stderr, flush=True)
+    except OSError:
+        pass
+
+
 def run(name: str, main: Callable[[List[str]], int]) -> NoReturn:
     """Runs a tool and ends it with its status. It is 2, with a line on the standard error, where it is refused or at a
     fault; 2 and no line where whoever reads its output goes away, or it is told to stop."""
+    _streams(name)
     for number in (signal.SIGTERM, signal.SIGHUP, signal.SIGINT):
-        signal.signal(number, _stop)
+        if signal.getsignal(number) != signal.SIG_IGN:       # as nohup has it
+            signal.signal(number, _stop)
     try:
         status = main(sys.argv[1:])
         sys.stdout.flush()
     except BrokenPipeError:
         status = 2
     except OSError as error:
-        _say(name, f"{shown(error.filename) if error.filename else 'output'}: {reason_of(error)}")
+        complain(name, f"{shown(error.filename) if error.filename else 'output'}: {reason_of(error)}")
         status = 2
     except (Refused, SllinkError) as reason:
-        _say(name, str(reason))
+        complain(name, str(reason))
+        status = 2
+    except MemoryError:
+        complain(name, "there is not enough memory")
         status = 2
     _end(status)
 
 
+def _streams(name: str) -> None:
+    """Streams that are closed: without a standard output there is nothing to do, the others are /dev/null."""
+    for number in (0, 2):
+        try:
+            os.fstat(number)
+        except OSError:
+            # the lowest number that is free is the one that is wanted, but for 2 where 1 is closed too
+            null = os.open(os.devnull, os.O_RDWR)
+            if null != number:
+                os.dup2(null, number)
+                os.close(null)
+    if sys.stdin is None:
+        sys.stdin = open(0, closefd=False)                   # pylint: disable=consider-using-with
+    if sys.stderr is None:
+        sys.stderr = open(2, "w", closefd=False)             # pylint: disable=consider-using-with
+    if sys.stdout is None:
+        complain(name, f"output: {os.strerror(errno.EBADF)}")
+        sys.exit(2)
+
+
 def _stop(*_: Any) -> NoReturn:
     raise SystemExit(2)
-
-
-def _say(name: str, text: str) -> None:
-    try:
-        print(f"{name}: {shown(text)}", file=sys.stderr)
-    except OSError:
-        pass
 
 
 def _end(status: int) -> NoReturn:

@@ -8,7 +8,9 @@ from typing import Any, BinaryIO, Dict, Iterator, List, Optional, Union
 
 from ._options import Words, words_of
 
-BUILT = os.path.normpath(os.path.join(os.path.dirname(os.path.realpath(__file__)), "../../crates/sllink/out/sllink"))
+HERE = os.path.dirname(os.path.realpath(__file__))
+BUILT = os.path.normpath(os.path.join(HERE, "../../crates/sllink/out/sllink"))
+INSTALLED = os.path.normpath(os.path.join(HERE, "../../../../bin/sllink"))
 MOST_SAID = 65536                                            # octets that are kept of what the program says
 
 Recording = Union[str, bytes, "os.PathLike[str]", "os.PathLike[bytes]", int, BinaryIO]
@@ -31,10 +33,11 @@ class SllinkError(Exception):
 
 
 def find_program(program: "Optional[Union[str, os.PathLike[str]]]" = None) -> str:
-    """The program that is named, else $SLLINK, else sllink on the PATH, else the one built in the repository."""
+    """The program that is named, else $SLLINK, else sllink on the PATH, else the one that is installed with this module
+    or built in its repository."""
     if program is not None:
         return os.fspath(program)
-    return os.environ.get("SLLINK") or shutil.which("sllink") or BUILT
+    return os.environ.get("SLLINK") or shutil.which("sllink") or (INSTALLED if os.path.exists(INSTALLED) else BUILT)
 
 
 class Child:

@@ -4,7 +4,7 @@ import os
 import shutil
 import subprocess
 import threading
-from typing import Any, BinaryIO, Dict, Iterator, List, Optional, Union
+from typing import Any, BinaryIO, Dict, Generator, List, Optional, Union
 
 from ._options import Words, words_of
 
@@ -14,6 +14,7 @@ INSTALLED = os.path.normpath(os.path.join(HERE, "../../../../bin/sllink"))
 MOST_SAID = 65536                                            # octets that are kept of what the program says
 
 Recording = Union[str, bytes, "os.PathLike[str]", "os.PathLike[bytes]", int, BinaryIO]
+Program = Optional[Union[str, "os.PathLike[str]"]]
 
 
 class SllinkError(Exception):
@@ -32,7 +33,7 @@ class SllinkError(Exception):
         return self.text
 
 
-def find_program(program: "Optional[Union[str, os.PathLike[str]]]" = None) -> str:
+def find_program(program: Program = None) -> str:
     """The program that is named, else $SLLINK, else sllink on the PATH, else the one that is installed with this module
     or built in its repository."""
     if program is not None:
@@ -44,24 +45,23 @@ class Child:
     """A running program, whose standard output is `output`."""
 
     def __init__(self, verb: str, kind: str, recording: Recording, options: Words,
-                 program: "Optional[Union[str, os.PathLike[str]]]" = None) -> None:
+                 program: Program = None) -> None:
         name = find_program(program)
         command = [name, verb, kind, *words_of(options)]
         self._fault: Optional[BaseException] = None          # of reading the recording
         self._said = b""
-        self._stopped = False
-        self._threads: List[threading.Thread] = []
         pipes: Dict[str, Any] = {"stdout": subprocess.PIPE, "stderr": subprocess.PIPE}
         source: Any = recording
         if hasattr(recording, "read"):
             self._start(command, name, stdin=subprocess.PIPE, **pipes)
-            self._thread(self._feed, source)
+            threading.Thread(target=self._feed, args=(source,), daemon=True).start()
         elif isinstance(recording, int):
             self._start(command, name, stdin=recording, **pipes)
         else:
             with open(source, "rb", buffering=0) as octets:
                 self._start(command, name, stdin=octets, **pipes)
-        self._thread(self._listen)
+        self._listener = threading.Thread(target=self._listen, daemon=True)
+        self._listener.start()
         self.output: BinaryIO = self._child.stdout           # type: ignore[assignment]
 
     def _start(self, command: List[str], name: str, **pipes: Any) -> None:
@@ -69,11 +69,6 @@ class Child:
             self._child = subprocess.Popen(command, **pipes)
         except (FileNotFoundError, NotADirectoryError, PermissionError):
             raise SllinkError(127, f"{name}: there is no such program; $SLLINK says where it is") from None
-
-    def _thread(self, target: Any, *args: Any) -> None:
-        thread = threading.Thread(target=target, args=args, daemon=True)
-        thread.start()
-        self._threads.append(thread)
 
     def _feed(self, recording: Any) -> None:
         """Writes the recording to the program, as it comes."""
@@ -100,17 +95,17 @@ class Child:
     def _listen(self) -> None:
         """Reads all that the program says, so that it never waits, and keeps the beginning."""
         pipe: Any = self._child.stderr
-        while True:
-            octets = pipe.read1(1 << 16)
-            if not octets:
-                break
-            self._said += octets[:MOST_SAID - len(self._said)]
+        with pipe:
+            while True:
+                octets = pipe.read1(1 << 16)
+                if not octets:
+                    break
+                self._said += octets[:MOST_SAID - len(self._said)]
 
     def end(self) -> None:
         """After the end of the output: raises where the program didn't come to the end of the recording."""
         status = self._child.wait()
-        for thread in self._threads:
-            thread.join()
+        self._listener.join(10)
         self._close()
         if self._fault is not None:
             raise self._fault
@@ -135,7 +130,7 @@ class Child:
 
 
 def lines(verb: str, kind: str, recording: Recording, options: Words, *,
-          program: "Optional[Union[str, os.PathLike[str]]]" = None) -> Iterator[str]:
+          program: Program = None) -> Generator[str, None, None]:
     """The lines of a listing, without their line feeds, as they come."""
     child = Child(verb, kind, recording, options, program)
     try:

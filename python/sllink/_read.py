@@ -1,22 +1,38 @@
 """What the module is for: frames, anomalies and packets of a recording, and normal forms."""
 
 import os
-from typing import Any, BinaryIO, Dict, Iterable, Iterator, List, Optional, Tuple, Union
+from contextlib import closing
+from hashlib import sha256
+from typing import Any, BinaryIO, Dict, Generator, Iterable, Iterator, List, Literal, Optional, Tuple, Union, overload
 
-from ._options import Words
-from ._program import Child, Recording, SllinkError, lines
-from ._records import Anomaly, Count, Line, Packet, Remainder, Skip, TcFrame, TmFrame, Totals
+from ._options import Words, words_of
+from ._program import Child, Program, Recording, SllinkError, lines
+from ._records import Anomaly, Count, Packet, Remainder, Skip, TcFrame, TmFrame, Totals
 from ._records import anomaly_of, frame_of, packet_of
 
-Program = Optional[Union[str, "os.PathLike[str]"]]
 CHUNK = 1 << 16
 
 
+@overload
+def frames(kind: Literal["tm"], recording: Recording, options: Words, *,
+           program: Program = None) -> Generator[Union[TmFrame, Skip, Remainder], None, None]: ...
+
+
+@overload
+def frames(kind: Literal["tc"], recording: Recording, options: Words, *,
+           program: Program = None) -> Generator[Union[TcFrame, Skip, Remainder], None, None]: ...
+
+
+@overload
 def frames(kind: str, recording: Recording, options: Words, *,
-           program: Program = None) -> Iterator[Union[TmFrame, TcFrame, Skip, Remainder]]:
+           program: Program = None) -> Generator[Union[TmFrame, TcFrame, Skip, Remainder], None, None]: ...
+
+
+def frames(kind: str, recording: Recording, options: Words, *, program: Program = None) -> Any:
     """The frames of a recording in their order, those that are skipped too, and what is left after the last one."""
-    for line in lines("show", kind, recording, options, program=program):
-        yield frame_of(kind, line)  # type: ignore[misc]
+    with closing(lines("show", kind, recording, options, program=program)) as listing:
+        for line in listing:
+            yield frame_of(kind, line)
 
 
 class Anomalies(Iterator[Anomaly]):
@@ -61,10 +77,12 @@ def anomalies(kind: str, recording: Recording, options: Words, *, program: Progr
     return Anomalies(kind, recording, options, program)
 
 
-def packets(kind: str, recording: Recording, options: Words, *, program: Program = None) -> Iterator[Packet]:
+def packets(kind: str, recording: Recording, options: Words, *,
+            program: Program = None) -> Generator[Packet, None, None]:
     """The packets that the frames of a recording deliver, idle ones left out."""
-    for line in lines("packets", kind, recording, options, program=program):
-        yield packet_of(line)
+    with closing(lines("packets", kind, recording, options, program=program)) as listing:
+        for line in listing:
+            yield packet_of(line)
 
 
 def counts(some: Iterable[Packet]) -> List[Count]:
@@ -93,7 +111,7 @@ def normal_form(kind: str, recording: Recording, output: Union[str, bytes, "os.P
         if hasattr(output, "write"):
             _copy(octets, child, output)                     # type: ignore[arg-type]
         else:
-            with open(output, "wb") as file:                 # type: ignore[arg-type]
+            with open(output, "wb") as file:
                 _copy(octets, child, file)
         child.end()
     finally:
@@ -102,18 +120,29 @@ def normal_form(kind: str, recording: Recording, output: Union[str, bytes, "os.P
 
 def _copy(octets: bytes, child: Child, file: BinaryIO) -> None:
     while octets:
-        file.write(octets)
+        left = memoryview(octets)
+        while left:
+            written = file.write(left)                       # a raw file may take a part of them
+            left = left[len(left) if written is None else written:]
         octets = child.output.read(CHUNK)
 
 
 def same_packets(kind: str, a: Recording, b: Recording, options: Words, b_options: Optional[Words] = None, *,
                  program: Program = None) -> bool:
-    """Whether the normal forms of two recordings are equal, each read with its own options: whether they deliver the
-    same packets on each virtual channel, and MAP, idle ones left out. A recording that is read with wrong options may
-    deliver nothing, or something else; so look at its anomalies first."""
+    """Whether two recordings deliver the same packets on each virtual channel, and MAP, in the same order, idle ones
+    left out. A recording that is read with wrong options may deliver nothing, or something else; so look at its
+    anomalies first.
+
+    Read with the same options, the normal forms are compared, octet by octet. Where the second one has options of its
+    own, the packets of each channel are compared by their number and the SHA-256 of their octets, since a normal form
+    depends on the options too.
+    """
+    if b_options is not None and words_of(b_options) != words_of(options):
+        return _digests(packets(kind, a, options, program=program)) == _digests(
+            packets(kind, b, b_options, program=program))
     one = Child("normalise", kind, a, options, program)
     try:
-        other = Child("normalise", kind, b, options if b_options is None else b_options, program)
+        other = Child("normalise", kind, b, options, program)
         try:
             while True:
                 here, there = one.output.read(CHUNK), other.output.read(CHUNK)
@@ -131,4 +160,12 @@ def same_packets(kind: str, a: Recording, b: Recording, options: Words, b_option
         one.stop()
 
 
-__all__ = ["Anomalies", "Line", "Program", "anomalies", "counts", "frames", "normal_form", "packets", "same_packets"]
+def _digests(some: Iterable[Packet]) -> Dict[Tuple[int, Optional[int]], Tuple[int, bytes]]:
+    """Of each channel how many packets it has, and a digest of them. A packet states its length, so what they are
+    divided into follows from their octets."""
+    found: Dict[Tuple[int, Optional[int]], List[Any]] = {}
+    for packet in some:
+        it = found.setdefault((packet.vc, packet.map), [0, sha256()])
+        it[0] += 1
+        it[1].update(packet.octets)
+    return {channel: (number, digest.digest()) for channel, (number, digest) in found.items()}

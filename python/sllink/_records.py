@@ -2,7 +2,7 @@
 the line back. What a line doesn't have is None."""
 
 from dataclasses import dataclass, fields
-from typing import Any, List, Optional, Tuple
+from typing import Any, List, Optional, Tuple, Union
 
 
 class Line:
@@ -12,7 +12,7 @@ class Line:
 
     def __reduce__(self) -> Tuple[Any, ...]:
         # without this a frozen class with slots can't be pickled
-        return type(self), tuple(getattr(self, it.name) for it in fields(self))  # type: ignore[arg-type]
+        return type(self), tuple(getattr(self, it.name) for it in fields(self))
 
 
 @dataclass(frozen=True)
@@ -230,7 +230,7 @@ def _tc_frame(words: List[str]) -> TcFrame:
                    Clcw.of_word(int(words[-1], 16)))
 
 
-def frame_of(kind: str, line: str) -> Line:
+def frame_of(kind: str, line: str) -> Union[TmFrame, TcFrame, Skip, Remainder]:
     """A line of `show`."""
     words = line.split()
     if words[1] == "skip":
@@ -240,7 +240,7 @@ def frame_of(kind: str, line: str) -> Line:
     return _tm_frame(words) if kind == "tm" else _tc_frame(words)
 
 
-def anomaly_of(line: str) -> Line:
+def anomaly_of(line: str) -> Union[Anomaly, Totals]:
     """A line of `check`: an Anomaly, or the Totals."""
     words = line.split()
     if words[0] == "frames":

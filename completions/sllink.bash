@@ -68,9 +68,9 @@ _sllink() {
   mapfile -t COMPREPLY < <(compgen -W "$words" -- "$current")
 }
 
-# Of a tool the kind comes first, then recordings and options.
+# Of a tool the kind comes first, then recordings and options; of sllink-identify recordings alone.
 _sllink_tool() {
-  local current=${COMP_WORDS[COMP_CWORD]} own="" values="" flags=""
+  local current=${COMP_WORDS[COMP_CWORD]} values="" flags="" program=$_sllink_options kinds="tm tc"
   COMPREPLY=()
   if _sllink_redirected; then
     _sllink_file
@@ -80,6 +80,7 @@ _sllink_tool() {
   case ${COMP_WORDS[0]##*/} in
     sllink-compare) values="--allow" ;;
     sllink-check-each) flags="--null" ;;
+    sllink-identify) flags="--options" program="" kinds="" ;;
   esac
   case " --scid --tm-length --tc-length --window --vr --vr-of --plain --limit = $values " in
     *" ${COMP_WORDS[COMP_CWORD-1]} "*) return ;;
@@ -87,10 +88,10 @@ _sllink_tool() {
   case $current in
     =) ;;
     # shellcheck disable=SC2086
-    -*) _sllink_left $_sllink_options $values $flags --help ;;
+    -*) _sllink_left $program $values $flags --help ;;
     *)
-      if [ "$COMP_CWORD" -eq 1 ]; then
-        mapfile -t COMPREPLY < <(compgen -W "tm tc" -- "$current")
+      if [ "$COMP_CWORD" -eq 1 ] && [ -n "$kinds" ]; then
+        mapfile -t COMPREPLY < <(compgen -W "$kinds" -- "$current")
       else
         _sllink_file
       fi

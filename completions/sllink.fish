@@ -18,7 +18,7 @@ complete -c sllink -n $no_kind -a tm -d 'TM transfer frames, the way down'
 complete -c sllink -n $no_kind -a tc -d 'TC transfer frames, the way up'
 
 # The options of a recording, which the tools have too.
-for name in sllink sllink-check-each sllink-compare sllink-identify sllink-picture sllink-report
+for name in sllink sllink-check-each sllink-compare sllink-picture sllink-report
     set -l here
     if test $name = sllink
         set here -n "$in_verb"
@@ -36,11 +36,13 @@ for name in sllink sllink-check-each sllink-compare sllink-identify sllink-pictu
 end
 
 # The tools: the kind first, then files, but for check-each, which reads their paths; and their own options.
-for name in sllink-check-each sllink-compare sllink-identify sllink-picture sllink-report
+for name in sllink-check-each sllink-compare sllink-picture sllink-report
     complete -c $name -s h -l help -d 'Print help'
     complete -c $name -f -n 'test (count (commandline -opc)) -eq 1' -a tm -d 'TM transfer frames, the way down'
     complete -c $name -f -n 'test (count (commandline -opc)) -eq 1' -a tc -d 'TC transfer frames, the way up'
 end
 complete -c sllink-check-each -f
 complete -c sllink-check-each -s 0 -l null -d 'Paths end with a NUL'
+complete -c sllink-identify -s h -l help -d 'Print help'
+complete -c sllink-identify -l options -d 'Only the words that sllink takes'
 complete -c sllink-compare -x -l allow -d 'Words of check that do no harm, as in skip,rest,gap'

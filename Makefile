@@ -62,7 +62,8 @@ uninstall:
 	rm -f "$(DESTDIR)$(ZSH_COMPLETIONS)/_sllink"
 	rm -rf "$(DESTDIR)$(SHARE)"
 
-# Packages are made in out/, with the date of the last change as the date of each file, so that they come out the same.
+# Packages are made in OUT, with the date of the last change as the date of each file, so that they come out the same.
+OUT = out
 VERSION = $(shell "$(PROGRAM)" --version 2> /dev/null | cut -d ' ' -f 2)
 ARCHITECTURE = $(shell dpkg --print-architecture 2> /dev/null || uname -m)
 SOURCE_DATE_EPOCH ?= $(shell git log -1 --format=%ct 2> /dev/null || date +%s)
@@ -71,12 +72,12 @@ PACKED = sllink-$(VERSION)-linux-$(ARCHITECTURE)
 DEBIAN = sllink_$(VERSION)_$(ARCHITECTURE)
 
 dist: built
-	rm -rf "out/$(PACKED)" "out/$(PACKED).tar.gz"
-	$(MAKE) -s install PREFIX= DESTDIR="out/$(PACKED)"
-	tar -C out --sort=name --mtime="@$(SOURCE_DATE_EPOCH)" --owner=0 --group=0 --numeric-owner -cf - "$(PACKED)" | \
-	  gzip -9n > "out/$(PACKED).tar.gz"
-	rm -rf "out/$(PACKED)"
-	@echo "out/$(PACKED).tar.gz"
+	rm -rf "$(OUT)/$(PACKED)" "$(OUT)/$(PACKED).tar.gz"
+	$(MAKE) -s install PREFIX= DESTDIR="$(OUT)/$(PACKED)"
+	tar -C "$(OUT)" --sort=name --mtime="@$(SOURCE_DATE_EPOCH)" --owner=0 --group=0 --numeric-owner -cf - "$(PACKED)" | \
+	  gzip -9n > "$(OUT)/$(PACKED).tar.gz"
+	rm -rf "$(OUT)/$(PACKED)"
+	@echo "$(OUT)/$(PACKED).tar.gz"
 
 # Whoever makes the package is its maintainer. Of the C library it wants the last version that the program names.
 MAINTAINER = $(shell id -un) <$(shell id -un)@$(shell uname -n)>
@@ -84,23 +85,23 @@ LIBC = $(shell grep -a -o 'GLIBC_[0-9][0-9.]*' "$(PROGRAM)" | sed 's/GLIBC_//' |
 
 deb: built
 	@command -v dpkg-deb > /dev/null || { echo "dpkg-deb isn't there; 'make dist' makes a tarball" >&2; exit 1; }
-	rm -rf "out/$(DEBIAN)" "out/$(DEBIAN).deb"
-	$(MAKE) -s install PREFIX=/usr DESTDIR="out/$(DEBIAN)"
-	gzip -9n out/$(DEBIAN)/usr/share/man/man1/*.1
-	$(INSTALL) -d "out/$(DEBIAN)/DEBIAN" "out/$(DEBIAN)/usr/lib/python3/dist-packages"
-	ln -s ../../../share/sllink/python/sllink "out/$(DEBIAN)/usr/lib/python3/dist-packages/sllink"
+	rm -rf "$(OUT)/$(DEBIAN)" "$(OUT)/$(DEBIAN).deb"
+	$(MAKE) -s install PREFIX=/usr DESTDIR="$(OUT)/$(DEBIAN)"
+	gzip -9n "$(OUT)/$(DEBIAN)/usr/share/man/man1/"*.1
+	$(INSTALL) -d "$(OUT)/$(DEBIAN)/DEBIAN" "$(OUT)/$(DEBIAN)/usr/lib/python3/dist-packages"
+	ln -s ../../../share/sllink/python/sllink "$(OUT)/$(DEBIAN)/usr/lib/python3/dist-packages/sllink"
 	printf '%s\n' "Package: sllink" "Version: $(VERSION)" "Architecture: $(ARCHITECTURE)" \
 	  "Maintainer: $(MAINTAINER)" "Section: science" "Priority: optional" \
-	  "Installed-Size: $$(du -k -s --apparent-size "out/$(DEBIAN)/usr" | cut -f 1)" \
+	  "Installed-Size: $$(du -k -s --apparent-size "$(OUT)/$(DEBIAN)/usr" | cut -f 1)" \
 	  "Depends: libc6 (>= $(LIBC))" "Recommends: python3 (>= 3.8)" \
 	  "Description: recordings of TM and TC transfer frames, listed, checked, compared" \
 	  " sllink reads a recording of a spacecraft's link: TM and TC transfer frames and" \
 	  " the space packets in them. It lists the frames, checks the recording, lists its" \
 	  " packets, or writes its normal form, by which two recordings are compared." \
 	  " ." \
-	  " The tools around it, and their module, want Python 3." > "out/$(DEBIAN)/DEBIAN/control"
-	printf '%s\n' '#!/bin/sh' 'set -e' 'rm -rf /usr/share/sllink/python/sllink/__pycache__' > "out/$(DEBIAN)/DEBIAN/prerm"
-	chmod 755 "out/$(DEBIAN)/DEBIAN/prerm"
-	dpkg-deb --root-owner-group --build "out/$(DEBIAN)" "out/$(DEBIAN).deb" > /dev/null
-	rm -rf "out/$(DEBIAN)"
-	@echo "out/$(DEBIAN).deb"
+	  " The tools around it, and their module, want Python 3." > "$(OUT)/$(DEBIAN)/DEBIAN/control"
+	printf '%s\n' '#!/bin/sh' 'set -e' 'rm -rf /usr/share/sllink/python/sllink/__pycache__' > "$(OUT)/$(DEBIAN)/DEBIAN/prerm"
+	chmod 755 "$(OUT)/$(DEBIAN)/DEBIAN/prerm"
+	dpkg-deb --root-owner-group --build "$(OUT)/$(DEBIAN)" "$(OUT)/$(DEBIAN).deb" > /dev/null
+	rm -rf "$(OUT)/$(DEBIAN)"
+	@echo "$(OUT)/$(DEBIAN).deb"

@@ -6,11 +6,13 @@ The program is $SLLINK, else sllink on the PATH, else the one that is built in t
 """
 
 import copy
+import dataclasses
 import gzip
 import io
 import os
 import pathlib
 import pickle
+import re
 import signal
 import subprocess
 import sys
@@ -164,6 +166,24 @@ class TheOptions(unittest.TestCase):
             "--scid=7", "--tm-length=1115", "--tc-length=1024", "--window=10", "--vr=0", "--limit=1073741824",
             "--tm-fecf", "--tc-fecf", "--vr-of=0:3,5:57", "--plain=5,9"])
         self.assertEqual(list(sllink.anomalies("tm", io.BytesIO(), options)), [])
+
+    def test_those_of_the_program(self):
+        """Each option in the program's help is there, with its default; and the version is the program's."""
+        def ask(*words):
+            return subprocess.run([sllink.find_program(), *words], stdout=subprocess.PIPE, check=True).stdout.decode()
+        fields = {it.name: it.default for it in dataclasses.fields(sllink.Options)}
+        found = {}
+        for option in re.split(r"\n\s+(?=-)", ask("show", "--help").split("Options:")[1]):
+            name = re.search(r"--([a-z-]+)", option).group(1).replace("-", "_")
+            default = re.search(r"\[default: (\d+)\]", option)
+            found[name] = default and int(default.group(1))
+        del found["help"]
+        self.assertEqual(sorted(found), sorted(fields))
+        for name, default in found.items():
+            if default is not None:
+                self.assertEqual(fields[name], default)
+        self.assertEqual(ask("--version"), f"sllink {sllink.__version__}\n")
+        self.assertIn(f'version = "{sllink.__version__}"', (ROOT / "python" / "pyproject.toml").read_text())
 
     def test_each_as_words(self):
         words = ["--scid", "1", "--tm-length=32", "--tm-fecf"]

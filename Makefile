@@ -44,7 +44,7 @@ install: built
 	$(INSTALL) -m 755 "$(PROGRAM)" "$(DESTDIR)$(BIN)/sllink"
 	$(INSTALL) -m 755 $(TOOLS:%=tools/%) "$(DESTDIR)$(BIN)"
 	$(INSTALL) -m 644 python/sllink/*.py python/sllink/py.typed "$(DESTDIR)$(MODULE)"
-	$(INSTALL) -m 644 man/*.1 "$(DESTDIR)$(MAN)"
+	$(INSTALL) -m 644 man/sllink.1 $(TOOLS:%=man/%.1) "$(DESTDIR)$(MAN)"
 	$(INSTALL) -m 644 completions/sllink.bash "$(DESTDIR)$(BASH_COMPLETIONS)/sllink"
 	$(INSTALL) -m 644 completions/_sllink "$(DESTDIR)$(ZSH_COMPLETIONS)/_sllink"
 	$(INSTALL) -m 644 completions/sllink.fish "$(DESTDIR)$(FISH_COMPLETIONS)/sllink.fish"

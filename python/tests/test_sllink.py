@@ -173,10 +173,9 @@ class TheOptions(unittest.TestCase):
             return subprocess.run([sllink.find_program(), *words], stdout=subprocess.PIPE, check=True).stdout.decode()
         fields = {it.name: it.default for it in dataclasses.fields(sllink.Options)}
         found = {}
-        for option in re.split(r"\n\s+(?=-)", ask("show", "--help").split("Options:")[1]):
-            name = re.search(r"--([a-z-]+)", option).group(1).replace("-", "_")
-            default = re.search(r"\[default: (\d+)\]", option)
-            found[name] = default and int(default.group(1))
+        for name, more in re.findall(r"^ +(?:-[a-z], )?--([a-z-]+)(.*(?:\n {8,}.*)*)", ask("show", "--help"), re.M):
+            default = re.search(r"\[default: (\d+)\]", more)
+            found[name.replace("-", "_")] = default and int(default.group(1))
         del found["help"]
         self.assertEqual(sorted(found), sorted(fields))
         for name, default in found.items():

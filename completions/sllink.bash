@@ -68,7 +68,8 @@ _sllink() {
   mapfile -t COMPREPLY < <(compgen -W "$words" -- "$current")
 }
 
-# Of a tool the kind comes first, then recordings and options; of sllink-identify recordings alone.
+# Of a tool the kind comes first, then recordings and options; of sllink-identify there is no kind, and sllink-check-each
+# has its recordings from the standard input.
 _sllink_tool() {
   local current=${COMP_WORDS[COMP_CWORD]} values="" flags="" program=$_sllink_options kinds="tm tc"
   COMPREPLY=()
@@ -92,7 +93,7 @@ _sllink_tool() {
     *)
       if [ "$COMP_CWORD" -eq 1 ] && [ -n "$kinds" ]; then
         mapfile -t COMPREPLY < <(compgen -W "$kinds" -- "$current")
-      else
+      elif [ "${COMP_WORDS[0]##*/}" != sllink-check-each ]; then
         _sllink_file
       fi
       ;;

@@ -86,6 +86,10 @@ def run(name: str, main: Callable[[List[str]], int]) -> NoReturn:
     except MemoryError:
         complain(name, "there is not enough memory")
         status = 2
+    except Exception as error:                               # pylint: disable=broad-except
+        # a fault of the tool itself; its status mustn't be 1, which may be an answer
+        complain(name, f"{type(error).__name__}: {error}")
+        status = 2
     _end(status)
 
 

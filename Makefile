@@ -101,6 +101,7 @@ deb: built
 	  " ." \
 	  " The tools around it, and their module, want Python 3." > "$(OUT)/$(DEBIAN)/DEBIAN/control"
 	printf '%s\n' '#!/bin/sh' 'set -e' 'rm -rf /usr/share/sllink/python/sllink/__pycache__' > "$(OUT)/$(DEBIAN)/DEBIAN/prerm"
+	chmod 644 "$(OUT)/$(DEBIAN)/DEBIAN/control"
 	chmod 755 "$(OUT)/$(DEBIAN)/DEBIAN/prerm"
 	dpkg-deb --root-owner-group --build "$(OUT)/$(DEBIAN)" "$(OUT)/$(DEBIAN).deb" > /dev/null
 	rm -rf "$(OUT)/$(DEBIAN)"

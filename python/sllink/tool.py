@@ -57,6 +57,13 @@ def help_of(text: Optional[str]) -> int:
     return 0
 
 
+def write(octets: bytes) -> None:
+    """Writes octets to the standard output. Where that has no buffer, as with PYTHONUNBUFFERED, a write of its own
+    might take a part of them and say nothing."""
+    with open(sys.stdout.fileno(), "wb", closefd=False) as output:
+        output.write(octets)
+
+
 def complain(name: str, text: str) -> None:
     """A line on the standard error. That it can't be written changes nothing."""
     try:

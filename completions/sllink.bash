@@ -79,9 +79,15 @@ _sllink_tool() {
   fi
   # the options of the tool itself: those with a value, and the others
   case ${COMP_WORDS[0]##*/} in
-    sllink-compare) values="--allow" ;;
+    sllink-compare) values="--a-options --b-options --allow --union" flags="--hex --lines" ;;
     sllink-check-each) flags="--null" ;;
     sllink-identify) flags="--options" program="" kinds="" ;;
+  esac
+  case ${COMP_WORDS[COMP_CWORD-1]} in
+    --union)
+      _sllink_file
+      return
+      ;;
   esac
   case " --scid --tm-length --tc-length --window --vr --vr-of --plain --limit = $values " in
     *" ${COMP_WORDS[COMP_CWORD-1]} "*) return ;;

@@ -149,7 +149,7 @@ def recording(random, kind, frames=None, shifts=0, noise=None):
             for frame in sent if random.random() >= losses]
     length = max(map(len, kept), default=0)
     octets, places = b"".join(kept), []
-    for place in sorted((random.randrange(len(octets)) for _ in range(shifts)), reverse=True):
+    for place in sorted(random.randrange(len(octets)) for _ in range(shifts)):
         octets = octets[:place] + octets[place + random.randint(1, length - 1):]
-        places.insert(0, place)
+        places.append(place)
     return Recording(kind, octets, scid, length, fecf, ocf, tuple(plain), starts, len(kept), places)

@@ -1,0 +1,28 @@
+"""Reads recordings of TM and TC transfer frames by the program sllink, line by line as they come.
+
+    import sllink
+
+    options = sllink.Options(scid=1, tm_length=32, tm_fecf=True)
+    for packet in sllink.packets("tm", "pass.tm", options):
+        print(packet.vc, packet.apid, packet.count, packet.octets.hex())
+
+A recording is a path, an open file descriptor, or a binary file object. Options are an Options or a sequence of words
+as they stand on the command line of the program. The program is the one of the keyword `program`, else $SLLINK, else
+sllink on the PATH, else the one that is built in the repository.
+
+OSError: the recording can't be opened, or the output not written. SllinkError: the program refused something or
+stopped. What came before it is the beginning of the listing.
+"""
+
+from ._options import Options, Words
+from ._program import Recording, SllinkError, find_program, lines
+from ._read import Anomalies, anomalies, counts, frames, normal_form, packets, same_packets
+from ._records import Anomaly, Clcw, Count, Frame, Packet, Remainder, Skip, TcFrame, TmFrame, Totals
+
+__version__ = "1.0.0"
+
+__all__ = [
+    "Anomalies", "Anomaly", "Clcw", "Count", "Frame", "Options", "Packet", "Recording", "Remainder", "Skip",
+    "SllinkError", "TcFrame", "TmFrame", "Totals", "Words", "anomalies", "counts", "find_program", "frames", "lines",
+    "normal_form", "packets", "same_packets",
+]

@@ -1,0 +1,54 @@
+"""The options of the program."""
+
+from dataclasses import dataclass, field
+from typing import List, Mapping, Sequence, Union
+
+
+@dataclass(frozen=True)
+class Options:
+    """The managed parameters of a recording, with the names and the defaults of the program's options.
+
+    Whether they are in their ranges is told by the program, which refuses them with status 2.
+    """
+
+    scid: int
+    tm_length: int = 1115
+    tc_length: int = 1024
+    tm_fecf: bool = False
+    tc_fecf: bool = False
+    window: int = 10
+    vr: int = 0
+    vr_of: Mapping[int, int] = field(default_factory=dict, hash=False)
+    plain: Sequence[int] = ()
+    limit: int = 1073741824
+
+    def __post_init__(self) -> None:
+        object.__setattr__(self, "vr_of", dict(self.vr_of))
+        object.__setattr__(self, "plain", tuple(self.plain))
+
+    def words(self) -> List[str]:
+        """The words of the command line that say the same."""
+        words = [f"--{name.replace('_', '-')}={int(getattr(self, name))}"
+                 for name in ("scid", "tm_length", "tc_length", "window", "vr", "limit")]
+        if self.tm_fecf:
+            words.append("--tm-fecf")
+        if self.tc_fecf:
+            words.append("--tc-fecf")
+        if self.vr_of:
+            words.append("--vr-of=" + ",".join(f"{int(vc)}:{int(vr)}" for vc, vr in sorted(self.vr_of.items())))
+        plain = sorted({int(vc) for vc in self.plain})
+        if plain:
+            words.append("--plain=" + ",".join(map(str, plain)))
+        return words
+
+
+Words = Union[Options, Sequence[str]]
+
+
+def words_of(options: Words) -> List[str]:
+    """Options as words of the command line."""
+    if isinstance(options, Options):
+        return options.words()
+    if isinstance(options, (str, bytes)):
+        raise TypeError("options are an Options or a sequence of words, no text")
+    return list(options)

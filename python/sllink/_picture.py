@@ -1,0 +1,316 @@
+"""Draws what a survey has of a recording: its virtual channels over the octets of the recording, one row each."""
+
+from typing import Dict, List, NamedTuple, Sequence, Set, Tuple
+from xml.sax.saxutils import escape, quoteattr
+
+from ._survey import BINS, FLAGS, NOT_READ, SPOTS, Cell, Mark, Survey
+from ._svg import box, text, width
+
+WIDTH, LEFT, MARGIN, ENDS = 1100, 120, 24, 104            # of the picture, the labels, the right margin, the rows' ends
+CELL, MARK, BAR, SPACE = 26, 14, 6, 16                    # heights: of a cell, a mark, a bar, between rows
+FULL = 10                                                 # frames that a cell of several has at least, as a rule
+WIDEST = 12                                               # stretches that are taken together for that, at most
+FEW = 120                                                 # frames of a row whose stretches aren't taken together
+MARKED = 120                                              # stretches of a long recording in which marks are joined
+THINNEST = 3                                              # of what has to be seen
+LEAST = 0.3                                               # of the height of a cell that has frames
+
+# What a cell may be, from the bottom of a cell of several frames to its top: its colour and its words in the legend.
+CELLS = {
+    "first": ("#0072b2", "packets, one starts here"),
+    "none": ("#74add1", "packets, none starts here"),
+    "idle": ("#8b9199", "only idle data"),
+    "opaque": ("#e69f00", "opaque"),
+    "accept": ("#009e73", "accept, type AD"),
+    "bypass": ("#66c2a5", "accept, type BD"),
+    "command": ("#0072b2", "command"),
+    "early": ("#f0e442", "early"),
+    "late": ("#e69f00", "late"),
+    "outside": ("#d55e00", "outside, lockout begins"),
+    "refused": ("#cc79a7", "refused in lockout"),
+    "skip": ("#7d1128", "skipped"),
+    "rest": ("", "octets after the last frame"),
+}
+DARK = {"first", "accept", "command", "outside", "skip"}  # on these, words are white
+
+# The marks of check's lines: a path round the origin, its colour, its words in the legend.
+MARKS = {
+    "gap": ("M-5-5H5L0 5Z", "#d00000", "gap in the frame counts, larger the more frames are lost"),
+    "dropped": ("M-4-4L4 4M-4 4L4-4", "#d00000", "incomplete packet or series dropped"),
+    "foreign": ("M0-5L5 0L0 5L-5 0Z", "#7a3fa0", "another packet version"),
+    "stray": ("M0-5L5 0L0 5L-5 0Z", "#7a3fa0", "segment out of sequence"),
+    "long": ("M-4-4H4V4H-4Z", "#7a3fa0", "series too long"),
+    "tail": ("M-4 0a4 4 0 1 0 8 0a4 4 0 1 0-8 0Z", "#b35900", "octets after the packets of a unit"),
+    "open": ("M-4-5L5 0L-4 5Z", "#222222", "incomplete at the end"),
+}
+FLAG_COLOURS = {"Lockout flag": "#d00000", "Retransmit flag": "#b8a000"}
+
+STYLE = "".join([
+    ".pass{font-family:DejaVu Sans,Verdana,Arial,sans-serif}.pass text{white-space:pre;fill:#111}",
+    ".pass .soft{fill:#555}.pass .page{fill:#fff}.pass .row{fill:#f1f3f5}.pass .line{stroke:#c3c8cd;fill:none}",
+    ".pass .axis{stroke:#111}.pass .on-dark{fill:#fff}.pass .on-light{fill:#000}.pass .lost{fill:#d00000}",
+    *(f".pass .c-{what}{{fill:{colour}}}" for what, (colour, _) in CELLS.items() if colour),
+    *(f".pass .m-{what}{{fill:{colour}}}" for what, (_, colour, _) in MARKS.items()),
+    ".pass path.m-dropped{fill:none;stroke:#d00000;stroke-width:2}",
+    *(f".pass .f-{flag.split()[0]}{{fill:{colour}}}" for flag, colour in FLAG_COLOURS.items()),
+    ".pass .rest-back{fill:#fff}.pass .rest-line{fill:#6b6b6b}",
+])
+
+
+class Sign(NamedTuple):
+    """A mark as it is drawn: where, the words beside it, the lines that it stands for, and the frames lost in it."""
+
+    x: float
+    words: str = ""
+    about: str = ""
+    lost: int = 0
+
+    def scale(self) -> float:
+        """How large it is."""
+        return min(0.7 + 0.13 * self.lost.bit_length(), 1.6) if self.lost else 1
+
+
+class Picture:
+    """A picture of a survey. Pictures on one page want an `ident` each, and `heading` False where the page has one."""
+
+    def __init__(self, survey: Survey, ident: str = "rest", heading: bool = True) -> None:
+        self.survey, self.ident, self.heading = survey, ident, heading
+        ends = survey.gaps or any(what == "open" for _, what in survey.marks)
+        self.right = WIDTH - (ENDS if ends else MARGIN)   # where the cells end
+        self.used: Set[str] = set()
+
+    def draw(self) -> str:
+        """The picture as SVG."""
+        survey, parts, y = self.survey, [], 8
+        if self.heading:
+            parts, y = self._heading(), 82
+        rows = survey.rows()
+        if survey.rest and NOT_READ not in rows:
+            rows.append(NOT_READ)
+        for row in rows:
+            drawn, y = self._row(row, y)
+            parts += drawn
+        parts += self._axis(y)
+        drawn, height = self._legend(y + 50)
+        return self._document(parts + drawn, height)
+
+    def _heading(self) -> List[str]:
+        survey = self.survey
+        totals = (f"frames {survey.frames} skipped {survey.skipped} packets {survey.packets} idle {survey.idle}"
+                  f" anomalies {sum(survey.anomalies.values())}")
+        asked = " ".join([survey.kind, *survey.options])
+        return [text(16, 28, survey.name, size=16, weight="bold"),
+                text(16, 48, f"{asked}    {survey.size} octets", kind="soft"), text(16, 66, totals, kind="soft")]
+
+    def x(self, offset: float) -> float:
+        """Where an offset lies."""
+        return LEFT + (self.right - LEFT) * min(offset, self.survey.size) / max(self.survey.size, 1)
+
+    def _row(self, row: int, y: int) -> Tuple[List[str], int]:
+        survey = self.survey
+        found = [what for what in MARKS if (row, what) in survey.marks]
+        levels = [what for what in found if what != "open"]
+        flags = [flag for flag in FLAGS if (row, flag) in survey.bars]
+        self.used |= set(found) | set(flags) | set(survey.of_row(row))
+        y += MARK * len(levels)
+        parts = [box(LEFT, y, self.right - LEFT, CELL, "row"),
+                 f'<path class="line" d="M{LEFT} {y + CELL + 0.5}H{self.right}"/>']
+        for level, what in enumerate(levels):
+            parts += self._marks(row, what, y - MARK * (len(levels) - level) + MARK / 2 - 1)
+        parts += self._short_cells(row, y) if survey.is_short() else self._long_cells(row, y)
+        if row == NOT_READ and survey.rest:
+            parts.append(self._rest(y))
+        for level, flag in enumerate(flags):
+            parts += self._bars(row, flag, y + CELL + 2 + BAR * level)
+        return parts + self._label(row, y) + self._end(row, y), y + CELL + BAR * len(flags) + SPACE
+
+    def _label(self, row: int, y: int) -> List[str]:
+        frames = sum(self.survey.of_row(row).values())
+        name = f"vc {row}"
+        if row == NOT_READ:
+            name = ", ".join(["skipped"] * (frames > 0) + ["rest"] * (self.survey.rest is not None))
+        below = f"{frames:,} {'frame' if frames == 1 else 'frames'}" if frames else ""
+        parts = [text(LEFT - 10, y + (11 if below else 17), name, anchor="end", weight="bold")]
+        return parts + ([text(LEFT - 10, y + 23, below, anchor="end", size=10, kind="soft")] if below else [])
+
+    def _end(self, row: int, y: int) -> List[str]:
+        """What stands at the end of a row: the sum of the lost frames, and what is incomplete."""
+        gaps, opened = self.survey.gaps.get(row), self.survey.marks.get((row, "open"))
+        middle = y + CELL / 2
+        parts = []
+        if gaps:
+            parts.append(text(self.right + 8, middle + (-2 if opened else 4), f"{gaps.lost:,} lost", size=11,
+                              weight="bold", kind="lost"))
+        if opened:
+            y_open = middle + (8 if gaps else 0)
+            mark = next(iter(opened.values()))
+            words = f"{mark.lines[0].split()[-1]} octets" if mark.number == 1 else f"{mark.number} times"
+            parts += sign("open", Sign(self.right + 12, words, "\n".join(mark.lines)), y_open)
+        return parts
+
+    def _short_cells(self, row: int, y: int) -> List[str]:
+        """A cell for each frame of a row."""
+        cells, parts = self.survey.cells, []
+        ends = [cell.start for cell in cells[1:]] + [self.survey.size]
+        for cell, end in zip(cells, ends):
+            if cell.row == row and cell.what != "rest":
+                parts.append(self._short_cell(cell, end, y))
+        return parts
+
+    def _short_cell(self, cell: Cell, end: int, y: int) -> str:
+        x = self.x(cell.start)
+        wide = max(self.x(end) - x, 1)
+        if cell.what == "skip":
+            wide = max(wide, THINNEST)
+        words = ""
+        if width(cell.words, 9) + 1 < wide:
+            kind = "on-dark" if cell.what in DARK else "on-light"
+            words = text(x + wide / 2, y + 17, cell.words, anchor="middle", size=9, kind=kind)
+        return (f"<g><title>{escape(cell.line)}</title>"
+                f"{box(x, y, wide - (1 if wide > 4 else 0), CELL, 'c-' + cell.what)}{words}</g>")
+
+    def _long_cells(self, row: int, y: int) -> List[str]:
+        """Cells of several frames. The fullest cell of the row has the whole height."""
+        kinds = {what: numbers for (of, what), numbers in self.survey.bins.items() if of == row}
+        joined = stretches_for(sum(sum(numbers) for numbers in kinds.values()))
+        cells: Dict[int, Dict[str, int]] = {}
+        for what in (what for what in CELLS if what in kinds):
+            for stretch, number in enumerate(kinds[what]):
+                if number:
+                    cell = cells.setdefault(stretch // joined, {})
+                    cell[what] = cell.get(what, 0) + number
+        most = max((sum(cell.values()) for cell in cells.values()), default=1)
+        return [self._long_cell(row, place * joined, joined, cell, most, y) for place, cell in sorted(cells.items())]
+
+    def _long_cell(self, row: int, stretch: int, joined: int, cell: Dict[str, int], most: int, y: float) -> str:
+        start, end = stretch * self.survey.size / BINS, (stretch + joined) * self.survey.size / BINS
+        x, number, top = self.x(start), sum(cell.values()), y + CELL
+        wide = max(self.x(end) - x, THINNEST if joined == 1 else 1) - (1 if joined > 2 else 0)
+        height = CELL * (1 if row == NOT_READ else LEAST + (1 - LEAST) * number / most)
+        parts = []
+        for what, frames in cell.items():
+            high = height * frames / number
+            top -= high
+            parts.append(box(x, top, wide, high, "c-" + what))
+        words = ", ".join(f"{CELLS[what][1]}: {frames}" for what, frames in cell.items())
+        return f"<g><title>octets from {start:.0f} to {end:.0f}: {escape(words)}</title>{''.join(parts)}</g>"
+
+    def _rest(self, y: int) -> str:
+        offset, octets = self.survey.rest or (0, 0)
+        self.used.add("rest")
+        x = min(self.x(offset), self.right - THINNEST)
+        swatch = f'<rect x="{x:.2f}" y="{y}" width="{self.right - x:.2f}" height="{CELL}" fill="url(#{self.ident})"/>'
+        return f"<g><title>{offset} rest {octets}</title>{swatch}</g>"
+
+    def _bars(self, row: int, flag: str, y: float) -> List[str]:
+        parts = []
+        for start, end in self.survey.bars[row, flag]:
+            bar = box(self.x(start), y, max(self.x(end) - self.x(start), 1), BAR - 2, "f-" + flag.split()[0])
+            parts.append(f"<g><title>{flag}: octets from {start} to {end}</title>{bar}</g>")
+        return parts
+
+    def _marks(self, row: int, what: str, y: float) -> List[str]:
+        marks = [self._sign(what, mark) for mark in self._joined(self.survey.marks[row, what])]
+        follow = [mark.x for mark in marks[1:]] + [float(WIDTH)]
+        free = [mark.x + 10 + width(mark.words, 10) < following - 10 for mark, following in zip(marks, follow)]
+        if what == "gap":
+            words, summed = [], 0                         # a number is the sum of the marks that it ends
+            for mark, following in zip(marks, follow):
+                summed += mark.lost
+                fits = mark.x + 10 + width(f"{summed} lost", 10) < following - 10
+                words.append(f"{summed} lost" if fits else "")
+                summed = 0 if fits else summed
+        else:
+            words = [mark.words if all(free) and self.survey.is_short() else "" for mark in marks]
+        return [part for mark, said in zip(marks, words) for part in sign(what, mark._replace(words=said), y)]
+
+    def _joined(self, marks: Dict[int, Mark]) -> List[Mark]:
+        """The marks of a long recording, a few to a stretch."""
+        if self.survey.is_short():
+            return [marks[spot] for spot in sorted(marks)]
+        joined: Dict[int, Mark] = {}
+        for spot in sorted(marks):
+            mark, place = marks[spot], spot * MARKED // SPOTS
+            into = joined.setdefault(place, Mark((2 * place + 1) * self.survey.size // (2 * MARKED)))
+            into.number += mark.number
+            into.lost += mark.lost
+            into.lines += mark.lines[:max(0, 3 - len(into.lines))]
+        return list(joined.values())
+
+    def _sign(self, what: str, mark: Mark) -> Sign:
+        more = [f".. {mark.number} lines"] if mark.number > len(mark.lines) else []
+        words = ""
+        if what == "gap":
+            more.append(f"frames lost: {mark.lost}")
+        elif mark.number == 1:
+            last = mark.lines[0].split()
+            words = f"{last[-1]} octets" if "octets" in last else " ".join(last[4:])
+        x = self.x(mark.offset) + (5 if self.survey.is_short() else 0)
+        return Sign(x, words, "\n".join(mark.lines + more), mark.lost)
+
+    def _axis(self, y: int) -> List[str]:
+        step = 1
+        while self.survey.size / step > 12:
+            step = step * 2 if str(step)[0] in "15" else step * 5 // 2
+        parts = [f'<path class="axis" d="M{LEFT} {y}H{self.right}"/>']
+        for offset in range(0, self.survey.size + 1, step):
+            x = self.x(offset)
+            parts.append(f'<path class="axis" d="M{x:.1f} {y}v5"/>')
+            x = min(x, WIDTH - 4 - width(str(offset), 10) / 2)
+            parts.append(text(x, y + 18, str(offset), anchor="middle", size=10))
+        return parts + [text(LEFT - 10, y + 18, "offset", anchor="end", size=10)]
+
+    def _legend(self, y: int) -> Tuple[List[str], int]:
+        reasons = ", ".join(f"{reason} {number}" for reason, number in self.survey.reasons.most_common())
+        items = []
+        for what in (what for what in CELLS if what in self.used):
+            words = CELLS[what][1] + (f": {reasons}" if what == "skip" and reasons else "")
+            items.append((words, [f'<rect y="-9" width="16" height="11" fill="url(#{self.ident})"/>' if what == "rest"
+                                  else box(0, -9, 16, 11, "c-" + what)]))
+        items += [(MARKS[what][2], sign(what, Sign(8), -4)) for what in MARKS if what in self.used]
+        items += [(flag, [box(0, -6, 16, BAR - 2, "f-" + flag.split()[0])]) for flag in FLAGS if flag in self.used]
+        parts, x = [], float(LEFT)
+        for words, swatch in items:
+            wide = 24 + width(words, 12) + 18
+            if x + wide > WIDTH and x > LEFT:
+                x, y = LEFT, y + 20
+            parts.append(f'<g transform="translate({x:.1f} {y})">{"".join(swatch)}{text(24, 0, words)}</g>')
+            x += wide
+        if not self.survey.is_short():
+            y += 22
+            parts.append(text(LEFT, y, "A cell is several frames, divided by what they are; in each row the cell with"
+                                       " the most of them has the whole height.", kind="soft"))
+        return parts, y + 18
+
+    def _document(self, parts: Sequence[str], height: int) -> str:
+        about = f"Virtual channels of {self.survey.name} over its octets"
+        head = [
+            f'<svg xmlns="http://www.w3.org/2000/svg" viewBox="0 0 {WIDTH} {height}" width="{WIDTH}" height="{height}"'
+            f' class="pass" role="img" aria-label={quoteattr(about)}>',
+            f"<style>{STYLE}</style>" if self.heading else "",
+            f'<defs><pattern id="{self.ident}" width="6" height="6" patternUnits="userSpaceOnUse"'
+            ' patternTransform="rotate(45)"><rect class="rest-back" width="6" height="6"/>'
+            '<rect class="rest-line" width="2" height="6"/></pattern></defs>',
+            '<rect class="page" width="100%" height="100%"/>',
+        ]
+        return "\n".join([*filter(None, head), *parts, "</svg>\n"])
+
+
+def stretches_for(frames: int) -> int:
+    """How many stretches are taken together for the cells of a row with so many frames; of a few each is seen alone."""
+    joined = 1
+    while joined < WIDEST and frames < FULL * BINS // joined:
+        joined += 1
+        while BINS % joined:
+            joined += 1
+    return joined if frames > FEW else 1
+
+
+def sign(what: str, mark: Sign, y: float) -> List[str]:
+    """A mark, and its words beside it."""
+    scale = f" scale({mark.scale():.2f})" if mark.scale() != 1 else ""
+    path = f'<path class="m-{what}" d="{MARKS[what][0]}" transform="translate({mark.x:.1f} {y:.1f}){scale}"/>'
+    parts = [f"<g><title>{escape(mark.about)}</title>{path}</g>" if mark.about else path]
+    if mark.words:
+        parts.append(text(mark.x + 10, y + 4, mark.words, size=10, kind="m-" + what))
+    return parts

@@ -1,0 +1,171 @@
+"""What the module is for: frames, anomalies and packets of a recording, and normal forms."""
+
+import os
+from contextlib import closing
+from hashlib import sha256
+from typing import Any, BinaryIO, Dict, Generator, Iterable, Iterator, List, Literal, Optional, Tuple, Union, overload
+
+from ._options import Words, words_of
+from ._program import Child, Program, Recording, SllinkError, lines
+from ._records import Anomaly, Count, Packet, Remainder, Skip, TcFrame, TmFrame, Totals
+from ._records import anomaly_of, frame_of, packet_of
+
+CHUNK = 1 << 16
+
+
+@overload
+def frames(kind: Literal["tm"], recording: Recording, options: Words, *,
+           program: Program = None) -> Generator[Union[TmFrame, Skip, Remainder], None, None]: ...
+
+
+@overload
+def frames(kind: Literal["tc"], recording: Recording, options: Words, *,
+           program: Program = None) -> Generator[Union[TcFrame, Skip, Remainder], None, None]: ...
+
+
+@overload
+def frames(kind: str, recording: Recording, options: Words, *,
+           program: Program = None) -> Generator[Union[TmFrame, TcFrame, Skip, Remainder], None, None]: ...
+
+
+def frames(kind: str, recording: Recording, options: Words, *, program: Program = None) -> Any:
+    """The frames of a recording in their order, those that are skipped too, and what is left after the last one."""
+    with closing(lines("show", kind, recording, options, program=program)) as listing:
+        for line in listing:
+            yield frame_of(kind, line)
+
+
+class Anomalies(Iterator[Anomaly]):
+    """The anomalies of a recording in their order. `totals` reads on to the end, if that isn't reached, and gives the
+    totals."""
+
+    def __init__(self, kind: str, recording: Recording, options: Words, program: Program = None) -> None:
+        self._lines: Any = lines("check", kind, recording, options, program=program)
+        self._totals: Optional[Totals] = None
+
+    def __next__(self) -> Anomaly:
+        for line in self._lines:
+            it = anomaly_of(line)
+            if isinstance(it, Totals):
+                self._totals = it
+            elif isinstance(it, Anomaly):
+                return it
+        raise StopIteration
+
+    @property
+    def totals(self) -> Totals:
+        """The last line of `check`."""
+        for _ in self:
+            pass
+        if self._totals is None:
+            raise SllinkError(3, "sllink: the totals are missing")
+        return self._totals
+
+    def close(self) -> None:
+        """Ends the program where it is."""
+        self._lines.close()
+
+    def __enter__(self) -> "Anomalies":
+        return self
+
+    def __exit__(self, *_: Any) -> None:
+        self.close()
+
+
+def anomalies(kind: str, recording: Recording, options: Words, *, program: Program = None) -> Anomalies:
+    """What is amiss in a recording, and its totals."""
+    return Anomalies(kind, recording, options, program)
+
+
+def packets(kind: str, recording: Recording, options: Words, *,
+            program: Program = None) -> Generator[Packet, None, None]:
+    """The packets that the frames of a recording deliver, idle ones left out."""
+    with closing(lines("packets", kind, recording, options, program=program)) as listing:
+        for line in listing:
+            yield packet_of(line)
+
+
+def counts(some: Iterable[Packet]) -> List[Count]:
+    """How many packets there are of each virtual channel, MAP and APID, in rising order of these."""
+    found: Dict[Tuple[int, int, int], List[int]] = {}
+    for packet in some:
+        key = packet.vc, -1 if packet.map is None else packet.map, packet.apid
+        count = found.setdefault(key, [0, 0, 0, packet.count - 1])
+        count[0] += 1
+        count[1] += len(packet.octets)
+        count[2] += (count[3] + 1) % 16384 != packet.count
+        count[3] = packet.count
+    return [Count(vc, None if map_id < 0 else map_id, apid, *found[vc, map_id, apid][:3])
+            for vc, map_id, apid in sorted(found)]
+
+
+def normal_form(kind: str, recording: Recording, output: Union[str, bytes, "os.PathLike[str]", BinaryIO],
+                options: Words, *, program: Program = None) -> None:
+    """Writes the normal form of a recording into a file, which is made anew, or to a binary file object. Where the
+    program refuses something or stops while it reads, nothing is written, and a file that is there stays as it is."""
+    child = Child("normalise", kind, recording, options, program)
+    try:
+        octets = child.output.read(CHUNK)
+        if not octets:
+            child.end()
+        if hasattr(output, "write"):
+            _copy(octets, child, output)                     # type: ignore[arg-type]
+        else:
+            with open(output, "wb") as file:
+                _copy(octets, child, file)
+        child.end()
+    finally:
+        child.stop()
+
+
+def _copy(octets: bytes, child: Child, file: BinaryIO) -> None:
+    while octets:
+        left = memoryview(octets)
+        while left:
+            written = file.write(left)                       # a raw file may take a part of them
+            left = left[len(left) if written is None else written:]
+        octets = child.output.read(CHUNK)
+
+
+def same_packets(kind: str, a: Recording, b: Recording, options: Words, b_options: Optional[Words] = None, *,
+                 program: Program = None) -> bool:
+    """Whether two recordings deliver the same packets on each virtual channel, and MAP, in the same order, idle ones
+    left out. A recording that is read with wrong options may deliver nothing, or something else; so look at its
+    anomalies first.
+
+    Read with the same options, the normal forms are compared, octet by octet. Where the second one has options of its
+    own, the packets of each channel are compared by their number and the SHA-256 of their octets, since a normal form
+    depends on the options too.
+    """
+    if b_options is not None and words_of(b_options) != words_of(options):
+        return _digests(packets(kind, a, options, program=program)) == _digests(
+            packets(kind, b, b_options, program=program))
+    one = Child("normalise", kind, a, options, program)
+    try:
+        other = Child("normalise", kind, b, options, program)
+        try:
+            while True:
+                here, there = one.output.read(CHUNK), other.output.read(CHUNK)
+                if not here:
+                    one.end()
+                if not there:
+                    other.end()
+                if here != there:
+                    return False
+                if not here:
+                    return True
+        finally:
+            other.stop()
+    finally:
+        one.stop()
+
+
+def _digests(some: Iterable[Packet]) -> Dict[Tuple[int, Optional[int]], Tuple[int, bytes]]:
+    """Of each channel how many packets it has, and a digest of them. A packet states its length, so what they are
+    divided into follows from their octets."""
+    found: Dict[Tuple[int, Optional[int]], List[Any]] = {}
+    for packet in some:
+        it = found.setdefault((packet.vc, packet.map), [0, sha256()])
+        it[0] += 1
+        it[1].update(packet.octets)
+    return {channel: (number, digest.digest()) for channel, (number, digest) in found.items()}

@@ -1,0 +1,263 @@
+"""The lines of the program's listings as values. Attributes have the names of the words in the lines, and str() gives
+the line back. What a line doesn't have is None."""
+
+from dataclasses import dataclass, fields
+from typing import Any, List, Optional, Tuple, Union
+
+
+class Line:
+    """A line of a listing."""
+
+    __slots__ = ()
+
+    def __reduce__(self) -> Tuple[Any, ...]:
+        # without this a frozen class with slots can't be pickled
+        return type(self), tuple(getattr(self, it.name) for it in fields(self))
+
+
+@dataclass(frozen=True)
+class Clcw(Line):
+    """A Communications Link Control Word: its 32 bits, and the fields that the listing of TM frames has for it."""
+
+    __slots__ = ("word", "vc", "lockout", "wait", "retransmit", "farmb", "vr")
+    word: int
+    vc: int
+    lockout: bool
+    wait: bool
+    retransmit: bool
+    farmb: int
+    vr: int
+
+    def __str__(self) -> str:
+        return (f"clcw {self.word:08x} vc {self.vc} lockout {self.lockout:d} wait {self.wait:d}"
+                f" retransmit {self.retransmit:d} farmb {self.farmb} vr {self.vr}")
+
+    @staticmethod
+    def of_word(word: int) -> "Clcw":
+        """The fields of a CLCW by their positions."""
+        return Clcw(word, word >> 18 & 63, bool(word >> 13 & 1), bool(word >> 12 & 1), bool(word >> 11 & 1),
+                    word >> 9 & 3, word & 255)
+
+
+@dataclass(frozen=True)
+class Frame(Line):
+    """A frame that isn't skipped: a TmFrame or a TcFrame."""
+
+    __slots__ = ("offset", "vc")
+    offset: int
+    vc: int
+
+
+@dataclass(frozen=True)
+class TmFrame(Frame):
+    """A TM frame. What it is: `first` (packets, of which the first starts at octet `first` of the data field), `none`
+    (packets, of which none starts here), `idle` or `opaque`. Its operational control field, if it has one, is `ocf`,
+    and `clcw` where that is a CLCW."""
+
+    __slots__ = ("mc", "vcc", "what", "first", "ocf", "clcw")
+    mc: int
+    vcc: int
+    what: str
+    first: Optional[int]
+    ocf: Optional[int]
+    clcw: Optional[Clcw]
+
+    def __str__(self) -> str:
+        what = self.what if self.first is None else f"first {self.first}"
+        word = f" {self.clcw}" if self.clcw else "" if self.ocf is None else f" ocf {self.ocf:08x}"
+        return f"{self.offset} frame vc {self.vc} mc {self.mc} vcc {self.vcc} {what}{word}"
+
+
+@dataclass(frozen=True)
+class TcFrame(Frame):
+    """A TC frame. What it is: `ad` (then `ns` is its N(S)), `bd`, `unlock` or `setvr` (then `setvr` is the value); of a
+    unit with a segment header the flags are `segment` and the MAP is `map`. `verdict` is that of FARM-1, and `clcw`
+    reports its state after the frame."""
+
+    __slots__ = ("what", "ns", "setvr", "segment", "map", "octets", "verdict", "clcw")
+    what: str
+    ns: Optional[int]
+    setvr: Optional[int]
+    segment: Optional[str]
+    map: Optional[int]
+    octets: Optional[int]
+    verdict: str
+    clcw: Clcw
+
+    def __str__(self) -> str:
+        what = self.what
+        if self.ns is not None:
+            what += f" {self.ns}"
+        if self.setvr is not None:
+            what += f" {self.setvr}"
+        if self.octets is not None:
+            what += " unit" if self.segment is None else f" segment {self.segment} map {self.map}"
+            what += f" octets {self.octets}"
+        return f"{self.offset} frame vc {self.vc} {what} {self.verdict} clcw {self.clcw.word:08x}"
+
+
+@dataclass(frozen=True)
+class Skip(Line):
+    """A frame that is skipped, and why."""
+
+    __slots__ = ("offset", "reason")
+    offset: int
+    reason: str
+
+    def __str__(self) -> str:
+        return f"{self.offset} skip {self.reason}"
+
+
+@dataclass(frozen=True)
+class Remainder(Line):
+    """The octets after the last frame."""
+
+    __slots__ = ("offset", "octets")
+    offset: int
+    octets: int
+
+    def __str__(self) -> str:
+        return f"{self.offset} rest {self.octets}"
+
+
+@dataclass(frozen=True)
+class Anomaly(Line):
+    """What is amiss: its word, such as `gap`, and the numbers of its line. `reason` is that of a `skip`."""
+
+    __slots__ = ("offset", "word", "vc", "map", "reason", "expected", "found", "ns", "octets")
+    offset: int
+    word: str
+    vc: Optional[int]
+    map: Optional[int]
+    reason: Optional[str]
+    expected: Optional[int]
+    found: Optional[int]
+    ns: Optional[int]
+    octets: Optional[int]
+
+    def __str__(self) -> str:
+        words = [str(self.offset), self.word]
+        if self.reason is not None:
+            words.append(self.reason)
+        if self.word == "rest":
+            return f"{self.offset} rest {self.octets}"
+        for name, value in (("vc", self.vc), ("map", self.map), ("expected", self.expected), ("found", self.found),
+                            ("ad", self.ns), ("octets", self.octets)):
+            if value is not None:
+                words += [name, str(value)]
+        return " ".join(words)
+
+
+@dataclass(frozen=True)
+class Totals(Line):
+    """The last line of `check`."""
+
+    __slots__ = ("frames", "skipped", "packets", "idle", "anomalies")
+    frames: int
+    skipped: int
+    packets: int
+    idle: int
+    anomalies: int
+
+    def __str__(self) -> str:
+        return (f"frames {self.frames} skipped {self.skipped} packets {self.packets} idle {self.idle}"
+                f" anomalies {self.anomalies}")
+
+
+@dataclass(frozen=True)
+class Packet(Line):
+    """A packet: its virtual channel, its MAP (None in TM), the fields of its primary header, and all its octets."""
+
+    __slots__ = ("vc", "map", "apid", "type", "secondary", "flags", "count", "octets")
+    vc: int
+    map: Optional[int]
+    apid: int
+    type: int
+    secondary: int
+    flags: int
+    count: int
+    octets: bytes
+
+    def __str__(self) -> str:
+        channel = f"vc {self.vc}" if self.map is None else f"vc {self.vc} map {self.map}"
+        return (f"{channel} apid {self.apid} type {self.type} secondary {self.secondary} flags {self.flags}"
+                f" count {self.count} octets {len(self.octets)} {self.octets.hex()}")
+
+
+@dataclass(frozen=True)
+class Count(Line):
+    """Of the packets of one virtual channel, MAP and APID: how many they are, their octets, and how often the packet
+    sequence count isn't the one that comes next."""
+
+    __slots__ = ("vc", "map", "apid", "packets", "octets", "jumps")
+    vc: int
+    map: Optional[int]
+    apid: int
+    packets: int
+    octets: int
+    jumps: int
+
+    def __str__(self) -> str:
+        channel = f"vc {self.vc}" if self.map is None else f"vc {self.vc} map {self.map}"
+        return f"{channel} apid {self.apid} packets {self.packets} octets {self.octets} jumps {self.jumps}"
+
+
+# From the words of a line.
+
+def _tm_frame(words: List[str]) -> TmFrame:
+    # OFFSET frame vc V mc M vcc C CLASS [POINTER] [ocf DIGITS | clcw DIGITS ..]
+    what, at = words[8], 9
+    first = None
+    if what == "first":
+        first, at = int(words[9]), 10
+    ocf = int(words[at + 1], 16) if len(words) > at else None
+    clcw = Clcw.of_word(ocf) if ocf is not None and words[at] == "clcw" else None
+    return TmFrame(int(words[0]), int(words[3]), int(words[5]), int(words[7]), what, first, ocf, clcw)
+
+
+def _tc_frame(words: List[str]) -> TcFrame:
+    # OFFSET frame vc V CONTENT VERDICT clcw DIGITS
+    what = words[4]
+    ns = int(words[5]) if what == "ad" else None
+    setvr = int(words[5]) if what == "setvr" else None
+    segment = map_id = octets = None
+    if "segment" in words:
+        at = words.index("segment")
+        segment, map_id = words[at + 1], int(words[at + 3])
+    if "octets" in words:
+        octets = int(words[words.index("octets") + 1])
+    return TcFrame(int(words[0]), int(words[3]), what, ns, setvr, segment, map_id, octets, words[-3],
+                   Clcw.of_word(int(words[-1], 16)))
+
+
+def frame_of(kind: str, line: str) -> Union[TmFrame, TcFrame, Skip, Remainder]:
+    """A line of `show`."""
+    words = line.split()
+    if words[1] == "skip":
+        return Skip(int(words[0]), words[2])
+    if words[1] == "rest":
+        return Remainder(int(words[0]), int(words[2]))
+    return _tm_frame(words) if kind == "tm" else _tc_frame(words)
+
+
+def anomaly_of(line: str) -> Union[Anomaly, Totals]:
+    """A line of `check`: an Anomaly, or the Totals."""
+    words = line.split()
+    if words[0] == "frames":
+        return Totals(*map(int, words[1::2]))
+    offset, word = int(words[0]), words[1]
+    if word == "skip":
+        return Anomaly(offset, word, None, None, words[2], None, None, None, None)
+    if word == "rest":
+        return Anomaly(offset, word, None, None, None, None, None, None, int(words[2]))
+    of = dict(zip(words[2::2], map(int, words[3::2])))
+    return Anomaly(offset, word, of.get("vc"), of.get("map"), None, of.get("expected"), of.get("found"), of.get("ad"),
+                   of.get("octets"))
+
+
+def packet_of(line: str) -> Packet:
+    """A line of `packets`."""
+    words = line.split()
+    map_id = int(words[3]) if words[2] == "map" else None
+    apid, kind, secondary, flags, count = map(int, words[-12:-3:2])
+    return Packet(int(words[1]), map_id, apid, kind, secondary, flags, count, bytes.fromhex(words[-1]))

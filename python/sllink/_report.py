@@ -1,0 +1,278 @@
+"""A page of a pass: of one recording, or of two and what each of them lacks."""
+
+import hashlib
+from typing import Dict, List, Sequence, Tuple
+
+from ._page import Table, facts, figure, folded, heading, listing, page, paragraph, verdict
+from ._picture import Picture
+from ._survey import MOST_LINES, MOST_LOCKOUTS, Survey
+from ._tally import MOST_RUNS, Difference, Key, Missing, Tally
+from ._verdict import number_of, questions, said, said_of_two
+from .tool import shown
+
+MEANINGS = {
+    "skip fecf": "frame skipped: its frame error control field is wrong",
+    "skip version": "frame skipped: its transfer frame version number isn't 0",
+    "skip spacecraft": "frame skipped: it is of another spacecraft",
+    "skip long": "frame skipped: it is longer than --tc-length",
+    "skip kind": "frame skipped: bypass flag 0 with control command flag 1",
+    "skip empty": "frame skipped: it has no data field",
+    "skip command": "frame skipped: its data field is no control command",
+    "gap": "the frame count isn't the one that comes next on the channel",
+    "opaque": "frame whose data field isn't read: secondary header, other data than packets, pointer past the end",
+    "foreign": "octets at a packet start that are of another packet version",
+    "early": "frame of type AD discarded: N(S) is ahead, within the window",
+    "late": "frame of type AD discarded: N(S) is behind, within the window",
+    "outside": "frame of type AD discarded: N(S) is outside the window, and lockout begins",
+    "refused": "frame of type AD discarded in lockout",
+    "stray": "segment that continues or ends no series",
+    "long": "series of segments given up: it is longer than a packet can be",
+    "tail": "octets after the packets of a service data unit",
+    "rest": "octets after the last whole frame",
+    "open": "packet or series that is incomplete at the end",
+}
+DROPPED = {"tm": "incomplete packet dropped", "tc": "incomplete series of segments dropped"}
+
+
+class Recording:
+    """All that a page has of a recording, and the name that it goes by on the page."""
+
+    def __init__(self, kind: str, path: str, options: Sequence[str], compared: bool = False) -> None:
+        self.survey = Survey(kind, path, options)
+        self.tally = Tally(kind, path, options, compared)
+        self.digest = digest_of(path)
+        self.survey.require_unchanged()
+        self.name = self.survey.name
+
+
+def digest_of(path: str) -> str:
+    """The SHA-256 of a recording."""
+    digest = hashlib.sha256()
+    with open(path, "rb") as file:
+        for octets in iter(lambda: file.read(1 << 16), b""):
+            digest.update(octets)
+    return digest.hexdigest()
+
+
+def report_of_one(kind: str, path: str, options: Sequence[str]) -> str:
+    """The page of a recording."""
+    it = Recording(kind, path, options)
+    parts = ["<header>", heading(1, it.name), read_as(kind, options), "</header>",
+             verdict(said(it.survey, it.tally), questions(it.survey, it.tally), not it.survey.anomalies),
+             facts(facts_of(it)), heading(2, "Picture"), pictured(it, "rest")]
+    parts += tables(it, 2)
+    return page(f"{it.name}: {number_of(it.survey.frames, 'frame')}, {number_of(it.tally.packets(), 'packet')}", parts)
+
+
+def report_of_two(kind: str, paths: Sequence[str], options: Sequence[str]) -> str:
+    """The page of two recordings."""
+    one, other = (Recording(kind, path, options, compared=True) for path in paths)
+    name_apart(one, other, paths)
+    difference = Difference(one.tally, other.tally)
+    for it in one, other:
+        it.survey.require_unchanged()
+    asked = [f"{it.name}: {question}" for it in (one, other) for question in questions(it.survey, it.tally)]
+    parts = ["<header>", heading(1, f"{one.name} and {other.name}"), read_as(kind, options), "</header>",
+             verdict(said_of_two(one, other, difference), asked, difference.same),
+             heading(2, "Pictures")]
+    for number, it in enumerate((one, other)):
+        parts += [heading(3, it.name), paragraph(said(it.survey, it.tally)), pictured(it, f"rest{number}")]
+    parts += lacks(one, other, difference)
+    for it in one, other:
+        parts += [heading(2, it.name), facts(facts_of(it)), *tables(it, 3)]
+    return page(f"{one.name} and {other.name}", parts)
+
+
+def name_apart(one: Recording, other: Recording, paths: Sequence[str]) -> None:
+    """Gives two recordings of the same name their paths, or their places, as names."""
+    if one.name == other.name:
+        one.name, other.name = map(shown, paths)
+    if one.name == other.name:
+        one.name, other.name = f"{one.name} (first)", f"{other.name} (second)"
+
+
+def read_as(kind: str, options: Sequence[str]) -> str:
+    """With which options the recording was read."""
+    return paragraph("Read as " + " ".join([kind, *map(shown, options)]), "read")
+
+
+def facts_of(it: Recording) -> List[Tuple[str, str]]:
+    """What tells a recording."""
+    survey = it.survey
+    totals = [f"{survey.frames:,} frames", f"{survey.skipped:,} skipped"]
+    if survey.kind == "tm":
+        totals.append(f"{sum(gaps.lost for gaps in survey.gaps.values()):,} lost")
+    totals += [f"{survey.packets:,} packets", f"{survey.idle:,} idle packets",
+               f"{sum(survey.anomalies.values()):,} anomalies"]
+    return [("Totals", ", ".join(totals)), ("Octets", f"{survey.size:,}"), ("SHA-256", it.digest)]
+
+
+def pictured(it: Recording, ident: str) -> str:
+    """The picture of a recording."""
+    return figure(f"Picture of {it.name}", Picture(it.survey, ident, heading=False).draw())
+
+
+def tables(it: Recording, level: int) -> List[str]:
+    """The tables of a recording."""
+    if it.survey.kind == "tm":
+        parts = [heading(level, "Channels"), *channels_tm(it.survey)]
+        if it.survey.reports:
+            parts += [heading(level, "CLCWs in the downlink"), clcws(it.survey)]
+    else:
+        parts = [heading(level, "Channels"), channels_tc(it.survey)]
+        parts += [heading(level, "FARM-1 at the end of the uplink"), farms(it.survey), *lockouts(it.survey)]
+    parts += [heading(level, "Packets"), *packets(it.tally)]
+    return parts + [heading(level, "What check reports"), *checked(it.survey)]
+
+
+def channels_tm(survey: Survey) -> List[str]:
+    """The virtual channels of a downlink."""
+    losses = ["Frames lost", "Packets dropped"]
+    table = Table("Channels", ["Virtual channel", "Frames", "Frames lost", "Gaps", "Packets dropped", "With packets",
+                               "Only idle data", "Opaque", "Incomplete at the end"], losses)
+    for row in (row for row in survey.rows() if row < 64):
+        kinds, gaps = survey.of_row(row), survey.gaps.get(row)
+        table.rows.append([row, sum(kinds.values()), gaps.lost if gaps else 0, gaps.number if gaps else 0,
+                           marked(survey, row, "dropped"), kinds.get("first", 0) + kinds.get("none", 0),
+                           kinds.get("idle", 0), kinds.get("opaque", 0), marked(survey, row, "open")])
+    table.sum_up()
+    parts = [table.html()]
+    again = sum(gaps.of_255 for gaps in survey.gaps.values())
+    if survey.gaps:
+        parts.append(paragraph("Lost frames are known by the virtual channel frame counts, modulo 256 at each gap, and "
+                               "none are known before the first frame and after the last one.", "note"))
+    if again:
+        words = "1 gap is" if again == 1 else f"{again:,} gaps are"
+        parts.append(paragraph(f"{words} of 255 frames: either these were lost, or the frame before came once more.",
+                               "note"))
+    return parts
+
+
+def marked(survey: Survey, row: int, what: str) -> int:
+    """How many lines of a word `check` has for a channel."""
+    return sum(mark.number for mark in survey.marks.get((row, what), {}).values())
+
+
+def channels_tc(survey: Survey) -> str:
+    """The virtual channels of an uplink."""
+    names = {"accept": "Accepted, type AD", "bypass": "Accepted, type BD", "command": "Commands", "early": "Early",
+             "late": "Late", "outside": "Outside", "refused": "Refused"}
+    table = Table("Channels", ["Virtual channel", "Frames", *names.values()], [*names.values()][3:])
+    for row in (row for row in survey.rows() if row < 64):
+        kinds = survey.of_row(row)
+        table.rows.append([row, sum(kinds.values()), *(kinds.get(what, 0) for what in names)])
+    table.sum_up()
+    return table.html()
+
+
+def farms(survey: Survey) -> str:
+    """The state of each FARM-1 at the end."""
+    table = Table("FARM-1", ["Virtual channel", "V(R)", "Lockout flag", "Retransmit flag", "FARM-B counter", "CLCW",
+                             "Lockouts"], ["Lockout flag", "Retransmit flag", "Lockouts"], ["V(R)", "FARM-B counter"])
+    for vc, word in sorted(survey.farms.items()):
+        table.rows.append([vc, word & 255, word >> 13 & 1, word >> 11 & 1, word >> 9 & 3, f"{word:08x}",
+                           survey.lockouts_of[vc]])
+    return table.html()
+
+
+def lockouts(survey: Survey) -> List[str]:
+    """The lockouts of an uplink."""
+    if not survey.lockouts:
+        return []
+    table = Table("Lockouts", ["Virtual channel", "Begins at offset", "by N(S)", "Ends at offset", "Frames refused"],
+                  names=["Begins at offset", "Ends at offset"])
+    for it in survey.lockouts:
+        table.rows.append([it.vc, it.start, it.number, "not ended" if it.end is None else it.end, it.refused])
+    number = sum(survey.lockouts_of.values())
+    first = f"The first {MOST_LOCKOUTS:,} of " if number > MOST_LOCKOUTS else ""
+    return [folded(first + number_of(number, "lockout"), table.html())]
+
+
+def clcws(survey: Survey) -> str:
+    """The CLCWs that a downlink carries."""
+    flags = {"lockout": "Lockout", "wait": "Wait", "retransmit": "Retransmit", "no RF": "No RF Available",
+             "no bit lock": "No Bit Lock"}
+    table = Table("CLCWs", ["Virtual channel", "of TC channel", "CLCWs", "First V(R)", "Last V(R)", *flags.values()],
+                  [*flags.values()], ["of TC channel", "First V(R)", "Last V(R)"])
+    for (vc, link_vc), it in sorted(survey.reports.items()):
+        table.rows.append([vc, link_vc, it.number, it.first & 255, it.last & 255, *(it.having(flag) for flag in flags)])
+    return table.html()
+
+
+def packets(tally: Tally) -> List[str]:
+    """The packets by channel and APID."""
+    if not tally.counts:
+        return [paragraph("No packet is delivered.")]
+    with_map = tally.kind == "tc"
+    losses = ["Jumps", "Missing by the counts"]
+    heads = ["Virtual channel", *["MAP"] * with_map, "APID", "Packets", *losses, "Octets", "First count", "Last count"]
+    table = Table("Packets", heads, losses, ["MAP", "APID", "First count", "Last count"])
+    for key, it in sorted(tally.counts.items()):
+        table.rows.append([*columns(key, with_map), it.packets, it.jumps, it.missing, it.octets, it.first, it.last])
+    table.sum_up()
+    return [table.html(), paragraph("A jump is a packet sequence count that isn't the one that comes next, modulo "
+                                    "16384. Idle packets are left out.", "note")]
+
+
+def columns(key: Key, with_map: bool) -> List[int]:
+    """A channel and an APID as columns."""
+    vc, map_id, apid = key
+    return [vc, map_id, apid] if with_map else [vc, apid]
+
+
+def checked(survey: Survey) -> List[str]:
+    """What `check` reports."""
+    number = sum(survey.anomalies.values())
+    if not number:
+        return [paragraph("Nothing: no anomaly.")]
+    table = Table("Lines of check", ["Line", "Number", "Meaning"], words=["Line", "Meaning"])
+    meanings = {**MEANINGS, "dropped": DROPPED[survey.kind]}
+    lines = {f"skip {reason}": times for reason, times in survey.reasons.items()}
+    lines.update((what, times) for what, times in survey.anomalies.items() if what != "skip")
+    for what, times in sorted(lines.items(), key=lambda it: -it[1]):
+        table.rows.append([what, times, meanings.get(what, "")])
+    first = f"The first {MOST_LINES:,} of " if number > MOST_LINES else ""
+    return [table.html(), folded(first + number_of(number, "line"), listing(survey.first_lines))]
+
+
+def lacks(one: Recording, other: Recording, difference: Difference) -> List[str]:
+    """What each of two recordings lacks."""
+    parts = [heading(2, "What each recording lacks")]
+    if difference.same:
+        return parts + [paragraph("Nothing: on each channel both have the same packets in the same order."
+                                  if one.tally.packets() else "Neither has a packet.")]
+    table = differing(one, other, difference)
+    if table.rows:
+        parts.append(table.html())
+    for it, missing in (one, difference.only_other), (other, difference.only_one):
+        parts += runs(it, missing)
+    if difference.reordered:
+        on = ", ".join(difference.reordered)
+        parts.append(paragraph(f"The packets that both have come in another order on {on}."))
+    return parts
+
+
+def differing(one: Recording, other: Recording, difference: Difference) -> Table:
+    """The APIDs of which one recording lacks packets."""
+    with_map = one.survey.kind == "tc"
+    last = [f"Lacked by {one.name}", f"Lacked by {other.name}"]
+    heads = ["Virtual channel", *["MAP"] * with_map, "APID", *(f"Packets in {it.name}" for it in (one, other)), *last]
+    table = Table("APIDs of which packets are lacking", heads, last, ["MAP", "APID"])
+    missing: Tuple[Missing, Missing] = (difference.only_other, difference.only_one)
+    counts: Tuple[Dict[Key, int], ...] = tuple(
+        {key: count.packets for key, count in it.tally.counts.items()} for it in (one, other))
+    for key in sorted({*missing[0].packets, *missing[1].packets}):
+        table.rows.append([*columns(key, with_map), *(of.get(key, 0) for of in counts),
+                           *(of.packets[key] for of in missing)])
+    return table
+
+
+def runs(it: Recording, missing: Missing) -> List[str]:
+    """The packets that a recording lacks, in runs of the sequence count."""
+    if not missing.number:
+        return [paragraph(f"{it.name} lacks no packet of the other.")]
+    number = number_of(missing.number, "run")
+    words = f"{it.name} lacks {number_of(missing.total(), 'packet')}, in {number} of the sequence count"
+    if missing.number > MOST_RUNS:
+        words += f"; the first {MOST_RUNS:,} of them"
+    return [heading(3, words), listing(map(str, missing.runs))]

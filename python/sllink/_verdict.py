@@ -1,0 +1,141 @@
+"""What is said of a pass in a sentence, and what to ask where the options may be wrong."""
+
+from typing import Any, List, Sequence
+
+from ._survey import Survey
+from ._tally import Difference, Tally
+
+
+def number_of(number: int, what: str) -> str:
+    """So many of a thing."""
+    return f"{number:,} {what}" if number == 1 else f"{number:,} {what}s"
+
+
+def listed(items: Sequence[object]) -> str:
+    """1, 2 and 3."""
+    words = [str(item) for item in items]
+    return " and ".join([*filter(None, [", ".join(words[:-1])]), *words[-1:]])
+
+
+def channels(numbers: Sequence[int]) -> str:
+    """Virtual channels by their rising numbers."""
+    first, last = numbers[0], numbers[-1]
+    if len(numbers) > 2 and last - first == len(numbers) - 1:
+        return f"virtual channels {first} to {last}"
+    return f"virtual channel{'s' if len(numbers) > 1 else ''} {listed(numbers)}"
+
+
+def said(survey: Survey, tally: Tally) -> str:
+    """A recording in a sentence."""
+    if not survey.frames:
+        return f"No whole frame: the recording has {number_of(survey.size, 'octet')}." if survey.size else \
+            "The recording is empty."
+    parts = [frames_said(survey)]
+    if survey.kind == "tm":
+        parts.append(losses_said(survey))
+    else:
+        parts += farm_said(survey)
+    parts.append(f"{number_of(tally.packets(), 'packet')} delivered" if tally.counts else "no packet delivered")
+    return "; ".join(parts) + "."
+
+
+def frames_said(survey: Survey) -> str:
+    """How many frames are read, and how many are skipped."""
+    if not survey.skipped:
+        return f"All {survey.frames:,} frames read" if survey.frames > 1 else "The one frame read"
+    reasons = ", ".join(f"{reason} {number:,}" if len(survey.reasons) > 1 else reason
+                        for reason, number in survey.reasons.most_common())
+    if survey.skipped == survey.frames:
+        return f"All {survey.frames:,} frames skipped ({reasons})"
+    read = survey.frames - survey.skipped
+    return f"{read:,} of {survey.frames:,} frames read, {survey.skipped:,} skipped ({reasons})"
+
+
+def losses_said(survey: Survey) -> str:
+    """How many frames are lost, and where."""
+    lost = sum(gaps.lost for gaps in survey.gaps.values())
+    if not lost:
+        return "no gap in the frame counts"
+    return f"{number_of(lost, 'frame')} lost on {channels(sorted(survey.gaps))}"
+
+
+def farm_said(survey: Survey) -> List[str]:
+    """What FARM-1 made of the frames."""
+    verdicts = {what: sum(survey.of_row(row).get(what, 0) for row in survey.rows())
+                for what in ("accept", "early", "late", "outside", "refused")}
+    sent = sum(verdicts.values())
+    if not sent:
+        return ["no frame of type AD"]
+    discarded = [f"{what} {verdicts[what]:,}" for what in ("early", "late", "outside", "refused") if verdicts[what]]
+    if discarded:
+        parts = [f"FARM-1 accepted {verdicts['accept']:,} of {sent:,} frames of type AD ({', '.join(discarded)})"]
+    else:
+        parts = [f"FARM-1 accepted all {sent:,} frames of type AD" if sent > 1 else
+                 "FARM-1 accepted the one frame of type AD"]
+    locked = [vc for vc, word in sorted(survey.farms.items()) if word >> 13 & 1]
+    return parts + ([f"lockout at the end on {channels(locked)}"] if locked else [])
+
+
+def questions(survey: Survey, tally: Tally) -> List[str]:
+    """What to ask where the options may be wrong for the recording."""
+    read = survey.frames - survey.skipped
+    asked = []
+    if survey.skipped * 2 > survey.frames:
+        reason = survey.reasons.most_common(1)[0][0]
+        asked.append(f"{SKIPPED.get(reason, 'Most frames are skipped. Are the options right?')} {ALONE[survey.kind]}")
+    if survey.rest and survey.rest[1] * 2 > survey.size:
+        asked.append(f"Most octets come after the last whole frame. {REST[survey.kind]} {ALONE[survey.kind]}")
+    asked += [words for what, words in MANY.items() if survey.anomalies[what] * 4 > read > 0]
+    if survey.kind == "tm" and survey.anomalies["foreign"] and survey.anomalies["foreign"] * 4 <= read:
+        asked.append(FOREIGN)
+    if survey.kind == "tc":
+        sent = sum(survey.of_row(row).get("accept", 0) for row in survey.rows())
+        if survey.anomalies["outside"] + survey.anomalies["refused"] > sent:
+            asked.append(DISCARDED)
+    if read and not tally.counts and not asked:
+        asked.append("No packet is delivered. Are the options right?")
+    return asked
+
+
+SKIPPED = {
+    "fecf": "Most frames have a wrong frame error control field. Do they have this field, and is their length right?",
+    "version": "Most frames have another version than 0. Is their length right?",
+    "spacecraft": "Most frames are of another spacecraft. Is --scid right, and their length?",
+    "long": "Most frames are longer than --tc-length. Is it right?",
+}
+ALONE = {
+    "tm": "Does the recording hold TM frames alone, with sync markers, parity and randomisation taken off?",
+    "tc": "Does the recording hold TC frames alone, with CLTUs and randomisation taken off?",
+}
+REST = {"tm": "Is --tm-length right?", "tc": "Is --tc-fecf right?"}
+FOREIGN = ("Octets at packet starts are of another packet version. Do the frames have an error control field, which "
+           "the options leave out?")
+DISCARDED = ("FARM-1 discards most frames of type AD. Does the recording begin in mid-pass, and does --vr-of name the "
+             "V(R) of that moment for each virtual channel?")
+MANY = {
+    "foreign": FOREIGN,
+    "opaque": "Many frames are opaque, so their data fields aren't read. Have they a secondary header, or other data "
+              "than packets?",
+    "stray": "Many segments are out of sequence. Has the channel no segment headers, so that --plain has to name it?",
+    "tail": "Many units have octets after their packets. Is --tc-fecf right, and does --plain name the right channels?",
+}
+
+
+def said_of_two(one: Any, other: Any, difference: Difference) -> str:
+    """Two recordings in a sentence."""
+    here, there = one.tally.packets(), other.tally.packets()
+    if not here + there:
+        return "Neither recording delivers a packet."
+    if difference.same:
+        return f"Both recordings deliver the same {number_of(here, 'packet')}."
+    lacks = difference.only_other.total(), difference.only_one.total()
+    if not any(lacks):
+        return f"The recordings deliver the same packets in another order, on {listed(difference.reordered)}."
+    return ("The recordings deliver different packets: "
+            f"{one.name} lacks {some(lacks[0])} of the {there:,} in {other.name}, and "
+            f"{other.name} lacks {some(lacks[1])} of the {here:,} in {one.name}.")
+
+
+def some(number: int) -> str:
+    """So many, or none."""
+    return f"{number:,}" if number else "none"

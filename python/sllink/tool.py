@@ -1,0 +1,133 @@
+"""What the tools share: how they begin and end, and how they name things in a line.
+
+A tool's `main(words)` returns its status. It raises Refused with the reason where it can't do what is asked.
+"""
+
+import errno
+import os
+import signal
+import stat
+import sys
+from typing import Any, Callable, List, NoReturn, Optional, Union
+
+from ._program import SllinkError
+
+
+class Refused(Exception):
+    """Why the tool can't do what is asked, in a line; its status is 2."""
+
+
+def shown(name: Union[str, bytes]) -> str:
+    """A name as it stands in a line: what is no printable text is escaped."""
+    text = os.fsdecode(name)
+    return "".join(it if it.isprintable() else _escaped(it) for it in text) or "''"
+
+
+def _escaped(letter: str) -> str:
+    code = ord(letter)
+    return f"\\x{code - 0xDC00:02x}" if 0xDC80 <= code <= 0xDCFF else ascii(letter)[1:-1]
+
+
+def require_file(path: Union[str, bytes], again: bool = True) -> None:
+    """Refuses what is no file to read, with `again` also what can't be read more than once, as a pipe."""
+    try:
+        mode = os.stat(path).st_mode
+    except (OSError, ValueError) as error:
+        raise Refused(f"{shown(path)}: {reason_of(error)}") from None
+    if stat.S_ISDIR(mode):
+        raise Refused(f"{shown(path)}: is a folder")
+    if again and not stat.S_ISREG(mode):
+        raise Refused(f"{shown(path)}: is no file that can be read more than once")
+    if not os.access(path, os.R_OK):
+        raise Refused(f"{shown(path)}: can't be read: {os.strerror(errno.EACCES)}")
+
+
+def reason_of(error: BaseException) -> str:
+    """The cause of a fault, in words."""
+    if isinstance(error, FileNotFoundError):
+        return "there is no such file"
+    if isinstance(error, IsADirectoryError):
+        return "is a folder"
+    return getattr(error, "strerror", None) or str(error)
+
+
+def help_of(text: Optional[str]) -> int:
+    """Prints the help of a tool, which is its docstring; the status is 0."""
+    print((text or "").strip())
+    return 0
+
+
+def write(octets: bytes) -> None:
+    """Writes octets to the standard output. Where that has no buffer, as with PYTHONUNBUFFERED, a write of its own
+    might take a part of them and say nothing."""
+    with open(sys.stdout.fileno(), "wb", closefd=False) as output:
+        output.write(octets)
+
+
+def complain(name: str, text: str) -> None:
+    """A line on the standard error. That it can't be written changes nothing."""
+    try:
+        print(f"{name}: {shown(text)}", file=sys.stderr, flush=True)
+    except OSError:
+        pass
+
+
+def run(name: str, main: Callable[[List[str]], int]) -> NoReturn:
+    """Runs a tool and ends it with its status. It is 2, with a line on the standard error, where it is refused or at a
+    fault; 2 and no line where whoever reads its output goes away, or it is told to stop."""
+    _streams(name)
+    for number in (signal.SIGTERM, signal.SIGHUP, signal.SIGINT):
+        if signal.getsignal(number) != signal.SIG_IGN:       # as nohup has it
+            signal.signal(number, _stop)
+    try:
+        status = main(sys.argv[1:])
+        sys.stdout.flush()
+    except BrokenPipeError:
+        status = 2
+    except OSError as error:
+        complain(name, f"{shown(error.filename) if error.filename else 'output'}: {reason_of(error)}")
+        status = 2
+    except (Refused, SllinkError) as reason:
+        complain(name, str(reason))
+        status = 2
+    except MemoryError:
+        complain(name, "there is not enough memory")
+        status = 2
+    except Exception as error:                               # pylint: disable=broad-except
+        # a fault of the tool itself; its status mustn't be 1, which may be an answer
+        complain(name, f"{type(error).__name__}: {error}")
+        status = 2
+    _end(status)
+
+
+def _streams(name: str) -> None:
+    """Streams that are closed: without a standard output there is nothing to do, the others are /dev/null."""
+    for number in (0, 2):
+        try:
+            os.fstat(number)
+        except OSError:
+            # the lowest number that is free is the one that is wanted, but for 2 where 1 is closed too
+            null = os.open(os.devnull, os.O_RDWR)
+            if null != number:
+                os.dup2(null, number)
+                os.close(null)
+    if sys.stdin is None:
+        sys.stdin = open(0, closefd=False)                   # pylint: disable=consider-using-with
+    if sys.stderr is None:
+        sys.stderr = open(2, "w", closefd=False)             # pylint: disable=consider-using-with
+    if sys.stdout is None:
+        complain(name, f"output: {os.strerror(errno.EBADF)}")
+        sys.exit(2)
+
+
+def _stop(*_: Any) -> NoReturn:
+    raise SystemExit(2)
+
+
+def _end(status: int) -> NoReturn:
+    # what can't be written any more isn't tried again at the end
+    try:
+        sys.stdout.flush()
+    except OSError:
+        os.dup2(os.open(os.devnull, os.O_WRONLY), 1)
+    sys.exit(status)

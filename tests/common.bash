@@ -1,0 +1,158 @@
+# shellcheck shell=bash disable=SC2034
+# What the tests of the tools share; each sources it first, with the words that it was given. It makes a folder that looks
+# like the top of the repository and goes there, and has the recordings and options that most of them want.
+#
+#     . "$(dirname "$(realpath "$0")")/common.bash" "$@"
+set -u
+root=$(dirname "$(dirname "$(realpath "$0")")")
+name=tests/$(basename "$0")
+program=$(realpath -m "${1:-$root/crates/sllink/out/sllink}")
+if [ ! -x "$program" ] || [ -d "$program" ]; then
+  echo "$name: $program: there is no such program" >&2
+  exit 2
+fi
+room=$(mktemp -d)
+trap 'rm -rf "$room"' EXIT
+# Temporary files of what is tried have a folder of their own.
+mkdir "$room/top" "$room/tmp" "$room/bin" "$room/log"
+ln -s "$root/examples" "$root/docs" "$root/tools" "$root/python" "$room/top"
+ln -s "$program" "$room/bin/sllink"
+for tool in "$root"/tools/*; do ln -s "$tool" "$room/bin"; done
+export SLLINK=$program TMPDIR=$room/tmp PATH=$room/bin:$PATH PYTHONDONTWRITEBYTECODE=1 PYTHONPATH=$root/python
+cd "$room/top" || exit 1
+log=$room/log
+runs=0
+failed=0
+
+complain() {
+  failed=$((failed + 1))
+  echo "FAILED: $*"
+}
+
+# expect WHAT WANTED FOUND
+expect() {
+  if [ "$2" != "$3" ]; then
+    complain "$1; < is wanted, > is found"
+    diff <(echo "$2") <(echo "$3") | sed -n '/^[<>]/p'
+  fi
+}
+
+# run COMMAND..: its output, its errors and its status. Nothing may be left behind.
+run() {
+  runs=$((runs + 1))
+  "$@" > "$log/output" 2> "$log/errors"
+  status=$?
+  [ -z "$(ls -A "$TMPDIR")" ] || complain "$*: left behind: $(ls -A "$TMPDIR")"
+  [ -z "$(find "$root/tools" "$root/python" -name __pycache__)" ] || complain "$*: left __pycache__ behind"
+}
+
+# gives STATUS OUTPUT COMMAND..: this status, this output, and nothing on the standard error
+gives() {
+  local wanted=$1 output=$2
+  shift 2
+  run "$@"
+  expect "$*: status" "$wanted" "$status"
+  expect "$*: output" "$output" "$(cat "$log/output")"
+  expect "$*: errors" "" "$(cat "$log/errors")"
+}
+
+# ends STATUS LAST COMMAND..: this status, and this as the last line of the output
+ends() {
+  local wanted=$1 last=$2
+  shift 2
+  run "$@"
+  expect "$*" "$wanted $last" "$status $(tail -n 1 "$log/output")"
+}
+
+# refuses LINE COMMAND..: status 2, and this one line on the standard error, in which a star stands for anything
+refuses() {
+  local line=$1
+  shift
+  run "$@"
+  expect "$*: status" 2 "$status"
+  expect "$*: lines on the standard error" 1 "$(wc -l < "$log/errors")"
+  # shellcheck disable=SC2053
+  [[ $(cat "$log/errors") == $line ]] || complain "$*: it said '$(cat "$log/errors")' and not '$line'"
+}
+
+# refuses_options COMMAND..: a tool, with all its words but options: what it makes of wrong options, of a program that isn't
+# there, of a standard output that is full, and its help. The first recording is also on the standard input, as a path.
+refuses_options() {
+  local words=("$@") tool=("$1")
+  [ "$1" != python3 ] || tool=("${@:1:3}")
+  local called=${tool[*]}
+  refuses "$called: sllink: *--scid*" "${words[@]}" < /dev/null
+  refuses "$called: sllink: *--spare*" "${words[@]}" --scid 1 --spare < /dev/null
+  refuses "$called: sllink: *--scid*" "${words[@]}" --scid 1 --scid 1 < /dev/null
+  refuses "$called: sllink: *65536*" "${words[@]}" --scid 65536 < /dev/null
+  refuses "$called: sllink: managed: tm length" "${words[@]}" --scid 1 --tm-length 31 < /dev/null
+  refuses "$called: *sllink: too long" "${words[@]}" --scid 1 --limit 100 < <(echo $first)
+  SLLINK=$room/none refuses "$called: $room/none: *" "${words[@]}" --scid 1 < /dev/null
+  SLLINK=$room refuses "$called: $room: *" "${words[@]}" --scid 1 < /dev/null
+  refuses "$called: *$called tm|tc *" "${tool[@]}" < /dev/null
+  refuses "$called: *$called tm|tc *" "${tool[@]}" tx $first $first --scid 1 < /dev/null
+  run "${words[@]}" --help < /dev/null
+  expect "$called --help" "0 1" "$status $(grep -c "^ *$called tm|tc " "$log/output")"
+  runs=$((runs + 1))
+  "${words[@]}" "${tm[@]}" < <(echo $first) > /dev/full 2> "$log/errors"
+  expect "$called, full device" "2 1" "$? $(wc -l < "$log/errors")"
+}
+
+# stops COMMAND..: a tool, with all its words but options, is told to stop while sllink runs: it ends with status 2 and
+# leaves nothing behind
+stops() {
+  runs=$((runs + 1))
+  printf '#!/bin/sh\n: > started\nsleep 1\n' > slow
+  chmod +x slow
+  rm -f started
+  SLLINK=./slow "$@" "${tm[@]}" < <(echo $first) > /dev/null 2>&1 &
+  timeout 60 sh -c 'until [ -e started ]; do sleep 0.05; done'
+  kill $!
+  wait $!
+  expect "$1, stopped" "2 " "$? $(ls -A "$TMPDIR")"
+}
+
+# shown PAGE: the commands of the page that stand after a `$`, all in one shell, and what stands below each
+shown() {
+  awk -v script="$log/script" -v wanted="$log/wanted" '
+    /^    \$ / {
+      n++; on = 1; said = 0
+      print "mark " n > script; print substr($0, 7) > script; print "@" n > wanted
+      next
+    }
+    on && !said && /^    > / { print substr($0, 7) > script; next }
+    on && /^    / { said = 1; print substr($0, 5) > wanted; next }
+    { on = 0 }
+    END { print n + 0 }' "$1" > "$log/number"
+  runs=$((runs + $(cat "$log/number")))
+  # A mark leaves the status of the command before it as it is.
+  # shellcheck disable=SC2016
+  (echo 'mark() { local status=$?; echo "@$1"; return $status; }'; cat "$log/script") > "$log/marked"
+  bash "$log/marked" > "$log/found" 2>&1
+  expect "$1: what it shows" "$(cat "$log/wanted")" "$(cat "$log/found")"
+}
+
+# has PROGRAM: is it there?
+has() {
+  command -v "$1" > /dev/null || { echo "not tried: $1 isn't there"; return 1; }
+}
+
+# frame COUNT LETTER: a TM frame of 32 octets, with a packet of 26
+frame() {
+  printf '\0\20\0%b\30\0\0\1\300\0\0\23' "\\0$1"
+  printf '%020d' 0 | tr 0 "$2"
+}
+
+first=examples/first-station.tm second=examples/second-station.tm third=examples/third-station.tm
+uplink=examples/uplink.tc
+tm=(--scid 1 --tm-length 32 --tm-fecf)
+short=(--scid 1 --tm-length 32)
+tc=(--scid 1 --tc-length 16)
+totals="frames 11 skipped 0 packets 6 idle 2 anomalies 0"
+
+# The end of each.
+finish() {
+  echo "$runs runs, $failed failed"
+  [ "$failed" = 0 ]
+  exit
+}

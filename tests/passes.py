@@ -1,0 +1,155 @@
+"""Writes a recording of a pass to the standard output: the same octets for the same words.
+
+    python3 tests/passes.py tm [--frames N] [--channels N] [WORD..] > PASS.tm
+    python3 tests/passes.py tc [--frames N] [--channels N] [WORD..] > PASS.tc
+
+TM frames have 1115 octets and are to be read with --scid 679 --tm-fecf, TC frames with --scid 679 --tc-fecf. Packets of
+60 to 180 octets of several APIDs come on each channel, most on channel 0, and idle frames on the last one. Each fourth
+TM frame has a CLCW. An uplink has lockouts, frames that come twice, and series of segments.
+
+    --seed N        what the pass is (1)
+    --lose N        of 1000 frames so many are lost (0), in runs of --run frames (1), by the seed --station (1)
+    --errors N      of 1000 frames so many have a bit error (0), by the same seed
+    --from N        the frames before this one are lost (0)
+    --octets N      packets have about so many octets (120)
+
+Another station that saw the same pass has the same words but for --station, --lose, --run, --errors and --from.
+"""
+
+import argparse
+import random
+import sys
+from binascii import crc_hqx
+
+SCID, LENGTH = 679, 1115
+
+
+def packet(rng, apid, count, octets, kind=0):
+    """A packet of random octets."""
+    data = rng.getrandbits(8 * octets).to_bytes(octets, "big")
+    return ((kind << 12 | apid).to_bytes(2, "big") + (3 << 14 | count % 16384).to_bytes(2, "big")
+            + (octets - 1).to_bytes(2, "big") + data)
+
+
+def with_fecf(frame):
+    """A frame and its frame error control field."""
+    return frame + crc_hqx(frame, 0xFFFF).to_bytes(2, "big")
+
+
+class Channel:
+    """A virtual channel of the downlink: the packets that wait, and its counts."""
+
+    def __init__(self, rng, vc, about):
+        self.rng, self.vc, self.about = rng, vc, about
+        self.octets, self.starts, self.count = b"", [], 0
+        self.counts = {100 * (vc + 1) + n: 0 for n in range(3)}
+
+    def frame(self, mc, word):
+        """The next frame."""
+        room = LENGTH - 8 - len(word)
+        while len(self.octets) < room:
+            apid = self.rng.choice(list(self.counts))
+            self.starts.append(len(self.octets))
+            size = self.rng.randint(self.about // 2, self.about * 3 // 2)
+            self.octets += packet(self.rng, apid, self.counts[apid], max(size - 6, 1))
+            self.counts[apid] += 1
+        first = next((start for start in self.starts if start < room), 2047)
+        frame = self.header(mc, 0x1800 | first, word) + self.octets[:room] + word
+        self.octets, self.starts = self.octets[room:], [start - room for start in self.starts if start >= room]
+        return with_fecf(frame)
+
+    def idle(self, mc, word):
+        """The next frame, with only idle data."""
+        return with_fecf(self.header(mc, 0x1FFE, word) + bytes([0x55] * (LENGTH - 8 - len(word))) + word)
+
+    def header(self, mc, flags, word):
+        """The primary header."""
+        first = SCID << 4 | self.vc << 1 | (len(word) > 0)
+        self.count += 1
+        return first.to_bytes(2, "big") + bytes([mc % 256, (self.count - 1) % 256]) + flags.to_bytes(2, "big")
+
+
+def downlink(words):
+    """The frames of a pass."""
+    rng = random.Random(words.seed)
+    channels = [Channel(rng, vc, words.octets) for vc in range(words.channels)]
+    weights = [8] + [1 + vc % 2 for vc in range(1, words.channels)]
+    accepted = 0
+    for mc in range(words.frames):
+        channel = rng.choices(channels, weights)[0]
+        accepted += rng.random() < 0.02
+        word = bytes([1, 0, 0x20 if 300 <= mc % 4000 < 420 else 0, accepted % 256]) if mc % 4 == 0 else b""
+        yield channel.idle(mc, word) if channel.vc == words.channels - 1 > 0 else channel.frame(mc, word)
+
+
+def tc_frame(vc, ns, data, bypass=False, command=False):
+    """A TC frame."""
+    first = bypass << 13 | command << 12 | SCID
+    size = 5 + len(data) + 2
+    return with_fecf(first.to_bytes(2, "big") + (vc << 10 | size - 1).to_bytes(2, "big") + bytes([ns % 256]) + data)
+
+
+def uplink(words):
+    """The frames of an uplink."""
+    rng = random.Random(words.seed)
+    sent = [0] * words.channels
+    counts = [0] * words.channels
+    number = 0
+    while number < words.frames:
+        vc = rng.randrange(words.channels)
+        what = rng.random()
+        frames = []
+        octets = packet(rng, 10 + vc, counts[vc], rng.randint(10, 200), 1)
+        counts[vc] += 1
+        if what < 0.04:                                   # outside, some that are refused, and the way out
+            frames = [tc_frame(vc, sent[vc] + 100 + n, b"\xc0" + octets) for n in range(rng.randint(1, 12))]
+            frames += [tc_frame(vc, 0, data, True, True) for data in (b"\0", bytes([0x82, 0, sent[vc] % 256]))]
+        elif what < 0.1:
+            frames = [tc_frame(vc, 0, b"\xc1" + octets, True)]
+        elif what < 0.2:                                  # in three segments
+            third = len(octets) // 3
+            parts = b"\x42" + octets[:third], b"\x02" + octets[third:2 * third], b"\x82" + octets[2 * third:]
+            frames = [tc_frame(vc, sent[vc] + n, part) for n, part in enumerate(parts)]
+            sent[vc] += 3
+        elif what < 0.25 and sent[vc]:                    # one that comes again, and one that comes early
+            frames = [tc_frame(vc, sent[vc] - 1, b"\xc0" + octets), tc_frame(vc, sent[vc] + 2, b"\xc0" + octets)]
+        else:
+            frames = [tc_frame(vc, sent[vc], b"\xc0" + octets)]
+            sent[vc] += 1
+        number += len(frames)
+        yield from frames
+
+
+def received(frames, words):
+    """The frames that the station has."""
+    rng = random.Random(f"{words.station} {words.seed}")
+    lost = 0
+    for number, frame in enumerate(frames):
+        if rng.random() * 1000 < words.lose / words.run:
+            lost = words.run
+        error = rng.random() * 1000 < words.errors
+        if number < words.start or lost:
+            lost -= lost > 0
+            continue
+        if error:
+            at = rng.randrange(len(frame))
+            frame = frame[:at] + bytes([frame[at] ^ 1 << rng.randrange(8)]) + frame[at + 1:]
+        yield frame
+
+
+def main():
+    """Writes the pass."""
+    parser = argparse.ArgumentParser(description="Writes a recording of a pass.")
+    parser.add_argument("kind", choices=("tm", "tc"))
+    for name, value in ("frames", 150), ("channels", 3), ("seed", 1), ("run", 1), ("station", 1), ("octets", 120):
+        parser.add_argument(f"--{name}", type=int, default=value)
+    parser.add_argument("--from", dest="start", type=int, default=0)
+    for name in "lose", "errors":
+        parser.add_argument(f"--{name}", type=float, default=0)
+    words = parser.parse_args()
+    for frame in received(downlink(words) if words.kind == "tm" else uplink(words), words):
+        sys.stdout.buffer.write(frame)
+
+
+if __name__ == "__main__":
+    main()

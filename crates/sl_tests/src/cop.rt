@@ -4,7 +4,7 @@ ghost use Rattle.std.specs.Prelude.{◌≤◌};
 
 mod starts;
 
-use crate::support::cop::{clcw, farm, step, vr, window};
+use crate::support::cop::{clcw, farm, restored, step, stored, vr, width, window};
 use sl_cop::{Farm, FarmEvent, Verdict};
 use std::process::Abort;
 use std::test::Fail;
@@ -107,5 +107,27 @@ fn words_of_other_channels(rt: HostRuntime) -> Result<(), Fail> {
     ];
     answers(&rt, &mut farm, 5, &rows);
     assert_eq!(rt; clcw(&farm, 63), [1, 0xFC, 0, 3]);
+    Ok(())
+}
+
+#[test]
+fn a_state_is_stored_and_restored(rt: HostRuntime) -> Result<(), Fail> {
+    let window = window(10).ok_or("no window")?;
+    let mut farm = farm(window, 7);
+    assert_eq!(rt; width(&farm), 10);
+    for (event, state) in [
+        (FarmEvent::Ad(7), (8, false, false, 0)),
+        (FarmEvent::Bd, (8, false, false, 1)),
+        (FarmEvent::Ad(9), (8, false, true, 1)),
+        (FarmEvent::Ad(100), (8, true, true, 1)),
+        (FarmEvent::Bd, (8, true, true, 2)),
+        (FarmEvent::SetVr(3), (8, true, true, 3)),
+        (FarmEvent::Unlock, (8, false, false, 0)),
+    ] {
+        step(&mut farm, event);
+        assert_eq!(rt; stored(&farm), state, "at {event:?}");
+        assert!(rt; restored(&farm, state) == Some(farm), "at {event:?}");
+    }
+    assert!(rt; restored(&farm, (8, false, false, 4)).is_none());
     Ok(())
 }

@@ -5,7 +5,8 @@ ghost use Rattle.std.specs.Prelude.{◌≤◌};
 
 use crate::support::recordings::{LEAST, TELEMETRY};
 use sl_packet::{
-    FlowFault, Need, Packets, SinkFault, add_part, first_packet, give_back, is_idle, need, push_idle,
+    FlowFault, Need, Packets, SinkFault, add_part, first_packet, give_back, is_idle, need,
+    push_idle,
 };
 use std::alloc::{AllocError, Global};
 use std::test::Fail;

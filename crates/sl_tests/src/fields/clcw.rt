@@ -1,4 +1,6 @@
 //! CLCWs.
+ghost use Rattle.std.specs.Prelude.{◌≤◌};
+
 use sl_fields::Clcw;
 use std::test::Fail;
 
@@ -115,4 +117,17 @@ fn no_clcw_of_a_field_beyond_its_bits(rt: HostRuntime) {
         let fields = ((word, version, status, cop), (vc, spare), flags, 0);
         assert!(rt; new(fields).is_none(), "at {fields:?}");
     }
+}
+
+fn of_farm(vc: u8, lockout: bool, retransmit: bool, farm_b: u8, report: u8) -> [u8; 4]
+    requires vc { vc ≤ 63 }
+    requires farm_b { farm_b ≤ 3 }
+{
+    Clcw::of_farm(vc, lockout, retransmit, farm_b, report).write()
+}
+
+#[test]
+fn clcws_of_states_of_farm_1(rt: HostRuntime) {
+    assert_eq!(rt; of_farm(0, true, true, 0, 5), [0x01, 0x00, 0x28, 0x05]);
+    assert_eq!(rt; of_farm(63, false, false, 3, 255), [0x01, 0xFC, 0x06, 0xFF]);
 }

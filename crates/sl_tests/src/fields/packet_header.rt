@@ -1,4 +1,6 @@
 //! Packet headers.
+ghost use Rattle.std.specs.Prelude.{◌≤◌};
+
 use sl_fields::PacketHeader;
 
 // Version, type, secondary header flag and APID; sequence flags and count; and data length.
@@ -79,4 +81,20 @@ fn no_packet_header_of_a_field_beyond_its_bits(rt: HostRuntime) {
         let fields = ((version, kind, false, apid), (flags, count), 0);
         assert!(rt; new(fields).is_none(), "at {fields:?}");
     }
+}
+
+fn telemetry(apid: u16, count: u16, length: u16) -> [u8; 6]
+    requires apid { apid ≤ 2047 }
+    requires count { count ≤ 16383 }
+{
+    PacketHeader::of_telemetry(apid, count, length).write()
+}
+
+#[test]
+fn headers_of_telemetry(rt: HostRuntime) {
+    assert_eq!(rt; telemetry(1, 0, 3), [0x00, 0x01, 0xC0, 0x00, 0x00, 0x03]);
+    assert_eq!(rt;
+        telemetry(2047, 16383, 65535),
+        [0x07, 0xFF, 0xFF, 0xFF, 0xFF, 0xFF]
+    );
 }

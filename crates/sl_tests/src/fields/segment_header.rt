@@ -1,4 +1,6 @@
 //! Segment headers.
+ghost use Rattle.std.specs.Prelude.{◌≤◌};
+
 use sl_fields::SegmentHeader;
 
 fn read(octet: u8) -> SegmentHeader {
@@ -51,5 +53,23 @@ fn each_octet_is_a_segment_header(rt: HostRuntime) {
 fn no_segment_header_of_a_field_beyond_its_bits(rt: HostRuntime) {
     for fields in [(4, 0), (0, 64), (255, 255)] {
         assert!(rt; new(fields).is_none(), "at {fields:?}");
+    }
+}
+
+fn segment(first: bool, last: bool, map: u8) -> [u8; 1]
+    requires { map ≤ 63 }
+{
+    SegmentHeader::of_segment(first, last, map).write()
+}
+
+#[test]
+fn headers_of_segments_by_their_place(rt: HostRuntime) {
+    for (first, last, octet) in [
+        (true, true, 0xC2),
+        (true, false, 0x42),
+        (false, false, 0x02),
+        (false, true, 0x82),
+    ] {
+        assert_eq!(rt; segment(first, last, 2), [octet]);
     }
 }

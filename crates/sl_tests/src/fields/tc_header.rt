@@ -1,4 +1,6 @@
 //! TC headers.
+ghost use Rattle.std.specs.Prelude.{◌≤◌};
+
 use sl_fields::TcHeader;
 
 // Version, bypass and control command flag, and spare bits; spacecraft and virtual channel; stated length and N(S).
@@ -87,4 +89,21 @@ fn no_tc_header_of_a_field_beyond_its_bits(rt: HostRuntime) {
         );
         assert!(rt; new(fields).is_none(), "at {fields:?}");
     }
+}
+
+fn ad_frame(spacecraft: u16, vc: u8, length: u16, ns: u8) -> [u8; 5]
+    requires spacecraft { spacecraft ≤ 1023 }
+    requires vc { vc ≤ 63 }
+    requires length { length ≤ 1023 }
+{
+    TcHeader::of_ad(spacecraft, vc, length, ns).write()
+}
+
+#[test]
+fn headers_of_frames_of_type_ad(rt: HostRuntime) {
+    assert_eq!(rt; ad_frame(1, 5, 15, 57), [0x00, 0x01, 0x14, 0x0F, 0x39]);
+    assert_eq!(rt;
+        ad_frame(1023, 63, 1023, 255),
+        [0x03, 0xFF, 0xFF, 0xFF, 0xFF]
+    );
 }

@@ -1,4 +1,6 @@
 //! TM headers.
+ghost use Rattle.std.specs.Prelude.{◌≤◌};
+
 use sl_fields::TmHeader;
 use std::test::Fail;
 
@@ -96,4 +98,20 @@ fn no_tm_header_of_a_field_beyond_its_bits(rt: HostRuntime) {
         );
         assert!(rt; new(fields).is_none(), "at {fields:?}");
     }
+}
+
+fn packets_frame(spacecraft: u16, vc: u8, mc: u8, vcc: u8, first: u16) -> [u8; 6]
+    requires spacecraft { spacecraft ≤ 1023 }
+    requires vc { vc ≤ 7 }
+    requires first { first ≤ 2047 }
+{
+    TmHeader::of_packets(spacecraft, vc, mc, vcc, first).write()
+}
+
+#[test]
+fn headers_of_frames_of_packets(rt: HostRuntime) {
+    let octets = packets_frame(1, 3, 5, 6, 7);
+    assert_eq!(rt; octets, [0x00, 0x16, 0x05, 0x06, 0x18, 0x07]);
+    let octets = packets_frame(1023, 7, 255, 254, 2047);
+    assert_eq!(rt; octets, [0x3F, 0xFE, 0xFF, 0xFE, 0x1F, 0xFF]);
 }

@@ -13,6 +13,22 @@ pub fn farm(window: Window, vr: u8) -> Farm {
     Farm::new(window, vr)
 }
 
+/// Its state as plain values: V(R), the Lockout flag, the Retransmit flag and the FARM-B counter.
+pub fn stored(farm: &Farm) -> (u8, bool, bool, u8) {
+    (farm.vr(), farm.lockout(), farm.retransmit(), farm.farm_b())
+}
+
+/// FARM-1 with the window of another one, in a state that was stored.
+pub fn restored(farm: &Farm, stored: (u8, bool, bool, u8)) -> Option<Farm> {
+    let (vr, lockout, retransmit, farm_b) = stored;
+    Farm::restore(farm.window(), vr, lockout, retransmit, farm_b)
+}
+
+/// The width of its window.
+pub fn width(farm: &Farm) -> u8 {
+    farm.window().width()
+}
+
 /// The verdict on an event.
 pub fn step(farm: &mut Farm, event: FarmEvent) -> Verdict {
     farm.step(event)

@@ -1,4 +1,4 @@
--- The register in which the frame error control field is worked out.
+-- The register in which the frame error control field is worked out. Contracts of private functions alone cite it.
 use Rattle.std.specs.Prelude.{◌≡◌, ℕ, ◌+◌, ◌*◌, List, ◌++◌}
 use Rattle.sl_fields.specs.Fecf.{fecf_of}
 use Rattle.sl_fields.specs.declared.error_control.Register.{Register}

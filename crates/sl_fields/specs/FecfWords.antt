@@ -1,4 +1,5 @@
--- What an octet of a message adds to the error control field, by the same division of bit lists.
+-- What an octet of a message adds to the error control field, by the same division of bit lists. Contracts of private
+-- functions alone cite `words_sum`.
 use Rattle.std.specs.Prelude.{◌≡◌, ℕ, ◌+◌, ◌*◌, false, List, [], ◌∷◌, ◌++◌, length, map, replicate, bit_xor}
 use Rattle.std.specs.List.{range_with_len}
 use Rattle.sl_fields.specs.Field.{number_of}

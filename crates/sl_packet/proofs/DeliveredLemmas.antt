@@ -1,6 +1,6 @@
 -- The lists of a store after packets were added.
-use Rattle.std.proofs.Common.{◌≡◌, ◌≢◌, ℕ, ◌<◌, List, [], ◌∷◌, ◌++◌, length, get_or}
-use Rattle.std.proofs.lemmas.List.{length-set, length-replicate, get_or-set_same, get_or-set_other}
+use Rattle.std.proofs.Common.{◌≡◌, ℕ, ◌<◌, List, [], ◌∷◌, ◌++◌, length, get_or}
+use Rattle.std.proofs.lemmas.List.{length-replicate, get_or-set_same}
 use Rattle.sl_packet.specs.Delivered.{channel_count, no_lists, with_packet}
 use Rattle.sl_packet.proofs.Filling.{get_or_replicate}
 
@@ -13,12 +13,6 @@ pub list_at-no_lists : (channel : ℕ) → get_or no_lists channel [] ≡ []
 unfolding no_lists
 list_at-no_lists channel = get_or_replicate channel_count channel []
 
--- a packet is added to the list of its channel, and to no other
-pub length-with_packet : (lists : List (List (List ℕ))) (channel : ℕ) (packet : List ℕ) → length (with_packet lists channel packet) ≡ length lists
-length-with_packet lists channel packet = length-set lists channel (get_or lists channel [] ++ packet ∷ [])
-
+-- a packet is added to the list of its channel
 pub list_at-with_packet : (lists : List (List (List ℕ))) (channel : ℕ) (packet : List ℕ) → channel < length lists → get_or (with_packet lists channel packet) channel [] ≡ get_or lists channel [] ++ packet ∷ []
 list_at-with_packet lists channel packet inside = get_or-set_same lists channel (get_or lists channel [] ++ packet ∷ []) [] inside
-
-pub list_at-other : (lists : List (List (List ℕ))) (channel other : ℕ) (packet : List ℕ) → other ≢ channel → get_or (with_packet lists channel packet) other [] ≡ get_or lists other []
-list_at-other lists channel other packet apart = get_or-set_other lists channel other (get_or lists channel [] ++ packet ∷ []) [] apart

@@ -12,8 +12,9 @@ use Rattle.sl_tcflow.specs.Receiving.{AreIncomplete, channel_at, map_by, segment
 use Rattle.sl_tcflow.specs.Reception.{segments_of}
 use Rattle.sl_tcflow.specs.ReceptionParameters.{ReceptionParameters}
 use Rattle.sl_tcflow.specs.Series.{flags_of, header_at, segment_data}
-use Rattle.sl_tcflow.proofs.IncompleteLemmas.{both_true, incomplete_is_told, what_is_told_is_incomplete}
+use Rattle.sl_tcflow.proofs.IncompleteLemmas.{incomplete_is_told, what_is_told_is_incomplete}
 use Rattle.sl_tcflow.proofs.UnitLemmas.{map_fits}
+use Rattle.std.proofs.lemmas.Bool.{and_parts}
 
 -- ---- the accepted unit of the next frame
 
@@ -73,7 +74,7 @@ stray_is_told list next x = ap (λ b. b && is_none (incomplete_of list)) (contin
 
 pub what_is_told_is_stray : WhatIsToldIsStray
 what_is_told_is_stray list next e =
-    let (test, none) = both_true (continues next) (is_none (incomplete_of list)) e in
+    let (test, none) = and_parts (continues next) (is_none (incomplete_of list)) e in
     record {
       goes_on = one_of (flags_of next) 0 2 test;
       none = λ octets x. let both : false ≡ true = sym (ap is_none (incomplete_is_told list octets x)) ∙ none in absurd (cc);
@@ -122,7 +123,7 @@ some_passes list (Some octets) more e over = (octets, what_is_told_is_incomplete
 
 pub what_is_told_is_long : WhatIsToldIsLong
 what_is_told_is_long list next e =
-    let (test, over) = both_true (continues next) (passes (octets_held list) (length (segment_data next))) e in
+    let (test, over) = and_parts (continues next) (passes (octets_held list) (length (segment_data next))) e in
     let (octets, x, too_many) = some_passes list (incomplete_of list) (length (segment_data next)) refl over in
     record {
       goes_on = one_of (flags_of next) 0 2 test;

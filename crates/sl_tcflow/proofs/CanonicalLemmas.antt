@@ -17,9 +17,10 @@ use Rattle.sl_tcflow.specs.ReceptionParameters.{ReceptionParameters, is_plain, i
 use Rattle.sl_tcflow.specs.Recording.{map_channels, packets_in_channel, recorded_views}
 use Rattle.sl_tcflow.specs.Series.{segment_in, segments_on}
 use Rattle.sl_tcflow.specs.TcNormalForm.{tc_frames_form, tc_normal_form_of, units_of_maps}
-use Rattle.sl_tcflow.proofs.EachLemmas.{each-at, each-dropped, each-taken, each-weaker, kept_all}
+use Rattle.sl_fields.proofs.ListLemmas.{each-at, each-drop, each-take, each-weaker, filter_all}
 use Rattle.sl_tcflow.proofs.FormLemmas.{all_accepted, channel_back, form_cut, form_within, lists_on, some_room}
 use Rattle.sl_tcflow.proofs.PlainLemmas.{back_on, list_on}
+use Rattle.sl_packet.proofs.WithoutIdleLemmas.{due_packets}
 
 -- ---- frames end to end
 
@@ -36,19 +37,16 @@ no_frame_is_long format spacecraft starts plain lists is known are fits = form_w
 
 -- ---- the packets of a channel
 
--- packets that may be delivered are packets, and none of them is left out
-are_packets : (packets : List (List ℕ)) → AllByRecursion IsDeliverable packets → AllByRecursion IsPacket packets
-are_packets packets each = each-weaker IsDeliverable IsPacket (λ packet is. is.0) packets each
-
+-- none of the packets that may be delivered is left out
 none_idle : (packets : List (List ℕ)) → AllByRecursion IsDeliverable packets → without_idle packets ≡ packets
 none_idle packets each =
-    kept_all (λ packet. not (is_idle_packet packet)) packets
+    filter_all (λ packet. not (is_idle_packet packet)) packets
     (each-weaker IsDeliverable (λ packet. not (is_idle_packet packet) ≡ true) (λ packet is. ap not is.1) packets each)
 
 some_lists : (n m : ℕ) (lists : List (List (List ℕ))) → AllByRecursion (AllByRecursion IsDeliverable) lists → AllByRecursion (AllByRecursion IsPacket) (take n (drop m lists))
 some_lists n m lists each =
-    each-taken (AllByRecursion IsPacket) n (drop m lists)
-    (each-dropped (AllByRecursion IsPacket) m lists (each-weaker (AllByRecursion IsDeliverable) (AllByRecursion IsPacket) are_packets lists each))
+    each-take (AllByRecursion IsPacket) n (drop m lists)
+    (each-drop (AllByRecursion IsPacket) m lists (each-weaker (AllByRecursion IsDeliverable) (AllByRecursion IsPacket) due_packets lists each))
 
 module _ (format : TcFormat) (spacecraft : ℕ) (r : ReceptionParameters) (lists : List (List (List ℕ))) (is : IsFormat format) (known : spacecraft ≤ 1023) (octets : AreStarts r.starts) (are : AreDeliverable lists) (fits : FitsTc format r.plain lists) where
   abbrev form : List ℕ

@@ -6,7 +6,7 @@ use Rattle.std.proofs.Math.Nat.{suc-mul, le-div_iff_mul-le}
 use Rattle.sl_fields.specs.SegmentHeader.{SegmentFields}
 use Rattle.sl_tcflow.specs.TcNormalForm.{segment_count, piece_at, segment_of, AreSegments, last, full, EachIsDivided}
 use Rattle.sl_tcflow.specs.Series.{header_at, segment_data}
-use Rattle.sl_tcflow.proofs.EachLemmas.{each-map_range}
+use Rattle.sl_fields.proofs.ListLemmas.{each-every, each-map}
 use Rattle.sl_tcflow.proofs.PartLemmas.{parts_joined, covers, some_parts, units_are_series}
 use Rattle.sl_tcflow.proofs.SegmentLemmas.{part_at, part_is, header_of_unit, octets_of_unit}
 
@@ -47,6 +47,7 @@ each_is_divided room mid packet some small long =
       end_to_end = ap concat octets ∙ parts_joined room packet count ∙ take_all (count * room) packet (covers room packet some);
       series = units_are_series room mid packet some small long;
       on_map =
-          each-map_range (λ segment. (header_at segment).map ≡ mid) (segment_of room mid packet)
-          (λ n. ap (λ (h : SegmentFields). h.map) (header_of_unit (part_at room mid packet n) (part_is room mid small packet n).header)) 0 count;
+          each-map (λ segment. (header_at segment).map ≡ mid) (segment_of room mid packet) (range_with_len 0 count)
+          (each-every (λ n. (header_at (segment_of room mid packet n)).map ≡ mid)
+          (λ n. ap (λ (h : SegmentFields). h.map) (header_of_unit (part_at room mid packet n) (part_is room mid small packet n).header)) (range_with_len 0 count));
     }

@@ -1,5 +1,5 @@
 -- The FARMs of the virtual channels, where one of them takes the next frame.
-use Rattle.std.proofs.Common.{◌≡◌, ℕ, ◌<◌, ◌+◌, ◌==◌, Bool, List, [], ◌∷◌, ◌++◌, length, set, Option, None, false, inl, inr, refl, sym, ◌∙◌, ap, ap₂, subst, arith, append-nil}
+use Rattle.std.proofs.Common.{◌≡◌, ℕ, ◌<◌, ◌==◌, Bool, List, [], ◌∷◌, ◌++◌, length, set, Option, None, false, inl, inr, refl, sym, ◌∙◌, ap, ap₂, subst, arith, append-nil}
 use Rattle.std.specs.List.{slice_index_or}
 use Rattle.std.proofs.lemmas.Bool.Decides.{eqb_tells}
 use Rattle.std.proofs.lemmas.List.{get_or_default, get_or-set_same, get_or-set_other, length-set}
@@ -54,23 +54,6 @@ farm_next r views next =
 pub record AreSet (w : ℕ) (starts : List ℕ) (n : ℕ) (farms : List FarmView) : Type 0 where
   pub count : length farms ≡ 64
   pub each : (vc : ℕ) (d : FarmView) → vc < n → slice_index_or farms vc d ≡ record { window = w; state = farm_start (slice_index_or starts vc 0) }
-
-pub none_set : (w : ℕ) (starts : List ℕ) (farms : List FarmView) → length farms ≡ 64 → AreSet w starts 0 farms
-none_set w starts farms count = record { count = count; each = λ vc d below. absurd (omega (arith, below)) }
-
-pub one_more_set : (w : ℕ) (starts : List ℕ) (n : ℕ) (farms : List FarmView) (farm : FarmView) → n < 64
-    → farm ≡ record { window = w; state = farm_start (slice_index_or starts n 0) } → AreSet w starts n farms → AreSet w starts (n + 1) (set farms n farm)
-one_more_set w starts n farms farm inside is s =
-    record {
-      count = length-set farms n farm ∙ s.count;
-      each = λ vc d below.
-          elim (eqb_tells vc n) [
-            | inl (test, same) ↦
-                ap (λ k. slice_index_or (set farms n farm) k d) same ∙ get_or-set_same farms n farm d (omega (arith, s.count, inside)) ∙ is
-                ∙ sym (ap (λ k. record { window = w; state = farm_start (slice_index_or starts k 0) }) same)
-            | inr (test, other) ↦ get_or-set_other farms n vc farm d other ∙ s.each vc d (omega (arith, below, other))
-          ];
-    }
 
 pub stepped_none : (r : ReceptionParameters) (farms : List FarmView) → AreSet r.window r.starts 64 farms → HaveStepped r farms []
 stepped_none r farms s = record { count = s.count; each = λ vc below. s.each vc (farm_at_start r vc) below }

@@ -19,7 +19,8 @@ use Rattle.sl_tcflow.specs.AcceptedUnit.{views_of, channel_of, events_of, unit_o
 use Rattle.sl_tcflow.specs.Canonical.{AreDeliverable, IsFormat}
 use Rattle.sl_tcflow.specs.FitsTc.{FitsOn, FitsTc}
 use Rattle.sl_tcflow.specs.TcNormalForm.{units_of_maps, frames_of_units, channel_frames, tc_frames_form}
-use Rattle.sl_tcflow.proofs.EachLemmas.{each-at, each-both, each-flat_map_range, each-map, each-weaker, own_part}
+use Rattle.sl_fields.proofs.ListLemmas.{each-at, each-both, each-map, each-weaker}
+use Rattle.sl_tcflow.proofs.EachLemmas.{each-flat_map_range, own_part}
 use Rattle.sl_tcflow.proofs.PartLemmas.{packet_size}
 use Rattle.sl_tcflow.proofs.PlainLemmas.{first_on, others_empty}
 use Rattle.sl_tcflow.proofs.SegmentLemmas.{IsSegment, maps_parts, segments_of_maps, unit_made, units_are_packets, units_are_segments}

@@ -6,17 +6,14 @@ use Rattle.sl_tcflow.specs.Incomplete.{IsIncomplete, if_fits, are_continuing, in
 use Rattle.sl_tcflow.specs.Series.{flags_of, reassembled}
 use Rattle.sl_tcflow.proofs.FitLemmas.{fits_some, fits_are}
 use Rattle.sl_tcflow.proofs.SeriesLemmas.{IsContinuing}
+use Rattle.std.proofs.lemmas.Bool.{and_left, and_parts, and_right}
 
 -- ---- continuing segments
-
-pub both_true : (a b : Bool) → (a && b) ≡ true → (a ≡ true) × (b ≡ true)
-both_true true b e = (refl, e)
-both_true false b e = absurd (cc)
 
 pub continuing_each : (later : List (List ℕ)) → are_continuing later ≡ true → AllByRecursion IsContinuing later
 continuing_each [] e = tt
 continuing_each (segment ∷ later) e =
-    let (this, rest) = both_true (flags_of segment == 0) (are_continuing later) e in
+    let (this, rest) = and_parts (flags_of segment == 0) (are_continuing later) e in
     (eqb-true (flags_of segment) 0 this, continuing_each later rest)
 
 pub each_continuing : (later : List (List ℕ)) → AllByRecursion IsContinuing later → are_continuing later ≡ true
@@ -27,13 +24,9 @@ each_continuing (segment ∷ later) each =
 -- a first segment is none
 pub not_continuing : (earlier : List (List ℕ)) (first : List ℕ) (later : List (List ℕ)) → flags_of first ≡ 1 → are_continuing (earlier ++ first ∷ later) ≡ false
 not_continuing [] first later begins =
-    ap (λ b. b && are_continuing later) (ne_eqb (flags_of first) 0 (λ e. absurd (omega (arith, e, begins))))
+    and_left (flags_of first == 0) (are_continuing later) (ne_eqb (flags_of first) 0 (λ e. absurd (omega (arith, e, begins))))
 not_continuing (segment ∷ earlier) first later begins =
-    ap (λ b. (flags_of segment == 0) && b) (not_continuing earlier first later begins) ∙ and_false (flags_of segment == 0)
-  where
-    and_false : (a : Bool) → (a && false) ≡ false
-    and_false true = refl
-    and_false false = refl
+    and_right (flags_of segment == 0) (are_continuing (earlier ++ first ∷ later)) (not_continuing earlier first later begins)
 
 -- ---- what is told
 
@@ -61,7 +54,7 @@ told_from list earlier (segment ∷ later) octets all e =
     cases : (incomplete_of later ≡ Some octets → IsIncomplete list octets) → (b : Bool) → (flags_of segment == 1 && are_continuing later) ≡ b
         → (if b then if_fits (reassembled (segment ∷ later)) else incomplete_of later) ≡ Some octets → IsIncomplete list octets
     cases later_on true test told =
-        let (first, rest) = both_true (flags_of segment == 1) (are_continuing later) test in
+        let (first, rest) = and_parts (flags_of segment == 1) (are_continuing later) test in
         told_first list earlier segment later octets all (eqb-true (flags_of segment) 1 first) rest told
     cases later_on false test told = later_on told
 

@@ -19,7 +19,6 @@ pub mod PushedLemmas
 pub mod ReceptionFacts
 pub mod ReportLemmas
 pub mod RecordingLemmas
-pub mod RefusedLemmas
 pub mod ReorderedFacts
 pub mod ReorderedLemmas
 pub mod SegmentLemmas

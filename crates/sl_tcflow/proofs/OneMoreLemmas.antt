@@ -9,16 +9,14 @@ use Rattle.sl_tcflow.specs.Incomplete.{if_fits, are_continuing, incomplete_of}
 use Rattle.sl_tcflow.specs.NextSegment.{extended, incomplete_after}
 use Rattle.sl_tcflow.specs.Reception.{packets_in, packets_on, packets_ended}
 use Rattle.sl_tcflow.specs.Series.{flags_of, segment_data, SeriesAt, IsSeriesOf, past, completed, series_with, series_from, series_of, reassembled}
-use Rattle.sl_tcflow.proofs.EachLemmas.{each-weaker}
+use Rattle.sl_fields.proofs.ListLemmas.{each-weaker, filter_all, filter_none}
 use Rattle.sl_tcflow.proofs.FitLemmas.{reassembled-push, extended_fits}
-use Rattle.sl_tcflow.proofs.IncompleteLemmas.{both_true, continuing_each}
+use Rattle.sl_tcflow.proofs.IncompleteLemmas.{continuing_each}
 use Rattle.sl_tcflow.proofs.SeriesLemmas.{IsContinuing, series_at, completed_continuing, completed_last, completed_other, completed_all, begins_whole, begins_divided, begins_none, each_is_series}
+use Rattle.std.proofs.lemmas.Bool.{and_parts}
+use Rattle.std.proofs.Math.Bool.{and_assoc}
 
 -- ---- by the sequence flags of the next segment
-
-after_first : (held : Option (List ℕ)) (next : List ℕ) → flags_of next ≡ 1 → incomplete_after held next ≡ if_fits (segment_data next)
-after_first held next is =
-    ap (λ flags. if flags == 1 then if_fits (segment_data next) else if flags == 0 then extended held (segment_data next) else None) is
 
 after_continuing : (held : Option (List ℕ)) (next : List ℕ) → flags_of next ≡ 0 → incomplete_after held next ≡ extended held (segment_data next)
 after_continuing held next is =
@@ -32,15 +30,11 @@ after_other held other next not_0 =
 
 -- ---- what is incomplete
 
-and_assoc : (a b c : Bool) → (a && (b && c)) ≡ ((a && b) && c)
-and_assoc true b c = refl
-and_assoc false b c = refl
-
 are_continuing-push : (later : List (List ℕ)) (next : List ℕ) → are_continuing (later ++ next ∷ []) ≡ (are_continuing later && are_continuing (next ∷ []))
 are_continuing-push [] next = refl
 are_continuing-push (segment ∷ later) next =
     ap (λ b. (flags_of segment == 0) && b) (are_continuing-push later next)
-    ∙ and_assoc (flags_of segment == 0) (are_continuing later) (are_continuing (next ∷ []))
+    ∙ sym (and_assoc (flags_of segment == 0) (are_continuing later) (are_continuing (next ∷ [])))
 
 -- whether a first segment is followed by continuing ones alone, and then by a continuing one
 one_more_after : (goes_on : Bool) (together held : Option (List ℕ)) (next : List ℕ)
@@ -71,7 +65,7 @@ incomplete_next (segment ∷ later) next =
     let all = if_fits (reassembled (segment ∷ (later ++ next ∷ []))) in
     let rest = incomplete_of (later ++ next ∷ []) in
     ap (λ b. if first && b then all else rest) (are_continuing-push later next)
-    ∙ ap (λ b. if b then all else rest) (and_assoc first goes_on (are_continuing (next ∷ [])))
+    ∙ ap (λ b. if b then all else rest) (sym (and_assoc first goes_on (are_continuing (next ∷ []))))
     ∙ ap (λ o. if (first && goes_on) && are_continuing (next ∷ []) then o else rest)
     (ap if_fits (reassembled-push (segment ∷ later) next) ∙ sym (extended_fits (reassembled (segment ∷ later)) (segment_data next)))
     ∙ ap (λ o. if (first && goes_on) && are_continuing (next ∷ []) then extended together (segment_data next) else o) (incomplete_next later next)
@@ -178,8 +172,8 @@ series_next before (segment ∷ later) next =
         ++ (if (flags_of segment == 1 && are_continuing later) && flags_of next == 2 then series_at before (segment ∷ (later ++ next ∷ [])) ∷ []
         else series_ending (before + 1) later next)
     cases true test =
-        let (begun, last) = both_true (flags_of segment == 1 && are_continuing later) (flags_of next == 2) test in
-        let (first, each) = both_true (flags_of segment == 1) (are_continuing later) begun in
+        let (begun, last) = and_parts (flags_of segment == 1 && are_continuing later) (flags_of next == 2) test in
+        let (first, each) = and_parts (flags_of segment == 1) (are_continuing later) begun in
         ends_here before segment later next (eqb-true (flags_of segment) 1 first) (continuing_each later each) (eqb-true (flags_of next) 2 last)
         ∙ sym (ap (λ b. (map (series_at before) (series_with segment later) ++ series_from (before + 1) later)
         ++ (if b then series_at before (segment ∷ (later ++ next ∷ [])) ∷ [] else series_ending (before + 1) later next)) test)
@@ -190,14 +184,6 @@ series_next before (segment ∷ later) next =
         ++ (if b then series_at before (segment ∷ (later ++ next ∷ [])) ∷ [] else series_ending (before + 1) later next)) test)
 
 -- ---- where series end
-
-filter_all : {X : Type 0} (p : X → Bool) (xs : List X) → AllByRecursion (λ x. p x ≡ true) xs → filter p xs ≡ xs
-filter_all p [] each = refl
-filter_all p (x ∷ xs) each = ap (λ b. if b then x ∷ filter p xs else filter p xs) each.0 ∙ ap (λ l. x ∷ l) (filter_all p xs each.1)
-
-filter_none : {X : Type 0} (p : X → Bool) (xs : List X) → AllByRecursion (λ x. p x ≡ false) xs → filter p xs ≡ []
-filter_none p [] each = refl
-filter_none p (x ∷ xs) each = ap (λ b. if b then x ∷ filter p xs else filter p xs) each.0 ∙ filter_none p xs each.1
 
 pub series_within : (list : List (List ℕ)) (s : SeriesAt) → IsSeriesOf list s → past s ≤ length list
 series_within list s x =

@@ -13,7 +13,7 @@ use Rattle.sl_packet.proofs.PacketsLemmas.{packets_of-packet}
 use Rattle.sl_tcflow.specs.Reception.{packets_in}
 use Rattle.sl_tcflow.specs.Series.{flags_of, IsSeries, whole, divided, SeriesAt, series_from, reassembled}
 use Rattle.sl_tcflow.specs.TcNormalForm.{segment_count, piece_at, flags_at, segment_of}
-use Rattle.sl_tcflow.proofs.EachLemmas.{each-append, each-weaker}
+use Rattle.sl_fields.proofs.ListLemmas.{each-append, each-weaker}
 use Rattle.sl_tcflow.proofs.PushedLemmas.{counts_more}
 use Rattle.sl_tcflow.proofs.SegmentLemmas.{unit_made, part_at, part_is, segments_of_packet, units_of_parts, header_of_unit, octets_of_unit}
 use Rattle.sl_tcflow.proofs.SeriesLemmas.{IsContinuing, BeginsNone, series_at, begins_whole, begins_divided, completed_all, none_begin, continuing_begins_none, last_begins_none}

@@ -11,7 +11,7 @@ use Rattle.sl_tcflow.specs.FitsTc.{FitsOn}
 use Rattle.sl_tcflow.specs.Reception.{packets_on}
 use Rattle.sl_tcflow.specs.Series.{segment_in, segments_on, whole_segment}
 use Rattle.sl_tcflow.specs.TcNormalForm.{segment_count, piece_at, flags_at, units_of_maps}
-use Rattle.sl_tcflow.proofs.EachLemmas.{each-at}
+use Rattle.sl_fields.proofs.ListLemmas.{each-at}
 use Rattle.sl_tcflow.proofs.PartLemmas.{packet_size, packets_back}
 use Rattle.sl_tcflow.proofs.SegmentLemmas.{on_all, on_none, packets_parts, part_at, parts_of_map, segments_of_packet, unit_made, units_are_packets, units_are_segments}
 

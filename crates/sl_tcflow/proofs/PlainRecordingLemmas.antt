@@ -23,7 +23,7 @@ use Rattle.sl_tcflow.specs.Reception.{packets_in, packets_on, segments_of}
 use Rattle.sl_tcflow.specs.ReceptionParameters.{ReceptionParameters, is_plain, initial_vr}
 use Rattle.sl_tcflow.specs.Recording.{recorded_views, tc_lists}
 use Rattle.sl_tcflow.specs.Series.{SeriesAt, reassembled, segment_in, segments_on, series_from, whole_segment}
-use Rattle.sl_tcflow.proofs.EachLemmas.{each-append, each-filtered, each-weaker}
+use Rattle.sl_fields.proofs.ListLemmas.{each-append, each-filter, each-weaker}
 use Rattle.sl_tcflow.proofs.ReorderedLemmas.{recorded_on}
 use Rattle.sl_tcflow.proofs.SegmentLemmas.{octets_of_unit}
 use Rattle.sl_tcflow.proofs.SeriesLemmas.{begins_whole, series_at}
@@ -92,7 +92,7 @@ units_within format spacecraft r vc frames =
     let views = views_of format spacecraft frames in
     let channel = channel_of vc views in
     accepted_within (plain_room_of format) (verdicts_of r.window (farm_start (initial_vr r vc)) (events_of channel)) channel
-    (each-filtered (IsViewWithin (plain_room_of format)) (λ view. view.vc == vc) views (each_view format spacecraft frames))
+    (each-filter (IsViewWithin (plain_room_of format)) (IsViewWithin (plain_room_of format)) (λ view. view.vc == vc) (λ view passes is. is) views (each_view format spacecraft frames))
 
 -- ---- whole segments
 
@@ -169,7 +169,7 @@ recorded_lists_fit format spacecraft r recording vc vc_fits plain =
     record {
       short = subst (λ n. AreWithin (plain_room_of format) (slice_index_or (tc_lists format spacecraft r recording) n [])) same
           (subst (AreWithin (plain_room_of format)) (sym (recorded_on format spacecraft r vc 0 recording vc_fits (omega arith)))
-          (each-filtered (λ p. length p ≤ plain_room_of format) (λ packet. not (is_idle_packet packet)) (packets_on (segments_of r vc 0 views))
+          (each-filter (λ p. length p ≤ plain_room_of format) (λ p. length p ≤ plain_room_of format) (λ packet. not (is_idle_packet packet)) (λ packet passes is. is) (packets_on (segments_of r vc 0 views))
           (plain_short format spacecraft r recording (is_plain r vc) units plain (units_within format spacecraft r vc frames))));
       others = λ mid some mid_fits.
           recorded_on format spacecraft r vc mid recording vc_fits mid_fits

@@ -6,7 +6,7 @@ use Rattle.std.proofs.lemmas.List.{drop-drop, length-drop}
 use Rattle.std.proofs.lemmas.List.Folds.{concat-append}
 use Rattle.std.proofs.lemmas.List.FromFn.{map-range_with_len_more}
 use Rattle.std.proofs.Math.Nat.{suc-mul, zero-mul, div-lt_iff_lt-mul, le-div_iff_mul-le}
-use Rattle.sl_fields.specs.SegmentHeader.{SegmentFields, sequence_flags}
+use Rattle.sl_fields.specs.SegmentHeader.{sequence_flags}
 use Rattle.sl_tcframe.specs.AdFrame.{ad_frame, segment_unit}
 use Rattle.sl_tcframe.specs.TcFrame.{TcFormat}
 use Rattle.sl_tcflow.specs.TcNormalForm.{segment_count, flags_at, segment_of, units_of_packet, frames_of_units}

@@ -13,7 +13,8 @@ use Rattle.sl_tcflow.specs.Reception.{packets_in, segments_of}
 use Rattle.sl_tcflow.specs.ReceptionParameters.{ReceptionParameters}
 use Rattle.sl_tcflow.specs.Recording.{map_channels, packets_in_channel, recorded_views}
 use Rattle.sl_tcflow.specs.Series.{SeriesAt, reassembled, series_of}
-use Rattle.sl_tcflow.proofs.EachLemmas.{each-flat_map, each-map_range}
+use Rattle.sl_fields.proofs.ListLemmas.{each-every, each-flat_map, each-map}
+use Rattle.std.specs.List.{range_with_len}
 
 packets_if : (fits : Bool) (octets : List ℕ) → AllByRecursion IsPacket (if fits then packets_of octets else [])
 packets_if true octets = (each_has_packets octets).each
@@ -24,7 +25,9 @@ in_series s = packets_if (nat_le (length (reassembled s.segments)) 65542) (reass
 
 channel_due : (r : ReceptionParameters) (views : List TcView) (channel : ℕ) → AllByRecursion IsDeliverable (without_idle (packets_in_channel r views channel))
 channel_due r views channel =
-    without_idle_due (packets_in_channel r views channel) (each-flat_map IsPacket (λ (s : SeriesAt). packets_in s.segments) in_series (series_of (segments_of r (channel / 64) (channel % 64) views)))
+    let list = series_of (segments_of r (channel / 64) (channel % 64) views) in
+    without_idle_due (packets_in_channel r views channel)
+    (each-flat_map IsPacket (λ (s : SeriesAt). packets_in s.segments) list (each-every (λ (s : SeriesAt). AllByRecursion IsPacket (packets_in s.segments)) in_series list))
 
 all_channels : (f : ℕ → List (List ℕ)) → length (map f map_channels) ≡ channel_count
 unfolding map_channels
@@ -32,7 +35,7 @@ all_channels f = length-map-range_with_len f 0 channel_count
 
 each_channel : (f : ℕ → List (List ℕ)) → ((channel : ℕ) → AllByRecursion IsDeliverable (f channel)) → AllByRecursion (AllByRecursion IsDeliverable) (map f map_channels)
 unfolding map_channels
-each_channel f each = each-map_range (AllByRecursion IsDeliverable) f each 0 channel_count
+each_channel f each = each-map (AllByRecursion IsDeliverable) f (range_with_len 0 channel_count) (each-every (λ channel. AllByRecursion IsDeliverable (f channel)) each (range_with_len 0 channel_count))
 
 pub recorded_lists_are_deliverable : RecordedListsAreDeliverable
 recorded_lists_are_deliverable format spacecraft r recording =

@@ -25,7 +25,7 @@ use Rattle.sl_tcflow.specs.ReceptionParameters.{ReceptionParameters, is_plain, i
 use Rattle.sl_tcflow.specs.Recording.{map_channels, packets_in_channel, recorded_views}
 use Rattle.sl_tcflow.specs.ReorderedUnits.{AdUnitsAreAll, AreArrivals, ExpectedUnitIsAccepted, HaveNoBd, IsArrival, PacketsInOrder, ReceiverCountsUnits, RecordedPacketsInOrder, UnitsInOrder, VrCountsUnits, WindowIsNear, WindowNeverLocks, accepted_ad_count, recorded_packets, unit_at, segments_sent}
 use Rattle.sl_tcflow.specs.Series.{header_at, segment_in, segments_on}
-use Rattle.sl_tcflow.proofs.EachLemmas.{each-append}
+use Rattle.sl_fields.proofs.ListLemmas.{each-append}
 use Rattle.sl_tcflow.proofs.OneMoreLemmas.{packets_next}
 
 -- ---- lists

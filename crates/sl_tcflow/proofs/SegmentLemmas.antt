@@ -12,7 +12,7 @@ use Rattle.sl_fields.proofs.Packing.{packed_lt}
 use Rattle.sl_fields.proofs.SegmentHeaderLemmas.{segment_layout}
 use Rattle.sl_tcflow.specs.Series.{header_at, segment_data, segments_on}
 use Rattle.sl_tcflow.specs.TcNormalForm.{segment_count, piece_at, flags_at, segment_of, units_of_packet, units_of_maps}
-use Rattle.sl_tcflow.proofs.EachLemmas.{each-append, each-weaker, each-map, each-flat_map, each-map_range, kept_all, kept_none}
+use Rattle.sl_fields.proofs.ListLemmas.{each-append, each-every, each-flat_map, each-map, each-weaker, filter_all, filter_none}
 
 -- ---- a segment
 
@@ -46,7 +46,7 @@ module _ (room mid : ℕ) where
   pub on_all : (segments : List (SegmentFields × List ℕ)) → AllByRecursion (IsSegment room (λ m. m ≡ mid)) segments
       → segments_on mid (map unit_made segments) ≡ map unit_made segments
   on_all segments each =
-      kept_all (λ unit. (header_at unit).map == mid) (map unit_made segments)
+      filter_all (λ unit. (header_at unit).map == mid) (map unit_made segments)
       (each-map (λ unit. ((header_at unit).map == mid) ≡ true) unit_made segments
       (each-weaker (IsSegment room (λ m. m ≡ mid)) (λ segment. ((header_at (unit_made segment)).map == mid) ≡ true)
       (λ segment is. eq-eqb (header_at (unit_made segment)).map mid (map_of_unit room (λ m. m ≡ mid) segment is ∙ is.on)) segments each))
@@ -55,7 +55,7 @@ module _ (room mid : ℕ) where
   pub on_none : (On : ℕ → Type 0) → ((m : ℕ) → On m → m ≢ mid) → (segments : List (SegmentFields × List ℕ)) → AllByRecursion (IsSegment room On) segments
       → segments_on mid (map unit_made segments) ≡ []
   on_none On apart segments each =
-      kept_none (λ unit. (header_at unit).map == mid) (map unit_made segments)
+      filter_none (λ unit. (header_at unit).map == mid) (map unit_made segments)
       (each-map (λ unit. ((header_at unit).map == mid) ≡ false) unit_made segments
       (each-weaker (IsSegment room On) (λ segment. ((header_at (unit_made segment)).map == mid) ≡ false)
       (λ segment is. ne_eqb (header_at (unit_made segment)).map mid (λ e. apart segment.0.map is.on (sym (map_of_unit room On segment is) ∙ e))) segments each))
@@ -82,10 +82,14 @@ module _ (room mid : ℕ) where
       }
 
   pub packet_parts : mid < 64 → (packet : List ℕ) → AllByRecursion (IsSegment room (λ m. m ≡ mid)) (segments_of_packet packet)
-  packet_parts small packet = each-map_range (IsSegment room (λ m. m ≡ mid)) (part_at packet) (part_is small packet) 0 (segment_count room packet)
+  packet_parts small packet =
+      let numbers = range_with_len 0 (segment_count room packet) in
+      each-map (IsSegment room (λ m. m ≡ mid)) (part_at packet) numbers (each-every (λ n. IsSegment room (λ m. m ≡ mid) (part_at packet n)) (part_is small packet) numbers)
 
   pub packets_parts : mid < 64 → (packets : List (List ℕ)) → AllByRecursion (IsSegment room (λ m. m ≡ mid)) (flat_map segments_of_packet packets)
-  packets_parts small packets = each-flat_map (IsSegment room (λ m. m ≡ mid)) segments_of_packet (packet_parts small) packets
+  packets_parts small packets =
+      each-flat_map (IsSegment room (λ m. m ≡ mid)) segments_of_packet packets
+      (each-every (λ packet. AllByRecursion (IsSegment room (λ m. m ≡ mid)) (segments_of_packet packet)) (packet_parts small) packets)
 
   -- which are the units of a packet
   pub units_of_parts : (packet : List ℕ) (numbers : List ℕ) → map unit_made (map (part_at packet) numbers) ≡ map (segment_of room mid packet) numbers

@@ -4,9 +4,9 @@ use Rattle.std.specs.List.{AllByRecursion}
 use Rattle.std.proofs.lemmas.Bool.{le-leb}
 use Rattle.std.proofs.lemmas.Bool.Decides.{eqb_tells}
 use Rattle.std.proofs.lemmas.List.{length_push}
-use Rattle.std.proofs.lemmas.List.Elements.{Contains-append_left, Contains-append_right}
+use Rattle.std.proofs.lemmas.List.Elements.{Contains-append_left, Contains-append_right, Contains-push}
 use Rattle.sl_tcflow.specs.Series.{flags_of, IsSeries, whole, divided, SeriesAt, IsSeriesOf, past, completed, series_with, series_from, series_of, EachIsSeries, EachSeriesIsListed, AreApart, none, one, more, SeriesAreApart}
-use Rattle.sl_tcflow.proofs.EachLemmas.{each-append, each-weaker}
+use Rattle.sl_fields.proofs.ListLemmas.{each-append, each-weaker}
 
 abbrev pub IsContinuing : List ℕ → Type 0
 IsContinuing segment = flags_of segment ≡ 0
@@ -209,19 +209,16 @@ completed_all so_far (segment ∷ middle) last behind goes_on ends =
     ∙ completed_all (so_far ++ segment ∷ []) middle last behind goes_on.1 ends
     ∙ ap (λ l. l ∷ []) (append_assoc so_far (segment ∷ []) (middle ++ last ∷ []))
 
-in_list_of_one : {X : Type 0} (x : X) → Contains (x ∷ []) x
-in_list_of_one x = (0, omega arith, refl)
-
 listed_here : (n : ℕ) (segments behind : List (List ℕ)) → IsSeries segments → Contains (series_from n (segments ++ behind)) (series_at n segments)
 listed_here n segments behind (whole segment is) =
     Contains-append_left (map (series_at n) (series_with segment behind)) (series_from (n + 1) behind) (series_at n (segment ∷ []))
-    (subst (λ l. Contains (map (series_at n) l) (series_at n (segment ∷ []))) (sym (begins_whole segment behind is)) (in_list_of_one (series_at n (segment ∷ []))))
+    (subst (λ l. Contains (map (series_at n) l) (series_at n (segment ∷ []))) (sym (begins_whole segment behind is)) (Contains-push [] (series_at n (segment ∷ []))))
 listed_here n segments behind (divided first last middle begins goes_on ends) =
     let series = first ∷ middle ++ last ∷ [] in
     let later = (middle ++ last ∷ []) ++ behind in
     Contains-append_left (map (series_at n) (series_with first later)) (series_from (n + 1) later) (series_at n series)
     (subst (λ l. Contains (map (series_at n) l) (series_at n series))
-    (sym (begins_divided first later begins ∙ completed_all (first ∷ []) middle last behind goes_on ends)) (in_list_of_one (series_at n series)))
+    (sym (begins_divided first later begins ∙ completed_all (first ∷ []) middle last behind goes_on ends)) (Contains-push [] (series_at n series)))
 
 listed_from : (n k : ℕ) (earlier segments behind : List (List ℕ)) → k ≡ n + length earlier → IsSeries segments
     → Contains (series_from n (earlier ++ segments ++ behind)) (series_at k segments)

@@ -1,8 +1,8 @@
 -- What is left after the packets of the service data unit that ends with a segment: told exactly as it is.
-use Rattle.std.proofs.Common.{◌≡◌, ◌⊎◌, ℕ, zero, suc, ◌+◌, ◌<◌, ◌==◌, ◌&&◌, Bool, true, false, if◌then◌else◌, List, [], ◌∷◌, ◌++◌, length, inl, inr, refl, sym, ◌∙◌, ap, subst, arith, append-nil, eqb-true, le-leb, Contains}
+use Rattle.std.proofs.Common.{◌≡◌, ◌⊎◌, ℕ, ◌+◌, ◌<◌, ◌==◌, ◌&&◌, Bool, true, false, if◌then◌else◌, List, [], ◌∷◌, ◌++◌, length, inl, inr, refl, sym, ◌∙◌, ap, subst, arith, append-nil, eqb-true, le-leb, Contains}
 use Rattle.std.specs.List.{AllByRecursion, flat_map}
 use Rattle.std.proofs.lemmas.Bool.Decides.{leb_tells}
-use Rattle.std.proofs.lemmas.List.Elements.{Contains-append_cases, Contains-push}
+use Rattle.std.proofs.lemmas.List.Elements.{All-contains, All-from_recursion, Contains-append_cases, Contains-push}
 use Rattle.sl_packet.specs.Packets.{packets_of, rest_of}
 use Rattle.sl_packet.proofs.PacketsLemmas.{each_has_packets, has_packets_once}
 use Rattle.sl_tcflow.specs.Anomaly.{left_in, tail_of, HasTail, TailIsTold, WhatIsToldIsTail}
@@ -14,9 +14,7 @@ use Rattle.sl_tcflow.proofs.SeriesLemmas.{each_is_series, each_series_is_listed,
 -- ---- lists
 
 each-contained : {X : Type 0} (P : X → Type 0) (xs : List X) (x : X) → AllByRecursion P xs → Contains xs x → P x
-each-contained P [] x each (k, below, is) = absurd (omega (arith, below))
-each-contained P (y ∷ ys) x each (zero, below, is) = subst P is each.0
-each-contained P (y ∷ ys) x each (suc k, below, is) = each-contained P ys x each.1 (k, omega (arith, below), is)
+each-contained P xs x each there = All-contains P xs x (All-from_recursion P xs each) there
 
 abbrev AtMostOne : List SeriesAt → Type 0
 AtMostOne list = (list ≡ []) ⊎ ((s : SeriesAt) × (list ≡ s ∷ []))

@@ -11,7 +11,7 @@ use Rattle.sl_tcflow.specs.Receiving.{map_by, verdict_on}
 use Rattle.sl_tcflow.specs.Reception.{segments_of}
 use Rattle.sl_tcflow.specs.ReceptionParameters.{is_plain, initial_vr}
 use Rattle.sl_tcflow.specs.Series.{begins_by, continues_by, flags_of, header_at, segment_data, reassembled, segment_in, segments_on, whole_segment, PlainUnitIsWhole}
-use Rattle.sl_tcflow.proofs.EachLemmas.{each-filtered}
+use Rattle.sl_fields.proofs.ListLemmas.{each-filter}
 use Rattle.sl_tcflow.proofs.SegmentLemmas.{header_of_unit, octets_of_unit}
 
 -- ---- a segment
@@ -50,7 +50,7 @@ none_on false mid units is = absurd (cc)
 none_on true mid units is =
     let segments = map whole_segment units in
     none_incomplete (segments_on mid segments)
-    (each-filtered (λ segment. flags_of segment ≡ 3) (λ segment. (header_at segment).map == mid) segments (each_whole units))
+    (each-filter (λ segment. flags_of segment ≡ 3) (λ segment. flags_of segment ≡ 3) (λ segment. (header_at segment).map == mid) (λ segment passes is. is) segments (each_whole units))
 
 pub no_plain_series_is_incomplete : NoPlainSeriesIsIncomplete
 no_plain_series_is_incomplete r vc mid views plain =

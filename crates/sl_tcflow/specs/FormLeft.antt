@@ -1,5 +1,5 @@
 -- The octets that are left of the normal form of a TC recording where it is made packet by packet. They are what a
--- `TcForm` is, and say how far it has come; contracts of private functions alone cite these definitions.
+-- `TcForm` is, and say how far it has come. Contracts of private functions alone cite `piece_of` and `ns_after`.
 use Rattle.std.specs.Prelude.{ℕ, ◌+◌, ◌-◌, ◌*◌, ◌/◌, ◌%◌, ◌<◌, ◌≤◌, Bool, List, [], ◌++◌, length, take, drop, flat_map}
 use Rattle.std.specs.List.{concat, range_with_len, slice_index_or}
 use Rattle.sl_packet.specs.Delivered.{PacketLists, channel_count, list_at}

@@ -101,21 +101,6 @@ below_stays format octets more below =
 pub below_is_not_whole : (len : ℕ) → BelowLeast ≡ WholeFrame len → ⊥
 below_is_not_whole len e = cc
 
--- four octets that state a length below the least stay the last ones
-pub still_stuck : (format : TcFormat) (old chunk : List ℕ) → IsRest format old → front_of format old ≡ BelowLeast
-    → (b : Bool) (new left : List ℕ) → TakesUpToFrame format old chunk b new left → (b ≡ false) × (new ≡ old) × (left ≡ chunk)
-still_stuck format old chunk is_rest below true new left t = absurd (below_is_not_whole (length new) (sym (below_stays format old chunk below) ∙ t.1))
-still_stuck format old chunk is_rest below false new left t =
-    let now = below_stays format old chunk below in
-    let four : length old ≡ 4 = elim is_rest [
-      | inl more ↦ absurd (unlike (sym more ∙ below))
-      | inr b ↦ b.1
-    ] in
-    (refl, t.1 ∙ rw now (take_at old chunk 4 four), t.2 ∙ rw now (drop_at old chunk 4 four))
-  where
-    unlike : Incomplete ≡ BelowLeast → ⊥
-    unlike e = cc
-
 -- ---- octets from the front of a chunk, until there are so many
 
 module _ (count : ℕ) (taken chunk : List ℕ) where
@@ -137,9 +122,6 @@ module _ (count : ℕ) (taken chunk : List ℕ) where
         | inr (is, over) ↦
             absurd (omega (arith, short, over, length-append taken (take (count - length taken) chunk), length-take-le (count - length taken) chunk (omega (arith, over))))
       ]
-
-  pub few_taken : length filled < count → filled ≡ taken ++ chunk
-  few_taken short = sym (fill_parts ∙ ap (λ l. filled ++ l) (few_left short) ∙ append-nil filled)
 
   pub many_taken : length taken ≤ count → length filled ≤ count
   many_taken few = omega (arith, few, length-append taken (take (count - length taken) chunk), length-take (count - length taken) chunk)

@@ -1,4 +1,5 @@
--- Delimiting TC frames in a recording that comes in chunks.
+-- Delimiting TC frames in a recording that comes in chunks. Contracts of private functions alone cite
+-- `BeginsWithFrame`, `TakesUpToFrame` and `Answers`.
 use Rattle.std.specs.Prelude.{◌≡◌, ◌⊎◌, ⊤, ◌↔◌, ℕ, nat_lt, Bool, true, false, if◌then◌else◌, List, [], ◌∷◌, ◌++◌, length, take, drop, Option, None, Some, IsNone}
 use Rattle.std.specs.Borrow.{Bor}
 use Rattle.std.specs.List.{concat}

@@ -1,4 +1,5 @@
--- Flags come back from the numbers at which they are set.
+-- Flags come back from the numbers at which they are set: what the Model of `VcSet` has to show. A Model cites `specs`
+-- alone, so the proof stands here.
 use Rattle.std.specs.Prelude.{◌≡◌, ℕ, zero, suc, ◌<◌, ◌==◌, Bool, true, false, ◌||◌, List, [], ◌∷◌, length}
 use Rattle.std.proofs.Common.{refl, sym, ap, subst, ◌∙◌}
 use Rattle.std.proofs.Math.Nat.{lt_irrefl, lt-suc_self, lt_trans}

@@ -49,10 +49,6 @@ at_least_one : (room k : ℕ) → 0 < k → room ≤ k * room
 at_least_one room zero some = absurd (omega arith)
 at_least_one room (suc k) some = let e = suc-mul k room in omega arith
 
-some_rooms : (room d left : ℕ) → left ≡ d * room → 0 < left → room ≤ left
-some_rooms room zero left e some = let z = zero-mul room in absurd (omega arith)
-some_rooms room (suc d) left e some = let o = at_least_one room (suc d) (omega arith) in omega arith
-
 -- so many rooms take what is left in one, and other octets
 past_one_room : (room left gap other d : ℕ) → 0 < left → gap + left ≡ room → left + other ≡ d * room → gap ≤ other
 past_one_room room left gap other zero some whole e = let z = zero-mul room in absurd (omega arith)

@@ -11,12 +11,13 @@ use Rattle.std.proofs.Math.Seq.{drop-append_seam, drop-cons}
 use Rattle.sl_packet.specs.IdlePacket.{idle_packet}
 use Rattle.sl_tmframe.specs.PacketFrame.{field_room_of}
 use Rattle.sl_tmframe.specs.TmFrame.{TmFormat}
-use Rattle.sl_tmflow.specs.FormLeft.{FormProgress, IsPending, IsLeft, IsAllMade, AddsPiece, start_in, fields_in, beyond_fields, channel_packets, filled_packets, filling_of, piece_of, passed, HasMore, HasPackets, after_packet, next_channel, packets_in, packets_left}
+use Rattle.sl_tmflow.specs.FormLeft.{FormProgress, IsPending, IsLeft, IsAllMade, AddsPiece, start_in, fields_in, beyond_fields, channel_packets, filled_packets, passed, HasMore, HasPackets, packets_in, packets_left}
 use Rattle.sl_tmflow.specs.NormalForm.{with_filling, filling, fill_of, channel_frame, channel_frames, frames_from_channel}
 use Rattle.sl_packet.specs.Packet.{IsPacket}
 use Rattle.sl_tmflow.proofs.IncompleteListLemmas.{stated_packet_len-most}
 use Rattle.sl_tmflow.proofs.FillLemmas.{no_filling, none_left, fill_is_least, filled_whole}
 use Rattle.sl_tmflow.proofs.FormLemmas.{fields_are, two_ranges, count_later, starts_here, starts_no_later, pending_next, found_here, no_frames}
+use Rattle.sl_tmflow.proofs.FormSteps.{after_packet, filling_of, next_channel, piece_of}
 
 -- ---- the next packet
 

@@ -17,6 +17,7 @@ pub mod FillLemmas
 pub mod FormLeftLemmas
 pub mod FormLemmas
 pub mod FormPushLemmas
+pub mod FormSteps
 pub mod HandedLemmas
 pub mod IncompleteFacts
 pub mod IncompleteLemmas

@@ -134,10 +134,7 @@ HasFewer old new = (octets : List ℕ) → IsLeft old octets → packets_left ne
 abbrev pub HasNoMore : FormProgress → FormProgress → Type 0
 HasNoMore old new = (octets : List ℕ) → IsLeft old octets → packets_left new ≤ packets_left old
 
--- the heading of the next frame, and a heading so many frames later
-abbrev pub heading_of : FormProgress → Heading
-heading_of s = record { spacecraft = s.spacecraft; vc = s.vc; master = s.master; counter = s.counter }
-
+-- a heading so many frames later
 abbrev pub heading_after : Heading → ℕ → Heading
 heading_after h frames = record { spacecraft = h.spacecraft; vc = h.vc; master = (h.master + frames) % 256; counter = (h.counter + frames) % 256 }
 
@@ -175,14 +172,6 @@ pub record HasMore (s : FormProgress) : Type 0 where
 abbrev pub filled_up : TmFormat → List ℕ → List ℕ
 filled_up format octets = octets ++ concat (filling (field_room_of format) (length octets))
 
--- the idle packet that fills up what is left of a virtual channel, or nothing
-abbrev pub filling_of : FormProgress → List ℕ
-filling_of s = concat (filling (field_room_of s.format) (length s.octets))
-
--- the frames that a packet completes
-abbrev pub piece_of : FormProgress → List ℕ → List ℕ
-piece_of s packet = frames_of s.format (heading_of s) (Some s.start) (s.octets ++ packet)
-
 -- so many frames later, when so many packets were taken
 abbrev pub passed : FormProgress → ℕ → ℕ → FormProgress
 passed s frames taken =
@@ -196,34 +185,4 @@ passed s frames taken =
       counter = (s.counter + frames) % 256;
       octets = s.octets;
       start = if frames == 0 then s.start else length s.octets;
-    }
-
--- after a packet, when so many were taken
-abbrev pub after_packet : FormProgress → List ℕ → ℕ → FormProgress
-after_packet s packet taken =
-    record {
-      format = s.format;
-      spacecraft = s.spacecraft;
-      lists = s.lists;
-      vc = s.vc;
-      taken = taken;
-      master = (s.master + fields_in s.format (s.octets ++ packet)) % 256;
-      counter = (s.counter + fields_in s.format (s.octets ++ packet)) % 256;
-      octets = beyond_fields s.format (s.octets ++ packet);
-      start = if fields_in s.format (s.octets ++ packet) == 0 then s.start else length (beyond_fields s.format (s.octets ++ packet));
-    }
-
--- the progress at the front of the next virtual channel
-abbrev pub next_channel : FormProgress → FormProgress
-next_channel s =
-    record {
-      format = s.format;
-      spacecraft = s.spacecraft;
-      lists = s.lists;
-      vc = s.vc + 1;
-      taken = 0;
-      master = s.master;
-      counter = 0;
-      octets = s.octets;
-      start = s.start;
     }

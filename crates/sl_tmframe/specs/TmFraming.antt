@@ -1,4 +1,4 @@
--- Delimiting TM frames in a recording that comes in chunks.
+-- Delimiting TM frames in a recording that comes in chunks. Contracts of private functions alone cite `Answers`.
 use Rattle.std.specs.Prelude.{◌≡◌, ℕ, ◌<◌, ◌≤◌, List, [], ◌∷◌, ◌++◌, length, take, Option, None, Some}
 use Rattle.std.specs.Borrow.{Bor}
 use Rattle.std.specs.List.{concat}

@@ -3,7 +3,7 @@ use Rattle.std.proofs.lemmas.List.{get_or-map, length-map}
 use Rattle.std.specs.List.{slice_index_or}
 use Rattle.std.specs.Vec.{vec_items}
 use Rattle.sl_packet.specs.Delivered.{IsDeliverable, list_at}
-use Rattle.sl_tcflow.proofs.EachLemmas.{each-within}
+use Rattle.std.proofs.lemmas.List.Elements.{All-from_recursion}
 use Rattle.sl_tcflow.proofs.form.packet_at.Goals as goal
 
 pub returns-clause-deliverable : goal.returns-clause-deliverable
@@ -16,4 +16,4 @@ returns-clause-deliverable c =
     let is : c.as_slice.result.now ≡ slice_index_or here framed [] =
     c.as_slice.ensures.value ∙ ap vec_items found.1 ∙ sym (get_or-map vec_items packets framed c.in_ok-packet.packet.now [] found.3.0)
     ∙ ap (λ l. slice_index_or l framed []) c.list-packets.ensures.packets in
-    subst IsDeliverable (sym is) (each-within IsDeliverable here framed [] inside c.list-packets.ensures.deliverable)
+    subst IsDeliverable (sym is) (All-from_recursion IsDeliverable here c.list-packets.ensures.deliverable framed [] inside)

@@ -1,4 +1,4 @@
-use Rattle.std.proofs.Common.{length, arith, length-take-le}
+use Rattle.std.proofs.Common.{arith, length-take-le}
 use Rattle.std.specs.List.{AllByRecursion}
 use Rattle.sl_fields.proofs.ListLemmas.{each-take}
 use Rattle.sl_packet.specs.Delivered.{IsDeliverable}

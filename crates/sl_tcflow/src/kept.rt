@@ -2,13 +2,12 @@
 //! one has begun.
 ghost use Rattle.std.specs.Prelude.{◌≡◌, ◌≢◌, ◌⊎◌, ◌≤◌, ◌<◌, None, option_map, ℕ, List, length, OnOk, IfOk, IfErr, IfSome};
 ghost use Rattle.std.specs.Vec.{vec_len};
-ghost use Rattle.sl_packet.specs.Packets.{without_idle};
-ghost use Rattle.sl_packet.specs.Sink.{TakesAll};
-ghost use Rattle.sl_packet.specs.Stopping.{IsStopped};
+ghost use Rattle.sl_packet.specs.Stopping.{HandsOver};
 ghost use Rattle.sl_tcflow.specs.NextSegment.{IsReported, incomplete_after, packets_after};
 ghost use Rattle.sl_tcflow.specs.Placed.{at, IsPlaced};
 ghost use Rattle.sl_tcflow.specs.Receiving.{channel_at};
 ghost use Rattle.sl_tcflow.specs.Series.{flags_of, header_at, segment_data, segment_in};
+ghost use Rattle.sl_tcflow.specs.StepReport.{counts_of};
 
 use crate::incomplete::Incomplete;
 use crate::segment::{FIRST, segment_of};
@@ -42,17 +41,26 @@ pub fn take_unit<S: PacketSink>(
     requires vc { vc ≤ 63 }
     requires some { 0 < length unit.now }
     requires short { length unit.now ≤ 1019 }
-    ensures placed { OnOk result (let next : List ℕ = segment_in plain unit.now in let index : ℕ = channel_at vc (header_at next).map in
-        IsPlaced incomplete.old.items index (incomplete_after (at incomplete.old.items index) next) incomplete.new.items) }
-    ensures accepted { OnOk result (let next : List ℕ = segment_in plain unit.now in let index : ℕ = channel_at vc (header_at next).map in
-        TakesAll S.taking sink.old index (without_idle (packets_after (at incomplete.old.items index) next)) sink.new) }
-    ensures step { IfOk result (let next : List ℕ = segment_in plain unit.now in
-        IsReported (at incomplete.old.items (channel_at vc (header_at next).map)) (flags_of next) (segment_data next)) }
-    ensures kept { OnOk result (S.failures sink.new ≡ S.failures sink.old) }
-    ensures stopped { IfErr result (λ flow. let next : List ℕ = segment_in plain unit.now in let index : ℕ = channel_at vc (header_at next).map in
-        IsStopped S.taking S.failing S.failures sink.old index (without_idle (packets_after (at incomplete.old.items index) next)) flow sink.new) }
-    ensures memory { IfErr result (λ flow. let next : List ℕ = segment_in plain unit.now in let index : ℕ = channel_at vc (header_at next).map in flow ≡ FlowFault.Memory
-        → (at incomplete.old.items index ≢ None) ⊎ (incomplete_after (at incomplete.old.items index) next ≢ None)) }
+    ensures placed { OnOk result (
+        let next : List ℕ = segment_in plain unit.now in
+        let index : ℕ = channel_at vc (header_at next).map in
+        IsPlaced incomplete.old.items index (incomplete_after (at incomplete.old.items index) next)
+            incomplete.new.items) }
+    ensures hands_over {
+        let next : List ℕ = segment_in plain unit.now in
+        let index : ℕ = channel_at vc (header_at next).map in
+        HandsOver S.taking S.failing S.failures counts_of
+            sink.old index (packets_after (at incomplete.old.items index) next) result sink.new }
+    ensures step { IfOk result (
+        let next : List ℕ = segment_in plain unit.now in
+        let index : ℕ = channel_at vc (header_at next).map in
+        IsReported (at incomplete.old.items index) (flags_of next) (segment_data next)) }
+    // Memory is wanted only where a series is incomplete, before the unit or after it.
+    ensures memory { IfErr result (λ flow. flow ≡ FlowFault.Memory →
+        let next : List ℕ = segment_in plain unit.now in
+        let index : ℕ = channel_at vc (header_at next).map in
+        (at incomplete.old.items index ≢ None)
+            ⊎ (incomplete_after (at incomplete.old.items index) next ≢ None)) }
 {
     let segment = segment_of(plain, unit);
     let channel = 64 * u16::from(vc) + u16::from(segment.map);

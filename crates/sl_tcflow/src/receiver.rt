@@ -3,7 +3,7 @@ ghost use Rattle.std.specs.Prelude.{◌≡◌, ◌≢◌, ◌≤◌, ◌<◌, �
 ghost use Rattle.sl_cop.specs.FarmClcw.{clcw_of};
 ghost use Rattle.sl_packet.specs.Packets.{only_idle, without_idle};
 ghost use Rattle.sl_packet.specs.Sink.{TakesAll};
-ghost use Rattle.sl_packet.specs.Stopping.{CountsFault, IsStopped};
+ghost use Rattle.sl_packet.specs.Stopping.{CountsFault, HandsOver, IsStopped};
 ghost use Rattle.sl_tcframe.specs.TcContent.{content};
 ghost use Rattle.sl_tcframe.specs.TcFrame.{TcView, IsContent};
 ghost use Rattle.sl_tcflow.specs.AcceptedUnit.{event_of, unit_by};
@@ -13,6 +13,7 @@ ghost use Rattle.sl_tcflow.specs.Receiving.{ForProcessed, HasProcessed, HasFaile
 ghost use Rattle.sl_tcflow.specs.Reception.{segments_of};
 ghost use Rattle.sl_tcflow.specs.ReceptionParameters.{ReceptionParameters};
 ghost use Rattle.sl_tcflow.specs.Series.{header_at, segment_in};
+ghost use Rattle.sl_tcflow.specs.StepReport.{counts_of};
 
 use crate::incomplete::Incomplete;
 use crate::kept::{held_on, take_unit};
@@ -195,14 +196,23 @@ fn take<S: PacketSink>(
     frame: &TcFrame,
     sink: &mut S,
 ) -> Result<TcStep, FlowFault>
-    ensures series { OnOk result (ForIncomplete plain incomplete.old.items verdict frame.now (λ r views. AreIncomplete r incomplete.new.items (views ++ frame.now ∷ []))) }
-    ensures accepted { OnOk result (ForIncomplete plain incomplete.old.items verdict frame.now (λ r views. TakesAll S.taking sink.old (unit_channel r frame.now) (without_idle (ended_by r views frame.now)) sink.new)) }
-    ensures step { IfOk result (λ step. ForIncomplete plain incomplete.old.items verdict frame.now (λ r views. IsReportedOf r views frame.now step)) }
+    // Whichever frames came before,
+    ensures series { OnOk result (ForIncomplete plain incomplete.old.items verdict frame.now
+        (λ r views. AreIncomplete r incomplete.new.items (views ++ frame.now ∷ []))) }
+    ensures hands_over { ForIncomplete plain incomplete.old.items verdict frame.now
+        (λ r views. HandsOver S.taking S.failing S.failures counts_of
+            sink.old (unit_channel r frame.now) (ended_by r views frame.now) result sink.new) }
+    ensures step { IfOk result
+        (λ step. ForIncomplete plain incomplete.old.items verdict frame.now
+        (λ r views. IsReportedOf r views frame.now step)) }
+    ensures memory { IfErr result (λ flow. flow ≡ FlowFault.Memory →
+        ForIncomplete plain incomplete.old.items verdict frame.now
+        (λ r views. IsIncompleteAround r views frame.now)) }
+
+    // The sink failed exactly where the fault says so.
     ensures kept { OnOk result (S.failures sink.new ≡ S.failures sink.old) }
     ensures counted { IfErr result (λ flow. CountsFault S.failures sink.old flow sink.new) }
-    ensures stopped { IfErr result (λ flow. ForIncomplete plain incomplete.old.items verdict frame.now (λ r views. IsStopped S.taking S.failing S.failures sink.old (unit_channel r frame.now) (without_idle (ended_by r views frame.now)) flow sink.new)) }
     ensures not_failed { IfErr result (λ flow. flow ≢ FlowFault.Failed) }
-    ensures memory { IfErr result (λ flow. flow ≡ FlowFault.Memory → ForIncomplete plain incomplete.old.items verdict frame.now (λ r views. IsIncompleteAround r views frame.now)) }
 {
     match accepted_unit(verdict, &frame.content()) {
         Some(unit) => match take_unit(alloc, incomplete, frame.vc(), plain, unit, sink) {

@@ -71,13 +71,17 @@ impl Incomplete {
         requires flags { segment.now.flags ≤ 3 }
         requires short { length segment.now.octets.now ≤ 1019 }
         requires channel { channel ≤ 4095 }
+        // The series goes on, begins or ends as these sequence flags say,
         ensures state { OnOk result (self.new
             ≡ incomplete_with self.old segment.now.flags segment.now.octets.now) }
+
+        // and the sink is handed the packets that end with the segment, which the step reports.
         ensures hands_over { HandsOver S.taking S.failing S.failures counts_of
             sink.old channel (packets_with self.old segment.now.flags segment.now.octets.now)
             result sink.new }
         ensures step { IfOk result
             (IsReported self.old segment.now.flags segment.now.octets.now) }
+
         // Memory is wanted only where a series is incomplete, before the segment or after it.
         ensures memory { IfErr result (λ flow. flow ≡ FlowFault.Memory → (self.old ≢ None)
             ⊎ (incomplete_with self.old segment.now.flags segment.now.octets.now ≢ None)) }
@@ -105,7 +109,8 @@ impl Incomplete {
     fn begin(&mut self, octets: &[u8]) -> Result<TcStep, FlowFault>
         requires { length octets.now ≤ 1019 }
         ensures state { OnOk result (self.new ≡ if_fits octets.now) }
-        ensures step { IfOk result (λ step. step ≡ record quiet_report { dropped = option_map length self.old }) }
+        ensures step { IfOk result (λ step.
+            step ≡ record quiet_report { dropped = option_map length self.old }) }
         ensures only_memory { IfErr result (λ flow. flow ≡ FlowFault.Memory) }
     {
         let dropped = self.give_up();

@@ -51,7 +51,8 @@ impl Receiver {
     /// V(R) of `starts`. The frames of the virtual channels of `plain` have no segment headers. It takes memory only
     /// as segments come.
     pub fn new(alloc: Global, window: Window, starts: &Starts, plain: VcSet) -> Receiver
-        ensures { HasProcessed (record { window = window; starts = starts.now; plain = plain }) result [] }
+        ensures { HasProcessed
+            (record { window = window; starts = starts.now; plain = plain }) result [] }
     {
         Receiver {
             alloc,
@@ -76,31 +77,49 @@ impl Receiver {
         frame: &TcFrame,
         sink: &mut S,
     ) -> Result<TcStep, FlowFault>
-        // Whichever frames were processed before, now they and this one are,
-        ensures processed { OnOk result (ForProcessed self.old (λ r views. HasProcessed r self.new (views ++ frame.now ∷ []))) }
-        ensures verdict { IfOk result (λ step. ForProcessed self.old (λ r views. step.verdict ≡ verdict_on r views frame.now)) }
-        // and the packets that end with its unit were accepted and counted.
-        ensures accepted { OnOk result (ForProcessed self.old (λ r views. TakesAll S.taking sink.old (unit_channel r frame.now) (without_idle (ended_by r views frame.now)) sink.new)) }
-        ensures packets { IfOk result (λ step. ForProcessed self.old (λ r views. step.packets ≡ length (without_idle (ended_by r views frame.now)))) }
-        ensures idle { IfOk result (λ step. ForProcessed self.old (λ r views. step.idle ≡ length (only_idle (ended_by r views frame.now)))) }
+        // Whichever frames were processed before, now they and this one are, and FARM-1 gave the verdict.
+        ensures processed { OnOk result (ForProcessed self.old (λ r views.
+            HasProcessed r self.new (views ++ frame.now ∷ []))) }
+        ensures verdict { IfOk result (λ step. ForProcessed self.old (λ r views.
+            step.verdict ≡ verdict_on r views frame.now)) }
+
+        // The packets that end with its unit were accepted and counted, and the sink has refused none.
+        ensures accepted { OnOk result (ForProcessed self.old (λ r views.
+            TakesAll S.taking sink.old (unit_channel r frame.now)
+            (without_idle (ended_by r views frame.now)) sink.new)) }
+        ensures packets { IfOk result (λ step. ForProcessed self.old (λ r views.
+            step.packets ≡ length (without_idle (ended_by r views frame.now)))) }
+        ensures idle { IfOk result (λ step. ForProcessed self.old (λ r views.
+            step.idle ≡ length (only_idle (ended_by r views frame.now)))) }
         ensures kept { OnOk result (S.failures sink.new ≡ S.failures sink.old) }
+
         // What is amiss with its unit is told, if it is accepted.
-        ensures stray { IfOk result (λ step. ForProcessed self.old (λ r views. step.stray ≡ stray_by r views frame.now)) }
-        ensures dropped { IfOk result (λ step. ForProcessed self.old (λ r views. step.dropped ≡ dropped_by r views frame.now)) }
-        ensures long { IfOk result (λ step. ForProcessed self.old (λ r views. step.long ≡ long_by r views frame.now)) }
-        ensures tail { IfOk result (λ step. ForProcessed self.old (λ r views. step.tail ≡ tail_by r views frame.now)) }
+        ensures stray { IfOk result (λ step. ForProcessed self.old (λ r views.
+            step.stray ≡ stray_by r views frame.now)) }
+        ensures dropped { IfOk result (λ step. ForProcessed self.old (λ r views.
+            step.dropped ≡ dropped_by r views frame.now)) }
+        ensures long { IfOk result (λ step. ForProcessed self.old (λ r views.
+            step.long ≡ long_by r views frame.now)) }
+        ensures tail { IfOk result (λ step. ForProcessed self.old (λ r views.
+            step.tail ≡ tail_by r views frame.now)) }
+
         // After a fault each call fails, and leaves all as it was; none fails before.
         ensures failed { HasFailed self.old → result ≡ Err FlowFault.Failed }
-        ensures left { result ≡ Err FlowFault.Failed → HasFailed self.old × (self.new ≡ self.old) × (sink.new ≡ sink.old) }
+        ensures left { result ≡ Err FlowFault.Failed
+            → HasFailed self.old × (self.new ≡ self.old) × (sink.new ≡ sink.old) }
+
         // At a fault some of the packets were accepted, the first ones, and FARM-1 has taken the frame.
+        // Whatever was processed before, the sink failed exactly where the fault says so.
         ensures stopped { IfErr result (λ flow. flow ≢ FlowFault.Failed → HasFailed self.new
             × ForProcessed self.old (λ r views. HasFailedAfter r self.new (views ++ frame.now ∷ [])
-            × IsStopped S.taking S.failing S.failures sink.old (unit_channel r frame.now) (without_idle (ended_by r views frame.now)) flow sink.new)) }
-        // Whatever was processed before, the sink failed exactly where the fault says so.
+            × IsStopped S.taking S.failing S.failures sink.old (unit_channel r frame.now)
+            (without_idle (ended_by r views frame.now)) flow sink.new)) }
         ensures counted { IfErr result (λ flow. CountsFault S.failures sink.old flow sink.new) }
-        // Memory is wanted only where the frame's unit is accepted and a series is incomplete on its MAP, before the
-        // frame or after it.
-        ensures memory { IfErr result (λ flow. flow ≡ FlowFault.Memory → ForProcessed self.old (λ r views. IsIncompleteAround r views frame.now)) }
+
+        // Memory is wanted only where the frame's unit is accepted and a series is incomplete on its MAP,
+        // before the frame or after it.
+        ensures memory { IfErr result (λ flow. flow ≡ FlowFault.Memory →
+            ForProcessed self.old (λ r views. IsIncompleteAround r views frame.now)) }
     {
         if self.has_failed {
             return Err(FlowFault::Failed);
@@ -127,8 +146,11 @@ impl Receiver {
     /// The Communications Link Control Word of a virtual channel.
     pub fn clcw(&self, vc: u8) -> Clcw
         requires { vc ≤ 63 }
-        ensures processed { ForProcessed self.now (λ r views. result ≡ clcw_of vc (farm_of r vc views).state) }
-        ensures failed { (r : ReceptionParameters) (views : List TcView) → HasFailedAfter r self.now views → result ≡ clcw_of vc (farm_of r vc views).state }
+        ensures processed { ForProcessed self.now (λ r views.
+            result ≡ clcw_of vc (farm_of r vc views).state) }
+        ensures failed { (r : ReceptionParameters) (views : List TcView)
+            → HasFailedAfter r self.now views
+            → result ≡ clcw_of vc (farm_of r vc views).state }
     {
         self.farms[usize::from(vc)].clcw(vc)
     }
@@ -138,7 +160,8 @@ impl Receiver {
     pub fn held(&self, vc: u8, map: u8) -> u32
         requires vc { vc ≤ 63 }
         requires map { map ≤ 63 }
-        ensures value { ForProcessed self.now (λ r views. result ≡ held_of (segments_of r vc map views)) }
+        ensures value { ForProcessed self.now (λ r views.
+            result ≡ held_of (segments_of r vc map views)) }
         ensures most { result ≤ 65542 }
     {
         held_on(&self.incomplete, vc, map).unwrap_or(0)
@@ -149,7 +172,8 @@ impl Receiver {
     pub fn is_open(&self, vc: u8, map: u8) -> bool
         requires vc { vc ≤ 63 }
         requires map { map ≤ 63 }
-        ensures value { ForProcessed self.now (λ r views. result ≡ is_some (incomplete_of (segments_of r vc map views))) }
+        ensures value { ForProcessed self.now (λ r views.
+            result ≡ is_some (incomplete_of (segments_of r vc map views))) }
     {
         held_on(&self.incomplete, vc, map).is_some()
     }
@@ -157,7 +181,8 @@ impl Receiver {
 
 // FARM-1 of each virtual channel before its first frame.
 fn farms_at_start(window: Window, starts: &Starts) -> [Farm; 64]
-    ensures { (r : ReceptionParameters) → r.window ≡ window → r.starts ≡ starts.now → HaveStepped r result [] }
+    ensures { (r : ReceptionParameters) → r.window ≡ window → r.starts ≡ starts.now
+        → HaveStepped r result [] }
 {
     let mut farms = [Farm::new(window, 0); 64];
     for vc in 0..64 {
@@ -168,8 +193,10 @@ fn farms_at_start(window: Window, starts: &Starts) -> [Farm; 64]
 
 // Steps FARM-1 of a frame's virtual channel.
 fn step(farms: &mut [Farm; 64], frame: &TcFrame) -> Verdict
-    ensures verdict { (r : ReceptionParameters) (views : List TcView) → HaveStepped r farms.old views → result ≡ verdict_on r views frame.now }
-    ensures farms { (r : ReceptionParameters) (views : List TcView) → HaveStepped r farms.old views → HaveStepped r farms.new (views ++ frame.now ∷ []) }
+    ensures verdict { (r : ReceptionParameters) (views : List TcView)
+        → HaveStepped r farms.old views → result ≡ verdict_on r views frame.now }
+    ensures farms { (r : ReceptionParameters) (views : List TcView)
+        → HaveStepped r farms.old views → HaveStepped r farms.new (views ++ frame.now ∷ []) }
 {
     farms[usize::from(frame.vc())].step(event_in(&frame.content()))
 }
@@ -226,12 +253,16 @@ fn take<S: PacketSink>(
 // The unit that is accepted.
 fn accepted_unit<'a>(verdict: Verdict, carried: &TcContent<'a>) -> Option<&'a [u8]>
     requires { IsContent (content carried.now) }
+    // It is the unit that the frame carries, where this verdict accepts one,
     ensures unit { IfSome result (λ unit. unit_by verdict (content carried.now) ≡ unit.now ∷ []) }
-    ensures map { IfSome result (λ unit. (plain : Bool) → map_of plain (content carried.now) ≡ (header_at (segment_in plain unit.now)).map) }
-    ensures some { IfSome result (λ unit. 0 < length unit.now) }
-    ensures short { IfSome result (λ unit. length unit.now ≤ 1019) }
     ensures accepted { IfSome result (λ unit. verdict ≡ Verdict.Accept) }
     ensures none { IfNone result (unit_by verdict (content carried.now) ≡ []) }
+
+    // and such as a frame can carry.
+    ensures map { IfSome result (λ unit. (plain : Bool)
+        → map_of plain (content carried.now) ≡ (header_at (segment_in plain unit.now)).map) }
+    ensures some { IfSome result (λ unit. 0 < length unit.now) }
+    ensures short { IfSome result (λ unit. length unit.now ≤ 1019) }
 {
     match verdict {
         Verdict::Accept => match *carried {

@@ -25,9 +25,12 @@ pub struct Segment<'a> {
 /// The segment that a unit is, on a virtual channel without segment headers (`plain`) or with them.
 pub fn segment_of(plain: bool, unit: &[u8]) -> Segment
     requires { 0 < length unit.now }
+    // It is the segment that the unit stands for,
     ensures flags { result.flags ≡ flags_of (segment_in plain unit.now) }
     ensures map { result.map ≡ (header_at (segment_in plain unit.now)).map }
     ensures octets { result.octets.now ≡ segment_data (segment_in plain unit.now) }
+
+    // no longer than the unit, with a header whose fields have 2 and 6 bits.
     ensures short { length result.octets.now ≤ length unit.now }
     ensures most { result.flags ≤ 3 }
     ensures map_most { result.map ≤ 63 }

@@ -64,7 +64,8 @@ impl Channel {
         ensures dropped { IfOk result (λ step. step.dropped ≡ length (lost_by self.old frame.now)) }
         ensures foreign { IfOk result (λ step. step.foreign ≡ foreign_in frame.now.field) }
         // Memory is wanted only where a packet is incomplete, before the frame or after it.
-        ensures memory { IfErr result (λ flow. flow ≡ FlowFault.Memory → (self.old.held ≢ []) ⊎ ((state_after self.old frame.now).held ≢ [])) }
+        ensures memory { IfErr result (λ flow. flow ≡ FlowFault.Memory
+            → (self.old.held ≢ []) ⊎ ((state_after self.old frame.now).held ≢ [])) }
     {
         let gap = self.gap_at(frame.vc_count());
         let ended = match self.go_on(frame, sink) {
@@ -108,7 +109,8 @@ impl Channel {
     // Goes on with the packet that is incomplete, if one is.
     fn go_on<S: PacketSink>(&mut self, frame: &TmFrame, sink: &mut S) -> Result<TmStep, FlowFault>
         ensures count { self.new.count ≡ self.old.count }
-        ensures held { OnOk result (self.new.held ≡ kept_octets (step_in self.old frame.now) self.old.held frame.now) }
+        ensures held { OnOk result (self.new.held
+            ≡ kept_octets (step_in self.old frame.now) self.old.held frame.now) }
         ensures hands_over { HandsOver S.taking S.failing S.failures counts_of
             sink.old frame.now.vc (ended (step_in self.old frame.now)) result sink.new }
         ensures few { IfOk result (λ step. step.packets + step.idle ≤ 1) }
@@ -162,13 +164,19 @@ impl Channel {
     ) -> Result<TmStep, FlowFault>
         requires vc { vc ≤ 7 }
         requires short { length octets.now ≤ 2042 }
+        // The packet goes on with all of the field's octets, or isn't kept.
         ensures count { self.new.count ≡ self.old.count }
-        ensures held { OnOk result (self.new.held ≡ kept_of (field_step self.old.held (Packets first octets.now)) (self.old.held ++ octets.now)) }
+        ensures held { OnOk result (self.new.held
+            ≡ kept_of (field_step self.old.held (Packets first octets.now))
+            (self.old.held ++ octets.now)) }
+
+        // The sink is handed the packet where it ends, and what it had is counted where it is broken off.
         ensures hands_over { HandsOver S.taking S.failing S.failures counts_of
             sink.old vc (ended (field_step self.old.held (Packets first octets.now)))
             result sink.new }
         ensures few { IfOk result (λ step. step.packets + step.idle ≤ 1) }
-        ensures dropped { IfOk result (λ step. step.dropped ≡ length (lost_of (field_step self.old.held (Packets first octets.now)) self.old.held)) }
+        ensures dropped { IfOk result (λ step. step.dropped ≡ length
+            (lost_of (field_step self.old.held (Packets first octets.now)) self.old.held)) }
     {
         let before = self.held.len();
         let progress = match add_field(&mut self.held, first, octets) {
@@ -198,13 +206,18 @@ impl Channel {
     ) -> Result<TmStep, FlowFault>
         requires vc { vc ≤ 7 }
         requires inside { IsInField (data_field field.now) }
+        // What is incomplete at the end of the field is kept; memory is wanted for that alone.
         ensures count { self.new.count ≡ self.old.count }
-        ensures held { OnOk result (self.new.held ≡ held_after (data_field field.now) self.old.held) }
+        ensures held { OnOk result
+            (self.new.held ≡ held_after (data_field field.now) self.old.held) }
+        ensures memory { IfErr result (λ flow. flow ≡ FlowFault.Memory
+            → held_after (data_field field.now) self.old.held ≢ []) }
+
+        // The sink is handed the packets that lie whole in the field.
         ensures hands_over { HandsOver S.taking S.failing S.failures counts_of
             sink.old vc (whole_packets (data_field field.now)) result sink.new }
         ensures few { IfOk result (λ step. step.packets + step.idle ≤ 2042) }
         ensures foreign { IfOk result (λ step. step.foreign ≡ foreign_in (data_field field.now)) }
-        ensures memory { IfErr result (λ flow. flow ≡ FlowFault.Memory → held_after (data_field field.now) self.old.held ≢ []) }
     {
         match *field {
             TmField::Packets {
@@ -224,13 +237,18 @@ impl Channel {
     ) -> Result<TmStep, FlowFault>
         requires vc { vc ≤ 7 }
         requires short { length octets.now ≤ 2042 }
+        // What is incomplete at the end of the octets is kept; memory is wanted for that alone.
         ensures count { self.new.count ≡ self.old.count }
-        ensures held { OnOk result (self.new.held ≡ incomplete_in (front (rest_of octets.now)) (rest_of octets.now)) }
+        ensures held { OnOk result (self.new.held
+            ≡ incomplete_in (front (rest_of octets.now)) (rest_of octets.now)) }
+        ensures memory { IfErr result (λ flow. flow ≡ FlowFault.Memory
+            → incomplete_in (front (rest_of octets.now)) (rest_of octets.now) ≢ []) }
+
+        // The sink is handed the packets that are whole.
         ensures hands_over { HandsOver S.taking S.failing S.failures counts_of
             sink.old vc (packets_of octets.now) result sink.new }
         ensures few { IfOk result (λ step. step.packets + step.idle ≤ 2042) }
         ensures foreign { IfOk result (λ step. step.foreign ≡ is_foreign (rest_of octets.now)) }
-        ensures memory { IfErr result (λ flow. flow ≡ FlowFault.Memory → incomplete_in (front (rest_of octets.now)) (rest_of octets.now) ≢ []) }
     {
         let (step, remainder) = match hand(sink, vc, octets) {
             Ok(handed) => handed,

@@ -41,12 +41,15 @@ pub(crate) fn hand<'a, S: PacketSink>(
 ) -> Result<(TmStep, &'a [u8]), FlowFault>
     requires vc { vc ≤ 7 }
     requires short { length octets.now ≤ 65542 }
+    // The packets at the front are handed over; what follows them is given back.
     ensures hands_over { HandsOver S.taking S.failing S.failures (λ handed. counts_of handed.0)
         sink.old vc (packets_of octets.now) result sink.new }
-    ensures few { IfOk result (λ handed. handed.0.packets + handed.0.idle ≤ length octets.now) }
-    ensures dropped { IfOk result (λ handed. handed.0.dropped ≡ 0) }
     ensures remainder { IfOk result (λ handed. handed.1.now ≡ rest_of octets.now) }
     ensures not_memory { IfErr result (λ flow. flow ≢ FlowFault.Memory) }
+
+    // The counts are small, and nothing is amiss.
+    ensures few { IfOk result (λ handed. handed.0.packets + handed.0.idle ≤ length octets.now) }
+    ensures dropped { IfOk result (λ handed. handed.0.dropped ≡ 0) }
 {
     match hand_over(sink, vc, octets) {
         Ok(handed) => {

@@ -65,20 +65,19 @@ impl Incomplete {
     pub fn take<S: PacketSink>(
         &mut self,
         segment: &Segment,
-        channel: u16,
         sink: &mut S,
     ) -> Result<TcStep, FlowFault>
         requires flags { segment.now.flags ≤ 3 }
         requires short { length segment.now.octets.now ≤ 1019 }
-        requires channel { channel ≤ 4095 }
+        requires channel { segment.now.channel ≤ 4095 }
         // The series goes on, begins or ends as these sequence flags say,
         ensures state { OnOk result (self.new
             ≡ incomplete_with self.old segment.now.flags segment.now.octets.now) }
 
         // and the sink is handed the packets that end with the segment, which the step reports.
         ensures hands_over { HandsOver S.taking S.failing S.failures counts_of
-            sink.old channel (packets_with self.old segment.now.flags segment.now.octets.now)
-            result sink.new }
+            sink.old segment.now.channel
+            (packets_with self.old segment.now.flags segment.now.octets.now) result sink.new }
         ensures step { IfOk result
             (IsReported self.old segment.now.flags segment.now.octets.now) }
 
@@ -89,11 +88,11 @@ impl Incomplete {
         match segment.flags {
             CONTINUING => self.go_on(segment.octets),
             FIRST => self.begin(segment.octets),
-            LAST => self.end(segment.octets, channel, sink),
+            LAST => self.end(segment.octets, segment.channel, sink),
             // no segmentation
             _ => {
                 let given_up = self.give_up();
-                match hand(sink, channel, segment.octets) {
+                match hand(sink, segment.channel, segment.octets) {
                     Ok(step) => Ok(TcStep {
                         dropped: given_up,
                         ..step

@@ -15,8 +15,8 @@ ghost use Rattle.sl_tcflow.specs.ReceptionParameters.{ReceptionParameters};
 ghost use Rattle.sl_tcflow.specs.Series.{header_at, segment_in};
 ghost use Rattle.sl_tcflow.specs.StepReport.{counts_of};
 
-use crate::incomplete::Incomplete;
-use crate::kept::{held_on, take_unit};
+use crate::segment::segment_of;
+use crate::series_store::SeriesStore;
 use crate::step::{QUIET, TcStep};
 use sl_cop::{Farm, FarmEvent, Starts, Verdict, Window};
 use sl_fields::Clcw;
@@ -29,10 +29,9 @@ use std::marker::Model;
 /// given one after another.
 #[derive(Drop)]
 pub struct Receiver {
-    alloc: Global,
     farms: [Farm; 64],
     plain: VcSet,
-    incomplete: Vec<Incomplete>,
+    series: SeriesStore,
     has_failed: bool,
 }
 
@@ -55,10 +54,9 @@ impl Receiver {
             (record { window = window; starts = starts.now; plain = plain }) result [] }
     {
         Receiver {
-            alloc,
             farms: farms_at_start(window, starts),
             plain,
-            incomplete: Vec::new(alloc),
+            series: SeriesStore::new(alloc),
             has_failed: false,
         }
     }
@@ -128,14 +126,7 @@ impl Receiver {
         self.has_failed = true;
         let verdict = step(&mut self.farms, frame);
         let plain = self.plain.has(frame.vc());
-        let reported = match take(
-            self.alloc,
-            &mut self.incomplete,
-            plain,
-            verdict,
-            frame,
-            sink,
-        ) {
+        let reported = match take(&mut self.series, plain, verdict, frame, sink) {
             Ok(step) => step,
             Err(flow) => return Err(flow),
         };
@@ -164,7 +155,7 @@ impl Receiver {
             result ≡ held_of (segments_of r vc map views)) }
         ensures most { result ≤ 65542 }
     {
-        held_on(&self.incomplete, vc, map).unwrap_or(0)
+        self.series.held(vc, map).unwrap_or(0)
     }
 
     /// Whether a series is incomplete on a virtual channel and a MAP. It may have no octets so far. After a fault
@@ -175,7 +166,7 @@ impl Receiver {
         ensures value { ForProcessed self.now (λ r views.
             result ≡ is_some (incomplete_of (segments_of r vc map views))) }
     {
-        held_on(&self.incomplete, vc, map).is_some()
+        self.series.held(vc, map).is_some()
     }
 }
 
@@ -216,24 +207,23 @@ fn event_in(carried: &TcContent) -> FarmEvent
 // Takes the unit of a frame, if it carries one and this verdict accepts it, on a virtual channel without segment headers
 // or with them.
 fn take<S: PacketSink>(
-    alloc: Global,
-    incomplete: &mut Vec<Incomplete>,
+    series: &mut SeriesStore,
     plain: bool,
     verdict: Verdict,
     frame: &TcFrame,
     sink: &mut S,
 ) -> Result<TcStep, FlowFault>
     // Whichever frames came before,
-    ensures series { OnOk result (ForIncomplete plain incomplete.old.items verdict frame.now
-        (λ r views. AreIncomplete r incomplete.new.items (views ++ frame.now ∷ []))) }
-    ensures hands_over { ForIncomplete plain incomplete.old.items verdict frame.now
+    ensures series { OnOk result (ForIncomplete plain series.old verdict frame.now
+        (λ r views. AreIncomplete r series.new (views ++ frame.now ∷ []))) }
+    ensures hands_over { ForIncomplete plain series.old verdict frame.now
         (λ r views. HandsOver S.taking S.failing S.failures counts_of
             sink.old (unit_channel r frame.now) (ended_by r views frame.now) result sink.new) }
     ensures step { IfOk result
-        (λ step. ForIncomplete plain incomplete.old.items verdict frame.now
+        (λ step. ForIncomplete plain series.old verdict frame.now
         (λ r views. IsReportedOf r views frame.now step)) }
     ensures memory { IfErr result (λ flow. flow ≡ FlowFault.Memory →
-        ForIncomplete plain incomplete.old.items verdict frame.now
+        ForIncomplete plain series.old verdict frame.now
         (λ r views. IsIncompleteAround r views frame.now)) }
 
     // The sink failed exactly where the fault says so.
@@ -242,7 +232,7 @@ fn take<S: PacketSink>(
     ensures not_failed { IfErr result (λ flow. flow ≢ FlowFault.Failed) }
 {
     match accepted_unit(verdict, &frame.content()) {
-        Some(unit) => match take_unit(alloc, incomplete, frame.vc(), plain, unit, sink) {
+        Some(unit) => match series.take(&segment_of(frame.vc(), plain, unit), sink) {
             Ok(step) => Ok(step),
             Err(flow) => Err(flow),
         },

@@ -1,5 +1,6 @@
--- How the handing over of packets to a sink stops.
-use Rattle.std.specs.Prelude.{◌≡◌, ℕ, List, ◌++◌}
+-- How packets are handed over to a sink, and how that stops.
+use Rattle.std.specs.Prelude.{◌≡◌, ℕ, List, ◌++◌, length, Result, OnOk, IfOk, IfErr}
+use Rattle.sl_packet.specs.Packets.{only_idle, without_idle}
 use Rattle.sl_packet.specs.Sink.{TakesAll, StopsTaking, one_more}
 use Rattle.sl_packet.specs.declared.flow_fault.FlowFault.{FlowFault}
 use Rattle.sl_packet.specs.declared.flow_fault.FlowFault.TheVariants.{Memory, Sink, Failed}
@@ -26,3 +27,12 @@ module _ {S : Type 0} (taking : S → ℕ → List ℕ → S → Type 0) where
     IsStopped old channel packets Memory new = TakesSome old channel packets new × (failures new ≡ failures old)
     IsStopped old channel packets (Sink fault) new = StopsTaking taking failing old channel packets fault new × (failures new ≡ one_more (failures old))
     IsStopped old channel packets Failed new = ⊥
+
+    -- A step hands over the packets that end with it, in order, but for idle ones, and counts both kinds. At a fault
+    -- it stopped among them.
+    pub record HandsOver {X : Type 0} (counts : X → ℕ × ℕ) (old : S) (channel : ℕ) (ended : List (List ℕ)) (result : Result X FlowFault) (new : S) : Type 0 where
+      pub accepted : OnOk result (TakesAll taking old channel (without_idle ended) new)
+      pub kept : OnOk result (failures new ≡ failures old)
+      pub packets : IfOk result (λ step. (counts step).0 ≡ length (without_idle ended))
+      pub idle : IfOk result (λ step. (counts step).1 ≡ length (only_idle ended))
+      pub stopped : IfErr result (λ flow. IsStopped old channel (without_idle ended) flow new)

@@ -105,10 +105,14 @@ fn add(
 ) -> Result<(), AllocError>
     requires channel { channel < channel_count }
     requires fit { length (lists_in lists.old) ≤ channel_count }
-    ensures added { OnOk result (with_empty_lists (lists_in lists.new) ≡ with_packet (with_empty_lists (lists_in lists.old)) channel packet.now) }
-    ensures refused { OnErr result (with_empty_lists (lists_in lists.new) ≡ with_empty_lists (lists_in lists.old)) }
+    ensures added { OnOk result (with_empty_lists (lists_in lists.new)
+        ≡ with_packet (with_empty_lists (lists_in lists.old)) channel packet.now) }
+    ensures refused { OnErr result (with_empty_lists (lists_in lists.new)
+        ≡ with_empty_lists (lists_in lists.old)) }
     ensures fit { length (lists_in lists.new) ≤ channel_count }
-    ensures deliverable { AllByRecursion (AllByRecursion IsDeliverable) (lists_in lists.old) → IsDeliverable packet.now → AllByRecursion (AllByRecursion IsDeliverable) (lists_in lists.new) }
+    ensures deliverable { AllByRecursion (AllByRecursion IsDeliverable) (lists_in lists.old)
+        → IsDeliverable packet.now
+        → AllByRecursion (AllByRecursion IsDeliverable) (lists_in lists.new) }
 {
     let packet = Vec::from_slice(alloc, packet)?;
     reach(alloc, lists, channel)?;
@@ -120,7 +124,8 @@ fn add(
 fn reach(alloc: Global, lists: &mut Vec<Vec<Vec<u8>>>, channel: usize) -> Result<(), AllocError>
     ensures reached { OnOk result (channel < vec_len lists.new) }
     ensures grown { IsGrown (lists_in lists.old) (lists_in lists.new) }
-    ensures no_further { length (lists_in lists.new) ≤ max (length (lists_in lists.old)) (channel + 1) }
+    ensures no_further {
+        length (lists_in lists.new) ≤ max (length (lists_in lists.old)) (channel + 1) }
 {
     while lists.len() <= channel {
         lists.push(Vec::new(alloc))?;

@@ -40,8 +40,11 @@ pub trait PacketSink {
         requires packet { IsPacket p.now }
         requires not_idle { is_idle_packet p.now ≡ false }
         requires channel { channel ≤ 4095 }
+        // It is accepted, and the sink has refused none,
         ensures accepted { OnOk result (taking self.old channel p.now self.new) }
         ensures kept { OnOk result (failures self.new ≡ failures self.old) }
+
+        // or refused, which the sink counts.
         ensures refused { IfErr result (λ fault. failing self.old channel p.now fault self.new) }
         ensures counted { OnErr result (failures self.new ≡ one_more (failures self.old)) };
 }
@@ -64,12 +67,21 @@ pub fn hand_over<'a, S: PacketSink>(
     octets: &'a [u8],
 ) -> Result<HandedOver<'a>, SinkFault>
     requires channel { channel ≤ 4095 }
-    ensures accepted { OnOk result (TakesAll S.taking sink.old channel (without_idle (packets_of octets.now)) sink.new) }
+    // The sink accepts them all, and has refused none,
+    ensures accepted { OnOk result (TakesAll S.taking
+        sink.old channel (without_idle (packets_of octets.now)) sink.new) }
     ensures kept { OnOk result (S.failures sink.new ≡ S.failures sink.old) }
-    ensures packets { IfOk result (λ handed. handed.packets ≡ length (without_idle (packets_of octets.now))) }
-    ensures idle { IfOk result (λ handed. handed.idle ≡ length (only_idle (packets_of octets.now))) }
+
+    // they are counted, and what follows them is given back,
+    ensures packets { IfOk result (λ handed.
+        handed.packets ≡ length (without_idle (packets_of octets.now))) }
+    ensures idle { IfOk result (λ handed.
+        handed.idle ≡ length (only_idle (packets_of octets.now))) }
     ensures remainder { IfOk result (λ handed. handed.remainder.now ≡ rest_of octets.now) }
-    ensures refused { IfErr result (λ fault. StopsTaking S.taking S.failing sink.old channel (without_idle (packets_of octets.now)) fault sink.new) }
+
+    // or it accepts those before one that it refuses, which it counts.
+    ensures refused { IfErr result (λ fault. StopsTaking S.taking S.failing
+        sink.old channel (without_idle (packets_of octets.now)) fault sink.new) }
     ensures counted { OnErr result (S.failures sink.new ≡ one_more (S.failures sink.old)) }
 {
     let mut handed = HandedOver {

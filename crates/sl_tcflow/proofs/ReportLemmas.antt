@@ -1,8 +1,7 @@
 -- The report of the next frame, from what is incomplete at the index of its unit.
-use Rattle.std.proofs.Common.{◌≡◌, ℕ, ◌<◌, false, List, [], ◌∷◌, length, Option, None, refl, sym, ◌∙◌, ap}
+use Rattle.std.proofs.Common.{◌≡◌, ℕ, ◌<◌, false, List, [], ◌∷◌, Option, None, refl, sym, ◌∙◌}
 use Rattle.sl_cop.specs.declared.verdict.Verdict.{Verdict}
 use Rattle.sl_cop.specs.declared.verdict.Verdict.TheVariants.{Accept}
-use Rattle.sl_packet.specs.Packets.{only_idle, without_idle}
 use Rattle.sl_tcframe.specs.TcFrame.{TcView}
 use Rattle.sl_tcflow.specs.Anomaly.{IsReportedOf, dropped_of, long_of, stray_of, tail_of}
 use Rattle.sl_tcflow.specs.NextSegment.{IsReported, dropped_with, long_with, quiet_report, stray_with, tail_after}
@@ -13,7 +12,6 @@ use Rattle.sl_tcflow.specs.Series.{flags_of, header_at, segment_data}
 use Rattle.sl_tcflow.specs.StepReport.{StepReport}
 use Rattle.sl_tcflow.proofs.AnomalyLemmas.{told_at, told_none}
 use Rattle.sl_tcflow.proofs.EndedLemmas.{tail_next}
-use Rattle.sl_tcflow.proofs.UnitLemmas.{ended_more, ended_none}
 
 -- of a frame whose unit is accepted
 pub reported_more : (r : ReceptionParameters) (old : List (Option (List ℕ))) (views : List TcView) (next : TcView) (unit : List ℕ) (vc : ℕ) (step : StepReport)
@@ -21,12 +19,8 @@ pub reported_more : (r : ReceptionParameters) (old : List (Option (List ℕ))) (
     → map_by r next ≡ (header_at unit).map → vc ≡ next.vc → verdict_on r views next ≡ Accept
     → IsReported (at old (channel_at vc (header_at unit).map)) (flags_of unit) (segment_data unit) step → IsReportedOf r views next step
 reported_more r old views next unit vc step are inside unit_is mid_is same_vc accepted reported =
-    let mid = (header_at unit).map in
-    let ended = ended_more r old views next unit (channel_at vc mid) are inside unit_is mid_is (ap (λ n. channel_at n mid) same_vc) in
     record {
       verdict = reported.verdict ∙ sym accepted;
-      packets = reported.packets ∙ ap (λ l. length (without_idle l)) (sym ended);
-      idle = reported.idle ∙ ap (λ l. length (only_idle l)) (sym ended);
       stray = told_at r old views next unit false stray_of (λ held segment. stray_with held (flags_of segment)) (λ list segment. refl) vc step.stray are inside unit_is mid_is same_vc reported.stray;
       dropped = told_at r old views next unit None dropped_of (λ held segment. dropped_with held (flags_of segment)) (λ list segment. refl) vc step.dropped are inside unit_is mid_is same_vc reported.dropped;
       long = told_at r old views next unit false long_of (λ held segment. long_with held (flags_of segment) (segment_data segment)) (λ list segment. refl) vc step.long are inside unit_is mid_is same_vc reported.long;
@@ -37,11 +31,8 @@ reported_more r old views next unit vc step are inside unit_is mid_is same_vc ac
 pub reported_none : (r : ReceptionParameters) (views : List TcView) (next : TcView) (verdict : Verdict) → verdict ≡ verdict_on r views next
     → segment_by r views next ≡ [] → IsReportedOf r views next (record quiet_report { verdict = verdict })
 reported_none r views next verdict is none =
-    let ended = ended_none r views next none in
     record {
       verdict = is;
-      packets = ap (λ l. length (without_idle l)) (sym ended);
-      idle = ap (λ l. length (only_idle l)) (sym ended);
       stray = sym (told_none false stray_of r views next none);
       dropped = sym (told_none None dropped_of r views next none);
       long = sym (told_none false long_of r views next none);

@@ -3,10 +3,10 @@
 -- is too long, and that what follows its last whole packet is dropped, are the mission profile's.
 use Rattle.std.specs.Prelude.{◌≡◌, ◌⊎◌, ℕ, ◌+◌, ◌<◌, ◌≤◌, ◌==◌, ◌&&◌, nat_le, Bool, true, false, if◌then◌else◌, List, [], ◌∷◌, ◌++◌, length, flat_map, Option, None, Some, is_none, option_map, unwrap_or}
 use Rattle.std.specs.List.{filter}
-use Rattle.sl_packet.specs.Packets.{ArePacketsOf, only_idle, rest_of, without_idle}
+use Rattle.sl_packet.specs.Packets.{ArePacketsOf, rest_of}
 use Rattle.sl_tcframe.specs.TcFrame.{TcView}
 use Rattle.sl_tcflow.specs.Incomplete.{IsIncomplete, incomplete_of, passes}
-use Rattle.sl_tcflow.specs.Receiving.{ended_by, map_by, segment_by, verdict_on}
+use Rattle.sl_tcflow.specs.Receiving.{map_by, segment_by, verdict_on}
 use Rattle.sl_tcflow.specs.Reception.{segments_of}
 use Rattle.sl_tcflow.specs.ReceptionParameters.{ReceptionParameters, is_plain}
 use Rattle.sl_tcflow.specs.Series.{begins_by, continues_by, IsSeriesOf, SeriesAt, flags_of, segment_data, past, reassembled, series_of}
@@ -111,11 +111,10 @@ long_by r views next = of_accepted false long_of r views next
 abbrev pub tail_by : ReceptionParameters → List TcView → TcView → ℕ
 tail_by r views next = of_accepted 0 tail_of r views next
 
--- The report of the next frame: the verdict on it, the packets that end with its unit, and what is amiss with that.
+-- What is reported of the next frame, but for the packets that end with its unit: the verdict on it, and what is amiss
+-- with its unit.
 pub record IsReportedOf (r : ReceptionParameters) (views : List TcView) (next : TcView) (step : StepReport) : Type 0 where
   pub verdict : step.verdict ≡ verdict_on r views next
-  pub packets : step.packets ≡ length (without_idle (ended_by r views next))
-  pub idle : step.idle ≡ length (only_idle (ended_by r views next))
   pub stray : step.stray ≡ stray_by r views next
   pub dropped : step.dropped ≡ dropped_by r views next
   pub long : step.long ≡ long_by r views next

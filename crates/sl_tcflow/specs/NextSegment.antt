@@ -94,11 +94,9 @@ abbrev pub continued_report : Option (List ℕ) → List ℕ → StepReport
 continued_report held octets =
     record quiet_report { stray = is_none held; long = passes (option_map length held) (length octets) }
 
--- The report of the next segment, with these sequence flags and octets.
+-- What is reported of the next segment, with these sequence flags and octets, but for the packets that end with it.
 pub record IsReported (held : Option (List ℕ)) (flags : ℕ) (octets : List ℕ) (step : StepReport) : Type 0 where
   pub verdict : step.verdict ≡ Accept
-  pub packets : step.packets ≡ length (without_idle (packets_with held flags octets))
-  pub idle : step.idle ≡ length (only_idle (packets_with held flags octets))
   pub stray : step.stray ≡ stray_with held flags
   pub dropped : step.dropped ≡ dropped_with held flags
   pub long : step.long ≡ long_with held flags octets

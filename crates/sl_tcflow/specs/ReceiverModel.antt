@@ -1,10 +1,11 @@
--- An `Incomplete` is the octets so far of a series, if one is incomplete; a `Receiver` is its FARMs, the
--- virtual channels without segment headers, these, and whether a fault came.
+-- An `Incomplete` is the octets so far of a series, if one is incomplete; a `SeriesStore` is a list of these; a `Receiver`
+-- is its FARMs, the virtual channels without segment headers, such a list, and whether a fault came.
 use Rattle.std.specs.Prelude.{◌≡◌, ℕ, ◌≤◌, false, if◌then◌else◌, List, [], length, Option, None, Some}
 use Rattle.std.specs.Vec.{vec_capacity}
 use Rattle.sl_tcflow.specs.Receiving.{ReceiverState}
 use Rattle.sl_tcflow.specs.declared.incomplete.Incomplete.TheInside as incomplete
 use Rattle.sl_tcflow.specs.declared.receiver.Receiver.TheInside as receiver
+use Rattle.sl_tcflow.specs.declared.series_store.SeriesStore.TheInside as store
 
 abbrev pub octets_so_far : incomplete.Inside → Option (List ℕ)
 octets_so_far s = if s.is_begun then Some s.octets.items else None
@@ -15,5 +16,8 @@ pub record IsKept (s : incomplete.Inside) : Type 0 where
   pub none : s.is_begun ≡ false → s.octets.items ≡ []
   pub memory : s.is_begun ≡ false → vec_capacity s.octets ≤ 4096
 
+abbrev pub series_in : store.Inside → List (Option (List ℕ))
+series_in s = s.list.items
+
 abbrev pub receiver_state : receiver.Inside → ReceiverState
-receiver_state r = record { farms = r.farms; plain = r.plain; incomplete = r.incomplete.items; has_failed = r.has_failed }
+receiver_state r = record { farms = r.farms; plain = r.plain; incomplete = r.series; has_failed = r.has_failed }

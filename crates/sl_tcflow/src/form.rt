@@ -12,7 +12,7 @@ ghost use Rattle.sl_tcflow.specs.FormPiece.{AddsPiece, piece_room};
 ghost use Rattle.sl_tcflow.specs.Recording.{tc_lists};
 ghost use Rattle.sl_tcflow.specs.TcNormalForm.{tc_normal_form_of};
 
-use crate::frames::push_packet;
+use crate::frames::{Heading, push_packet};
 use sl_cop::Starts;
 use sl_packet::Delivered;
 use sl_tcframe::{TcShape, VcSet, push_tc_plain};
@@ -74,8 +74,11 @@ impl<'d> TcForm<'d> {
         requires spacecraft { spacecraft ≤ 1023 }
         requires fits { FitsTc shape plain delivered.now.lists }
         ensures all { result ≡ tc_normal_form_of shape spacecraft starts plain delivered.now.lists }
-        // Read as a recording with these starts and these channels, it delivers the packets again, whatever the window.
-        ensures delivers { (w : ℕ) → tc_lists shape spacecraft (record { window = w; starts = starts; plain = plain }) result ≡ delivered.now.lists }
+        // Read as a recording with these starts and these channels, it delivers the packets again,
+        // whatever the window.
+        ensures delivers { (w : ℕ) →
+            tc_lists shape spacecraft (record { window = w; starts = starts; plain = plain }) result
+            ≡ delivered.now.lists }
         ensures size { length delivered.now.lists ≡ channel_count }
     {
         let max = shape.max();
@@ -101,10 +104,19 @@ impl<'d> TcForm<'d> {
     /// The only refusal is want of memory, and only where a piece is left and the capacity of `form` has no room for
     /// [`PIECE_ROOM`] octets more. Both are then as they were.
     pub fn next(&mut self, form: &mut Vec<u8>) -> Result<bool, AllocError>
-        ensures piece { IfOk result (λ some. IsTrue some → AddsPiece self.old form.old.items self.new form.new.items) }
-        ensures end { IfOk result (λ some. IsFalse some → (self.old ≡ []) × (self.new ≡ []) × (form.new.items ≡ form.old.items)) }
+        // The piece is the beginning of the octets of the normal form that were still to come, and what
+        // follows it is still to come; there is none where the whole normal form was made.
+        ensures piece { IfOk result (λ some. IsTrue some
+            → AddsPiece self.old form.old.items self.new form.new.items) }
+        ensures end { IfOk result (λ some. IsFalse some
+            → (self.old ≡ []) × (self.new ≡ []) × (form.new.items ≡ form.old.items)) }
+
+        // Where memory is refused, a piece is still to come, the same is, and nothing was added.
         ensures pieces { OnErr result (self.old ≢ []) }
-        ensures unchanged { OnErr result ((self.new ≡ self.old) × (form.new.items ≡ form.old.items)) }
+        ensures unchanged { OnErr result
+            ((self.new ≡ self.old) × (form.new.items ≡ form.old.items)) }
+
+        // Memory is refused only where there is no room for a piece, and none is given back.
         ensures capacity { vec_capacity form.old ≤ vec_capacity form.new }
         ensures full { OnErr result (vec_capacity form.old < vec_len form.old + piece_room) }
         ensures succeeds { vec_len form.old + piece_room ≤ vec_capacity form.old → IsOk result }
@@ -115,7 +127,12 @@ impl<'d> TcForm<'d> {
             None => return Ok(false),
         };
         let plain = self.plain.has((place.channel / 64) as u8);
-        let ns = push_piece(form, &self.shape, self.spacecraft, plain, place, packet)?;
+        let heading = Heading {
+            spacecraft: self.spacecraft,
+            channel: place.channel,
+            ns: place.ns,
+        };
+        let ns = push_piece(form, &self.shape, heading, plain, packet)?;
         let from = Place {
             channel: place.channel,
             framed: place.framed + 1,
@@ -128,12 +145,17 @@ impl<'d> TcForm<'d> {
 
 // The packet of a place, if there is one.
 fn packet_at(delivered: &Delivered, place: Place) -> Option<&[u8]>
-    ensures some { IfSome result (λ packet. packet.now ≡ slice_index_or (list_at delivered.now place.channel) place.framed []) }
-    ensures inside { IfSome result (λ packet. place.framed < length (list_at delivered.now place.channel)) }
+    // It is the packet of this number of the channel's list,
+    ensures some { IfSome result (λ packet.
+        packet.now ≡ slice_index_or (list_at delivered.now place.channel) place.framed []) }
+    ensures inside { IfSome result (λ packet.
+        place.framed < length (list_at delivered.now place.channel)) }
+    ensures none { IfNone result (length (list_at delivered.now place.channel) ≤ place.framed) }
+
+    // and as such deliverable, on a channel.
     ensures counted { IfSome result (λ packet. place.framed + 1 < 2 ^ 64) }
     ensures channel { IfSome result (λ packet. place.channel < channel_count) }
     ensures deliverable { IfSome result (λ packet. IsDeliverable packet.now) }
-    ensures none { IfNone result (length (list_at delivered.now place.channel) ≤ place.framed) }
     ensures channels { length delivered.now.lists ≡ channel_count }
 {
     let packets = delivered.list(place.channel);
@@ -141,36 +163,40 @@ fn packet_at(delivered: &Delivered, place: Place) -> Option<&[u8]>
     Some(packet.as_slice())
 }
 
-// Adds the frames of a packet, the place of which is this, on a virtual channel without segment headers or with them, and
-// answers the N(S) of the next frame.
+// Adds the frames of a packet, on a virtual channel without segment headers (`plain`) or with them, and answers the N(S)
+// of the next frame.
 fn push_piece(
     form: &mut Vec<u8>,
     shape: &TcShape,
-    spacecraft: u16,
+    heading: Heading,
     plain: bool,
-    place: Place,
     packet: &[u8],
 ) -> Result<u8, AllocError>
-    requires spacecraft { spacecraft ≤ 1023 }
-    requires channel { place.channel < channel_count }
+    requires spacecraft { heading.spacecraft ≤ 1023 }
+    requires channel { heading.channel < channel_count }
     requires deliverable { IsDeliverable packet.now }
     requires short { plain ≡ true → length packet.now ≤ plain_room_of shape.now }
-    ensures frames { OnOk result (form.new.items ≡ form.old.items ++ piece_of shape.now spacecraft plain place.channel place.ns packet.now) }
-    ensures next { IfOk result (λ next. next ≡ ns_after shape.now plain place.channel place.ns packet.now) }
-    ensures some { 0 < length (piece_of shape.now spacecraft plain place.channel place.ns packet.now) }
+    // They are the piece of the packet, and N(S) goes on by one for each.
+    ensures frames { OnOk result (form.new.items ≡ form.old.items
+        ++ piece_of shape.now heading.spacecraft plain heading.channel heading.ns packet.now) }
+    ensures next { IfOk result (λ next. next
+        ≡ ns_after shape.now plain heading.channel heading.ns packet.now) }
+    ensures some { 0 < length
+        (piece_of shape.now heading.spacecraft plain heading.channel heading.ns packet.now) }
     ensures most { OnOk result (vec_len form.new ≤ vec_len form.old + piece_room) }
+
+    // Memory is refused only where there is no room for a piece, and nothing was added then.
     ensures unchanged { OnErr result (form.new.items ≡ form.old.items) }
     ensures capacity { vec_capacity form.old ≤ vec_capacity form.new }
     ensures full { OnErr result (vec_capacity form.old < vec_len form.old + piece_room) }
 {
     let start = form.len();
-    let vc = (place.channel / 64) as u8;
-    let mid = (place.channel % 64) as u8;
     if plain {
-        push_tc_plain(form, shape, spacecraft, vc, place.ns, packet)?;
-        return Ok(place.ns.wrapping_add(1));
+        let vc = (heading.channel / 64) as u8;
+        push_tc_plain(form, shape, heading.spacecraft, vc, heading.ns, packet)?;
+        return Ok(heading.ns.wrapping_add(1));
     }
-    match push_packet(form, shape, spacecraft, vc, place.ns, mid, packet) {
+    match push_packet(form, shape, heading, packet) {
         Ok(next) => Ok(next),
         Err(fault) => {
             form.truncate(start);
@@ -184,8 +210,10 @@ fn push_piece(
 fn next_place(delivered: &Delivered, starts: &Starts, from: Place) -> Place
     requires channel { from.channel < channel_count }
     ensures left { (format : TcFormat) (spacecraft : ℕ) (plain : List ℕ)
-        → form_left format spacecraft starts.now plain delivered.now.lists from.channel from.framed from.ns
-        ≡ form_left format spacecraft starts.now plain delivered.now.lists result.channel result.framed result.ns }
+        → form_left format spacecraft starts.now plain delivered.now.lists
+        from.channel from.framed from.ns
+        ≡ form_left format spacecraft starts.now plain delivered.now.lists
+        result.channel result.framed result.ns }
     ensures place { IsPlace delivered.now result.channel result.framed }
     ensures deliverable { AreDeliverable delivered.now.lists }
 {

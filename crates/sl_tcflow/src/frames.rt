@@ -1,43 +1,58 @@
 //! The frames of a packet in the normal form.
-ghost use Rattle.std.specs.Prelude.{◌≡◌, ◌+◌, ◌*◌, ◌%◌, ◌<◌, ◌≤◌, ◌++◌, false, length, take, drop, vec_len, IfOk, OnOk, OnErr};
-ghost use Rattle.std.specs.List.{concat};
+ghost use Rattle.std.specs.Prelude.{◌≡◌, ◌+◌, ◌*◌, ◌<◌, ◌≤◌, ◌++◌, false, length, take, drop, vec_len, IfOk, OnOk, OnErr};
 ghost use Rattle.std.specs.Vec.{vec_capacity};
+ghost use Rattle.sl_packet.specs.Delivered.{channel_count};
 ghost use Rattle.sl_tcframe.specs.AdFrame.{segment_room_of};
-ghost use Rattle.sl_tcflow.specs.TcNormalForm.{units_of_packet, frames_of_units};
+ghost use Rattle.sl_tcflow.specs.FormLeft.{ns_after, piece_of};
 
 use sl_fields::SegmentHeader;
 use sl_tcframe::{TcShape, push_tc};
 use std::alloc::AllocError;
 
-// Adds the frames of a packet, the N(S) of the first one `ns`, and answers the N(S) of the next frame.
+/// What the headers of the frames of a packet show.
+#[derive(Clone, Copy)]
+pub(crate) struct Heading {
+    pub(crate) spacecraft: u16,
+    /// The channel of the packet: 64 times its virtual channel, plus its MAP.
+    pub(crate) channel: u16,
+    /// The N(S) of the first frame.
+    pub(crate) ns: u8,
+}
+
+// Adds the frames of a packet, and answers the N(S) of the next frame.
 pub(crate) fn push_packet(
     form: &mut Vec<u8>,
     shape: &TcShape,
-    spacecraft: u16,
-    vc: u8,
-    ns: u8,
-    mid: u8,
+    heading: Heading,
     packet: &[u8],
 ) -> Result<u8, AllocError>
-    requires spacecraft { spacecraft ≤ 1023 }
-    requires vc { vc ≤ 63 }
-    requires mid { mid ≤ 63 }
-    ensures frames { OnOk result (form.new.items ≡ form.old.items ++ concat (frames_of_units shape.now spacecraft vc ns (units_of_packet false (segment_room_of shape.now) mid packet.now))) }
-    ensures next { IfOk result (λ next. next ≡ (ns + length (units_of_packet false (segment_room_of shape.now) mid packet.now)) % 256) }
+    requires spacecraft { heading.spacecraft ≤ 1023 }
+    requires channel { heading.channel < channel_count }
+    // The frames are those of the packet on a virtual channel with segment headers; N(S) goes on by one
+    // for each.
+    ensures frames { OnOk result (form.new.items ≡ form.old.items
+        ++ piece_of shape.now heading.spacecraft false heading.channel heading.ns packet.now) }
+    ensures next { IfOk result (λ next. next
+        ≡ ns_after shape.now false heading.channel heading.ns packet.now) }
     ensures room { 0 < segment_room_of shape.now }
     ensures most { OnOk result (vec_len form.new ≤ vec_len form.old + 2 * length packet.now + 7) }
+
+    // Memory is refused only where there is no room for them. Some frames may have been added then.
     ensures kept { OnErr result (take (vec_len form.old) form.new.items ≡ form.old.items) }
     ensures capacity { vec_capacity form.old ≤ vec_capacity form.new }
-    ensures full { OnErr result (vec_capacity form.old < vec_len form.old + 2 * length packet.now + 7) }
+    ensures full { OnErr result
+        (vec_capacity form.old < vec_len form.old + 2 * length packet.now + 7) }
 {
     let room = usize::from(shape.room());
-    let mut ns = ns;
+    let vc = (heading.channel / 64) as u8;
+    let mid = (heading.channel % 64) as u8;
+    let mut ns = heading.ns;
     let mut left = packet;
     while !left.is_empty() {
         let first = left.len() == packet.len();
         let (octets, later) = split_segment(left, room);
         let header = SegmentHeader::of_segment(first, later.is_empty(), mid);
-        push_tc(form, shape, spacecraft, vc, ns, header, octets)?;
+        push_tc(form, shape, heading.spacecraft, vc, ns, header, octets)?;
         ns = ns.wrapping_add(1);
         left = later;
     }

@@ -1,9 +1,9 @@
 //! Packets that are handed to a sink.
-ghost use Rattle.std.specs.Prelude.{◌≡◌, ◌≢◌, ◌≤◌, length, OnOk, IfOk, IfErr};
-ghost use Rattle.sl_packet.specs.Packets.{packets_of, without_idle};
-ghost use Rattle.sl_packet.specs.Sink.{TakesAll};
-ghost use Rattle.sl_packet.specs.Stopping.{IsStopped};
+ghost use Rattle.std.specs.Prelude.{◌≡◌, ◌≢◌, ◌≤◌, length, IfOk, IfErr};
+ghost use Rattle.sl_packet.specs.Packets.{packets_of};
+ghost use Rattle.sl_packet.specs.Stopping.{HandsOver};
 ghost use Rattle.sl_tcflow.specs.NextSegment.{unit_report};
+ghost use Rattle.sl_tcflow.specs.StepReport.{counts_of};
 
 use crate::step::{QUIET, TcStep};
 use sl_packet::{FlowFault, PacketSink, hand_over};
@@ -13,11 +13,10 @@ use sl_packet::{FlowFault, PacketSink, hand_over};
 pub fn hand<S: PacketSink>(sink: &mut S, channel: u16, octets: &[u8]) -> Result<TcStep, FlowFault>
     requires channel { channel ≤ 4095 }
     requires short { length octets.now ≤ 65542 }
-    ensures accepted { OnOk result (TakesAll S.taking sink.old channel (without_idle (packets_of octets.now)) sink.new) }
-    ensures kept { OnOk result (S.failures sink.new ≡ S.failures sink.old) }
+    ensures hands_over { HandsOver S.taking S.failing S.failures counts_of
+        sink.old channel (packets_of octets.now) result sink.new }
     ensures step { IfOk result (λ step. step ≡ unit_report octets.now) }
     ensures not_memory { IfErr result (λ flow. flow ≢ FlowFault.Memory) }
-    ensures stopped { IfErr result (λ flow. IsStopped S.taking S.failing S.failures sink.old channel (without_idle (packets_of octets.now)) flow sink.new) }
 {
     match hand_over(sink, channel, octets) {
         Ok(handed) => Ok(TcStep {

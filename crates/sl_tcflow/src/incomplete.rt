@@ -1,10 +1,9 @@
 //! The series of segments that is incomplete on a MAP.
 ghost use Rattle.std.specs.Prelude.{◌≡◌, ◌≢◌, ◌⊎◌, ◌≤◌, length, None, option_map, OnOk, OnErr, IfOk, IfErr, IfSome};
-ghost use Rattle.sl_packet.specs.Packets.{without_idle};
-ghost use Rattle.sl_packet.specs.Sink.{TakesAll};
-ghost use Rattle.sl_packet.specs.Stopping.{IsStopped};
+ghost use Rattle.sl_packet.specs.Stopping.{HandsOver};
 ghost use Rattle.sl_tcflow.specs.Incomplete.{if_fits};
 ghost use Rattle.sl_tcflow.specs.NextSegment.{IsReported, continued_report, extended, incomplete_with, packets_with, quiet_report};
+ghost use Rattle.sl_tcflow.specs.StepReport.{counts_of};
 
 use crate::hand::hand;
 use crate::segment::{CONTINUING, FIRST, LAST, Segment};
@@ -66,27 +65,34 @@ impl Incomplete {
     pub fn take<S: PacketSink>(
         &mut self,
         segment: &Segment,
-        channel: u16,
         sink: &mut S,
     ) -> Result<TcStep, FlowFault>
         requires flags { segment.now.flags ≤ 3 }
         requires short { length segment.now.octets.now ≤ 1019 }
-        requires channel { channel ≤ 4095 }
-        ensures state { OnOk result (self.new ≡ incomplete_with self.old segment.now.flags segment.now.octets.now) }
-        ensures accepted { OnOk result (TakesAll S.taking sink.old channel (without_idle (packets_with self.old segment.now.flags segment.now.octets.now)) sink.new) }
-        ensures kept { OnOk result (S.failures sink.new ≡ S.failures sink.old) }
-        ensures step { IfOk result (IsReported self.old segment.now.flags segment.now.octets.now) }
-        ensures stopped { IfErr result (λ flow. IsStopped S.taking S.failing S.failures sink.old channel (without_idle (packets_with self.old segment.now.flags segment.now.octets.now)) flow sink.new) }
-        ensures memory { IfErr result (λ flow. flow ≡ FlowFault.Memory → (self.old ≢ None) ⊎ (incomplete_with self.old segment.now.flags segment.now.octets.now ≢ None)) }
+        requires channel { segment.now.channel ≤ 4095 }
+        // The series goes on, begins or ends as these sequence flags say,
+        ensures state { OnOk result (self.new
+            ≡ incomplete_with self.old segment.now.flags segment.now.octets.now) }
+
+        // and the sink is handed the packets that end with the segment, which the step reports.
+        ensures hands_over { HandsOver S.taking S.failing S.failures counts_of
+            sink.old segment.now.channel
+            (packets_with self.old segment.now.flags segment.now.octets.now) result sink.new }
+        ensures step { IfOk result
+            (IsReported self.old segment.now.flags segment.now.octets.now) }
+
+        // Memory is wanted only where a series is incomplete, before the segment or after it.
+        ensures memory { IfErr result (λ flow. flow ≡ FlowFault.Memory → (self.old ≢ None)
+            ⊎ (incomplete_with self.old segment.now.flags segment.now.octets.now ≢ None)) }
     {
         match segment.flags {
             CONTINUING => self.go_on(segment.octets),
             FIRST => self.begin(segment.octets),
-            LAST => self.end(segment.octets, channel, sink),
+            LAST => self.end(segment.octets, segment.channel, sink),
             // no segmentation
             _ => {
                 let given_up = self.give_up();
-                match hand(sink, channel, segment.octets) {
+                match hand(sink, segment.channel, segment.octets) {
                     Ok(step) => Ok(TcStep {
                         dropped: given_up,
                         ..step
@@ -102,7 +108,8 @@ impl Incomplete {
     fn begin(&mut self, octets: &[u8]) -> Result<TcStep, FlowFault>
         requires { length octets.now ≤ 1019 }
         ensures state { OnOk result (self.new ≡ if_fits octets.now) }
-        ensures step { IfOk result (λ step. step ≡ record quiet_report { dropped = option_map length self.old }) }
+        ensures step { IfOk result (λ step.
+            step ≡ record quiet_report { dropped = option_map length self.old }) }
         ensures only_memory { IfErr result (λ flow. flow ≡ FlowFault.Memory) }
     {
         let dropped = self.give_up();
@@ -152,10 +159,9 @@ impl Incomplete {
         requires short { length octets.now ≤ 1019 }
         requires channel { channel ≤ 4095 }
         ensures state { OnOk result (self.new ≡ None) }
-        ensures accepted { OnOk result (TakesAll S.taking sink.old channel (without_idle (packets_with self.old 2 octets.now)) sink.new) }
-        ensures kept { OnOk result (S.failures sink.new ≡ S.failures sink.old) }
+        ensures hands_over { HandsOver S.taking S.failing S.failures counts_of
+            sink.old channel (packets_with self.old 2 octets.now) result sink.new }
         ensures step { IfOk result (IsReported self.old 2 octets.now) }
-        ensures stopped { IfErr result (λ flow. IsStopped S.taking S.failing S.failures sink.old channel (without_idle (packets_with self.old 2 octets.now)) flow sink.new) }
         ensures memory { IfErr result (λ flow. flow ≡ FlowFault.Memory → self.old ≢ None) }
     {
         let step = match self.go_on(octets) {

@@ -9,11 +9,11 @@ mod form;
 mod frames;
 mod hand;
 mod incomplete;
-mod kept;
 pub mod laws;
 mod receiver;
 mod reframe;
 mod segment;
+mod series_store;
 mod step;
 
 pub use fits::fits_tc;

@@ -3,7 +3,7 @@ ghost use Rattle.std.specs.Prelude.{◌≡◌, ◌≢◌, ◌≤◌, ◌<◌, �
 ghost use Rattle.sl_cop.specs.FarmClcw.{clcw_of};
 ghost use Rattle.sl_packet.specs.Packets.{only_idle, without_idle};
 ghost use Rattle.sl_packet.specs.Sink.{TakesAll};
-ghost use Rattle.sl_packet.specs.Stopping.{CountsFault, IsStopped};
+ghost use Rattle.sl_packet.specs.Stopping.{CountsFault, HandsOver, IsStopped};
 ghost use Rattle.sl_tcframe.specs.TcContent.{content};
 ghost use Rattle.sl_tcframe.specs.TcFrame.{TcView, IsContent};
 ghost use Rattle.sl_tcflow.specs.AcceptedUnit.{event_of, unit_by};
@@ -13,9 +13,10 @@ ghost use Rattle.sl_tcflow.specs.Receiving.{ForProcessed, HasProcessed, HasFaile
 ghost use Rattle.sl_tcflow.specs.Reception.{segments_of};
 ghost use Rattle.sl_tcflow.specs.ReceptionParameters.{ReceptionParameters};
 ghost use Rattle.sl_tcflow.specs.Series.{header_at, segment_in};
+ghost use Rattle.sl_tcflow.specs.StepReport.{counts_of};
 
-use crate::incomplete::Incomplete;
-use crate::kept::{held_on, take_unit};
+use crate::segment::segment_of;
+use crate::series_store::SeriesStore;
 use crate::step::{QUIET, TcStep};
 use sl_cop::{Farm, FarmEvent, Starts, Verdict, Window};
 use sl_fields::Clcw;
@@ -28,10 +29,9 @@ use std::marker::Model;
 /// given one after another.
 #[derive(Drop)]
 pub struct Receiver {
-    alloc: Global,
     farms: [Farm; 64],
     plain: VcSet,
-    incomplete: Vec<Incomplete>,
+    series: SeriesStore,
     has_failed: bool,
 }
 
@@ -50,13 +50,13 @@ impl Receiver {
     /// V(R) of `starts`. The frames of the virtual channels of `plain` have no segment headers. It takes memory only
     /// as segments come.
     pub fn new(alloc: Global, window: Window, starts: &Starts, plain: VcSet) -> Receiver
-        ensures { HasProcessed (record { window = window; starts = starts.now; plain = plain }) result [] }
+        ensures { HasProcessed
+            (record { window = window; starts = starts.now; plain = plain }) result [] }
     {
         Receiver {
-            alloc,
             farms: farms_at_start(window, starts),
             plain,
-            incomplete: Vec::new(alloc),
+            series: SeriesStore::new(alloc),
             has_failed: false,
         }
     }
@@ -75,31 +75,49 @@ impl Receiver {
         frame: &TcFrame,
         sink: &mut S,
     ) -> Result<TcStep, FlowFault>
-        // Whichever frames were processed before, now they and this one are,
-        ensures processed { OnOk result (ForProcessed self.old (λ r views. HasProcessed r self.new (views ++ frame.now ∷ []))) }
-        ensures verdict { IfOk result (λ step. ForProcessed self.old (λ r views. step.verdict ≡ verdict_on r views frame.now)) }
-        // and the packets that end with its unit were accepted and counted.
-        ensures accepted { OnOk result (ForProcessed self.old (λ r views. TakesAll S.taking sink.old (unit_channel r frame.now) (without_idle (ended_by r views frame.now)) sink.new)) }
-        ensures packets { IfOk result (λ step. ForProcessed self.old (λ r views. step.packets ≡ length (without_idle (ended_by r views frame.now)))) }
-        ensures idle { IfOk result (λ step. ForProcessed self.old (λ r views. step.idle ≡ length (only_idle (ended_by r views frame.now)))) }
+        // Whichever frames were processed before, now they and this one are, and FARM-1 gave the verdict.
+        ensures processed { OnOk result (ForProcessed self.old (λ r views.
+            HasProcessed r self.new (views ++ frame.now ∷ []))) }
+        ensures verdict { IfOk result (λ step. ForProcessed self.old (λ r views.
+            step.verdict ≡ verdict_on r views frame.now)) }
+
+        // The packets that end with its unit were accepted and counted, and the sink has refused none.
+        ensures accepted { OnOk result (ForProcessed self.old (λ r views.
+            TakesAll S.taking sink.old (unit_channel r frame.now)
+            (without_idle (ended_by r views frame.now)) sink.new)) }
+        ensures packets { IfOk result (λ step. ForProcessed self.old (λ r views.
+            step.packets ≡ length (without_idle (ended_by r views frame.now)))) }
+        ensures idle { IfOk result (λ step. ForProcessed self.old (λ r views.
+            step.idle ≡ length (only_idle (ended_by r views frame.now)))) }
         ensures kept { OnOk result (S.failures sink.new ≡ S.failures sink.old) }
+
         // What is amiss with its unit is told, if it is accepted.
-        ensures stray { IfOk result (λ step. ForProcessed self.old (λ r views. step.stray ≡ stray_by r views frame.now)) }
-        ensures dropped { IfOk result (λ step. ForProcessed self.old (λ r views. step.dropped ≡ dropped_by r views frame.now)) }
-        ensures long { IfOk result (λ step. ForProcessed self.old (λ r views. step.long ≡ long_by r views frame.now)) }
-        ensures tail { IfOk result (λ step. ForProcessed self.old (λ r views. step.tail ≡ tail_by r views frame.now)) }
+        ensures stray { IfOk result (λ step. ForProcessed self.old (λ r views.
+            step.stray ≡ stray_by r views frame.now)) }
+        ensures dropped { IfOk result (λ step. ForProcessed self.old (λ r views.
+            step.dropped ≡ dropped_by r views frame.now)) }
+        ensures long { IfOk result (λ step. ForProcessed self.old (λ r views.
+            step.long ≡ long_by r views frame.now)) }
+        ensures tail { IfOk result (λ step. ForProcessed self.old (λ r views.
+            step.tail ≡ tail_by r views frame.now)) }
+
         // After a fault each call fails, and leaves all as it was; none fails before.
         ensures failed { HasFailed self.old → result ≡ Err FlowFault.Failed }
-        ensures left { result ≡ Err FlowFault.Failed → HasFailed self.old × (self.new ≡ self.old) × (sink.new ≡ sink.old) }
+        ensures left { result ≡ Err FlowFault.Failed
+            → HasFailed self.old × (self.new ≡ self.old) × (sink.new ≡ sink.old) }
+
         // At a fault some of the packets were accepted, the first ones, and FARM-1 has taken the frame.
+        // Whatever was processed before, the sink failed exactly where the fault says so.
         ensures stopped { IfErr result (λ flow. flow ≢ FlowFault.Failed → HasFailed self.new
             × ForProcessed self.old (λ r views. HasFailedAfter r self.new (views ++ frame.now ∷ [])
-            × IsStopped S.taking S.failing S.failures sink.old (unit_channel r frame.now) (without_idle (ended_by r views frame.now)) flow sink.new)) }
-        // Whatever was processed before, the sink failed exactly where the fault says so.
+            × IsStopped S.taking S.failing S.failures sink.old (unit_channel r frame.now)
+            (without_idle (ended_by r views frame.now)) flow sink.new)) }
         ensures counted { IfErr result (λ flow. CountsFault S.failures sink.old flow sink.new) }
-        // Memory is wanted only where the frame's unit is accepted and a series is incomplete on its MAP, before the
-        // frame or after it.
-        ensures memory { IfErr result (λ flow. flow ≡ FlowFault.Memory → ForProcessed self.old (λ r views. IsIncompleteAround r views frame.now)) }
+
+        // Memory is wanted only where the frame's unit is accepted and a series is incomplete on its MAP,
+        // before the frame or after it.
+        ensures memory { IfErr result (λ flow. flow ≡ FlowFault.Memory →
+            ForProcessed self.old (λ r views. IsIncompleteAround r views frame.now)) }
     {
         if self.has_failed {
             return Err(FlowFault::Failed);
@@ -108,14 +126,7 @@ impl Receiver {
         self.has_failed = true;
         let verdict = step(&mut self.farms, frame);
         let plain = self.plain.has(frame.vc());
-        let reported = match take(
-            self.alloc,
-            &mut self.incomplete,
-            plain,
-            verdict,
-            frame,
-            sink,
-        ) {
+        let reported = match take(&mut self.series, plain, verdict, frame, sink) {
             Ok(step) => step,
             Err(flow) => return Err(flow),
         };
@@ -126,8 +137,11 @@ impl Receiver {
     /// The Communications Link Control Word of a virtual channel.
     pub fn clcw(&self, vc: u8) -> Clcw
         requires { vc ≤ 63 }
-        ensures processed { ForProcessed self.now (λ r views. result ≡ clcw_of vc (farm_of r vc views).state) }
-        ensures failed { (r : ReceptionParameters) (views : List TcView) → HasFailedAfter r self.now views → result ≡ clcw_of vc (farm_of r vc views).state }
+        ensures processed { ForProcessed self.now (λ r views.
+            result ≡ clcw_of vc (farm_of r vc views).state) }
+        ensures failed { (r : ReceptionParameters) (views : List TcView)
+            → HasFailedAfter r self.now views
+            → result ≡ clcw_of vc (farm_of r vc views).state }
     {
         self.farms[usize::from(vc)].clcw(vc)
     }
@@ -137,10 +151,11 @@ impl Receiver {
     pub fn held(&self, vc: u8, map: u8) -> u32
         requires vc { vc ≤ 63 }
         requires map { map ≤ 63 }
-        ensures value { ForProcessed self.now (λ r views. result ≡ held_of (segments_of r vc map views)) }
+        ensures value { ForProcessed self.now (λ r views.
+            result ≡ held_of (segments_of r vc map views)) }
         ensures most { result ≤ 65542 }
     {
-        held_on(&self.incomplete, vc, map).unwrap_or(0)
+        self.series.held(vc, map).unwrap_or(0)
     }
 
     /// Whether a series is incomplete on a virtual channel and a MAP. It may have no octets so far. After a fault
@@ -148,15 +163,17 @@ impl Receiver {
     pub fn is_open(&self, vc: u8, map: u8) -> bool
         requires vc { vc ≤ 63 }
         requires map { map ≤ 63 }
-        ensures value { ForProcessed self.now (λ r views. result ≡ is_some (incomplete_of (segments_of r vc map views))) }
+        ensures value { ForProcessed self.now (λ r views.
+            result ≡ is_some (incomplete_of (segments_of r vc map views))) }
     {
-        held_on(&self.incomplete, vc, map).is_some()
+        self.series.held(vc, map).is_some()
     }
 }
 
 // FARM-1 of each virtual channel before its first frame.
 fn farms_at_start(window: Window, starts: &Starts) -> [Farm; 64]
-    ensures { (r : ReceptionParameters) → r.window ≡ window → r.starts ≡ starts.now → HaveStepped r result [] }
+    ensures { (r : ReceptionParameters) → r.window ≡ window → r.starts ≡ starts.now
+        → HaveStepped r result [] }
 {
     let mut farms = [Farm::new(window, 0); 64];
     for vc in 0..64 {
@@ -167,8 +184,10 @@ fn farms_at_start(window: Window, starts: &Starts) -> [Farm; 64]
 
 // Steps FARM-1 of a frame's virtual channel.
 fn step(farms: &mut [Farm; 64], frame: &TcFrame) -> Verdict
-    ensures verdict { (r : ReceptionParameters) (views : List TcView) → HaveStepped r farms.old views → result ≡ verdict_on r views frame.now }
-    ensures farms { (r : ReceptionParameters) (views : List TcView) → HaveStepped r farms.old views → HaveStepped r farms.new (views ++ frame.now ∷ []) }
+    ensures verdict { (r : ReceptionParameters) (views : List TcView)
+        → HaveStepped r farms.old views → result ≡ verdict_on r views frame.now }
+    ensures farms { (r : ReceptionParameters) (views : List TcView)
+        → HaveStepped r farms.old views → HaveStepped r farms.new (views ++ frame.now ∷ []) }
 {
     farms[usize::from(frame.vc())].step(event_in(&frame.content()))
 }
@@ -188,24 +207,32 @@ fn event_in(carried: &TcContent) -> FarmEvent
 // Takes the unit of a frame, if it carries one and this verdict accepts it, on a virtual channel without segment headers
 // or with them.
 fn take<S: PacketSink>(
-    alloc: Global,
-    incomplete: &mut Vec<Incomplete>,
+    series: &mut SeriesStore,
     plain: bool,
     verdict: Verdict,
     frame: &TcFrame,
     sink: &mut S,
 ) -> Result<TcStep, FlowFault>
-    ensures series { OnOk result (ForIncomplete plain incomplete.old.items verdict frame.now (λ r views. AreIncomplete r incomplete.new.items (views ++ frame.now ∷ []))) }
-    ensures accepted { OnOk result (ForIncomplete plain incomplete.old.items verdict frame.now (λ r views. TakesAll S.taking sink.old (unit_channel r frame.now) (without_idle (ended_by r views frame.now)) sink.new)) }
-    ensures step { IfOk result (λ step. ForIncomplete plain incomplete.old.items verdict frame.now (λ r views. IsReportedOf r views frame.now step)) }
+    // Whichever frames came before,
+    ensures series { OnOk result (ForIncomplete plain series.old verdict frame.now
+        (λ r views. AreIncomplete r series.new (views ++ frame.now ∷ []))) }
+    ensures hands_over { ForIncomplete plain series.old verdict frame.now
+        (λ r views. HandsOver S.taking S.failing S.failures counts_of
+            sink.old (unit_channel r frame.now) (ended_by r views frame.now) result sink.new) }
+    ensures step { IfOk result
+        (λ step. ForIncomplete plain series.old verdict frame.now
+        (λ r views. IsReportedOf r views frame.now step)) }
+    ensures memory { IfErr result (λ flow. flow ≡ FlowFault.Memory →
+        ForIncomplete plain series.old verdict frame.now
+        (λ r views. IsIncompleteAround r views frame.now)) }
+
+    // The sink failed exactly where the fault says so.
     ensures kept { OnOk result (S.failures sink.new ≡ S.failures sink.old) }
     ensures counted { IfErr result (λ flow. CountsFault S.failures sink.old flow sink.new) }
-    ensures stopped { IfErr result (λ flow. ForIncomplete plain incomplete.old.items verdict frame.now (λ r views. IsStopped S.taking S.failing S.failures sink.old (unit_channel r frame.now) (without_idle (ended_by r views frame.now)) flow sink.new)) }
     ensures not_failed { IfErr result (λ flow. flow ≢ FlowFault.Failed) }
-    ensures memory { IfErr result (λ flow. flow ≡ FlowFault.Memory → ForIncomplete plain incomplete.old.items verdict frame.now (λ r views. IsIncompleteAround r views frame.now)) }
 {
     match accepted_unit(verdict, &frame.content()) {
-        Some(unit) => match take_unit(alloc, incomplete, frame.vc(), plain, unit, sink) {
+        Some(unit) => match series.take(&segment_of(frame.vc(), plain, unit), sink) {
             Ok(step) => Ok(step),
             Err(flow) => Err(flow),
         },
@@ -216,12 +243,16 @@ fn take<S: PacketSink>(
 // The unit that is accepted.
 fn accepted_unit<'a>(verdict: Verdict, carried: &TcContent<'a>) -> Option<&'a [u8]>
     requires { IsContent (content carried.now) }
+    // It is the unit that the frame carries, where this verdict accepts one,
     ensures unit { IfSome result (λ unit. unit_by verdict (content carried.now) ≡ unit.now ∷ []) }
-    ensures map { IfSome result (λ unit. (plain : Bool) → map_of plain (content carried.now) ≡ (header_at (segment_in plain unit.now)).map) }
-    ensures some { IfSome result (λ unit. 0 < length unit.now) }
-    ensures short { IfSome result (λ unit. length unit.now ≤ 1019) }
     ensures accepted { IfSome result (λ unit. verdict ≡ Verdict.Accept) }
     ensures none { IfNone result (unit_by verdict (content carried.now) ≡ []) }
+
+    // and such as a frame can carry.
+    ensures map { IfSome result (λ unit. (plain : Bool)
+        → map_of plain (content carried.now) ≡ (header_at (segment_in plain unit.now)).map) }
+    ensures some { IfSome result (λ unit. 0 < length unit.now) }
+    ensures short { IfSome result (λ unit. length unit.now ≤ 1019) }
 {
     match verdict {
         Verdict::Accept => match *carried {

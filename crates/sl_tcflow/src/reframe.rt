@@ -30,8 +30,11 @@ pub fn reframe_tc(
 ) -> Result<Vec<u8>, AllocError>
     requires spacecraft { spacecraft ≤ 1023 }
     requires fits { FitsTc shape.now plain.now delivered.now.lists }
-    ensures form { IfOk result (λ form. form.items ≡ tc_normal_form_of shape.now spacecraft starts.now plain.now delivered.now.lists) }
-    ensures delivers { IfOk result (λ form. (w : ℕ) → tc_lists shape.now spacecraft (record { window = w; starts = starts.now; plain = plain.now }) form.items ≡ delivered.now.lists) }
+    ensures form { IfOk result (λ form. form.items
+        ≡ tc_normal_form_of shape.now spacecraft starts.now plain.now delivered.now.lists) }
+    ensures delivers { IfOk result (λ form. (w : ℕ) → tc_lists shape.now spacecraft
+        (record { window = w; starts = starts.now; plain = plain.now }) form.items
+        ≡ delivered.now.lists) }
     ensures packets { OnErr result (HasNone delivered.now 0 channel_count → ⊥) }
 {
     let mut form = Vec::new(alloc);

@@ -1,5 +1,6 @@
 //! Segments of service data units.
 ghost use Rattle.std.specs.Prelude.{◌≡◌, ◌≤◌, ◌<◌, length};
+ghost use Rattle.sl_tcflow.specs.Receiving.{channel_at};
 ghost use Rattle.sl_tcflow.specs.Series.{flags_of, header_at, segment_data, segment_in};
 
 use sl_fields::{SegmentHeader, front};
@@ -13,29 +14,34 @@ pub const LAST: u8 = 2;
 
 pub const WHOLE: u8 = 3;
 
-/// A segment: the sequence flags and the MAP of its segment header, and the octets after that. One on a virtual channel
-/// without segment headers is whole and on MAP 0.
+/// A segment: the sequence flags of its segment header, the channel of its packets, 64 times the virtual channel plus the
+/// MAP of that header, and the octets after it. One on a virtual channel without segment headers is whole and on MAP 0.
 #[derive(Clone, Copy)]
 pub struct Segment<'a> {
     pub flags: u8,
-    pub map: u8,
+    pub channel: u16,
     pub octets: &'a [u8],
 }
 
-/// The segment that a unit is, on a virtual channel without segment headers (`plain`) or with them.
-pub fn segment_of(plain: bool, unit: &[u8]) -> Segment
-    requires { 0 < length unit.now }
+/// The segment that a unit of a virtual channel is, without segment headers (`plain`) or with them.
+pub fn segment_of(vc: u8, plain: bool, unit: &[u8]) -> Segment
+    requires vc { vc ≤ 63 }
+    requires some { 0 < length unit.now }
+    // It is the segment that the unit stands for,
     ensures flags { result.flags ≡ flags_of (segment_in plain unit.now) }
-    ensures map { result.map ≡ (header_at (segment_in plain unit.now)).map }
+    ensures channel { result.channel ≡ channel_at vc (header_at (segment_in plain unit.now)).map }
     ensures octets { result.octets.now ≡ segment_data (segment_in plain unit.now) }
+
+    // no longer than the unit, with 2 bits of flags, on a channel.
     ensures short { length result.octets.now ≤ length unit.now }
     ensures most { result.flags ≤ 3 }
-    ensures map_most { result.map ≤ 63 }
+    ensures channel_most { result.channel ≤ 4095 }
 {
+    let first = 64 * u16::from(vc);
     if plain {
         return Segment {
             flags: WHOLE,
-            map: 0,
+            channel: first,
             octets: unit,
         };
     }
@@ -43,7 +49,7 @@ pub fn segment_of(plain: bool, unit: &[u8]) -> Segment
     let header = SegmentHeader::read(header);
     Segment {
         flags: header.flags(),
-        map: header.map(),
+        channel: first + u16::from(header.map()),
         octets,
     }
 }

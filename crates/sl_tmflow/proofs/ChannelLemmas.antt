@@ -1,5 +1,5 @@
 -- What is kept of a channel is what its frames leave, frame by frame.
-use Rattle.std.proofs.Common.{◌≡◌, ℕ, ◌<◌, ◌≤◌, ◌==◌, nat_eq, Bool, true, false, if◌then◌else◌, List, [], ◌∷◌, ◌++◌, length, take, drop, set, Option, None, Some, inl, inr, refl, sym, ◌∙◌, ap, subst, arith, append-nil}
+use Rattle.std.proofs.Common.{◌≡◌, ℕ, ◌<◌, ◌≤◌, ◌==◌, nat_eq, Bool, true, false, if◌then◌else◌, List, [], ◌∷◌, ◌++◌, length, take, drop, set, Option, None, Some, Result, inl, inr, refl, sym, ◌∙◌, ap, subst, arith, append-nil}
 use Rattle.std.specs.List.{flat_map, slice_index_or}
 use Rattle.std.specs.Option.{option_eq}
 use Rattle.std.proofs.lemmas.Bool.Decides.{eqb_tells}
@@ -7,6 +7,10 @@ use Rattle.std.proofs.lemmas.List.{get_or_default, get_or-set_same, get_or-set_o
 use Rattle.std.proofs.lemmas.List.Elements.{filter-append}
 use Rattle.sl_packet.specs.Front.{Front, OtherVersion, Incomplete, WholePacket, front}
 use Rattle.sl_packet.specs.Packets.{rest_of}
+use Rattle.sl_packet.specs.Stopping.{HandsOver}
+use Rattle.sl_packet.specs.declared.flow_fault.FlowFault.{FlowFault}
+use Rattle.sl_packet.specs.declared.sink.SinkFault.{SinkFault}
+use Rattle.sl_packet.proofs.StoppingLemmas.{hands_same}
 use Rattle.sl_tmframe.specs.TmFrame.{TmView, DataField, Packets, Idle, Opaque}
 use Rattle.sl_tmflow.specs.Channel.{channel_of, follows, last_count, packet_data}
 use Rattle.sl_tmflow.specs.ChannelState.{ChannelState, no_frame, held_step, kept_of, kept_octets, incomplete_in, held_after, state_after, packets_after}
@@ -14,6 +18,7 @@ use Rattle.sl_tmflow.specs.Delivery.{Continuation, Ends, Continues, Breaks, agre
 use Rattle.sl_tmflow.specs.Incomplete.{frame_incomplete, incomplete_octets}
 use Rattle.sl_tmflow.specs.Extraction.{ExtractorState, HasSeen, HasProcessed, ended_by, held_as}
 use Rattle.sl_tmflow.specs.PacketStart.{whole_packets}
+use Rattle.sl_tmflow.specs.StepReport.{StepReport, counts_of}
 use Rattle.sl_tmflow.proofs.AtStartsLemmas.{at_rest}
 use Rattle.sl_tmflow.proofs.IncompleteListLemmas.{incomplete_of_idle, incomplete_of_opaque, incomplete_without_pointer, incomplete_from_pointer}
 use Rattle.sl_tmflow.proofs.OneMoreLemmas.{carried, carried_into, incomplete_first, incomplete_next, ending_first, ending_next}
@@ -207,6 +212,13 @@ module _ (old : ExtractorState) (views : List TmView) (next : TmView) (states : 
       → ended_by views next ≡ packets_after (slice_index_or states at d) next
   ended_now p are eight fits same =
       one_more (slice_index_or states at d) (channel_of next.vc views) next (seen_at old views states at next.vc d p are eight fits same)
+
+  -- so a step that hands over the packets after that state hands over those that end in the frame
+  pub handed_now : {S : Type 0} {taking : S → ℕ → List ℕ → S → Type 0} {failing : S → ℕ → List ℕ → SinkFault → S → Type 0} {failures : S → ℕ}
+      {sink sink' : S} {channel : ℕ} {result : Result StepReport FlowFault} → states ≡ old.channels → length states ≡ 8 → next.vc ≤ 7 → at ≡ next.vc
+      → HandsOver taking failing failures counts_of sink channel (packets_after (slice_index_or states at d) next) result sink'
+      → HasProcessed old views → HandsOver taking failing failures counts_of sink channel (ended_by views next) result sink'
+  handed_now are eight fits same handed p = hands_same refl (sym (ended_now p are eight fits same)) handed
 
   pub processed_more : (after : ChannelState) → HasProcessed old views → states ≡ old.channels → length states ≡ 8 → next.vc ≤ 7 → at ≡ next.vc
       → after ≡ state_after (slice_index_or states at d) next

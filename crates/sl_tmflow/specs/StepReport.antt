@@ -12,3 +12,7 @@ pub record StepReport : Type 0 where
   pub dropped : ℕ
   -- octets of another packet version than 0 stand at a packet start
   pub foreign : Bool
+
+-- the packets that it counts, and the idle ones
+abbrev pub counts_of : StepReport → ℕ × ℕ
+counts_of report = (report.packets, report.idle)

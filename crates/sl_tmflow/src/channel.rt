@@ -1,15 +1,15 @@
 //! A virtual channel and the packet that is incomplete on it.
 ghost use Rattle.std.specs.Prelude.{◌≡◌, ◌≢◌, ◌⊎◌, ◌≤◌, ◌+◌, ◌++◌, [], length, OnOk, IfOk, IfErr};
 ghost use Rattle.sl_packet.specs.Front.{front, is_foreign};
-ghost use Rattle.sl_packet.specs.Packets.{only_idle, packets_of, rest_of, without_idle};
-ghost use Rattle.sl_packet.specs.Sink.{TakesAll};
+ghost use Rattle.sl_packet.specs.Packets.{packets_of, rest_of};
+ghost use Rattle.sl_packet.specs.Stopping.{HandsOver};
 ghost use Rattle.sl_tmframe.specs.TmField.{data_field};
 ghost use Rattle.sl_tmframe.specs.TmFrame.{IsInField, Packets};
 ghost use Rattle.sl_tmflow.specs.Anomaly.{gap_after};
 ghost use Rattle.sl_tmflow.specs.ChannelState.{foreign_in, held_after, incomplete_in, is_after, kept_octets, kept_of, lost_by, lost_of, no_frame, packets_after, state_after, step_in};
 ghost use Rattle.sl_tmflow.specs.Delivery.{ended, field_step};
 ghost use Rattle.sl_tmflow.specs.PacketStart.{whole_packets};
-ghost use Rattle.sl_packet.specs.Stopping.{IsStopped};
+ghost use Rattle.sl_tmflow.specs.StepReport.{counts_of};
 
 use crate::handing::{hand, hand_packet};
 use crate::progress::{Progress, add_field};
@@ -58,16 +58,14 @@ impl Channel {
         sink: &mut S,
     ) -> Result<TmStep, FlowFault>
         ensures state { OnOk result (self.new ≡ state_after self.old frame.now) }
-        ensures accepted { OnOk result (TakesAll S.taking sink.old frame.now.vc (without_idle (packets_after self.old frame.now)) sink.new) }
-        ensures kept { OnOk result (S.failures sink.new ≡ S.failures sink.old) }
-        ensures packets { IfOk result (λ step. step.packets ≡ length (without_idle (packets_after self.old frame.now))) }
-        ensures idle { IfOk result (λ step. step.idle ≡ length (only_idle (packets_after self.old frame.now))) }
+        ensures hands_over { HandsOver S.taking S.failing S.failures counts_of
+            sink.old frame.now.vc (packets_after self.old frame.now) result sink.new }
         ensures gap { IfOk result (λ step. step.gap ≡ gap_after self.old.count frame.now.vc_count) }
         ensures dropped { IfOk result (λ step. step.dropped ≡ length (lost_by self.old frame.now)) }
         ensures foreign { IfOk result (λ step. step.foreign ≡ foreign_in frame.now.field) }
-        ensures stopped { IfErr result (λ flow. IsStopped S.taking S.failing S.failures sink.old frame.now.vc (without_idle (packets_after self.old frame.now)) flow sink.new) }
         // Memory is wanted only where a packet is incomplete, before the frame or after it.
-        ensures memory { IfErr result (λ flow. flow ≡ FlowFault.Memory → (self.old.held ≢ []) ⊎ ((state_after self.old frame.now).held ≢ [])) }
+        ensures memory { IfErr result (λ flow. flow ≡ FlowFault.Memory
+            → (self.old.held ≢ []) ⊎ ((state_after self.old frame.now).held ≢ [])) }
     {
         let gap = self.gap_at(frame.vc_count());
         let ended = match self.go_on(frame, sink) {
@@ -111,14 +109,12 @@ impl Channel {
     // Goes on with the packet that is incomplete, if one is.
     fn go_on<S: PacketSink>(&mut self, frame: &TmFrame, sink: &mut S) -> Result<TmStep, FlowFault>
         ensures count { self.new.count ≡ self.old.count }
-        ensures held { OnOk result (self.new.held ≡ kept_octets (step_in self.old frame.now) self.old.held frame.now) }
-        ensures accepted { OnOk result (TakesAll S.taking sink.old frame.now.vc (without_idle (ended (step_in self.old frame.now))) sink.new) }
-        ensures kept { OnOk result (S.failures sink.new ≡ S.failures sink.old) }
-        ensures packets { IfOk result (λ step. step.packets ≡ length (without_idle (ended (step_in self.old frame.now)))) }
-        ensures idle { IfOk result (λ step. step.idle ≡ length (only_idle (ended (step_in self.old frame.now)))) }
+        ensures held { OnOk result (self.new.held
+            ≡ kept_octets (step_in self.old frame.now) self.old.held frame.now) }
+        ensures hands_over { HandsOver S.taking S.failing S.failures counts_of
+            sink.old frame.now.vc (ended (step_in self.old frame.now)) result sink.new }
         ensures few { IfOk result (λ step. step.packets + step.idle ≤ 1) }
         ensures dropped { IfOk result (λ step. step.dropped ≡ length (lost_by self.old frame.now)) }
-        ensures stopped { IfErr result (λ flow. IsStopped S.taking S.failing S.failures sink.old frame.now.vc (without_idle (ended (step_in self.old frame.now))) flow sink.new) }
         ensures memory { IfErr result (λ flow. flow ≡ FlowFault.Memory → self.old.held ≢ []) }
     {
         if self.held.is_empty() || !self.is_followed_by(frame.vc_count()) {
@@ -168,15 +164,19 @@ impl Channel {
     ) -> Result<TmStep, FlowFault>
         requires vc { vc ≤ 7 }
         requires short { length octets.now ≤ 2042 }
+        // The packet goes on with all of the field's octets, or isn't kept.
         ensures count { self.new.count ≡ self.old.count }
-        ensures held { OnOk result (self.new.held ≡ kept_of (field_step self.old.held (Packets first octets.now)) (self.old.held ++ octets.now)) }
-        ensures accepted { OnOk result (TakesAll S.taking sink.old vc (without_idle (ended (field_step self.old.held (Packets first octets.now)))) sink.new) }
-        ensures kept { OnOk result (S.failures sink.new ≡ S.failures sink.old) }
-        ensures packets { IfOk result (λ step. step.packets ≡ length (without_idle (ended (field_step self.old.held (Packets first octets.now))))) }
-        ensures idle { IfOk result (λ step. step.idle ≡ length (only_idle (ended (field_step self.old.held (Packets first octets.now))))) }
+        ensures held { OnOk result (self.new.held
+            ≡ kept_of (field_step self.old.held (Packets first octets.now))
+            (self.old.held ++ octets.now)) }
+
+        // The sink is handed the packet where it ends, and what it had is counted where it is broken off.
+        ensures hands_over { HandsOver S.taking S.failing S.failures counts_of
+            sink.old vc (ended (field_step self.old.held (Packets first octets.now)))
+            result sink.new }
         ensures few { IfOk result (λ step. step.packets + step.idle ≤ 1) }
-        ensures dropped { IfOk result (λ step. step.dropped ≡ length (lost_of (field_step self.old.held (Packets first octets.now)) self.old.held)) }
-        ensures stopped { IfErr result (λ flow. IsStopped S.taking S.failing S.failures sink.old vc (without_idle (ended (field_step self.old.held (Packets first octets.now)))) flow sink.new) }
+        ensures dropped { IfOk result (λ step. step.dropped ≡ length
+            (lost_of (field_step self.old.held (Packets first octets.now)) self.old.held)) }
     {
         let before = self.held.len();
         let progress = match add_field(&mut self.held, first, octets) {
@@ -206,16 +206,18 @@ impl Channel {
     ) -> Result<TmStep, FlowFault>
         requires vc { vc ≤ 7 }
         requires inside { IsInField (data_field field.now) }
+        // What is incomplete at the end of the field is kept; memory is wanted for that alone.
         ensures count { self.new.count ≡ self.old.count }
-        ensures held { OnOk result (self.new.held ≡ held_after (data_field field.now) self.old.held) }
-        ensures accepted { OnOk result (TakesAll S.taking sink.old vc (without_idle (whole_packets (data_field field.now))) sink.new) }
-        ensures kept { OnOk result (S.failures sink.new ≡ S.failures sink.old) }
-        ensures packets { IfOk result (λ step. step.packets ≡ length (without_idle (whole_packets (data_field field.now)))) }
-        ensures idle { IfOk result (λ step. step.idle ≡ length (only_idle (whole_packets (data_field field.now)))) }
+        ensures held { OnOk result
+            (self.new.held ≡ held_after (data_field field.now) self.old.held) }
+        ensures memory { IfErr result (λ flow. flow ≡ FlowFault.Memory
+            → held_after (data_field field.now) self.old.held ≢ []) }
+
+        // The sink is handed the packets that lie whole in the field.
+        ensures hands_over { HandsOver S.taking S.failing S.failures counts_of
+            sink.old vc (whole_packets (data_field field.now)) result sink.new }
         ensures few { IfOk result (λ step. step.packets + step.idle ≤ 2042) }
         ensures foreign { IfOk result (λ step. step.foreign ≡ foreign_in (data_field field.now)) }
-        ensures stopped { IfErr result (λ flow. IsStopped S.taking S.failing S.failures sink.old vc (without_idle (whole_packets (data_field field.now))) flow sink.new) }
-        ensures memory { IfErr result (λ flow. flow ≡ FlowFault.Memory → held_after (data_field field.now) self.old.held ≢ []) }
     {
         match *field {
             TmField::Packets {
@@ -235,16 +237,18 @@ impl Channel {
     ) -> Result<TmStep, FlowFault>
         requires vc { vc ≤ 7 }
         requires short { length octets.now ≤ 2042 }
+        // What is incomplete at the end of the octets is kept; memory is wanted for that alone.
         ensures count { self.new.count ≡ self.old.count }
-        ensures held { OnOk result (self.new.held ≡ incomplete_in (front (rest_of octets.now)) (rest_of octets.now)) }
-        ensures accepted { OnOk result (TakesAll S.taking sink.old vc (without_idle (packets_of octets.now)) sink.new) }
-        ensures kept { OnOk result (S.failures sink.new ≡ S.failures sink.old) }
-        ensures packets { IfOk result (λ step. step.packets ≡ length (without_idle (packets_of octets.now))) }
-        ensures idle { IfOk result (λ step. step.idle ≡ length (only_idle (packets_of octets.now))) }
+        ensures held { OnOk result (self.new.held
+            ≡ incomplete_in (front (rest_of octets.now)) (rest_of octets.now)) }
+        ensures memory { IfErr result (λ flow. flow ≡ FlowFault.Memory
+            → incomplete_in (front (rest_of octets.now)) (rest_of octets.now) ≢ []) }
+
+        // The sink is handed the packets that are whole.
+        ensures hands_over { HandsOver S.taking S.failing S.failures counts_of
+            sink.old vc (packets_of octets.now) result sink.new }
         ensures few { IfOk result (λ step. step.packets + step.idle ≤ 2042) }
         ensures foreign { IfOk result (λ step. step.foreign ≡ is_foreign (rest_of octets.now)) }
-        ensures stopped { IfErr result (λ flow. IsStopped S.taking S.failing S.failures sink.old vc (without_idle (packets_of octets.now)) flow sink.new) }
-        ensures memory { IfErr result (λ flow. flow ≡ FlowFault.Memory → incomplete_in (front (rest_of octets.now)) (rest_of octets.now) ≢ []) }
     {
         let (step, remainder) = match hand(sink, vc, octets) {
             Ok(handed) => handed,

@@ -56,28 +56,45 @@ impl Extractor {
         frame: &TmFrame,
         sink: &mut S,
     ) -> Result<TmStep, FlowFault>
-        // Whichever frames were processed before, now they and this one are,
-        ensures processed { OnOk result (ForProcessed self.old (λ views. HasProcessed self.new (views ++ frame.now ∷ []))) }
-        // and the packets that end in it were accepted and counted.
-        ensures accepted { OnOk result (ForProcessed self.old (λ views. TakesAll S.taking sink.old frame.now.vc (without_idle (ended_by views frame.now)) sink.new)) }
-        ensures packets { IfOk result (λ step. ForProcessed self.old (λ views. step.packets ≡ length (without_idle (ended_by views frame.now)))) }
-        ensures idle { IfOk result (λ step. ForProcessed self.old (λ views. step.idle ≡ length (only_idle (ended_by views frame.now)))) }
-        // What is amiss: a count that doesn't come after the last one, an incomplete packet that is broken off, and
-        // octets of another packet version at a packet start.
-        ensures gap { IfOk result (λ step. ForProcessed self.old (λ views. step.gap ≡ gap_of (channel_of frame.now.vc views) frame.now)) }
-        ensures dropped { IfOk result (λ step. ForProcessed self.old (λ views. step.dropped ≡ dropped_of (channel_of frame.now.vc views) frame.now)) }
-        ensures foreign { IfOk result (λ step. step.foreign ≡ foreign_of frame.now.field) }
+        // Whichever frames were processed before, now they and this one are.
+        ensures processed { OnOk result (ForProcessed self.old (λ views.
+            HasProcessed self.new (views ++ frame.now ∷ []))) }
+
+        // The packets that end in it were accepted and counted, and the sink has refused none.
+        ensures accepted { OnOk result (ForProcessed self.old (λ views.
+            TakesAll S.taking sink.old frame.now.vc (without_idle (ended_by views frame.now))
+            sink.new)) }
+        ensures packets { IfOk result (λ step. ForProcessed self.old (λ views.
+            step.packets ≡ length (without_idle (ended_by views frame.now)))) }
+        ensures idle { IfOk result (λ step. ForProcessed self.old (λ views.
+            step.idle ≡ length (only_idle (ended_by views frame.now)))) }
         ensures kept { OnOk result (S.failures sink.new ≡ S.failures sink.old) }
+
+        // What is amiss: a count that doesn't come after the last one, an incomplete packet that is
+        // broken off, and octets of another packet version at a packet start.
+        ensures gap { IfOk result (λ step. ForProcessed self.old (λ views.
+            step.gap ≡ gap_of (channel_of frame.now.vc views) frame.now)) }
+        ensures dropped { IfOk result (λ step. ForProcessed self.old (λ views.
+            step.dropped ≡ dropped_of (channel_of frame.now.vc views) frame.now)) }
+        ensures foreign { IfOk result (λ step. step.foreign ≡ foreign_of frame.now.field) }
+
         // After a fault each call fails, and leaves all as it was; none fails before.
         ensures failed { HasFailed self.old → result ≡ Err FlowFault.Failed }
-        ensures left { result ≡ Err FlowFault.Failed → HasFailed self.old × (self.new ≡ self.old) × (sink.new ≡ sink.old) }
-        // At a fault some of the packets were accepted, the first ones.
+        ensures left { result ≡ Err FlowFault.Failed
+            → HasFailed self.old × (self.new ≡ self.old) × (sink.new ≡ sink.old) }
+
+        // At a fault some of the packets were accepted, the first ones. Whatever was processed before,
+        // the sink failed exactly where the fault says so.
         ensures stopped { IfErr result (λ flow. flow ≢ FlowFault.Failed → HasFailed self.new
-            × ForProcessed self.old (λ views. IsStopped S.taking S.failing S.failures sink.old frame.now.vc (without_idle (ended_by views frame.now)) flow sink.new)) }
-        // Whatever was processed before, the sink failed exactly where the fault says so.
+            × ForProcessed self.old (λ views.
+            IsStopped S.taking S.failing S.failures sink.old frame.now.vc
+            (without_idle (ended_by views frame.now)) flow sink.new)) }
         ensures counted { IfErr result (λ flow. CountsFault S.failures sink.old flow sink.new) }
-        // Memory is wanted only where a packet is incomplete on the frame's virtual channel, before the frame or after it.
-        ensures memory { IfErr result (λ flow. flow ≡ FlowFault.Memory → ForProcessed self.old (λ views. IsIncompleteAround views frame.now)) }
+
+        // Memory is wanted only where a packet is incomplete on the frame's virtual channel, before the
+        // frame or after it.
+        ensures memory { IfErr result (λ flow. flow ≡ FlowFault.Memory →
+            ForProcessed self.old (λ views. IsIncompleteAround views frame.now)) }
     {
         if self.has_failed {
             return Err(FlowFault::Failed);
@@ -96,7 +113,8 @@ impl Extractor {
     /// at most, 0 where none is incomplete, and 0 after a fault.
     pub fn held(&self, vc: u8) -> u32
         requires { vc ≤ 7 }
-        ensures value { ForProcessed self.now (λ views. result ≡ length (concat (incomplete_of (channel_of vc views)))) }
+        ensures value { ForProcessed self.now (λ views.
+            result ≡ length (concat (incomplete_of (channel_of vc views)))) }
         ensures most { result ≤ 65541 }
         ensures failed { HasFailed self.now → result ≡ 0 }
     {

@@ -112,13 +112,15 @@ impl<'d> TmForm<'d> {
     /// Takes the memory that pieces want, so that none is refused any more where `form` has room for a piece again:
     /// 4096 octets for itself, and 90,112 in `form`.
     pub fn reserve(&mut self, form: &mut Vec<u8>) -> Result<(), AllocError>
+        // Afterwards there is room for a piece in both.
         ensures ready { OnOk result (HasRoom self.new) }
         ensures room { OnOk result (vec_len form.new + piece_room ≤ vec_capacity form.new) }
+
+        // Nothing is added, and no memory given back; where there was memory for both, none is wanted.
         ensures progress { self.new.progress ≡ self.old.progress }
         ensures form { form.new.items ≡ form.old.items }
         ensures keeps { self.old.octets_room ≤ self.new.octets_room }
         ensures capacity { vec_capacity form.old ≤ vec_capacity form.new }
-        // Where there was memory for both, none is wanted.
         ensures full { OnErr result (LacksRoom self.old form.old) }
     {
         self.octets.reserve(OCTETS - self.octets.len())?;
@@ -130,21 +132,28 @@ impl<'d> TmForm<'d> {
     /// Memory is refused only where there are packets, and only where it wasn't reserved: the piece is still to come
     /// then, and `form` is as it was.
     pub fn next(&mut self, form: &mut Vec<u8>) -> Result<bool, AllocError>
-        // What was added is what comes next,
+        // The piece is the beginning of the octets of the normal form that were still to come, and what
+        // follows it is still to come; where there is no piece, the whole normal form was made.
         ensures piece { OnOk result
             (AddsPiece self.old.progress form.old.items form.new.items self.new.progress) }
-        // and where there was none, all is made.
         ensures all { IfOk result (λ more. more ≡ false → IsAllMade self.old.progress) }
         ensures none { IfOk result (λ more. more ≡ false → form.new.items ≡ form.old.items) }
-        // Each piece takes a packet, so there is a last one.
+
+        // Each piece takes a packet, or fills a virtual channel up, so there is a last one; there is one
+        // only where there are packets.
         ensures fewer { IfOk result (λ more. IsTrue more
             → HasFewer self.old.progress self.new.progress) }
-        ensures lists { self.new.progress.lists ≡ self.old.progress.lists }
-        ensures unchanged { OnErr result (form.new.items ≡ form.old.items) }
-        ensures left { OnErr result (KeepsLeft self.old.progress self.new.progress) }
-        ensures full { OnErr result (LacksRoom self.old form.old) }
         ensures some { IfOk result (λ more. IsTrue more → IsOfPackets self.old.progress) }
+        ensures lists { self.new.progress.lists ≡ self.old.progress.lists }
+
+        // Where memory is refused, which it isn't where it was reserved, the same is still to come, and
+        // nothing was added.
+        ensures full { OnErr result (LacksRoom self.old form.old) }
+        ensures left { OnErr result (KeepsLeft self.old.progress self.new.progress) }
+        ensures unchanged { OnErr result (form.new.items ≡ form.old.items) }
         ensures packets { OnErr result (IsOfPackets self.old.progress) }
+
+        // No memory is given back.
         ensures keeps { self.old.octets_room ≤ self.new.octets_room }
         ensures capacity { vec_capacity form.old ≤ vec_capacity form.new }
     {
@@ -180,10 +189,13 @@ impl<'d> TmForm<'d> {
     // Takes the next packet, or fills up.
     fn add_next(&mut self, form: &mut Vec<u8>) -> Result<(), AllocError>
         requires more { HasMore self.old.progress }
+        // A piece of what is still to come is added, and there are fewer to come.
         ensures piece { OnOk result
             (AddsPiece self.old.progress form.old.items form.new.items self.new.progress) }
         ensures fewer { OnOk result (HasFewer self.old.progress self.new.progress) }
         ensures lists { self.new.progress.lists ≡ self.old.progress.lists }
+
+        // Memory is refused only where it wasn't reserved, and none is given back.
         ensures full { OnErr result (LacksRoom self.old form.old) }
         ensures keeps { self.old.octets_room ≤ self.new.octets_room }
         ensures capacity { vec_capacity form.old ≤ vec_capacity form.new }
@@ -230,6 +242,7 @@ fn add(
     requires vc { heading.vc ≤ 7 }
     requires start { start < field_room_of shape.now }
     requires few { length octets.old.items < field_room_of shape.now }
+    // The octets are divided into the fields of frames, and what is beyond these is kept.
     ensures frames { OnOk result (form.new.items ≡ form.old.items
         ++ frames_of shape.now heading (Some start) (octets.old.items ++ packet.now)) }
     ensures beyond { OnOk result (octets.new.items
@@ -237,6 +250,8 @@ fn add(
     ensures count { IfOk result (λ frames. frames
         ≡ fields_in shape.now (octets.old.items ++ packet.now)) }
     ensures few { length octets.new.items < field_room_of shape.now }
+
+    // Memory is refused only where it wasn't reserved, and none is given back.
     ensures full { OnErr result (octets_room ≤ vec_capacity octets.old → vec_capacity form.old
         < vec_len form.old + frames_len shape.now (octets.old.items ++ packet.now)) }
     ensures keeps { vec_capacity octets.old ≤ vec_capacity octets.new }
@@ -271,6 +286,7 @@ fn fill(
     requires vc { heading.vc ≤ 7 }
     requires start { start < field_room_of shape.now }
     requires few { length octets.old.items < field_room_of shape.now }
+    // The octets are divided into the fields of frames, and what is beyond these is kept.
     ensures frames { OnOk result (form.new.items ≡ form.old.items
         ++ frames_of shape.now heading (Some start) (filled_up shape.now octets.old.items)) }
     ensures beyond { OnOk result (octets.new.items
@@ -278,6 +294,8 @@ fn fill(
     ensures count { IfOk result (λ frames. frames
         ≡ fields_in shape.now (filled_up shape.now octets.old.items)) }
     ensures few { length octets.new.items < field_room_of shape.now }
+
+    // Memory is refused only where it wasn't reserved, and none is given back.
     ensures full { OnErr result (octets_room ≤ vec_capacity octets.old → vec_capacity form.old
         < vec_len form.old + frames_len shape.now (filled_up shape.now octets.old.items)) }
     ensures keeps { vec_capacity octets.old ≤ vec_capacity octets.new }
@@ -335,10 +353,13 @@ fn push_fields(
     requires spacecraft { heading.spacecraft ≤ 1023 }
     requires vc { heading.vc ≤ 7 }
     requires first { IfSome first (λ first. first < field_room_of shape.now) }
+    // A frame is added for each field that the octets fill.
     ensures frames { OnOk result (form.new.items
         ≡ form.old.items ++ frames_of shape.now heading first octets.now) }
     ensures size { OnOk result (vec_len form.new
         ≡ vec_len form.old + frames_len shape.now octets.now) }
+
+    // Memory is refused only where there is no room for them, and none is given back.
     ensures full { OnErr result (vec_capacity form.old
         < vec_len form.old + frames_len shape.now octets.now) }
     ensures capacity { vec_capacity form.old ≤ vec_capacity form.new }

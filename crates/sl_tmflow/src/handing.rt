@@ -1,9 +1,9 @@
 //! Packets that a sink is handed.
-ghost use Rattle.std.specs.Prelude.{◌≡◌, ◌≢◌, ◌≤◌, ◌+◌, ◌∷◌, [], length, OnOk, IfOk, IfErr};
+ghost use Rattle.std.specs.Prelude.{◌≡◌, ◌≢◌, ◌≤◌, ◌+◌, ◌∷◌, [], length, IfOk, IfErr};
 ghost use Rattle.sl_packet.specs.Packet.{IsPacket};
-ghost use Rattle.sl_packet.specs.Packets.{only_idle, packets_of, rest_of, without_idle};
-ghost use Rattle.sl_packet.specs.Sink.{TakesAll};
-ghost use Rattle.sl_packet.specs.Stopping.{IsStopped};
+ghost use Rattle.sl_packet.specs.Packets.{packets_of, rest_of};
+ghost use Rattle.sl_packet.specs.Stopping.{HandsOver};
+ghost use Rattle.sl_tmflow.specs.StepReport.{counts_of};
 
 use crate::step::{NOTHING, TmStep};
 use sl_packet::{FlowFault, PacketSink, hand_over, is_idle};
@@ -16,12 +16,9 @@ pub(crate) fn hand_packet<S: PacketSink>(
 ) -> Result<TmStep, FlowFault>
     requires vc { vc ≤ 7 }
     requires packet { IsPacket packet.now }
-    ensures accepted { OnOk result (TakesAll S.taking sink.old vc (without_idle (packet.now ∷ [])) sink.new) }
-    ensures kept { OnOk result (S.failures sink.new ≡ S.failures sink.old) }
-    ensures packets { IfOk result (λ step. step.packets ≡ length (without_idle (packet.now ∷ []))) }
-    ensures idle { IfOk result (λ step. step.idle ≡ length (only_idle (packet.now ∷ []))) }
+    ensures hands_over { HandsOver S.taking S.failing S.failures counts_of
+        sink.old vc (packet.now ∷ []) result sink.new }
     ensures dropped { IfOk result (λ step. step.dropped ≡ 0) }
-    ensures stopped { IfErr result (λ flow. IsStopped S.taking S.failing S.failures sink.old vc (without_idle (packet.now ∷ [])) flow sink.new) }
     ensures not_memory { IfErr result (λ flow. flow ≢ FlowFault.Memory) }
 {
     if is_idle(packet) {
@@ -44,15 +41,15 @@ pub(crate) fn hand<'a, S: PacketSink>(
 ) -> Result<(TmStep, &'a [u8]), FlowFault>
     requires vc { vc ≤ 7 }
     requires short { length octets.now ≤ 65542 }
-    ensures accepted { OnOk result (TakesAll S.taking sink.old vc (without_idle (packets_of octets.now)) sink.new) }
-    ensures kept { OnOk result (S.failures sink.new ≡ S.failures sink.old) }
-    ensures packets { IfOk result (λ handed. handed.0.packets ≡ length (without_idle (packets_of octets.now))) }
-    ensures idle { IfOk result (λ handed. handed.0.idle ≡ length (only_idle (packets_of octets.now))) }
+    // The packets at the front are handed over; what follows them is given back.
+    ensures hands_over { HandsOver S.taking S.failing S.failures (λ handed. counts_of handed.0)
+        sink.old vc (packets_of octets.now) result sink.new }
+    ensures remainder { IfOk result (λ handed. handed.1.now ≡ rest_of octets.now) }
+    ensures not_memory { IfErr result (λ flow. flow ≢ FlowFault.Memory) }
+
+    // The counts are small, and nothing is amiss.
     ensures few { IfOk result (λ handed. handed.0.packets + handed.0.idle ≤ length octets.now) }
     ensures dropped { IfOk result (λ handed. handed.0.dropped ≡ 0) }
-    ensures remainder { IfOk result (λ handed. handed.1.now ≡ rest_of octets.now) }
-    ensures stopped { IfErr result (λ flow. IsStopped S.taking S.failing S.failures sink.old vc (without_idle (packets_of octets.now)) flow sink.new) }
-    ensures not_memory { IfErr result (λ flow. flow ≢ FlowFault.Memory) }
 {
     match hand_over(sink, vc, octets) {
         Ok(handed) => {

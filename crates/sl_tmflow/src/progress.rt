@@ -27,16 +27,19 @@ pub(crate) fn add_field(
 ) -> Result<Progress, AllocError>
     requires held { length held.old.items ≤ 65541 }
     requires short { length field.now ≤ 2042 }
+    // What the frame does to the packet is told from all octets of it so far.
     ensures step { IfOk result (λ progress. progress_step progress held.new.items
         ≡ field_step held.old.items (Packets first field.now)) }
     ensures inside { IfOk result (λ progress.
         (len : ℕ) → progress ≡ Progress.Ends len → len ≤ length held.new.items) }
+
     // All of the field is there where the packet goes on, and the octets before it are as they were.
     ensures all { IfOk result (λ progress.
         progress ≡ Progress.Continues → held.new.items ≡ held.old.items ++ field.now) }
     ensures most { IfOk result (λ progress.
         progress ≡ Progress.Continues → length held.new.items ≤ 65541) }
-    ensures before { IfOk result (λ _. take (length held.old.items) held.new.items ≡ held.old.items) }
+    ensures before { IfOk result (λ _.
+        take (length held.old.items) held.new.items ≡ held.old.items) }
     ensures unchanged { OnErr result (held.new.items ≡ held.old.items) }
 {
     let before = held.len();
@@ -51,6 +54,7 @@ fn wanted<'a>(held: &[u8], field: &'a [u8]) -> &'a [u8]
     requires short { length field.now ≤ 2042 }
     ensures { IsEnough held.now field.now result.now }
 {
+    // For the proof alone, at no cost: what a `Need` says of the octets' front.
     needs_tell_packets();
     match need(held) {
         Need::Octets(wanted) if wanted as usize <= field.len() => &field[..wanted as usize],

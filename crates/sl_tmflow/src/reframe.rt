@@ -25,8 +25,10 @@ pub fn reframe_tm(
 ) -> Result<Vec<u8>, AllocError>
     requires fits { FitsTm delivered.now }
     requires spacecraft { spacecraft ≤ 1023 }
-    ensures form { IfOk result (λ form. form.items ≡ normal_form shape.now spacecraft (take 8 delivered.now.lists)) }
-    ensures delivers { IfOk result (λ form. tm_lists shape.now spacecraft form.items ≡ take 8 delivered.now.lists) }
+    ensures form { IfOk result (λ form. form.items
+        ≡ normal_form shape.now spacecraft (take 8 delivered.now.lists)) }
+    ensures delivers { IfOk result (λ form.
+        tm_lists shape.now spacecraft form.items ≡ take 8 delivered.now.lists) }
     ensures packets { OnErr result (HasNone delivered.now 0 8 → ⊥) }
 {
     let mut form = Vec::new(alloc);

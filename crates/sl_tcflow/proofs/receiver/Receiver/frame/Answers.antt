@@ -12,7 +12,7 @@ returns-in-Err-clause-stopped g c =
           let farms = subst (λ l. HaveStepped r l views) (sym (ap (λ s. s.farms) c.self.view_is)) processed.farms in
           let series = subst (λ l. AreIncomplete r l views) (sym (ap (λ s. s.incomplete) c.self.view_is)) processed.series in (
             record { failed = refl; farms = c.step-verdict.ensures.farms r views farms },
-            c.in-Err.ensures.stopped r views (c.has-plain.ensures.value ∙ ap (has_vc c.self.inside.plain) c.vc.ensures.value ∙ plain_is r _ _ c.args.frame.now.vc c.self.view_is processed.plain) series (c.step-verdict.ensures.verdict r views farms),
+            (c.in-Err.ensures.hands_over r views (c.has-plain.ensures.value ∙ ap (has_vc c.self.inside.plain) c.vc.ensures.value ∙ plain_is r _ _ c.args.frame.now.vc c.self.view_is processed.plain) series (c.step-verdict.ensures.verdict r views farms)).stopped,
           ),
     )
 
@@ -35,16 +35,16 @@ returns-in-Err-clause-memory g c e r views processed =
     c.in-Err.ensures.memory e r views (c.has-plain.ensures.value ∙ ap (has_vc c.self.inside.plain) c.vc.ensures.value ∙ plain_is r _ _ c.args.frame.now.vc c.self.view_is processed.plain) series (c.step-verdict.ensures.verdict r views farms)
 
 pub returns-clause-accepted : goal.returns-clause-accepted
-returns-clause-accepted g c = of_processed _ _ _ _ _ _ c.self.view_is (c.has-plain.ensures.value ∙ ap (has_vc c.self.inside.plain) c.vc.ensures.value) c.step-verdict.ensures.verdict c.in-Ok.ensures.accepted
+returns-clause-accepted g c r views processed = (of_processed _ _ _ _ _ _ c.self.view_is (c.has-plain.ensures.value ∙ ap (has_vc c.self.inside.plain) c.vc.ensures.value) c.step-verdict.ensures.verdict c.in-Ok.ensures.hands_over r views processed).accepted
 
 pub returns-clause-verdict : goal.returns-clause-verdict
 returns-clause-verdict g c r views processed = (of_processed _ _ _ _ _ _ c.self.view_is (c.has-plain.ensures.value ∙ ap (has_vc c.self.inside.plain) c.vc.ensures.value) c.step-verdict.ensures.verdict c.in-Ok.ensures.step r views processed).verdict
 
 pub returns-clause-packets : goal.returns-clause-packets
-returns-clause-packets g c r views processed = (of_processed _ _ _ _ _ _ c.self.view_is (c.has-plain.ensures.value ∙ ap (has_vc c.self.inside.plain) c.vc.ensures.value) c.step-verdict.ensures.verdict c.in-Ok.ensures.step r views processed).packets
+returns-clause-packets g c r views processed = (of_processed _ _ _ _ _ _ c.self.view_is (c.has-plain.ensures.value ∙ ap (has_vc c.self.inside.plain) c.vc.ensures.value) c.step-verdict.ensures.verdict c.in-Ok.ensures.hands_over r views processed).packets
 
 pub returns-clause-idle : goal.returns-clause-idle
-returns-clause-idle g c r views processed = (of_processed _ _ _ _ _ _ c.self.view_is (c.has-plain.ensures.value ∙ ap (has_vc c.self.inside.plain) c.vc.ensures.value) c.step-verdict.ensures.verdict c.in-Ok.ensures.step r views processed).idle
+returns-clause-idle g c r views processed = (of_processed _ _ _ _ _ _ c.self.view_is (c.has-plain.ensures.value ∙ ap (has_vc c.self.inside.plain) c.vc.ensures.value) c.step-verdict.ensures.verdict c.in-Ok.ensures.hands_over r views processed).idle
 
 pub returns-clause-stray : goal.returns-clause-stray
 returns-clause-stray g c r views processed = (of_processed _ _ _ _ _ _ c.self.view_is (c.has-plain.ensures.value ∙ ap (has_vc c.self.inside.plain) c.vc.ensures.value) c.step-verdict.ensures.verdict c.in-Ok.ensures.step r views processed).stray

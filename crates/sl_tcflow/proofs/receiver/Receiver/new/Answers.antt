@@ -6,4 +6,4 @@ use Rattle.sl_tcflow.proofs.receiver.Receiver.new.Goals as goal
 pub returns : goal.returns
 returns c =
     let r : ReceptionParameters = record { window = c.args.window; starts = c.args.starts.now; plain = c.args.plain } in
-    processed_none r _ c.new.result.items (c.farms_at_start.ensures r refl refl) c.new.ensures.items
+    processed_none r _ c.new.result (c.farms_at_start.ensures r refl refl) c.new.ensures

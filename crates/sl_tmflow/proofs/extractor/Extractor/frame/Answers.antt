@@ -1,12 +1,9 @@
-use Rattle.std.proofs.Common.{length, refl, sym, ◌∙◌, ap, subst, arith}
-use Rattle.sl_packet.specs.Packets.{only_idle, without_idle}
-use Rattle.sl_packet.specs.Sink.{TakesAll}
-use Rattle.sl_packet.specs.Stopping.{IsStopped}
+use Rattle.std.proofs.Common.{refl, sym, ◌∙◌, ap, arith}
 use Rattle.sl_packet.proofs.StoppingLemmas.{counts_stopped}
 use Rattle.std.specs.List.{slice_index_or}
 use Rattle.sl_tmflow.specs.Channel.{channel_of}
 use Rattle.sl_tmflow.proofs.AnomalyLemmas.{foreign_is}
-use Rattle.sl_tmflow.proofs.ChannelLemmas.{ended_now, processed_more, seen_at}
+use Rattle.sl_tmflow.proofs.ChannelLemmas.{handed_now, processed_more, seen_at}
 use Rattle.sl_tmflow.proofs.SeenLemmas.{dropped_seen, gap_seen, incomplete_around}
 use Rattle.sl_tmflow.proofs.extractor.Extractor.frame.Goals as goal
 
@@ -14,8 +11,7 @@ pub returns-in-Err-clause-stopped : goal.returns-in-Err-clause-stopped
 returns-in-Err-clause-stopped g c =
     λ ne. (
       refl,
-      λ views p. subst (λ l. IsStopped g.S.PacketSink.taking g.S.PacketSink.failing g.S.PacketSink.failures c.args.sink.now c.args.frame.now.vc (without_idle l) c.in-Err.fault c.take.new.sink)
-          (sym (ended_now c.args.self.now views c.args.frame.now c.self.inside.channels c.from.result c.index-self-from.result p (ap (λ s. s.channels) c.self.view_is) (omega arith) (omega arith) (omega arith))) c.in-Err.ensures.stopped,
+      λ views p. (handed_now c.args.self.now views c.args.frame.now c.self.inside.channels c.from.result c.index-self-from.result (ap (λ s. s.channels) c.self.view_is) (omega arith) (omega arith) (omega arith) c.in-Err.ensures.hands_over p).stopped,
     )
 
 pub returns-clause-processed : goal.returns-clause-processed
@@ -24,16 +20,15 @@ returns-clause-processed g c =
 
 pub returns-clause-accepted : goal.returns-clause-accepted
 returns-clause-accepted g c =
-    λ views p. subst (λ l. TakesAll g.S.PacketSink.taking c.args.sink.now c.args.frame.now.vc (without_idle l) c.take.new.sink)
-    (sym (ended_now c.args.self.now views c.args.frame.now c.self.inside.channels c.from.result c.index-self-from.result p (ap (λ s. s.channels) c.self.view_is) (omega arith) (omega arith) (omega arith))) c.in-Ok.ensures.accepted
+    λ views p. (handed_now c.args.self.now views c.args.frame.now c.self.inside.channels c.from.result c.index-self-from.result (ap (λ s. s.channels) c.self.view_is) (omega arith) (omega arith) (omega arith) c.in-Ok.ensures.hands_over p).accepted
 
 pub returns-clause-packets : goal.returns-clause-packets
 returns-clause-packets g c =
-    λ views p. c.in-Ok.ensures.packets ∙ ap (λ l. length (without_idle l)) (sym (ended_now c.args.self.now views c.args.frame.now c.self.inside.channels c.from.result c.index-self-from.result p (ap (λ s. s.channels) c.self.view_is) (omega arith) (omega arith) (omega arith)))
+    λ views p. (handed_now c.args.self.now views c.args.frame.now c.self.inside.channels c.from.result c.index-self-from.result (ap (λ s. s.channels) c.self.view_is) (omega arith) (omega arith) (omega arith) c.in-Ok.ensures.hands_over p).packets
 
 pub returns-clause-idle : goal.returns-clause-idle
 returns-clause-idle g c =
-    λ views p. c.in-Ok.ensures.idle ∙ ap (λ l. length (only_idle l)) (sym (ended_now c.args.self.now views c.args.frame.now c.self.inside.channels c.from.result c.index-self-from.result p (ap (λ s. s.channels) c.self.view_is) (omega arith) (omega arith) (omega arith)))
+    λ views p. (handed_now c.args.self.now views c.args.frame.now c.self.inside.channels c.from.result c.index-self-from.result (ap (λ s. s.channels) c.self.view_is) (omega arith) (omega arith) (omega arith) c.in-Ok.ensures.hands_over p).idle
 
 pub returns-clause-gap : goal.returns-clause-gap
 returns-clause-gap g c =
@@ -56,4 +51,4 @@ returns-in-Err-clause-memory g c =
 
 pub returns-in-Err-clause-counted : goal.returns-in-Err-clause-counted
 returns-in-Err-clause-counted g c =
-    counts_stopped g.S.PacketSink.taking g.S.PacketSink.failing g.S.PacketSink.failures c.args.sink.now _ _ c.in-Err.fault c.take.new.sink c.in-Err.ensures.stopped
+    counts_stopped g.S.PacketSink.taking g.S.PacketSink.failing g.S.PacketSink.failures c.args.sink.now _ _ c.in-Err.fault c.take.new.sink c.in-Err.ensures.hands_over.stopped

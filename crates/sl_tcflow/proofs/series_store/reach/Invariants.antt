@@ -1,10 +1,10 @@
 use Rattle.std.proofs.Common.{◌≡◌, ◌+◌, ◌-◌, ℕ}
 use Rattle.std.specs.Vec.{vec_len}
 use Rattle.sl_tcflow.specs.Placed.{at}
-use Rattle.sl_tcflow.proofs.kept.reach.Given as goal
+use Rattle.sl_tcflow.proofs.series_store.reach.Given as goal
 
 abbrev pub invariant-loop-alloc : goal.invariant-loop-alloc
-invariant-loop-alloc l = (other : ℕ) → at l.incomplete.items other ≡ at l.initial.incomplete.items other
+invariant-loop-alloc l = (other : ℕ) → at l.list.items other ≡ at l.initial.list.items other
 
 abbrev pub decreases-loop-alloc : goal.decreases-loop-alloc
-decreases-loop-alloc l = l.index + 1 - vec_len l.incomplete
+decreases-loop-alloc l = l.index + 1 - vec_len l.list

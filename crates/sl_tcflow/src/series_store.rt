@@ -1,0 +1,109 @@
+//! The series that are incomplete on the MAPs of all virtual channels.
+ghost use Rattle.std.specs.Prelude.{◌≡◌, ◌≢◌, ◌⊎◌, ◌≤◌, ◌<◌, [], None, option_map, ℕ, length, OnOk, IfOk, IfErr, IfSome};
+ghost use Rattle.std.specs.Vec.{vec_len};
+ghost use Rattle.sl_packet.specs.Stopping.{HandsOver};
+ghost use Rattle.sl_tcflow.specs.NextSegment.{IsReported, incomplete_with, packets_with};
+ghost use Rattle.sl_tcflow.specs.Placed.{at, IsPlaced};
+ghost use Rattle.sl_tcflow.specs.Receiving.{channel_at};
+ghost use Rattle.sl_tcflow.specs.StepReport.{counts_of};
+
+use crate::incomplete::Incomplete;
+use crate::segment::{FIRST, Segment};
+use crate::step::TcStep;
+use sl_packet::{FlowFault, PacketSink};
+use std::alloc::{AllocError, Global};
+use std::marker::Model;
+
+/// The series that are incomplete, by the channels of their packets.
+#[derive(Drop)]
+pub struct SeriesStore {
+    alloc: Global,
+    // Reaches the greatest channel on which a series has begun.
+    list: Vec<Incomplete>,
+}
+
+impl Model for SeriesStore {
+    ghost use Rattle.std.specs.Prelude.{Option, List, ℕ};
+
+    ghost Value = { List (Option (List ℕ)) };
+
+    ghost use Rattle.sl_tcflow.specs.ReceiverModel.{series_in};
+
+    ghost view = { series_in };
+}
+
+impl SeriesStore {
+    /// None is incomplete. It takes memory only as series begin.
+    pub fn new(alloc: Global) -> SeriesStore
+        ensures { result ≡ [] }
+    {
+        SeriesStore {
+            alloc,
+            list: Vec::new(alloc),
+        }
+    }
+
+    /// How many octets the series of a virtual channel and a MAP has so far, if one is incomplete.
+    pub fn held(&self, vc: u8, map: u8) -> Option<u32>
+        requires vc { vc ≤ 63 }
+        requires map { map ≤ 63 }
+        ensures octets { result ≡ option_map length (at self.now (channel_at vc map)) }
+        ensures most { IfSome result (λ octets. octets ≤ 65542) }
+    {
+        let index = 64 * usize::from(vc) + usize::from(map);
+        match self.list.get(index) {
+            Some(series) => series.held(),
+            None => None,
+        }
+    }
+
+    /// Takes the next segment of a channel.
+    pub fn take<S: PacketSink>(
+        &mut self,
+        segment: &Segment,
+        sink: &mut S,
+    ) -> Result<TcStep, FlowFault>
+        requires flags { segment.now.flags ≤ 3 }
+        requires short { length segment.now.octets.now ≤ 1019 }
+        requires channel { segment.now.channel ≤ 4095 }
+        // The series of the channel goes on, begins or ends as its sequence flags say,
+        ensures placed { OnOk result (IsPlaced self.old segment.now.channel
+            (incomplete_with (at self.old segment.now.channel) segment.now.flags
+            segment.now.octets.now) self.new) }
+
+        // and the sink is handed the packets that end with the segment, which the step reports.
+        ensures hands_over { HandsOver S.taking S.failing S.failures counts_of
+            sink.old segment.now.channel
+            (packets_with (at self.old segment.now.channel) segment.now.flags
+            segment.now.octets.now) result sink.new }
+        ensures step { IfOk result (IsReported (at self.old segment.now.channel)
+            segment.now.flags segment.now.octets.now) }
+
+        // Memory is wanted only where a series is incomplete, before the segment or after it.
+        ensures memory { IfErr result (λ flow. flow ≡ FlowFault.Memory →
+            (at self.old segment.now.channel ≢ None)
+            ⊎ (incomplete_with (at self.old segment.now.channel) segment.now.flags
+            segment.now.octets.now ≢ None)) }
+    {
+        let index = usize::from(segment.channel);
+        if segment.flags == FIRST && reach(self.alloc, &mut self.list, index).is_err() {
+            return Err(FlowFault::Memory);
+        }
+        if index < self.list.len() {
+            return self.list[index].take(segment, sink);
+        }
+        let mut none = Incomplete::new(self.alloc);
+        none.take(segment, sink)
+    }
+}
+
+// Adds to the list up to this index. Nothing is incomplete at what is added.
+fn reach(alloc: Global, list: &mut Vec<Incomplete>, index: usize) -> Result<(), AllocError>
+    ensures reached { OnOk result (index < vec_len list.new) }
+    ensures same { (other : ℕ) → at list.new.items other ≡ at list.old.items other }
+{
+    while list.len() <= index {
+        list.push(Incomplete::new(alloc))?;
+    }
+    Ok(())
+}

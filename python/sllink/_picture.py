@@ -18,8 +18,8 @@ LEAST = 0.3                                               # of the height of a c
 # What a cell may be, from the bottom of a cell of several frames to its top: its colour and its words in the legend.
 CELLS = {
     "first": ("#0072b2", "packets, one starts here"),
-    "none": ("#74add1", "packets, none starts here"),
-    "idle": ("#8b9199", "only idle data"),
+    "none": ("#5b9fcf", "packets, none starts here"),
+    "idle": ("#7d848d", "only idle data"),
     "opaque": ("#e69f00", "opaque"),
     "accept": ("#009e73", "accept, type AD"),
     "bypass": ("#66c2a5", "accept, type BD"),

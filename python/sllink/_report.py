@@ -33,6 +33,9 @@ MEANINGS = {
     "rest": "octets after the last whole frame",
     "open": "packet or series that is incomplete at the end",
 }
+JUMPS = "A jump is a packet sequence count that isn't the one that comes next, modulo 16384. Idle packets are left out."
+SEVERAL = (" Some APIDs come on more than one channel or MAP. Where their counts go on from one to another, there are "
+           "jumps though no packet is missing.")
 DROPPED = {"tm": "incomplete packet dropped", "tc": "incomplete series of segments dropped"}
 
 
@@ -226,8 +229,8 @@ def packets(tally: Tally) -> List[str]:
     for key, it in sorted(tally.counts.items()):
         table.rows.append([*columns(key, with_map), it.packets, it.jumps, it.missing, it.octets, it.first, it.last])
     table.sum_up()
-    return [table.html(), paragraph("A jump is a packet sequence count that isn't the one that comes next, modulo "
-                                    "16384. Idle packets are left out.", "note")]
+    several = len({apid for _, _, apid in tally.counts}) < len(tally.counts)
+    return [table.html(), paragraph(JUMPS + SEVERAL * several, "note")]
 
 
 def columns(key: Key, with_map: bool) -> List[int]:

@@ -82,6 +82,7 @@ _sllink_tool() {
     sllink-compare) values="--a-options --b-options --allow --union" flags="--hex --lines" ;;
     sllink-check-each) flags="--null" ;;
     sllink-identify) flags="--options" program="" kinds="" ;;
+    sllink-report) values="--a-options --b-options" ;;
   esac
   case ${COMP_WORDS[COMP_CWORD-1]} in
     --union)

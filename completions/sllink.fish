@@ -51,3 +51,5 @@ complete -c sllink-compare -x -l allow -d 'Lines of check that do no harm, as in
 complete -c sllink-compare -l hex -d 'List each packet that only one has'
 complete -c sllink-compare -r -l union -d 'Write the packets of both into this file'
 complete -c sllink-compare -l lines -d 'Decide by the lines of packets'
+complete -c sllink-report -x -l a-options -d 'Options for the first recording alone'
+complete -c sllink-report -x -l b-options -d 'Options for the second recording alone'

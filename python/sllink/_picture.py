@@ -18,8 +18,8 @@ LEAST = 0.3                                               # of the height of a c
 # What a cell may be, from the bottom of a cell of several frames to its top: its colour and its words in the legend.
 CELLS = {
     "first": ("#0072b2", "packets, one starts here"),
-    "none": ("#74add1", "packets, none starts here"),
-    "idle": ("#8b9199", "only idle data"),
+    "none": ("#5b9fcf", "packets, none starts here"),
+    "idle": ("#7d848d", "only idle data"),
     "opaque": ("#e69f00", "opaque"),
     "accept": ("#009e73", "accept, type AD"),
     "bypass": ("#66c2a5", "accept, type BD"),
@@ -214,12 +214,7 @@ class Picture:
         follow = [mark.x for mark in marks[1:]] + [float(WIDTH)]
         free = [mark.x + 10 + width(mark.words, 10) < following - 10 for mark, following in zip(marks, follow)]
         if what == "gap":
-            words, summed = [], 0                         # a number is the sum of the marks that it ends
-            for mark, following in zip(marks, follow):
-                summed += mark.lost
-                fits = mark.x + 10 + width(f"{summed} lost", 10) < following - 10
-                words.append(f"{summed} lost" if fits else "")
-                summed = 0 if fits else summed
+            words = sums_beside(marks, follow)
         else:
             words = [mark.words if all(free) and self.survey.is_short() else "" for mark in marks]
         return [part for mark, said in zip(marks, words) for part in sign(what, mark._replace(words=said), y)]
@@ -296,14 +291,28 @@ class Picture:
         return "\n".join([*filter(None, head), *parts, "</svg>\n"])
 
 
+def sums_beside(marks: Sequence[Sign], follow: Sequence[float]) -> List[str]:
+    """The frames lost, beside marks of gaps: of each mark, or of several where there is no room between them. The sum
+    of all of them stands at the end of the row already."""
+    words, summed = [], 0
+    for mark, following in zip(marks, follow):
+        summed += mark.lost
+        fits = mark.x + 10 + width(f"{summed} lost", 10) < following - 10
+        words.append(f"{summed} lost" if fits else "")
+        summed = 0 if fits else summed
+    return words if len(words) == 1 or any(words[:-1]) else [""] * len(words)
+
+
 def stretches_for(frames: int) -> int:
     """How many stretches are taken together for the cells of a row with so many frames; of a few each is seen alone."""
-    joined = 1
+    if frames <= FEW:
+        return 1
+    joined = 2
     while joined < WIDEST and frames < FULL * BINS // joined:
         joined += 1
         while BINS % joined:
             joined += 1
-    return joined if frames > FEW else 1
+    return joined
 
 
 def sign(what: str, mark: Sign, y: float) -> List[str]:

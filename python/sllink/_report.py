@@ -1,14 +1,16 @@
 """A page of a pass: of one recording, or of two and what each of them lacks."""
 
+import contextlib
 import hashlib
-from typing import Dict, List, Sequence, Tuple
+from typing import Dict, Iterator, List, Sequence, Tuple
 
 from ._page import Table, facts, figure, folded, heading, listing, page, paragraph, verdict
 from ._picture import Picture
+from ._program import SllinkError
 from ._survey import MOST_LINES, MOST_LOCKOUTS, Survey
 from ._tally import MOST_RUNS, Difference, Key, Missing, Tally
 from ._verdict import number_of, questions, said, said_of_two
-from .tool import shown
+from .tool import Refused, shown
 
 MEANINGS = {
     "skip fecf": "frame skipped: its frame error control field is wrong",
@@ -31,6 +33,9 @@ MEANINGS = {
     "rest": "octets after the last whole frame",
     "open": "packet or series that is incomplete at the end",
 }
+JUMPS = "A jump is a packet sequence count that isn't the one that comes next, modulo 16384. Idle packets are left out."
+SEVERAL = (" Some APIDs come on more than one channel or MAP. Where their counts go on from one to another, there are "
+           "jumps though no packet is missing.")
 DROPPED = {"tm": "incomplete packet dropped", "tc": "incomplete series of segments dropped"}
 
 
@@ -38,11 +43,23 @@ class Recording:
     """All that a page has of a recording, and the name that it goes by on the page."""
 
     def __init__(self, kind: str, path: str, options: Sequence[str], compared: bool = False) -> None:
-        self.survey = Survey(kind, path, options)
-        self.tally = Tally(kind, path, options, compared)
+        with about(path):
+            self.survey = Survey(kind, path, options)
+            self.tally = Tally(kind, path, options, compared)
         self.digest = digest_of(path)
         self.survey.require_unchanged()
         self.name = self.survey.name
+
+
+@contextlib.contextmanager
+def about(path: str) -> Iterator[None]:
+    """Says of which recording the program says something, but where it refuses options."""
+    try:
+        yield
+    except SllinkError as error:
+        if error.status in (2, 127):
+            raise
+        raise Refused(f"{shown(path)}: {error.text}") from None
 
 
 def digest_of(path: str) -> str:
@@ -57,30 +74,32 @@ def digest_of(path: str) -> str:
 def report_of_one(kind: str, path: str, options: Sequence[str]) -> str:
     """The page of a recording."""
     it = Recording(kind, path, options)
-    parts = ["<header>", heading(1, it.name), read_as(kind, options), "</header>",
+    parts = ["<header>", heading(1, it.name), read_as(it), "</header>",
              verdict(said(it.survey, it.tally), questions(it.survey, it.tally), not it.survey.anomalies),
              facts(facts_of(it)), heading(2, "Picture"), pictured(it, "rest")]
     parts += tables(it, 2)
     return page(f"{it.name}: {number_of(it.survey.frames, 'frame')}, {number_of(it.tally.packets(), 'packet')}", parts)
 
 
-def report_of_two(kind: str, paths: Sequence[str], options: Sequence[str]) -> str:
-    """The page of two recordings."""
-    one, other = (Recording(kind, path, options, compared=True) for path in paths)
+def report_of_two(kind: str, paths: Sequence[str], options: Sequence[Sequence[str]]) -> str:
+    """The page of two recordings, each with its options."""
+    one, other = (Recording(kind, path, of, compared=True) for path, of in zip(paths, options))
     name_apart(one, other, paths)
     difference = Difference(one.tally, other.tally)
     for it in one, other:
         it.survey.require_unchanged()
     asked = [f"{it.name}: {question}" for it in (one, other) for question in questions(it.survey, it.tally)]
-    parts = ["<header>", heading(1, f"{one.name} and {other.name}"), read_as(kind, options), "</header>",
+    alike = options[0] == options[1]
+    parts = ["<header>", heading(1, f"{one.name} and {other.name}"), read_as(one) if alike else "", "</header>",
              verdict(said_of_two(one, other, difference), asked, difference.same),
              heading(2, "Pictures")]
     for number, it in enumerate((one, other)):
-        parts += [heading(3, it.name), paragraph(said(it.survey, it.tally)), pictured(it, f"rest{number}")]
+        parts += [heading(3, it.name), "" if alike else read_as(it), paragraph(said(it.survey, it.tally)),
+                  pictured(it, f"rest{number}")]
     parts += lacks(one, other, difference)
     for it in one, other:
         parts += [heading(2, it.name), facts(facts_of(it)), *tables(it, 3)]
-    return page(f"{one.name} and {other.name}", parts)
+    return page(f"{one.name} and {other.name}", filter(None, parts))
 
 
 def name_apart(one: Recording, other: Recording, paths: Sequence[str]) -> None:
@@ -91,9 +110,9 @@ def name_apart(one: Recording, other: Recording, paths: Sequence[str]) -> None:
         one.name, other.name = f"{one.name} (first)", f"{other.name} (second)"
 
 
-def read_as(kind: str, options: Sequence[str]) -> str:
-    """With which options the recording was read."""
-    return paragraph("Read as " + " ".join([kind, *map(shown, options)]), "read")
+def read_as(it: Recording) -> str:
+    """With which options a recording was read."""
+    return paragraph("Read as " + " ".join([it.survey.kind, *map(shown, it.survey.options)]), "read")
 
 
 def facts_of(it: Recording) -> List[Tuple[str, str]]:
@@ -210,8 +229,8 @@ def packets(tally: Tally) -> List[str]:
     for key, it in sorted(tally.counts.items()):
         table.rows.append([*columns(key, with_map), it.packets, it.jumps, it.missing, it.octets, it.first, it.last])
     table.sum_up()
-    return [table.html(), paragraph("A jump is a packet sequence count that isn't the one that comes next, modulo "
-                                    "16384. Idle packets are left out.", "note")]
+    several = len({apid for _, _, apid in tally.counts}) < len(tally.counts)
+    return [table.html(), paragraph(JUMPS + SEVERAL * several, "note")]
 
 
 def columns(key: Key, with_map: bool) -> List[int]:

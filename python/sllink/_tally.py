@@ -37,8 +37,8 @@ class Run(NamedTuple):
     packets: int
 
     def __str__(self) -> str:
-        counts = f"counts {self.first}..{self.last}" if self.packets > 1 else f"count {self.first}"
-        return f"{name_of(self.key[:2])} apid {self.key[2]} {counts} packets {self.packets}"
+        counts = f"{self.first}..{self.last}" if self.packets > 1 else str(self.first)
+        return f"{name_of(self.key[:2])} apid {self.key[2]} counts {counts} packets {self.packets}"
 
 
 class Count:

@@ -94,7 +94,7 @@ def questions(survey: Survey, tally: Tally) -> List[str]:
             asked.append(DISCARDED)
     if read and not tally.counts and not asked:
         asked.append("No packet is delivered. Are the options right?")
-    return asked
+    return [f"{it} {IDENTIFY}" if it == asked[-1] else it for it in asked]
 
 
 SKIPPED = {
@@ -107,6 +107,7 @@ ALONE = {
     "tm": "Does the recording hold TM frames alone, with sync markers, parity and randomisation taken off?",
     "tc": "Does the recording hold TC frames alone, with CLTUs and randomisation taken off?",
 }
+IDENTIFY = "sllink-identify says what a recording is."
 REST = {"tm": "Is --tm-length right?", "tc": "Is --tc-fecf right?"}
 FOREIGN = ("Octets at packet starts are of another packet version. Do the frames have an error control field, which "
            "the options leave out?")

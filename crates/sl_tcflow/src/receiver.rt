@@ -218,7 +218,7 @@ fn take<S: PacketSink>(
         (λ r views. AreIncomplete r series.new (views ++ frame.now ∷ []))) }
     ensures hands_over { ForIncomplete plain series.old verdict frame.now
         (λ r views. HandsOver S.taking S.failing S.failures counts_of
-            sink.old (unit_channel r frame.now) (ended_by r views frame.now) result sink.new) }
+        sink.old (unit_channel r frame.now) (ended_by r views frame.now) result sink.new) }
     ensures step { IfOk result
         (λ step. ForIncomplete plain series.old verdict frame.now
         (λ r views. IsReportedOf r views frame.now step)) }

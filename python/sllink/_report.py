@@ -190,9 +190,10 @@ def farms(survey: Survey) -> str:
     """The state of each FARM-1 at the end."""
     table = Table("FARM-1", ["Virtual channel", "V(R)", "Lockout flag", "Retransmit flag", "FARM-B counter", "CLCW",
                              "Lockouts"], ["Lockout flag", "Retransmit flag", "Lockouts"], ["V(R)", "FARM-B counter"])
-    for vc, word in sorted(survey.farms.items()):
-        table.rows.append([vc, word & 255, word >> 13 & 1, word >> 11 & 1, word >> 9 & 3, f"{word:08x}",
-                           survey.lockouts_of[vc]])
+    for vc, digits in sorted(survey.farms.items()):
+        word = int(digits, 16)
+        flags = word >> 13 & 1, word >> 11 & 1
+        table.rows.append([vc, word & 255, *flags, word >> 9 & 3, digits, survey.lockouts_of[vc]])
     return table.html()
 
 

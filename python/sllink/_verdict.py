@@ -72,7 +72,7 @@ def farm_said(survey: Survey) -> List[str]:
     else:
         parts = [f"FARM-1 accepted all {sent:,} frames of type AD" if sent > 1 else
                  "FARM-1 accepted the one frame of type AD"]
-    locked = [vc for vc, word in sorted(survey.farms.items()) if word >> 13 & 1]
+    locked = [vc for vc, digits in sorted(survey.farms.items()) if int(digits, 16) >> 13 & 1]
     return parts + ([f"lockout at the end on {channels(locked)}"] if locked else [])
 
 

@@ -20,8 +20,9 @@ main{max-width:1180px;margin:0 auto;padding:2rem 1.25rem 3rem}
 h1{font-size:1.75rem;line-height:1.25;margin:0 0 .25rem;overflow-wrap:anywhere}
 h2{font-size:1.25rem;margin:2rem 0 .5rem;padding-top:1rem;border-top:1px solid var(--line);overflow-wrap:anywhere}
 h3{font-size:1rem;margin:1.5rem 0 .25rem;overflow-wrap:anywhere}
-p,ul,dl,pre,figure{margin:.5rem 0}
-.read{color:var(--soft);overflow-wrap:anywhere}
+p,dl,pre,figure{margin:.5rem 0}
+p,summary{overflow-wrap:anywhere}
+.read{color:var(--soft)}
 code,pre{font-family:ui-monospace,"DejaVu Sans Mono",Menlo,Consolas,monospace;font-size:.875rem}
 .verdict{font-size:1.125rem;margin:1.25rem 0;padding:.75rem 1rem;background:var(--shade);
 border-left:5px solid var(--soft)}

@@ -133,7 +133,9 @@ def pictured(it: Recording, ident: str) -> str:
 
 def tables(it: Recording, level: int) -> List[str]:
     """The tables of a recording."""
-    if it.survey.kind == "tm":
+    if it.survey.frames == it.survey.skipped:
+        parts = [heading(level, "Channels"), paragraph("No frame is read.")]
+    elif it.survey.kind == "tm":
         parts = [heading(level, "Channels"), *channels_tm(it.survey)]
         if it.survey.reports:
             parts += [heading(level, "CLCWs in the downlink"), clcws(it.survey)]
@@ -188,9 +190,10 @@ def farms(survey: Survey) -> str:
     """The state of each FARM-1 at the end."""
     table = Table("FARM-1", ["Virtual channel", "V(R)", "Lockout flag", "Retransmit flag", "FARM-B counter", "CLCW",
                              "Lockouts"], ["Lockout flag", "Retransmit flag", "Lockouts"], ["V(R)", "FARM-B counter"])
-    for vc, word in sorted(survey.farms.items()):
-        table.rows.append([vc, word & 255, word >> 13 & 1, word >> 11 & 1, word >> 9 & 3, f"{word:08x}",
-                           survey.lockouts_of[vc]])
+    for vc, digits in sorted(survey.farms.items()):
+        word = int(digits, 16)
+        flags = word >> 13 & 1, word >> 11 & 1
+        table.rows.append([vc, word & 255, *flags, word >> 9 & 3, digits, survey.lockouts_of[vc]])
     return table.html()
 
 
@@ -274,8 +277,9 @@ def lacks(one: Recording, other: Recording, difference: Difference) -> List[str]
 def differing(one: Recording, other: Recording, difference: Difference) -> Table:
     """The APIDs of which one recording lacks packets."""
     with_map = one.survey.kind == "tc"
-    last = [f"Lacked by {one.name}", f"Lacked by {other.name}"]
-    heads = ["Virtual channel", *["MAP"] * with_map, "APID", *(f"Packets in {it.name}" for it in (one, other)), *last]
+    names = [shortened(it.name) for it in (one, other)]
+    last = [f"Lacked by {name}" for name in names]
+    heads = ["Virtual channel", *["MAP"] * with_map, "APID", *(f"Packets in {name}" for name in names), *last]
     table = Table("APIDs of which packets are lacking", heads, last, ["MAP", "APID"])
     missing: Tuple[Missing, Missing] = (difference.only_other, difference.only_one)
     counts: Tuple[Dict[Key, int], ...] = tuple(
@@ -284,6 +288,11 @@ def differing(one: Recording, other: Recording, difference: Difference) -> Table
         table.rows.append([*columns(key, with_map), *(of.get(key, 0) for of in counts),
                            *(of.packets[key] for of in missing)])
     return table
+
+
+def shortened(name: str) -> str:
+    """A name that fits into the head of a column."""
+    return name if len(name) <= 32 else f"{name[:16]}..{name[-14:]}"
 
 
 def runs(it: Recording, missing: Missing) -> List[str]:

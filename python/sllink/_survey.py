@@ -7,7 +7,7 @@ short one.
 import collections
 import os
 from collections import defaultdict
-from typing import Counter, Dict, List, NamedTuple, Optional, Sequence, Tuple
+from typing import Counter, Dict, List, NamedTuple, Optional, Sequence, Set, Tuple
 
 from ._program import lines
 from .tool import Refused, require_file, shown
@@ -20,6 +20,7 @@ MOST_LOCKOUTS = 100                                       # lockouts that are ke
 ABOUT = 3                                                 # lines that are kept of the anomalies of one stretch
 NOT_READ = 64                                             # the row of skipped frames
 FLAGS = {"Lockout flag": 1 << 13, "Retransmit flag": 1 << 11}   # of the CLCW
+FLAGGED = sum(FLAGS.values())
 
 
 class Cell(NamedTuple):
@@ -108,12 +109,13 @@ class Survey:
         self.cells: List[Cell] = []                       # of a short recording
         self.bins: Dict[Tuple[int, str], List[int]] = defaultdict(lambda: [0] * BINS)   # frames by row and class
         self.bars: Dict[Tuple[int, str], List[List[int]]] = defaultdict(list)   # where a flag of FARM-1 is set
-        self.farms: Dict[int, int] = {}                   # the last CLCW of FARM-1 by channel
+        self.farms: Dict[int, str] = {}                   # the last CLCW of FARM-1 by channel
         self.lockouts: List[Lockout] = []
         self.lockouts_of: Counter[int] = collections.Counter()
         self.reports: Dict[Tuple[int, int], Reports] = {}
         self._begun: Dict[Tuple[int, str], int] = {}
         self._locked: Dict[int, Lockout] = {}
+        self._flagged: Set[int] = set()                   # the channels of which a flag is set
         self._show()
         self.require_unchanged()
 
@@ -170,43 +172,68 @@ class Survey:
             self.gaps[row].add(lost)
 
     def _show(self) -> None:
-        read = self._tm_frame if self.kind == "tm" else self._tc_frame
-        bins, size, short = self.bins, max(self.size, 1), self.is_short()
-        for line in lines("show", self.kind, self.recording, self.options):
-            words = line.split(" ")
-            start = int(words[0])
-            if words[1] == "frame":
-                row, what, text = read(start, int(words[3]), words)
-            else:
-                row, what, text = NOT_READ, words[1], words[2]
-            if what != "rest":
-                bins[row, what][min(start * BINS // size, BINS - 1)] += 1
-            if short:
-                self.cells.append(Cell(row, what, text, start, line))
+        if self.kind == "tm":
+            self._show_tm()
+        else:
+            self._show_tc()
         for (row, flag), start in self._begun.items():
             self._bar(row, flag, start, self.size)
 
-    def _tm_frame(self, _: int, row: int, words: List[str]) -> Tuple[int, str, str]:
-        # OFFSET frame vc V mc M vcc C CLASS [POINTER] [clcw DIGITS ..]
-        at = 10 if words[8] == "first" else 9
-        if len(words) > at and words[at] == "clcw":
-            word = int(words[at + 1], 16)
-            key = row, word >> 18 & 63
-            reports = self.reports.get(key) or self.reports.setdefault(key, Reports(word))
-            reports.add(word)
-        return row, words[8], words[7]
+    def _show_tm(self) -> None:
+        short = self.is_short()
+        for line in lines("show", self.kind, self.recording, self.options):
+            words = line.split(" ", 12)
+            if words[1] != "frame":
+                self._unread(words, line)
+                continue
+            # OFFSET frame vc V mc M vcc C CLASS [POINTER] [clcw DIGITS ..]
+            row, what = int(words[3]), words[8]
+            self._count(row, what, int(words[0]))
+            if " clcw " in line:
+                self._report(row, words[10 + (what == "first")])
+            if short:
+                self.cells.append(Cell(row, what, words[7], int(words[0]), line))
 
-    def _tc_frame(self, start: int, row: int, words: List[str]) -> Tuple[int, str, str]:
-        # OFFSET frame vc V CONTENT.. VERDICT clcw DIGITS
-        verdict, content, word = words[-3], words[4], int(words[-1], 16)
-        if self.farms.get(row, 0) & 0x2800 or word & 0x2800:
-            self._flags(start, row, verdict, words[5], word)
-        self.farms[row] = word
-        if verdict == "accept" and content == "bd":
-            verdict = "bypass"
-        return row, verdict, f"{content} {words[5]}" if content in ("ad", "setvr") else content
+    def _show_tc(self) -> None:
+        short = self.is_short()
+        for line in lines("show", self.kind, self.recording, self.options):
+            words = line.split(" ")
+            if words[1] != "frame":
+                self._unread(words, line)
+                continue
+            # OFFSET frame vc V CONTENT.. VERDICT clcw DIGITS
+            row, content, verdict, word = int(words[3]), words[4], words[-3], words[-1]
+            what = "bypass" if verdict == "accept" and content == "bd" else verdict
+            self._count(row, what, int(words[0]))
+            if word[4] != "0" or word[5] > "7" or row in self._flagged:
+                self._flags(int(words[0]), row, verdict, words[5], int(word, 16))
+            self.farms[row] = word
+            if short:
+                text = f"{content} {words[5]}" if content in ("ad", "setvr") else content
+                self.cells.append(Cell(row, what, text, int(words[0]), line))
+
+    def _unread(self, words: List[str], line: str) -> None:
+        """A skipped frame, or what is left after the last one."""
+        if words[1] == "skip":
+            self._count(NOT_READ, "skip", int(words[0]))
+        if self.is_short():
+            self.cells.append(Cell(NOT_READ, words[1], words[2], int(words[0]), line))
+
+    def _count(self, row: int, what: str, start: int) -> None:
+        place = start * BINS // (self.size or 1)
+        self.bins[row, what][place if place < BINS else BINS - 1] += 1
+
+    def _report(self, row: int, digits: str) -> None:
+        word = int(digits, 16)
+        key = row, word >> 18 & 63
+        reports = self.reports.get(key) or self.reports.setdefault(key, Reports(word))
+        reports.add(word)
 
     def _flags(self, start: int, row: int, verdict: str, number: str, word: int) -> None:
+        if word & FLAGGED:
+            self._flagged.add(row)
+        else:
+            self._flagged.discard(row)
         for flag, bit in FLAGS.items():
             if word & bit:
                 self._begun.setdefault((row, flag), start)

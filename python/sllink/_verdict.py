@@ -31,9 +31,9 @@ def said(survey: Survey, tally: Tally) -> str:
         return f"No whole frame: the recording has {number_of(survey.size, 'octet')}." if survey.size else \
             "The recording is empty."
     parts = [frames_said(survey)]
-    if survey.kind == "tm":
+    if survey.kind == "tm" and survey.frames > survey.skipped:
         parts.append(losses_said(survey))
-    else:
+    elif survey.frames > survey.skipped:
         parts += farm_said(survey)
     parts.append(f"{number_of(tally.packets(), 'packet')} delivered" if tally.counts else "no packet delivered")
     return "; ".join(parts) + "."
@@ -46,7 +46,7 @@ def frames_said(survey: Survey) -> str:
     reasons = ", ".join(f"{reason} {number:,}" if len(survey.reasons) > 1 else reason
                         for reason, number in survey.reasons.most_common())
     if survey.skipped == survey.frames:
-        return f"All {survey.frames:,} frames skipped ({reasons})"
+        return f"All {survey.frames:,} frames skipped ({reasons})" if survey.frames > 1 else "The one frame skipped"
     read = survey.frames - survey.skipped
     return f"{read:,} of {survey.frames:,} frames read, {survey.skipped:,} skipped ({reasons})"
 
@@ -72,7 +72,7 @@ def farm_said(survey: Survey) -> List[str]:
     else:
         parts = [f"FARM-1 accepted all {sent:,} frames of type AD" if sent > 1 else
                  "FARM-1 accepted the one frame of type AD"]
-    locked = [vc for vc, word in sorted(survey.farms.items()) if word >> 13 & 1]
+    locked = [vc for vc, digits in sorted(survey.farms.items()) if int(digits, 16) >> 13 & 1]
     return parts + ([f"lockout at the end on {channels(locked)}"] if locked else [])
 
 

@@ -4,6 +4,7 @@ A tool's `main(words)` returns its status. It raises Refused with the reason whe
 """
 
 import errno
+import io
 import os
 import signal
 import stat
@@ -118,6 +119,10 @@ def _streams(name: str) -> None:
     if sys.stdout is None:
         complain(name, f"output: {os.strerror(errno.EBADF)}")
         sys.exit(2)
+    if not isinstance(sys.stdout.buffer, io.BufferedWriter):
+        # as with PYTHONUNBUFFERED; then a write that takes a part of the octets would go for a whole one
+        sys.stdout = open(1, "w", encoding=sys.stdout.encoding,  # pylint: disable=consider-using-with
+                          errors=sys.stdout.errors, closefd=False)
 
 
 def _stop(*_: Any) -> NoReturn:

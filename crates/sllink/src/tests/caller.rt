@@ -3,7 +3,8 @@ ghost use Rattle.std.specs.Prelude.{◌≡◌, ◌↔◌, IsTrue, IfOk};
 ghost use Rattle.sl_link.specs.Normalise.Tm.{tm_normal_form, tm_packets};
 ghost use Rattle.sl_link.specs.Normalise.Tc.{tc_normal_form, tc_packets};
 
-use sl_link::{Counted, LinkFault, Managed, normalise_tc, normalise_tm};
+use super::support::recordings::{TC_FRAME, TM_FRAME};
+use sl_link::{Counted, LinkFault, Managed, ManagedFault, normalise_tc, normalise_tm};
 use std::alloc::Global;
 use std::test::Fail;
 
@@ -80,12 +81,7 @@ fn tc_form(alloc: Global, managed: &Managed, recording: &[u8]) -> Result<Vec<u8>
     Ok(writer.into_inner())
 }
 
-// A frame with a packet and an idle one, the same with other counts and other idle fill, and with another packet.
-const TM: [u8; 32] = [
-    0x00, 0x10, 0x00, 0x00, 0x18, 0x00, 0x00, 0x01, 0xC0, 0x00, 0x00, 0x03, 0xAA, 0xBB, 0xCC, 0xDD,
-    0x07, 0xFF, 0xC0, 0x00, 0x00, 0x09, 0x00, 0x00, 0x00, 0x00, 0x00, 0x00, 0x00, 0x00, 0x00, 0x00,
-];
-
+// A TM frame with the packet of `TM_FRAME`, other counts and other idle fill, and one with another packet.
 const TM_FILLED: [u8; 32] = [
     0x00, 0x10, 0x4D, 0xC8, 0x18, 0x00, 0x00, 0x01, 0xC0, 0x00, 0x00, 0x03, 0xAA, 0xBB, 0xCC, 0xDD,
     0x07, 0xFF, 0x00, 0x07, 0x00, 0x09, 0x55, 0x55, 0x55, 0x55, 0x55, 0x55, 0x55, 0x55, 0x55, 0x55,
@@ -96,11 +92,7 @@ const TM_OTHER: [u8; 32] = [
     0x07, 0xFF, 0xC0, 0x00, 0x00, 0x09, 0x00, 0x00, 0x00, 0x00, 0x00, 0x00, 0x00, 0x00, 0x00, 0x00,
 ];
 
-// A frame of type AD with a packet, one of type BD with the same, and one with another packet.
-const TC: [u8; 16] = [
-    0x00, 0x01, 0x00, 0x0F, 0x00, 0xC0, 0x10, 0x01, 0xC0, 0x00, 0x00, 0x03, 0xAA, 0xBB, 0xCC, 0xDD,
-];
-
+// A frame of type BD with the packet of `TC_FRAME`, and one of type AD with it on another MAP.
 const TC_BYPASSING: [u8; 16] = [
     0x20, 0x01, 0x00, 0x0F, 0x00, 0xC0, 0x10, 0x01, 0xC0, 0x00, 0x00, 0x03, 0xAA, 0xBB, 0xCC, 0xDD,
 ];
@@ -109,30 +101,36 @@ const TC_OTHER: [u8; 16] = [
     0x00, 0x01, 0x00, 0x0F, 0x00, 0xC1, 0x10, 0x01, 0xC0, 0x00, 0x00, 0x03, 0xAA, 0xBB, 0xCC, 0xDD,
 ];
 
+fn link() -> Result<Managed, ManagedFault> {
+    Managed::new(1, 32, false, 16, false, 10, 0, 100)
+}
+
+// What the four say, without their contracts.
+fn same_tm(alloc: Global, managed: &Managed, other: &[u8]) -> Result<bool, LinkFault> {
+    have_same_tm_packets(alloc, managed, &TM_FRAME, other)
+}
+
+fn own_tm(alloc: Global, managed: &Managed) -> Result<bool, LinkFault> {
+    is_tm_form_its_own(alloc, managed, &TM_FILLED)
+}
+
+fn same_tc(alloc: Global, managed: &Managed, other: &[u8]) -> Result<bool, LinkFault> {
+    have_same_tc_packets(alloc, managed, &TC_FRAME, other)
+}
+
+fn own_tc(alloc: Global, managed: &Managed) -> Result<bool, LinkFault> {
+    is_tc_form_its_own(alloc, managed, &TC_BYPASSING)
+}
+
 #[test]
 fn callers_tell_packets_by_normal_forms(rt: HostRuntime) -> Result<(), Fail> {
     let alloc = rt.alloc();
-    let managed = Managed::new(1, 32, false, 16, false, 10, 0, 100)?;
-    assert_eq!(rt;
-        have_same_tm_packets(alloc, &managed, &TM, &TM_FILLED),
-        Ok(true)
-    );
-    assert_eq!(rt;
-        have_same_tm_packets(alloc, &managed, &TM, &TM_OTHER),
-        Ok(false)
-    );
-    assert_eq!(rt; is_tm_form_its_own(alloc, &managed, &TM_FILLED), Ok(true));
-    assert_eq!(rt;
-        have_same_tc_packets(alloc, &managed, &TC, &TC_BYPASSING),
-        Ok(true)
-    );
-    assert_eq!(rt;
-        have_same_tc_packets(alloc, &managed, &TC, &TC_OTHER),
-        Ok(false)
-    );
-    assert_eq!(rt;
-        is_tc_form_its_own(alloc, &managed, &TC_BYPASSING),
-        Ok(true)
-    );
+    let managed = link()?;
+    assert_eq!(rt; same_tm(alloc, &managed, &TM_FILLED), Ok(true));
+    assert_eq!(rt; same_tm(alloc, &managed, &TM_OTHER), Ok(false));
+    assert_eq!(rt; own_tm(alloc, &managed), Ok(true));
+    assert_eq!(rt; same_tc(alloc, &managed, &TC_BYPASSING), Ok(true));
+    assert_eq!(rt; same_tc(alloc, &managed, &TC_OTHER), Ok(false));
+    assert_eq!(rt; own_tc(alloc, &managed), Ok(true));
     Ok(())
 }

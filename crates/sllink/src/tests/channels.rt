@@ -1,9 +1,8 @@
 //! Virtual channels without segment headers, and such as begin with a V(R) of their own, by the command line.
-use super::faulty::{InPieces, Unreadable, Unwritable};
-use super::normalise::octets;
-use super::normalise_tc::{DIVIDED_FROM_255, WHOLE};
-use super::outcome::{Outcome, text};
-use sl_link::Counted;
+use super::support::recordings::{
+    BEGUN_FROM_255, CONTINUED_FROM_255, DIVIDED_FROM_255, ENDED_FROM_255, WHOLE,
+};
+use super::support::run::{lists, normalises, refuses};
 use std::test::Fail;
 
 const LINK: &str = "tc --scid 1 --tm-length 32 --tc-length 24";
@@ -24,6 +23,9 @@ const SECOND: &str = "0001140b011002c0020000ef";
 const WITH_TAIL: &str = "0001140d001002c0010000ee0000";
 
 const EARLY: &str = "0001140b041002c0010000ee";
+
+// A packet on virtual channel 0 from N(S) 0 on, and one on virtual channel 5 from N(S) 255 on.
+const ON_TWO_CHANNELS: [&str; 4] = [WHOLE, BEGUN_FROM_255, CONTINUED_FROM_255, ENDED_FROM_255];
 
 // Verb, options, recording, status and listing.
 type Case = (
@@ -86,24 +88,14 @@ fn cases() -> [Case; 11] {
         (
             "check",
             "--vr 255 --vr-of 0:0",
-            &[
-                WHOLE,
-                DIVIDED_FROM_255[0],
-                DIVIDED_FROM_255[1],
-                DIVIDED_FROM_255[2],
-            ],
+            &ON_TWO_CHANNELS,
             0,
             "frames 4 skipped 0 packets 2 idle 0 anomalies 0\n",
         ),
         (
             "check",
             "",
-            &[
-                WHOLE,
-                DIVIDED_FROM_255[0],
-                DIVIDED_FROM_255[1],
-                DIVIDED_FROM_255[2],
-            ],
+            &ON_TWO_CHANNELS,
             1,
             "16 late vc 5 ad 255\n32 stray vc 5 map 0\n48 stray vc 5 map 0\n\
             frames 4 skipped 0 packets 1 idle 0 anomalies 3\n",
@@ -126,21 +118,12 @@ fn cases() -> [Case; 11] {
     ]
 }
 
-// With streams that take all at once, and octet by octet.
 #[test]
 fn virtual_channels_are_listed_as_managed(rt: HostRuntime) -> Result<(), Fail> {
     let alloc = rt.alloc();
-    for (verb, options, parts, status, wanted) in cases() {
+    for (verb, options, parts, status, listing) in cases() {
         let line = format!(in alloc; "sllink {verb} {LINK} {options}")?;
-        let recording = octets(alloc, parts)?;
-        let outcome = Outcome::of(alloc, line.as_str(), recording.as_slice())?;
-        assert!(rt; outcome.says(status, ""), "{outcome:?}");
-        assert_eq!(rt; text(outcome.output.as_slice()), wanted, "{line}");
-        let mut writer = Counted::new(InPieces(Vec::new(alloc), 1));
-        let reader = InPieces(recording.as_slice(), 1);
-        let outcome = Outcome::with(alloc, line.as_str(), reader, &mut writer)?;
-        assert!(rt; outcome.says(status, ""), "{outcome:?}");
-        assert_eq!(rt; text(writer.into_inner().0.as_slice()), wanted, "{line}");
+        lists(&rt, alloc, line.as_str(), parts, (status, listing))?;
     }
     Ok(())
 }
@@ -155,12 +138,7 @@ fn normal_forms_are_as_managed(rt: HostRuntime) -> Result<(), Fail> {
         ("", &[PLAIN], &[]),
         (
             "--vr-of 5:255",
-            &[
-                WHOLE,
-                DIVIDED_FROM_255[0],
-                DIVIDED_FROM_255[1],
-                DIVIDED_FROM_255[2],
-            ],
+            &ON_TWO_CHANNELS,
             &[
                 WHOLE,
                 "00011417ff401002c0050010111111111111111111111111",
@@ -176,13 +154,7 @@ fn normal_forms_are_as_managed(rt: HostRuntime) -> Result<(), Fail> {
     ];
     for (options, parts, wanted) in cases {
         let line = format!(in alloc; "sllink normalise {LINK} {options}")?;
-        let recording = octets(alloc, parts)?;
-        let outcome = Outcome::of(alloc, line.as_str(), recording.as_slice())?;
-        assert!(rt; outcome.says(0, ""), "{outcome:?}");
-        let once = octets(alloc, wanted)?;
-        assert!(rt; outcome.output == once, "{line} {outcome:?}");
-        let outcome = Outcome::of(alloc, line.as_str(), once.as_slice())?;
-        assert!(rt; outcome.output == once, "{line} {outcome:?}");
+        normalises(&rt, alloc, line.as_str(), parts, wanted)?;
     }
     Ok(())
 }
@@ -192,28 +164,21 @@ fn normal_forms_are_as_managed(rt: HostRuntime) -> Result<(), Fail> {
 #[test]
 fn virtual_channels_begin_with_their_own_vr(rt: HostRuntime) -> Result<(), Fail> {
     let alloc = rt.alloc();
-    let recording = octets(
-        alloc,
-        &[
-            WHOLE,
-            DIVIDED_FROM_255[0],
-            DIVIDED_FROM_255[1],
-            DIVIDED_FROM_255[2],
-        ],
-    )?;
     let listing = "0 frame vc 0 ad 0 segment whole map 0 octets 10 accept clcw 01000001\n\
         16 frame vc 5 ad 255 segment first map 0 octets 10 accept clcw 01140000\n\
         32 frame vc 5 ad 0 segment middle map 0 octets 10 accept clcw 01140001\n\
         48 frame vc 5 ad 1 segment last map 0 octets 3 accept clcw 01140002\n";
     for options in ["--vr-of 5:255", "--vr 255 --vr-of 0:0"] {
         let line = format!(in alloc; "sllink show tc --scid 1 --tc-length 16 {options}")?;
-        let outcome = Outcome::of(alloc, line.as_str(), recording.as_slice())?;
-        assert!(rt; outcome.says(0, ""), "{outcome:?}");
-        assert_eq!(rt; text(outcome.output.as_slice()), listing, "{line}");
+        lists(&rt, alloc, line.as_str(), &ON_TWO_CHANNELS, (0, listing))?;
         let line = format!(in alloc; "sllink normalise tc --scid 1 --tc-length 16 {options}")?;
-        let outcome = Outcome::of(alloc, line.as_str(), recording.as_slice())?;
-        assert!(rt; outcome.says(0, ""), "{outcome:?}");
-        assert!(rt; outcome.output == recording, "{line} {outcome:?}");
+        normalises(
+            &rt,
+            alloc,
+            line.as_str(),
+            &ON_TWO_CHANNELS,
+            &ON_TWO_CHANNELS,
+        )?;
     }
     Ok(())
 }
@@ -236,10 +201,7 @@ fn texts_of_virtual_channels_are_refused(rt: HostRuntime) -> Result<(), Fail> {
     for (options, said) in cases {
         for kind in ["tm", "tc"] {
             let line = format!(in rt.alloc(); "sllink normalise {kind} --scid 1 {options}")?;
-            let mut writer = Counted::new(Unwritable);
-            let outcome = Outcome::with(rt.alloc(), line.as_str(), Unreadable, &mut writer)?;
-            assert!(rt; outcome.says(2, said), "{outcome:?}");
-            assert_eq!(rt; writer.faults(), 0);
+            refuses(&rt, rt.alloc(), line.as_str(), said)?;
         }
     }
     Ok(())

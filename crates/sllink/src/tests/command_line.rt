@@ -1,33 +1,29 @@
 //! Command lines: what they ask for, which are refused, help and the version.
-use super::faulty::Unreadable;
-use super::normalise::{FIRST, TEN_FILLED, octets};
-use super::outcome::{Outcome, text};
-use sl_link::Counted;
+use super::support::recordings::{FIRST, TEN_FILLED, TM_TEN_SHOWN};
+use super::support::run::{Outcome, lists};
 use std::test::Fail;
 
 const HELP: &str = "sllink --help";
-
-const LISTED: &str = "0 frame vc 0 mc 0 vcc 0 first 0\n";
 
 // Options come in any order, before the kind or after it, with their number as a word of its own or not; what the first
 // word is doesn't matter.
 #[test]
 fn command_lines_are_read(rt: HostRuntime) -> Result<(), Fail> {
     let alloc = rt.alloc();
-    let recording = octets(alloc, &[FIRST, TEN_FILLED])?;
     let lines = [
-        ("sllink show tm --scid 1 --tm-length 32", LISTED),
-        ("any show --limit=32 --tm-length=32 tm --scid=1", LISTED),
+        ("sllink show tm --scid 1 --tm-length 32", TM_TEN_SHOWN),
+        (
+            "any show --limit=32 --tm-length=32 tm --scid=1",
+            TM_TEN_SHOWN,
+        ),
         (
             "sllink show --tc-fecf --tm-length 32 --scid 1 --vr 255 --window 2 tm --tc-length 16",
-            LISTED,
+            TM_TEN_SHOWN,
         ),
         ("sllink show tm --scid 1", "0 rest 32\n"),
     ];
     for (line, listing) in lines {
-        let outcome = Outcome::of(alloc, line, recording.as_slice())?;
-        assert!(rt; outcome.says(0, ""), "{line}");
-        assert_eq!(rt; text(outcome.output.as_slice()), listing);
+        lists(&rt, alloc, line, &[FIRST, TEN_FILLED], (0, listing))?;
     }
     Ok(())
 }
@@ -107,7 +103,7 @@ fn help_is_printed(rt: HostRuntime) -> Result<(), Fail> {
     for (line, usage) in cases {
         let outcome = Outcome::of(rt.alloc(), line, &[])?;
         assert!(rt; outcome.says(0, ""), "{line}");
-        assert!(rt; text(outcome.output.as_slice()).contains(usage), "{line}");
+        assert!(rt; outcome.text().contains(usage), "{line}");
     }
     Ok(())
 }
@@ -145,14 +141,9 @@ fn the_version_is_printed(rt: HostRuntime) -> Result<(), Fail> {
         "sllink -Vh",
     ];
     for line in lines {
-        let mut writer = Counted::new(Vec::new(alloc));
-        let outcome = Outcome::with(alloc, line, Unreadable, &mut writer)?;
+        let outcome = Outcome::unread(alloc, line)?;
         assert!(rt; outcome.says(0, ""), "{line}");
-        assert_eq!(rt;
-            text(writer.into_inner().as_slice()),
-            "sllink 1.0.0\n",
-            "{line}"
-        );
+        assert_eq!(rt; outcome.text(), "sllink 1.0.0\n", "{line}");
     }
     Ok(())
 }
@@ -195,7 +186,7 @@ fn help_says_what_a_run_takes_and_gives(rt: HostRuntime) -> Result<(), Fail> {
     ];
     for (line, values, example) in cases {
         let outcome = Outcome::of(rt.alloc(), line, &[])?;
-        let said = text(outcome.output.as_slice());
+        let said = outcome.text();
         for part in values.iter().chain([example].iter()).chain(end.iter()) {
             assert!(rt; said.contains(*part), "{line} {part}");
         }
@@ -212,7 +203,7 @@ fn help_names_each_verb(rt: HostRuntime) -> Result<(), Fail> {
         ("normalise", "Write the normal form of a recording\n"),
     ];
     let outcome = Outcome::of(rt.alloc(), HELP, &[])?;
-    let mut left = text(outcome.output.as_slice());
+    let mut left = outcome.text();
     // In this order.
     for (verb, about) in verbs {
         let (_, behind) = left.split_once(verb).unwrap_or(("", ""));
@@ -243,7 +234,7 @@ fn help_names_each_option(rt: HostRuntime) -> Result<(), Fail> {
     ];
     for line in lines {
         let outcome = Outcome::of(rt.alloc(), line, &[])?;
-        let mut left = text(outcome.output.as_slice());
+        let mut left = outcome.text();
         assert!(rt; left.contains("[possible values: tm, tc]"), "{left}");
         // In this order.
         for option in options {

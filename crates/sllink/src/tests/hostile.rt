@@ -1,21 +1,15 @@
 //! Recordings that come in pieces, are cut short, damaged or long, through every engine of their kind.
-use super::engines::{ALL, Answer, Kind, Link, VERBS, Verb};
-use super::normalise::{BEGUN, ENDED, FIRST, LONG, TEN_FILLED, octets};
-use super::normalise_tc::{
-    BAD_LENGTH, DIVIDED, DIVIDED_FROM_255, IN_WINDOW, LOCKED_OUT, MIXED, SKIPPED, WHOLE, WITH_IDLE,
+use super::normalise;
+use super::support::engines::{ALL, Answer, Kind, Link, VERBS, Verb};
+use super::support::recordings::{
+    BAD_LENGTH, BEGUN, DIVIDED, DIVIDED_FROM_255, ENDED, FIRST, HUNDRED, IN_WINDOW, LOCKED_OUT,
+    LONG, MIXED, SKIPPED, UNLOCK_DAMAGED, UNLOCK_WITH_FECF, WHOLE, WITH_FECF, WITH_IDLE, longest,
+    octets, too_long,
 };
-use super::outcome::text;
-use super::{listings_tc, longest, normalise};
 use sl_link::{LinkFault, ManagedFault};
 use std::alloc::Global;
 use std::process::Abort;
 use std::test::Fail;
-
-// A frame whose error control field is wrong, before one whose field is right.
-const WITH_FECF: [&str; 2] = [
-    "0010000018000001c0000003abbbccdd07ffc0000009000000000000000000005e0c",
-    "0010000018000001c0000003aabbccdd07ffc0000009000000000000000000005e0c",
-];
 
 // TC recordings, with the greatest frame length, whether there is error control, and the N(S) that is expected first.
 fn tc_cases() -> [(u16, bool, u8, &'static [&'static str]); 13] {
@@ -30,8 +24,8 @@ fn tc_cases() -> [(u16, bool, u8, &'static [&'static str]); 13] {
         (16, false, 255, &DIVIDED),
         (16, false, 255, &DIVIDED_FROM_255),
         (16, false, 0, &SKIPPED),
-        (16, true, 0, &["3001000700000e5d"]),
-        (16, true, 0, &["3001000700000e5e"]),
+        (16, true, 0, &[UNLOCK_WITH_FECF]),
+        (16, true, 0, &[UNLOCK_DAMAGED]),
         (24, false, 0, &[WITH_IDLE]),
     ]
 }
@@ -56,19 +50,7 @@ fn recordings(alloc: Global) -> Result<Vec<(Link, Vec<u8>)>, Fail> {
 }
 
 fn lines(answer: &Answer) -> u64 {
-    text(answer.output.as_slice()).lines().count() as u64
-}
-
-fn counts(answer: &Answer) -> [u64; 6] {
-    let totals = &answer.totals;
-    [
-        totals.octets(),
-        totals.frames(),
-        totals.skipped(),
-        totals.rest(),
-        totals.packets(),
-        totals.idle(),
-    ]
+    answer.text().lines().count() as u64
 }
 
 // What holds of every recording: each engine passes over all of it, they count the same, and the lines are as many as
@@ -80,24 +62,24 @@ fn passes(rt: &impl Abort, alloc: Global, link: &Link, recording: &[u8]) -> Resu
     let packets = link.answer(alloc, Verb::Packets, recording, ALL)?;
     let normal = link.answer(alloc, Verb::Normalise, recording, ALL)?;
     let again = link.answer(alloc, Verb::Normalise, normal.output.as_slice(), ALL)?;
-    let [all, frames, skipped, rest, delivered, idle] = counts(&check);
-    let counted = [counts(&show), counts(&packets), counts(&normal)];
+    let [all, frames, skipped, rest, delivered, idle, anomalies] = check.counts();
+    let counted = [show.counts(), packets.counts(), normal.counts()];
     let wanted = [
-        [all, frames, skipped, rest, 0, 0],
-        [all, frames, skipped, rest, delivered, idle],
-        [all, frames, skipped, rest, delivered, idle],
+        [all, frames, skipped, rest, 0, 0, 0],
+        [all, frames, skipped, rest, delivered, idle, 0],
+        [all, frames, skipped, rest, delivered, idle, 0],
     ];
     assert_eq!(rt; counted, wanted, "{link:?} {recording:?}");
     assert_eq!(rt; all, recording.len() as u64);
     let told = [lines(&show), lines(&check), lines(&packets)];
     let wanted = [
         frames.saturating_add(rest.min(1)),
-        check.totals.anomalies().saturating_add(1),
+        anomalies.saturating_add(1),
         delivered,
     ];
     assert_eq!(rt; told, wanted, "{link:?} {recording:?}");
     assert_eq!(rt; again.output, normal.output, "{link:?} {recording:?}");
-    let [_, _, skipped, rest, packets_again, _] = counts(&again);
+    let [_, _, skipped, rest, packets_again, _, _] = again.counts();
     assert_eq!(rt;
         [skipped, rest, packets_again],
         [0, 0, delivered],
@@ -119,7 +101,7 @@ fn passes_in_pieces(
         for most in [1, 7] {
             let in_pieces = link.answer(alloc, verb, recording, most)?;
             assert!(rt;
-                in_pieces == whole,
+                in_pieces.is_same(&whole),
                 "{verb:?} {most} {link:?} {recording:?}"
             );
         }
@@ -186,9 +168,9 @@ fn without_octets(alloc: Global) -> Result<Vec<u8>, Fail> {
 fn recordings_are_long(rt: HostRuntime) -> Result<(), Fail> {
     let alloc = rt.alloc();
     let cases = [
-        (Kind::Tm, 32, longest::recording(alloc)?),
+        (Kind::Tm, 32, longest(alloc)?),
         (Kind::Tm, 32, waiting(alloc)?),
-        (Kind::Tc, 16, listings_tc::too_long(alloc)?),
+        (Kind::Tc, 16, too_long(alloc)?),
         (Kind::Tc, 16, without_octets(alloc)?),
     ];
     let listings = [
@@ -201,7 +183,7 @@ fn recordings_are_long(rt: HostRuntime) -> Result<(), Fail> {
         let link = Link::new(*kind, *length, false, 0, 1_000_000)?;
         passes_in_pieces(&rt, alloc, &link, recording.as_slice())?;
         let check = link.answer(alloc, Verb::Check, recording.as_slice(), ALL)?;
-        assert_eq!(rt; text(check.output.as_slice()), listing);
+        assert_eq!(rt; check.text(), listing);
     }
     Ok(())
 }
@@ -211,18 +193,10 @@ fn recordings_are_long(rt: HostRuntime) -> Result<(), Fail> {
 fn recordings_are_limited(rt: HostRuntime) -> Result<(), Fail> {
     let alloc = rt.alloc();
     let link = Link::new(Kind::Tm, 32, false, 0, 100)?;
-    let parts = [
-        FIRST,
-        TEN_FILLED,
-        FIRST,
-        TEN_FILLED,
-        FIRST,
-        TEN_FILLED,
-        "0010000018",
-    ];
-    let longer = octets(alloc, &parts)?;
-    let limited = longer.get(..100).ok_or("short")?;
-    passes_in_pieces(&rt, alloc, &link, limited)?;
+    let limited = octets(alloc, &HUNDRED)?;
+    let mut longer = limited.clone()?;
+    longer.push(0x18)?;
+    passes_in_pieces(&rt, alloc, &link, limited.as_slice())?;
     for verb in VERBS {
         for most in [1, 7, ALL] {
             let fault = link.answer(alloc, verb, longer.as_slice(), most).err();

@@ -1,8 +1,9 @@
 //! The listings of what is amiss in TC recordings, and of their packets.
-use super::normalise::octets;
-use super::normalise_tc::{DIVIDED, IN_WINDOW, LOCKED_OUT, MIXED, SECOND, SKIPPED, THIRD, WHOLE};
-use super::outcome::{Outcome, text};
-use std::alloc::{AllocError, Global};
+use super::support::recordings::{
+    DIVIDED, IN_WINDOW, LOCKED_OUT, MIXED, SECOND, SKIPPED, TC_TEN_LISTED, THIRD, UNLOCK_WITH_FECF,
+    WHOLE, WITH_IDLE, too_long,
+};
+use super::support::run::{Outcome, lists};
 use std::test::Fail;
 
 const CHECK: &str = "sllink check tc --scid 1 --tm-length 32 --tc-length 16";
@@ -80,14 +81,14 @@ fn cases() -> [(&'static str, &'static [&'static str], u8, &'static str); 14] {
         ),
         (
             WITH_FECF,
-            &["3001000700000e5c", "3001000700000e5d"],
+            &["3001000700000e5c", UNLOCK_WITH_FECF],
             1,
             "0 skip fecf\nframes 2 skipped 1 packets 0 idle 0 anomalies 1\n",
         ),
         // An idle packet after a packet.
         (
             UP_TO_24,
-            &["0001001300c01002c0010000ee07ffc000000000"],
+            &[WITH_IDLE],
             0,
             "frames 1 skipped 0 packets 1 idle 1 anomalies 0\n",
         ),
@@ -126,10 +127,7 @@ fn cases() -> [(&'static str, &'static [&'static str], u8, &'static str); 14] {
 #[test]
 fn what_is_amiss_in_tc_recordings(rt: HostRuntime) -> Result<(), Fail> {
     for (line, parts, status, listing) in cases() {
-        let recording = octets(rt.alloc(), parts)?;
-        let outcome = Outcome::of(rt.alloc(), line, recording.as_slice())?;
-        assert!(rt; outcome.says(status, ""), "{outcome:?}");
-        assert_eq!(rt; text(outcome.output.as_slice()), listing);
+        lists(&rt, rt.alloc(), line, parts, (status, listing))?;
     }
     Ok(())
 }
@@ -146,7 +144,7 @@ fn series_of_all_channels_are_incomplete(rt: HostRuntime) -> Result<(), Fail> {
     }
     let outcome = Outcome::of(alloc, CHECK, recording.as_slice())?;
     assert!(rt; outcome.says(1, ""));
-    let mut lines = text(outcome.output.as_slice()).lines();
+    let mut lines = outcome.text().lines();
     for vc in 0..64u8 {
         for map in 0..64u8 {
             let line = format!(in alloc; "24576 open vc {vc} map {map} octets 0")?;
@@ -159,30 +157,13 @@ fn series_of_all_channels_are_incomplete(rt: HostRuntime) -> Result<(), Fail> {
     Ok(())
 }
 
-// A series of 65,560 octets: the segment that makes it longer than 65,542 octets gives it up, so the last one is out
-// of sequence.
-pub(super) fn too_long(alloc: Global) -> Result<Vec<u8>, AllocError> {
-    let mut recording = Vec::new(alloc);
-    for number in 0..6556u16 {
-        let [_, ns] = number.to_be_bytes();
-        let flags = match number {
-            0 => 0x40,
-            6555 => 0x80,
-            _ => 0x00,
-        };
-        recording.extend_from_slice(&[0x00, 0x01, 0x00, 0x0F, ns, flags])?;
-        recording.extend_from_slice(&[0; 10])?;
-    }
-    Ok(recording)
-}
-
 #[test]
 fn a_series_that_is_too_long_is_told(rt: HostRuntime) -> Result<(), Fail> {
     let recording = too_long(rt.alloc())?;
     let outcome = Outcome::of(rt.alloc(), CHECK, recording.as_slice())?;
     assert!(rt; outcome.says(1, ""));
     assert_eq!(rt;
-        text(outcome.output.as_slice()),
+        outcome.text(),
         "104864 long vc 0 map 0\n104880 stray vc 0 map 0\nframes 6556 skipped 0 packets 0 idle 0 anomalies 2\n"
     );
     Ok(())
@@ -192,10 +173,7 @@ fn a_series_that_is_too_long_is_told(rt: HostRuntime) -> Result<(), Fail> {
 fn packets_of_tc_recordings(rt: HostRuntime) -> Result<(), Fail> {
     let cases: [(&[&str], &str); 4] = [
         (&[], ""),
-        (
-            &[WHOLE],
-            "vc 0 map 0 apid 1 type 1 secondary 0 flags 3 count 0 octets 10 1001c0000003aabbccdd\n",
-        ),
+        (&[WHOLE], TC_TEN_LISTED),
         (
             &MIXED,
             "vc 0 map 1 apid 1 type 1 secondary 0 flags 3 count 0 octets 10 1001c0000003aabbccdd\n\
@@ -214,10 +192,7 @@ fn packets_of_tc_recordings(rt: HostRuntime) -> Result<(), Fail> {
         ),
     ];
     for (parts, listing) in cases {
-        let recording = octets(rt.alloc(), parts)?;
-        let outcome = Outcome::of(rt.alloc(), PACKETS, recording.as_slice())?;
-        assert!(rt; outcome.says(0, ""), "{outcome:?}");
-        assert_eq!(rt; text(outcome.output.as_slice()), listing);
+        lists(&rt, rt.alloc(), PACKETS, parts, (0, listing))?;
     }
     Ok(())
 }

@@ -1,11 +1,28 @@
 //! The listings of what is amiss in TM recordings, and of their packets.
-use super::normalise::octets;
-use super::outcome::text;
-use sl_link::{Counted, Managed, ManagedFault, check_tm, packets_tm};
+use super::support::engines::{ALL, Kind, Link, Verb};
+use super::support::recordings::{
+    AROUND_IDLE, BEGUN, ENDED, FIRST, FIVES, FOREIGN, FULL, LONG, TEN_FILLED, THROUGH,
+    TM_TEN_LISTED, WITH_FECF, WITH_GAP, ZEROS, octets,
+};
+use std::alloc::Global;
+use std::process::Abort;
 use std::test::Fail;
 
-fn link() -> Result<Managed, ManagedFault> {
-    Managed::new(1, 32, false, 1024, false, 10, 0, 1000)
+// An engine writes this listing and goes over all octets: its totals.
+fn lists(
+    rt: &impl Abort,
+    alloc: Global,
+    verb: Verb,
+    parts: &[&str],
+    listing: &str,
+) -> Result<[u64; 7], Fail> {
+    let link = Link::new(Kind::Tm, 32, false, 0, 1000)?;
+    let recording = octets(alloc, parts)?;
+    let answer = link.answer(alloc, verb, recording.as_slice(), ALL)?;
+    assert_eq!(rt; answer.text(), listing);
+    let counts = answer.counts();
+    assert_eq!(rt; counts[0], recording.len() as u64);
+    Ok(counts)
 }
 
 #[test]
@@ -13,125 +30,96 @@ fn what_is_amiss_in_recordings(rt: HostRuntime) -> Result<(), Fail> {
     let cases: [(&[&str], &str); 17] = [
         (&[], "frames 0 skipped 0 packets 0 idle 0 anomalies 0\n"),
         (
-            &["0010000018000001c0000003aabbccdd07ffc000000900000000000000000000"],
+            &[FIRST, TEN_FILLED],
             "frames 1 skipped 0 packets 1 idle 1 anomalies 0\n",
         ),
         (
-            &["0010000018000002c0050010111111111111111111111111111111111107ffc0"],
+            &[FIRST, LONG, "07ffc0"],
             "32 open vc 0 octets 3\nframes 1 skipped 0 packets 1 idle 0 anomalies 1\n",
         ),
+        (&FULL, "frames 1 skipped 0 packets 1 idle 0 anomalies 0\n"),
         (
-            &["0010000018000002c00600132222222222222222222222222222222222222222"],
-            "frames 1 skipped 0 packets 1 idle 0 anomalies 0\n",
-        ),
-        (
-            &[
-                "0010000018000002c005001011111111111111111111111111111111110003c0",
-                "001002021807000003010203040001c0000003aabbccdd07ffc0000002000000",
-            ],
+            &WITH_GAP,
             "32 gap vc 0 expected 1 found 2\n32 dropped vc 0 octets 3\nframes 2 skipped 0 packets 2 idle 1 anomalies 2\n",
         ),
         (
-            &[
-                "0010000018000002c005001011111111111111111111111111111111110003c0",
-                "001001011ffe5555555555555555555555555555555555555555555555555555",
-                "001002021807000003010203040001c0000003aabbccdd07ffc0000002000000",
-            ],
+            &AROUND_IDLE,
             "frames 3 skipped 0 packets 3 idle 1 anomalies 0\n",
         ),
         (
-            &[
-                "0010000018000002c005001011111111111111111111111111111111110003c0",
-                "001001011811000003010203040001c0000003aabbccdd07ffc0000002000000",
-            ],
+            &[FIRST, LONG, BEGUN, "001001011811", ENDED],
             "32 dropped vc 0 octets 3\nframes 2 skipped 0 packets 1 idle 1 anomalies 1\n",
         ),
         (
-            &[
-                "0010000018000002c005001011111111111111111111111111111111110003c0",
-                "0010000018000002c005001011111111111111111111111111111111110003c0",
-            ],
+            &[FIRST, LONG, BEGUN, FIRST, LONG, BEGUN],
             "32 gap vc 0 expected 1 found 0\n32 dropped vc 0 octets 3\n64 open vc 0 octets 3\nframes 2 skipped 0 packets 2 idle 0 anomalies 3\n",
         ),
         (
-            &[
-                "0010000018000001c0000003aabbccdd07ffc000000900000000000000000000",
-                "0010000018000001",
-            ],
+            &[FIRST, TEN_FILLED, "0010000018000001"],
             "32 rest 8\nframes 1 skipped 0 packets 1 idle 1 anomalies 1\n",
         ),
         (
             &[
-                "0010000018000002c005001011111111111111111111111111111111110003c0",
-                "0010010198000000000000000000000000000000000000000000000000000000",
-                "001002021807000003010203040001c0000003aabbccdd07ffc0000002000000",
+                FIRST,
+                LONG,
+                BEGUN,
+                "001001019800",
+                ZEROS,
+                "001002021807",
+                ENDED,
             ],
             "32 dropped vc 0 octets 3\n32 opaque vc 0\nframes 3 skipped 0 packets 2 idle 1 anomalies 2\n",
         ),
         (
-            &["0010000018000001c0000003aabbccdd20202020202020202020202020202020"],
+            &FOREIGN,
             "0 foreign vc 0\nframes 1 skipped 0 packets 1 idle 0 anomalies 1\n",
         ),
         (
-            &[
-                "0010000018000002c005001011111111111111111111111111111111110003c0",
-                "001002021807000003010203040001c0000003aabbccdd07ffc0000002000000",
-            ],
+            &WITH_GAP,
             "32 gap vc 0 expected 1 found 2\n32 dropped vc 0 octets 3\nframes 2 skipped 0 packets 2 idle 1 anomalies 2\n",
         ),
         (
             &[
-                "0010000018000002c005001011111111111111111111111111111111110003c0",
-                "001000001ffe5555555555555555555555555555555555555555555555555555",
-                "001001011807000003010203040001c0000003aabbccdd07ffc0000002000000",
+                FIRST,
+                LONG,
+                BEGUN,
+                "001000001ffe",
+                FIVES,
+                "001001011807",
+                ENDED,
             ],
             "32 gap vc 0 expected 1 found 0\n32 dropped vc 0 octets 3\nframes 3 skipped 0 packets 2 idle 1 anomalies 2\n",
         ),
         (
-            &[
-                "0010000018000002c005001011111111111111111111111111111111110003c0",
-                "001001011807000003010203040001c0000003aabbccdd07ffc0000002000000",
-            ],
+            &THROUGH,
             "frames 2 skipped 0 packets 3 idle 1 anomalies 0\n",
         ),
         (
-            &["00100000181a0000000000000000000000000000000000000000000000000000"],
+            &["00100000181a", ZEROS],
             "0 opaque vc 0\nframes 1 skipped 0 packets 0 idle 0 anomalies 1\n",
         ),
         (
-            &["0010000018190000000000000000000000000000000000000000000000000000"],
+            &["001000001819", ZEROS],
             "32 open vc 0 octets 1\nframes 1 skipped 0 packets 0 idle 0 anomalies 1\n",
         ),
         (
-            &["0010000018000000000000000000000000000000000000000000000000000000"],
+            &[FIRST, ZEROS],
             "32 open vc 0 octets 5\nframes 1 skipped 0 packets 3 idle 0 anomalies 1\n",
         ),
     ];
     for (parts, listing) in cases {
-        let recording = octets(rt.alloc(), parts)?;
-        let mut reader = Counted::new(recording.as_slice());
-        let mut writer = Counted::new(Vec::new(rt.alloc()));
-        let totals = check_tm(rt.alloc(), &link()?, &mut reader, &mut writer)?;
-        assert_eq!(rt; text(writer.into_inner().as_slice()), listing);
-        assert_eq!(rt; totals.octets(), recording.len() as u64);
+        lists(&rt, rt.alloc(), Verb::Check, parts, listing)?;
     }
     Ok(())
 }
 
-// A frame whose error control field is wrong, before one whose field is right.
 #[test]
 fn a_frame_with_a_wrong_error_control_field_is_amiss(rt: HostRuntime) -> Result<(), Fail> {
-    let parts = [
-        "0010000018000001c0000003abbbccdd07ffc0000009000000000000000000005e0c",
-        "0010000018000001c0000003aabbccdd07ffc0000009000000000000000000005e0c",
-    ];
-    let recording = octets(rt.alloc(), &parts)?;
-    let managed = Managed::new(1, 34, true, 1024, false, 10, 0, 1000)?;
-    let mut reader = Counted::new(recording.as_slice());
-    let mut writer = Counted::new(Vec::new(rt.alloc()));
-    check_tm(rt.alloc(), &managed, &mut reader, &mut writer)?;
+    let recording = octets(rt.alloc(), &WITH_FECF)?;
+    let link = Link::new(Kind::Tm, 34, true, 0, 1000)?;
+    let answer = link.answer(rt.alloc(), Verb::Check, recording.as_slice(), ALL)?;
     assert_eq!(rt;
-        text(writer.into_inner().as_slice()),
+        answer.text(),
         "0 skip fecf\nframes 2 skipped 1 packets 1 idle 1 anomalies 1\n"
     );
     Ok(())
@@ -141,34 +129,20 @@ fn a_frame_with_a_wrong_error_control_field_is_amiss(rt: HostRuntime) -> Result<
 fn packets_of_recordings(rt: HostRuntime) -> Result<(), Fail> {
     let cases: [(&[&str], &str); 4] = [
         (&[], ""),
+        (&[FIRST, TEN_FILLED], TM_TEN_LISTED),
         (
-            &["0010000018000001c0000003aabbccdd07ffc000000900000000000000000000"],
-            "vc 0 apid 1 type 0 secondary 0 flags 3 count 0 octets 10 0001c0000003aabbccdd\n",
-        ),
-        (
-            &[
-                "0010000018000002c005001011111111111111111111111111111111110003c0",
-                "001001011ffe5555555555555555555555555555555555555555555555555555",
-                "001002021807000003010203040001c0000003aabbccdd07ffc0000002000000",
-            ],
+            &AROUND_IDLE,
             "vc 0 apid 2 type 0 secondary 0 flags 3 count 5 octets 23 0002c00500101111111111111111111111111111111111\nvc 0 apid 3 type 0 secondary 0 flags 3 count 0 octets 10 0003c000000301020304\nvc 0 apid 1 type 0 secondary 0 flags 3 count 0 octets 10 0001c0000003aabbccdd\n",
         ),
         // Without the frame in the middle, the packet that runs through it is gone and no other.
         (
-            &[
-                "0010000018000002c005001011111111111111111111111111111111110003c0",
-                "001002021807000003010203040001c0000003aabbccdd07ffc0000002000000",
-            ],
+            &WITH_GAP,
             "vc 0 apid 2 type 0 secondary 0 flags 3 count 5 octets 23 0002c00500101111111111111111111111111111111111\nvc 0 apid 1 type 0 secondary 0 flags 3 count 0 octets 10 0001c0000003aabbccdd\n",
         ),
     ];
     for (parts, listing) in cases {
-        let recording = octets(rt.alloc(), parts)?;
-        let mut reader = Counted::new(recording.as_slice());
-        let mut writer = Counted::new(Vec::new(rt.alloc()));
-        let totals = packets_tm(rt.alloc(), &link()?, &mut reader, &mut writer)?;
-        assert_eq!(rt; text(writer.into_inner().as_slice()), listing);
-        assert_eq!(rt; totals.anomalies(), 0);
+        let [.., anomalies] = lists(&rt, rt.alloc(), Verb::Packets, parts, listing)?;
+        assert_eq!(rt; anomalies, 0);
     }
     Ok(())
 }

@@ -1,7 +1,7 @@
 //! Recordings that come a frame at a time: the lines of a frame are written before more is read.
-use super::engines::{Kind, Link, Verb};
-use super::normalise::{FIRST, TEN_FILLED, octets};
-use sl_link::{Counted, LinkFault};
+use super::support::engines::{Kind, Link, Verb};
+use super::support::recordings::{TM_FRAME, WHOLE_BD, octets};
+use sl_link::LinkFault;
 use std::alloc::Global;
 use std::cell::Cell;
 use std::io::{Read, Result as IoResult, Write};
@@ -10,22 +10,19 @@ use std::test::Fail;
 // How often the frame comes.
 const FRAMES: usize = 3;
 
-// A frame of type BD with a packet of ten octets.
-const BD_FRAME: &str = "2001000f00c01001c0000003aabbccdd";
-
 // Gives a frame at each call, and looks first whether each frame before it has its line.
 #[derive(Drop)]
 struct Live<'a> {
     frame: &'a [u8],
     given: usize,
     lines: &'a Cell<usize>,
-    is_late: bool,
+    is_late: &'a Cell<bool>,
 }
 
 impl<'a> Read for Live<'a> {
     fn read(&mut self, octets: &mut [u8]) -> IoResult<usize> {
         if self.lines.get() != self.given {
-            self.is_late = true;
+            self.is_late.set(true);
         }
         if self.given >= FRAMES {
             return Ok(0);
@@ -63,27 +60,26 @@ impl<'a> Write for Screen<'a> {
 // Whether a listing has a line for each frame before more was read.
 fn is_live(alloc: Global, link: &Link, verb: Verb, frame: &[u8]) -> Result<bool, LinkFault> {
     let lines = Cell::new(0);
-    let mut reader = Counted::new(Live {
+    let is_late = Cell::new(false);
+    let reader = Live {
         frame,
         given: 0,
         lines: &lines,
-        is_late: false,
-    });
-    let mut writer = Counted::new(Screen { lines: &lines });
-    link.run(alloc, verb, &mut reader, &mut writer)?;
-    let was_late = reader.into_inner().is_late;
-    Ok(!was_late && lines.get() == FRAMES)
+        is_late: &is_late,
+    };
+    link.end(alloc, verb, reader, Screen { lines: &lines })
+        .outcome?;
+    Ok(!is_late.get() && lines.get() == FRAMES)
 }
 
 #[test]
 fn a_line_is_written_before_more_is_read(rt: HostRuntime) -> Result<(), Fail> {
     let alloc = rt.alloc();
     let tm = Link::new(Kind::Tm, 32, false, 0, 1000)?;
-    let tm_frame = octets(alloc, &[FIRST, TEN_FILLED])?;
     let tc = Link::new(Kind::Tc, 16, false, 0, 1000)?;
-    let bd_frame = octets(alloc, &[BD_FRAME])?;
+    let bd_frame = octets(alloc, &[WHOLE_BD])?;
     for verb in [Verb::Show, Verb::Packets] {
-        assert!(rt; is_live(alloc, &tm, verb, tm_frame.as_slice())?);
+        assert!(rt; is_live(alloc, &tm, verb, &TM_FRAME)?);
         assert!(rt; is_live(alloc, &tc, verb, bd_frame.as_slice())?);
     }
     Ok(())

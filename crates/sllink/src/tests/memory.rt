@@ -1,8 +1,9 @@
 //! Memory that is refused: whichever growth it is, what was written is the beginning of the text, none of a normal form.
 //! `rt try --test --fail-alloc N` refuses the Nth.
-use super::engines::{Kind, Link, Verb};
-use super::page::Page;
-use sl_link::{Counted, LinkFault};
+use super::support::engines::{Kind, Link, Verb};
+use super::support::recordings::TC_FRAME;
+use super::support::streams::Page;
+use sl_link::LinkFault;
 use std::test::Fail;
 
 // A packet of 23 octets, and one of ten in two frames, between which is an idle one.
@@ -39,10 +40,6 @@ const TC: [u8; 28] = [
     0x00, 0x03, 0xAA, 0x20, 0x01, 0x00, 0x08, 0x00, 0x80, 0xBB, 0xCC, 0xDD,
 ];
 
-const TC_FORM: [u8; 16] = [
-    0x00, 0x01, 0x00, 0x0F, 0x00, 0xC0, 0x10, 0x01, 0xC0, 0x00, 0x00, 0x03, 0xAA, 0xBB, 0xCC, 0xDD,
-];
-
 const TC_SHOWN: &[u8] = b"0 frame vc 0 bd segment first map 0 octets 5 accept clcw 01000200\n\
     11 frame vc 0 bd segment middle map 0 octets 2 accept clcw 01000400\n\
     19 frame vc 0 bd segment last map 0 octets 3 accept clcw 01000600\n";
@@ -60,7 +57,7 @@ const CASES: [(Kind, u16, &[u8], Verb, &[u8]); 8] = [
     (Kind::Tc, 16, &TC, Verb::Show, TC_SHOWN),
     (Kind::Tc, 16, &TC, Verb::Check, TC_CHECKED),
     (Kind::Tc, 16, &TC, Verb::Packets, TC_PACKETS),
-    (Kind::Tc, 16, &TC, Verb::Normalise, &TC_FORM),
+    (Kind::Tc, 16, &TC, Verb::Normalise, &TC_FRAME),
 ];
 
 // No other fault comes, and `show` takes no memory.
@@ -69,15 +66,12 @@ fn each_growth_may_be_refused(rt: HostRuntime) -> Result<(), Fail> {
     let alloc = rt.alloc();
     for (kind, length, recording, verb, whole) in CASES {
         let link = Link::new(kind, length, false, 0, 100)?;
-        let mut reader = Counted::new(recording);
-        let mut writer = Counted::new(Page::new());
-        let outcome = link.run(alloc, verb, &mut reader, &mut writer);
-        let faults = (reader.faults(), writer.faults());
-        let page = writer.into_inner();
-        match outcome {
+        let ending = link.end(alloc, verb, recording, Page::new());
+        let page = ending.writer;
+        match ending.outcome {
             Ok(_) => assert_eq!(rt; page.octets(), whole),
             Err(fault) => {
-                assert_eq!(rt; (fault, faults), (LinkFault::Memory, (0, 0)));
+                assert_eq!(rt; (fault, ending.faults), (LinkFault::Memory, (0, 0)));
                 assert!(rt; verb != Verb::Show);
                 assert!(rt; whole.starts_with(page.octets()));
                 assert!(rt; verb != Verb::Normalise || page.octets().is_empty());

@@ -1,10 +1,17 @@
-use super::faulty::{Unflushed, Unreadable, Unwritable};
+//! Managed parameters, faults and counted streams by themselves.
+use super::support::streams::{Unflushed, Unreadable, Unwritable};
 use sl_link::{Counted, LinkFault, Managed, ManagedFault};
-use std::io::{ErrorKind, Read, Write};
+use std::io::{ErrorKind, Read, Result as IoResult, Write};
+use std::process::Abort;
 use std::test::Fail;
 
+// Why parameters are refused: spacecraft, TM and TC length, window and limit.
+fn refused((spacecraft, tm, tc, window, limit): (u16, u16, u16, u8, u64)) -> Option<ManagedFault> {
+    Managed::new(spacecraft, tm, true, tc, true, window, 255, limit).err()
+}
+
 #[test]
-fn parameters_are_refused_in_their_order(rt: HostRuntime) -> Result<(), Fail> {
+fn parameters_are_refused_in_their_order(rt: HostRuntime) {
     let cases = [
         ((1023, 32, 16, 2, 1), None),
         ((0, 2048, 1024, 254, u64::MAX), None),
@@ -17,15 +24,9 @@ fn parameters_are_refused_in_their_order(rt: HostRuntime) -> Result<(), Fail> {
         ((1, 32, 16, 0, 1), Some(ManagedFault::Window)),
         ((1, 32, 16, 2, 0), Some(ManagedFault::Limit)),
     ];
-    for ((spacecraft, tm, tc, window, limit), fault) in cases {
-        let outcome = Managed::new(spacecraft, tm, true, tc, true, window, 255, limit);
-        assert_eq!(rt;
-            outcome.err(),
-            fault,
-            "{spacecraft} {tm} {tc} {window} {limit}"
-        );
+    for (parameters, fault) in cases {
+        assert_eq!(rt; refused(parameters), fault, "{parameters:?}");
     }
-    Ok(())
 }
 
 #[test]
@@ -51,47 +52,67 @@ fn faults_have_names(rt: HostRuntime) -> Result<(), Fail> {
     Ok(())
 }
 
+fn counted<T>(stream: T) -> Counted<T> {
+    Counted::new(stream)
+}
+
+fn read<R: Read>(reader: &mut Counted<R>, octets: &mut [u8]) -> IoResult<usize> {
+    reader.read(octets)
+}
+
+fn write<W: Write>(writer: &mut Counted<W>, octets: &[u8]) -> IoResult<usize> {
+    writer.write(octets)
+}
+
+fn flush<W: Write>(writer: &mut Counted<W>) -> IoResult<()> {
+    writer.flush()
+}
+
+// Of faults a stream has counted this number.
+fn has_counted<T>(rt: &impl Abort, stream: &Counted<T>, faults: u64) {
+    assert_eq!(rt; stream.faults(), faults);
+}
+
 #[test]
 fn faults_of_streams_are_counted(rt: HostRuntime) -> Result<(), Fail> {
-    let mut reader = Counted::new(Unreadable);
-    let _ = reader.read(&mut [0; 4]);
-    let _ = reader.read(&mut [0; 4]);
-    assert_eq!(rt; reader.faults(), 2);
-    let mut writer = Counted::new(Unwritable);
-    let _ = writer.write(&[]);
-    let _ = writer.flush();
-    assert_eq!(rt; writer.faults(), 1);
-    let mut writer = Counted::new(Unflushed);
-    let _ = writer.write(&[1]);
-    assert_eq!(rt; writer.faults(), 0);
-    assert!(rt; writer.flush().is_err());
-    assert_eq!(rt; writer.faults(), 1);
+    let mut reader = counted(Unreadable);
+    let _ = read(&mut reader, &mut [0; 4]);
+    let _ = read(&mut reader, &mut [0; 4]);
+    has_counted(&rt, &reader, 2);
+    let mut writer = counted(Unwritable);
+    let _ = write(&mut writer, &[]);
+    let _ = flush(&mut writer);
+    has_counted(&rt, &writer, 1);
+    let mut writer = counted(Unflushed);
+    let _ = write(&mut writer, &[1]);
+    has_counted(&rt, &writer, 0);
+    assert!(rt; flush(&mut writer).is_err());
+    has_counted(&rt, &writer, 1);
     // A write that takes none of one or more octets is a fault, and of no octets is none.
     let mut full = [0; 0];
-    let mut writer = Counted::new(full.as_mut_slice());
-    assert_eq!(rt; writer.write(&[])?, 0);
-    assert_eq!(rt; writer.faults(), 0);
-    assert_eq!(rt; writer.write(&[1, 2])?, 0);
-    assert_eq!(rt; writer.faults(), 1);
+    let mut writer = counted(full.as_mut_slice());
+    assert_eq!(rt; write(&mut writer, &[])?, 0);
+    has_counted(&rt, &writer, 0);
+    assert_eq!(rt; write(&mut writer, &[1, 2])?, 0);
+    has_counted(&rt, &writer, 1);
     Ok(())
 }
 
 #[test]
 fn calls_are_passed_on_and_answers_back(rt: HostRuntime) -> Result<(), Fail> {
-    let alloc = rt.alloc();
-    let mut reader = Counted::new([1, 2, 3].as_slice());
+    let mut reader = counted([1, 2, 3].as_slice());
     let mut buffer = [0; 2];
-    assert_eq!(rt; reader.read(&mut buffer)?, 2);
+    assert_eq!(rt; read(&mut reader, &mut buffer)?, 2);
     assert_eq!(rt; buffer, [1, 2]);
     assert_eq!(rt; reader.into_inner(), [3].as_slice());
-    let mut writer = Counted::new(Vec::new(alloc));
-    assert_eq!(rt; writer.write(&[1, 2, 3])?, 3);
+    let mut writer = counted(Vec::new(rt.alloc()));
+    assert_eq!(rt; write(&mut writer, &[1, 2, 3])?, 3);
     assert_eq!(rt; writer.into_inner().as_slice(), [1, 2, 3].as_slice());
-    let fault = Counted::new(Unreadable).read(&mut buffer).err();
+    let fault = read(&mut counted(Unreadable), &mut buffer).err();
     assert_eq!(rt; fault.map(|it| it.kind()), Some(ErrorKind::ConnectionReset));
-    let fault = Counted::new(Unwritable).write(&buffer).err();
+    let fault = write(&mut counted(Unwritable), &buffer).err();
     assert_eq!(rt; fault.map(|it| it.kind()), Some(ErrorKind::StorageFull));
-    let fault = Counted::new(Unflushed).flush().err();
+    let fault = flush(&mut counted(Unflushed)).err();
     assert_eq!(rt; fault.map(|it| it.kind()), Some(ErrorKind::BrokenPipe));
     Ok(())
 }

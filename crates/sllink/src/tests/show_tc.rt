@@ -1,8 +1,11 @@
-use super::faulty::{FailsAfter, InPieces};
-use super::normalise::octets;
-use super::normalise_tc::{BAD_LENGTH, IN_WINDOW, LOCKED_OUT, SKIPPED};
-use super::outcome::{Outcome, text};
-use sl_link::{Counted, LinkFault, Managed, ManagedFault, show_tc};
+//! Listings of TC frames.
+use super::support::engines::{ALL, Kind, Link, Verb};
+use super::support::recordings::{
+    BAD_LENGTH, DIVIDED, IN_WINDOW, LOCKED_OUT, SKIPPED, UNLOCK_DAMAGED, UNLOCK_WITH_FECF, WHOLE,
+    octets,
+};
+use super::support::run::{Outcome, lists};
+use sl_link::LinkFault;
 use std::test::Fail;
 
 const SHOW: &str = "sllink show tc --scid 1 --tm-length 32 --tc-length 16";
@@ -13,30 +16,12 @@ const FROM_255: &str = "sllink show tc --scid 1 --tm-length 32 --tc-length 16 --
 
 const WINDOW_OF_2: &str = "sllink show tc --scid 1 --tm-length 32 --tc-length 16 --window 2";
 
-// A packet of ten octets, and what comes before it in frames of types AD and BD that carry it whole.
-const PACKET: &str = "1001c0000003aabbccdd";
-
-const AD: &str = "0001000f00c0";
-
-const BD: &str = "2001000f00c0";
-
-// A packet in three segments on virtual channel 5, without the headers of their frames.
-const SEGMENTS: [&str; 3] = [
-    "401002c005001011111111",
-    "0011111111111111111111",
-    "80111111",
-];
-
 const ACCEPTED: &str = "0 frame vc 0 ad 0 segment whole map 0 octets 10 accept clcw 01000001\n";
-
-const TWICE: &str = "0 frame vc 0 ad 0 segment whole map 0 octets 10 accept clcw 01000001\n\
-    16 frame vc 0 bd segment whole map 0 octets 10 accept clcw 01000201\n\
-    32 rest 7\n";
 
 fn cases() -> [(&'static str, &'static [&'static str], &'static str); 16] {
     [
         (SHOW, &[], ""),
-        (SHOW, &[AD, PACKET], ACCEPTED),
+        (SHOW, &[WHOLE], ACCEPTED),
         (
             SHOW,
             &IN_WINDOW,
@@ -55,17 +40,17 @@ fn cases() -> [(&'static str, &'static [&'static str], &'static str); 16] {
         ),
         (
             SHOW,
-            &[AD, PACKET, BAD_LENGTH],
+            &[WHOLE, BAD_LENGTH],
             "0 frame vc 0 ad 0 segment whole map 0 octets 10 accept clcw 01000001\n16 rest 7\n",
         ),
         // What comes after a bad length is no frame.
         (
             SHOW,
-            &[AD, PACKET, "0001000200", AD, PACKET],
+            &[WHOLE, "0001000200", WHOLE],
             "0 frame vc 0 ad 0 segment whole map 0 octets 10 accept clcw 01000001\n16 rest 21\n",
         ),
         // A frame that isn't whole, and a header that isn't, after which the length could still be bad.
-        (SHOW, &[AD, "1001c0000003aabbcc"], "0 rest 15\n"),
+        (SHOW, &["0001000f00c01001c0000003aabbcc"], "0 rest 15\n"),
         (SHOW, &["00010000"], "0 rest 4\n"),
         (
             SHOW,
@@ -74,25 +59,16 @@ fn cases() -> [(&'static str, &'static [&'static str], &'static str); 16] {
         ),
         (
             WITH_FECF,
-            &["3001000700000e5d"],
+            &[UNLOCK_WITH_FECF],
             "0 frame vc 0 unlock command clcw 01000200\n",
         ),
-        (WITH_FECF, &["3001000700000e5e"], "0 skip fecf\n"),
+        (WITH_FECF, &[UNLOCK_DAMAGED], "0 skip fecf\n"),
         // Six octets are a frame without error control alone.
         (WITH_FECF, &["300100050000"], "0 rest 6\n"),
         // Each virtual channel expects 0 first.
         (
             SHOW,
-            &[
-                AD,
-                PACKET,
-                "0001140f00",
-                SEGMENTS[0],
-                "0001140f01",
-                SEGMENTS[1],
-                "0001140802",
-                SEGMENTS[2],
-            ],
+            &[WHOLE, DIVIDED[0], DIVIDED[1], DIVIDED[2]],
             "0 frame vc 0 ad 0 segment whole map 0 octets 10 accept clcw 01000001\n\
             16 frame vc 5 ad 0 segment first map 0 octets 10 accept clcw 01140001\n\
             32 frame vc 5 ad 1 segment middle map 0 octets 10 accept clcw 01140002\n\
@@ -127,49 +103,25 @@ fn cases() -> [(&'static str, &'static [&'static str], &'static str); 16] {
     ]
 }
 
-// With streams that take all at once, and octet by octet.
 #[test]
 fn tc_frames_are_listed(rt: HostRuntime) -> Result<(), Fail> {
-    let alloc = rt.alloc();
-    for (line, parts, wanted) in cases() {
-        let recording = octets(alloc, parts)?;
-        let outcome = Outcome::of(alloc, line, recording.as_slice())?;
-        assert!(rt; outcome.says(0, ""), "{outcome:?}");
-        assert_eq!(rt; text(outcome.output.as_slice()), wanted);
-        let mut writer = Counted::new(InPieces(Vec::new(alloc), 1));
-        let reader = InPieces(recording.as_slice(), 1);
-        let outcome = Outcome::with(alloc, line, reader, &mut writer)?;
-        assert!(rt; outcome.says(0, ""), "{outcome:?}");
-        assert_eq!(rt; text(writer.into_inner().0.as_slice()), wanted);
+    for (line, parts, listing) in cases() {
+        lists(&rt, rt.alloc(), line, parts, (0, listing))?;
     }
     Ok(())
 }
 
-fn link(max_octets: u64) -> Result<Managed, ManagedFault> {
-    Managed::new(1, 32, false, 16, false, 10, 0, max_octets)
-}
-
 #[test]
 fn tc_totals_are_counted(rt: HostRuntime) -> Result<(), Fail> {
-    let parts = ["0002000600c000", AD, PACKET, BAD_LENGTH];
+    let parts = ["0002000600c000", WHOLE, BAD_LENGTH];
     let recording = octets(rt.alloc(), &parts)?;
-    let mut reader = Counted::new(InPieces(recording.as_slice(), 1));
-    let mut writer = Counted::new(Vec::new(rt.alloc()));
-    let totals = show_tc(&link(30)?, &mut reader, &mut writer)?;
-    let counted = [
-        totals.octets(),
-        totals.frames(),
-        totals.skipped(),
-        totals.rest(),
-        totals.packets(),
-        totals.idle(),
-        totals.anomalies(),
-    ];
-    assert_eq!(rt; counted, [30, 2, 1, 7, 0, 0, 0]);
-    assert_eq!(rt; (reader.faults(), writer.faults()), (0, 0));
+    let link = Link::new(Kind::Tc, 16, false, 0, 30)?;
+    let answer = link.answer(rt.alloc(), Verb::Show, recording.as_slice(), 1)?;
+    assert_eq!(rt; answer.counts(), [30, 2, 1, 7, 0, 0, 0]);
+    assert_eq!(rt; answer.faults, (0, 0));
     let wanted =
         "0 skip spacecraft\n7 frame vc 0 ad 0 segment whole map 0 octets 10 accept clcw 01000001\n23 rest 7\n";
-    assert_eq!(rt; text(writer.into_inner().as_slice()), wanted);
+    assert_eq!(rt; answer.text(), wanted);
     Ok(())
 }
 
@@ -185,15 +137,13 @@ fn a_recording_longer_than_the_buffer_is_listed(rt: HostRuntime) -> Result<(), F
     recording.extend_from_slice(&[0; 5])?;
     let end = recording.len() + 300_000;
     recording.resize(end, 0x55)?;
-    let mut reader = Counted::new(recording.as_slice());
-    let mut writer = Counted::new(Vec::new(alloc));
-    let totals = show_tc(&link(1_000_000)?, &mut reader, &mut writer)?;
-    assert_eq!(rt; (totals.octets(), totals.frames()), (440_005, 20_000));
-    assert_eq!(rt; (totals.skipped(), totals.rest()), (0, 300_005));
-    let listing = writer.into_inner();
+    let link = Link::new(Kind::Tc, 16, false, 0, 1_000_000)?;
+    let answer = link.answer(alloc, Verb::Show, recording.as_slice(), ALL)?;
+    let counts = [440_005, 20_000, 0, 300_005, 0, 0, 0];
+    assert_eq!(rt; answer.counts(), counts);
     let last =
         "\n139993 frame vc 0 ad 31 segment whole map 0 octets 1 accept clcw 01000020\n140000 rest 300005\n";
-    assert!(rt; text(listing.as_slice()).ends_with(last));
+    assert!(rt; answer.text().ends_with(last));
     Ok(())
 }
 
@@ -202,12 +152,12 @@ fn a_recording_longer_than_the_buffer_is_listed(rt: HostRuntime) -> Result<(), F
 fn the_limit_of_a_tc_recording_is_kept(rt: HostRuntime) -> Result<(), Fail> {
     let alloc = rt.alloc();
     let cases: [(&[&str], &str, u8); 6] = [
-        (&[AD, PACKET], "15", 3),
-        (&[AD, PACKET], "16", 0),
-        (&[AD, PACKET, BAD_LENGTH], "16", 3),
-        (&[AD, PACKET, BAD_LENGTH], "20", 3),
-        (&[AD, PACKET, BAD_LENGTH], "22", 3),
-        (&[AD, PACKET, BAD_LENGTH], "23", 0),
+        (&[WHOLE], "15", 3),
+        (&[WHOLE], "16", 0),
+        (&[WHOLE, BAD_LENGTH], "16", 3),
+        (&[WHOLE, BAD_LENGTH], "20", 3),
+        (&[WHOLE, BAD_LENGTH], "22", 3),
+        (&[WHOLE, BAD_LENGTH], "23", 0),
     ];
     for (parts, limit, status) in cases {
         let recording = octets(alloc, parts)?;
@@ -217,20 +167,16 @@ fn the_limit_of_a_tc_recording_is_kept(rt: HostRuntime) -> Result<(), Fail> {
         } else {
             "sllink: too long\n"
         };
-        let mut writer = Counted::new(Vec::new(alloc));
-        let reader = InPieces(recording.as_slice(), 1);
-        let outcome = Outcome::with(alloc, line.as_str(), reader, &mut writer)?;
-        assert!(rt; outcome.says(status, said), "{limit} {outcome:?}");
-        let written = writer.into_inner();
-        assert!(rt; status == 0 || ACCEPTED.starts_with(text(written.as_slice())));
-        let outcome = Outcome::of(alloc, line.as_str(), recording.as_slice())?;
-        assert!(rt; outcome.says(status, said), "{limit} {outcome:?}");
+        for most in [1, ALL] {
+            let outcome = Outcome::with(alloc, line.as_str(), recording.as_slice(), most)?;
+            assert!(rt; outcome.says(status, said), "{limit} {outcome:?}");
+            assert!(rt; status == 0 || ACCEPTED.starts_with(outcome.text()));
+        }
     }
     // A bad length, and no end.
-    let mut reader = Counted::new(std::io::repeat(0));
-    let mut writer = Counted::new(Vec::new(alloc));
-    let outcome = show_tc(&link(1_000_000)?, &mut reader, &mut writer);
-    assert_eq!(rt; outcome.err(), Some(LinkFault::TooLong));
-    assert!(rt; writer.into_inner().is_empty());
+    let link = Link::new(Kind::Tc, 16, false, 0, 1_000_000)?;
+    let ending = link.end(alloc, Verb::Show, std::io::repeat(0), Vec::new(alloc));
+    assert_eq!(rt; ending.outcome.err(), Some(LinkFault::TooLong));
+    assert!(rt; ending.writer.is_empty());
     Ok(())
 }

@@ -1,10 +1,11 @@
-//! Readers and writers with faults.
+//! Readers and writers: with faults, in pieces, and without memory.
+use arrayvec::ArrayVec;
 use std::alloc::Global;
 use std::io::{Error, ErrorKind, Read, Result, Write};
 
 /// Can't be read.
 #[derive(Drop)]
-pub(super) struct Unreadable;
+pub struct Unreadable;
 
 impl Read for Unreadable {
     fn read(&mut self, _octets: &mut [u8]) -> Result<usize> {
@@ -14,7 +15,7 @@ impl Read for Unreadable {
 
 /// Can't be written.
 #[derive(Drop)]
-pub(super) struct Unwritable;
+pub struct Unwritable;
 
 impl Write for Unwritable {
     fn write(&mut self, _octets: &[u8]) -> Result<usize> {
@@ -28,13 +29,13 @@ impl Write for Unwritable {
 
 /// Takes one octet at a time, so many in all, and then none.
 #[derive(Drop)]
-pub(super) struct FullAfter {
-    pub(super) taken: Vec<u8>,
+pub struct FullAfter {
+    pub taken: Vec<u8>,
     room: usize,
 }
 
 impl FullAfter {
-    pub(super) fn new(alloc: Global, room: usize) -> FullAfter {
+    pub fn new(alloc: Global, room: usize) -> FullAfter {
         FullAfter {
             taken: Vec::new(alloc),
             room,
@@ -61,7 +62,7 @@ impl Write for FullAfter {
 
 /// Takes all octets and can't be flushed.
 #[derive(Drop)]
-pub(super) struct Unflushed;
+pub struct Unflushed;
 
 impl Write for Unflushed {
     fn write(&mut self, octets: &[u8]) -> Result<usize> {
@@ -75,12 +76,12 @@ impl Write for Unflushed {
 
 /// Is interrupted at its first read, or its first write; then there is nothing to be read, and all octets are taken.
 #[derive(Drop)]
-pub(super) struct Interrupted {
+pub struct Interrupted {
     was_interrupted: bool,
 }
 
 impl Interrupted {
-    pub(super) fn new() -> Interrupted {
+    pub fn new() -> Interrupted {
         Interrupted {
             was_interrupted: false,
         }
@@ -113,7 +114,7 @@ impl Write for Interrupted {
 
 /// Gives, or takes, at most so many octets at a time.
 #[derive(Drop)]
-pub(super) struct InPieces<T>(pub(super) T, pub(super) usize);
+pub struct InPieces<T>(pub T, pub usize);
 
 impl<R: Read> Read for InPieces<R> {
     fn read(&mut self, octets: &mut [u8]) -> Result<usize> {
@@ -135,17 +136,17 @@ impl<W: Write> Write for InPieces<W> {
 
 /// Fails once so many calls have gone well, and at each later one.
 #[derive(Drop)]
-pub(super) struct FailsAfter<T> {
+pub struct FailsAfter<T> {
     inner: T,
     allowed: u64,
 }
 
 impl<T> FailsAfter<T> {
-    pub(super) fn new(inner: T, allowed: u64) -> FailsAfter<T> {
+    pub fn new(inner: T, allowed: u64) -> FailsAfter<T> {
         FailsAfter { inner, allowed }
     }
 
-    pub(super) fn into_inner(self) -> T {
+    pub fn into_inner(self) -> T {
         let FailsAfter { inner, .. } = self;
         inner
     }
@@ -174,5 +175,36 @@ impl<W: Write> Write for FailsAfter<W> {
 
     fn flush(&mut self) -> Result<()> {
         self.inner.flush()
+    }
+}
+
+/// Takes up to 512 octets, and no memory.
+#[derive(Drop)]
+pub struct Page {
+    octets: ArrayVec<u8, 512>,
+}
+
+impl Page {
+    pub fn new() -> Page {
+        Page {
+            octets: ArrayVec::new(),
+        }
+    }
+
+    pub fn octets(&self) -> &[u8] {
+        self.octets.as_slice()
+    }
+}
+
+impl Write for Page {
+    fn write(&mut self, octets: &[u8]) -> Result<usize> {
+        match self.octets.try_extend_from_slice(octets) {
+            Ok(()) => Ok(octets.len()),
+            Err(_) => Err(Error::from(ErrorKind::StorageFull)),
+        }
+    }
+
+    fn flush(&mut self) -> Result<()> {
+        Ok(())
     }
 }

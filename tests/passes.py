@@ -8,10 +8,10 @@ TM frames have 1115 octets and are to be read with --scid 679 --tm-fecf, TC fram
 TM frame has a CLCW. An uplink has lockouts, frames that come twice, and series of segments.
 
     --seed N        what the pass is (1)
-    --lose N        of 1000 frames so many are lost (0), in runs of --run frames (1), by the seed --station (1)
-    --errors N      of 1000 frames so many have a bit error (0), by the same seed
+    --lose N        frames lost of 1000 (0), in runs of --run frames (1), by the seed --station (1)
+    --errors N      frames with a bit error of 1000 (0), by the same seed
     --from N        the frames before this one are lost (0)
-    --octets N      packets have about so many octets (120)
+    --octets N      octets of a packet, about (120)
 
 Another station that saw the same pass has the same words but for --station, --lose, --run, --errors and --from.
 """

@@ -304,7 +304,7 @@ def sums_beside(marks: Sequence[Sign], follow: Sequence[float]) -> List[str]:
 
 
 def stretches_for(frames: int) -> int:
-    """How many stretches are taken together for the cells of a row with so many frames; of a few each is seen alone."""
+    """How many stretches a cell of a row has, by the number of its frames. A few frames have a stretch each."""
     if frames <= FEW:
         return 1
     joined = 2

@@ -53,7 +53,7 @@ class Recording:
 
 @contextlib.contextmanager
 def about(path: str) -> Iterator[None]:
-    """Says of which recording the program says something, but where it refuses options."""
+    """Puts the name of the recording before what the program says, but where it refuses options."""
     try:
         yield
     except SllinkError as error:
@@ -275,12 +275,12 @@ def lacks(one: Recording, other: Recording, difference: Difference) -> List[str]
 
 
 def differing(one: Recording, other: Recording, difference: Difference) -> Table:
-    """The APIDs of which one recording lacks packets."""
+    """The APIDs where one recording lacks packets."""
     with_map = one.survey.kind == "tc"
     names = [shortened(it.name) for it in (one, other)]
     last = [f"Lacked by {name}" for name in names]
     heads = ["Virtual channel", *["MAP"] * with_map, "APID", *(f"Packets in {name}" for name in names), *last]
-    table = Table("APIDs of which packets are lacking", heads, last, ["MAP", "APID"])
+    table = Table("APIDs with missing packets", heads, last, ["MAP", "APID"])
     missing: Tuple[Missing, Missing] = (difference.only_other, difference.only_one)
     counts: Tuple[Dict[Key, int], ...] = tuple(
         {key: count.packets for key, count in it.tally.counts.items()} for it in (one, other))

@@ -137,7 +137,7 @@ class Survey:
         return {what: sum(numbers) for (of, what), numbers in self.bins.items() if of == row}
 
     def place(self, offset: int, stretches: int) -> int:
-        """The stretch in which an offset lies, of so many of the recording."""
+        """The stretch in which an offset lies, where the recording is divided into this number."""
         return min(offset * stretches // max(self.size, 1), stretches - 1)
 
     def _check(self) -> None:

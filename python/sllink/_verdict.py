@@ -7,7 +7,7 @@ from ._tally import Difference, Tally
 
 
 def number_of(number: int, what: str) -> str:
-    """So many of a thing."""
+    """A number and a noun."""
     return f"{number:,} {what}" if number == 1 else f"{number:,} {what}s"
 
 
@@ -138,5 +138,5 @@ def said_of_two(one: Any, other: Any, difference: Difference) -> str:
 
 
 def some(number: int) -> str:
-    """So many, or none."""
+    """A number, or none."""
     return f"{number:,}" if number else "none"

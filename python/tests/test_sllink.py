@@ -1,6 +1,6 @@
 """Tests of the module sllink, with the built program and the recordings of examples/.
 
-    python3 -m unittest discover -s python/tests -t python
+    python3 -m unittest discover -s python/tests
 
 The program is $SLLINK, else sllink on the PATH, else the one that is built in the repository.
 """

@@ -88,8 +88,9 @@ def tm_frames(random, frames, scid, length, fecf, ocf, vcs):
 
 def tc_unit(random, count, longest, plain, apid, maps):
     """The data fields of one command: a packet, or two of them, in one unit or in segments."""
-    packets = b"".join(packet(apid, count, data(random, random.randint(1, longest), random.choice(("zeros", "noise"))), 1)
-                       for _ in range(random.choice((1, 1, 1, 2))))
+    packets = b"".join(
+        packet(apid, count, data(random, random.randint(1, longest), random.choice(("zeros", "noise"))), 1)
+        for _ in range(random.choice((1, 1, 1, 2))))
     if plain:
         return [packets]
     name = random.choice(maps)

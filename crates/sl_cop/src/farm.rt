@@ -39,7 +39,8 @@ impl Farm {
 
     /// In the open state with this V(R), Retransmit flag 0 and FARM-B counter 0.
     pub fn new(window: Window, vr: u8) -> Farm
-        ensures { let view : FarmView = record { window = window; state = farm_start vr } in result ≡ view }
+        ensures { let view : FarmView = record { window = window; state = farm_start vr } in
+            result ≡ view }
     {
         Farm {
             window,
@@ -155,7 +156,8 @@ impl Farm {
     // Takes a frame of type AD.
     fn take_ad(&mut self, ns: u8) -> Verdict
         ensures verdict { result ≡ (farm_step self.old.window self.old.state (FarmEvent.Ad ns)).0 }
-        ensures state { self.new.state ≡ (farm_step self.old.window self.old.state (FarmEvent.Ad ns)).1 }
+        ensures state { self.new.state
+            ≡ (farm_step self.old.window self.old.state (FarmEvent.Ad ns)).1 }
         ensures window { self.new.window ≡ self.old.window }
     {
         if self.lockout {
@@ -184,7 +186,8 @@ impl Farm {
 
     // Takes the control command Set V(R).
     fn set_vr(&mut self, vr: u8)
-        ensures state { self.new.state ≡ (farm_step self.old.window self.old.state (FarmEvent.SetVr vr)).1 }
+        ensures state { self.new.state
+            ≡ (farm_step self.old.window self.old.state (FarmEvent.SetVr vr)).1 }
         ensures window { self.new.window ≡ self.old.window }
     {
         self.count();

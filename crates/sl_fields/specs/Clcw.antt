@@ -30,8 +30,8 @@ pub record FitsClcw (w : ClcwFields) : Type 0 where
   pub farm_b : w.farm_b < 2 ^ 2
   pub report : w.report < 2 ^ 8
 
--- The word that reports the state of FARM-1 on a virtual channel: CLCW version 0, status 0, COP-1 in effect, no spare bit,
--- and the flags No RF Available, No Bit Lock and Wait 0.
+-- The word that reports the state of FARM-1 on a virtual channel: control word type 0, CLCW version 0, status 0, COP-1 in
+-- effect, spare bits 0, and the flags No RF Available, No Bit Lock and Wait 0.
 abbrev pub farm_word : ℕ → Bool → Bool → ℕ → ℕ → ClcwFields
 farm_word vc lockout retransmit farm_b report =
     record {

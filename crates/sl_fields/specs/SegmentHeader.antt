@@ -12,7 +12,7 @@ pub record FitsSegmentHeader (h : SegmentFields) : Type 0 where
   pub flags : h.flags < 2 ^ 2
   pub map : h.map < 2 ^ 6
 
--- the sequence flags of a segment that is the first one of its unit or not, and the last one or not
+-- the sequence flags of a segment that is the first one of its service data unit or not, and the last one or not
 abbrev pub sequence_flags : Bool → Bool → ℕ
 sequence_flags first last = if first then (if last then 3 else 1) else (if last then 2 else 0)
 

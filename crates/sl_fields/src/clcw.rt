@@ -98,9 +98,9 @@ impl Clcw {
         })
     }
 
-    /// The word that reports the state of FARM-1 on the virtual channel `vc`, 0 to 63: CLCW version 0, status 0, COP-1 in
-    /// effect, no spare bit, and the flags No RF Available, No Bit Lock and Wait 0. `farm_b` is 0 to 3, and `report` is
-    /// V(R).
+    /// The word that reports the state of FARM-1 on the virtual channel `vc`, 0 to 63: control word type 0, CLCW version
+    /// 0, status 0, COP-1 in effect, spare bits 0, and the flags No RF Available, No Bit Lock and Wait 0. `farm_b` is the
+    /// FARM-B counter, 0 to 3, and `report` is V(R).
     pub fn of_farm(vc: u8, lockout: bool, retransmit: bool, farm_b: u8, report: u8) -> Clcw
         requires vc { vc ≤ 63 }
         requires farm_b { farm_b ≤ 3 }
@@ -257,7 +257,8 @@ impl Clcw {
         // They read as this word,
         ensures reads_back { clcw_word result ≡ self.now }
         // and no others do.
-        ensures only { (octets : List ℕ) → length octets ≡ 4 → IsOctets octets → clcw_word octets ≡ self.now → octets ≡ result }
+        ensures only { (octets : List ℕ) → length octets ≡ 4 → IsOctets octets
+            → clcw_word octets ≡ self.now → octets ≡ result }
         ensures octets { result ≡ clcw_octets self.now }
     {
         let number = pack(&[

@@ -163,7 +163,8 @@ impl PacketHeader {
         // They read as this header,
         ensures reads_back { packet_header result ≡ self.now }
         // and no others do.
-        ensures only { (octets : List ℕ) → length octets ≡ 6 → IsOctets octets → packet_header octets ≡ self.now → octets ≡ result }
+        ensures only { (octets : List ℕ) → length octets ≡ 6 → IsOctets octets
+            → packet_header octets ≡ self.now → octets ≡ result }
         ensures octets { result ≡ packet_octets self.now }
     {
         let number = pack(&[

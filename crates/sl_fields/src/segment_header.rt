@@ -44,7 +44,7 @@ impl SegmentHeader {
         Some(SegmentHeader { flags, map })
     }
 
-    /// The header of a segment on the MAP `map`, 0 to 63, which is the first one of its unit or not, and the last one or
+    /// The header of a segment on the MAP `map`, 0 to 63, which is the first one of its service data unit or not, and the last one or
     /// not. One that is both has no segmentation.
     pub fn of_segment(first: bool, last: bool, map: u8) -> SegmentHeader
         requires { map ≤ 63 }
@@ -94,7 +94,8 @@ impl SegmentHeader {
         // It reads as this header,
         ensures reads_back { segment_header result ≡ self.now }
         // and no other does.
-        ensures only { (octets : List ℕ) → length octets ≡ 1 → IsOctets octets → segment_header octets ≡ self.now → octets ≡ result }
+        ensures only { (octets : List ℕ) → length octets ≡ 1 → IsOctets octets
+            → segment_header octets ≡ self.now → octets ≡ result }
         ensures octets { result ≡ segment_octets self.now }
     {
         let number = pack(&[(2, self.flags as u64), (6, self.map as u64)]);

@@ -75,7 +75,7 @@ impl TcHeader {
     }
 
     /// The header of a frame of type AD: version 0, bypass flag 0, control command flag 0 and spare bits 0. `spacecraft`
-    /// and `length`, the octets of the frame minus 1, are 0 to 1023, and `vc` is 0 to 63.
+    /// and `length`, the octets of the frame minus 1, are 0 to 1023, and `vc` is 0 to 63; `ns` is N(S).
     pub fn of_ad(spacecraft: u16, vc: u8, length: u16, ns: u8) -> TcHeader
         requires spacecraft { spacecraft ≤ 1023 }
         requires vc { vc ≤ 63 }
@@ -177,7 +177,8 @@ impl TcHeader {
         // They read as this header,
         ensures reads_back { tc_header result ≡ self.now }
         // and no others do.
-        ensures only { (octets : List ℕ) → length octets ≡ 5 → IsOctets octets → tc_header octets ≡ self.now → octets ≡ result }
+        ensures only { (octets : List ℕ) → length octets ≡ 5 → IsOctets octets
+            → tc_header octets ≡ self.now → octets ≡ result }
         ensures octets { result ≡ tc_octets self.now }
     {
         let number = pack(&[

@@ -87,8 +87,9 @@ impl TmHeader {
     }
 
     /// The header of a frame of packets: version 0, no operational control field, no secondary header, synchronisation
-    /// flag 0, packet order flag 0 and segment length identifier 3. `spacecraft` is 0 to 1023, `vc` 0 to 7 and `first` 0
-    /// to 2047; `mc` and `vcc` are the master and the virtual channel frame count.
+    /// flag 0, packet order flag 0 and segment length identifier 3. `spacecraft` is 0 to 1023 and `vc` 0 to 7; `mc` and
+    /// `vcc` are the master and the virtual channel frame count; `first` is the first header pointer, 0 to 2047: 2046 is
+    /// that of an idle frame, 2047 of one in which no packet starts.
     pub fn of_packets(spacecraft: u16, vc: u8, mc: u8, vcc: u8, first: u16) -> TmHeader
         requires spacecraft { spacecraft ≤ 1023 }
         requires vc { vc ≤ 7 }
@@ -218,7 +219,8 @@ impl TmHeader {
         // They read as this header,
         ensures reads_back { tm_header result ≡ self.now }
         // and no others do.
-        ensures only { (octets : List ℕ) → length octets ≡ 6 → IsOctets octets → tm_header octets ≡ self.now → octets ≡ result }
+        ensures only { (octets : List ℕ) → length octets ≡ 6 → IsOctets octets
+            → tm_header octets ≡ self.now → octets ≡ result }
         ensures octets { result ≡ tm_octets self.now }
     {
         let number = pack(&[

@@ -12,16 +12,14 @@ packets_from-drop zero octets = refl
 packets_from-drop (suc skip) [] = refl
 packets_from-drop (suc skip) (octet ∷ octets) = packets_from-drop skip octets
 
-sub_suc : (n : ℕ) → suc n - 1 ≡ n
-sub_suc n = omega arith
-
 -- where the front is whole, its packet comes first
 pub packets_of-whole : (octets : List ℕ) (len : ℕ) → front octets ≡ WholePacket len → packets_of octets ≡ take len octets ∷ packets_of (drop len octets)
 packets_of-whole [] len h = absurd (cc)
 packets_of-whole (octet ∷ octets) zero h = absurd (let w = whole_front (octet ∷ octets) zero h in omega arith)
 packets_of-whole (octet ∷ octets) (suc len) h =
+    let one_less : suc len - 1 ≡ len = omega arith in
     ap (λ f. whole_at f (octet ∷ octets) ++ packets_from (packet_passed f (octet ∷ octets)) octets) h
-    ∙ ap (λ k. take (suc len) (octet ∷ octets) ∷ packets_from k octets) (sub_suc len)
+    ∙ ap (λ k. take (suc len) (octet ∷ octets) ∷ packets_from k octets) one_less
     ∙ ap (λ packets. take (suc len) (octet ∷ octets) ∷ packets) (packets_from-drop len octets)
 
 pub rest_of-whole : (octets : List ℕ) (len : ℕ) → front octets ≡ WholePacket len → rest_of octets ≡ rest_of (drop len octets)

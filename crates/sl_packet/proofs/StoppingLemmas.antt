@@ -1,13 +1,12 @@
 -- The handing over of packets to a sink, list after list.
-use Rattle.std.proofs.Common.{◌≡◌, ℕ, ◌+◌, List, [], ◌∷◌, ◌++◌, length, not, Result, Ok, Err, OnErr, sym, ◌∙◌, ap, ap₂, append_assoc, length-append, subst}
-use Rattle.std.proofs.lemmas.List.Elements.{filter-append}
-use Rattle.sl_packet.specs.Packet.{is_idle_packet}
+use Rattle.std.proofs.Common.{◌≡◌, ℕ, ◌+◌, List, [], ◌∷◌, ◌++◌, length, Result, Ok, Err, OnErr, sym, ◌∙◌, ap, ap₂, append_assoc, length-append, subst}
 use Rattle.sl_packet.specs.Packets.{only_idle, without_idle}
 use Rattle.sl_packet.specs.Sink.{TakesAll, one_more}
 use Rattle.sl_packet.specs.declared.flow_fault.FlowFault.{FlowFault}
 use Rattle.sl_packet.specs.declared.flow_fault.FlowFault.TheVariants.{Memory, Sink, Failed}
 use Rattle.sl_packet.specs.declared.sink.SinkFault.{SinkFault}
 use Rattle.sl_packet.specs.Stopping.{CountsFault, HandsOver, IsStopped}
+use Rattle.sl_packet.proofs.WithoutIdleLemmas.{only_idle-append, without_idle-append}
 
 -- what holds where there is an error, too
 pub on_err : {A E : Type 0} (r : Result A E) (P : Type 0) → P → OnErr r P
@@ -80,12 +79,6 @@ module _ {S : Type 0} (taking : S → ℕ → List ℕ → S → Type 0) where
     counts_stopped old channel packets Failed new s = absurd s
 
 -- ---- steps that hand over the packets that end with them
-
-without_idle-append : (xs ys : List (List ℕ)) → without_idle (xs ++ ys) ≡ without_idle xs ++ without_idle ys
-without_idle-append xs ys = filter-append (λ packet. not (is_idle_packet packet)) xs ys
-
-only_idle-append : (xs ys : List (List ℕ)) → only_idle (xs ++ ys) ≡ only_idle xs ++ only_idle ys
-only_idle-append xs ys = filter-append is_idle_packet xs ys
 
 module _ {S X : Type 0} {taking : S → ℕ → List ℕ → S → Type 0} {failing : S → ℕ → List ℕ → SinkFault → S → Type 0} {failures : S → ℕ} {counts : X → ℕ × ℕ} where
   -- the same, of an equal channel and of equal packets

@@ -1,11 +1,11 @@
--- Packets, idle ones left out.
+-- Packets, idle ones left out, and idle ones alone.
 use Rattle.std.proofs.Common.{◌≡◌, Bool, true, false, not, cond, ℕ, List, [], ◌∷◌, ◌++◌, refl}
 use Rattle.std.specs.List.{AllByRecursion}
 use Rattle.std.proofs.lemmas.List.Elements.{filter-append}
 use Rattle.sl_fields.proofs.ListLemmas.{each-weaker}
 use Rattle.sl_packet.specs.Delivered.{IsDeliverable}
 use Rattle.sl_packet.specs.Packet.{IsPacket, is_idle_packet}
-use Rattle.sl_packet.specs.Packets.{without_idle}
+use Rattle.sl_packet.specs.Packets.{only_idle, without_idle}
 
 next_due : (packet : List ℕ) (due : List (List ℕ)) (idle : Bool) → is_idle_packet packet ≡ idle → IsPacket packet
     → AllByRecursion IsDeliverable due → AllByRecursion IsDeliverable (cond (not idle) (packet ∷ due) due)
@@ -14,6 +14,9 @@ next_due packet due false is here later = ((here, is), later)
 
 pub without_idle-append : (xs ys : List (List ℕ)) → without_idle (xs ++ ys) ≡ without_idle xs ++ without_idle ys
 without_idle-append xs ys = filter-append (λ packet. not (is_idle_packet packet)) xs ys
+
+pub only_idle-append : (xs ys : List (List ℕ)) → only_idle (xs ++ ys) ≡ only_idle xs ++ only_idle ys
+only_idle-append xs ys = filter-append is_idle_packet xs ys
 
 -- they may be delivered,
 pub without_idle_due : (packets : List (List ℕ)) → AllByRecursion IsPacket packets → AllByRecursion IsDeliverable (without_idle packets)

@@ -29,7 +29,7 @@ module _ {S : Type 0} (taking : S → ℕ → List ℕ → S → Type 0) where
     IsStopped old channel packets Failed new = ⊥
 
     -- A step hands over the packets that end with it, in order, but for idle ones, and counts both kinds. At a fault
-    -- it stopped among them.
+    -- it stopped among them. Contracts of private functions alone cite this.
     pub record HandsOver {X : Type 0} (counts : X → ℕ × ℕ) (old : S) (channel : ℕ) (ended : List (List ℕ)) (result : Result X FlowFault) (new : S) : Type 0 where
       pub accepted : OnOk result (TakesAll taking old channel (without_idle ended) new)
       pub kept : OnOk result (failures new ≡ failures old)

@@ -124,7 +124,8 @@ fn add(
 fn reach(alloc: Global, lists: &mut Vec<Vec<Vec<u8>>>, channel: usize) -> Result<(), AllocError>
     ensures reached { OnOk result (channel < vec_len lists.new) }
     ensures grown { IsGrown (lists_in lists.old) (lists_in lists.new) }
-    ensures no_further { length (lists_in lists.new) ≤ max (length (lists_in lists.old)) (channel + 1) }
+    ensures no_further { length (lists_in lists.new)
+        ≤ max (length (lists_in lists.old)) (channel + 1) }
 {
     while lists.len() <= channel {
         lists.push(Vec::new(alloc))?;

@@ -112,7 +112,7 @@ abbrev pub tail_by : ReceptionParameters → List TcView → TcView → ℕ
 tail_by r views next = of_accepted 0 tail_of r views next
 
 -- What is reported of the next frame, but for the packets that end with its unit: the verdict on it, and what is amiss
--- with its unit.
+-- with its unit. Contracts of private functions alone cite this.
 pub record IsReportedOf (r : ReceptionParameters) (views : List TcView) (next : TcView) (step : StepReport) : Type 0 where
   pub verdict : step.verdict ≡ verdict_on r views next
   pub stray : step.stray ≡ stray_by r views next

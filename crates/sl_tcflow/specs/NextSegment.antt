@@ -1,6 +1,7 @@
 -- What the next segment of a MAP does, CCSDS 232.0-B, told from the octets of the series that is incomplete before
 -- it, from its sequence flags and from the octets after its segment header. These are the code's steps, not the
--- standard's: contracts of private functions alone cite them, and lemmas tie them to the series of a MAP's list.
+-- standard's: contracts of private functions alone cite them, some of them lemmas alone, and lemmas tie them to the
+-- series of a MAP's list.
 use Rattle.std.specs.Prelude.{◌≡◌, ℕ, ◌==◌, ◌&&◌, Bool, false, if◌then◌else◌, is_none, option_map, List, [], ◌++◌, length, Option, None, Some}
 use Rattle.sl_cop.specs.declared.verdict.Verdict.TheVariants.{Accept}
 use Rattle.sl_packet.specs.Packets.{only_idle, packets_of, rest_of, without_idle}

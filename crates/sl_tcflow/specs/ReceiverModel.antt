@@ -10,7 +10,7 @@ use Rattle.sl_tcflow.specs.declared.series_store.SeriesStore.TheInside as store
 abbrev pub octets_so_far : incomplete.Inside → Option (List ℕ)
 octets_so_far s = if s.is_begun then Some s.octets.items else None
 
--- where no series is incomplete, no octet is kept, and little memory
+-- where no series is incomplete, no octet is kept, and memory for 4096 octets at most
 pub record IsKept (s : incomplete.Inside) : Type 0 where
   pub fits : length s.octets.items ≤ 65542
   pub none : s.is_begun ≡ false → s.octets.items ≡ []

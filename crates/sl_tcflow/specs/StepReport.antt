@@ -17,6 +17,6 @@ pub record StepReport : Type 0 where
   -- how many octets are left after the last whole packet of the service data unit that ends with the frame's unit
   pub tail : ℕ
 
--- the packets that it counts, and the idle ones
+-- the packets that it counts, and the idle ones, as contracts of private functions cite them
 abbrev pub counts_of : StepReport → ℕ × ℕ
 counts_of report = (report.packets, report.idle)

@@ -213,7 +213,8 @@ fn take<S: PacketSink>(
     frame: &TcFrame,
     sink: &mut S,
 ) -> Result<TcStep, FlowFault>
-    // Whichever frames came before,
+    // Whichever frames came before, as long as they left these series: the unit goes on with its series,
+    // begins or ends it, its packets are handed over, and the step reports them.
     ensures series { OnOk result (ForIncomplete plain series.old verdict frame.now
         (λ r views. AreIncomplete r series.new (views ++ frame.now ∷ []))) }
     ensures hands_over { ForIncomplete plain series.old verdict frame.now

@@ -58,6 +58,7 @@ impl SeriesStore {
     }
 
     /// Takes the next segment of a channel.
+    #[inline]
     pub fn take<S: PacketSink>(
         &mut self,
         segment: &Segment,

@@ -79,17 +79,15 @@ frames_from-drop format zero octets = refl
 frames_from-drop format (suc skip) [] = refl
 frames_from-drop format (suc skip) (octet ∷ octets) = frames_from-drop format skip octets
 
-sub_suc : (n : ℕ) → suc n - 1 ≡ n
-sub_suc n = omega arith
-
 -- where a frame is at the front, it comes first
 pub frames_of-front : (format : TcFormat) (octets : List ℕ) (len : ℕ) → front_len format octets ≡ Some len → 0 < len → 0 < length octets
     → tc_frames_of format octets ≡ take len octets ∷ tc_frames_of format (drop len octets)
 frames_of-front format [] len h some long = absurd (omega arith)
 frames_of-front format (octet ∷ octets) zero h some long = absurd (omega arith)
 frames_of-front format (octet ∷ octets) (suc len) h some long =
+    let one_less : suc len - 1 ≡ len = omega arith in
     ap (λ f. frame_at f (octet ∷ octets) ++ tc_frames_from format (frame_passed f (octet ∷ octets)) octets) h
-    ∙ ap (λ k. take (suc len) (octet ∷ octets) ∷ tc_frames_from format k octets) (sub_suc len)
+    ∙ ap (λ k. take (suc len) (octet ∷ octets) ∷ tc_frames_from format k octets) one_less
     ∙ ap (λ frames. take (suc len) (octet ∷ octets) ∷ frames) (frames_from-drop format len octets)
 
 pub remainder_of-front : (format : TcFormat) (octets : List ℕ) (len : ℕ) → front_len format octets ≡ Some len → 0 < len → len ≤ length octets

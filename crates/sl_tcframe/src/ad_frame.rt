@@ -26,11 +26,17 @@ pub fn push_tc(
     requires spacecraft { spacecraft ≤ 1023 }
     requires vc { vc ≤ 63 }
     requires segment { length octets.now ≤ segment_room_of shape.now }
-    ensures added { OnOk result (out.new.items ≡ out.old.items ++ ad_frame shape.now spacecraft vc ns (segment_unit header octets.now)) }
-    ensures len { OnOk result (vec_len out.new ≡ vec_len out.old + ad_len shape.now (1 + length octets.now)) }
+    // The frame is added.
+    ensures added { OnOk result (out.new.items ≡ out.old.items
+        ++ ad_frame shape.now spacecraft vc ns (segment_unit header octets.now)) }
+    ensures len { OnOk result (vec_len out.new
+        ≡ vec_len out.old + ad_len shape.now (1 + length octets.now)) }
+
+    // Memory is refused only where there is no room for it: nothing is added then.
     ensures unchanged { OnErr result (out.new.items ≡ out.old.items) }
     ensures capacity { vec_capacity out.old ≤ vec_capacity out.new }
-    ensures full { OnErr result (vec_capacity out.old < vec_len out.old + ad_len shape.now (1 + length octets.now)) }
+    ensures full { OnErr result (vec_capacity out.old
+        < vec_len out.old + ad_len shape.now (1 + length octets.now)) }
 {
     push_unit(out, shape, spacecraft, vc, ns, &header.write(), octets)
 }
@@ -52,11 +58,17 @@ pub fn push_tc_plain(
     requires vc { vc ≤ 63 }
     requires some { 1 ≤ length octets.now }
     requires unit { length octets.now ≤ plain_room_of shape.now }
-    ensures added { OnOk result (out.new.items ≡ out.old.items ++ ad_frame shape.now spacecraft vc ns octets.now) }
-    ensures len { OnOk result (vec_len out.new ≡ vec_len out.old + ad_len shape.now (length octets.now)) }
+    // The frame is added.
+    ensures added { OnOk result (out.new.items ≡ out.old.items
+        ++ ad_frame shape.now spacecraft vc ns octets.now) }
+    ensures len { OnOk result (vec_len out.new
+        ≡ vec_len out.old + ad_len shape.now (length octets.now)) }
+
+    // Memory is refused only where there is no room for it: nothing is added then.
     ensures unchanged { OnErr result (out.new.items ≡ out.old.items) }
     ensures capacity { vec_capacity out.old ≤ vec_capacity out.new }
-    ensures full { OnErr result (vec_capacity out.old < vec_len out.old + ad_len shape.now (length octets.now)) }
+    ensures full { OnErr result (vec_capacity out.old
+        < vec_len out.old + ad_len shape.now (length octets.now)) }
 {
     push_unit(out, shape, spacecraft, vc, ns, &[], octets)
 }
@@ -74,11 +86,17 @@ fn push_unit<const N: usize>(
     requires spacecraft { spacecraft ≤ 1023 }
     requires vc { vc ≤ 63 }
     requires unit { length segment.now + length octets.now ≤ 1 + segment_room_of shape.now }
-    ensures added { OnOk result (out.new.items ≡ out.old.items ++ ad_frame shape.now spacecraft vc ns (segment.now ++ octets.now)) }
-    ensures len { OnOk result (vec_len out.new ≡ vec_len out.old + ad_len shape.now (length segment.now + length octets.now)) }
+    // The frame is added.
+    ensures added { OnOk result (out.new.items ≡ out.old.items
+        ++ ad_frame shape.now spacecraft vc ns (segment.now ++ octets.now)) }
+    ensures len { OnOk result (vec_len out.new
+        ≡ vec_len out.old + ad_len shape.now (length segment.now + length octets.now)) }
+
+    // Memory is refused only where there is no room for it: nothing is added then.
     ensures unchanged { OnErr result (out.new.items ≡ out.old.items) }
     ensures capacity { vec_capacity out.old ≤ vec_capacity out.new }
-    ensures full { OnErr result (vec_capacity out.old < vec_len out.old + ad_len shape.now (length segment.now + length octets.now)) }
+    ensures full { OnErr result (vec_capacity out.old
+        < vec_len out.old + ad_len shape.now (length segment.now + length octets.now)) }
 {
     let start = out.len();
     let len = frame_len(shape, segment.len() + octets.len());

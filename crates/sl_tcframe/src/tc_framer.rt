@@ -73,7 +73,8 @@ impl TcFramer {
     pub fn next(&mut self, piece: &mut &[u8]) -> Option<&[u8]>
         ensures* taken { sem 𝓛 (Rests the_row self.entry (HasTaken self.old piece.old.now result)) }
         // A frame has the octets that were taken after the last one, and then those from the front of the chunk.
-        ensures frame { IfSome result (λ frame. YieldsFrame self.old piece.old.now frame.now piece.new.now) }
+        ensures frame { IfSome result (λ frame.
+            YieldsFrame self.old piece.old.now frame.now piece.new.now) }
         ensures cut { IfSome result (λ frame. is_cut self.old.format frame.now ≡ true) }
         ensures none { IfNone result (YieldsNone self.old piece.old.now piece.new.now) }
         // Once it is stuck it stays so, whatever comes.
@@ -95,7 +96,8 @@ impl TcFramer {
     #[inline]
     pub fn next_from<'a, 'p: 'a>(&'a mut self, piece: &mut &'p [u8]) -> Option<&'a [u8]>
         ensures* taken { sem 𝓛 (Rests the_row self.entry (HasTaken self.old piece.old.now result)) }
-        ensures frame { IfSome result (λ frame. YieldsFrame self.old piece.old.now frame.now piece.new.now) }
+        ensures frame { IfSome result (λ frame.
+            YieldsFrame self.old piece.old.now frame.now piece.new.now) }
         ensures cut { IfSome result (λ frame. is_cut self.old.format frame.now ≡ true) }
         ensures none { IfNone result (YieldsNone self.old piece.old.now piece.new.now) }
         ensures stuck { StaysStuck self.old piece.old.now result piece.new.now }
@@ -127,7 +129,8 @@ impl TcFramer {
 // The frame that octets begin with, where one is whole, and those after it.
 #[inline]
 fn split_frame<'p>(shape: &TcShape, octets: &'p [u8]) -> Option<(&'p [u8], &'p [u8])>
-    ensures { IfSome result (λ parts. BeginsWithFrame shape.now octets.now parts.0.now parts.1.now) }
+    ensures { IfSome result (λ parts.
+        BeginsWithFrame shape.now octets.now parts.0.now parts.1.now) }
 {
     let len = len_by_four(octets)?;
     if len < usize::from(shape.least()) || octets.len() < len {
@@ -139,8 +142,10 @@ fn split_frame<'p>(shape: &TcShape, octets: &'p [u8]) -> Option<(&'p [u8], &'p [
 // Takes octets from the front of the chunk until a frame is whole, and answers whether one is.
 fn complete(shape: &TcShape, taken: &mut ArrayVec<u8, 1024>, chunk: &mut &[u8]) -> bool
     requires { IsRest shape.now taken.old.items }
-    ensures taken { TakesUpToFrame shape.now taken.old.items chunk.old.now result taken.new.items chunk.new.now }
-    ensures stuck { front_of shape.now taken.old.items ≡ BelowLeast → (result ≡ false) × (taken.new.items ≡ taken.old.items) × (chunk.new.now ≡ chunk.old.now) }
+    ensures taken { TakesUpToFrame shape.now
+        taken.old.items chunk.old.now result taken.new.items chunk.new.now }
+    ensures stuck { front_of shape.now taken.old.items ≡ BelowLeast
+        → (result ≡ false) × (taken.new.items ≡ taken.old.items) × (chunk.new.now ≡ chunk.old.now) }
 {
     fill(taken, chunk, 4);
     let len = match len_by_four(taken.as_slice()) {
@@ -158,7 +163,8 @@ fn complete(shape: &TcShape, taken: &mut ArrayVec<u8, 1024>, chunk: &mut &[u8]) 
 fn is_whole(octets: &[u8], len: usize) -> bool
     requires stated { len ≡ len_by_four octets.now }
     requires header { 5 ≤ len }
-    ensures whole { result ≡ true → (len ≤ length octets.now) × (len ≡ stated_frame_len octets.now) }
+    ensures whole { result ≡ true
+        → (len ≤ length octets.now) × (len ≡ stated_frame_len octets.now) }
     ensures part { result ≡ false → length octets.now < len }
 {
     octets.len() >= len
@@ -166,7 +172,8 @@ fn is_whole(octets: &[u8], len: usize) -> bool
 
 // The octets of the frame that begins here, where four state them.
 fn len_by_four(octets: &[u8]) -> Option<usize>
-    ensures value { result ≡ (if nat_lt (length octets.now) 4 then None else Some (len_by_four octets.now)) }
+    ensures value { result
+        ≡ (if nat_lt (length octets.now) 4 then None else Some (len_by_four octets.now)) }
     ensures most { IfSome result (λ len. len ≤ 1024) }
 {
     let &[first, second, third, fourth] = octets.first_chunk::<4>()?;
@@ -177,7 +184,8 @@ fn len_by_four(octets: &[u8]) -> Option<usize>
 // Takes octets from the front of the chunk until there are so many, or none is left.
 fn fill(taken: &mut ArrayVec<u8, 1024>, chunk: &mut &[u8], count: usize)
     requires { count ≤ 1024 }
-    ensures taken { taken.new.items ≡ taken.old.items ++ take (count - length taken.old.items) chunk.old.now }
+    ensures taken { taken.new.items
+        ≡ taken.old.items ++ take (count - length taken.old.items) chunk.old.now }
     ensures left { chunk.new.now ≡ drop (count - length taken.old.items) chunk.old.now }
 {
     let wanted = count.saturating_sub(taken.len()).min(chunk.len());

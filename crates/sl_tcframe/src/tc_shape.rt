@@ -34,7 +34,8 @@ impl TcShape {
 
     /// The format with this greatest length, 16 to 1024 octets, else `TcLength`.
     pub fn new(max: u16, fecf: bool) -> Result<TcShape, ShapeFault>
-        ensures { let format : TcFormat = record { max = max; fecf = fecf } in result ≡ tc_shape format }
+        ensures { let format : TcFormat = record { max = max; fecf = fecf } in
+            result ≡ tc_shape format }
     {
         if max < 16 || max > 1024 {
             return Err(ShapeFault::TcLength);

@@ -13,6 +13,6 @@ pub record StepReport : Type 0 where
   -- octets of another packet version than 0 stand at a packet start
   pub foreign : Bool
 
--- the packets that it counts, and the idle ones
+-- the packets that it counts, and the idle ones, as contracts of private functions cite them
 abbrev pub counts_of : StepReport → ℕ × ℕ
 counts_of report = (report.packets, report.idle)

@@ -20,6 +20,7 @@ pub(crate) enum Progress {
 
 /// Adds to an incomplete packet what it wants of a data field, and says what the frame with that field and this pointer
 /// does to it.
+#[inline(always)]
 pub(crate) fn add_field(
     held: &mut Vec<u8>,
     first: Option<u16>,
@@ -48,7 +49,8 @@ pub(crate) fn add_field(
     Ok(progress_in(held.as_slice(), before, field, first))
 }
 
-// The first octets of a data field, as many as the packet wants that is incomplete before it; all where it wants more.
+// The first octets of a data field, as many as the packet wants that is incomplete before it; all where it wants more, or
+// where its length isn't known yet.
 fn wanted<'a>(held: &[u8], field: &'a [u8]) -> &'a [u8]
     requires held { length held.now ≤ 65541 }
     requires short { length field.now ≤ 2042 }

@@ -31,9 +31,12 @@ pub fn push_tm(
     requires vc { vc ≤ 7 }
     requires first { IfSome first (λ first. first < field_room_of shape.now) }
     requires field { length octets.now ≡ field_room_of shape.now }
-    ensures added { OnOk result (out.new.items ≡ out.old.items ++ packet_frame shape.now spacecraft vc mc vcc first octets.now) }
+    // The frame is added.
+    ensures added { OnOk result (out.new.items ≡ out.old.items
+        ++ packet_frame shape.now spacecraft vc mc vcc first octets.now) }
+
+    // Memory is refused only where there is no room for it: nothing is added then.
     ensures unchanged { OnErr result (out.new.items ≡ out.old.items) }
-    // Memory is refused only where there was no room for the frame.
     ensures full { OnErr result (vec_capacity out.old < vec_len out.old + shape.now.len) }
     ensures capacity { vec_capacity out.old ≤ vec_capacity out.new }
 {

@@ -149,8 +149,10 @@ fn skip_of(shape: &TmShape, header: &TmHeader, spacecraft: u16, octets: &[u8]) -
 #[inline(always)]
 fn split_control<'a>(header: &TmHeader, behind: &'a [u8]) -> (&'a [u8], Option<[u8; 4]>)
     requires { 4 ≤ length behind.now }
-    ensures field { result.0.now ≡ take (length behind.now - (if header.now.control then 4 else 0)) behind.now }
-    ensures control { result.1 ≡ (if header.now.control then Some (drop (length behind.now - 4) behind.now) else None) }
+    ensures field { result.0.now
+        ≡ take (length behind.now - (if header.now.control then 4 else 0)) behind.now }
+    ensures control { result.1
+        ≡ (if header.now.control then Some (drop (length behind.now - 4) behind.now) else None) }
 {
     if !header.control() {
         return (behind, None);

@@ -57,7 +57,8 @@ impl TmFramer {
     pub fn next(&mut self, piece: &mut &[u8]) -> Option<&[u8]>
         ensures* taken { sem 𝓛 (Rests the_row self.entry (HasTaken self.old piece.old.now result)) }
         // A frame has the octets that were taken after the last one, and then those from the front of the chunk.
-        ensures frame { IfSome result (λ frame. YieldsFrame self.old piece.old.now frame.now piece.new.now) }
+        ensures frame { IfSome result (λ frame.
+            YieldsFrame self.old piece.old.now frame.now piece.new.now) }
         // Without one the chunk was used up first.
         ensures used_up { IfNone result (UsesUpChunk self.old piece.old.now piece.new.now) }
     {
@@ -80,7 +81,8 @@ impl TmFramer {
     #[inline]
     pub fn next_from<'a, 'p: 'a>(&'a mut self, piece: &mut &'p [u8]) -> Option<&'a [u8]>
         ensures* taken { sem 𝓛 (Rests the_row self.entry (HasTaken self.old piece.old.now result)) }
-        ensures frame { IfSome result (λ frame. YieldsFrame self.old piece.old.now frame.now piece.new.now) }
+        ensures frame { IfSome result (λ frame.
+            YieldsFrame self.old piece.old.now frame.now piece.new.now) }
         ensures used_up { IfNone result (UsesUpChunk self.old piece.old.now piece.new.now) }
     {
         // The caller's own reference isn't lent to the cold call, so it may stay in registers.
@@ -110,7 +112,8 @@ impl TmFramer {
 // Writes these octets over those at this offset.
 fn write_at(room: &mut [u8], offset: usize, octets: &[u8])
     requires { offset + length octets.now ≤ length room.old }
-    ensures front { take (offset + length octets.now) room.new ≡ take offset room.old ++ octets.now }
+    ensures front { take (offset + length octets.now) room.new
+        ≡ take offset room.old ++ octets.now }
     ensures len { length room.new ≡ length room.old }
 {
     room[offset..offset + octets.len()].copy_from_slice(octets);

@@ -33,7 +33,8 @@ impl TmShape {
 
     /// The format with this length, 32 to 2048 octets, else `TmLength`.
     pub fn new(len: u16, fecf: bool) -> Result<TmShape, ShapeFault>
-        ensures { let format : TmFormat = record { len = len; fecf = fecf } in result ≡ tm_shape format }
+        ensures { let format : TmFormat = record { len = len; fecf = fecf } in
+            result ≡ tm_shape format }
     {
         if len < 32 || len > 2048 {
             return Err(ShapeFault::TmLength);

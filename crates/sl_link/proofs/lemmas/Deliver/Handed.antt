@@ -12,7 +12,7 @@ use Rattle.sl_tmframe.specs.TmFrame.{TmFormat, TmView, Packets, Idle, Opaque, re
 use Rattle.sl_tmflow.specs.Channel.{channel_of, data_of}
 use Rattle.sl_packet.proofs.CountLemmas.{split_count}
 use Rattle.sl_packet.proofs.DeliveredLemmas.{list_at-with_packet}
-use Rattle.sl_tmflow.proofs.PushLemmas.{ended_few}
+use Rattle.sl_tmflow.proofs.lemmas.Delivery.Push.{ended_few}
 use Rattle.sl_link.specs.Deliver.Tm.{ended_in}
 use Rattle.sl_link.specs.Deliver.Lists.{with_packets}
 

@@ -30,7 +30,7 @@ use Rattle.sl_link.specs.Verbs.Show.Tc.{tc_skipped_of}
 use Rattle.sl_link.specs.declared.tally.Tally.{Tally}
 use Rattle.sl_fields.proofs.ListLemmas.{concat-push}
 use Rattle.sl_link.proofs.lemmas.Deliver.Lists.{items, items_change, no_items, views_step}
-use Rattle.sl_tcflow.proofs.ChannelLemmas.{held_in, held_other, held_own, packets_other, packets_own, small_map, unit_len}
+use Rattle.sl_tcflow.proofs.lemmas.Reception.Channel.{held_in, held_other, held_own, packets_other, packets_own, small_map, unit_len}
 
 -- ---- a frame, as it is read
 

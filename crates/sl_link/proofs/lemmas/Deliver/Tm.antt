@@ -11,7 +11,7 @@ use Rattle.sl_tmframe.specs.TmFrame.{TmFormat, TmView, tm_frame}
 use Rattle.sl_tmflow.specs.Channel.{views_of, channel_of}
 use Rattle.sl_tmflow.specs.Delivery.{packets_ending}
 use Rattle.sl_tmflow.specs.Extraction.{ended_by}
-use Rattle.sl_tmflow.proofs.PushLemmas.{packets_of_channel_step}
+use Rattle.sl_tmflow.proofs.lemmas.Delivery.Push.{packets_of_channel_step}
 use Rattle.sl_link.specs.Deliver.Tm.{ended_in, lists_after}
 use Rattle.sl_link.specs.Deliver.Lists.{count_of, with_frame}
 use Rattle.sl_tmflow.specs.Recording.{packets_on}

@@ -3,7 +3,7 @@ use Rattle.std.proofs.Common.{◌≡◌, ◌≢◌, ℕ, ◌<◌, List, [], leng
 use Rattle.sl_packet.specs.Delivered.{PacketLists, channel_count}
 use Rattle.sl_tcflow.specs.Recording.{tc_lists}
 use Rattle.sl_tcflow.specs.TcNormalForm.{tc_normal_form_of}
-use Rattle.sl_tcflow.proofs.FormLeftLemmas.{none_at_all}
+use Rattle.sl_tcflow.proofs.lemmas.Form.Left.{none_at_all}
 use Rattle.sl_link.specs.Deliver.Lists.{count_of}
 use Rattle.sl_link.specs.Link.Managed.{Parameters, tc_format}
 use Rattle.sl_link.proofs.lemmas.Normalise.StoringTc.{some_kept}

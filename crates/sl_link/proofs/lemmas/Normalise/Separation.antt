@@ -1,12 +1,12 @@
 -- What normal forms tell of the packets of recordings.
 use Rattle.std.proofs.Common.{ℕ, List, ◌≡◌, sym, ◌∙◌, ap, Ok}
 use Rattle.sl_tcflow.specs.Canonical as tc
-use Rattle.sl_tcflow.proofs.CanonicalLemmas.{normal_form_delivers}
-use Rattle.sl_tcflow.proofs.PlainRecordingLemmas.{recorded_lists_fit}
-use Rattle.sl_tcflow.proofs.RecordingLemmas as tc_recording
+use Rattle.sl_tcflow.proofs.lemmas.Form.Canonical.{normal_form_delivers}
+use Rattle.sl_tcflow.proofs.lemmas.Reception.PlainRecording.{recorded_lists_fit}
+use Rattle.sl_tcflow.proofs.lemmas.Reception.Recording as tc_recording
 use Rattle.sl_tmflow.specs.Canonical as tm
-use Rattle.sl_tmflow.proofs.CanonicalLemmas.{delivers}
-use Rattle.sl_tmflow.proofs.RecordingLemmas as tm_recording
+use Rattle.sl_tmflow.proofs.lemmas.Form.Canonical.{delivers}
+use Rattle.sl_tmflow.proofs.lemmas.Delivery.Recording as tm_recording
 use Rattle.sl_link.specs.Link.Managed.{Parameters, managed_of, reception_of, tc_format, tm_format}
 use Rattle.sl_link.specs.Normalise.Tc.{tc_form_of, tc_normal_form, tc_packets}
 use Rattle.sl_link.specs.Normalise.Tm.{tm_form_of, tm_normal_form, tm_packets}

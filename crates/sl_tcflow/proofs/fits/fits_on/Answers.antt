@@ -2,8 +2,8 @@ use Rattle.std.proofs.Common.{◌≡◌, ◌≤◌, ◌<◌, ◌+◌, ◌*◌, �
 use Rattle.std.specs.List.{AllByRecursion, slice_index_or}
 use Rattle.std.specs.Vec.{vec_items}
 use Rattle.sl_tcframe.specs.AdFrame.{plain_room_of}
-use Rattle.sl_tcflow.proofs.EachLemmas.{all_short, short_all}
-use Rattle.sl_tcflow.proofs.PlainLemmas.{fits_by, none_by, short_by}
+use Rattle.sl_tcflow.proofs.lemmas.Each.{all_short, short_all}
+use Rattle.sl_tcflow.proofs.lemmas.Form.Plain.{fits_by, none_by, short_by}
 use Rattle.sl_tcflow.proofs.fits.fits_on.Goals as goal
 use Rattle.sl_tcflow.proofs.fits.fits_on.Goals.{in-Some+else-next-channel, in_default}
 

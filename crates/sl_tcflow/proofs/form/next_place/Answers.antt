@@ -3,7 +3,7 @@ use Rattle.std.proofs.lemmas.List.{length-map}
 use Rattle.std.specs.Vec.{vec_items}
 use Rattle.sl_packet.specs.Delivered.{list_at}
 use Rattle.sl_tcflow.specs.FormLeft.{form_left}
-use Rattle.sl_tcflow.proofs.FormLeftLemmas.{to_none, to_packet}
+use Rattle.sl_tcflow.proofs.lemmas.Form.Left.{to_none, to_packet}
 use Rattle.sl_tcflow.proofs.form.next_place.Goals as goal
 
 pub returns-in-None-clause-left : goal.returns-in-None-clause-left

@@ -1,6 +1,6 @@
 use Rattle.std.proofs.Common.{◌∙◌, ◌++◌, ap, arith, sym}
-use Rattle.sl_tcflow.proofs.FormLeftLemmas.{piece_some, piece_whole}
-use Rattle.sl_tcflow.proofs.PartLemmas.{packet_size}
+use Rattle.sl_tcflow.proofs.lemmas.Form.Left.{piece_some, piece_whole}
+use Rattle.sl_tcflow.proofs.lemmas.Series.Part.{packet_size}
 use Rattle.sl_tcflow.proofs.form.push_piece.Goals as goal
 
 pub returns-then-plain-clause-frames : goal.returns-then-plain-clause-frames

@@ -4,7 +4,7 @@ use Rattle.std.proofs.lemmas.List.{length-drop, length-take, take_at}
 use Rattle.sl_fields.specs.FecfField.{fecf_len}
 use Rattle.sl_fields.proofs.FecfLemmas.{fecf_len_le}
 use Rattle.sl_tcframe.specs.AdFrame.{segment_room_of, ad_frame, segment_unit}
-use Rattle.sl_tcflow.proofs.PushedLemmas.{none_divided, divided_next, all_divided, none_few, few_next, few_fit}
+use Rattle.sl_tcflow.proofs.lemmas.Form.Pushed.{none_divided, divided_next, all_divided, none_few, few_next, few_fit}
 use Rattle.sl_packet.proofs.StoppingLemmas.{on_err}
 use Rattle.sl_tcflow.proofs.frames.push_packet.Goals as goal
 

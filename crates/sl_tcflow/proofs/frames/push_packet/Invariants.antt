@@ -1,7 +1,7 @@
 use Rattle.std.proofs.Common.{◌≤◌, length, vec_len}
 use Rattle.std.specs.Vec.{vec_capacity}
 use Rattle.sl_tcframe.specs.AdFrame.{segment_room_of}
-use Rattle.sl_tcflow.proofs.PushedLemmas.{IsDivided, AreFew}
+use Rattle.sl_tcflow.proofs.lemmas.Form.Pushed.{IsDivided, AreFew}
 use Rattle.sl_tcflow.proofs.frames.push_packet.Given as goal
 
 abbrev pub invariant-loop-left : goal.invariant-loop-left

@@ -1,5 +1,5 @@
-use Rattle.sl_tcflow.proofs.AnomalyLemmas.{stray_is_told, what_is_told_is_stray, dropped_is_told, what_is_told_is_dropped, long_is_told, what_is_told_is_long}
-use Rattle.sl_tcflow.proofs.TailLemmas.{tail_is_told, what_is_told_is_tail}
+use Rattle.sl_tcflow.proofs.lemmas.Anomaly.Anomaly.{stray_is_told, what_is_told_is_stray, dropped_is_told, what_is_told_is_dropped, long_is_told, what_is_told_is_long}
+use Rattle.sl_tcflow.proofs.lemmas.Anomaly.Tail.{tail_is_told, what_is_told_is_tail}
 use Rattle.sl_tcflow.proofs.laws.tc_anomalies_are_told.Goals as goal
 
 pub returns-clause-stray : goal.returns-clause-stray

@@ -1,4 +1,4 @@
-use Rattle.sl_tcflow.proofs.IncompleteLemmas.{what_is_told_is_incomplete, incomplete_is_told, one_begins, one_is_incomplete, incomplete_fits}
+use Rattle.sl_tcflow.proofs.lemmas.Series.Incomplete.{what_is_told_is_incomplete, incomplete_is_told, one_begins, one_is_incomplete, incomplete_fits}
 use Rattle.sl_tcflow.proofs.laws.tc_incomplete_series_is_told.Goals as goal
 
 pub returns-clause-is : goal.returns-clause-is

@@ -1,5 +1,5 @@
-use Rattle.sl_tcflow.proofs.PlainRecordingLemmas.{recorded_lists_fit}
-use Rattle.sl_tcflow.proofs.RecordingLemmas.{recorded_lists_are_deliverable}
+use Rattle.sl_tcflow.proofs.lemmas.Reception.PlainRecording.{recorded_lists_fit}
+use Rattle.sl_tcflow.proofs.lemmas.Reception.Recording.{recorded_lists_are_deliverable}
 use Rattle.sl_tcflow.proofs.laws.tc_recordings_deliver_packets.Goals as goal
 
 pub returns-clause-packets : goal.returns-clause-packets

@@ -1,4 +1,4 @@
-use Rattle.sl_tcflow.proofs.SeriesLemmas.{each_is_series, each_series_is_listed, series_are_apart}
+use Rattle.sl_tcflow.proofs.lemmas.Series.Series.{each_is_series, each_series_is_listed, series_are_apart}
 use Rattle.sl_tcflow.proofs.laws.tc_series_are_listed.Goals as goal
 
 pub returns-clause-each : goal.returns-clause-each

@@ -1,4 +1,4 @@
-use Rattle.sl_tcflow.proofs.ReorderedLemmas.{units_in_order, vr_counts_units, receiver_counts_units, window_is_near, window_never_locks, expected_unit_is_accepted}
+use Rattle.sl_tcflow.proofs.lemmas.Reception.Reordered.{units_in_order, vr_counts_units, receiver_counts_units, window_is_near, window_never_locks, expected_unit_is_accepted}
 use Rattle.sl_tcflow.proofs.laws.units_are_accepted_in_order.Goals as goal
 
 pub returns-clause-order : goal.returns-clause-order

@@ -1,4 +1,4 @@
-use Rattle.sl_tcflow.proofs.FarmLemmas.{AreSet}
+use Rattle.sl_tcflow.proofs.lemmas.Reception.Farm.{AreSet}
 use Rattle.sl_tcflow.proofs.receiver.farms_at_start.Given as goal
 
 abbrev pub invariant-loop-vc : goal.invariant-loop-vc

@@ -1,7 +1,7 @@
 use Rattle.std.proofs.Common.{◌∙◌, ap, arith, slice_index_or}
 use Rattle.sl_cop.specs.Farm.{farm_step}
 use Rattle.sl_tcflow.specs.AcceptedUnit.{event_of}
-use Rattle.sl_tcflow.proofs.FarmLemmas.{stepped_more}
+use Rattle.sl_tcflow.proofs.lemmas.Reception.Farm.{stepped_more}
 use Rattle.sl_tcflow.proofs.receiver.step.Goals as goal
 
 pub returns-clause-farms : goal.returns-clause-farms

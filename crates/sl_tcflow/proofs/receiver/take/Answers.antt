@@ -2,8 +2,8 @@ use Rattle.std.proofs.Common.{◌∷◌, [], ◌∙◌, ap, sym, arith}
 use Rattle.sl_tcflow.specs.Receiving.{channel_at}
 use Rattle.sl_tcflow.specs.Series.{header_at, segment_in}
 use Rattle.sl_packet.proofs.StoppingLemmas.{counts_stopped, hands_same}
-use Rattle.sl_tcflow.proofs.ReportLemmas.{reported_more, reported_none}
-use Rattle.sl_tcflow.proofs.UnitLemmas.{segment_on, map_on, incomplete_same, incomplete_more, around_more, ended_more, unit_channel_is}
+use Rattle.sl_tcflow.proofs.lemmas.Anomaly.Report.{reported_more, reported_none}
+use Rattle.sl_tcflow.proofs.lemmas.Reception.Unit.{segment_on, map_on, incomplete_same, incomplete_more, around_more, ended_more, unit_channel_is}
 use Rattle.sl_tcflow.proofs.receiver.take.Goals as goal
 
 pub returns-in-None-clause-series : goal.returns-in-None-clause-series

@@ -1,6 +1,6 @@
 use Rattle.std.proofs.Common.{◌++◌, ◌∙◌, sym, ap, ap₂, append-nil}
 use Rattle.sl_tcflow.specs.Recording.{tc_lists}
-use Rattle.sl_tcflow.proofs.FormLeftLemmas.{left_shorter, none_after, none_at_all, piece_moved}
+use Rattle.sl_tcflow.proofs.lemmas.Form.Left.{left_shorter, none_after, none_at_all, piece_moved}
 use Rattle.sl_packet.proofs.StoppingLemmas.{on_err}
 use Rattle.sl_tcflow.proofs.reframe.reframe_tc.Goals as goal
 

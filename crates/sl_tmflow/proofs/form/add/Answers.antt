@@ -4,7 +4,7 @@ use Rattle.std.proofs.lemmas.Result.{err_from_is_err_and}
 use Rattle.std.proofs.Math.Nat.{one-mul, suc-mul}
 use Rattle.sl_tmframe.specs.PacketFrame.{field_room_of}
 use Rattle.sl_tmflow.specs.FormLeft.{field_frames, fields_in, frames_of}
-use Rattle.sl_tmflow.proofs.FormPushLemmas.{none_filled, few_beyond, field_of_first, fields_of_both, beyond_both, frames_of_both}
+use Rattle.sl_tmflow.proofs.lemmas.Form.Push.{none_filled, few_beyond, field_of_first, fields_of_both, beyond_both, frames_of_both}
 use Rattle.sl_tmflow.proofs.form.add.Goals as goal
 
 pub returns-then-packet-wanted-clause-frames : goal.returns-then-packet-wanted-clause-frames

@@ -1,5 +1,5 @@
-use Rattle.sl_tmflow.proofs.FillLemmas.{fill_is_least}
-use Rattle.sl_tmflow.proofs.LeastStartLemmas.{each_pointer_is_least}
+use Rattle.sl_tmflow.proofs.lemmas.Form.Fill.{fill_is_least}
+use Rattle.sl_tmflow.proofs.lemmas.Form.LeastStart.{each_pointer_is_least}
 use Rattle.sl_tmflow.proofs.laws.normal_forms_are_filled_least.Goals as goal
 
 pub returns-clause-fill : goal.returns-clause-fill

@@ -1,4 +1,4 @@
-use Rattle.sl_tmflow.proofs.DeliveryLemmas.{each_is_delivery, each_is_listed, are_in_order}
+use Rattle.sl_tmflow.proofs.lemmas.Delivery.Delivery.{each_is_delivery, each_is_listed, are_in_order}
 use Rattle.sl_tmflow.proofs.laws.tm_deliveries_are_listed.Goals as goal
 
 pub returns-clause-each : goal.returns-clause-each

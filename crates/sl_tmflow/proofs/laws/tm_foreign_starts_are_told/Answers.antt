@@ -1,4 +1,4 @@
-use Rattle.sl_tmflow.proofs.AnomalyLemmas.{each_foreign_start_is_told, each_told_is_a_foreign_start}
+use Rattle.sl_tmflow.proofs.lemmas.Anomaly.Anomaly.{each_foreign_start_is_told, each_told_is_a_foreign_start}
 use Rattle.sl_tmflow.proofs.laws.tm_foreign_starts_are_told.Goals as goal
 
 pub returns-clause-each : goal.returns-clause-each

@@ -1,4 +1,4 @@
-use Rattle.sl_tmflow.proofs.AnomalyLemmas.{each_gap_is_told, each_told_is_a_gap}
+use Rattle.sl_tmflow.proofs.lemmas.Anomaly.Anomaly.{each_gap_is_told, each_told_is_a_gap}
 use Rattle.sl_tmflow.proofs.laws.tm_gaps_are_told.Goals as goal
 
 pub returns-clause-each : goal.returns-clause-each

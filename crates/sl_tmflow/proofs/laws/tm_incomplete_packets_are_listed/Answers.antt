@@ -1,5 +1,5 @@
-use Rattle.sl_tmflow.proofs.EachIncompleteLemmas.{each_listed_is_incomplete, each_incomplete_is_listed, incomplete_is_counted, what_is_counted_is_incomplete}
-use Rattle.sl_tmflow.proofs.OneStartLemmas.{one_start_is_incomplete}
+use Rattle.sl_tmflow.proofs.lemmas.Incomplete.Each.{each_listed_is_incomplete, each_incomplete_is_listed, incomplete_is_counted, what_is_counted_is_incomplete}
+use Rattle.sl_tmflow.proofs.lemmas.Incomplete.OneStart.{one_start_is_incomplete}
 use Rattle.sl_tmflow.proofs.laws.tm_incomplete_packets_are_listed.Goals as goal
 
 pub returns-clause-each : goal.returns-clause-each

@@ -1,5 +1,5 @@
-use Rattle.sl_tmflow.proofs.KeptRunLemmas.{kept_runs_are_left, runs_are_kept}
-use Rattle.sl_tmflow.proofs.LocalLemmas.{each_is_left, none_is_new}
+use Rattle.sl_tmflow.proofs.lemmas.Loss.KeptRun.{kept_runs_are_left, runs_are_kept}
+use Rattle.sl_tmflow.proofs.lemmas.Loss.Local.{each_is_left, none_is_new}
 use Rattle.sl_tmflow.proofs.laws.tm_loss_is_local.Goals as goal
 
 pub returns-clause-none_new : goal.returns-clause-none_new

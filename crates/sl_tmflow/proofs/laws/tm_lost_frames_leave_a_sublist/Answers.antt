@@ -1,7 +1,7 @@
-use Rattle.sl_tmflow.proofs.HandedLemmas.{handed_over_are_kept, handed_over_are_sublist}
-use Rattle.sl_tmflow.proofs.KeptListLemmas.{packets_are_kept, test_tells_run}
-use Rattle.sl_tmflow.proofs.KeptPacketLemmas.{packets_are_sublist}
-use Rattle.sl_tmflow.proofs.KeptRecordingLemmas.{recorded_are_kept, recorded_are_sublist}
+use Rattle.sl_tmflow.proofs.lemmas.Delivery.Handed.{handed_over_are_kept, handed_over_are_sublist}
+use Rattle.sl_tmflow.proofs.lemmas.Loss.KeptList.{packets_are_kept, test_tells_run}
+use Rattle.sl_tmflow.proofs.lemmas.Loss.KeptPacket.{packets_are_sublist}
+use Rattle.sl_tmflow.proofs.lemmas.Loss.KeptRecording.{recorded_are_kept, recorded_are_sublist}
 use Rattle.sl_tmflow.proofs.laws.tm_lost_frames_leave_a_sublist.Goals as goal
 
 pub returns-clause-run : goal.returns-clause-run

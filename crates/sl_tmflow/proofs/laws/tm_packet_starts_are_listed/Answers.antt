@@ -1,4 +1,4 @@
-use Rattle.sl_tmflow.proofs.StartLemmas.{each_is_start, is_among}
+use Rattle.sl_tmflow.proofs.lemmas.Delivery.Start.{each_is_start, is_among}
 use Rattle.sl_tmflow.proofs.laws.tm_packet_starts_are_listed.Goals as goal
 
 pub returns-clause-each : goal.returns-clause-each

@@ -1,5 +1,5 @@
-use Rattle.sl_tmflow.proofs.EndLemmas.{ends_are_in_order, each_ends_by_the_next_start, none_overlap}
-use Rattle.sl_tmflow.proofs.IncompleteListLemmas.{one_is_incomplete, incomplete_is_short}
+use Rattle.sl_tmflow.proofs.lemmas.Delivery.End.{ends_are_in_order, each_ends_by_the_next_start, none_overlap}
+use Rattle.sl_tmflow.proofs.lemmas.Incomplete.List.{one_is_incomplete, incomplete_is_short}
 use Rattle.sl_tmflow.proofs.laws.tm_packets_end_in_order.Goals as goal
 
 pub returns-clause-in_order : goal.returns-clause-in_order

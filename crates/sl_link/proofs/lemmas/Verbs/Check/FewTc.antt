@@ -15,7 +15,7 @@ use Rattle.sl_tcflow.specs.Recording.{map_channels}
 use Rattle.sl_tcflow.specs.Reception.{segments_of}
 use Rattle.sl_tcflow.specs.ReceptionParameters.{ReceptionParameters, is_plain}
 use Rattle.sl_tcflow.specs.Series.{segment_in}
-use Rattle.sl_tcflow.proofs.ChannelLemmas.{incomplete_other}
+use Rattle.sl_tcflow.proofs.lemmas.Reception.Channel.{incomplete_other}
 use Rattle.sl_link.specs.Verbs.Check.Tc.{discarded_amiss, dropped_amiss, incomplete_amiss, long_amiss, open_on, stray_amiss, tail_amiss, tc_amiss, tc_incomplete, verdict_amiss}
 use Rattle.sl_link.specs.Deliver.Tc.{as_read}
 use Rattle.sl_link.specs.Deliver.Lists.{count_of, with_frame}

@@ -8,7 +8,7 @@ use Rattle.sl_tmframe.specs.TmFrame.{TmView}
 use Rattle.sl_tmflow.specs.Channel.{channel_of}
 use Rattle.sl_tmflow.specs.Extraction.{ExtractorState, ForProcessed}
 use Rattle.sl_tmflow.specs.Incomplete.{IsShort, incomplete_of}
-use Rattle.sl_tmflow.proofs.IncompleteListLemmas.{one_is_incomplete, incomplete_is_short}
+use Rattle.sl_tmflow.proofs.lemmas.Incomplete.List.{one_is_incomplete, incomplete_is_short}
 use Rattle.sl_link.specs.Verbs.Check.CheckingTm.{held_amiss}
 use Rattle.sl_link.specs.Io.Line.{line_at}
 use Rattle.sl_link.proofs.lemmas.Verbs.Check.Lines.{joined}

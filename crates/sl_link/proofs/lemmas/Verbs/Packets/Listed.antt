@@ -12,7 +12,7 @@ use Rattle.sl_tcflow.specs.AcceptedUnit as accepted
 use Rattle.sl_tcflow.specs.Receiving as received
 use Rattle.sl_tcflow.specs.Recording.{map_channels, packets_in_channel}
 use Rattle.sl_tcflow.specs.ReceptionParameters.{is_plain}
-use Rattle.sl_tcflow.proofs.ChannelLemmas.{packets_other, packets_own, small_map}
+use Rattle.sl_tcflow.proofs.lemmas.Reception.Channel.{packets_other, packets_own, small_map}
 use Rattle.sl_tmframe.specs.declared.tm_frame.TmSkip.{TmSkip}
 use Rattle.sl_tmframe.specs.TmDelimited.{tm_frames_of}
 use Rattle.sl_tmframe.specs.TmFrame.{TmView}

@@ -8,7 +8,7 @@ use Rattle.sl_link.specs.declared.verbs.packets.printer.ChannelKind.TheVariants.
 use Rattle.sl_link.specs.Verbs.Packets.Line.{packet_line}
 use Rattle.sl_link.specs.Verbs.Packets.Tc.{channel_text}
 use Rattle.sl_link.proofs.lemmas.Verbs.Packets.Printer.{lines_on}
-use Rattle.sl_tcflow.proofs.ChannelLemmas.{small_map}
+use Rattle.sl_tcflow.proofs.lemmas.Reception.Channel.{small_map}
 
 -- its channel is named by its virtual channel and its MAP
 pub unit_lines : (r : ReceptionParameters) (view : TcView) (packets : List (List ℕ))

@@ -12,7 +12,7 @@ use Rattle.sl_tcframe.specs.TcFrame.{TcView, Content, tc_header_of, tc_parts_of,
 use Rattle.sl_tcframe.specs.VcSet.{has_vc}
 use Rattle.sl_tcflow.specs.AcceptedUnit.{event_of, views_of}
 use Rattle.sl_tcflow.specs.Receiving.{HaveStepped, farm_at_start}
-use Rattle.sl_tcflow.proofs.FarmLemmas.{stepped_more, stepped_none}
+use Rattle.sl_tcflow.proofs.lemmas.Reception.Farm.{stepped_more, stepped_none}
 use Rattle.sl_link.specs.Deliver.Lists.{with_frame}
 use Rattle.sl_link.specs.Link.Managed.{Parameters, reception_of, tc_format}
 use Rattle.sl_link.specs.Verbs.Show.Tc.{farm_view, tc_view_text, tc_frame_text}

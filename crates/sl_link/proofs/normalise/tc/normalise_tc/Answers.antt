@@ -4,7 +4,7 @@ use Rattle.sl_tcframe.specs.TcDelimited.{tc_frames_of}
 use Rattle.sl_link.specs.Deliver.Lists.{count_of}
 use Rattle.sl_link.specs.Deliver.DeliveringTc.{MayWantMemoryTc}
 use Rattle.sl_tcflow.specs.FitsTc.{FitsTc}
-use Rattle.sl_tcflow.proofs.PlainRecordingLemmas.{recorded_lists_fit}
+use Rattle.sl_tcflow.proofs.lemmas.Reception.PlainRecording.{recorded_lists_fit}
 use Rattle.sl_link.specs.Link.Managed.{reception_of, tc_format}
 use Rattle.sl_link.specs.Normalise.Tc.{tc_counts, tc_form_of, tc_normal_form, tc_packets}
 use Rattle.sl_link.proofs.lemmas.Normalise.Form.{nothing_of_form, wanted_for_form}

@@ -3,8 +3,8 @@ use Rattle.sl_tcflow.specs.Canonical.{IsFormat}
 use Rattle.sl_tcflow.specs.FormLeft.{form_left}
 use Rattle.sl_tcflow.specs.ReceptionParameters.{ReceptionParameters}
 use Rattle.sl_tcflow.specs.Recording.{tc_lists}
-use Rattle.sl_tcflow.proofs.CanonicalLemmas.{normal_form_delivers}
-use Rattle.sl_tcflow.proofs.FormLeftLemmas.{all_left}
+use Rattle.sl_tcflow.proofs.lemmas.Form.Canonical.{normal_form_delivers}
+use Rattle.sl_tcflow.proofs.lemmas.Form.Left.{all_left}
 use Rattle.sl_tcflow.proofs.form.TcForm.new.Goals as goal
 
 pub returns-clause-all : goal.returns-clause-all

@@ -1,7 +1,7 @@
 use Rattle.std.proofs.Common.{◌∙◌, refl, sym, ap, subst}
 use Rattle.sl_tcframe.specs.VcSet.{has_vc}
 use Rattle.sl_tcflow.specs.Receiving.{HaveStepped, AreIncomplete}
-use Rattle.sl_tcflow.proofs.FarmLemmas.{of_processed, plain_is}
+use Rattle.sl_tcflow.proofs.lemmas.Reception.Farm.{of_processed, plain_is}
 use Rattle.sl_tcflow.proofs.receiver.Receiver.frame.Goals as goal
 
 pub returns-in-Err-clause-stopped : goal.returns-in-Err-clause-stopped

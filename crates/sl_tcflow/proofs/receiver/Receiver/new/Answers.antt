@@ -1,6 +1,6 @@
 use Rattle.std.proofs.Common.{refl}
 use Rattle.sl_tcflow.specs.ReceptionParameters.{ReceptionParameters}
-use Rattle.sl_tcflow.proofs.FarmLemmas.{processed_none}
+use Rattle.sl_tcflow.proofs.lemmas.Reception.Farm.{processed_none}
 use Rattle.sl_tcflow.proofs.receiver.Receiver.new.Goals as goal
 
 pub returns : goal.returns

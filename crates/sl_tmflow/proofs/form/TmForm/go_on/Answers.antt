@@ -7,7 +7,7 @@ use Rattle.sl_packet.specs.Delivered.{list_at}
 use Rattle.sl_tmframe.specs.PacketFrame.{field_room_of}
 use Rattle.sl_tmflow.specs.FormLeft.{channel_packets}
 use Rattle.sl_tmflow.specs.TmFormModel.{form_progress}
-use Rattle.sl_tmflow.proofs.FormLeftLemmas.{channel_is, left_next_channel, no_more_after, none_left_after}
+use Rattle.sl_tmflow.proofs.lemmas.Form.Left.{channel_is, left_next_channel, no_more_after, none_left_after}
 use Rattle.sl_tmflow.proofs.form.TmForm.go_on.Goals as goal
 
 pub loop-self-preserved : goal.loop-self-preserved

@@ -1,6 +1,6 @@
 use Rattle.std.proofs.Common.{arith, refl, take}
-use Rattle.sl_tmflow.proofs.CanonicalLemmas.{delivers, wide_room}
-use Rattle.sl_tmflow.proofs.FormLeftLemmas.{left_at_front}
+use Rattle.sl_tmflow.proofs.lemmas.Form.Canonical.{delivers, wide_room}
+use Rattle.sl_tmflow.proofs.lemmas.Form.Left.{left_at_front}
 use Rattle.sl_tmflow.proofs.form.TmForm.new.Goals as goal
 
 pub returns-clause-left : goal.returns-clause-left

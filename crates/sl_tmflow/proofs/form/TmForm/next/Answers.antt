@@ -1,7 +1,7 @@
 use Rattle.std.proofs.Common.{◌++◌, ◌∙◌, [], arith, ap, subst, refl, sym, append-nil}
 use Rattle.std.proofs.lemmas.Result.{err_from_is_err_and}
 use Rattle.sl_tmflow.specs.FormLeft.{HasPackets, IsLeft, packets_left}
-use Rattle.sl_tmflow.proofs.FormLeftLemmas.{some_packets}
+use Rattle.sl_tmflow.proofs.lemmas.Form.Left.{some_packets}
 use Rattle.sl_tmflow.proofs.form.TmForm.next.Goals as goal
 
 pub returns-then-not-go_on-clause-piece : goal.returns-then-not-go_on-clause-piece

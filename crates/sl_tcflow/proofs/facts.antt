@@ -1,0 +1,5 @@
+-- Worked examples, computed from the definitions.
+pub mod Anomaly
+pub mod Plain
+pub mod Reception
+pub mod Reordered

@@ -1,0 +1,3 @@
+pub mod Anomaly
+pub mod Report
+pub mod Tail

@@ -1,0 +1,133 @@
+-- What is amiss with a segment of a MAP, as it is told: told exactly where it is, and told from the series that is
+-- incomplete before that segment.
+use Rattle.std.proofs.Common.{◌≡◌, ◌⊎◌, ℕ, ◌+◌, ◌<◌, ◌==◌, ◌&&◌, ◌||◌, Bool, true, false, if◌then◌else◌, List, [], ◌∷◌, length, Option, None, Some, inl, inr, refl, sym, ◌∙◌, ap, eqb-true, lt-ltb}
+use Rattle.std.proofs.lemmas.Bool.{ltb-true}
+use Rattle.std.proofs.lemmas.Bool.Decides.{eqb_tells}
+use Rattle.std.specs.Prelude.{is_none, option_map}
+use Rattle.sl_tcframe.specs.TcFrame.{TcView}
+use Rattle.sl_tcflow.specs.Anomaly.{begins, continues, octets_held, of_segment, of_accepted, StrayIsTold, WhatIsToldIsStray, DroppedIsTold, WhatIsToldIsDropped, LongIsTold, WhatIsToldIsLong}
+use Rattle.sl_tcflow.specs.Incomplete.{IsIncomplete, incomplete_of, passes}
+use Rattle.sl_tcflow.specs.Placed.{at}
+use Rattle.sl_tcflow.specs.Receiving.{AreIncomplete, channel_at, map_by, segment_by}
+use Rattle.sl_tcflow.specs.Reception.{segments_of}
+use Rattle.sl_tcflow.specs.ReceptionParameters.{ReceptionParameters}
+use Rattle.sl_tcflow.specs.Series.{flags_of, header_at, segment_data}
+use Rattle.sl_tcflow.proofs.lemmas.Series.Incomplete.{incomplete_is_told, what_is_told_is_incomplete}
+use Rattle.sl_tcflow.proofs.lemmas.Reception.Unit.{map_fits}
+use Rattle.std.proofs.lemmas.Bool.{and_parts}
+
+-- ---- the accepted unit of the next frame
+
+-- without one there is nothing to tell
+pub told_none : {X : Type 0} (none : X) (told : List (List ℕ) → List ℕ → X) (r : ReceptionParameters) (views : List TcView) (next : TcView)
+    → segment_by r views next ≡ [] → of_accepted none told r views next ≡ none
+told_none none told r views next e = ap (of_segment none (told (segments_of r next.vc (map_by r next) views))) e
+
+-- of one it is told from what is incomplete at its index
+module _ (r : ReceptionParameters) (old : List (Option (List ℕ))) (views : List TcView) (next : TcView) (unit : List ℕ) where
+  told_more : {X : Type 0} (none : X) (told : List (List ℕ) → List ℕ → X) (from : Option (List ℕ) → List ℕ → X)
+      → ((list : List (List ℕ)) (segment : List ℕ) → told list segment ≡ from (incomplete_of list) segment)
+      → AreIncomplete r old views → next.vc < 64 → segment_by r views next ≡ unit ∷ []
+      → map_by r next ≡ (header_at unit).map
+      → of_accepted none told r views next ≡ from (at old (channel_at next.vc (header_at unit).map)) unit
+  told_more none told from same are inside unit_is mid_is =
+      let mid = (header_at unit).map in
+      ap (of_segment none (told (segments_of r next.vc (map_by r next) views))) unit_is
+      ∙ ap (λ n. told (segments_of r next.vc n views) unit) mid_is
+      ∙ same (segments_of r next.vc mid views) unit
+      ∙ ap (λ held. from held unit) (sym (are next.vc mid inside (map_fits unit)))
+
+  pub told_at : {X : Type 0} (none : X) (told : List (List ℕ) → List ℕ → X) (from : Option (List ℕ) → List ℕ → X)
+      → ((list : List (List ℕ)) (segment : List ℕ) → told list segment ≡ from (incomplete_of list) segment)
+      → (vc : ℕ) (answer : X) → AreIncomplete r old views → next.vc < 64 → segment_by r views next ≡ unit ∷ []
+      → map_by r next ≡ (header_at unit).map → vc ≡ next.vc → answer ≡ from (at old (channel_at vc (header_at unit).map)) unit
+      → answer ≡ of_accepted none told r views next
+  told_at none told from same vc answer are inside unit_is mid_is same_vc is =
+      is ∙ ap (λ n. from (at old (channel_at n (header_at unit).map)) unit) same_vc ∙ sym (told_more none told from same are inside unit_is mid_is)
+
+-- ---- by the sequence flags
+
+continues_is : (next : List ℕ) → (flags_of next ≡ 0) ⊎ (flags_of next ≡ 2) → continues next ≡ true
+continues_is next (inl is) = ap (λ flags. flags == 0 || flags == 2) is
+continues_is next (inr is) = ap (λ flags. flags == 0 || flags == 2) is
+
+begins_is : (next : List ℕ) → (flags_of next ≡ 1) ⊎ (flags_of next ≡ 3) → begins next ≡ true
+begins_is next (inl is) = ap (λ flags. flags == 1 || flags == 3) is
+begins_is next (inr is) = ap (λ flags. flags == 1 || flags == 3) is
+
+-- one of two numbers
+one_of : (n a b : ℕ) → (n == a || n == b) ≡ true → (n ≡ a) ⊎ (n ≡ b)
+one_of n a b e =
+    elim (eqb_tells n a) [
+      | inl (test, is) ↦ inl is
+      | inr (test, other) ↦ inr (eqb-true n b (sym (ap (λ t. t || n == b) test) ∙ e))
+    ]
+
+-- ---- out of sequence
+
+none_told : (list : List (List ℕ)) (held : Option (List ℕ)) → incomplete_of list ≡ held → ((octets : List ℕ) → IsIncomplete list octets → ⊥) → is_none held ≡ true
+none_told list None e none = refl
+none_told list (Some octets) e none = absurd (none octets (what_is_told_is_incomplete list octets e))
+
+pub stray_is_told : StrayIsTold
+stray_is_told list next x = ap (λ b. b && is_none (incomplete_of list)) (continues_is next x.goes_on) ∙ none_told list (incomplete_of list) refl x.none
+
+pub what_is_told_is_stray : WhatIsToldIsStray
+what_is_told_is_stray list next e =
+    let (test, none) = and_parts (continues next) (is_none (incomplete_of list)) e in
+    record {
+      goes_on = one_of (flags_of next) 0 2 test;
+      none = λ octets x. let both : false ≡ true = sym (ap is_none (incomplete_is_told list octets x)) ∙ none in absurd (cc);
+    }
+
+-- ---- dropped
+
+pub dropped_is_told : DroppedIsTold
+dropped_is_told list next count x =
+    ap (λ b. if b then octets_held list else None) (begins_is next x.anew)
+    ∙ ap (option_map length) (incomplete_is_told list x.octets x.incomplete) ∙ ap Some (sym x.count_is)
+
+some_if : (b : Bool) (held : Option ℕ) (count : ℕ) → (if b then held else None) ≡ Some count → (b ≡ true) × (held ≡ Some count)
+some_if true held count e = (refl, e)
+some_if false held count e = absurd (cc)
+
+-- the series whose octets are counted
+some_held : (list : List (List ℕ)) (held : Option (List ℕ)) (count : ℕ) → incomplete_of list ≡ held → option_map length held ≡ Some count
+    → (octets : List ℕ) × IsIncomplete list octets × (count ≡ length octets)
+some_held list None count e counted = absurd (cc)
+some_held list (Some octets) count e counted = (octets, what_is_told_is_incomplete list octets e, cc)
+
+pub what_is_told_is_dropped : WhatIsToldIsDropped
+what_is_told_is_dropped list next count e =
+    let (test, counted) = some_if (begins next) (octets_held list) count e in
+    let (octets, x, count_is) = some_held list (incomplete_of list) count refl counted in
+    record {
+      anew = one_of (flags_of next) 1 3 test;
+      octets = octets;
+      incomplete = x;
+      count_is = count_is;
+    }
+
+-- ---- too long
+
+pub long_is_told : LongIsTold
+long_is_told list next x =
+    ap (λ b. b && passes (octets_held list) (length (segment_data next))) (continues_is next x.goes_on)
+    ∙ ap (λ held. passes (option_map length held) (length (segment_data next))) (incomplete_is_told list x.octets x.incomplete)
+    ∙ lt-ltb 65542 (length x.octets + length (segment_data next)) x.too_many
+
+some_passes : (list : List (List ℕ)) (held : Option (List ℕ)) (more : ℕ) → incomplete_of list ≡ held → passes (option_map length held) more ≡ true
+    → (octets : List ℕ) × IsIncomplete list octets × (65542 < length octets + more)
+some_passes list None more e over = absurd (cc)
+some_passes list (Some octets) more e over = (octets, what_is_told_is_incomplete list octets e, ltb-true 65542 (length octets + more) over)
+
+pub what_is_told_is_long : WhatIsToldIsLong
+what_is_told_is_long list next e =
+    let (test, over) = and_parts (continues next) (passes (octets_held list) (length (segment_data next))) e in
+    let (octets, x, too_many) = some_passes list (incomplete_of list) (length (segment_data next)) refl over in
+    record {
+      goes_on = one_of (flags_of next) 0 2 test;
+      octets = octets;
+      incomplete = x;
+      too_many = too_many;
+    }

@@ -1,0 +1,40 @@
+-- The report of the next frame, from what is incomplete at the index of its unit.
+use Rattle.std.proofs.Common.{◌≡◌, ℕ, ◌<◌, false, List, [], ◌∷◌, Option, None, refl, sym, ◌∙◌}
+use Rattle.sl_cop.specs.declared.verdict.Verdict.{Verdict}
+use Rattle.sl_cop.specs.declared.verdict.Verdict.TheVariants.{Accept}
+use Rattle.sl_tcframe.specs.TcFrame.{TcView}
+use Rattle.sl_tcflow.specs.Anomaly.{IsReportedOf, dropped_of, long_of, stray_of, tail_of}
+use Rattle.sl_tcflow.specs.NextSegment.{IsReported, dropped_with, long_with, quiet_report, stray_with, tail_after}
+use Rattle.sl_tcflow.specs.Placed.{at}
+use Rattle.sl_tcflow.specs.Receiving.{AreIncomplete, channel_at, map_by, segment_by, verdict_on}
+use Rattle.sl_tcflow.specs.ReceptionParameters.{ReceptionParameters}
+use Rattle.sl_tcflow.specs.Series.{flags_of, header_at, segment_data}
+use Rattle.sl_tcflow.specs.StepReport.{StepReport}
+use Rattle.sl_tcflow.proofs.lemmas.Anomaly.Anomaly.{told_at, told_none}
+use Rattle.sl_tcflow.proofs.lemmas.Reception.Ended.{tail_next}
+
+-- of a frame whose unit is accepted
+pub reported_more : (r : ReceptionParameters) (old : List (Option (List ℕ))) (views : List TcView) (next : TcView) (unit : List ℕ) (vc : ℕ) (step : StepReport)
+    → AreIncomplete r old views → next.vc < 64 → segment_by r views next ≡ unit ∷ []
+    → map_by r next ≡ (header_at unit).map → vc ≡ next.vc → verdict_on r views next ≡ Accept
+    → IsReported (at old (channel_at vc (header_at unit).map)) (flags_of unit) (segment_data unit) step → IsReportedOf r views next step
+reported_more r old views next unit vc step are inside unit_is mid_is same_vc accepted reported =
+    record {
+      verdict = reported.verdict ∙ sym accepted;
+      stray = told_at r old views next unit false stray_of (λ held segment. stray_with held (flags_of segment)) (λ list segment. refl) vc step.stray are inside unit_is mid_is same_vc reported.stray;
+      dropped = told_at r old views next unit None dropped_of (λ held segment. dropped_with held (flags_of segment)) (λ list segment. refl) vc step.dropped are inside unit_is mid_is same_vc reported.dropped;
+      long = told_at r old views next unit false long_of (λ held segment. long_with held (flags_of segment) (segment_data segment)) (λ list segment. refl) vc step.long are inside unit_is mid_is same_vc reported.long;
+      tail = told_at r old views next unit 0 tail_of tail_after tail_next vc step.tail are inside unit_is mid_is same_vc reported.tail;
+    }
+
+-- and of one without an accepted unit
+pub reported_none : (r : ReceptionParameters) (views : List TcView) (next : TcView) (verdict : Verdict) → verdict ≡ verdict_on r views next
+    → segment_by r views next ≡ [] → IsReportedOf r views next (record quiet_report { verdict = verdict })
+reported_none r views next verdict is none =
+    record {
+      verdict = is;
+      stray = sym (told_none false stray_of r views next none);
+      dropped = sym (told_none None dropped_of r views next none);
+      long = sym (told_none false long_of r views next none);
+      tail = sym (told_none 0 tail_of r views next none);
+    }

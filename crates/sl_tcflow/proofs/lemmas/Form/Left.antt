@@ -1,0 +1,289 @@
+-- What is left of the normal form, packet by packet and channel by channel.
+use Rattle.std.proofs.Common.{◌≡◌, ℕ, zero, suc, ◌+◌, ◌-◌, ◌*◌, ◌/◌, ◌%◌, ◌<◌, ◌≤◌, ◌==◌, Bool, true, false, if◌then◌else◌, List, [], ◌∷◌, ◌++◌, length, take, drop, flat_map, inl, inr, refl, sym, ◌∙◌, ap, ap₂, subst, arith, append_assoc, append-nil, length-append, ne_eqb}
+use Rattle.std.specs.List.{concat, range_with_len, slice_index_or}
+use Rattle.std.proofs.lemmas.Bool.Decides.{eqb_tells, leb_tells}
+use Rattle.std.proofs.lemmas.List.{drop_all, drop_more, drop-drop, get_or-drop, get_or_past}
+use Rattle.std.proofs.lemmas.List.Folds.{concat-append}
+use Rattle.std.proofs.lemmas.List.FromFn.{length-map-range_with_len}
+use Rattle.std.proofs.Math.Seq.{take-nil}
+use Rattle.sl_fields.specs.Field.{octets_of}
+use Rattle.sl_fields.proofs.FecfLemmas.{length-with_fecf}
+use Rattle.sl_fields.proofs.Octets.{length-octets_of}
+use Rattle.sl_packet.specs.Delivered.{PacketLists, list_at}
+use Rattle.sl_tcframe.specs.AdFrame.{segment_room_of, ad_fields, ad_frame, ad_len}
+use Rattle.sl_tcframe.specs.TcFrame.{TcFormat}
+use Rattle.sl_tcframe.specs.VcSet.{has_vc}
+use Rattle.sl_tcflow.specs.FormLeft.{IsPlace, channels_left, form_left, maps_left, ns_after, piece_of}
+use Rattle.sl_tcflow.specs.FormPiece.{AddsPiece}
+use Rattle.sl_tcflow.specs.TcNormalForm.{segment_count, segment_of, units_of_packet, units_of_maps, frames_of_units, channel_frames, tc_normal_form_of}
+use Rattle.sl_tcflow.proofs.lemmas.Series.Part.{some_parts}
+use Rattle.sl_tcflow.proofs.lemmas.Form.Pushed.{frames_from_same, frames_from-append}
+
+-- the MAPs from one on are that one and those after it
+split_maps : (b : Bool) (room mid n : ℕ) (lists : List (List (List ℕ)))
+    → units_of_maps b room mid (take (suc n) lists) ≡ flat_map (units_of_packet b room mid) (slice_index_or lists 0 []) ++ units_of_maps b room (mid + 1) (take n (drop 1 lists))
+split_maps b room mid n [] = sym (ap (units_of_maps b room (mid + 1)) (take-nil n))
+split_maps b room mid n (packets ∷ lists) = refl
+
+module _ (format : TcFormat) (spacecraft : ℕ) (starts plain : List ℕ) (lists : List (List (List ℕ))) where
+  abbrev room : ℕ
+  room = segment_room_of format
+
+  abbrev list : ℕ → List (List ℕ)
+  list channel = slice_index_or lists channel []
+
+  abbrev left : ℕ → ℕ → ℕ → List ℕ
+  left = form_left format spacecraft starts plain lists
+
+  -- whether a virtual channel has no segment headers, and its start
+  abbrev no_headers : ℕ → Bool
+  no_headers vc = has_vc plain vc
+
+  abbrev start : ℕ → ℕ
+  start vc = slice_index_or starts vc 0
+
+  abbrev on_maps : ℕ → ℕ → ℕ → List (List ℕ) → List (List (List ℕ)) → List ℕ
+  on_maps vc = maps_left format spacecraft (no_headers vc) vc
+
+  abbrev on_channels : ℕ → ℕ → List ℕ
+  on_channels = channels_left format spacecraft starts plain lists
+
+  -- by virtual channel and MAP
+  left_is : (vc mid channel framed ns : ℕ) → mid < 64 → channel ≡ 64 * vc + mid
+      → left channel framed ns ≡ on_maps vc mid ns (drop framed (list channel)) (take (63 - mid) (drop (channel + 1) lists)) ++ on_channels (vc + 1) (63 - vc)
+  unfolding form_left
+  left_is vc mid channel framed ns small is =
+      let v : channel / 64 ≡ vc = omega (arith, is, small) in
+      let m : channel % 64 ≡ mid = omega (arith, is, small) in
+      ap₂ (λ a b. on_maps a b ns (drop framed (list channel)) (take (63 - b) (drop (channel + 1) lists)) ++ on_channels (a + 1) (63 - a)) v m
+
+  -- the list of a channel, and those after it, among the lists from it on
+  first_list : (channel : ℕ) → slice_index_or (drop channel lists) 0 [] ≡ list channel
+  first_list channel =
+      let same : channel + 0 ≡ channel = omega arith in
+      get_or-drop channel lists 0 [] ∙ ap list same
+
+  later_lists : (channel : ℕ) → drop 1 (drop channel lists) ≡ drop (channel + 1) lists
+  later_lists channel = drop-drop 1 channel lists
+
+  -- the next virtual channel
+  next_channel : (vc n channel : ℕ) → 64 * vc ≡ channel
+      → on_channels vc (suc n) ≡ on_maps vc 0 (start vc) (list channel) (take 63 (drop (channel + 1) lists)) ++ on_channels (vc + 1) n
+  next_channel vc n channel is =
+      let b = no_headers vc in
+      let frames : ℕ → List (List ℕ) = λ v. channel_frames format spacecraft (no_headers v) (start v) v (take 64 (drop (64 * v) lists)) in
+      concat-append (frames vc) (flat_map frames (range_with_len (vc + 1) n))
+      ∙ ap (λ c. concat (channel_frames format spacecraft b (start vc) vc (take 64 (drop c lists))) ++ on_channels (vc + 1) n) is
+      ∙ ap (λ l. concat (frames_of_units format spacecraft vc (start vc) l) ++ on_channels (vc + 1) n)
+      (split_maps b room 0 63 (drop channel lists)
+      ∙ ap₂ (λ ps ls. flat_map (units_of_packet b room 0) ps ++ units_of_maps b room 1 (take 63 ls)) (first_list channel) (later_lists channel))
+
+  pub all_left : left 0 0 (start 0) ≡ tc_normal_form_of format spacecraft starts plain lists
+  all_left = left_is 0 0 0 0 (start 0) (omega arith) (omega arith) ∙ sym (next_channel 0 63 0 (omega arith))
+
+  -- ---- channels whose packets are all framed
+
+  -- the next MAP,
+  to_next_map : (vc mid channel framed ns : ℕ) → mid < 63 → channel ≡ 64 * vc + mid → length (list channel) ≤ framed → left channel framed ns ≡ left (channel + 1) 0 ns
+  to_next_map vc mid channel framed ns small is all =
+      let b = no_headers vc in
+      let rest = on_channels (vc + 1) (63 - vc) in
+      let one : 63 - mid ≡ suc (62 - mid) = omega (arith, small) in
+      let few : 62 - mid ≡ 63 - (mid + 1) = omega arith in
+      left_is vc mid channel framed ns (omega (arith, small)) is
+      ∙ ap (λ ps. on_maps vc mid ns ps (take (63 - mid) (drop (channel + 1) lists)) ++ rest) (drop_all framed (list channel) all)
+      ∙ ap (λ l. concat (frames_of_units format spacecraft vc ns l) ++ rest)
+      (ap (λ n. units_of_maps b room (mid + 1) (take n (drop (channel + 1) lists))) one
+      ∙ split_maps b room (mid + 1) (62 - mid) (drop (channel + 1) lists)
+      ∙ ap₂ (λ ps ls. flat_map (units_of_packet b room (mid + 1)) ps ++ units_of_maps b room (mid + 1 + 1) (take (62 - mid) ls)) (first_list (channel + 1)) (later_lists (channel + 1))
+      ∙ ap (λ n. flat_map (units_of_packet b room (mid + 1)) (list (channel + 1)) ++ units_of_maps b room (mid + 1 + 1) (take n (drop (channel + 1 + 1) lists))) few)
+      ∙ sym (left_is vc (mid + 1) (channel + 1) 0 ns (omega (arith, small)) (omega (arith, is)))
+
+  -- after the last MAP the virtual channels that come next,
+  after_last_map : (vc channel framed ns : ℕ) → channel ≡ 64 * vc + 63 → length (list channel) ≤ framed → left channel framed ns ≡ on_channels (vc + 1) (63 - vc)
+  after_last_map vc channel framed ns is all =
+      left_is vc 63 channel framed ns (omega arith) is
+      ∙ ap (λ ps. on_maps vc 63 ns ps (take 0 (drop (channel + 1) lists)) ++ on_channels (vc + 1) (63 - vc)) (drop_all framed (list channel) all)
+
+  to_next_vc : (vc channel framed ns : ℕ) → vc < 63 → channel ≡ 64 * vc + 63 → length (list channel) ≤ framed → left channel framed ns ≡ left (channel + 1) 0 (start (vc + 1))
+  to_next_vc vc channel framed ns small is all =
+      let one : 63 - vc ≡ suc (62 - vc) = omega (arith, small) in
+      let few : 62 - vc ≡ 63 - (vc + 1) = omega arith in
+      after_last_map vc channel framed ns is all
+      ∙ ap (on_channels (vc + 1)) one
+      ∙ next_channel (vc + 1) (62 - vc) (channel + 1) (omega (arith, is))
+      ∙ ap (λ n. on_maps (vc + 1) 0 (start (vc + 1)) (list (channel + 1)) (take 63 (drop (channel + 1 + 1) lists)) ++ on_channels (vc + 1 + 1) n) few
+      ∙ sym (left_is (vc + 1) 0 (channel + 1) 0 (start (vc + 1)) (omega arith) (omega (arith, is)))
+
+  -- and after the last channel nothing
+  pub none_left : (channel framed ns : ℕ) → channel ≡ 4096 → length lists ≡ 4096 → left channel framed ns ≡ []
+  none_left channel framed ns is all =
+      let here : list channel ≡ [] = get_or_past lists channel [] (omega (arith, is, all)) in
+      let later : drop (channel + 1) lists ≡ [] = drop_all (channel + 1) lists (omega (arith, is, all)) in
+      let packets : drop framed (list channel) ≡ [] = drop_all framed (list channel) (omega (arith, ap length here)) in
+      left_is 64 0 channel framed ns (omega arith) (omega (arith, is))
+      ∙ ap₂ (λ ps ls. on_maps 64 0 ns ps (take 63 ls) ++ on_channels 65 0) packets later
+
+  to_end : (channel framed ns ns' : ℕ) → channel ≡ 4095 → length lists ≡ 4096 → length (list channel) ≤ framed → left channel framed ns ≡ left (channel + 1) 0 ns'
+  to_end channel framed ns ns' is size all =
+      after_last_map 63 channel framed ns (omega (arith, is)) all ∙ sym (none_left (channel + 1) 0 ns' (omega (arith, is)) size)
+
+  -- the N(S) of the first frame on a channel, after that of another one
+  abbrev number : ℕ → ℕ → ℕ → ℕ
+  number channel next ns = if next / 64 == channel / 64 then ns else start (next / 64)
+
+  to_next : (channel framed ns : ℕ) → channel < 4096 → length lists ≡ 4096 → length (list channel) ≤ framed → left channel framed ns ≡ left (channel + 1) 0 (number channel (channel + 1) ns)
+  to_next channel framed ns inside size all =
+      let vc = channel / 64 in
+      elim (eqb_tells ((channel + 1) / 64) (channel / 64)) [
+        | inl (test, same) ↦
+            to_next_map vc (channel % 64) channel framed ns (omega (arith, same)) (omega arith) all
+            ∙ ap (λ t. left (channel + 1) 0 (if t then ns else start ((channel + 1) / 64))) (sym test)
+        | inr (test, other) ↦
+            elim (eqb_tells channel 4095) [
+              | inl (last_test, last) ↦ to_end channel framed ns (number channel (channel + 1) ns) last size all
+              | inr (last_test, before) ↦
+                  let next_vc : vc + 1 ≡ (channel + 1) / 64 = omega (arith, other) in
+                  to_next_vc vc channel framed ns (omega (arith, other, before, inside)) (omega (arith, other)) all
+                  ∙ ap (λ v. left (channel + 1) 0 (start v)) next_vc
+                  ∙ ap (λ t. left (channel + 1) 0 (if t then ns else start ((channel + 1) / 64))) (sym test)
+            ]
+      ]
+
+  number_on : (channel between next ns : ℕ) → channel ≤ between → between ≤ next → number between next (number channel between ns) ≡ number channel next ns
+  number_on channel between next ns a b =
+      elim (eqb_tells (next / 64) (between / 64)) [
+        | inl (test, same) ↦
+            ap (λ t. if t then number channel between ns else start (next / 64)) test ∙ ap (λ v. if v == channel / 64 then ns else start v) (sym same)
+        | inr (test, other) ↦
+            ap (λ t. if t then number channel between ns else start (next / 64)) test
+            ∙ ap (λ t. if t then ns else start (next / 64)) (sym (ne_eqb (next / 64) (channel / 64) (λ e. other (omega (arith, e, a, b)))))
+      ]
+
+  -- the next channel that has packets
+  pub to_later : (k channel next framed ns : ℕ) → next ≡ channel + 1 + k → next ≤ 4096 → length lists ≡ 4096 → length (list channel) ≤ framed
+      → ((other : ℕ) → channel + 1 ≤ other → other < next → list other ≡ [])
+      → left channel framed ns ≡ left next 0 (number channel next ns)
+  to_later zero channel next framed ns is inside size all none =
+      let same : channel + 1 ≡ next = omega (arith, is) in
+      to_next channel framed ns (omega (arith, is, inside)) size all ∙ ap (λ n. left n 0 (number channel n ns)) same
+  to_later (suc k) channel next framed ns is inside size all none =
+      let between = channel + 1 + k in
+      let same : between + 1 ≡ next = omega (arith, is) in
+      let empty : list between ≡ [] = none between (omega arith) (omega (arith, is)) in
+      to_later k channel between framed ns refl (omega (arith, is, inside)) size all (λ other above below. none other above (omega (arith, is, below)))
+      ∙ to_next between 0 (number channel between ns) (omega (arith, is, inside)) size (omega (arith, ap length empty))
+      ∙ ap (λ n. left n 0 (number between n (number channel between ns))) same
+      ∙ ap (left next 0) (number_on channel between next ns (omega arith) (omega (arith, is)))
+
+  pub to_packet : (channel next framed ns : ℕ) (test : Bool) → (next / 64 == channel / 64) ≡ test → channel < next → next ≤ 4096 → length lists ≡ 4096
+      → length (list channel) ≤ framed → ((other : ℕ) → channel + 1 ≤ other → other < next → list other ≡ [])
+      → left channel framed ns ≡ left next 0 (if test then ns else start (next / 64))
+  to_packet channel next framed ns test is after inside size all none =
+      to_later (next - (channel + 1)) channel next framed ns (omega (arith, after)) inside size all none
+      ∙ ap (λ b. left next 0 (if b then ns else start (next / 64))) is
+
+  -- none has
+  pub to_none : (channel framed ns ns' : ℕ) → channel < 4096 → length lists ≡ 4096 → length (list channel) ≤ framed
+      → ((other : ℕ) → channel + 1 ≤ other → other < 4096 → list other ≡ []) → left channel framed ns ≡ left 4096 0 ns'
+  to_none channel framed ns ns' inside size all none =
+      to_later (4096 - (channel + 1)) channel 4096 framed ns (omega (arith, inside)) (omega arith) size all none
+      ∙ none_left 4096 0 (number channel 4096 ns) (omega arith) size ∙ sym (none_left 4096 0 ns' (omega arith) size)
+
+  -- a form of no packets
+  pub none_at_all : length lists ≡ 4096 → ((channel : ℕ) → 0 ≤ channel → channel < 4096 → list channel ≡ []) → tc_normal_form_of format spacecraft starts plain lists ≡ []
+  none_at_all size none =
+      let first : list 0 ≡ [] = none 0 (omega arith) (omega arith) in
+      sym all_left
+      ∙ to_none 0 0 (start 0) 0 (omega arith) size (omega (arith, ap length first)) (λ other above below. none other (omega arith) below)
+      ∙ none_left 4096 0 0 (omega arith) size
+
+  -- ---- a packet
+
+  piece_made : (vc mid channel framed ns next : ℕ) (packet : List ℕ) → mid < 64 → channel ≡ 64 * vc + mid → framed < length (list channel)
+      → packet ≡ slice_index_or (list channel) framed [] → next ≡ (ns + length (units_of_packet (no_headers vc) room mid packet)) % 256
+      → left channel framed ns ≡ concat (frames_of_units format spacecraft vc ns (units_of_packet (no_headers vc) room mid packet)) ++ left channel (framed + 1) next
+  piece_made vc mid channel framed ns next packet small is inside here number_is =
+      let b = no_headers vc in
+      let units = units_of_packet b room mid packet in
+      let later = take (63 - mid) (drop (channel + 1) lists) in
+      let rest = on_channels (vc + 1) (63 - vc) in
+      let packets = drop (framed + 1) (list channel) in
+      let more = flat_map (units_of_packet b room mid) packets ++ units_of_maps b room (mid + 1) later in
+      let frames : ℕ → List (List ℕ) → List (List ℕ) = frames_of_units format spacecraft vc in
+      let counted : (ns + length units) % 256 ≡ next % 256 = omega (arith, number_is) in
+      left_is vc mid channel framed ns small is
+      ∙ ap (λ ps. on_maps vc mid ns ps later ++ rest) (drop_more (list channel) framed [] inside ∙ ap (λ p. p ∷ packets) (sym here))
+      ∙ ap (λ l. concat (frames ns l) ++ rest) (append_assoc units (flat_map (units_of_packet b room mid) packets) (units_of_maps b room (mid + 1) later))
+      ∙ ap (λ l. concat l ++ rest)
+      (frames_from-append format spacecraft vc ns units more ∙ ap (λ l. frames ns units ++ l) (frames_from_same format spacecraft vc (ns + length units) next more counted))
+      ∙ ap (λ l. l ++ rest) (concat-append (frames ns units) (frames next more))
+      ∙ append_assoc (concat (frames ns units)) (concat (frames next more)) rest
+      ∙ ap (λ l. concat (frames ns units) ++ l) (sym (left_is vc mid channel (framed + 1) next small is))
+
+  pub piece_first : (b : Bool) (channel framed ns next : ℕ) (packet : List ℕ) → b ≡ no_headers (channel / 64) → framed < length (list channel)
+      → packet ≡ slice_index_or (list channel) framed [] → next ≡ ns_after format b channel ns packet
+      → left channel framed ns ≡ piece_of format spacecraft b channel ns packet ++ left channel (framed + 1) next
+  piece_first b channel framed ns next packet headers inside here =
+      subst (λ b. next ≡ ns_after format b channel ns packet → left channel framed ns ≡ piece_of format spacecraft b channel ns packet ++ left channel (framed + 1) next)
+      (sym headers) (piece_made (channel / 64) (channel % 64) channel framed ns next packet (omega arith) (omega arith) inside here)
+
+-- ---- the octets of a piece
+
+module _ (format : TcFormat) (spacecraft : ℕ) where
+  frame_some : (vc ns : ℕ) (unit : List ℕ) → 0 < length (ad_frame format spacecraft vc ns unit)
+  frame_some vc ns unit =
+      let h = ad_fields spacecraft vc ns (ad_len format (length unit)) in
+      let covered = octets_of 5 h ++ unit in
+      omega (arith, length-with_fecf format.fecf covered, length-append (octets_of 5 h) unit, length-octets_of 5 h)
+
+  frames_some : (vc ns : ℕ) (units : List (List ℕ)) → 0 < length units → 0 < length (concat (frames_of_units format spacecraft vc ns units))
+  frames_some vc ns [] some = absurd (omega arith)
+  frames_some vc ns (unit ∷ units) some =
+      let frame = ad_frame format spacecraft vc (ns % 256) unit in
+      let later = concat (frames_of_units format spacecraft vc (ns + 1) units) in
+      omega (arith, length-append frame later, frame_some vc (ns % 256) unit)
+
+  some_units : (b : Bool) (room mid : ℕ) (packet : List ℕ) → 0 < room → 0 < length packet → 0 < length (units_of_packet b room mid packet)
+  some_units true room mid packet wide long = omega arith
+  some_units false room mid packet wide long =
+      let parts = some_parts room packet wide long in
+      let count = length-map-range_with_len (segment_of room mid packet) 0 (segment_count room packet) in
+      omega (arith, parts, count)
+
+  pub piece_some : (b : Bool) (channel ns : ℕ) (packet : List ℕ) → 0 < segment_room_of format → 0 < length packet → 0 < length (piece_of format spacecraft b channel ns packet)
+  piece_some b channel ns packet wide long =
+      frames_some (channel / 64) ns (units_of_packet b (segment_room_of format) (channel % 64) packet) (some_units b (segment_room_of format) (channel % 64) packet wide long)
+
+  -- where there are no segment headers it is one frame
+  pub piece_whole : (b : Bool) (channel ns : ℕ) (packet : List ℕ) → b ≡ true → ns < 256
+      → piece_of format spacecraft b channel ns packet ≡ ad_frame format spacecraft (channel / 64) ns packet
+  piece_whole false channel ns packet is small = absurd (cc)
+  piece_whole true channel ns packet is small =
+      let same : ns % 256 ≡ ns = omega (arith, small) in
+      append-nil (ad_frame format spacecraft (channel / 64) (ns % 256) packet) ∙ ap (λ n. ad_frame format spacecraft (channel / 64) n packet) same
+
+-- ---- places and pieces
+
+-- the place after all packets
+pub no_packet : (d : PacketLists) (channel framed : ℕ) → IsPlace d channel framed → length (list_at d channel) ≤ framed → channel ≡ 4096
+no_packet d channel framed place past =
+    let inside : channel ≤ 4096 = place.inside in
+    elim (leb_tells 4096 channel) [
+      | inl (test, high) ↦ omega (arith, inside, high)
+      | inr (test, low) ↦ absurd (let there : framed < length (list_at d channel) = place.packet low in omega (arith, there, past))
+    ]
+
+-- what is made and what is left are one form
+pub piece_moved : (left made left' made' form : List ℕ) → made ++ left ≡ form → AddsPiece left made left' made' → made' ++ left' ≡ form
+piece_moved left made left' made' form all adds =
+    ap (λ l. l ++ left') adds.added ∙ append_assoc made adds.piece left' ∙ ap (λ l. made ++ l) (sym adds.front) ∙ all
+
+pub left_shorter : (left made left' made' : List ℕ) → AddsPiece left made left' made' → length left' < length left
+left_shorter left made left' made' adds =
+    let some = adds.some in
+    omega (arith, some, ap length adds.front, length-append adds.piece left')
+
+pub none_after : (made left : List ℕ) → made ++ left ≡ [] → left ≡ []
+none_after [] left none = none
+none_after (octet ∷ made) left none = absurd (cc)

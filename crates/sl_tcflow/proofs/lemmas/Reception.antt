@@ -1,0 +1,7 @@
+pub mod Channel
+pub mod Ended
+pub mod Farm
+pub mod PlainRecording
+pub mod Recording
+pub mod Reordered
+pub mod Unit

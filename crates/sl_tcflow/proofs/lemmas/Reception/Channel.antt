@@ -1,0 +1,235 @@
+-- What one frame more does to the packets of each channel, and to the octets of the series that are incomplete.
+use Rattle.std.proofs.Common.{◌≡◌, ◌≢◌, ◌⊎◌, ℕ, ◌+◌, ◌/◌, ◌%◌, ◌<◌, ◌≤◌, ◌==◌, nat_le, Bool, if◌then◌else◌, cond, true, false, List, [], ◌∷◌, ◌++◌, length, map, Option, None, Some, inl, inr, refl, sym, ◌∙◌, ap, ap₂, subst, arith, append-nil, length-append, length-drop, ne_eqb, eq-eqb}
+use Rattle.std.specs.List.{flat_map}
+use Rattle.std.proofs.lemmas.Bool.Decides.{eqb_tells}
+use Rattle.sl_cop.specs.declared.verdict.Verdict.{Verdict}
+use Rattle.sl_cop.specs.declared.verdict.Verdict.TheVariants.{Accept, Early, Late, Outside, Refused, Command}
+use Rattle.sl_packet.specs.Packets.{packets_of}
+use Rattle.sl_packet.proofs.CountLemmas.{split_count, packets_within}
+use Rattle.sl_tcframe.specs.TcFrame.{TcView, Content, Ad, Bd, Unlock, SetVr}
+use Rattle.sl_tcflow.specs.AcceptedUnit.{accepted_units, unit_by}
+use Rattle.sl_tcflow.specs.Incomplete.{if_fits, incomplete_of}
+use Rattle.sl_tcflow.specs.NextSegment.{extended, incomplete_after, packets_after, packets_of_service_unit, service_unit_ended}
+use Rattle.sl_tcflow.specs.Receiving.{channel_at, ended_by, map_by, map_of, segment_by, unit_channel, verdict_on}
+use Rattle.sl_tcflow.specs.Recording.{packets_in_channel}
+use Rattle.sl_tcflow.specs.Reception.{packets_ended, packets_on, segments_of}
+use Rattle.sl_tcflow.specs.ReceptionParameters.{ReceptionParameters, is_plain, initial_vr}
+use Rattle.sl_tcflow.specs.Series.{flags_of, header_at, segment_data, segment_in, segments_on}
+use Rattle.sl_tcflow.proofs.lemmas.Reception.Farm.{other_channel}
+use Rattle.sl_tcflow.proofs.lemmas.Reception.Ended.{ended_next}
+use Rattle.sl_tcflow.proofs.lemmas.Series.OneMore.{incomplete_next, packets_next}
+use Rattle.sl_tcflow.proofs.lemmas.Series.Segment.{octets_of_unit}
+use Rattle.sl_tcflow.proofs.lemmas.Reception.Unit.{ended_none, segments_next}
+
+-- ---- the octets of a service data unit
+
+-- the octets so far of an incomplete series, none where no series is incomplete
+abbrev pub held_octets : Option (List ℕ) → List ℕ
+held_octets None = []
+held_octets (Some octets) = octets
+
+fitting : (octets : List ℕ) (b : Bool) → length (held_octets (if b then Some octets else None)) ≤ length octets
+fitting octets true = omega arith
+fitting octets false = omega arith
+
+extending : (held : Option (List ℕ)) (octets : List ℕ) → length (held_octets (extended held octets)) ≤ length (held_octets held) + length octets
+extending None octets = omega arith
+extending (Some before) octets = let most = fitting (before ++ octets) (nat_le (length (before ++ octets)) 65542) in omega (arith, most, length-append before octets)
+
+ending : (ended : Option (List ℕ)) → length (packets_of_service_unit ended) ≤ length (held_octets ended)
+ending None = omega arith
+ending (Some octets) = omega (arith, packets_within octets, split_count (packets_of octets))
+
+module _ (held : Option (List ℕ)) (next : List ℕ) where
+  abbrev octets : List ℕ
+  octets = segment_data next
+
+  -- what is incomplete after the next segment, and what ends with it, has no octets but those before and its own
+  incomplete_most : (first continuing : Bool)
+      → length (held_octets (if first then if_fits octets else if continuing then extended held octets else None)) ≤ length (held_octets held) + length octets
+  incomplete_most true continuing = let most = fitting octets (nat_le (length octets) 65542) in omega (arith, most)
+  incomplete_most false true = extending held octets
+  incomplete_most false false = omega arith
+
+  ended_most : (whole last : Bool)
+      → length (held_octets (if whole then if_fits octets else if last then extended held octets else None)) ≤ length (held_octets held) + length octets
+  ended_most true last = let most = fitting octets (nat_le (length octets) 65542) in omega (arith, most)
+  ended_most false true = extending held octets
+  ended_most false false = omega arith
+
+  goes_on : (flags : ℕ) → flags ≢ 3 → flags ≢ 2 → flags_of next ≡ flags → service_unit_ended held next ≡ None
+  goes_on flags not_3 not_2 is =
+      ap (λ b. if b then if_fits octets else if flags_of next == 2 then extended held octets else None) (ne_eqb (flags_of next) 3 (λ e. not_3 (sym is ∙ e)))
+      ∙ ap (λ b. if b then extended held octets else None) (ne_eqb (flags_of next) 2 (λ e. not_2 (sym is ∙ e)))
+
+  ends : flags_of next ≢ 1 → flags_of next ≢ 0 → incomplete_after held next ≡ None
+  ends not_1 not_0 =
+      ap (λ b. if b then if_fits octets else if flags_of next == 0 then extended held octets else None) (ne_eqb (flags_of next) 1 not_1)
+      ∙ ap (λ b. if b then extended held octets else None) (ne_eqb (flags_of next) 0 not_0)
+
+  begun : (flags : ℕ) → flags ≢ 3 → flags ≢ 2 → flags_of next ≡ flags
+      → length (packets_after held next) + length (held_octets (incomplete_after held next)) ≤ length (held_octets held) + length octets
+  begun flags not_3 not_2 is =
+      let none = ap (λ o. length (packets_of_service_unit o)) (goes_on flags not_3 not_2 is) in
+      let most = incomplete_most (flags_of next == 1) (flags_of next == 0) in
+      omega (arith, none, most)
+
+  -- the packets that end with a segment, and the octets that are incomplete after it, are no more than the octets that
+  -- were incomplete before it and its own
+  pub ended_within : length (packets_after held next) + length (held_octets (incomplete_after held next)) ≤ length (held_octets held) + length octets
+  ended_within =
+      elim (eqb_tells (flags_of next) 1) [
+        | inl (test, is) ↦ begun 1 (λ e. absurd (omega (arith, e))) (λ e. absurd (omega (arith, e))) is
+        | inr (test, not_1) ↦
+            elim (eqb_tells (flags_of next) 0) [
+              | inl (test', is) ↦ begun 0 (λ e. absurd (omega (arith, e))) (λ e. absurd (omega (arith, e))) is
+              | inr (test', not_0) ↦
+                  let none = ap (λ o. length (held_octets o)) (ends not_1 not_0) in
+                  let few = ending (service_unit_ended held next) in
+                  let most = ended_most (flags_of next == 3) (flags_of next == 2) in
+                  omega (arith, none, few, most)
+            ]
+      ]
+
+-- ---- the unit of a frame
+
+-- its octets
+abbrev pub unit_len : Content → ℕ
+unit_len (Ad ns unit) = length unit
+unit_len (Bd unit) = length unit
+unit_len Unlock = 0
+unit_len (SetVr vr) = 0
+
+-- the segment that it is has no more after its header
+octets_within : (plain : Bool) (unit : List ℕ) → length (segment_data (segment_in plain unit)) ≤ length unit
+octets_within true unit = omega (arith, ap length (octets_of_unit (record { flags = 3; map = 0 }, unit)))
+octets_within false unit = omega (arith, length-drop 1 unit)
+
+abbrev IsAccepted : Bool → Verdict → Content → Type 0
+IsAccepted plain verdict content =
+    (segment : List ℕ) × (map (segment_in plain) (unit_by verdict content) ≡ segment ∷ []) × (map_of plain content ≡ (header_at segment).map)
+    × (length (segment_data segment) ≤ unit_len content)
+
+none_or_accepted : (plain : Bool) (verdict : Verdict) (content : Content) → (map (segment_in plain) (unit_by verdict content) ≡ []) ⊎ IsAccepted plain verdict content
+none_or_accepted plain Accept (Ad ns unit) = inr (segment_in plain unit, refl, refl, octets_within plain unit)
+none_or_accepted plain Accept (Bd unit) = inr (segment_in plain unit, refl, refl, octets_within plain unit)
+none_or_accepted plain Accept Unlock = inl refl
+none_or_accepted plain Accept (SetVr vr) = inl refl
+none_or_accepted plain Early content = inl refl
+none_or_accepted plain Late content = inl refl
+none_or_accepted plain Outside content = inl refl
+none_or_accepted plain Refused content = inl refl
+none_or_accepted plain Command content = inl refl
+
+pub small_map : (plain : Bool) (content : Content) → map_of plain content < 64
+small_map plain (Ad ns unit) = omega arith
+small_map plain (Bd unit) = omega arith
+small_map plain Unlock = omega arith
+small_map plain (SetVr vr) = omega arith
+
+-- ---- one frame more
+
+-- the octets so far of the series that is incomplete on a channel
+abbrev pub held_in : ReceptionParameters → List TcView → ℕ → List ℕ
+held_in r views channel = held_octets (incomplete_of (segments_of r (channel / 64) (channel % 64) views))
+
+module _ (r : ReceptionParameters) (views : List TcView) (next : TcView) where
+  abbrev after : List TcView
+  after = views ++ next ∷ []
+
+  abbrev units : List (List ℕ)
+  units = segment_by r views next
+
+  -- the segments of its own MAP before it
+  abbrev own : List (List ℕ)
+  own = segments_of r next.vc (map_by r next) views
+
+  on_none : (mid : ℕ) → mid ≢ map_by r next → segments_on mid units ≡ []
+  on_none mid other =
+      elim (none_or_accepted (is_plain r next.vc) (verdict_on r views next) next.content) [
+        | inl none ↦ ap (segments_on mid) none
+        | inr (unit, is, map_is, len) ↦
+            ap (segments_on mid) is ∙ ap (λ b. cond b (unit ∷ []) []) (ne_eqb (header_at unit).map mid (λ e. other (sym e ∙ sym map_is)))
+      ]
+
+  -- a frame adds nothing to the segments of other channels than its own,
+  segments_other : (vc mid : ℕ) → channel_at vc mid ≢ unit_channel r next → segments_of r vc mid after ≡ segments_of r vc mid views
+  segments_other vc mid other =
+      elim (eqb_tells next.vc vc) [
+        | inl (test, same) ↦
+            subst (λ n. segments_of r n mid after ≡ segments_of r n mid views) same
+            (segments_next r mid views next
+            ∙ ap (λ l. segments_of r next.vc mid views ++ l) (on_none mid (λ e. other (ap₂ channel_at (sym same) e)))
+            ∙ append-nil (segments_of r next.vc mid views))
+        | inr (test, apart) ↦ ap (λ l. segments_on mid (map (segment_in (is_plain r vc)) (accepted_units r.window (initial_vr r vc) l))) (other_channel vc views next apart)
+      ]
+
+  -- and its unit, if it is accepted, to those of its own
+  own_none : units ≡ [] → segments_of r next.vc (map_by r next) after ≡ own
+  own_none none =
+      segments_next r (map_by r next) views next ∙ ap (λ l. own ++ segments_on (map_by r next) l) none ∙ append-nil own
+
+  own_next : (unit : List ℕ) → units ≡ unit ∷ [] → map_by r next ≡ (header_at unit).map → segments_of r next.vc (map_by r next) after ≡ own ++ unit ∷ []
+  own_next unit is map_is =
+      segments_next r (map_by r next) views next ∙ ap (λ l. own ++ segments_on (map_by r next) l) is
+      ∙ ap (λ b. own ++ cond b (unit ∷ []) []) (eq-eqb (header_at unit).map (map_by r next) (sym map_is))
+
+  ended_of : (unit : List ℕ) → units ≡ unit ∷ [] → ended_by r views next ≡ packets_ended own unit
+  ended_of unit is = ap (flat_map (packets_ended own)) is ∙ append-nil (packets_ended own unit)
+
+  own_packets : packets_on (segments_of r next.vc (map_by r next) after) ≡ packets_on own ++ ended_by r views next
+  own_packets =
+      elim (none_or_accepted (is_plain r next.vc) (verdict_on r views next) next.content) [
+        | inl none ↦
+            ap packets_on (own_none none) ∙ sym (ap (λ l. packets_on own ++ l) (ended_none r views next none) ∙ append-nil (packets_on own))
+        | inr (unit, is, map_is, len) ↦
+            ap packets_on (own_next unit is map_is) ∙ packets_next own unit ∙ ap (λ l. packets_on own ++ l) (sym (ended_of unit is))
+      ]
+
+  own_held : length (ended_by r views next) + length (held_octets (incomplete_of (segments_of r next.vc (map_by r next) after)))
+      ≤ length (held_octets (incomplete_of own)) + unit_len next.content
+  own_held =
+      elim (none_or_accepted (is_plain r next.vc) (verdict_on r views next) next.content) [
+        | inl none ↦
+            let same = ap (λ l. length (held_octets (incomplete_of l))) (own_none none) in
+            let no_packets = ap length (ended_none r views next none) in
+            omega (arith, same, no_packets)
+        | inr (unit, is, map_is, len) ↦
+            let same = ap (λ l. length (held_octets (incomplete_of l))) (own_next unit is map_is) ∙ ap (λ o. length (held_octets o)) (incomplete_next own unit) in
+            let packets = ap length (ended_of unit is ∙ ended_next own unit) in
+            omega (arith, same, packets, ended_within (incomplete_of own) unit, len)
+      ]
+
+  -- ---- the same by channel
+
+  of_channel : (channel : ℕ) → channel ≡ unit_channel r next → (channel / 64 ≡ next.vc) × (channel % 64 ≡ map_by r next)
+  of_channel channel is = let small = small_map (is_plain r next.vc) next.content in (omega (arith, is, small), omega (arith, is, small))
+
+  channel_is : (channel : ℕ) → channel_at (channel / 64) (channel % 64) ≡ channel
+  channel_is channel = omega arith
+
+  pub packets_own : (channel : ℕ) → channel ≡ unit_channel r next
+      → packets_in_channel r after channel ≡ packets_in_channel r views channel ++ ended_by r views next
+  packets_own channel is =
+      let (vc, mid) = of_channel channel is in
+      ap₂ (λ v m. packets_on (segments_of r v m after)) vc mid ∙ own_packets
+      ∙ sym (ap₂ (λ v m. packets_on (segments_of r v m views) ++ ended_by r views next) vc mid)
+
+  pub packets_other : (channel : ℕ) → channel ≢ unit_channel r next → packets_in_channel r after channel ≡ packets_in_channel r views channel
+  packets_other channel other = ap packets_on (segments_other (channel / 64) (channel % 64) (λ e. other (sym (channel_is channel) ∙ e)))
+
+  pub held_own : (channel : ℕ) → channel ≡ unit_channel r next
+      → length (ended_by r views next) + length (held_in r after channel) ≤ length (held_in r views channel) + unit_len next.content
+  held_own channel is =
+      let (vc, mid) = of_channel channel is in
+      let now = ap₂ (λ v m. length (held_octets (incomplete_of (segments_of r v m after)))) vc mid in
+      let before = ap₂ (λ v m. length (held_octets (incomplete_of (segments_of r v m views)))) vc mid in
+      omega (arith, now, before, own_held)
+
+  pub incomplete_other : (channel : ℕ) → channel ≢ unit_channel r next
+      → incomplete_of (segments_of r (channel / 64) (channel % 64) after) ≡ incomplete_of (segments_of r (channel / 64) (channel % 64) views)
+  incomplete_other channel other =
+      ap incomplete_of (segments_other (channel / 64) (channel % 64) (λ e. other (sym (channel_is channel) ∙ e)))
+
+  pub held_other : (channel : ℕ) → channel ≢ unit_channel r next → held_in r after channel ≡ held_in r views channel
+  held_other channel other = ap held_octets (incomplete_other channel other)

@@ -1,0 +1,106 @@
+-- What the service data unit that ends with the next segment of a MAP has, its packets and what is left after them:
+-- told from the series that is incomplete before that segment.
+use Rattle.std.proofs.Common.{◌≡◌, ◌≢◌, ℕ, ◌+◌, ◌==◌, ◌&&◌, nat_le, Bool, true, false, if◌then◌else◌, List, [], ◌∷◌, ◌++◌, length, Option, None, Some, inl, inr, refl, sym, ◌∙◌, ap, append-nil, ne_eqb}
+use Rattle.std.specs.List.{filter, flat_map}
+use Rattle.std.proofs.lemmas.Bool.Decides.{eqb_tells}
+use Rattle.sl_packet.specs.Packets.{packets_of, rest_of}
+use Rattle.sl_tcflow.specs.Anomaly.{tail_of}
+use Rattle.sl_tcflow.specs.Incomplete.{if_fits, are_continuing, incomplete_of}
+use Rattle.sl_tcflow.specs.NextSegment.{extended, service_unit_ended, packets_of_service_unit, packets_after, rest_of_service_unit, tail_after}
+use Rattle.sl_tcflow.specs.Reception.{packets_ended}
+use Rattle.sl_tcflow.specs.Series.{flags_of, segment_data, SeriesAt, past, series_of, reassembled}
+use Rattle.sl_tcflow.proofs.lemmas.Series.Fit.{reassembled-push, extended_fits}
+use Rattle.sl_tcflow.proofs.lemmas.Series.OneMore.{series_ending, ending_is}
+use Rattle.sl_tcflow.proofs.lemmas.Series.Series.{series_at}
+
+-- ---- by the sequence flags of the next segment
+
+ended_last : (held : Option (List ℕ)) (next : List ℕ) → flags_of next ≡ 2 → service_unit_ended held next ≡ extended held (segment_data next)
+ended_last held next is =
+    ap (λ flags. if flags == 3 then if_fits (segment_data next) else if flags == 2 then extended held (segment_data next) else None) is
+
+-- what was incomplete matters to a last segment alone
+ended_other : (held other : Option (List ℕ)) (next : List ℕ) → flags_of next ≢ 2 → service_unit_ended held next ≡ service_unit_ended other next
+ended_other held other next not_2 =
+    let by = λ (before : Option (List ℕ)). ap (λ b. if flags_of next == 3 then if_fits (segment_data next) else if b then extended before (segment_data next) else None) (ne_eqb (flags_of next) 2 not_2) in
+    by held ∙ sym (by other)
+
+-- ---- whatever a service data unit has
+
+module _ {X : Type 0} (of : List ℕ → List X) where
+  -- what one has, if there is one
+  abbrev in_unit : Option (List ℕ) → List X
+  in_unit None = []
+  in_unit (Some octets) = of octets
+
+  -- what that of a series has, where it isn't too long
+  abbrev in_segments : List (List ℕ) → List X
+  in_segments segments = if nat_le (length (reassembled segments)) 65542 then of (reassembled segments) else []
+
+  in_if : (b : Bool) (octets : List ℕ) → (if b then of octets else []) ≡ in_unit (if b then Some octets else None)
+  in_if true octets = refl
+  in_if false octets = refl
+
+  in_reassembled : (segments : List (List ℕ)) → in_segments segments ≡ in_unit (if_fits (reassembled segments))
+  in_reassembled segments = in_if (nat_le (length (reassembled segments)) 65542) (reassembled segments)
+
+  in_first : (before : ℕ) (next : List ℕ) → flat_map (λ (s : SeriesAt). in_segments s.segments) (series_ending before [] next) ≡ in_unit (service_unit_ended None next)
+  in_first before next =
+      by (flags_of next == 3) (flags_of next == 2)
+      ∙ ap (λ l. in_unit (if flags_of next == 3 then if_fits l else if flags_of next == 2 then None else None)) (append-nil (segment_data next))
+    where
+      by : (three two : Bool)
+          → flat_map (λ (s : SeriesAt). in_segments s.segments) (if three then series_at before (next ∷ []) ∷ [] else [])
+          ≡ in_unit (if three then if_fits (segment_data next ++ []) else if two then None else None)
+      by true two = append-nil (in_segments (next ∷ [])) ∙ in_reassembled (next ∷ [])
+      by false true = refl
+      by false false = refl
+
+  in_after : (begun : Bool) (segment : List ℕ) (later : List (List ℕ)) (next : List ℕ) (ending : List SeriesAt) (before : ℕ) (held : Option (List ℕ))
+      → flat_map (λ (s : SeriesAt). in_segments s.segments) ending ≡ in_unit (service_unit_ended held next)
+      → flat_map (λ (s : SeriesAt). in_segments s.segments)
+      (if begun && flags_of next == 2 then series_at before (segment ∷ (later ++ next ∷ [])) ∷ [] else ending)
+      ≡ in_unit (service_unit_ended (if begun then if_fits (reassembled (segment ∷ later)) else held) next)
+  in_after true segment later next ending before held rest =
+      let segments = segment ∷ (later ++ next ∷ []) in
+      let together = if_fits (reassembled (segment ∷ later)) in
+      let has = λ (s : SeriesAt). in_segments s.segments in
+      elim (eqb_tells (flags_of next) 2) [
+        | inl (test, is) ↦
+            ap (λ b. flat_map has (if b then series_at before segments ∷ [] else ending)) test
+            ∙ append-nil (in_segments segments) ∙ in_reassembled segments
+            ∙ ap (λ l. in_unit (if_fits l)) (reassembled-push (segment ∷ later) next)
+            ∙ ap in_unit (sym (extended_fits (reassembled (segment ∷ later)) (segment_data next)) ∙ sym (ended_last together next is))
+        | inr (test, not_2) ↦
+            ap (λ b. flat_map has (if b then series_at before segments ∷ [] else ending)) test
+            ∙ rest ∙ ap in_unit (ended_other held together next not_2)
+      ]
+  in_after false segment later next ending before held rest = rest
+
+  in_from : (before : ℕ) (list : List (List ℕ)) (next : List ℕ)
+      → flat_map (λ (s : SeriesAt). in_segments s.segments) (series_ending before list next) ≡ in_unit (service_unit_ended (incomplete_of list) next)
+  in_from before [] next = in_first before next
+  in_from before (segment ∷ later) next =
+      in_after (flags_of segment == 1 && are_continuing later) segment later next (series_ending (before + 1) later next) before (incomplete_of later)
+      (in_from (before + 1) later next)
+
+  in_ended : (list : List (List ℕ)) (next : List ℕ)
+      → flat_map (λ (s : SeriesAt). in_segments s.segments) (filter (λ (s : SeriesAt). past s == length list + 1) (series_of (list ++ next ∷ [])))
+      ≡ in_unit (service_unit_ended (incomplete_of list) next)
+  in_ended list next = ap (flat_map (λ (s : SeriesAt). in_segments s.segments)) (ending_is list next) ∙ in_from 0 list next
+
+-- ---- its packets, and what is left after them
+
+pub ended_next : (list : List (List ℕ)) (next : List ℕ) → packets_ended list next ≡ packets_after (incomplete_of list) next
+ended_next list next = in_ended packets_of list next ∙ same (service_unit_ended (incomplete_of list) next)
+  where
+    same : (unit : Option (List ℕ)) → in_unit packets_of unit ≡ packets_of_service_unit unit
+    same None = refl
+    same (Some octets) = refl
+
+pub tail_next : (list : List (List ℕ)) (next : List ℕ) → tail_of list next ≡ tail_after (incomplete_of list) next
+tail_next list next = ap length (in_ended rest_of list next ∙ same (service_unit_ended (incomplete_of list) next))
+  where
+    same : (unit : Option (List ℕ)) → in_unit rest_of unit ≡ rest_of_service_unit unit
+    same None = refl
+    same (Some octets) = refl

@@ -1,0 +1,167 @@
+-- The accepted unit of the next frame among the segments of its virtual channel and MAP.
+use Rattle.std.proofs.Common.{None, ◌⊎◌, ◌≡◌, ◌≢◌, ℕ, ◌<◌, ◌==◌, Bool, List, [], ◌∷◌, ◌++◌, Option, map, inl, inr, refl, sym, ◌∙◌, ap, ap₂, subst, arith, append-nil, cond, eq-eqb, ne_eqb}
+use Rattle.std.specs.List.{flat_map}
+use Rattle.std.proofs.lemmas.Bool.Decides.{eqb_tells}
+use Rattle.std.proofs.lemmas.List.{map-append}
+use Rattle.std.proofs.lemmas.List.Elements.{filter-append}
+use Rattle.sl_cop.specs.declared.verdict.Verdict.{Verdict}
+use Rattle.sl_cop.specs.Farm.{farm_start, farm_step}
+use Rattle.sl_cop.proofs.ReorderedLemmas.{accepted_more}
+use Rattle.sl_tcframe.specs.TcFrame.{TcView, Content}
+use Rattle.sl_tcflow.specs.AcceptedUnit.{channel_of, event_of, farm_after, unit_of, unit_by, accepted_units}
+use Rattle.sl_tcflow.specs.Incomplete.{incomplete_of}
+use Rattle.sl_tcflow.specs.NextSegment.{incomplete_after, packets_after}
+use Rattle.sl_tcflow.specs.Placed.{at, IsPlaced}
+use Rattle.sl_tcflow.specs.Receiving.{AreIncomplete, IsIncompleteAround, channel_at, map_by, map_of, segment_by, unit_channel, ended_by, verdict_on}
+use Rattle.sl_tcflow.specs.Reception.{packets_ended, segments_of}
+use Rattle.sl_tcflow.specs.ReceptionParameters.{ReceptionParameters, is_plain, initial_vr}
+use Rattle.sl_tcflow.specs.Series.{header_at, segment_in, segments_on}
+use Rattle.sl_tcflow.proofs.lemmas.Reception.Ended.{ended_next}
+use Rattle.sl_tcflow.proofs.lemmas.Reception.Farm.{same_channel, other_channel}
+use Rattle.sl_tcflow.proofs.lemmas.Series.OneMore.{incomplete_next}
+
+-- ---- accepted units
+
+units_from : (w vr : ℕ) (channel : List TcView) (next : TcView)
+    → accepted_units w vr (channel ++ next ∷ [])
+    ≡ accepted_units w vr channel ++ unit_by (farm_step w (farm_after w vr channel) (event_of next.content)).0 next.content
+units_from w vr channel next = accepted_more (λ (view : TcView). event_of view.content) (λ (view : TcView). unit_of view.content) w (farm_start vr) channel next
+
+-- the unit of what a frame carries, by the verdict on it
+pub unit_on : (verdict : Verdict) (carried : Content) (r : ReceptionParameters) (views : List TcView) (next : TcView) (units : List (List ℕ))
+    → verdict ≡ verdict_on r views next → carried ≡ next.content → unit_by verdict carried ≡ units → unit_by (verdict_on r views next) next.content ≡ units
+unit_on verdict carried r views next units is same by = ap (λ v. unit_by v next.content) (sym is) ∙ ap (unit_by verdict) (sym same) ∙ by
+
+-- the segment that it is
+pub segment_on : (plain : Bool) (verdict : Verdict) (carried : Content) (r : ReceptionParameters) (views : List TcView) (next : TcView) (units : List (List ℕ))
+    → plain ≡ is_plain r next.vc → verdict ≡ verdict_on r views next → carried ≡ next.content → unit_by verdict carried ≡ units
+    → segment_by r views next ≡ map (segment_in plain) units
+segment_on plain verdict carried r views next units headers is same by =
+    ap (λ b. map (segment_in b) (unit_by (verdict_on r views next) next.content)) (sym headers)
+    ∙ ap (map (segment_in plain)) (unit_on verdict carried r views next units is same by)
+
+-- and its MAP
+pub map_on : (plain : Bool) (carried : Content) (r : ReceptionParameters) (next : TcView) (mid : ℕ)
+    → plain ≡ is_plain r next.vc → carried ≡ next.content → map_of plain carried ≡ mid → map_by r next ≡ mid
+map_on plain carried r next mid headers same is = ap₂ (λ b c. map_of b c) (sym headers) (sym same) ∙ is
+
+-- ---- the segments of a MAP
+
+pub segments_next : (r : ReceptionParameters) (mid : ℕ) (views : List TcView) (next : TcView)
+    → segments_of r next.vc mid (views ++ next ∷ []) ≡ segments_of r next.vc mid views ++ segments_on mid (segment_by r views next)
+segments_next r mid views next =
+    let channel = channel_of next.vc views in
+    let segment = segment_in (is_plain r next.vc) in
+    let units = accepted_units r.window (initial_vr r next.vc) channel in
+    ap (λ l. segments_on mid (map segment (accepted_units r.window (initial_vr r next.vc) l))) (same_channel next.vc views next refl)
+    ∙ ap (λ l. segments_on mid (map segment l)) (units_from r.window (initial_vr r next.vc) channel next)
+    ∙ ap (segments_on mid) (map-append segment units (unit_by (verdict_on r views next) next.content))
+    ∙ filter-append (λ segment. (header_at segment).map == mid) (map segment units) (segment_by r views next)
+
+segments_other : (r : ReceptionParameters) (vc mid : ℕ) (views : List TcView) (next : TcView) → (next.vc ≡ vc → ⊥)
+    → segments_of r vc mid (views ++ next ∷ []) ≡ segments_of r vc mid views
+segments_other r vc mid views next other =
+    ap (λ l. segments_on mid (map (segment_in (is_plain r vc)) (accepted_units r.window (initial_vr r vc) l))) (other_channel vc views next other)
+
+-- the unit is one of its own MAP alone
+on_map : (mid : ℕ) (unit : List ℕ) → (header_at unit).map ≡ mid → segments_on mid (unit ∷ []) ≡ unit ∷ []
+on_map mid unit same = ap (λ b. cond b (unit ∷ []) []) (eq-eqb (header_at unit).map mid same)
+
+on_other_map : (mid : ℕ) (unit : List ℕ) → (header_at unit).map ≢ mid → segments_on mid (unit ∷ []) ≡ []
+on_other_map mid unit other = ap (λ b. cond b (unit ∷ []) []) (ne_eqb (header_at unit).map mid other)
+
+pub map_fits : (unit : List ℕ) → (header_at unit).map < 64
+map_fits unit = omega arith
+
+-- ---- what is incomplete
+
+-- without an accepted unit all stays
+pub incomplete_same : (r : ReceptionParameters) (incomplete : List (Option (List ℕ))) (views : List TcView) (next : TcView) → AreIncomplete r incomplete views
+    → segment_by r views next ≡ [] → AreIncomplete r incomplete (views ++ next ∷ [])
+incomplete_same r incomplete views next are none vc mid vc_fits mid_fits =
+    are vc mid vc_fits mid_fits ∙ ap incomplete_of (sym (elim (eqb_tells next.vc vc) [
+      | inl (test, same) ↦
+          subst (λ n. segments_of r n mid (views ++ next ∷ []) ≡ segments_of r n mid views) same
+          (segments_next r mid views next ∙ ap (λ l. segments_of r next.vc mid views ++ segments_on mid l) none
+          ∙ append-nil (segments_of r next.vc mid views))
+      | inr (test, other) ↦ segments_other r vc mid views next other
+    ]))
+
+other_index : (index vc mid vc' mid' : ℕ) → index ≡ channel_at vc mid → mid < 64 → mid' < 64 → mid ≢ mid' → channel_at vc' mid' ≢ index
+other_index index vc mid vc' mid' is fits fits' other same = other (omega (arith, is, fits, fits', same))
+
+other_vc_index : (index vc mid vc' mid' : ℕ) → index ≡ channel_at vc mid → mid < 64 → mid' < 64 → vc ≢ vc' → channel_at vc' mid' ≢ index
+other_vc_index index vc mid vc' mid' is fits fits' other same = other (omega (arith, is, fits, fits', same))
+
+-- with one, its index alone has what is incomplete after it
+module _ (r : ReceptionParameters) (old : List (Option (List ℕ))) (views : List TcView) (next : TcView) (unit : List ℕ) (index : ℕ) where
+  pub incomplete_more : (new : List (Option (List ℕ))) → AreIncomplete r old views → next.vc < 64 → segment_by r views next ≡ unit ∷ []
+      → index ≡ channel_at next.vc (header_at unit).map → IsPlaced old index (incomplete_after (at old index) unit) new
+      → AreIncomplete r new (views ++ next ∷ [])
+  incomplete_more new are inside unit_is here placed vc mid vc_fits mid_fits =
+      elim (eqb_tells next.vc vc) [
+        | inl (test, same) ↦
+            elim (eqb_tells (header_at unit).map mid) [
+              | inl (test', same') ↦
+                  let there : index ≡ channel_at vc mid = here ∙ ap (λ n. channel_at n (header_at unit).map) same ∙ ap (channel_at vc) same' in
+                  let segments : segments_of r vc mid (views ++ next ∷ []) ≡ segments_of r vc mid views ++ unit ∷ [] =
+                  subst (λ n. segments_of r n mid (views ++ next ∷ []) ≡ segments_of r n mid views ++ unit ∷ []) same
+                  (segments_next r mid views next ∙ ap (λ l. segments_of r next.vc mid views ++ segments_on mid l) unit_is
+                  ∙ ap (λ l. segments_of r next.vc mid views ++ l) (on_map mid unit same')) in
+                  ap (at new) (sym there) ∙ placed.here
+                  ∙ ap (λ n. incomplete_after (at old n) unit) there
+                  ∙ ap (λ held. incomplete_after held unit) (are vc mid vc_fits mid_fits)
+                  ∙ sym (incomplete_next (segments_of r vc mid views) unit) ∙ ap incomplete_of (sym segments)
+              | inr (test', other) ↦
+                  let segments : segments_of r vc mid (views ++ next ∷ []) ≡ segments_of r vc mid views =
+                  subst (λ n. segments_of r n mid (views ++ next ∷ []) ≡ segments_of r n mid views) same
+                  (segments_next r mid views next ∙ ap (λ l. segments_of r next.vc mid views ++ segments_on mid l) unit_is
+                  ∙ ap (λ l. segments_of r next.vc mid views ++ l) (on_other_map mid unit other) ∙ append-nil (segments_of r next.vc mid views)) in
+                  placed.others (channel_at vc mid) (other_index index next.vc (header_at unit).map vc mid here (map_fits unit) mid_fits other)
+                  ∙ are vc mid vc_fits mid_fits ∙ ap incomplete_of (sym segments)
+            ]
+        | inr (test, other) ↦
+            placed.others (channel_at vc mid) (other_vc_index index next.vc (header_at unit).map vc mid here (map_fits unit) mid_fits other)
+            ∙ are vc mid vc_fits mid_fits ∙ ap incomplete_of (sym (segments_other r vc mid views next other))
+      ]
+
+  -- ---- the packets that end
+
+  pub ended_more : AreIncomplete r old views → next.vc < 64 → segment_by r views next ≡ unit ∷ []
+      → map_by r next ≡ (header_at unit).map → index ≡ channel_at next.vc (header_at unit).map
+      → ended_by r views next ≡ packets_after (at old index) unit
+  ended_more are inside unit_is mid_is here =
+      let list = segments_of r next.vc (header_at unit).map views in
+      ap (flat_map (packets_ended (segments_of r next.vc (map_by r next) views))) unit_is
+      ∙ append-nil (packets_ended (segments_of r next.vc (map_by r next) views) unit)
+      ∙ ap (λ n. packets_ended (segments_of r next.vc n views) unit) mid_is
+      ∙ ended_next list unit
+      ∙ ap (λ held. packets_after held unit) (sym (are next.vc (header_at unit).map inside (map_fits unit)))
+      ∙ ap (λ n. packets_after (at old n) unit) (sym here)
+
+  -- ---- where memory is wanted
+
+  pub around_more : AreIncomplete r old views → next.vc < 64 → segment_by r views next ≡ unit ∷ []
+      → map_by r next ≡ (header_at unit).map → index ≡ channel_at next.vc (header_at unit).map
+      → (at old index ≢ None) ⊎ (incomplete_after (at old index) unit ≢ None) → IsIncompleteAround r views next
+  around_more are inside unit_is mid_is here around =
+      let mid = map_by r next in
+      let list = segments_of r next.vc mid views in
+      let before : at old index ≡ incomplete_of list =
+      ap (at old) (here ∙ ap (channel_at next.vc) (sym mid_is)) ∙ are next.vc mid inside (omega (arith, mid_is, map_fits unit)) in
+      let segments : segments_of r next.vc mid (views ++ next ∷ []) ≡ list ++ unit ∷ [] =
+      segments_next r mid views next ∙ ap (λ l. list ++ segments_on mid l) unit_is ∙ ap (λ l. list ++ l) (on_map mid unit (sym mid_is)) in (
+        λ e. let none : unit ∷ [] ≡ [] = sym unit_is ∙ e in cc,
+        elim around [
+          | inl some ↦ inl (λ e. some (before ∙ e))
+          | inr some ↦ inr (λ e. some (ap (λ held. incomplete_after held unit) before ∙ sym (incomplete_next list unit) ∙ ap incomplete_of (sym segments) ∙ e))
+        ],
+      )
+
+-- the channel of the unit
+pub unit_channel_is : (vc : ℕ) (r : ReceptionParameters) (unit : List ℕ) (next : TcView) → vc ≡ next.vc → map_by r next ≡ (header_at unit).map
+    → channel_at vc (header_at unit).map ≡ unit_channel r next
+unit_channel_is vc r unit next same mid_is = ap (λ n. channel_at n (header_at unit).map) same ∙ ap (channel_at next.vc) (sym mid_is)
+
+pub ended_none : (r : ReceptionParameters) (views : List TcView) (next : TcView) → segment_by r views next ≡ [] → ended_by r views next ≡ []
+ended_none r views next none = ap (flat_map (packets_ended (segments_of r next.vc (map_by r next) views))) none

@@ -1,0 +1,53 @@
+-- A packet divided into segments: they are full but the last one, and they are the packet.
+use Rattle.std.proofs.Common.{◌≡◌, ℕ, zero, suc, ◌+◌, ◌-◌, ◌*◌, ◌<◌, ◌≤◌, List, [], ◌∷◌, length, drop, map, refl, sym, ◌∙◌, ap, ap₂, subst, arith, length-take-le}
+use Rattle.std.specs.List.{concat, range_with_len}
+use Rattle.std.proofs.lemmas.List.{length-drop, length-take, take_all}
+use Rattle.std.proofs.Math.Nat.{suc-mul, le-div_iff_mul-le}
+use Rattle.sl_fields.specs.SegmentHeader.{SegmentFields}
+use Rattle.sl_tcflow.specs.TcNormalForm.{segment_count, piece_at, segment_of, AreSegments, last, full, EachIsDivided}
+use Rattle.sl_tcflow.specs.Series.{header_at, segment_data}
+use Rattle.sl_fields.proofs.ListLemmas.{each-every, each-map}
+use Rattle.sl_tcflow.proofs.lemmas.Series.Part.{parts_joined, covers, some_parts, units_are_series}
+use Rattle.sl_tcflow.proofs.lemmas.Series.Segment.{part_at, part_is, header_of_unit, octets_of_unit}
+
+only_octets : (room mid : ℕ) (packet : List ℕ) (numbers : List ℕ) → map segment_data (map (segment_of room mid packet) numbers) ≡ map (piece_at room packet) numbers
+only_octets room mid packet [] = refl
+only_octets room mid packet (number ∷ numbers) = ap₂ (λ a b. a ∷ b) (octets_of_unit (part_at room mid packet number)) (only_octets room mid packet numbers)
+
+-- each segment begins within the packet
+begins_within : (room : ℕ) (packet : List ℕ) (number : ℕ) → 0 < room → 0 < length packet → number < segment_count room packet → number * room < length packet
+begins_within room packet number some long inside =
+    let one = suc-mul number room in
+    let below : suc number * room ≤ length packet + room - 1 = (le-div_iff_mul-le {k = room} {x = suc number} {y = length packet + room - 1} some).0 inside in
+    omega (arith, one, below)
+
+-- those from a number on
+filled_from : (room : ℕ) (packet : List ℕ) (from n : ℕ) → 0 < room → 0 < length packet → 0 < n → from + n ≡ segment_count room packet
+    → AreSegments room (map (piece_at room packet) (range_with_len from n))
+filled_from room packet from zero some long more is = absurd (omega arith)
+filled_from room packet from (suc zero) some long more is =
+    let inside : from * room < length packet = begins_within room packet from some long (omega (arith, is)) in
+    let left = length-drop (from * room) packet in
+    let size = length-take room (drop (from * room) packet) in
+    last (piece_at room packet from) (omega (arith, inside, left, size, some)) (omega (arith, size))
+filled_from room packet from (suc (suc n)) some long more is =
+    let one = suc-mul from room in
+    let inside : suc from * room < length packet = begins_within room packet (suc from) some long (omega (arith, is)) in
+    let left = length-drop (from * room) packet in
+    full (piece_at room packet from) (map (piece_at room packet) (range_with_len (from + 1) (suc n)))
+    (length-take-le room (drop (from * room) packet) (omega (arith, one, inside, left)))
+    (filled_from room packet (from + 1) (suc n) some long (omega arith) (omega (arith, is)))
+
+pub each_is_divided : EachIsDivided
+each_is_divided room mid packet some small long =
+    let count = segment_count room packet in
+    let octets = only_octets room mid packet (range_with_len 0 count) in
+    record {
+      filled = subst (AreSegments room) (sym octets) (filled_from room packet 0 count some long (some_parts room packet some long) (omega arith));
+      end_to_end = ap concat octets ∙ parts_joined room packet count ∙ take_all (count * room) packet (covers room packet some);
+      series = units_are_series room mid packet some small long;
+      on_map =
+          each-map (λ segment. (header_at segment).map ≡ mid) (segment_of room mid packet) (range_with_len 0 count)
+          (each-every (λ n. (header_at (segment_of room mid packet n)).map ≡ mid)
+          (λ n. ap (λ (h : SegmentFields). h.map) (header_of_unit (part_at room mid packet n) (part_is room mid small packet n).header)) (range_with_len 0 count));
+    }

@@ -1,0 +1,140 @@
+-- The segments of packets, put together again.
+use Rattle.std.proofs.Common.{◌≡◌, ℕ, zero, suc, ◌+◌, ◌*◌, ◌<◌, ◌≤◌, nat_le, if◌then◌else◌, List, [], ◌∷◌, ◌++◌, length, take, map, flat_map, inl, inr, refl, sym, ◌∙◌, ap, ap₂, subst, arith, append-nil, add-one, le-leb, take-add}
+use Rattle.std.specs.List.{AllByRecursion, concat, range_with_len}
+use Rattle.std.proofs.lemmas.Bool.Decides.{leb_tells, nat_tests}
+use Rattle.std.proofs.lemmas.List.{map-append, take_all}
+use Rattle.std.proofs.lemmas.List.Folds.{concat-append}
+use Rattle.std.proofs.lemmas.List.FromFn.{map-range_with_len_more}
+use Rattle.std.proofs.Math.Nat.{suc-mul, zero-mul}
+use Rattle.sl_fields.specs.SegmentHeader.{SegmentFields}
+use Rattle.sl_packet.specs.Packet.{IsPacket}
+use Rattle.sl_packet.specs.Packets.{packets_of}
+use Rattle.sl_packet.proofs.PacketsLemmas.{packets_of-packet}
+use Rattle.sl_tcflow.specs.Reception.{packets_in}
+use Rattle.sl_tcflow.specs.Series.{flags_of, IsSeries, whole, divided, SeriesAt, series_from, reassembled}
+use Rattle.sl_tcflow.specs.TcNormalForm.{segment_count, piece_at, flags_at, segment_of}
+use Rattle.sl_fields.proofs.ListLemmas.{each-append, each-weaker}
+use Rattle.sl_tcflow.proofs.lemmas.Form.Pushed.{counts_more}
+use Rattle.sl_tcflow.proofs.lemmas.Series.Segment.{unit_made, part_at, part_is, segments_of_packet, units_of_parts, header_of_unit, octets_of_unit}
+use Rattle.sl_tcflow.proofs.lemmas.Series.Series.{IsContinuing, BeginsNone, series_at, begins_whole, begins_divided, completed_all, none_begin, continuing_begins_none, last_begins_none}
+
+-- ---- their octets
+
+module _ (room : ℕ) (packet : List ℕ) where
+  abbrev part : ℕ → List ℕ
+  part = piece_at room packet
+
+  pub parts_joined : (n : ℕ) → concat (map part (range_with_len 0 n)) ≡ take (n * room) packet
+  parts_joined zero = let none = zero-mul room in ap (λ k. take k packet) (sym none)
+  parts_joined (suc n) =
+      let parts = map part (range_with_len 0 n) in
+      let next : n * room + room ≡ suc n * room = let one = suc-mul n room in omega (arith, one) in
+      ap (λ k. concat (map part (range_with_len 0 k))) (sym (add-one n))
+      ∙ ap concat (map-range_with_len_more part 0 n n (omega arith)) ∙ concat-append parts (part n ∷ [])
+      ∙ ap₂ (λ a b. a ++ b) (parts_joined n) (append-nil (part n))
+      ∙ sym (take-add (n * room) room packet) ∙ ap (λ k. take k packet) next
+
+  pub covers : 0 < room → length packet ≤ segment_count room packet * room
+  covers some =
+      let count = segment_count room packet in
+      elim (leb_tells (length packet) (count * room)) [
+        | inl (test, low) ↦ low
+        | inr (test, high) ↦ absurd (let more = counts_more room packet count some high in omega (arith, more))
+      ]
+
+  pub some_parts : 0 < room → 0 < length packet → 0 < segment_count room packet
+  some_parts some long = let none = zero-mul room in counts_more room packet 0 some (omega (arith, none, long))
+
+octets_of_parts : (room mid : ℕ) (packet : List ℕ) (numbers : List ℕ)
+    → reassembled (map unit_made (map (part_at room mid packet) numbers)) ≡ concat (map (piece_at room packet) numbers)
+octets_of_parts room mid packet [] = refl
+octets_of_parts room mid packet (number ∷ numbers) =
+    ap₂ (λ a b. a ++ b) (octets_of_unit (part_at room mid packet number)) (octets_of_parts room mid packet numbers)
+
+pub reassembled_parts : (room mid : ℕ) (packet : List ℕ) → 0 < room → reassembled (map unit_made (segments_of_packet room mid packet)) ≡ packet
+reassembled_parts room mid packet some =
+    let count = segment_count room packet in
+    octets_of_parts room mid packet (range_with_len 0 count) ∙ parts_joined room packet count
+    ∙ take_all (count * room) packet (covers room packet some)
+
+-- ---- their sequence flags
+
+first_of_many : (count : ℕ) → 1 < count → flags_at count 0 ≡ 1
+first_of_many count many = grind (arith, nat_tests)
+
+between : (count number : ℕ) → 1 ≤ number → number + 1 < count → flags_at count number ≡ 0
+between count number after before = grind (arith, nat_tests)
+
+last_of_many : (count number : ℕ) → 1 ≤ number → number + 1 ≡ count → flags_at count number ≡ 2
+last_of_many count number after is = grind (arith, nat_tests)
+
+continuing : (count : ℕ) (unit : ℕ → List ℕ) → ((number : ℕ) → flags_of (unit number) ≡ flags_at count number)
+    → (from n : ℕ) → 1 ≤ from → from + n < count → AllByRecursion IsContinuing (map unit (range_with_len from n))
+continuing count unit flags from zero after before = tt
+continuing count unit flags from (suc n) after before =
+    (flags from ∙ between count from after (omega arith), continuing count unit flags (from + 1) n (omega arith) (omega arith))
+
+series_of_parts : (count : ℕ) (unit : ℕ → List ℕ) → ((number : ℕ) → flags_of (unit number) ≡ flags_at count number) → 0 < count
+    → IsSeries (map unit (range_with_len 0 count))
+series_of_parts zero unit flags some = absurd (omega arith)
+series_of_parts (suc zero) unit flags some = whole (unit 0) (flags 0)
+series_of_parts (suc (suc n)) unit flags some =
+    let middle = map unit (range_with_len 1 n) in
+    let all : map unit (range_with_len 1 (suc n)) ≡ middle ++ unit (suc n) ∷ [] =
+    ap (λ k. map unit (range_with_len 1 k)) (sym (add-one n)) ∙ map-range_with_len_more unit 1 n (suc n) (omega arith) in
+    subst (λ l. IsSeries (unit 0 ∷ l)) (sym all)
+    (divided (unit 0) (unit (suc n)) middle (flags 0 ∙ first_of_many (suc (suc n)) (omega arith))
+    (continuing (suc (suc n)) unit flags 1 n (omega arith) (omega arith)) (flags (suc n) ∙ last_of_many (suc (suc n)) (suc n) (omega arith) (omega arith)))
+
+pub units_are_series : (room mid : ℕ) (packet : List ℕ) → 0 < room → mid < 64 → 0 < length packet
+    → IsSeries (map (segment_of room mid packet) (range_with_len 0 (segment_count room packet)))
+units_are_series room mid packet some small long =
+    series_of_parts (segment_count room packet) (segment_of room mid packet)
+    (λ n. ap (λ (h : SegmentFields). h.flags) (header_of_unit (part_at room mid packet n) (part_is room mid small packet n).header))
+    (some_parts room packet some long)
+
+pub parts_are_series : (room mid : ℕ) (packet : List ℕ) → 0 < room → mid < 64 → 0 < length packet → IsSeries (map unit_made (segments_of_packet room mid packet))
+parts_are_series room mid packet some small long =
+    subst IsSeries (sym (units_of_parts room mid packet (range_with_len 0 (segment_count room packet)))) (units_are_series room mid packet some small long)
+
+-- ---- a series first of all
+
+pub series_first : (n k : ℕ) (segments later : List (List ℕ)) → k ≡ n + length segments → IsSeries segments
+    → series_from n (segments ++ later) ≡ series_at n segments ∷ series_from k later
+series_first n k segments later here (whole segment is) =
+    let next : n + 1 ≡ k = omega (arith, here) in
+    ap (λ l. map (series_at n) l ++ series_from (n + 1) later) (begins_whole segment later is)
+    ∙ ap (λ m. series_at n (segment ∷ []) ∷ series_from m later) next
+series_first n k segments later here (divided first last middle begins goes_on ends) =
+    let tail = middle ++ last ∷ [] in
+    let none =
+    each-append BeginsNone middle (last ∷ []) (each-weaker IsContinuing BeginsNone continuing_begins_none middle goes_on) (last_begins_none last ends, tt) in
+    ap (λ l. map (series_at n) l ++ series_from (n + 1) (tail ++ later))
+    (begins_divided first (tail ++ later) begins ∙ completed_all (first ∷ []) middle last later goes_on ends)
+    ∙ ap (λ l. series_at n (first ∷ tail) ∷ l) (none_begin (n + 1) k tail later (omega (arith, here)) none)
+
+-- ---- packets
+
+-- a packet has 7 to 65,542 octets
+pub packet_size : (packet : List ℕ) → IsPacket packet → (0 < length packet) × (length packet ≤ 65542)
+packet_size packet is = let long = is.len in (omega (arith, long), omega (arith, long))
+
+packet_carried : (room mid : ℕ) (packet : List ℕ) → 0 < room → IsPacket packet → packets_in (map unit_made (segments_of_packet room mid packet)) ≡ packet ∷ []
+packet_carried room mid packet some is =
+    ap (λ octets. if nat_le (length octets) 65542 then packets_of octets else []) (reassembled_parts room mid packet some)
+    ∙ ap (λ b. if b then packets_of packet else []) (le-leb (length packet) 65542 (packet_size packet is).1)
+    ∙ ap packets_of (sym (append-nil packet)) ∙ packets_of-packet packet [] is
+
+-- the packets of the series of their segments
+pub packets_back : (room mid n : ℕ) (packets : List (List ℕ)) → 0 < room → mid < 64 → AllByRecursion IsPacket packets
+    → flat_map (λ (s : SeriesAt). packets_in s.segments) (series_from n (map unit_made (flat_map (segments_of_packet room mid) packets))) ≡ packets
+packets_back room mid n [] some small each = refl
+packets_back room mid n (packet ∷ packets) some small each =
+    let carried : List SeriesAt → List (List ℕ) = flat_map (λ (s : SeriesAt). packets_in s.segments) in
+    let segments = map unit_made (segments_of_packet room mid packet) in
+    let later = map unit_made (flat_map (segments_of_packet room mid) packets) in
+    let k = n + length segments in
+    ap (λ l. carried (series_from n l)) (map-append unit_made (segments_of_packet room mid packet) (flat_map (segments_of_packet room mid) packets))
+    ∙ ap carried (series_first n k segments later refl (parts_are_series room mid packet some small (packet_size packet each.0).0))
+    ∙ ap (λ l. l ++ carried (series_from k later)) (packet_carried room mid packet some each.0)
+    ∙ ap (λ l. packet ∷ l) (packets_back room mid k packets some small each.1)

@@ -1,0 +1,88 @@
+-- The segments that the units of a virtual channel without segment headers are: none of them leaves a series incomplete,
+-- and nothing but their tails is amiss.
+use Rattle.std.proofs.Common.{◌≡◌, ℕ, ◌==◌, ◌&&◌, Bool, true, false, if◌then◌else◌, List, [], ◌∷◌, length, map, None, refl, ◌∙◌, ap, arith}
+use Rattle.std.specs.List.{AllByRecursion}
+use Rattle.std.specs.Prelude.{is_none, option_map}
+use Rattle.sl_fields.specs.SegmentHeader.{SegmentFields}
+use Rattle.sl_tcflow.specs.AcceptedUnit.{accepted_units, channel_of, unit_by}
+use Rattle.sl_tcflow.specs.Anomaly.{dropped_of, long_of, octets_held, of_segment, stray_of, NoPlainSeriesIsIncomplete, PlainUnitHasTailAlone}
+use Rattle.sl_tcflow.specs.Incomplete.{are_continuing, if_fits, incomplete_of, passes}
+use Rattle.sl_tcflow.specs.Receiving.{map_by, verdict_on}
+use Rattle.sl_tcflow.specs.Reception.{segments_of}
+use Rattle.sl_tcflow.specs.ReceptionParameters.{is_plain, initial_vr}
+use Rattle.sl_tcflow.specs.Series.{begins_by, continues_by, flags_of, header_at, segment_data, reassembled, segment_in, segments_on, whole_segment, PlainUnitIsWhole}
+use Rattle.sl_fields.proofs.ListLemmas.{each-filter}
+use Rattle.sl_tcflow.proofs.lemmas.Series.Segment.{header_of_unit, octets_of_unit}
+
+-- ---- a segment
+
+pub header_of_whole : (unit : List ℕ) → header_at (whole_segment unit) ≡ record { flags = 3; map = 0 }
+header_of_whole unit = header_of_unit (record { flags = 3; map = 0 }, unit) (record { flags = omega arith; map = omega arith })
+
+flags_of_whole : (unit : List ℕ) → flags_of (whole_segment unit) ≡ 3
+flags_of_whole unit = ap (λ (h : SegmentFields). h.flags) (header_of_whole unit)
+
+pub plain_unit_is_whole : PlainUnitIsWhole
+plain_unit_is_whole unit =
+    record {
+      flags = flags_of_whole unit;
+      map = ap (λ (h : SegmentFields). h.map) (header_of_whole unit);
+      octets = octets_of_unit (record { flags = 3; map = 0 }, unit);
+    }
+
+-- ---- no series is incomplete
+
+abbrev HaveNoSegmentation : List (List ℕ) → Type 0
+HaveNoSegmentation segments = AllByRecursion (λ segment. flags_of segment ≡ 3) segments
+
+each_whole : (units : List (List ℕ)) → HaveNoSegmentation (map whole_segment units)
+each_whole [] = tt
+each_whole (unit ∷ units) = (flags_of_whole unit, each_whole units)
+
+none_incomplete : (segments : List (List ℕ)) → HaveNoSegmentation segments → incomplete_of segments ≡ None
+none_incomplete [] each = refl
+none_incomplete (segment ∷ later) each =
+    ap (λ flags. if flags == 1 && are_continuing later then if_fits (reassembled (segment ∷ later)) else incomplete_of later) each.0
+    ∙ none_incomplete later each.1
+
+none_on : (plain : Bool) (mid : ℕ) (units : List (List ℕ)) → plain ≡ true → incomplete_of (segments_on mid (map (segment_in plain) units)) ≡ None
+none_on false mid units is = absurd (cc)
+none_on true mid units is =
+    let segments = map whole_segment units in
+    none_incomplete (segments_on mid segments)
+    (each-filter (λ segment. flags_of segment ≡ 3) (λ segment. flags_of segment ≡ 3) (λ segment. (header_at segment).map == mid) (λ segment passes is. is) segments (each_whole units))
+
+pub no_plain_series_is_incomplete : NoPlainSeriesIsIncomplete
+no_plain_series_is_incomplete r vc mid views plain =
+    none_on (is_plain r vc) mid (accepted_units r.window (initial_vr r vc) (channel_of vc views)) plain
+
+-- ---- nothing is amiss but the tail
+
+module _ (list : List (List ℕ)) (unit : List ℕ) where
+  not_stray : stray_of list (whole_segment unit) ≡ false
+  not_stray = ap (λ flags. continues_by flags && is_none (incomplete_of list)) (flags_of_whole unit)
+
+  none_dropped : incomplete_of list ≡ None → dropped_of list (whole_segment unit) ≡ None
+  none_dropped none =
+      ap (λ flags. if begins_by flags then octets_held list else None) (flags_of_whole unit) ∙ ap (option_map length) none
+
+  none_long : long_of list (whole_segment unit) ≡ false
+  none_long = ap (λ flags. continues_by flags && passes (octets_held list) (length (segment_data (whole_segment unit)))) (flags_of_whole unit)
+
+-- of the frame's unit, if it is accepted
+told_of_whole : {X : Type 0} (none : X) (told : List ℕ → X) → ((unit : List ℕ) → told (whole_segment unit) ≡ none)
+    → (plain : Bool) (units : List (List ℕ)) → plain ≡ true → of_segment none told (map (segment_in plain) units) ≡ none
+told_of_whole none told nothing false units is = absurd (cc)
+told_of_whole none told nothing true [] is = refl
+told_of_whole none told nothing true (unit ∷ units) is = nothing unit
+
+pub plain_unit_has_tail_alone : PlainUnitHasTailAlone
+plain_unit_has_tail_alone r views next plain =
+    let before = segments_of r next.vc (map_by r next) views in
+    let none : incomplete_of before ≡ None = no_plain_series_is_incomplete r next.vc (map_by r next) views plain in
+    let units = unit_by (verdict_on r views next) next.content in
+    record {
+      stray = told_of_whole false (stray_of before) (λ unit. not_stray before unit) (is_plain r next.vc) units plain;
+      dropped = told_of_whole None (dropped_of before) (λ unit. none_dropped before unit none) (is_plain r next.vc) units plain;
+      long = told_of_whole false (long_of before) (λ unit. none_long before unit) (is_plain r next.vc) units plain;
+    }

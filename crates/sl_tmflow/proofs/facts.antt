@@ -1,0 +1,5 @@
+-- Worked examples, computed from the definitions.
+pub mod Anomaly
+pub mod Incomplete
+pub mod Loss
+pub mod LossEdge

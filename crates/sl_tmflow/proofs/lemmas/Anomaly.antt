@@ -1,0 +1,2 @@
+pub mod Anomaly
+pub mod Seen

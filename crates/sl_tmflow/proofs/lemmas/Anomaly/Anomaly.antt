@@ -1,0 +1,110 @@
+-- Gaps of a channel, and octets of another packet version in a data field: they are told where they are.
+use Rattle.std.proofs.Common.{◌≡◌, ◌≢◌, ℕ, ◌+◌, ◌<◌, ◌≤◌, ◌%◌, ◌==◌, ◌&&◌, ◌||◌, nat_lt, Bool, true, false, not, if◌then◌else◌, List, [], ◌∷◌, ◌++◌, length, drop, None, Some, refl, sym, ◌∙◌, ap, subst, arith, append_assoc, length-drop}
+use Rattle.std.specs.List.{AllByRecursion, concat, list_any}
+use Rattle.std.proofs.lemmas.Bool.Decides.{nat_tests}
+use Rattle.std.proofs.lemmas.List.{drop-drop, drop_at}
+use Rattle.sl_packet.specs.Packet.{version_of, IsPacket}
+use Rattle.sl_packet.specs.Packets.{packets_of, rest_of}
+use Rattle.sl_packet.specs.Front.{is_foreign}
+use Rattle.sl_packet.proofs.PacketLemmas.{packet_least, version_of-append}
+use Rattle.sl_packet.proofs.PacketsLemmas.{each_has_packets}
+use Rattle.sl_tmframe.specs.TmFrame.{DataField, Packets, Idle, Opaque}
+use Rattle.sl_tmflow.specs.Anomaly.{EachForeignStartIsTold, EachGapIsTold, EachToldIsAForeignStart, EachToldIsAGap, foreign_of, gap_after, gap_of}
+use Rattle.sl_tmflow.specs.Channel.{is_consecutive}
+use Rattle.sl_tmflow.specs.ChannelState.{foreign_in}
+use Rattle.sl_tmflow.specs.PacketStart.{IsStart, packet_offsets, starts_from}
+use Rattle.sl_tmflow.proofs.lemmas.Delivery.Channel.{last_count-push}
+use Rattle.sl_tmflow.proofs.lemmas.Places.{some_passes, has_last}
+use Rattle.sl_tmflow.proofs.lemmas.Delivery.Start.{each_is_start, is_among}
+use Rattle.sl_packet.proofs.FrontLemmas.{foreign_true, not_foreign}
+use Rattle.std.proofs.Math.Bool.{or-false}
+
+-- ---- gaps
+
+pub each_gap_is_told : EachGapIsTold
+each_gap_is_told channel next expected x =
+    ap (λ l. gap_of l next) x.in_order ∙ ap (λ c. gap_after c next.vc_count) (last_count-push x.earlier x.last)
+    ∙ ap (λ b. if b then None else Some ((x.last.vc_count + 1) % 256)) x.broken ∙ ap Some (sym x.value)
+
+told_gap : (b : Bool) (n expected : ℕ) → (if b then None else Some n) ≡ Some expected → (b ≡ false) × (expected ≡ n)
+told_gap true n expected e = absurd (cc)
+told_gap false n expected e = (refl, cc)
+
+pub each_told_is_a_gap : EachToldIsAGap
+each_told_is_a_gap [] next expected e = absurd (cc)
+each_told_is_a_gap (view ∷ later) next expected e =
+    let (earlier, last, same) = has_last view later in
+    let told = told_gap (is_consecutive last next) ((last.vc_count + 1) % 256) expected
+    (ap (λ c. gap_after c next.vc_count) (sym (last_count-push earlier last)) ∙ ap (λ l. gap_of l next) (sym same) ∙ e) in
+    record {
+      earlier = earlier;
+      last = last;
+      in_order = same;
+      broken = told.0;
+      value = told.1;
+    }
+
+-- ---- elements that pass a test
+
+any_found : {X : Type 0} (P : X → Type 0) (p : X → Bool) (xs : List X) → AllByRecursion P xs → list_any p xs ≡ true → (x : X) × P x × (p x ≡ true)
+any_found P p [] each e = absurd (cc)
+any_found P p (x ∷ xs) each e = cases (p x) refl e (any_found P p xs each.1)
+  where
+    cases : (b : Bool) → p x ≡ b → (b || list_any p xs) ≡ true → (list_any p xs ≡ true → (y : _) × P y × (p y ≡ true)) → (y : _) × P y × (p y ≡ true)
+    cases true here any later = (x, each.0, here)
+    cases false here any later = later any
+
+-- ---- octets of another version
+
+foreign_test : (n version : ℕ) → 0 < n → version ≢ 0 → (nat_lt 0 n && not (version == 0)) ≡ true
+foreign_test n version some other = grind (arith, nat_tests)
+
+pub each_foreign_start_is_told : EachForeignStartIsTold
+each_foreign_start_is_told field x =
+    let inside = x.is_start.inside in
+    let some : 0 < length (drop x.start x.octets) = omega (arith, length-drop x.start x.octets) in
+    subst (λ f. foreign_of f ≡ true) (sym x.carries)
+    (some_passes (λ start. is_foreign (drop start x.octets)) x.start (starts_from x.first x.octets) (is_among x.octets x.first x.start x.is_start)
+    (foreign_test (length (drop x.start x.octets)) (version_of (drop x.start x.octets)) some x.version))
+
+pub each_told_is_a_foreign_start : EachToldIsAForeignStart
+each_told_is_a_foreign_start (Packets first octets) e =
+    let (start, is_start, told) =
+    any_found (IsStart octets first) (λ start. is_foreign (drop start octets)) (starts_from first octets) (each_is_start first octets) e in
+    record {
+      first = first;
+      octets = octets;
+      carries = refl;
+      start = start;
+      is_start = is_start;
+      version = (foreign_true (length (drop start octets)) (version_of (drop start octets)) told).1;
+    }
+each_told_is_a_foreign_start Idle e = absurd (cc)
+each_told_is_a_foreign_start Opaque e = absurd (cc)
+
+-- a packet is of version 0
+packet_not_foreign : (packet more : List ℕ) → IsPacket packet → is_foreign (packet ++ more) ≡ false
+packet_not_foreign packet more p =
+    let some : 1 ≤ length packet = omega (arith, packet_least packet p) in
+    not_foreign (length (packet ++ more)) (version_of (packet ++ more)) (version_of-append packet more some ∙ p.version)
+
+foreign_offsets : (octets : List ℕ) (offset : ℕ) (packets : List (List ℕ)) (rest : List ℕ) → AllByRecursion IsPacket packets → drop offset octets ≡ concat packets ++ rest
+    → list_any (λ start. is_foreign (drop start octets)) (packet_offsets offset packets rest) ≡ is_foreign rest
+foreign_offsets octets offset [] [] each parts = refl
+foreign_offsets octets offset [] (octet ∷ rest) each parts = or-false (is_foreign (drop offset octets)) ∙ ap is_foreign parts
+foreign_offsets octets offset (packet ∷ packets) rest each parts =
+    let later : drop offset octets ≡ packet ++ (concat packets ++ rest) = parts ∙ append_assoc packet (concat packets) rest in
+    let behind : drop (offset + length packet) octets ≡ concat packets ++ rest =
+    sym (drop-drop (length packet) offset octets) ∙ ap (drop (length packet)) later ∙ drop_at packet (concat packets ++ rest) (length packet) refl in
+    ap (λ b. b || list_any (λ start. is_foreign (drop start octets)) (packet_offsets (offset + length packet) packets rest))
+    (ap is_foreign later ∙ packet_not_foreign packet (concat packets ++ rest) each.0)
+    ∙ foreign_offsets octets (offset + length packet) packets rest each.1 behind
+
+-- what may be of another version is what packets leave
+pub foreign_is : (field : DataField) → foreign_of field ≡ foreign_in field
+foreign_is (Packets None octets) = refl
+foreign_is (Packets (Some pointer) octets) =
+    let has = each_has_packets (drop pointer octets) in
+    foreign_offsets octets pointer (packets_of (drop pointer octets)) (rest_of (drop pointer octets)) has.each has.end_to_end
+foreign_is Idle = refl
+foreign_is Opaque = refl

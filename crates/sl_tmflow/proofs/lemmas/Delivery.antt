@@ -1,0 +1,11 @@
+pub mod AtStarts
+pub mod Channel
+pub mod Delivery
+pub mod End
+pub mod Handed
+pub mod OneMore
+pub mod Outcome
+pub mod Push
+pub mod Recording
+pub mod Start
+pub mod Step

@@ -1,0 +1,236 @@
+-- What is kept of a channel is what its frames leave, frame by frame.
+use Rattle.std.proofs.Common.{◌≡◌, ℕ, ◌<◌, ◌≤◌, ◌==◌, nat_eq, Bool, true, false, if◌then◌else◌, List, [], ◌∷◌, ◌++◌, length, take, drop, set, Option, None, Some, Result, inl, inr, refl, sym, ◌∙◌, ap, subst, arith, append-nil}
+use Rattle.std.specs.List.{flat_map, slice_index_or}
+use Rattle.std.specs.Option.{option_eq}
+use Rattle.std.proofs.lemmas.Bool.Decides.{eqb_tells}
+use Rattle.std.proofs.lemmas.List.{get_or_default, get_or-set_same, get_or-set_other}
+use Rattle.std.proofs.lemmas.List.Elements.{filter-append}
+use Rattle.sl_packet.specs.Front.{Front, OtherVersion, Incomplete, WholePacket, front}
+use Rattle.sl_packet.specs.Packets.{rest_of}
+use Rattle.sl_packet.specs.Stopping.{HandsOver}
+use Rattle.sl_packet.specs.declared.flow_fault.FlowFault.{FlowFault}
+use Rattle.sl_packet.specs.declared.sink.SinkFault.{SinkFault}
+use Rattle.sl_packet.proofs.StoppingLemmas.{hands_same}
+use Rattle.sl_tmframe.specs.TmFrame.{TmView, DataField, Packets, Idle, Opaque}
+use Rattle.sl_tmflow.specs.Channel.{channel_of, follows, last_count, packet_data}
+use Rattle.sl_tmflow.specs.ChannelState.{ChannelState, no_frame, held_step, kept_of, kept_octets, incomplete_in, held_after, state_after, packets_after}
+use Rattle.sl_tmflow.specs.Delivery.{Continuation, Ends, Continues, Breaks, agreeing_pointer, ended, field_step, front_step, outcome_of, outcome_of_front, packets_ending, step_of}
+use Rattle.sl_tmflow.specs.Incomplete.{frame_incomplete, incomplete_octets}
+use Rattle.sl_tmflow.specs.Extraction.{ExtractorState, HasSeen, HasProcessed, ended_by, held_as}
+use Rattle.sl_tmflow.specs.PacketStart.{whole_packets}
+use Rattle.sl_tmflow.specs.StepReport.{StepReport, counts_of}
+use Rattle.sl_tmflow.proofs.lemmas.Delivery.AtStarts.{at_rest}
+use Rattle.sl_tmflow.proofs.lemmas.Incomplete.List.{incomplete_of_idle, incomplete_of_opaque, incomplete_without_pointer, incomplete_from_pointer}
+use Rattle.sl_tmflow.proofs.lemmas.Delivery.OneMore.{carried, carried_into, incomplete_first, incomplete_next, ending_first, ending_next}
+
+-- ---- the last frame of a channel
+
+abbrev pub EndsWith : List TmView → Type 0
+EndsWith channel = (before : List TmView) × (last : TmView) × (channel ≡ before ++ last ∷ [])
+
+ends_with : (view : TmView) (later : List TmView) → EndsWith (view ∷ later)
+ends_with view [] = ([], view, refl)
+ends_with view (next ∷ later) =
+    let w = ends_with next later in (view ∷ w.0, w.1, ap (λ l. view ∷ l) w.2)
+
+pub last_count-push : (before : List TmView) (last : TmView) → last_count (before ++ last ∷ []) ≡ Some last.vc_count
+last_count-push [] last = refl
+last_count-push (view ∷ []) last = refl
+last_count-push (view ∷ next ∷ before) last = last_count-push (next ∷ before) last
+
+-- ---- the packets that end in the next frame
+
+ended_held : (last next : TmView) (held : List ℕ)
+    → flat_map (λ octets. ended (step_of last octets next)) (held_as held) ≡ ended (held_step (Some last.vc_count) held next)
+ended_held last next [] = refl
+ended_held last next (octet ∷ octets) = append-nil (ended (step_of last (octet ∷ octets) next))
+
+one_more_after : (state : ChannelState) (before : List TmView) (last next : TmView) → HasSeen state (before ++ last ∷ [])
+    → packets_ending (before ++ last ∷ []) next ≡ packets_after state next
+one_more_after state before last next s =
+    let whole = whole_packets next.field in
+    ending_next before last next
+    ∙ ap (λ l. flat_map (λ octets. ended (step_of last octets next)) l ++ whole) (sym s.held)
+    ∙ ap (λ l. l ++ whole) (ended_held last next state.held)
+    ∙ ap (λ c. ended (held_step c state.held next) ++ whole) (sym (s.count ∙ last_count-push before last))
+
+pub one_more : (state : ChannelState) (channel : List TmView) (next : TmView) → HasSeen state channel → packets_ending channel next ≡ packets_after state next
+one_more state [] next s = ending_first next ∙ ap (λ c. ended (held_step c state.held next) ++ whole_packets next.field) (sym s.count)
+one_more state (view ∷ later) next s =
+    let w = ends_with view later in
+    ap (λ l. packets_ending l next) w.2 ∙ one_more_after state w.0 w.1 next (subst (HasSeen state) w.2 s)
+
+-- ---- what is held
+
+goes_on : (s : Continuation) (octet : ℕ) (octets : List ℕ) → carried s (octet ∷ octets) ++ [] ≡ held_as (kept_of s (octet ∷ octets))
+goes_on (Ends packet) octet octets = refl
+goes_on Continues octet octets = refl
+goes_on Breaks octet octets = refl
+
+carried_held : (last next : TmView) (held : List ℕ)
+    → flat_map (carried_into last next) (held_as held) ≡ held_as (kept_octets (held_step (Some last.vc_count) held next) held next)
+carried_held last next [] = refl
+carried_held last next (octet ∷ octets) = goes_on (step_of last (octet ∷ octets) next) octet (octets ++ packet_data next)
+
+-- where a packet starts, the one that was incomplete doesn't go on
+
+ends_or_breaks : (b : Bool) (packet octets : List ℕ) → kept_of (if b then Ends packet else Breaks) octets ≡ []
+ends_or_breaks true packet octets = refl
+ends_or_breaks false packet octets = refl
+
+not_past_start : (pointer before : ℕ) (field all : List ℕ) (f : Front) → kept_of (front_step (Some pointer) before field all f) all ≡ []
+not_past_start pointer before field all OtherVersion = refl
+not_past_start pointer before field all Incomplete = refl
+not_past_start pointer before field all (WholePacket len) = ends_or_breaks (option_eq nat_eq (Some pointer) (agreeing_pointer len before field)) (take len all) all
+
+if_follows : (b : Bool) (s : Continuation) (octets : List ℕ) → kept_of s octets ≡ [] → kept_of (if b then s else Breaks) octets ≡ []
+if_follows true s octets none = none
+if_follows false s octets none = refl
+
+none_kept : (count : Option ℕ) (held : List ℕ) (next : TmView) (pointer : ℕ) (octets : List ℕ) → next.field ≡ Packets (Some pointer) octets
+    → kept_octets (held_step count held next) held next ≡ []
+none_kept None held next pointer octets is = refl
+none_kept (Some count) [] next pointer octets is = refl
+none_kept (Some count) (octet ∷ held) next pointer octets is =
+    let before = octet ∷ held in
+    let all = before ++ octets in
+    if_follows (follows count next.vc_count) (field_step before next.field) (before ++ packet_data next)
+    (rw is (not_past_start pointer (length before) octets all (front all)))
+
+-- what starts in the frame
+
+none_incomplete : (f : Front) → incomplete_in f [] ≡ []
+none_incomplete OtherVersion = refl
+none_incomplete Incomplete = refl
+none_incomplete (WholePacket len) = refl
+
+rest_held : (view : TmView) (octet : ℕ) (rest : List ℕ) (f : Front) → held_as (incomplete_in f (octet ∷ rest)) ≡ incomplete_octets (outcome_of_front f view (octet ∷ rest) [])
+rest_held view octet rest OtherVersion = refl
+rest_held view octet rest Incomplete = refl
+rest_held view octet rest (WholePacket len) = refl
+
+held_at_rest : (view : TmView) (rest : List ℕ) → held_as (incomplete_in (front rest) rest) ≡ at_rest (λ l. incomplete_octets (outcome_of view l [])) rest
+held_at_rest view [] = ap held_as (none_incomplete (front []))
+held_at_rest view (octet ∷ rest) = rest_held view octet rest (front (octet ∷ rest))
+
+incomplete_in_field : (view : TmView) (field : DataField) (kept : List ℕ) → view.field ≡ field
+    → ((pointer : ℕ) (octets : List ℕ) → field ≡ Packets (Some pointer) octets → kept ≡ [])
+    → held_as (held_after field kept) ≡ held_as kept ++ frame_incomplete view []
+incomplete_in_field view (Packets None octets) kept is none =
+    sym (ap (λ l. held_as kept ++ l) (incomplete_without_pointer view [] octets is) ∙ append-nil (held_as kept))
+incomplete_in_field view (Packets (Some pointer) octets) kept is none =
+    held_at_rest view (rest_of (drop pointer octets)) ∙ sym (incomplete_from_pointer view [] pointer octets is)
+    ∙ ap (λ l. held_as l ++ frame_incomplete view []) (sym (none pointer octets refl))
+incomplete_in_field view Idle kept is none = sym (ap (λ l. held_as kept ++ l) (incomplete_of_idle view [] is) ∙ append-nil (held_as kept))
+incomplete_in_field view Opaque kept is none = sym (ap (λ l. held_as kept ++ l) (incomplete_of_opaque view [] is) ∙ append-nil (held_as kept))
+
+held_by_frame : (count : Option ℕ) (held : List ℕ) (next : TmView)
+    → held_as (held_after next.field (kept_octets (held_step count held next) held next))
+    ≡ held_as (kept_octets (held_step count held next) held next) ++ frame_incomplete next []
+held_by_frame count held next =
+    incomplete_in_field next next.field (kept_octets (held_step count held next) held next) refl (λ pointer octets is. none_kept count held next pointer octets is)
+
+-- ---- one frame more
+
+seen_first : (state : ChannelState) (next : TmView) → HasSeen state [] → HasSeen (state_after state next) (next ∷ [])
+seen_first state next s =
+    record {
+      count = refl;
+      held =
+          held_by_frame state.count state.held next
+          ∙ ap (λ c. held_as (kept_octets (held_step c state.held next) state.held next) ++ frame_incomplete next []) s.count
+          ∙ sym (incomplete_first next);
+    }
+
+seen_next : (state : ChannelState) (before : List TmView) (last next : TmView) → HasSeen state (before ++ last ∷ [])
+    → HasSeen (state_after state next) ((before ++ last ∷ []) ++ next ∷ [])
+seen_next state before last next s =
+    record {
+      count = sym (last_count-push (before ++ last ∷ []) next);
+      held =
+          held_by_frame state.count state.held next
+          ∙ ap (λ c. held_as (kept_octets (held_step c state.held next) state.held next) ++ frame_incomplete next []) (s.count ∙ last_count-push before last)
+          ∙ ap (λ l. l ++ frame_incomplete next []) (sym (carried_held last next state.held))
+          ∙ ap (λ l. flat_map (carried_into last next) l ++ frame_incomplete next []) s.held
+          ∙ sym (incomplete_next before last next);
+    }
+
+pub seen_more : (state : ChannelState) (channel : List TmView) (next : TmView) → HasSeen state channel → HasSeen (state_after state next) (channel ++ next ∷ [])
+seen_more state [] next s = seen_first state next s
+seen_more state (view ∷ later) next s =
+    let w = ends_with view later in
+    subst (λ l. HasSeen (state_after state next) (l ++ next ∷ [])) (sym w.2) (seen_next state w.0 w.1 next (subst (HasSeen state) w.2 s))
+
+-- ---- one of the channels
+
+pub same_seen : (vc : ℕ) (views : List TmView) (next : TmView) → next.vc ≡ vc → channel_of vc (views ++ next ∷ []) ≡ channel_of vc views ++ next ∷ []
+same_seen vc views next same =
+    filter-append (λ view. view.vc == vc) views (next ∷ [])
+    ∙ elim (eqb_tells next.vc vc) [
+      | inl (test, is) ↦ rw (test) refl
+      | inr (test, other) ↦ absurd (other same)
+    ]
+
+pub other_seen : (vc : ℕ) (views : List TmView) (next : TmView) → (next.vc ≡ vc → ⊥) → channel_of vc (views ++ next ∷ []) ≡ channel_of vc views
+other_seen vc views next other =
+    filter-append (λ view. view.vc == vc) views (next ∷ [])
+    ∙ elim (eqb_tells next.vc vc) [
+      | inl (test, is) ↦ absurd (other is)
+      | inr (test, not) ↦ rw (test) (append-nil (channel_of vc views))
+    ]
+
+-- what was seen of each channel, where one of them has a frame more
+pub each_seen : (states : List ChannelState) (views : List TmView) (next : TmView) → next.vc < length states
+    → (vc : ℕ) → HasSeen (slice_index_or states vc no_frame) (channel_of vc views)
+    → HasSeen (slice_index_or (set states next.vc (state_after (slice_index_or states next.vc no_frame) next)) vc no_frame) (channel_of vc (views ++ next ∷ []))
+each_seen states views next inside vc s =
+    let after = state_after (slice_index_or states next.vc no_frame) next in
+    elim (eqb_tells next.vc vc) [
+      | inl (test, same) ↦
+          subst (λ c. HasSeen (slice_index_or (set states next.vc after) c no_frame) (channel_of c (views ++ next ∷ []))) same
+          (rw (get_or-set_same states next.vc after no_frame inside, same_seen next.vc views next refl)
+          (seen_more (slice_index_or states next.vc no_frame) (channel_of next.vc views) next
+          (subst (λ c. HasSeen (slice_index_or states c no_frame) (channel_of c views)) (sym same) s)))
+      | inr (test, other) ↦
+          rw (get_or-set_other states next.vc vc after no_frame (λ e. other (sym e)), other_seen vc views next other) s
+    ]
+
+-- ---- all of them
+
+-- of the channel of a number
+pub seen_at : (old : ExtractorState) (views : List TmView) (states : List ChannelState) (at vc : ℕ) (d : ChannelState) → HasProcessed old views → states ≡ old.channels
+    → length states ≡ 8 → vc ≤ 7 → at ≡ vc → HasSeen (slice_index_or states at d) (channel_of vc views)
+seen_at old views states at vc d p are eight fits same =
+    let inside : vc < length states = omega arith in
+    let seen : HasSeen (slice_index_or states vc no_frame) (channel_of vc views) =
+    subst (λ l. HasSeen (slice_index_or l vc no_frame) (channel_of vc views)) (sym are) (p.each vc (omega arith)) in
+    subst (λ i. HasSeen (slice_index_or states i d) (channel_of vc views)) (sym same)
+    (subst (λ s. HasSeen s (channel_of vc views)) (get_or_default states vc no_frame d inside) seen)
+
+module _ (old : ExtractorState) (views : List TmView) (next : TmView) (states : List ChannelState) (at : ℕ) (d : ChannelState) where
+  pub ended_now : HasProcessed old views → states ≡ old.channels → length states ≡ 8 → next.vc ≤ 7 → at ≡ next.vc
+      → ended_by views next ≡ packets_after (slice_index_or states at d) next
+  ended_now p are eight fits same =
+      one_more (slice_index_or states at d) (channel_of next.vc views) next (seen_at old views states at next.vc d p are eight fits same)
+
+  -- so a step that hands over the packets after that state hands over those that end in the frame
+  pub handed_now : {S : Type 0} {taking : S → ℕ → List ℕ → S → Type 0} {failing : S → ℕ → List ℕ → SinkFault → S → Type 0} {failures : S → ℕ}
+      {sink sink' : S} {channel : ℕ} {result : Result StepReport FlowFault} → states ≡ old.channels → length states ≡ 8 → next.vc ≤ 7 → at ≡ next.vc
+      → HandsOver taking failing failures counts_of sink channel (packets_after (slice_index_or states at d) next) result sink'
+      → HasProcessed old views → HandsOver taking failing failures counts_of sink channel (ended_by views next) result sink'
+  handed_now are eight fits same handed p = hands_same refl (sym (ended_now p are eight fits same)) handed
+
+  pub processed_more : (after : ChannelState) → HasProcessed old views → states ≡ old.channels → length states ≡ 8 → next.vc ≤ 7 → at ≡ next.vc
+      → after ≡ state_after (slice_index_or states at d) next
+      → HasProcessed (record { channels = set states at after; has_failed = false }) (views ++ next ∷ [])
+  processed_more after p are eight fits same by =
+      let inside : next.vc < length states = omega arith in
+      let now : after ≡ state_after (slice_index_or states next.vc no_frame) next =
+      by ∙ ap (λ i. state_after (slice_index_or states i d) next) same ∙ ap (λ s. state_after s next) (get_or_default states next.vc d no_frame inside) in
+      record {
+        working = refl;
+        each = λ vc below.
+            let seen : HasSeen (slice_index_or states vc no_frame) (channel_of vc views) =
+            subst (λ l. HasSeen (slice_index_or l vc no_frame) (channel_of vc views)) (sym are) (p.each vc below) in
+            rw (same, now) (each_seen states views next inside vc seen);
+      }

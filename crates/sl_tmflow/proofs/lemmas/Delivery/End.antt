@@ -1,0 +1,248 @@
+-- Packets in the order of their starts are in the order of their ends, and no two share an octet.
+use Rattle.std.proofs.Common.{◌≡◌, ℕ, ◌+◌, ◌-◌, ◌<◌, ◌≤◌, nat_lt, Bool, true, false, if◌then◌else◌, List, [], ◌∷◌, ◌++◌, length, take, drop, map, Option, None, Some, inl, inr, refl, sym, ◌∙◌, ap, subst, arith, length-append, length-drop, append-nil, append_assoc}
+use Rattle.std.proofs.lemmas.Bool.{cases_lt}
+use Rattle.std.proofs.lemmas.List.{append_cancel_left, length_push, take-append-drop, take-append-le, take_at, nil_from_length}
+use Rattle.std.specs.List.{AllByRecursion, concat}
+use Rattle.sl_packet.specs.Packet.{IsPacket}
+use Rattle.sl_packet.specs.Front.{Incomplete, WholePacket, front}
+use Rattle.sl_packet.specs.Packets.{packets_of, rest_of}
+use Rattle.sl_packet.proofs.PacketLemmas.{one_packet}
+use Rattle.sl_packet.proofs.PacketsLemmas.{rest_of-concat, rest_of-none}
+use Rattle.sl_tmframe.specs.TmFrame.{TmView, DataField, Packets}
+use Rattle.sl_tmflow.specs.Channel.{data_of, packet_data, reassembly}
+use Rattle.sl_tmflow.specs.PacketStart.{IsStart}
+use Rattle.sl_tmflow.specs.Delivery.{IsDeliveredBy, Delivery, IsDelivery, EndsAreInOrder, EachEndsByTheNextStart, start_offset, NoneOverlap}
+use Rattle.sl_tmflow.specs.Incomplete.{HasNoStart}
+use Rattle.sl_tmflow.proofs.lemmas.Places.{same_place}
+use Rattle.sl_tmflow.proofs.lemmas.Incomplete.Incomplete.{reassembly-append, reassembly-push}
+use Rattle.sl_tmflow.proofs.lemmas.Delivery.Outcome.{delivered_tail, incomplete_before_more, delivered_goes_on}
+use Rattle.std.proofs.lemmas.Option.{same_Some}
+
+-- ---- lists that begin alike
+
+-- of two beginnings of a list the longer one begins with the other
+pub longer_begins : {X : Type 0} (xs zs ys ws : List X) → ys ++ ws ≡ xs ++ zs → length xs ≤ length ys → (more : List X) × (ys ≡ xs ++ more) × (zs ≡ more ++ ws)
+longer_begins xs zs ys ws same fewer =
+    let n = length xs in
+    let first : take n ys ≡ xs = sym (take-append-le n ys ws fewer) ∙ ap (take n) same ∙ take_at xs zs n refl in
+    let split : ys ≡ xs ++ drop n ys = sym (take-append-drop n ys) ∙ ap (λ l. l ++ drop n ys) first in (
+      drop n ys,
+      split,
+      append_cancel_left xs zs (drop n ys ++ ws) (sym same ∙ ap (λ l. l ++ ws) split ∙ append_assoc xs (drop n ys) ws),
+    )
+
+-- ---- in one frame
+
+-- what packets leave from a start on is what they leave from the pointer on
+rest_from_start : (octets : List ℕ) (first : Option ℕ) (start : ℕ) (s : IsStart octets first start)
+    → rest_of (drop s.pointer octets) ≡ rest_of (drop start octets)
+rest_from_start octets first start s = ap rest_of s.end_to_end ∙ rest_of-concat s.before (drop start octets) s.packets
+
+rest_within : (octets : List ℕ) → length (rest_of octets) ≤ length octets
+rest_within octets = omega (arith, length-drop (length (concat (packets_of octets))) octets)
+
+-- where another packet starts later in the field, a packet is whole
+pub not_last_is_whole : (octets : List ℕ) (first : Option ℕ) (start later : ℕ)
+    → IsStart octets first start → IsStart octets first later → start < later → front (drop start octets) ≡ Incomplete → ⊥
+not_last_is_whole octets first start later s t less incomplete =
+    let none = λ (len : ℕ) (whole : front (drop start octets) ≡ WholePacket len). let both : Incomplete ≡ WholePacket len = sym incomplete ∙ whole in absurd (cc) in
+    let pointers : s.pointer ≡ t.pointer = same_Some s.pointer t.pointer (sym s.pointed ∙ t.pointed) in
+    let all : drop start octets ≡ rest_of (drop later octets) =
+    sym (rest_of-none (drop start octets) none) ∙ sym (rest_from_start octets first start s)
+    ∙ ap (λ p. rest_of (drop p octets)) pointers ∙ rest_from_start octets first later t in
+    let inside = t.inside in
+    omega (arith, ap length all, rest_within (drop later octets), length-drop start octets, length-drop later octets)
+
+-- so it is delivered in its frame
+ends_in_its_frame : (view : TmView) (octets : List ℕ) (first : Option ℕ) (start later : ℕ) (run : List TmView) (packet : List ℕ) → IsStart octets first start
+    → IsStart octets first later → start < later → IsDeliveredBy view (drop start octets) run packet → length run ≡ 0
+ends_in_its_frame view octets first start later [] packet s t less d = refl
+ends_in_its_frame view octets first start later (next ∷ run) packet s t less d =
+    absurd (not_last_is_whole octets first start later s t less (incomplete_before_more view (drop start octets) next run packet d))
+
+-- ---- in later frames
+
+-- no packet starts in a frame before the last one of a run
+no_start_before_last : (view : TmView) (octets : List ℕ) (earlier : List TmView) (next second : TmView) (run : List TmView) (packet : List ℕ)
+    → IsDeliveredBy view octets (earlier ++ next ∷ second ∷ run) packet → HasNoStart next
+no_start_before_last view octets [] next second run packet d = (delivered_goes_on view octets next second run packet d).no_start
+no_start_before_last view octets (v ∷ earlier) next second run packet d =
+    no_start_before_last v (octets ++ packet_data v) earlier next second run packet (delivered_tail view octets v (earlier ++ next ∷ second ∷ run) packet d)
+
+-- ---- of two deliveries
+
+pub at_start : (x : DataField) (first : Option ℕ) (octets : List ℕ) (first' : Option ℕ) (octets' : List ℕ)
+    → x ≡ Packets first octets → x ≡ Packets first' octets' → (first' ≡ first) × (octets' ≡ octets)
+at_start x first octets first' octets' is is' = let same : Packets first octets ≡ Packets first' octets' = sym is ∙ is' in (cc, cc)
+
+-- the channel from a delivery's frame on
+from_frame : (channel : List TmView) (d : Delivery) (x : IsDelivery channel d) → channel ≡ x.before ++ x.view ∷ (x.run ++ x.after)
+from_frame channel d x = x.in_order ∙ append_assoc x.before (x.view ∷ x.run) x.after
+
+-- in one frame, the other packet's start is one of the same data field
+start_in_frame : (channel : List TmView) (d e : Delivery) (x : IsDelivery channel d) → IsDelivery channel e → d.frame ≡ e.frame
+    → IsStart x.octets x.first e.start
+start_in_frame channel d e x y same =
+    let view : x.view ≡ y.view =
+    (same_place x.before y.before x.view y.view (x.run ++ x.after) (y.run ++ y.after) (sym (from_frame channel d x) ∙ from_frame channel e y)
+    (omega (arith, x.frame, y.frame))).0 in
+    let (first, octets) = at_start x.view.field x.first x.octets y.first y.octets x.field (ap (λ v. v.field) view ∙ y.field) in
+    subst (λ o. IsStart o x.first e.start) octets (subst (λ f. IsStart y.octets f e.start) first y.start)
+
+in_one_frame : (channel : List TmView) (d e : Delivery)
+    → IsDelivery channel d → IsDelivery channel e → d.frame ≡ e.frame → d.start < e.start → d.ending ≤ e.frame
+in_one_frame channel d e x y same less =
+    let start = start_in_frame channel d e x y same in
+    let here = ends_in_its_frame x.view x.octets x.first d.start e.start x.run d.packet x.start start less x.delivered in
+    omega (arith, x.ending)
+
+-- a frame within the run of a delivery and before its last one
+within_run : (view : TmView) (octets : List ℕ) (run after : List TmView) (packet : List ℕ) (earlier : List TmView) (next : TmView) (later : List TmView)
+    → IsDeliveredBy view octets run packet → run ++ after ≡ earlier ++ next ∷ later → length earlier + 1 < length run → HasNoStart next
+within_run view octets run after packet earlier next later d same before =
+    let (more, is, rest) = longer_begins (earlier ++ next ∷ []) later run after
+    (same ∙ sym (append_assoc earlier (next ∷ []) later)) (omega (arith, length_push earlier next)) in
+    let run_is : run ≡ earlier ++ next ∷ more = is ∙ append_assoc earlier (next ∷ []) more in
+    cases more (omega (arith, ap length is, length_push earlier next, length-append (earlier ++ next ∷ []) more))
+    (subst (λ r. IsDeliveredBy view octets r packet) run_is d)
+  where
+    cases : (more : List TmView) → 0 < length more → IsDeliveredBy view octets (earlier ++ next ∷ more) packet → HasNoStart next
+    cases [] some d = absurd (omega arith)
+    cases (second ∷ more) some d = no_start_before_last view octets earlier next second more packet d
+
+-- the frames between the starts of two packets
+frames_between : (channel : List TmView) (d e : Delivery) (x : IsDelivery channel d) (y : IsDelivery channel e) → d.frame < e.frame
+    → (earlier : List TmView) × (y.before ≡ (x.before ++ x.view ∷ []) ++ earlier) × (x.run ++ x.after ≡ earlier ++ y.view ∷ (y.run ++ y.after))
+frames_between channel d e x y less =
+    longer_begins (x.before ++ x.view ∷ []) (x.run ++ x.after) y.before (y.view ∷ (y.run ++ y.after))
+    (sym (from_frame channel e y) ∙ from_frame channel d x ∙ sym (append_assoc x.before (x.view ∷ []) (x.run ++ x.after)))
+    (omega (arith, x.frame, y.frame, length_push x.before x.view))
+
+-- a packet never ends after a later frame in which another one starts
+ended_by_then : (channel : List TmView) (d e : Delivery) → IsDelivery channel d → IsDelivery channel e → d.frame < e.frame → e.frame < d.ending → ⊥
+ended_by_then channel d e x y less over =
+    let (earlier, is, rest) = frames_between channel d e x y less in
+    let none : y.first ≡ None = within_run x.view (drop d.start x.octets) x.run x.after d.packet earlier y.view (y.run ++ y.after) x.delivered rest
+    (omega (arith, x.frame, y.frame, x.ending, ap length is, length_push x.before x.view, length-append (x.before ++ x.view ∷ []) earlier))
+    y.first y.octets y.field in
+    let both : Some y.start.pointer ≡ None = sym y.start.pointed ∙ none in
+    cc
+
+in_later_frame : (channel : List TmView) (d e : Delivery) → IsDelivery channel d → IsDelivery channel e → d.frame < e.frame → d.ending ≤ e.frame
+in_later_frame channel d e x y less =
+    elim (cases_lt e.frame d.ending) [
+      | inl over ↦ absurd (ended_by_then channel d e x y less over)
+      | inr by_then ↦ by_then
+    ]
+
+pub each_ends_by_the_next_start : EachEndsByTheNextStart
+each_ends_by_the_next_start channel d e x y (inl less) = in_later_frame channel d e x y less
+each_ends_by_the_next_start channel d e x y (inr same) = in_one_frame channel d e x y same.0 same.1
+
+pub ends_are_in_order : EndsAreInOrder
+ends_are_in_order channel d e x y before = omega (arith, each_ends_by_the_next_start channel d e x y before, y.ending)
+
+-- ---- places
+
+-- of packets that lie end to end, one that starts before another start ends before it, or at it
+ends_by_offset : (before others : List (List ℕ)) (packet more rest : List ℕ) → AllByRecursion IsPacket before → AllByRecursion IsPacket others → IsPacket packet
+    → concat before ++ (packet ++ more) ≡ concat others ++ rest → length (concat before) < length (concat others)
+    → length (concat before) + length packet ≤ length (concat others)
+ends_by_offset before [] packet more rest done each p same less = absurd (omega arith)
+ends_by_offset [] (other ∷ others) packet more rest done each p same less =
+    let is : packet ≡ other = one_packet packet other more (concat others ++ rest) p each.0 (same ∙ append_assoc other (concat others) rest) in
+    omega (arith, ap length is, length-append other (concat others))
+ends_by_offset (first ∷ before) (other ∷ others) packet more rest done each p same less =
+    let left = concat before ++ (packet ++ more) in
+    let right = concat others ++ rest in
+    let split : first ++ left ≡ other ++ right = sym (append_assoc first (concat before) (packet ++ more)) ∙ same ∙ append_assoc other (concat others) rest in
+    let is : first ≡ other = one_packet first other left right done.0 each.0 split in
+    let next : left ≡ right = append_cancel_left first left right (split ∙ ap (λ l. l ++ right) (sym is)) in
+    let long : length first ≡ length other = ap length is in
+    let first_long = length-append first (concat before) in
+    let other_long = length-append other (concat others) in
+    let later = ends_by_offset before others packet more rest done.1 each.1 p next (omega arith) in
+    omega arith
+
+ends_by_start : (octets : List ℕ) (first : Option ℕ) (start later : ℕ) (packet more : List ℕ) → IsStart octets first start → IsStart octets first later → start < later
+    → IsPacket packet → packet ++ more ≡ drop start octets → start + length packet ≤ later
+ends_by_start octets first start later packet more s t less p begins =
+    let pointers : s.pointer ≡ t.pointer = same_Some s.pointer t.pointer (sym s.pointed ∙ t.pointed) in
+    let same : concat s.before ++ (packet ++ more) ≡ concat t.before ++ drop later octets =
+    ap (λ l. concat s.before ++ l) begins ∙ sym s.end_to_end ∙ ap (λ n. drop n octets) pointers ∙ t.end_to_end in
+    let here = s.here in
+    let there = t.here in
+    let offset = ends_by_offset s.before t.before packet more (drop later octets) s.packets t.packets p same (omega arith) in
+    omega arith
+
+-- the octets of a packet that is delivered in its own frame
+begins_in_frame : (view : TmView) (octets : List ℕ) (run : List TmView) (packet : List ℕ) (d : IsDeliveredBy view octets run packet) → length run ≡ 0
+    → packet ++ d.ends.0 ≡ octets
+begins_in_frame view octets run packet d none =
+    d.ends.1 ∙ ap (reassembly octets) (nil_from_length run none) ∙ append-nil octets
+
+apart_in_one_frame : (channel : List TmView) (d e : Delivery) → IsDelivery channel d → IsDelivery channel e → d.frame ≡ e.frame → d.start < e.start
+    → start_offset channel d + length d.packet ≤ start_offset channel e
+apart_in_one_frame channel d e x y same less =
+    let start = start_in_frame channel d e x y same in
+    let here = ends_in_its_frame x.view x.octets x.first d.start e.start x.run d.packet x.start start less x.delivered in
+    let past = ends_by_start x.octets x.first d.start e.start d.packet x.delivered.ends.0 x.start start less x.delivered.is_packet
+    (begins_in_frame x.view (drop d.start x.octets) x.run d.packet x.delivered here) in
+    omega (arith, past, ap (λ n. length (reassembly [] (take n channel))) same)
+
+-- the offset of a delivery's start, by the frames before it
+offset_is : (channel : List TmView) (d : Delivery) (x : IsDelivery channel d) → start_offset channel d ≡ length (reassembly [] x.before) + d.start
+offset_is channel d x =
+    let before : take d.frame channel ≡ x.before =
+    ap (λ l. take d.frame l) (from_frame channel d x) ∙ ap (λ n. take n (x.before ++ x.view ∷ (x.run ++ x.after))) x.frame
+    ∙ take_at x.before (x.view ∷ (x.run ++ x.after)) (length x.before) refl in
+    ap (λ l. length (reassembly [] l) + d.start) before
+
+agreeing_some : (ends : Bool) (place pointer : ℕ) → (if ends then Some place else None) ≡ Some pointer → place ≡ pointer
+agreeing_some true place pointer e = same_Some place pointer e
+agreeing_some false place pointer e = absurd (cc)
+
+-- a packet ends before the pointer of a frame after its start, or at it
+ends_by_pointer : (view : TmView) (octets : List ℕ) (run after : List TmView) (packet : List ℕ) (earlier : List TmView) (next : TmView) (later : List TmView)
+    (pointer : ℕ) (field : List ℕ) → IsDeliveredBy view octets run packet → run ++ after ≡ earlier ++ next ∷ later
+    → next.field ≡ Packets (Some pointer) field → length packet ≤ length (reassembly octets earlier) + pointer
+ends_by_pointer view octets run after packet earlier next later pointer field d same is =
+    elim (cases_lt (length earlier) (length run)) [
+      | inl inside ↦
+          let (more, longer, rest) = longer_begins (earlier ++ next ∷ []) later run after
+          (same ∙ sym (append_assoc earlier (next ∷ []) later)) (omega (arith, length_push earlier next)) in
+          let agreed = d.agreed earlier next more (Some pointer) field (longer ∙ append_assoc earlier (next ∷ []) more) is in
+          let before = length (reassembly octets earlier) in
+          let place = agreeing_some (nat_lt (length packet) (before + length field)) (length packet - before) pointer (sym agreed) in
+          omega (arith, place)
+      | inr beyond ↦
+          let (more, longer, rest) = longer_begins run after earlier (next ∷ later) (sym same) beyond in
+          let all : length (reassembly octets earlier) ≡ length (reassembly octets run) + length (concat (map packet_data more)) =
+          ap (λ l. length (reassembly octets l)) longer ∙ ap length (reassembly-append octets run more) ∙ length-append (reassembly octets run) (concat (map packet_data more)) in
+          omega (arith, all, ap length d.ends.1, length-append packet d.ends.0)
+    ]
+
+apart_in_later_frame : (channel : List TmView) (d e : Delivery) → IsDelivery channel d → IsDelivery channel e → d.frame < e.frame
+    → start_offset channel d + length d.packet ≤ start_offset channel e
+apart_in_later_frame channel d e x y less =
+    let (earlier, is, rest) = frames_between channel d e x y less in
+    let carried : length (packet_data x.view) ≡ length x.octets = ap (λ f. length (data_of f)) x.field in
+    let so_far = length (concat (map packet_data earlier)) in
+    let before : length (reassembly [] y.before) ≡ length (reassembly [] x.before) + length (packet_data x.view) + so_far =
+    ap (λ l. length (reassembly [] l)) is ∙ ap length (reassembly-append [] (x.before ++ x.view ∷ []) earlier)
+    ∙ length-append (reassembly [] (x.before ++ x.view ∷ [])) (concat (map packet_data earlier))
+    ∙ ap (λ l. length l + so_far) (reassembly-push [] x.before x.view)
+    ∙ ap (λ n. n + so_far) (length-append (reassembly [] x.before) (packet_data x.view)) in
+    let pointed : y.view.field ≡ Packets (Some y.start.pointer) y.octets = y.field ∙ ap (λ f. Packets f y.octets) y.start.pointed in
+    let past = ends_by_pointer x.view (drop d.start x.octets) x.run x.after d.packet earlier y.view (y.run ++ y.after) y.start.pointer y.octets x.delivered rest pointed in
+    let long = length-append (drop d.start x.octets) (concat (map packet_data earlier)) in
+    let inside = x.start.inside in
+    let here = y.start.here in
+    let dropped = length-drop d.start x.octets in
+    let from = offset_is channel d x in
+    let to = offset_is channel e y in
+    omega arith
+
+pub none_overlap : NoneOverlap
+none_overlap channel d e x y (inl less) = apart_in_later_frame channel d e x y less
+none_overlap channel d e x y (inr same) = apart_in_one_frame channel d e x y same.0 same.1

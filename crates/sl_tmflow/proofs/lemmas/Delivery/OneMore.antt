@@ -1,0 +1,237 @@
+-- What the next frame of a channel does: which packets end in it, and what is incomplete after it.
+use Rattle.std.proofs.Common.{◌≡◌, ℕ, ◌+◌, ◌≤◌, ◌==◌, cond, List, [], ◌∷◌, ◌++◌, length, take, drop, None, Some, refl, sym, ◌∙◌, ap, ap₂, arith, length-append, append-nil, append_assoc, eq-eqb, ne_eqb}
+use Rattle.std.specs.List.{flat_map}
+use Rattle.std.proofs.lemmas.Grind.{flat_map-append}
+use Rattle.std.proofs.lemmas.List.{map-append, map-id, take_at}
+use Rattle.std.proofs.lemmas.List.Concat.{flat_map_single}
+use Rattle.std.proofs.lemmas.List.Elements.{filter-append}
+use Rattle.sl_packet.specs.Packet.{IsPacket}
+use Rattle.sl_packet.specs.Front.{Front, OtherVersion, Incomplete, WholePacket, front}
+use Rattle.sl_packet.specs.Packets.{whole_at, packets_of, rest_of}
+use Rattle.sl_packet.proofs.FrontLemmas.{packet_is_whole}
+use Rattle.sl_tmframe.specs.TmFrame.{TmView, DataField, Packets, Idle, Opaque}
+use Rattle.sl_tmflow.specs.Channel.{packet_data}
+use Rattle.sl_tmflow.specs.PacketStart.{starts_from, starts_of, whole_packets}
+use Rattle.sl_tmflow.specs.Delivery.{Delivery, Outcome, Completes, StillIncomplete, Undelivered, Continuation, Ends, Continues, Breaks, ended, step_of, after_step, outcome_after, outcome_of_front, outcome_of, delivery_of, frame_deliveries, deliveries_from, ending_in, packets_delivered, packets_ending}
+use Rattle.sl_tmflow.specs.Incomplete.{incomplete_octets, frame_incomplete, incomplete_of}
+use Rattle.sl_tmflow.proofs.lemmas.Incomplete.Incomplete.{last_of, last_of-push}
+use Rattle.sl_tmflow.proofs.lemmas.Delivery.Outcome.{outcome_delivered}
+use Rattle.sl_tmflow.proofs.lemmas.Delivery.Delivery.{field_deliveries, delivery_with}
+use Rattle.sl_tmflow.proofs.lemmas.Delivery.AtStarts.{flat_map-pieces, at_rest, at_starts, none_in_rest}
+
+-- ---- a packet start
+
+-- its outcome where one frame more comes after the last one, so many frames after the start
+abbrev pub with_next : ℕ → TmView → TmView → Outcome → Outcome
+with_next passed last next (Completes packet n) = Completes packet n
+with_next passed last next (StillIncomplete octets) = after_step (step_of last octets next) passed (StillIncomplete (octets ++ packet_data next))
+with_next passed last next Undelivered = Undelivered
+
+with_next-step : (s : Continuation) (n passed : ℕ) (last next : TmView) (o : Outcome)
+    → after_step s n (with_next passed last next o) ≡ with_next passed last next (after_step s n o)
+with_next-step (Ends packet) n passed last next o = refl
+with_next-step Continues n passed last next o = refl
+with_next-step Breaks n passed last next o = refl
+
+outcome_after-push : (n : ℕ) (view : TmView) (octets : List ℕ) (later : List TmView) (next : TmView) (passed : ℕ) → n + (length later + 1) ≡ passed
+    → outcome_after n view octets (later ++ next ∷ []) ≡ with_next passed (last_of view later) next (outcome_after n view octets later)
+outcome_after-push n view octets [] next passed so_many =
+    let same : n + 1 ≡ passed = omega arith in
+    ap (λ k. after_step (step_of view octets next) k (StillIncomplete (octets ++ packet_data next))) same
+outcome_after-push n view octets (v ∷ later) next passed so_many =
+    ap (after_step (step_of view octets v) (n + 1)) (outcome_after-push (n + 1) v (octets ++ packet_data v) later next passed (omega arith))
+    ∙ with_next-step (step_of view octets v) (n + 1) passed (last_of v later) next (outcome_after (n + 1) v (octets ++ packet_data v) later)
+
+front-push : (f : Front) (view : TmView) (octets : List ℕ) (later : List TmView) (next : TmView)
+    → outcome_of_front f view octets (later ++ next ∷ []) ≡ with_next (length later + 1) (last_of view later) next (outcome_of_front f view octets later)
+front-push OtherVersion view octets later next = refl
+front-push Incomplete view octets later next = outcome_after-push 0 view octets later next (length later + 1) (omega arith)
+front-push (WholePacket len) view octets later next = refl
+
+pub outcome_of-push : (view : TmView) (octets : List ℕ) (later : List TmView) (next : TmView)
+    → outcome_of view octets (later ++ next ∷ []) ≡ with_next (length later + 1) (last_of view later) next (outcome_of view octets later)
+outcome_of-push view octets later next = front-push (front octets) view octets later next
+
+-- ---- what is incomplete
+
+-- the octets after the next frame, if the packet goes on
+abbrev pub carried : Continuation → List ℕ → List (List ℕ)
+carried (Ends packet) octets = []
+carried Continues octets = octets ∷ []
+carried Breaks octets = []
+
+-- an incomplete packet after the next frame, if it goes on
+abbrev pub carried_into : TmView → TmView → List ℕ → List (List ℕ)
+carried_into last next octets = carried (step_of last octets next) (octets ++ packet_data next)
+
+carried_step : (s : Continuation) (passed : ℕ) (octets : List ℕ) → carried s octets ++ [] ≡ incomplete_octets (after_step s passed (StillIncomplete octets))
+carried_step (Ends packet) passed octets = refl
+carried_step Continues passed octets = refl
+carried_step Breaks passed octets = refl
+
+incomplete_with_next : (passed : ℕ) (last next : TmView) (o : Outcome) → flat_map (carried_into last next) (incomplete_octets o) ≡ incomplete_octets (with_next passed last next o)
+incomplete_with_next passed last next (Completes packet n) = refl
+incomplete_with_next passed last next (StillIncomplete octets) = carried_step (step_of last octets next) passed (octets ++ packet_data next)
+incomplete_with_next passed last next Undelivered = refl
+
+frame_incomplete-push : (view : TmView) (later : List TmView) (next : TmView)
+    → flat_map (carried_into (last_of view later) next) (frame_incomplete view later) ≡ frame_incomplete view (later ++ next ∷ [])
+frame_incomplete-push view later next =
+    let go_on = carried_into (last_of view later) next in
+    flat_map-pieces (flat_map go_on) refl (flat_map-append go_on)
+    (λ start. incomplete_octets (outcome_of view (drop start (packet_data view)) later))
+    (λ start. incomplete_octets (outcome_of view (drop start (packet_data view)) (later ++ next ∷ [])))
+    (λ start. incomplete_with_next (length later + 1) (last_of view later) next (outcome_of view (drop start (packet_data view)) later)
+    ∙ ap incomplete_octets (sym (outcome_of-push view (drop start (packet_data view)) later next)))
+    (starts_of view.field)
+
+-- after the first frame of a channel what is incomplete starts in it
+pub incomplete_first : (next : TmView) → incomplete_of (next ∷ []) ≡ frame_incomplete next []
+incomplete_first next = append-nil (frame_incomplete next [])
+
+-- and after each other frame it is what goes on, and what starts in that frame
+pub incomplete_next : (before : List TmView) (last next : TmView)
+    → incomplete_of ((before ++ last ∷ []) ++ next ∷ []) ≡ flat_map (carried_into last next) (incomplete_of (before ++ last ∷ [])) ++ frame_incomplete next []
+incomplete_next [] last next =
+    let go_on = carried_into last next in
+    ap₂ (λ xs ys. xs ++ ys) (sym (frame_incomplete-push last [] next)) (incomplete_first next)
+    ∙ ap (λ l. flat_map go_on l ++ frame_incomplete next []) (sym (incomplete_first last))
+incomplete_next (view ∷ before) last next =
+    let go_on = carried_into last next in
+    let later = before ++ last ∷ [] in
+    let here : frame_incomplete view (later ++ next ∷ []) ≡ flat_map go_on (frame_incomplete view later) =
+    sym (ap (λ v. flat_map (carried_into v next) (frame_incomplete view later)) (sym (last_of-push view before last)) ∙ frame_incomplete-push view later next) in
+    ap₂ (λ xs ys. xs ++ ys) here (incomplete_next before last next)
+    ∙ sym (append_assoc (flat_map go_on (frame_incomplete view later)) (flat_map go_on (incomplete_of later)) (frame_incomplete next []))
+    ∙ ap (λ l. l ++ frame_incomplete next []) (sym (flat_map-append go_on (frame_incomplete view later) (incomplete_of later)))
+
+-- ---- the packets that end
+
+-- the packets of the deliveries that end in the frame of a number
+abbrev pub packets_at : ℕ → List Delivery → List (List ℕ)
+packets_at number deliveries = packets_delivered (ending_in number deliveries)
+
+pub packets_at-append : (number : ℕ) (xs ys : List Delivery) → packets_at number (xs ++ ys) ≡ packets_at number xs ++ packets_at number ys
+packets_at-append number xs ys =
+    ap packets_delivered (filter-append (λ d. d.ending == number) xs ys)
+    ∙ map-append (λ d. d.packet) (ending_in number xs) (ending_in number ys)
+
+ends_there : (number frame start : ℕ) (packet : List ℕ) (passed : ℕ) → frame + passed ≡ number
+    → packets_at number (delivery_of frame start (Completes packet passed)) ≡ packet ∷ []
+ends_there number frame start packet passed same =
+    ap (λ b. packets_delivered (cond b (delivery_with frame start (frame + passed) packet ∷ []) [])) (eq-eqb (frame + passed) number same)
+
+ends_elsewhere : (number frame start : ℕ) (packet : List ℕ) (passed : ℕ) → (frame + passed ≡ number → ⊥)
+    → packets_at number (delivery_of frame start (Completes packet passed)) ≡ []
+ends_elsewhere number frame start packet passed other =
+    ap (λ b. packets_delivered (cond b (delivery_with frame start (frame + passed) packet ∷ []) [])) (ne_eqb (frame + passed) number other)
+
+-- ---- those that lie whole in the last frame
+
+pub at_last : (frame start : ℕ) (view : TmView) (octets : List ℕ) (f : Front)
+    → packets_at frame (delivery_of frame start (outcome_of_front f view octets [])) ≡ whole_at f octets
+at_last frame start view octets OtherVersion = refl
+at_last frame start view octets Incomplete = refl
+at_last frame start view octets (WholePacket len) = ends_there frame frame start (take len octets) 0 (omega arith)
+
+packet_first : (packet more : List ℕ) → IsPacket packet → whole_at (front (packet ++ more)) (packet ++ more) ≡ packet ∷ []
+packet_first packet more p =
+    ap (λ f. whole_at f (packet ++ more)) (packet_is_whole packet more p) ∙ ap (λ l. l ∷ []) (take_at packet more (length packet) refl)
+
+none_first : (octets : List ℕ) (f : Front) → ((len : ℕ) → f ≡ WholePacket len → ⊥) → whole_at f octets ≡ []
+none_first octets OtherVersion none = refl
+none_first octets Incomplete none = refl
+none_first octets (WholePacket len) none = absurd (none len refl)
+
+none_at_rest : (rest : List ℕ) → ((len : ℕ) → front rest ≡ WholePacket len → ⊥) → at_rest (λ l. whole_at (front l) l) rest ≡ []
+none_at_rest [] none = refl
+none_at_rest (octet ∷ rest) none = none_first (octet ∷ rest) (front (octet ∷ rest)) none
+
+at_last_field : (frame : ℕ) (view : TmView) (field : DataField) → packets_at frame (field_deliveries frame view [] field) ≡ whole_packets field
+at_last_field frame view (Packets None octets) = refl
+at_last_field frame view (Packets (Some pointer) octets) =
+    let whole = packets_of (drop pointer octets) in
+    flat_map-pieces (packets_at frame) refl (packets_at-append frame)
+    (λ start. delivery_of frame start (outcome_of view (drop start octets) [])) (λ start. whole_at (front (drop start octets)) (drop start octets))
+    (λ start. at_last frame start view (drop start octets) (front (drop start octets))) (starts_from (Some pointer) octets)
+    ∙ at_starts (λ l. whole_at (front l) l) (λ packet. packet ∷ []) packet_first pointer octets
+    ∙ ap₂ (λ xs ys. xs ++ ys) (flat_map_single (λ packet. packet) whole ∙ map-id whole)
+    (none_at_rest (rest_of (drop pointer octets)) (none_in_rest (drop pointer octets)))
+    ∙ append-nil whole
+at_last_field frame view Idle = refl
+at_last_field frame view Opaque = refl
+
+at_last_frame : (frame : ℕ) (view : TmView) → packets_at frame (deliveries_from frame (view ∷ [])) ≡ whole_packets view.field
+at_last_frame frame view = ap (packets_at frame) (append-nil (frame_deliveries frame view [])) ∙ at_last_field frame view view.field
+
+-- ---- those that were incomplete before it
+
+-- an incomplete packet that ends in the next frame
+abbrev pub ended_in : TmView → TmView → List ℕ → List (List ℕ)
+ended_in last next octets = ended (step_of last octets next)
+
+step_ending : (number frame start : ℕ) (s : Continuation) (passed : ℕ) (octets : List ℕ) → frame + passed ≡ number
+    → packets_at number (delivery_of frame start (after_step s passed (StillIncomplete octets))) ≡ ended s ++ []
+step_ending number frame start (Ends packet) passed octets here = ends_there number frame start packet passed here
+step_ending number frame start Continues passed octets here = refl
+step_ending number frame start Breaks passed octets here = refl
+
+-- a packet that ends earlier is none of them
+ending_with_next : (number frame start : ℕ) (last next : TmView) (passed : ℕ) (o : Outcome)
+    → frame + passed ≡ number → ((packet : List ℕ) (n : ℕ) → o ≡ Completes packet n → n + 1 ≤ passed)
+    → packets_at number (delivery_of frame start (with_next passed last next o)) ≡ flat_map (ended_in last next) (incomplete_octets o)
+ending_with_next number frame start last next passed (Completes packet n) here earlier =
+    let before = earlier packet n refl in
+    ends_elsewhere number frame start packet n (λ same. absurd (omega arith))
+ending_with_next number frame start last next passed (StillIncomplete octets) here earlier =
+    step_ending number frame start (step_of last octets next) passed (octets ++ packet_data next) here
+ending_with_next number frame start last next passed Undelivered here earlier = refl
+
+ends_before : (view : TmView) (octets : List ℕ) (later : List TmView) (packet : List ℕ) (n : ℕ)
+    → outcome_of view octets later ≡ Completes packet n → n + 1 ≤ length later + 1
+ends_before view octets later packet n e =
+    let w = outcome_delivered view octets later packet n e in omega (arith, w.passed_is, ap length w.in_order, length-append w.run w.after)
+
+pub frame_ending-push : (number frame : ℕ) (view : TmView) (later : List TmView) (next : TmView) → frame + (length later + 1) ≡ number
+    → packets_at number (frame_deliveries frame view (later ++ next ∷ [])) ≡ flat_map (ended_in (last_of view later) next) (frame_incomplete view later)
+frame_ending-push number frame view later next here =
+    let last = last_of view later in
+    let octets = λ (start : ℕ). drop start (packet_data view) in
+    let ends = λ (start : ℕ). flat_map (ended_in last next) (incomplete_octets (outcome_of view (octets start) later)) in
+    flat_map-pieces (packets_at number) refl (packets_at-append number)
+    (λ start. delivery_of frame start (outcome_of view (octets start) (later ++ next ∷ []))) ends
+    (λ start. ap (λ o. packets_at number (delivery_of frame start o)) (outcome_of-push view (octets start) later next)
+    ∙ ending_with_next number frame start last next (length later + 1) (outcome_of view (octets start) later) here (ends_before view (octets start) later))
+    (starts_of view.field)
+    ∙ sym (flat_map-pieces (flat_map (ended_in last next)) refl (flat_map-append (ended_in last next))
+    (λ start. incomplete_octets (outcome_of view (octets start) later)) ends (λ start. refl) (starts_of view.field))
+
+ending_from : (number frame : ℕ) (before : List TmView) (last next : TmView) → frame + length (before ++ last ∷ []) ≡ number
+    → packets_at number (deliveries_from frame ((before ++ last ∷ []) ++ next ∷ []))
+    ≡ flat_map (ended_in last next) (incomplete_of (before ++ last ∷ [])) ++ whole_packets next.field
+ending_from number frame [] last next here =
+    let there : frame + 1 ≡ number = omega arith in
+    let later = deliveries_from (frame + 1) (next ∷ []) in
+    packets_at-append number (frame_deliveries frame last (next ∷ [])) later
+    ∙ ap₂ (λ xs ys. xs ++ ys) (frame_ending-push number frame last [] next (omega arith))
+    (ap (λ n. packets_at n later) (sym there) ∙ at_last_frame (frame + 1) next)
+    ∙ ap (λ l. flat_map (ended_in last next) l ++ whole_packets next.field) (sym (incomplete_first last))
+ending_from number frame (view ∷ before) last next here =
+    let later = before ++ last ∷ [] in
+    let ends = ended_in last next in
+    let first : packets_at number (frame_deliveries frame view (later ++ next ∷ [])) ≡ flat_map ends (frame_incomplete view later) =
+    frame_ending-push number frame view later next (omega arith)
+    ∙ ap (λ v. flat_map (ended_in v next) (frame_incomplete view later)) (last_of-push view before last) in
+    packets_at-append number (frame_deliveries frame view (later ++ next ∷ [])) (deliveries_from (frame + 1) (later ++ next ∷ []))
+    ∙ ap₂ (λ xs ys. xs ++ ys) first (ending_from number (frame + 1) before last next (omega arith))
+    ∙ sym (append_assoc (flat_map ends (frame_incomplete view later)) (flat_map ends (incomplete_of later)) (whole_packets next.field))
+    ∙ ap (λ l. l ++ whole_packets next.field) (sym (flat_map-append ends (frame_incomplete view later) (incomplete_of later)))
+
+-- in the first frame of a channel those packets end that lie whole in it
+pub ending_first : (next : TmView) → packets_ending [] next ≡ whole_packets next.field
+ending_first next = at_last_frame 0 next
+
+-- and in each other frame those of the incomplete ones that end there, too
+pub ending_next : (before : List TmView) (last next : TmView)
+    → packets_ending (before ++ last ∷ []) next ≡ flat_map (ended_in last next) (incomplete_of (before ++ last ∷ [])) ++ whole_packets next.field
+ending_next before last next = ending_from (length (before ++ last ∷ [])) 0 before last next (omega arith)

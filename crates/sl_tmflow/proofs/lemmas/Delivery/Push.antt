@@ -1,0 +1,223 @@
+-- The packets that a channel delivers with one frame more: those before, and then those that end in that frame.
+use Rattle.std.proofs.Common.{◌≡◌, ℕ, ◌+◌, ◌≤◌, ◌==◌, if◌then◌else◌, List, [], ◌∷◌, ◌++◌, length, drop, None, Some, inl, inr, refl, sym, ◌∙◌, ap, ap₂, arith, length-append, length-drop, append-nil, append_assoc}
+use Rattle.std.specs.List.{AllByRecursion, flat_map}
+use Rattle.std.proofs.lemmas.Bool.Decides.{eqb_tells}
+use Rattle.std.proofs.lemmas.List.{map-append, map-id, take_at}
+use Rattle.std.proofs.lemmas.List.Concat.{flat_map_single}
+use Rattle.sl_packet.specs.Packet.{IsPacket}
+use Rattle.sl_packet.specs.Front.{Front, OtherVersion, Incomplete, WholePacket, front}
+use Rattle.sl_packet.specs.Packets.{whole_at, packets_of, rest_of}
+use Rattle.sl_packet.proofs.FrontLemmas.{packet_is_whole}
+use Rattle.sl_tmframe.specs.TmFrame.{TmView, DataField, Packets, Idle, Opaque}
+use Rattle.sl_tmflow.specs.Channel.{channel_of, data_of, packet_data}
+use Rattle.sl_tmflow.specs.PacketStart.{starts_from, starts_of, whole_packets}
+use Rattle.sl_tmflow.specs.Delivery.{Delivery, Outcome, Completes, StillIncomplete, Undelivered, Continuation, Ends, Continues, Breaks, ended, step_of, after_step, outcome_of_front, outcome_of, delivery_of, frame_deliveries, deliveries_from, deliveries_of, packets_delivered, packets_ending, PacketsEndOnce}
+use Rattle.sl_tmflow.specs.Incomplete.{HasNoStart, incomplete_octets, frame_incomplete, incomplete_of}
+use Rattle.sl_tmflow.proofs.lemmas.Delivery.AtStarts.{flat_map-pieces, at_rest, at_starts}
+use Rattle.sl_tmflow.proofs.lemmas.Delivery.Channel.{same_seen, other_seen}
+use Rattle.sl_packet.proofs.CountLemmas.{split_count, packets_within}
+use Rattle.sl_tmflow.proofs.lemmas.Delivery.Delivery.{field_deliveries}
+use Rattle.sl_tmflow.proofs.lemmas.Places.{has_last}
+use Rattle.sl_tmflow.proofs.lemmas.Incomplete.List.{incomplete_of_idle, incomplete_of_opaque, incomplete_without_pointer, incomplete_from_pointer, one_of_frame, one_is_incomplete}
+use Rattle.sl_tmflow.proofs.lemmas.Delivery.OneMore.{with_next, outcome_of-push, packets_at, packets_at-append, at_last, ended_in, frame_ending-push, ending_first, ending_next}
+use Rattle.sl_tmflow.proofs.lemmas.Incomplete.Incomplete.{last_of}
+
+-- ---- the packets of a frame's starts
+
+-- the packet of a start that is delivered
+abbrev completed : Outcome → List (List ℕ)
+completed (Completes packet passed) = packet ∷ []
+completed (StillIncomplete octets) = []
+completed Undelivered = []
+
+is_completed : (frame start : ℕ) (o : Outcome) → packets_delivered (delivery_of frame start o) ≡ completed o
+is_completed frame start (Completes packet passed) = refl
+is_completed frame start (StillIncomplete octets) = refl
+is_completed frame start Undelivered = refl
+
+delivered-append : (xs ys : List Delivery) → packets_delivered (xs ++ ys) ≡ packets_delivered xs ++ packets_delivered ys
+delivered-append xs ys = map-append (λ d. d.packet) xs ys
+
+at_packet : (view : TmView) (later : List TmView) (packet more : List ℕ) → IsPacket packet
+    → completed (outcome_of view (packet ++ more) later) ≡ packet ∷ []
+at_packet view later packet more p =
+    ap (λ f. completed (outcome_of_front f view (packet ++ more) later)) (packet_is_whole packet more p)
+    ∙ ap (λ l. l ∷ []) (take_at packet more (length packet) refl)
+
+-- they are those that lie whole in the data field, and that of what they leave
+from_pointer : (frame : ℕ) (view : TmView) (later : List TmView) (pointer : ℕ) (octets : List ℕ)
+    → packets_delivered (field_deliveries frame view later (Packets (Some pointer) octets))
+    ≡ packets_of (drop pointer octets) ++ at_rest (λ l. completed (outcome_of view l later)) (rest_of (drop pointer octets))
+from_pointer frame view later pointer octets =
+    let at = λ (l : List ℕ). completed (outcome_of view l later) in
+    let whole = packets_of (drop pointer octets) in
+    flat_map-pieces packets_delivered refl delivered-append (λ start. delivery_of frame start (outcome_of view (drop start octets) later))
+    (λ start. at (drop start octets)) (λ start. is_completed frame start (outcome_of view (drop start octets) later)) (starts_from (Some pointer) octets)
+    ∙ at_starts at (λ packet. packet ∷ []) (at_packet view later) pointer octets
+    ∙ ap (λ l. l ++ at_rest at (rest_of (drop pointer octets))) (flat_map_single (λ packet. packet) whole ∙ map-id whole)
+
+-- ---- one frame more after a start
+
+step_more : (s : Continuation) (passed : ℕ) (octets : List ℕ) → completed (after_step s passed (StillIncomplete octets)) ≡ ended s ++ []
+step_more (Ends packet) passed octets = refl
+step_more Continues passed octets = refl
+step_more Breaks passed octets = refl
+
+outcome_more : (passed : ℕ) (last next : TmView) (o : Outcome)
+    → completed (with_next passed last next o) ≡ completed o ++ flat_map (ended_in last next) (incomplete_octets o)
+outcome_more passed last next (Completes packet n) = refl
+outcome_more passed last next (StillIncomplete octets) = step_more (step_of last octets next) passed (octets ++ packet_data next)
+outcome_more passed last next Undelivered = refl
+
+rest_more : (view : TmView) (later : List TmView) (next : TmView) (rest : List ℕ)
+    → at_rest (λ l. completed (outcome_of view l (later ++ next ∷ []))) rest
+    ≡ at_rest (λ l. completed (outcome_of view l later)) rest
+    ++ flat_map (ended_in (last_of view later) next) (at_rest (λ l. incomplete_octets (outcome_of view l later)) rest)
+rest_more view later next [] = refl
+rest_more view later next (octet ∷ rest) =
+    ap completed (outcome_of-push view (octet ∷ rest) later next)
+    ∙ outcome_more (length later + 1) (last_of view later) next (outcome_of view (octet ∷ rest) later)
+
+-- of a frame those are delivered, too, that were incomplete and end in the next frame
+frame_more : (frame : ℕ) (view : TmView) (later : List TmView) (next : TmView)
+    → packets_delivered (frame_deliveries frame view (later ++ next ∷ []))
+    ≡ packets_delivered (frame_deliveries frame view later) ++ flat_map (ended_in (last_of view later) next) (frame_incomplete view later)
+frame_more frame view later next = cases view.field refl
+  where
+    cases : (f : DataField) → view.field ≡ f
+        → packets_delivered (field_deliveries frame view (later ++ next ∷ []) f)
+        ≡ packets_delivered (field_deliveries frame view later f) ++ flat_map (ended_in (last_of view later) next) (frame_incomplete view later)
+    cases (Packets None octets) is = sym (ap (flat_map (ended_in (last_of view later) next)) (incomplete_without_pointer view later octets is))
+    cases (Packets (Some pointer) octets) is =
+        let ends = flat_map (ended_in (last_of view later) next) in
+        let at = λ (l : List ℕ). completed (outcome_of view l later) in
+        let whole = packets_of (drop pointer octets) in
+        let rest = rest_of (drop pointer octets) in
+        let held = at_rest (λ l. incomplete_octets (outcome_of view l later)) rest in
+        from_pointer frame view (later ++ next ∷ []) pointer octets ∙ ap (λ l. whole ++ l) (rest_more view later next rest)
+        ∙ sym (append_assoc whole (at_rest at rest) (ends held))
+        ∙ ap₂ (λ xs ys. xs ++ ends ys) (sym (from_pointer frame view later pointer octets)) (sym (incomplete_from_pointer view later pointer octets is))
+    cases Idle is = sym (ap (flat_map (ended_in (last_of view later) next)) (incomplete_of_idle view later is))
+    cases Opaque is = sym (ap (flat_map (ended_in (last_of view later) next)) (incomplete_of_opaque view later is))
+
+-- ---- the last frame
+
+at_end : (frame start : ℕ) (view : TmView) (octets : List ℕ) (f : Front)
+    → packets_delivered (delivery_of frame start (outcome_of_front f view octets [])) ≡ whole_at f octets
+at_end frame start view octets OtherVersion = refl
+at_end frame start view octets Incomplete = refl
+at_end frame start view octets (WholePacket len) = refl
+
+-- what starts in the last frame and is delivered ends in it
+last_frame : (frame : ℕ) (view : TmView) → packets_delivered (frame_deliveries frame view []) ≡ packets_at frame (frame_deliveries frame view [])
+last_frame frame view =
+    let octets = λ (start : ℕ). drop start (packet_data view) in
+    let at = λ (start : ℕ). delivery_of frame start (outcome_of view (octets start) []) in
+    let whole = λ (start : ℕ). whole_at (front (octets start)) (octets start) in
+    flat_map-pieces packets_delivered refl delivered-append at whole
+    (λ start. at_end frame start view (octets start) (front (octets start))) (starts_of view.field)
+    ∙ sym (flat_map-pieces (packets_at frame) refl (packets_at-append frame) at whole
+    (λ start. at_last frame start view (octets start) (front (octets start))) (starts_of view.field))
+
+-- ---- no packet starts after one that is incomplete
+
+none_in_frame : (frame : ℕ) (view : TmView) (later : List TmView) → HasNoStart view → frame_deliveries frame view later ≡ []
+none_in_frame frame view later none = cases view.field refl
+  where
+    cases : (f : DataField) → view.field ≡ f → field_deliveries frame view later f ≡ []
+    cases (Packets None octets) is = refl
+    cases (Packets (Some pointer) octets) is = absurd (let both = none (Some pointer) octets is in cc)
+    cases Idle is = refl
+    cases Opaque is = refl
+
+none_without_starts : (frame : ℕ) (channel : List TmView) → AllByRecursion HasNoStart channel → deliveries_from frame channel ≡ []
+none_without_starts frame [] none = refl
+none_without_starts frame (view ∷ later) none =
+    ap₂ (λ xs ys. xs ++ ys) (none_in_frame frame view later none.0) (none_without_starts (frame + 1) later none.1)
+
+-- so either no packet of a frame is incomplete, or later frames deliver none: the order of the two doesn't matter
+no_later : (frame : ℕ) (view : TmView) (later : List TmView) (ends : List ℕ → List (List ℕ))
+    → flat_map ends (frame_incomplete view later) ++ packets_delivered (deliveries_from frame later)
+    ≡ packets_delivered (deliveries_from frame later) ++ flat_map ends (frame_incomplete view later)
+no_later frame view later ends =
+    elim (one_of_frame view later) [
+      | inl none ↦ rw (none) (sym (append-nil (packets_delivered (deliveries_from frame later))))
+      | inr one ↦ rw (none_without_starts frame later one.2) (append-nil (flat_map ends (frame_incomplete view later)))
+    ]
+
+-- ---- one frame more
+
+between : {X : Type 0} (xs ys zs ws : List X) → ys ++ zs ≡ zs ++ ys → (xs ++ ys) ++ (zs ++ ws) ≡ (xs ++ zs) ++ (ys ++ ws)
+between xs ys zs ws same =
+    append_assoc xs ys (zs ++ ws) ∙ ap (λ l. xs ++ l) (sym (append_assoc ys zs ws) ∙ ap (λ l. l ++ ws) same ∙ append_assoc zs ys ws)
+    ∙ sym (append_assoc xs zs (ys ++ ws))
+
+delivered_from : (number frame : ℕ) (channel : List TmView) (next : TmView) → frame + length channel ≡ number
+    → packets_delivered (deliveries_from frame (channel ++ next ∷ []))
+    ≡ packets_delivered (deliveries_from frame channel) ++ packets_at number (deliveries_from frame (channel ++ next ∷ []))
+delivered_from number frame [] next here =
+    let same : frame ≡ number = omega arith in
+    let only : deliveries_from frame (next ∷ []) ≡ frame_deliveries frame next [] = append-nil (frame_deliveries frame next []) in
+    ap packets_delivered only ∙ last_frame frame next ∙ ap₂ packets_at same (sym only)
+delivered_from number frame (view ∷ later) next here =
+    let ends = flat_map (ended_in (last_of view later) next) (frame_incomplete view later) in
+    let now = frame_deliveries frame view later in
+    let now' = frame_deliveries frame view (later ++ next ∷ []) in
+    let rest = deliveries_from (frame + 1) later in
+    let rest' = deliveries_from (frame + 1) (later ++ next ∷ []) in
+    delivered-append now' rest'
+    ∙ ap₂ (λ xs ys. xs ++ ys) (frame_more frame view later next) (delivered_from number (frame + 1) later next (omega arith))
+    ∙ between (packets_delivered now) ends (packets_delivered rest) (packets_at number rest')
+    (no_later (frame + 1) view later (ended_in (last_of view later) next))
+    ∙ ap₂ (λ xs ys. xs ++ (ys ++ packets_at number rest')) (sym (delivered-append now rest))
+    (sym (frame_ending-push number frame view later next (omega arith)))
+    ∙ ap (λ l. packets_delivered (now ++ rest) ++ l) (sym (packets_at-append number now' rest'))
+
+-- the packets of a channel with one frame more are those before, and then those that end in that frame
+pub delivered_push : PacketsEndOnce
+delivered_push channel next = delivered_from (length channel) 0 channel next (omega arith)
+
+-- and those of each channel of frames are, where the frame is one of its own, and else those before
+pub packets_of_channel_step : (vc : ℕ) (views : List TmView) (next : TmView)
+    → packets_delivered (deliveries_of (channel_of vc (views ++ next ∷ [])))
+    ≡ packets_delivered (deliveries_of (channel_of vc views)) ++ (if next.vc == vc then packets_ending (channel_of vc views) next else [])
+packets_of_channel_step vc views next =
+    elim (eqb_tells next.vc vc) [
+      | inl (test, same) ↦ rw (test, same_seen vc views next same) (delivered_push (channel_of vc views) next)
+      | inr (test, other) ↦ rw (test, other_seen vc views next other) (sym (append-nil (packets_delivered (deliveries_of (channel_of vc views)))))
+    ]
+
+-- ---- how many they are
+
+whole_few : (field : DataField) → length (whole_packets field) ≤ length (data_of field)
+whole_few (Packets None octets) = omega arith
+whole_few (Packets (Some pointer) octets) =
+    omega (arith, split_count (packets_of (drop pointer octets)), packets_within (drop pointer octets), length-drop pointer octets)
+whole_few Idle = omega arith
+whole_few Opaque = omega arith
+
+step_few : (s : Continuation) → length (ended s) ≤ 1
+step_few (Ends packet) = omega arith
+step_few Continues = omega arith
+step_few Breaks = omega arith
+
+ends_few : (last next : TmView) (held : List (List ℕ)) → length (flat_map (ended_in last next) held) ≤ length held
+ends_few last next [] = omega arith
+ends_few last next (octets ∷ held) =
+    let s = step_of last octets next in
+    omega (arith, step_few s, ends_few last next held, length-append (ended s) (flat_map (ended_in last next) held))
+
+-- in a frame no more packets end than it has octets of packets, and one
+pub ended_few : (channel : List TmView) (next : TmView) → length (packets_ending channel next) ≤ length (packet_data next) + 1
+ended_few [] next = omega (arith, ap length (ending_first next), whole_few next.field)
+ended_few (view ∷ later) next =
+    let w = has_last view later in
+    let ends = flat_map (ended_in w.1 next) (incomplete_of (w.0 ++ w.1 ∷ [])) in
+    omega (
+      arith,
+      ap length (ap (λ l. packets_ending l next) w.2 ∙ ending_next w.0 w.1 next),
+      length-append ends (whole_packets next.field),
+      ends_few w.1 next (incomplete_of (w.0 ++ w.1 ∷ [])),
+      one_is_incomplete (w.0 ++ w.1 ∷ []),
+      whole_few next.field,
+    )

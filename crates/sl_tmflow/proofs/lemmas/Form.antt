@@ -1,0 +1,11 @@
+pub mod Canonical
+pub mod Cut
+pub mod CutDelivery
+pub mod CutView
+pub mod FieldStart
+pub mod Fill
+pub mod Form
+pub mod LeastStart
+pub mod Left
+pub mod Push
+pub mod Steps

@@ -1,0 +1,233 @@
+-- The normal form of packets, read as a recording.
+use Rattle.std.proofs.Common.{◌≡◌, ℕ, zero, suc, ◌+◌, ◌*◌, ◌/◌, ◌%◌, ◌<◌, ◌≤◌, ◌==◌, true, false, List, [], ◌∷◌, ◌++◌, length, drop, map, Option, None, Some, IfSome, refl, sym, ◌∙◌, ap, ap₂, subst, arith, length-drop, length-take-le, append_assoc, append-nil, eq-eqb, ne_eqb, mul-le-mul_right, add-mul, one-mul}
+use Rattle.std.specs.Result.{result_ok}
+use Rattle.std.specs.List.{AllByRecursion, cons_option, concat, range_with_len}
+use Rattle.std.proofs.lemmas.List.Elements.{filter-append, filter_map-append}
+use Rattle.std.proofs.lemmas.Nat.{div-add-mod', mod_below}
+use Rattle.sl_fields.proofs.FecfLemmas.{fecf_len_le}
+use Rattle.sl_packet.specs.Delivered.{IsDeliverable}
+use Rattle.sl_packet.specs.Packet.{IsPacket}
+use Rattle.sl_packet.specs.Packets.{without_idle}
+use Rattle.sl_tmframe.specs.PacketFrame.{FitFrame, field_room_of}
+use Rattle.sl_tmframe.specs.TmDelimited.{tm_frames_of}
+use Rattle.sl_tmframe.specs.TmFrame.{TmFormat, TmView, tm_frame}
+use Rattle.sl_tmframe.proofs.DelimitedLemmas.{AreWhole, only_frames}
+use Rattle.sl_tmframe.proofs.PacketFrameLemmas.{length-packet_frame, packet_frame_back}
+use Rattle.sl_tmflow.specs.Canonical.{IsFormat, NormalFormIsFrames, NormalFormDelivers}
+use Rattle.sl_tmflow.specs.Channel.{views_of, channel_of}
+use Rattle.sl_tmflow.specs.Delivery.{deliveries_of, packets_delivered}
+use Rattle.sl_tmflow.specs.NormalForm.{with_filling, filling, data_field_of, first_of, IsLeastStart, channel_frame, channel_frames, frames_from_channel, normal_form}
+use Rattle.sl_tmflow.specs.PacketStart.{packet_offsets}
+use Rattle.sl_tmflow.specs.Recording.{packets_on, virtual_channels}
+use Rattle.sl_tmflow.proofs.lemmas.Form.CutDelivery.{all_delivered}
+use Rattle.sl_tmflow.proofs.lemmas.Form.CutView.{views_from}
+use Rattle.sl_fields.proofs.ListLemmas.{each-append, each-weaker, filter_all, filter_none}
+use Rattle.sl_packet.proofs.WithoutIdleLemmas.{due_packets}
+use Rattle.sl_tmflow.proofs.lemmas.Form.Fill.{filled_whole, filled_without_idle, filling_is}
+use Rattle.sl_tmflow.proofs.lemmas.Form.LeastStart.{each_pointer_is_least}
+
+-- the first packet start of a data field lies in it
+start_inside : (room number : ℕ) (offsets : List ℕ) (first : Option ℕ) → IsLeastStart room number offsets first → IfSome first (λ offset. offset < room)
+start_inside room number offsets None least = tt
+start_inside room number offsets (Some first) least = let lies = least.1 in let below = lies.below in omega arith
+
+-- the room of a data field
+pub wide_room : (format : TmFormat) → IsFormat format → 24 ≤ field_room_of format
+wide_room format is = let least = is.least in let last = fecf_len_le format.fecf in omega arith
+
+pub short_room : (format : TmFormat) → IsFormat format → field_room_of format ≤ 2042
+short_room format is = let most = is.most in omega arith
+
+-- the frames of a virtual channel are of it
+each_of_channel : (room vc mc : ℕ) (packets : List (List ℕ)) (many number : ℕ) → AllByRecursion (λ view. view.vc ≡ vc) (views_from room vc mc packets number many)
+each_of_channel room vc mc packets zero number = tt
+each_of_channel room vc mc packets (suc many) number = (refl, each_of_channel room vc mc packets many (number + 1))
+
+-- ---- the frames of packets that fill so many data fields
+
+module _ (format : TmFormat) (spacecraft vc mc : ℕ) (packets : List (List ℕ)) (count : ℕ) (is : IsFormat format) (fits : spacecraft ≤ 1023) (vc_fits : vc ≤ 7)
+    (size : length (concat packets) ≡ count * field_room_of format) where
+  abbrev room : ℕ
+  room = field_room_of format
+
+  abbrev frames : ℕ → ℕ → List (List ℕ)
+  frames number many = map (channel_frame format spacecraft vc mc packets) (range_with_len number many)
+
+  field_filled : (number : ℕ) → number < count → length (data_field_of room number (concat packets)) ≡ room
+  field_filled number below =
+      let up_to : (number + 1) * room ≤ count * room = mul-le-mul_right room (omega arith) in
+      let next = add-mul number 1 room in
+      let one = one-mul room in
+      length-take-le room (drop (number * room) (concat packets)) (omega (arith, up_to, next, one, size, length-drop (number * room) (concat packets)))
+
+  frame_fits : (number : ℕ) → number < count
+      → FitFrame format spacecraft vc ((mc + number) % 256) (number % 256) (first_of room number (packet_offsets 0 packets [])) (data_field_of room number (concat packets))
+  frame_fits number below =
+      let wide = wide_room format is in
+      record {
+        least = is.least;
+        most = is.most;
+        spacecraft_fits = fits;
+        vc_fits = vc_fits;
+        mc_fits = mod_below (mc + number) 256 (omega arith);
+        vcc_fits = mod_below number 256 (omega arith);
+        points_inside = start_inside room number (packet_offsets 0 packets []) (first_of room number (packet_offsets 0 packets [])) (each_pointer_is_least room number packets (omega (arith, wide)));
+        fills = field_filled number below;
+      }
+
+  frames_whole : (many number : ℕ) → number + many ≤ count → AreWhole format.len (frames number many)
+  frames_whole zero number inside = tt
+  frames_whole (suc many) number inside =
+      let fit = frame_fits number (omega (arith, inside)) in (
+        length-packet_frame format spacecraft vc ((mc + number) % 256) (number % 256) (first_of room number (packet_offsets 0 packets [])) (data_field_of room number (concat packets)) fit,
+        frames_whole many (number + 1) (omega (arith, inside)),
+      )
+
+  frames_back : (many number : ℕ) → number + many ≤ count → views_of format spacecraft (frames number many) ≡ views_from room vc mc packets number many
+  frames_back zero number inside = refl
+  frames_back (suc many) number inside =
+      let fit = frame_fits number (omega (arith, inside)) in
+      ap₂ (λ read views. cons_option (result_ok read) views)
+      (packet_frame_back format spacecraft vc ((mc + number) % 256) (number % 256) (first_of room number (packet_offsets 0 packets [])) (data_field_of room number (concat packets)) fit)
+      (frames_back many (number + 1) (omega (arith, inside)))
+
+-- ---- the frames of a virtual channel
+
+-- as they are read
+abbrev channel_views : TmFormat → ℕ → ℕ → List (List ℕ) → List TmView
+channel_views format vc mc packets =
+    let room = field_room_of format in
+    let filled = with_filling room packets in
+    views_from room vc mc filled 0 (length (concat filled) / room)
+
+channel_of_own : (format : TmFormat) (vc mc : ℕ) (packets : List (List ℕ)) → AllByRecursion (λ view. view.vc ≡ vc) (channel_views format vc mc packets)
+channel_of_own format vc mc packets =
+    let filled = with_filling (field_room_of format) packets in
+    each_of_channel (field_room_of format) vc mc filled (length (concat filled) / field_room_of format) 0
+
+module _ (format : TmFormat) (spacecraft vc mc : ℕ) (packets : List (List ℕ)) (is : IsFormat format) (fits : spacecraft ≤ 1023) (vc_fits : vc ≤ 7)
+    (each : AllByRecursion IsDeliverable packets) where
+  abbrev filled : List (List ℕ)
+  filled = with_filling (field_room_of format) packets
+
+  abbrev frame_count : ℕ
+  frame_count = length (concat filled) / field_room_of format
+
+  filled_each : AllByRecursion IsPacket filled
+  filled_each =
+      let wide = wide_room format is in
+      let fill = filling_is (field_room_of format) (length (concat packets)) (omega (arith, wide)) (omega (arith, short_room format is)) in
+      each-append IsPacket packets (filling (field_room_of format) (length (concat packets))) (due_packets packets each) fill.0
+
+  filled_size : length (concat filled) ≡ frame_count * field_room_of format
+  filled_size =
+      let wide = wide_room format is in
+      let parts = div-add-mod' (length (concat filled)) (field_room_of format) in
+      let none = filled_whole (field_room_of format) packets (omega (arith, wide)) (omega (arith, short_room format is)) in
+      omega arith
+
+  pub channel_whole : AreWhole format.len (channel_frames format spacecraft vc mc packets)
+  channel_whole = frames_whole format spacecraft vc mc filled frame_count is fits vc_fits filled_size frame_count 0 (omega arith)
+
+  pub channel_back : views_of format spacecraft (channel_frames format spacecraft vc mc packets) ≡ channel_views format vc mc packets
+  channel_back = frames_back format spacecraft vc mc filled frame_count is fits vc_fits filled_size frame_count 0 (omega arith)
+
+  pub channel_delivers : without_idle (packets_delivered (deliveries_of (channel_views format vc mc packets))) ≡ packets
+  channel_delivers =
+      let wide = wide_room format is in
+      ap without_idle (all_delivered (field_room_of format) vc mc filled frame_count (omega (arith, wide)) filled_each filled_size)
+      ∙ filled_without_idle (field_room_of format) packets (omega (arith, wide)) (omega (arith, short_room format is)) each
+
+-- ---- the frames of all virtual channels
+
+pub of_none : (vc : ℕ) (views : List TmView) → AllByRecursion (λ view. view.vc ≡ vc → ⊥) views → channel_of vc views ≡ []
+of_none vc views others =
+    filter_none (λ view. view.vc == vc) views (each-weaker (λ view. view.vc ≡ vc → ⊥) (λ view. (view.vc == vc) ≡ false) (λ view other. ne_eqb view.vc vc other) views others)
+
+of_all : (vc : ℕ) (views : List TmView) → AllByRecursion (λ view. view.vc ≡ vc) views → channel_of vc views ≡ views
+of_all vc views same =
+    filter_all (λ view. view.vc == vc) views (each-weaker (λ view. view.vc ≡ vc) (λ view. (view.vc == vc) ≡ true) (λ view same. eq-eqb view.vc vc same) views same)
+
+-- those of a virtual channel, between those of others
+of_middle : (vc : ℕ) (before own after : List TmView) → AllByRecursion (λ view. view.vc < vc) before → AllByRecursion (λ view. view.vc ≡ vc) own
+    → AllByRecursion (λ view. vc + 1 ≤ view.vc) after → channel_of vc (before ++ (own ++ after)) ≡ own
+of_middle vc before own after low same high =
+    let is_of = λ (view : TmView). view.vc == vc in
+    let left : channel_of vc before ≡ [] = of_none vc before (each-weaker (λ view. view.vc < vc) (λ view. view.vc ≡ vc → ⊥) (λ view below is. omega arith) before low) in
+    let right : channel_of vc after ≡ [] = of_none vc after (each-weaker (λ view. vc + 1 ≤ view.vc) (λ view. view.vc ≡ vc → ⊥) (λ view above is. omega arith) after high) in
+    filter-append is_of before (own ++ after) ∙ ap₂ (λ xs ys. xs ++ ys) left (filter-append is_of own after)
+    ∙ ap₂ (λ xs ys. xs ++ ys) (of_all vc own same) right ∙ append-nil own
+
+module _ (format : TmFormat) (spacecraft : ℕ) (is : IsFormat format) (fits : spacecraft ≤ 1023) where
+  abbrev form_views : ℕ → ℕ → List (List (List ℕ)) → List TmView
+  form_views vc mc lists = views_of format spacecraft (frames_from_channel format spacecraft vc mc lists)
+
+  form_whole : (lists : List (List (List ℕ))) (vc mc : ℕ) → vc + length lists ≤ 8 → AllByRecursion (AllByRecursion IsDeliverable) lists
+      → AreWhole format.len (frames_from_channel format spacecraft vc mc lists)
+  form_whole [] vc mc inside each = tt
+  form_whole (packets ∷ lists) vc mc inside each =
+      let frames = channel_frames format spacecraft vc mc packets in
+      each-append (λ frame. length frame ≡ format.len) frames (frames_from_channel format spacecraft (vc + 1) (mc + length frames) lists)
+      (channel_whole format spacecraft vc mc packets is fits (omega (arith, inside)) each.0)
+      (form_whole lists (vc + 1) (mc + length frames) (omega (arith, inside)) each.1)
+
+  -- the views of the first virtual channel, and of the others
+  form_parts : (packets : List (List ℕ)) (lists : List (List (List ℕ))) (vc mc : ℕ) → vc ≤ 7 → AllByRecursion IsDeliverable packets
+      → form_views vc mc (packets ∷ lists)
+      ≡ channel_views format vc mc packets ++ form_views (vc + 1) (mc + length (channel_frames format spacecraft vc mc packets)) lists
+  form_parts packets lists vc mc inside each =
+      let frames = channel_frames format spacecraft vc mc packets in
+      filter_map-append (λ frame. result_ok (tm_frame format spacecraft frame)) frames (frames_from_channel format spacecraft (vc + 1) (mc + length frames) lists)
+      ∙ ap (λ views. views ++ form_views (vc + 1) (mc + length frames) lists) (channel_back format spacecraft vc mc packets is fits inside each)
+
+  form_above : (lists : List (List (List ℕ))) (vc mc : ℕ) → vc + length lists ≤ 8 → AllByRecursion (AllByRecursion IsDeliverable) lists
+      → AllByRecursion (λ view. vc ≤ view.vc) (form_views vc mc lists)
+  form_above [] vc mc inside each = tt
+  form_above (packets ∷ lists) vc mc inside each =
+      let own = channel_views format vc mc packets in
+      let next = mc + length (channel_frames format spacecraft vc mc packets) in
+      subst (AllByRecursion (λ view. vc ≤ view.vc)) (sym (form_parts packets lists vc mc (omega (arith, inside)) each.0))
+      (each-append (λ view. vc ≤ view.vc) own (form_views (vc + 1) next lists)
+      (each-weaker (λ view. view.vc ≡ vc) (λ view. vc ≤ view.vc) (λ view same. omega arith) own (channel_of_own format vc mc packets))
+      (each-weaker (λ view. vc + 1 ≤ view.vc) (λ view. vc ≤ view.vc) (λ view above. omega arith) (form_views (vc + 1) next lists) (form_above lists (vc + 1) next (omega (arith, inside)) each.1)))
+
+  -- the packets of each virtual channel from one on, where the frames of lower ones come first
+  form_lists : (lists : List (List (List ℕ))) (vc mc : ℕ) (before : List TmView) → vc + length lists ≤ 8 → AllByRecursion (AllByRecursion IsDeliverable) lists
+      → AllByRecursion (λ view. view.vc < vc) before
+      → map (λ v. without_idle (packets_on (before ++ form_views vc mc lists) v)) (range_with_len vc (length lists)) ≡ lists
+  form_lists [] vc mc before inside each low = refl
+  form_lists (packets ∷ lists) vc mc before inside each low =
+      let own = channel_views format vc mc packets in
+      let next = mc + length (channel_frames format spacecraft vc mc packets) in
+      let rest = form_views (vc + 1) next lists in
+      let fit : vc ≤ 7 = omega (arith, inside) in
+      let fit_rest : vc + 1 + length lists ≤ 8 = omega (arith, inside) in
+      let parts : form_views vc mc (packets ∷ lists) ≡ own ++ rest = form_parts packets lists vc mc fit each.0 in
+      let same = channel_of_own format vc mc packets in
+      let here : channel_of vc (before ++ (own ++ rest)) ≡ own = of_middle vc before own rest low same (form_above lists (vc + 1) next fit_rest each.1) in
+      let passed : AllByRecursion (λ view. view.vc < vc + 1) (before ++ own) =
+      each-append (λ view. view.vc < vc + 1) before own (each-weaker (λ view. view.vc < vc) (λ view. view.vc < vc + 1) (λ view below. omega arith) before low)
+      (each-weaker (λ view. view.vc ≡ vc) (λ view. view.vc < vc + 1) (λ view is_it. omega arith) own same) in
+      ap₂ (λ ps pss. ps ∷ pss)
+      (ap (λ l. without_idle (packets_on (before ++ l) vc)) parts ∙ ap (λ l. without_idle (packets_delivered (deliveries_of l))) here
+      ∙ channel_delivers format spacecraft vc mc packets is fits fit each.0)
+      (ap (λ l. map (λ v. without_idle (packets_on l v)) (range_with_len (vc + 1) (length lists))) (ap (λ l. before ++ l) parts ∙ sym (append_assoc before own rest))
+      ∙ form_lists lists (vc + 1) next (before ++ own) fit_rest each.1 passed)
+
+pub is_frames : NormalFormIsFrames
+is_frames format spacecraft lists is fits due =
+    record {
+      end_to_end = sym (append-nil (normal_form format spacecraft lists));
+      whole = let eight = due.eight in form_whole format spacecraft is fits lists 0 0 (omega arith) due.each;
+      short = let least = is.least in omega arith;
+    }
+
+pub delivers : NormalFormDelivers
+delivers format spacecraft lists is fits due =
+    let eight = due.eight in
+    let frames = frames_from_channel format spacecraft 0 0 lists in
+    let delimited : tm_frames_of format.len (normal_form format spacecraft lists) ≡ frames =
+    only_frames format.len (normal_form format spacecraft lists) frames [] (let least = is.least in omega arith) (is_frames format spacecraft lists is fits due) in
+    ap (λ fs. map (λ vc. without_idle (packets_on (views_of format spacecraft fs) vc)) virtual_channels) delimited
+    ∙ ap (λ n. map (λ vc. without_idle (packets_on (views_of format spacecraft frames) vc)) (range_with_len 0 n)) (sym eight)
+    ∙ form_lists format spacecraft is fits lists 0 0 [] (omega arith) due.each tt

@@ -1,0 +1,366 @@
+-- What is left of a normal form that is made piece by piece, from piece to piece and from channel to channel.
+use Rattle.std.proofs.Common.{◌≡◌, ℕ, suc, ◌+◌, ◌-◌, ◌*◌, ◌/◌, ◌%◌, ◌<◌, ◌≤◌, ◌==◌, false, if◌then◌else◌, List, [], ◌∷◌, ◌++◌, length, take, drop, map, Some, refl, sym, ◌∙◌, ap, ap₂, subst, arith, inl, inr, length-append, append_assoc, append-nil, add-one}
+use Rattle.std.specs.List.{concat, range_with_len, slice_index_or}
+use Rattle.std.proofs.lemmas.Bool.Decides.{eqb_tells, leb_tells}
+use Rattle.std.proofs.lemmas.List.{get_or_past, length-take, drop_all, drop-append-le, get_or-take, nil_from_length}
+use Rattle.std.proofs.lemmas.List.Folds.{concat-append}
+use Rattle.std.proofs.lemmas.List.FromFn.{length-map-range_with_len}
+use Rattle.std.proofs.lemmas.Nat.{div-add-mod', div-mul-add}
+use Rattle.std.proofs.Math.Nat.{add-mul, zero-mul, zero-div, zero-mod, le-div_iff_mul-le, mod-eq_of_lt, mul-add-mod_self_right}
+use Rattle.std.proofs.Math.Seq.{drop-append_seam, drop-cons}
+use Rattle.sl_packet.specs.IdlePacket.{idle_packet}
+use Rattle.sl_tmframe.specs.PacketFrame.{field_room_of}
+use Rattle.sl_tmframe.specs.TmFrame.{TmFormat}
+use Rattle.sl_tmflow.specs.FormLeft.{FormProgress, IsPending, IsLeft, IsAllMade, AddsPiece, start_in, fields_in, beyond_fields, channel_packets, filled_packets, passed, HasMore, HasPackets, packets_in, packets_left}
+use Rattle.sl_tmflow.specs.NormalForm.{with_filling, filling, fill_of, channel_frame, channel_frames, frames_from_channel}
+use Rattle.sl_packet.specs.Packet.{IsPacket}
+use Rattle.sl_tmflow.proofs.lemmas.Incomplete.List.{stated_packet_len-most}
+use Rattle.sl_tmflow.proofs.lemmas.Form.Fill.{no_filling, none_left, fill_is_least, filled_whole}
+use Rattle.sl_tmflow.proofs.lemmas.Form.Form.{fields_are, two_ranges, count_later, starts_here, starts_no_later, pending_next, found_here, no_frames}
+use Rattle.sl_tmflow.proofs.lemmas.Form.Steps.{after_packet, filling_of, next_channel, piece_of}
+
+-- ---- the next packet
+
+pub left_next : (s : FormProgress) (left packet : List ℕ) (later : List (List ℕ)) (taken : ℕ) → 0 < field_room_of s.format → length s.octets < field_room_of s.format
+    → drop s.taken (filled_packets s) ≡ packet ∷ later → drop taken (filled_packets s) ≡ later → taken ≤ length (channel_packets s) + 1 → IsLeft s left
+    → (more : List ℕ) × ((left ≡ piece_of s packet ++ more) × IsLeft (after_packet s packet taken) more)
+left_next s left packet later taken roomy few here there most l =
+    let room = field_room_of s.format in
+    let filled = filled_packets s in
+    let all = s.octets ++ packet in
+    let many = fields_in s.format all in
+    let p : IsPending room filled l.count s.start s.octets (packet ∷ later) = subst (IsPending room filled l.count s.start s.octets) here l.pending in
+    let fields = div-add-mod' (length all) room in
+    let inside : concat filled ≡ p.made ++ (all ++ concat later) = p.parts ∙ ap (λ o. p.made ++ o) (sym (append_assoc s.octets packet (concat later))) in
+    let sum = add-mul l.count many room in
+    let long : (l.count + many) * room ≤ length (concat filled) =
+    omega (arith, sum, p.size, fields, ap length inside, length-append p.made (all ++ concat later), length-append all (concat later)) in
+    let enough : l.count + many ≤ length (concat filled) / room = (le-div_iff_mul-le roomy).1 long in
+    let rest = l.many - many in
+    let split : l.many ≡ many + rest = omega (arith, enough, l.all) in
+    let frame = channel_frame s.format s.spacecraft s.vc l.before filled in
+    let others = λ (n : ℕ). concat (frames_from_channel s.format s.spacecraft (s.vc + 1) (l.before + n) (drop (s.vc + 1) (take 8 s.lists))) in
+    let piece : piece_of s packet ≡ concat (map frame (range_with_len l.count many)) =
+    fields_are s.format s.spacecraft s.vc l.before filled many l.count (Some s.start) s.master s.counter p.made all (concat later) inside p.size (omega (arith, fields)) l.master_is l.counter_is
+    (λ some. starts_here room filled l.count s.start s.octets packet later few p) (starts_no_later room filled l.count s.start s.octets packet later few p) in
+    let made = map frame (range_with_len l.count many) in
+    let unmade = map frame (range_with_len (l.count + many) rest) in
+    let total : l.count + (many + rest) ≡ l.count + many + rest = omega arith in
+    let master : l.before + l.count + many ≡ l.before + (l.count + many) = omega arith in (
+      concat unmade ++ others (l.count + many + rest),
+      (
+        l.left_is ∙ ap (λ n. concat (map frame (range_with_len l.count n)) ++ others (l.count + n)) split
+            ∙ ap (λ n. concat (map frame (range_with_len l.count (many + rest))) ++ others n) total
+            ∙ ap (λ fs. concat fs ++ others (l.count + many + rest)) (two_ranges frame many l.count rest)
+            ∙ ap (λ fs. fs ++ others (l.count + many + rest)) (concat-append made unmade)
+            ∙ append_assoc (concat made) (concat unmade) (others (l.count + many + rest))
+            ∙ ap (λ o. o ++ (concat unmade ++ others (l.count + many + rest))) (sym piece),
+        record {
+          before = l.before;
+          count = l.count + many;
+          many = rest;
+          most = most;
+          all = omega (arith, split, l.all);
+          master_is = count_later s.master (l.before + l.count) many l.master_is ∙ ap (λ n. n % 256) master;
+          counter_is = count_later s.counter l.count many l.counter_is;
+          pending = subst (IsPending room filled (l.count + many) (if many == 0 then s.start else length (beyond_fields s.format all)) (beyond_fields s.format all)) (sym there)
+              (pending_next room filled l.count s.start s.octets packet later few p);
+          left_is = refl;
+        },
+      ),
+    )
+
+-- ---- from channel to channel
+
+-- the frames from a channel on are its own and those of the channels after it
+from_channel : (format : TmFormat) (spacecraft : ℕ) (lists : List (List (List ℕ))) (v mc : ℕ)
+    → concat (frames_from_channel format spacecraft v mc (drop v lists))
+    ≡ concat (channel_frames format spacecraft v mc (slice_index_or lists v []))
+    ++ concat (frames_from_channel format spacecraft (v + 1) (mc + length (concat (with_filling (field_room_of format) (slice_index_or lists v []))) / field_room_of format) (drop (v + 1) lists))
+from_channel format spacecraft lists v mc =
+    let packets = slice_index_or lists v [] in
+    let filled = with_filling (field_room_of format) packets in
+    let total = length (concat filled) / field_room_of format in
+    let frames = channel_frames format spacecraft v mc packets in
+    elim (leb_tells (suc v) (length lists)) [
+      | inl (test, inside) ↦
+          ap (λ l. concat (frames_from_channel format spacecraft v mc l)) (drop-cons lists v [] inside)
+          ∙ concat-append frames (frames_from_channel format spacecraft (v + 1) (mc + length frames) (drop (suc v) lists))
+          ∙ ap (λ n. concat frames ++ concat (frames_from_channel format spacecraft (v + 1) (mc + n) (drop (suc v) lists))) (length-map-range_with_len (channel_frame format spacecraft v mc filled) 0 total)
+          ∙ ap (λ n. concat frames ++ concat (frames_from_channel format spacecraft (v + 1) (mc + total) (drop n lists))) (sym (add-one v))
+      | inr (test, beyond) ↦
+          let none = get_or_past lists v [] (omega (arith, beyond)) in
+          let all : concat (frames_from_channel format spacecraft v mc (drop v lists)) ≡ [] =
+          ap (λ l. concat (frames_from_channel format spacecraft v mc l)) (drop_all v lists (omega (arith, beyond))) in
+          let own : concat frames ≡ [] = ap (λ ps. concat (channel_frames format spacecraft v mc ps)) none ∙ ap concat (no_frames format spacecraft v mc) in
+          let others : concat (frames_from_channel format spacecraft (v + 1) (mc + total) (drop (v + 1) lists)) ≡ [] =
+          ap (λ l. concat (frames_from_channel format spacecraft (v + 1) (mc + total) l)) (drop_all (v + 1) lists (omega (arith, beyond))) in
+          all ∙ ap₂ (λ a b. a ++ b) (sym own) (sym others)
+    ]
+
+-- at the front of a channel its frames and those of the channels after it are left
+pub left_at_front : (s : FormProgress) (before : ℕ) → 0 < field_room_of s.format → s.taken ≡ 0 → s.counter ≡ 0 → s.octets ≡ [] → s.start ≡ 0 → s.master ≡ before % 256
+    → IsLeft s (concat (frames_from_channel s.format s.spacecraft s.vc before (drop s.vc (take 8 s.lists))))
+left_at_front s before roomy taken counter octets start master =
+    let room = field_room_of s.format in
+    let filled = filled_packets s in
+    let total = length (concat filled) / room in
+    let none : 0 * room ≡ 0 = zero-mul room in
+    let front : 0 * room + 0 ≡ 0 = omega (arith, none) in
+    let same : before ≡ before + 0 = omega arith in
+    let sum : total ≡ 0 + total = omega arith in
+    record {
+      before = before;
+      count = 0;
+      many = total;
+      most = omega (arith, taken);
+      all = omega arith;
+      master_is = master ∙ ap (λ n. n % 256) same;
+      counter_is = counter;
+      pending = rw (taken, octets, start) record {
+        made = [];
+        parts = refl;
+        size = sym none;
+        within = omega arith;
+        after = λ number above. ap (λ n. start_in room number n filled) (sym front);
+        first = λ packet more is. ap (start_in room 0 0) is ∙ ap (λ n. start_in room 0 n (packet ∷ more)) (sym front) ∙ found_here room 0 0 packet more roomy;
+      };
+      left_is = from_channel s.format s.spacecraft (take 8 s.lists) s.vc before
+          ∙ ap (λ n. concat (channel_frames s.format s.spacecraft s.vc before (channel_packets s)) ++ concat (frames_from_channel s.format s.spacecraft (s.vc + 1) (before + n) (drop (s.vc + 1) (take 8 s.lists)))) sum;
+    }
+
+-- ---- the packets of a channel, filled up
+
+-- the filling depends on what is left of whole rooms alone
+same_filling : (room a b : ℕ) → a % room ≡ b % room → filling room a ≡ filling room b
+same_filling room a b same = rw (same) refl
+
+few_filling : (room len : ℕ) → length (filling room len) ≤ 1
+few_filling room len =
+    elim (eqb_tells (fill_of room len) 0) [
+      | inl (test, none) ↦ rw (test) (omega arith)
+      | inr (test, some) ↦ rw (test) (omega arith)
+    ]
+
+few_filled : (s : FormProgress) → length (filled_packets s) ≤ length (channel_packets s) + 1
+few_filled s =
+    let fill = filling (field_room_of s.format) (length (concat (channel_packets s))) in
+    omega (arith, length-append (channel_packets s) fill, few_filling (field_room_of s.format) (length (concat (channel_packets s))))
+
+-- the packets of a virtual channel, among all
+pub channel_is : (s : FormProgress) → s.vc < 8 → channel_packets s ≡ slice_index_or s.lists s.vc []
+channel_is s inside = get_or-take 8 s.lists s.vc [] inside
+
+-- where packets are left, the next one
+pub packet_here : (s : FormProgress) → s.taken < length (channel_packets s)
+    → drop s.taken (filled_packets s) ≡ slice_index_or (channel_packets s) s.taken [] ∷ drop (s.taken + 1) (filled_packets s)
+packet_here s inside =
+    let packets = channel_packets s in
+    let fill = filling (field_room_of s.format) (length (concat packets)) in
+    drop-append-le s.taken packets fill (omega arith) ∙ ap (λ l. l ++ fill) (drop-cons packets s.taken [] inside)
+    ∙ ap (λ n. slice_index_or packets s.taken [] ∷ (drop n packets ++ fill)) (sym (add-one s.taken))
+    ∙ ap (λ l. slice_index_or packets s.taken [] ∷ l) (sym (drop-append-le (s.taken + 1) packets fill (omega (arith, inside))))
+
+-- the octets of the channel, where no packet is left beyond these
+octets_of_all : (s : FormProgress) (left : List ℕ) (later : List (List ℕ)) → drop s.taken (filled_packets s) ≡ later → (l : IsLeft s left)
+    → length (concat (filled_packets s)) ≡ l.count * field_room_of s.format + length s.octets + length (concat later)
+octets_of_all s left later is l =
+    let p = l.pending in
+    omega (arith, ap length p.parts, length-append p.made (s.octets ++ concat (drop s.taken (filled_packets s))), length-append s.octets (concat (drop s.taken (filled_packets s))), p.size, ap (λ ps. length (concat ps)) is)
+
+-- octets beyond whole data fields are left only before the filling
+last_taken : (s : FormProgress) (left : List ℕ) → 7 ≤ field_room_of s.format → field_room_of s.format ≤ 65536 → length s.octets < field_room_of s.format → 0 < length s.octets
+    → length (channel_packets s) ≤ s.taken → IsLeft s left → s.taken ≡ length (channel_packets s)
+last_taken s left wide short few some beyond l =
+    let room = field_room_of s.format in
+    elim (leb_tells s.taken (length (channel_packets s))) [
+      | inl (test, inside) ↦ omega (arith, inside, beyond)
+      | inr (test, over) ↦
+          let none : drop s.taken (filled_packets s) ≡ [] = drop_all s.taken (filled_packets s) (omega (arith, few_filled s, over)) in
+          let size = octets_of_all s left [] none l in
+          let nothing : l.count * room + length s.octets + 0 ≡ l.count * room + length s.octets = omega arith in
+          let whole : length s.octets ≡ 0 =
+          sym (mod-eq_of_lt few) ∙ sym (mul-add-mod_self_right l.count room (length s.octets)) ∙ ap (λ n. n % room) (sym (size ∙ nothing)) ∙ filled_whole room (channel_packets s) wide short in
+          absurd (omega (arith, whole, some))
+    ]
+
+one_packet : (room len : ℕ) → (fill_of room len == 0) ≡ false → filling room len ≡ concat (filling room len) ∷ []
+one_packet room len test = rw (test) (ap (λ q. q ∷ []) (sym (append-nil (idle_packet (fill_of room len)))))
+
+-- where octets are left alone, the filling is next, and the last
+pub filling_here : (s : FormProgress) (left : List ℕ) → 7 ≤ field_room_of s.format → field_room_of s.format ≤ 65536 → length s.octets < field_room_of s.format → 0 < length s.octets
+    → length (channel_packets s) ≤ s.taken → IsLeft s left → drop s.taken (filled_packets s) ≡ filling_of s ∷ []
+filling_here s left wide short few some beyond l =
+    let room = field_room_of s.format in
+    let packets = channel_packets s in
+    let fill = filling room (length (concat packets)) in
+    let last = last_taken s left wide short few some beyond l in
+    let next : drop s.taken (filled_packets s) ≡ fill = ap (λ n. drop n (packets ++ fill)) last ∙ drop-append_seam packets fill in
+    let size = octets_of_all s left fill next l in
+    let both : length (concat (filled_packets s)) ≡ length (concat packets) + length (concat fill) = ap length (concat-append packets fill) ∙ length-append (concat packets) (concat fill) in
+    let len : length (concat packets) ≡ l.count * room + length s.octets = omega (arith, size, both) in
+    let same : fill ≡ filling room (length s.octets) = same_filling room (length (concat packets)) (length s.octets) (ap (λ n. n % room) len ∙ mul-add-mod_self_right l.count room (length s.octets)) in
+    elim (eqb_tells (fill_of room (length s.octets)) 0) [
+      | inl (test, none) ↦
+          let sum : length s.octets + fill_of room (length s.octets) ≡ length s.octets = omega (arith, none) in
+          let whole : length s.octets ≡ 0 = sym (mod-eq_of_lt few) ∙ ap (λ n. n % room) (sym sum) ∙ (fill_is_least room (length s.octets) wide).fills in
+          absurd (omega (arith, whole, some))
+      | inr (test, there) ↦
+          next ∙ same ∙ one_packet room (length s.octets) test
+    ]
+
+pub after_filling : (s : FormProgress) (taken : ℕ) → taken ≡ length (channel_packets s) + 1 → drop taken (filled_packets s) ≡ []
+after_filling s taken is = drop_all taken (filled_packets s) (omega (arith, few_filled s, is))
+
+-- ---- pieces
+
+-- a packet's piece
+pub adds_packet : (s s' : FormProgress) (packet before after : List ℕ) → 0 < field_room_of s.format → length s.octets < field_room_of s.format → s.taken < length (channel_packets s)
+    → slice_index_or (channel_packets s) s.taken [] ≡ packet → s' ≡ after_packet s packet (s.taken + 1) → after ≡ before ++ piece_of s packet → AddsPiece s before after s'
+adds_packet s s' packet before after roomy few inside is next added =
+    let later = drop (s.taken + 1) (filled_packets s) in
+    record {
+      piece = piece_of s packet;
+      added = added;
+      left = λ octets l. subst (λ t. (more : List ℕ) × ((octets ≡ piece_of s packet ++ more) × IsLeft t more)) (sym next)
+          (left_next s octets packet later (s.taken + 1) roomy few (packet_here s inside ∙ ap (λ p. p ∷ later) is) refl (omega (arith, inside)) l);
+    }
+
+-- the piece of the packet that fills up
+pub adds_filling : (s s' : FormProgress) (taken : ℕ) (before after : List ℕ) → 7 ≤ field_room_of s.format → field_room_of s.format ≤ 65536 → length s.octets < field_room_of s.format → 0 < length s.octets
+    → length (channel_packets s) ≤ s.taken → taken ≡ length (channel_packets s) + 1 → s' ≡ after_packet s (filling_of s) taken → after ≡ before ++ piece_of s (filling_of s) → AddsPiece s before after s'
+adds_filling s s' taken before after wide short few some beyond last next added =
+    record {
+      piece = piece_of s (filling_of s);
+      added = added;
+      left = λ octets l. subst (λ t. (more : List ℕ) × ((octets ≡ piece_of s (filling_of s) ++ more) × IsLeft t more)) (sym next)
+          (left_next s octets (filling_of s) [] taken (omega (arith, wide)) few (filling_here s octets wide short few some beyond l) (after_filling s taken last) (omega (arith, last)) l);
+    }
+
+-- the progress, where the octets that are kept are these
+abbrev pub keeping : FormProgress → List ℕ → FormProgress
+keeping s octets =
+    record {
+      format = s.format;
+      spacecraft = s.spacecraft;
+      lists = s.lists;
+      vc = s.vc;
+      taken = s.taken;
+      master = s.master;
+      counter = s.counter;
+      octets = octets;
+      start = s.start;
+    }
+
+pub passed_is : (s : FormProgress) (octets packet : List ℕ) (frames taken : ℕ) → octets ≡ beyond_fields s.format (s.octets ++ packet) → frames ≡ fields_in s.format (s.octets ++ packet)
+    → passed (keeping s octets) frames taken ≡ after_packet s packet taken
+passed_is s octets packet frames taken is many = rw (is, many) refl
+
+-- ---- the next channel
+
+-- where no packet is left, and no octets, no frame is
+none_many : (s : FormProgress) (left : List ℕ) → 0 < field_room_of s.format → length (channel_packets s) ≤ s.taken → s.octets ≡ [] → (l : IsLeft s left) → l.many ≡ 0
+none_many s left roomy beyond nothing l =
+    let room = field_room_of s.format in
+    let packets = channel_packets s in
+    let fill = filling room (length (concat packets)) in
+    let no_octets = ap length nothing in
+    elim (leb_tells s.taken (length packets)) [
+      | inl (test, inside) ↦
+          let last : s.taken ≡ length packets = omega (arith, inside, beyond) in
+          let next : drop s.taken (filled_packets s) ≡ fill = ap (λ n. drop n (packets ++ fill)) last ∙ drop-append_seam packets fill in
+          let size = octets_of_all s left fill next l in
+          let both : length (concat (filled_packets s)) ≡ length (concat packets) + length (concat fill) = ap length (concat-append packets fill) ∙ length-append (concat packets) (concat fill) in
+          let len : length (concat packets) ≡ l.count * room = omega (arith, size, both, no_octets) in
+          let same : fill ≡ [] = same_filling room (length (concat packets)) 0 (ap (λ n. n % room) len ∙ none_left room l.count ∙ sym (zero-mod room)) ∙ no_filling room in
+          counted (l.count * room + 0) (size ∙ omega (arith, no_octets, ap (λ ps. length (concat ps)) same)) refl
+      | inr (test, over) ↦
+          let none : drop s.taken (filled_packets s) ≡ [] = drop_all s.taken (filled_packets s) (omega (arith, few_filled s, over)) in
+          counted (l.count * room + 0) (octets_of_all s left [] none l ∙ omega (arith, no_octets)) refl
+    ]
+  where
+    counted : (n : ℕ) → length (concat (filled_packets s)) ≡ n → n ≡ l.count * field_room_of s.format + 0 → l.many ≡ 0
+    counted n size is = let frames = ap (λ k. k / field_room_of s.format) (size ∙ is) ∙ div-mul-add l.count (field_room_of s.format) 0 roomy in omega (arith, l.all, frames)
+
+pub left_next_channel : (s : FormProgress) (left : List ℕ) → 0 < field_room_of s.format → length (channel_packets s) ≤ s.taken → s.octets ≡ [] → IsLeft s left → IsLeft (next_channel s) left
+left_next_channel s left roomy beyond nothing l =
+    let none = none_many s left roomy beyond nothing l in
+    let within = l.pending.within in
+    let start : s.start ≡ 0 = omega (arith, within, ap length nothing) in
+    let count : l.count + 0 ≡ l.count = omega arith in
+    let others = λ (n : ℕ). concat (frames_from_channel s.format s.spacecraft (s.vc + 1) (l.before + n) (drop (s.vc + 1) (take 8 s.lists))) in
+    let frame = channel_frame s.format s.spacecraft s.vc l.before (filled_packets s) in
+    let is : left ≡ others l.count = l.left_is ∙ ap (λ n. concat (map frame (range_with_len l.count n)) ++ others (l.count + n)) none ∙ ap others count in
+    subst (IsLeft (next_channel s)) (sym is) (left_at_front (next_channel s) (l.before + l.count) roomy refl refl nothing start l.master_is)
+
+-- after the last channel nothing is left
+pub none_left_after : (s : FormProgress) → 8 ≤ s.vc → IsAllMade s
+none_left_after s beyond left l =
+    let room = field_room_of s.format in
+    let few : length (take 8 s.lists) ≤ 8 = omega (arith, length-take 8 s.lists) in
+    let none = get_or_past (take 8 s.lists) s.vc [] (omega (arith, few, beyond)) in
+    let no_packets : filled_packets s ≡ [] = ap (with_filling room) none ∙ no_filling room in
+    let frames : length (concat (filled_packets s)) / room ≡ 0 = ap (λ ps. length (concat ps) / room) no_packets ∙ zero-div room in
+    let many : l.many ≡ 0 = omega (arith, l.all, frames) in
+    let frame = channel_frame s.format s.spacecraft s.vc l.before (filled_packets s) in
+    let others = λ (n : ℕ) (lists : List (List (List ℕ))). concat (frames_from_channel s.format s.spacecraft (s.vc + 1) (l.before + (l.count + n)) lists) in
+    l.left_is ∙ ap (λ n. concat (map frame (range_with_len l.count n)) ++ others n (drop (s.vc + 1) (take 8 s.lists))) many
+    ∙ ap (others 0) (drop_all (s.vc + 1) (take 8 s.lists) (omega (arith, few, beyond)))
+
+-- where more is left, there are packets
+pub some_packets : (s : FormProgress) (left : List ℕ) → HasMore s → IsLeft s left → HasPackets s.lists
+some_packets s left m l =
+    let inside = m.inside in
+    let is = channel_is s (omega (arith, inside)) in (
+      s.vc,
+      (
+        omega (arith, inside),
+        λ none. elim m.more [
+          | inl taken ↦ absurd (omega (arith, taken, ap length none))
+          | inr some ↦
+              let no_packets : filled_packets s ≡ [] = ap (with_filling (field_room_of s.format)) (is ∙ none) ∙ no_filling (field_room_of s.format) in
+              let p = l.pending in
+              let later = concat (drop s.taken (filled_packets s)) in
+              let size = ap length p.parts in
+              some (nil_from_length s.octets (omega (arith, size, ap (λ ps. length (concat ps)) no_packets, length-append p.made (s.octets ++ later), length-append s.octets later)))
+        ],
+      ),
+    )
+
+-- where more is left, and no packet, octets are
+pub octets_left : (s : FormProgress) → HasMore s → length (channel_packets s) ≤ s.taken → 0 < length s.octets
+octets_left s m beyond =
+    let inside = m.inside in
+    let is = channel_is s (omega (arith, inside)) in
+    elim m.more [
+      | inl taken ↦ absurd (omega (arith, taken, ap length is, beyond))
+      | inr some ↦ elim (eqb_tells (length s.octets) 0) [
+        | inl (test, none) ↦ absurd (some (nil_from_length s.octets none))
+        | inr (test, left) ↦ omega (arith, left)
+      ]
+    ]
+
+-- no packet has more than 65,542 octets
+pub longest_packet : (packet : List ℕ) → IsPacket packet → length packet ≤ 65542
+longest_packet packet is = let len = is.len in let most = stated_packet_len-most packet in omega (arith, len, most)
+
+-- ---- there is a last piece
+
+pub fewer_after : (s : FormProgress) (packet : List ℕ) → s.vc < length (take 8 s.lists) → s.taken ≤ length (channel_packets s) → packets_left (after_packet s packet (s.taken + 1)) < packets_left s
+fewer_after s packet inside some =
+    let here = ap packets_in (drop-cons (take 8 s.lists) s.vc [] inside) in
+    omega (arith, here)
+
+-- also where the packet fills up
+pub fewer_filled : (s : FormProgress) (left packet : List ℕ) (taken : ℕ) → 7 ≤ field_room_of s.format → field_room_of s.format ≤ 65536 → length s.octets < field_room_of s.format → 0 < length s.octets
+    → length (channel_packets s) ≤ s.taken → s.vc < length (take 8 s.lists) → taken ≡ length (channel_packets s) + 1 → IsLeft s left → packets_left (after_packet s packet taken) < packets_left s
+fewer_filled s left packet taken wide short few some beyond inside is l =
+    let last = last_taken s left wide short few some beyond l in
+    let next : s.taken + 1 ≡ taken = omega (arith, last, is) in
+    subst (λ n. packets_left (after_packet s packet n) < packets_left s) next (fewer_after s packet inside (omega (arith, last)))
+
+pub no_more_after : (s : FormProgress) → s.vc < length (take 8 s.lists) → s.taken ≤ length (channel_packets s) + 1 → packets_left (next_channel s) ≤ packets_left s
+no_more_after s inside some =
+    let here = ap packets_in (drop-cons (take 8 s.lists) s.vc [] inside) in
+    let next = ap (λ n. packets_in (drop n (take 8 s.lists))) (add-one s.vc) in
+    omega (arith, here, next)

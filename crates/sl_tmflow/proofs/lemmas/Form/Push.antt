@@ -1,0 +1,154 @@
+-- The code's steps: frames of the data fields that octets fill.
+use Rattle.std.proofs.Common.{◌≡◌, ℕ, zero, suc, ◌+◌, ◌-◌, ◌*◌, ◌/◌, ◌%◌, ◌<◌, ◌≤◌, List, [], ◌++◌, length, take, drop, Option, None, sym, ◌∙◌, ap, arith, length-append, append_assoc, append-nil}
+use Rattle.std.proofs.lemmas.List.{drop_all, drop-drop}
+use Rattle.std.specs.List.{concat}
+use Rattle.std.proofs.lemmas.Nat.{div-add-mod', div-mul-add}
+use Rattle.std.proofs.Math.Nat.{add-mul-div_right, suc-mul, zero-mul, one-mul, zero-div}
+use Rattle.std.proofs.Math.Seq.{drop-append_seam, take-append_seam}
+use Rattle.sl_fields.proofs.FecfLemmas.{fecf_len_le}
+use Rattle.sl_fields.proofs.Octets.{length-octets_of}
+use Rattle.sl_fields.specs.Field.{octets_of}
+use Rattle.sl_tmframe.proofs.PacketFrameLemmas.{with_fecf_whole}
+use Rattle.sl_tmframe.specs.PacketFrame.{field_room_of, frame_fields}
+use Rattle.sl_tmframe.specs.TmFrame.{TmFormat}
+use Rattle.sl_tmflow.specs.FormLeft.{field_frames, fields_in, beyond_fields, filled_up, headed_frame, heading_after}
+use Rattle.sl_tmflow.specs.declared.form.Heading.{Heading}
+use Rattle.sl_tmflow.specs.NormalForm.{filling, fill_of}
+use Rattle.sl_tmflow.proofs.lemmas.Form.Fill.{fill_inside, fill_is_least, filling_is}
+
+-- ---- how many data fields
+
+pub none_filled : (format : TmFormat) (octets : List ℕ) → length octets < field_room_of format → fields_in format octets ≡ 0
+none_filled format octets few =
+    let none : length octets ≡ 0 * field_room_of format + length octets = omega (arith, zero-mul (field_room_of format)) in
+    ap (λ n. n / field_room_of format) none ∙ div-mul-add 0 (field_room_of format) (length octets) few
+
+pub few_beyond : (format : TmFormat) (octets : List ℕ) → length octets < field_room_of format → beyond_fields format octets ≡ octets
+few_beyond format octets few = ap (λ n. drop (n * field_room_of format) octets) (none_filled format octets few) ∙ ap (λ n. drop n octets) (zero-mul (field_room_of format))
+
+pub none_beyond_filling : (format : TmFormat) (octets : List ℕ) → 7 ≤ field_room_of format → field_room_of format ≤ 65536 → beyond_fields format (filled_up format octets) ≡ []
+none_beyond_filling format octets wide short =
+    let room = field_room_of format in
+    let len = length octets in
+    let all = filled_up format octets in
+    let size : length all ≡ len + fill_of room len = length-append octets (concat (filling room len)) ∙ ap (λ n. len + n) (filling_is room len wide short).1 in
+    let whole : length all % room ≡ 0 = ap (λ n. n % room) size ∙ (fill_is_least room len wide).fills in
+    let parts = div-add-mod' (length all) room in
+    drop_all (length all / room * room) all (omega (arith, whole, parts))
+
+pub one_more_field : (format : TmFormat) (left field later : List ℕ) → 0 < field_room_of format → left ≡ field ++ later → length field ≡ field_room_of format
+    → fields_in format left ≡ suc (fields_in format later)
+one_more_field format left field later roomy divided whole =
+    let one = one-mul (field_room_of format) in
+    let size : length left ≡ length later + 1 * field_room_of format = omega (arith, ap length divided, length-append field later, whole, one) in
+    let more = ap (λ n. n / field_room_of format) size ∙ add-mul-div_right (length later) 1 roomy in
+    omega (arith, more)
+
+pub next_field : (format : TmFormat) (heading : Heading) (first : Option ℕ) (left field later : List ℕ) → 0 < field_room_of format → left ≡ field ++ later → length field ≡ field_room_of format
+    → field_frames format (fields_in format left) heading first left
+    ≡ headed_frame format heading first field ++ field_frames format (fields_in format later) (heading_after heading 1) None later
+next_field format heading first left field later roomy divided whole =
+    let front : take (field_room_of format) left ≡ field = ap (λ n. take n left) (sym whole) ∙ ap (take (length field)) divided ∙ take-append_seam field later in
+    let back : drop (field_room_of format) left ≡ later = ap (λ n. drop n left) (sym whole) ∙ ap (drop (length field)) divided ∙ drop-append_seam field later in
+    let many = fields_in format later in
+    ap (λ n. field_frames format n heading first left) (one_more_field format left field later roomy divided whole)
+    ∙ ap (λ f. headed_frame format heading first f ++ field_frames format many (heading_after heading 1) None (drop (field_room_of format) left)) front
+    ∙ ap (λ l. headed_frame format heading first field ++ field_frames format many (heading_after heading 1) None l) back
+
+-- a frame has the octets of its format
+pub frame_size : (format : TmFormat) (heading : Heading) (first : Option ℕ) (field : List ℕ) → 8 ≤ format.len → length field ≡ field_room_of format
+    → length (headed_frame format heading first field) ≡ format.len
+frame_size format heading first field long whole =
+    let header = frame_fields heading.spacecraft heading.vc heading.master heading.counter first in
+    with_fecf_whole format (octets_of 6 header) field long (length-octets_of 6 header) whole
+
+-- ---- frames that were pushed so far
+
+pub record IsPushing (format : TmFormat) (heading : Heading) (end : List ℕ) (size : ℕ) (first : Option ℕ) (left form : List ℕ) (len : ℕ) : Type 0 where
+  pub frames : form ++ field_frames format (fields_in format left) heading first left ≡ end
+  pub sizes : len + fields_in format left * format.len ≡ size
+
+pub pushes_next : (format : TmFormat) (heading : Heading) (end : List ℕ) (size : ℕ) (first : Option ℕ) (left field later form form' : List ℕ) (len len' : ℕ)
+    → 0 < field_room_of format → 8 ≤ format.len → left ≡ field ++ later → length field ≡ field_room_of format
+    → form' ≡ form ++ headed_frame format heading first field → len ≡ length form → len' ≡ length form'
+    → IsPushing format heading end size first left form len
+    → IsPushing format (heading_after heading 1) end size None later form' len'
+pushes_next format heading end size first left field later form form' len len' roomy long divided whole added is is' p =
+    let frame = headed_frame format heading first field in
+    let others = field_frames format (fields_in format later) (heading_after heading 1) None later in
+    let more = one_more_field format left field later roomy divided whole in
+    let lengths = suc-mul (fields_in format later) format.len in
+    let step = ap (λ n. n * format.len) more in
+    record {
+      frames = ap (λ f. f ++ others) added ∙ append_assoc form frame others ∙ ap (λ l. form ++ l) (sym (next_field format heading first left field later roomy divided whole)) ∙ p.frames;
+      sizes = omega (arith, p.sizes, step, lengths, is, is', ap length added, length-append form frame, frame_size format heading first field long whole);
+    }
+
+-- no data field is left
+pub all_pushed : (format : TmFormat) (heading : Heading) (end : List ℕ) (size : ℕ) (first : Option ℕ) (left form : List ℕ) (len : ℕ) → length left < field_room_of format
+    → IsPushing format heading end size first left form len → (form ≡ end) × (len ≡ size)
+all_pushed format heading end size first left form len few p =
+    let none = none_filled format left few in
+    let nothing = zero-mul format.len in
+    let no_octets = ap (λ n. n * format.len) none in (
+      sym (append-nil form) ∙ ap (λ n. form ++ field_frames format n heading first left) (sym none) ∙ p.frames,
+      omega (arith, p.sizes, no_octets, nothing),
+    )
+
+-- ---- octets and a packet after them
+
+module _ (format : TmFormat) (octets head rest packet : List ℕ) (roomy : 0 < field_room_of format) (whole : length (octets ++ head) ≡ field_room_of format) (divided : packet ≡ head ++ rest) where
+  both : octets ++ packet ≡ (octets ++ head) ++ rest
+  both = ap (λ l. octets ++ l) divided ∙ sym (append_assoc octets head rest)
+
+  pub fields_of_both : fields_in format (octets ++ packet) ≡ suc (fields_in format rest)
+  fields_of_both = one_more_field format (octets ++ packet) (octets ++ head) rest roomy both whole
+
+  pub field_of_first : fields_in format (octets ++ head) ≡ 1
+  field_of_first =
+      one_more_field format (octets ++ head) (octets ++ head) [] roomy (sym (append-nil (octets ++ head))) whole ∙ ap suc (zero-div (field_room_of format))
+
+  pub beyond_both : (from : ℕ) → from ≡ length rest - length rest % field_room_of format → beyond_fields format (octets ++ packet) ≡ drop from rest
+  beyond_both from is =
+      let fields = div-add-mod' (length rest) (field_room_of format) in
+      let rooms = suc-mul (fields_in format rest) (field_room_of format) in
+      let at : fields_in format (octets ++ packet) * field_room_of format ≡ length (octets ++ head) + from = omega (arith, ap (λ n. n * field_room_of format) fields_of_both, rooms, fields, whole, is) in
+      ap (λ n. drop n (octets ++ packet)) at ∙ ap (drop (length (octets ++ head) + from)) both ∙ sym (drop-drop from (length (octets ++ head)) ((octets ++ head) ++ rest)) ∙ ap (drop from) (drop-append_seam (octets ++ head) rest)
+
+  pub frames_of_both : (heading : Heading) (first : Option ℕ) (form form₁ form₂ : List ℕ)
+      → form₁ ≡ form ++ field_frames format (fields_in format (octets ++ head)) heading first (octets ++ head)
+      → form₂ ≡ form₁ ++ field_frames format (fields_in format rest) (heading_after heading 1) None rest
+      → form₂ ≡ form ++ field_frames format (fields_in format (octets ++ packet)) heading first (octets ++ packet)
+  frames_of_both heading first form form₁ form₂ one two =
+      let frame = headed_frame format heading first (octets ++ head) in
+      let others = field_frames format (fields_in format rest) (heading_after heading 1) None rest in
+      let alone : field_frames format (fields_in format (octets ++ head)) heading first (octets ++ head) ≡ frame =
+      next_field format heading first (octets ++ head) (octets ++ head) [] roomy (sym (append-nil (octets ++ head))) whole
+      ∙ ap (λ n. frame ++ field_frames format n (heading_after heading 1) None []) (zero-div (field_room_of format)) ∙ append-nil frame in
+      two ∙ ap (λ f. f ++ others) (one ∙ ap (λ f. form ++ f) alone) ∙ append_assoc form frame others
+      ∙ ap (λ l. form ++ l) (sym (next_field format heading first (octets ++ packet) (octets ++ head) rest roomy both whole))
+
+-- ---- the room for a piece
+
+thrice : (many room len : ℕ) → 24 ≤ room → len ≤ room + 8 → 3 * (many * len) ≤ 4 * (many * room)
+thrice zero room len wide short = let a = zero-mul room in let b = zero-mul len in omega arith
+thrice (suc many) room len wide short =
+    let a = suc-mul many room in let b = suc-mul many len in let so_far = thrice many room len wide short in omega arith
+
+pub piece_fits : (many room len octets : ℕ) → 24 ≤ room → len ≤ room + 8 → many * room ≤ octets → octets ≤ 67584 → many * len ≤ 90112
+piece_fits many room len octets wide short fields most = let t = thrice many room len wide short in omega arith
+
+pub small_piece : (format : TmFormat) (octets packet : List ℕ) → 24 ≤ field_room_of format → field_room_of format ≤ 2042 → length octets < field_room_of format → length packet ≤ 65542
+    → fields_in format (octets ++ packet) * format.len ≤ 90112
+small_piece format octets packet wide short few most =
+    let all = octets ++ packet in
+    let last = fecf_len_le format.fecf in
+    let parts = div-add-mod' (length all) (field_room_of format) in
+    let size = length-append octets packet in
+    piece_fits (fields_in format all) (field_room_of format) format.len 67584 wide (omega (arith, wide, last)) (omega (arith, parts, size, few, short, most)) (omega arith)
+
+pub short_filling : (room : ℕ) (octets : List ℕ) → 24 ≤ room → room ≤ 2042 → length (concat (filling room (length octets))) ≤ 65542
+short_filling room octets wide short =
+    let size = (filling_is room (length octets) (omega (arith, wide)) (omega (arith, short))).1 in
+    let most = fill_inside room (length octets) (omega (arith, wide)) in
+    omega (arith, size, most, short)

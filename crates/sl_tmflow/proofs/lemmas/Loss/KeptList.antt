@@ -1,0 +1,136 @@
+-- The packets that the kept frames deliver are those of the whole channel of which all frames were kept.
+use Rattle.std.proofs.Common.{◌≡◌, ℕ, zero, suc, ◌+◌, ◌-◌, ◌<◌, ◌≤◌, ◌==◌, Bool, true, false, if◌then◌else◌, List, [], ◌∷◌, inl, inr, refl, sym, ◌∙◌, ap, ap₂, subst, arith, eq-eqb}
+use Rattle.std.specs.List.{AllByRecursion, filter, list_all, list_any, range_with_len}
+use Rattle.std.proofs.lemmas.Bool.{and_from, and_parts, cases_eq, eqb-true, or_cases}
+use Rattle.sl_tmflow.specs.Among.{IsAmong}
+use Rattle.sl_tmflow.specs.Delivery.{AreInOrder, Delivery, IsDelivery, StartsBefore, deliveries_of, packets_delivered}
+use Rattle.sl_tmflow.specs.Loss.{FewAreLost, IsSameDelivery, PacketsAreKept, RunIsKept, TestTellsRun, keeps_run}
+use Rattle.sl_tmflow.proofs.lemmas.Delivery.Delivery.{are_in_order, each_is_delivery, each_is_listed}
+use Rattle.sl_fields.proofs.ListLemmas.{each-both, each-filter, each-weaker}
+use Rattle.sl_tmflow.proofs.lemmas.Places.{some_passes}
+use Rattle.sl_tmflow.proofs.lemmas.Loss.KeptPacket.{IsLeftOf, each_among, left_later, not_both_ways, same_order}
+use Rattle.sl_tmflow.proofs.lemmas.Loss.KeptRun.{apart, kept_runs_are_left, runs_are_kept}
+use Rattle.sl_tmflow.proofs.lemmas.Loss.Local.{none_is_new}
+
+-- ---- the test
+
+any_among : (number : ℕ) (numbers : List ℕ) → list_any (λ kept. kept == number) numbers ≡ true → IsAmong number numbers
+any_among number [] passes = absurd (cc)
+any_among number (first ∷ numbers) passes =
+    elim (or_cases (first == number) (list_any (λ kept. kept == number) numbers) passes) [
+      | inl here ↦ inl (sym (eqb-true first number here))
+      | inr there ↦ inr (any_among number numbers there)
+    ]
+
+all_range : (test : ℕ → Bool) (from n : ℕ) → list_all test (range_with_len from n) ≡ true
+    → (number : ℕ) → from ≤ number → number < from + n → test number ≡ true
+all_range test from zero all number above below = absurd (omega arith)
+all_range test from (suc n) all number above below =
+    let parts = and_parts (test from) (list_all test (range_with_len (from + 1) n)) all in
+    elim (cases_eq from number) [
+      | inl here ↦ subst (λ k. test k ≡ true) here parts.0
+      | inr other ↦ all_range test (from + 1) n parts.1 number (omega (arith, other)) (omega arith)
+    ]
+
+range_all : (test : ℕ → Bool) (from n : ℕ) → ((number : ℕ) → from ≤ number → number < from + n → test number ≡ true)
+    → list_all test (range_with_len from n) ≡ true
+range_all test from zero each = refl
+range_all test from (suc n) each =
+    and_from (test from) (list_all test (range_with_len (from + 1) n)) (each from (omega arith) (omega arith))
+    (range_all test (from + 1) n (λ number above below. each number (omega arith) (omega arith)))
+
+run_from_test : (numbers : List ℕ) (whole : Delivery) → keeps_run numbers whole ≡ true → RunIsKept numbers whole
+run_from_test numbers whole passes number above below =
+    any_among number numbers
+    (all_range (λ n. list_any (λ kept. kept == n) numbers) whole.frame (whole.ending + 1 - whole.frame) passes number above (omega arith))
+
+test_from_run : (numbers : List ℕ) (whole : Delivery) → RunIsKept numbers whole → keeps_run numbers whole ≡ true
+test_from_run numbers whole run =
+    range_all (λ n. list_any (λ kept. kept == n) numbers) whole.frame (whole.ending + 1 - whole.frame)
+    (λ number above below. some_passes (λ kept. kept == number) number numbers (run number above (omega arith)) (eq-eqb number number refl))
+
+pub test_tells_run : TestTellsRun
+test_tells_run numbers whole = (run_from_test numbers whole, test_from_run numbers whole)
+
+-- ---- what passes a test
+
+module _ {X : Type 0} where
+  among_kept : (b : Bool) (x y : X) (ys : List X) → IsAmong x ys → IsAmong x (if b then y ∷ ys else ys)
+  among_kept true x y ys there = inr there
+  among_kept false x y ys there = there
+
+  filter_among : (test : X → Bool) (x : X) (xs : List X) → IsAmong x xs → test x ≡ true → IsAmong x (filter test xs)
+  filter_among test x [] there passes = absurd there
+  filter_among test x (y ∷ ys) (inl here) passes =
+      subst (λ b. IsAmong x (if b then y ∷ filter test ys else filter test ys)) (sym (ap test (sym here) ∙ passes)) (inl here)
+  filter_among test x (y ∷ ys) (inr there) passes = among_kept (test y) x y (filter test ys) (filter_among test x ys there passes)
+
+order_kept : (b : Bool) (d : Delivery) (deliveries : List Delivery) → AllByRecursion (StartsBefore d) deliveries → AreInOrder deliveries
+    → AreInOrder (if b then d ∷ deliveries else deliveries)
+order_kept true d deliveries after order = (after, order)
+order_kept false d deliveries after order = order
+
+in_order-filter : (test : Delivery → Bool) (deliveries : List Delivery) → AreInOrder deliveries → AreInOrder (filter test deliveries)
+in_order-filter test [] order = tt
+in_order-filter test (d ∷ deliveries) order =
+    order_kept (test d) d (filter test deliveries)
+    (each-filter (StartsBefore d) (StartsBefore d) test (λ e passes after. after) deliveries order.0) (in_order-filter test deliveries order.1)
+
+-- ---- the same packets
+
+module _ (numbers : List ℕ) (near : FewAreLost numbers) where
+  -- the same delivery is among these from the kept frames
+  abbrev IsKeptOf : List Delivery → Delivery → Type 0
+  IsKeptOf deliveries whole = (d : Delivery) × IsAmong d deliveries × IsSameDelivery numbers d whole
+
+  -- it isn't the same as two that come one after the other
+  not_twice : (d whole other : Delivery) → IsSameDelivery numbers d whole → IsSameDelivery numbers d other → StartsBefore whole other → ⊥
+  not_twice d whole other x y (inl less) =
+      let back = apart numbers d.frame d.frame other.frame whole.frame near y.frame x.frame (omega arith) in
+      omega arith
+  not_twice d whole other x y (inr same) = omega (arith, same.1, x.start, y.start)
+
+  -- the first ones are the same,
+  first_same : (d whole : Delivery) (deliveries all : List Delivery) → AllByRecursion (StartsBefore d) deliveries
+      → AllByRecursion (StartsBefore whole) all → IsLeftOf numbers near (whole ∷ all) d → IsKeptOf (d ∷ deliveries) whole → IsSameDelivery numbers d whole
+  first_same d whole deliveries all after whole_after (other, inl here, same) right = subst (IsSameDelivery numbers d) here same
+  first_same d whole deliveries all after whole_after (other, inr there, same) (e, inl here, right) =
+      subst (λ x. IsSameDelivery numbers x whole) here right
+  first_same d whole deliveries all after whole_after (other, inr there, same) (e, inr later, right) =
+      absurd (not_both_ways other whole (same_order numbers d e other whole near same right (each_among (StartsBefore d) e deliveries after later))
+      (each_among (StartsBefore whole) other all whole_after there))
+
+  -- and so are those after them
+  kept_later : (d whole : Delivery) (deliveries : List Delivery) → IsSameDelivery numbers d whole
+      → (other : Delivery) → StartsBefore whole other → IsKeptOf (d ∷ deliveries) other → IsKeptOf deliveries other
+  kept_later d whole deliveries same other after (e, inl here, right) =
+      absurd (not_twice d whole other same (subst (λ x. IsSameDelivery numbers x other) here right) after)
+  kept_later d whole deliveries same other after (e, inr there, right) = (e, there, right)
+
+  same_packets : (deliveries all : List Delivery) → AreInOrder deliveries → AreInOrder all → AllByRecursion (IsLeftOf numbers near all) deliveries
+      → AllByRecursion (IsKeptOf deliveries) all → packets_delivered deliveries ≡ packets_delivered all
+  same_packets [] [] order whole_order each each_whole = refl
+  same_packets [] (whole ∷ all) order whole_order each ((d, among, same), each_whole) = absurd among
+  same_packets (d ∷ deliveries) [] order whole_order ((whole, among, same), each) each_whole = absurd among
+  same_packets (d ∷ deliveries) (whole ∷ all) order whole_order each each_whole =
+      let same = first_same d whole deliveries all order.0 whole_order.0 each.0 each_whole.0 in
+      ap₂ (λ p l. p ∷ l) same.packet (same_packets deliveries all order.1 whole_order.1
+      (each-both (StartsBefore d) (IsLeftOf numbers near (whole ∷ all)) (IsLeftOf numbers near all)
+      (left_later numbers near d whole whole all same (λ before. not_both_ways whole whole before before)) deliveries order.0 each.1)
+      (each-both (StartsBefore whole) (IsKeptOf (d ∷ deliveries)) (IsKeptOf deliveries) (kept_later d whole deliveries same) all whole_order.0 each_whole.1))
+
+pub packets_are_kept : PacketsAreKept
+packets_are_kept channel numbers kept left =
+    let test = keeps_run numbers in
+    let all = deliveries_of channel in
+    same_packets numbers left.few_lost (deliveries_of kept) (filter test all) (are_in_order kept) (in_order-filter test all (are_in_order channel))
+    (each-weaker (IsDelivery kept) (IsLeftOf numbers left.few_lost (filter test all))
+    (λ d x. let (whole, y, same) = none_is_new channel numbers kept d left x in (
+      whole,
+      filter_among test whole all (each_is_listed channel whole y)
+          (test_from_run numbers whole (runs_are_kept numbers d whole left.few_lost same)),
+      same,
+    )) (deliveries_of kept) (each_is_delivery kept))
+    (each-filter (IsDelivery channel) (IsKeptOf numbers left.few_lost (deliveries_of kept)) test
+    (λ whole passes y. let (d, x, same) = kept_runs_are_left channel numbers kept whole left y (run_from_test numbers whole passes) in
+    (d, each_is_listed kept d x, same)) all (each_is_delivery channel))

@@ -1,6 +1,7 @@
 -- A `Delivered` is its lists. Lists beyond the last one that is kept are empty.
 use Rattle.std.specs.Prelude.{ℕ, ◌≤◌, List, length}
 use Rattle.std.specs.List.{AllByRecursion}
+use Rattle.std.specs.Vec.{vec_capacity}
 use Rattle.sl_packet.specs.Delivered.{PacketLists, channel_count, IsDeliverable}
 use Rattle.sl_packet.specs.KeptLists.{lists_in, with_empty_lists}
 use Rattle.sl_packet.specs.declared.delivered.Delivered.TheInside.{Inside}
@@ -9,7 +10,7 @@ abbrev pub kept_lists : Inside → List (List (List ℕ))
 kept_lists d = lists_in d.lists
 
 abbrev pub packet_lists_of : Inside → PacketLists
-packet_lists_of d = record { lists = with_empty_lists (kept_lists d); failures = d.failures }
+packet_lists_of d = record { lists = with_empty_lists (kept_lists d); failures = d.failures; room = vec_capacity d.lists }
 
 pub record IsDelivered (d : Inside) : Type 0 where
   pub fit : length (kept_lists d) ≤ channel_count

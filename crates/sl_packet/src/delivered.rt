@@ -34,6 +34,7 @@ impl Delivered {
     pub fn new(alloc: Global) -> Delivered
         ensures lists { result.lists ≡ no_lists }
         ensures failures { result.failures ≡ 0 }
+        ensures memory { result.room ≡ 0 }
     {
         Delivered {
             alloc,

@@ -3,6 +3,7 @@ pub mod Anomaly
 pub mod Canonical
 pub mod FitsTc
 pub mod FormLeft
+pub mod FormOrder
 pub mod FormPiece
 pub mod Incomplete
 pub mod NextSegment

@@ -1,8 +1,8 @@
--- An `Incomplete` is the octets so far of a series, if one is incomplete; a `SeriesStore` is a list of these; a `Receiver`
+-- An `Incomplete` is the octets so far of a series, if one is incomplete; a `SeriesStore` is a list of these, with its memory; a `Receiver`
 -- is its FARMs, the virtual channels without segment headers, such a list, and whether a fault came.
 use Rattle.std.specs.Prelude.{◌≡◌, ℕ, ◌≤◌, false, if◌then◌else◌, List, [], length, Option, None, Some}
 use Rattle.std.specs.Vec.{vec_capacity}
-use Rattle.sl_tcflow.specs.Receiving.{ReceiverState}
+use Rattle.sl_tcflow.specs.Receiving.{IncompleteSeries, ReceiverState}
 use Rattle.sl_tcflow.specs.declared.incomplete.Incomplete.TheInside as incomplete
 use Rattle.sl_tcflow.specs.declared.receiver.Receiver.TheInside as receiver
 use Rattle.sl_tcflow.specs.declared.series_store.SeriesStore.TheInside as store
@@ -16,8 +16,8 @@ pub record IsKept (s : incomplete.Inside) : Type 0 where
   pub none : s.is_begun ≡ false → s.octets.items ≡ []
   pub memory : s.is_begun ≡ false → vec_capacity s.octets ≤ 4096
 
-abbrev pub series_in : store.Inside → List (Option (List ℕ))
-series_in s = s.list.items
+abbrev pub series_in : store.Inside → IncompleteSeries
+series_in s = record { list = s.list.items; room = vec_capacity s.list }
 
 abbrev pub receiver_state : receiver.Inside → ReceiverState
-receiver_state r = record { farms = r.farms; plain = r.plain; incomplete = r.series; has_failed = r.has_failed }
+receiver_state r = record { farms = r.farms; plain = r.plain; series = r.series; has_failed = r.has_failed }

@@ -1,25 +1,33 @@
 -- What a receiver has made of the frames of virtual channels, CCSDS 232.0-B and 232.1-B, that it was given.
-use Rattle.std.specs.Prelude.{◌≡◌, ◌≢◌, ◌⊎◌, ℕ, ◌+◌, ◌*◌, ◌<◌, Bool, true, false, List, [], ◌∷◌, ◌++◌, length, map, flat_map, Option, None}
+use Rattle.std.specs.Prelude.{◌≡◌, ◌≢◌, ◌⊎◌, ℕ, ◌+◌, ◌*◌, ◌<◌, ◌==◌, Bool, true, false, if◌then◌else◌, List, [], ◌∷◌, ◌++◌, length, map, flat_map, Option, None}
 use Rattle.std.specs.List.{slice_index_or}
 use Rattle.sl_cop.specs.declared.verdict.Verdict.{Verdict}
 use Rattle.sl_cop.specs.Farm.{FarmView, farm_start, farm_step}
+use Rattle.sl_packet.specs.Packets.{without_idle}
 use Rattle.sl_tcframe.specs.TcFrame.{TcView, Content, Ad, Bd, Unlock, SetVr}
 use Rattle.sl_tcflow.specs.AcceptedUnit.{channel_of, event_of, farm_after, unit_by}
 use Rattle.sl_tcflow.specs.Incomplete.{incomplete_of}
 use Rattle.sl_tcflow.specs.Reception.{packets_ended, segments_of}
 use Rattle.sl_tcflow.specs.ReceptionParameters.{ReceptionParameters, is_plain, initial_vr}
+use Rattle.sl_tcflow.specs.Recording.{packets_in_channel}
 use Rattle.sl_tcflow.specs.Series.{header_at, segment_in}
 
 -- the channel of a virtual channel and a MAP
 abbrev pub channel_at : ℕ → ℕ → ℕ
 channel_at vc mid = 64 * vc + mid
 
--- The FARM-1 of each virtual channel; the virtual channels without segment headers; and of each channel the octets so far
--- of the series that is incomplete, if one is: there is none past the last channel that is kept.
+-- The series that are incomplete.
+pub record IncompleteSeries : Type 0 where
+  -- of each channel the octets so far, if a series is incomplete: there is none past the last channel that is kept
+  pub list : List (Option (List ℕ))
+  -- the channels that memory was taken for
+  pub room : ℕ
+
+-- The FARM-1 of each virtual channel, the virtual channels without segment headers, and the series that are incomplete.
 pub record ReceiverState : Type 0 where
   pub farms : List FarmView
   pub plain : List ℕ
-  pub incomplete : List (Option (List ℕ))
+  pub series : IncompleteSeries
   pub has_failed : Bool
 
 -- FARM-1 of a virtual channel: at the start, and after these frames
@@ -44,7 +52,7 @@ pub record HasProcessed (r : ReceptionParameters) (state : ReceiverState) (views
   pub working : state.has_failed ≡ false
   pub plain : state.plain ≡ r.plain
   pub farms : HaveStepped r state.farms views
-  pub series : AreIncomplete r state.incomplete views
+  pub series : AreIncomplete r state.series.list views
 
 -- some frames were processed, and no fault came
 abbrev pub IsWorking : ReceiverState → Type 0
@@ -106,3 +114,19 @@ IsIncompleteAround r views next =
     (segment_by r views next ≢ [])
     × ((incomplete_of (segments_of r next.vc (map_by r next) views) ≢ None)
     ⊎ (incomplete_of (segments_of r next.vc (map_by r next) (views ++ next ∷ [])) ≢ None))
+
+-- ---- all frames
+
+-- the packets that a receiver hands over for a channel when it is given these frames one after another, where each call
+-- answers Ok, and has processed others before
+abbrev pub handed_over : ReceptionParameters → ℕ → List TcView → List TcView → List (List ℕ)
+handed_over r channel views [] = []
+handed_over r channel views (next ∷ later) =
+    (if unit_channel r next == channel then without_idle (ended_by r views next) else [])
+    ++ handed_over r channel (views ++ next ∷ []) later
+
+-- From the first frame on they are the packets of the channel, idle ones left out.
+abbrev pub DeliveredAreHandedOver : Type 0
+DeliveredAreHandedOver =
+    (r : ReceptionParameters) (channel : ℕ) (views : List TcView)
+    → handed_over r channel [] views ≡ without_idle (packets_in_channel r views channel)

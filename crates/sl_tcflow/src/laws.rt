@@ -2,7 +2,9 @@
 ghost use Rattle.sl_tcflow.specs.Anomaly.{StrayIsTold, WhatIsToldIsStray, DroppedIsTold, WhatIsToldIsDropped, LongIsTold, WhatIsToldIsLong, TailIsTold, WhatIsToldIsTail};
 ghost use Rattle.sl_tcflow.specs.Anomaly.{NoPlainSeriesIsIncomplete, PlainUnitHasTailAlone};
 ghost use Rattle.sl_tcflow.specs.Canonical.{NormalFormIsFrames, NoFrameIsLong, NormalFormDelivers, RecordedListsAreDeliverable, RecordedListsFit};
+ghost use Rattle.sl_tcflow.specs.FormOrder.{ChannelsNeverFall, MapsNeverFall, NoFrameIsSkipped, NsCounts};
 ghost use Rattle.sl_tcflow.specs.Incomplete.{WhatIsToldIsIncomplete, IncompleteIsTold, OneBegins, OneIsIncomplete, IncompleteFits};
+ghost use Rattle.sl_tcflow.specs.Receiving.{DeliveredAreHandedOver};
 ghost use Rattle.sl_tcflow.specs.Reception.{PacketsEndOnce};
 ghost use Rattle.sl_tcflow.specs.ReorderedUnits.{AdUnitsAreAll, ExpectedUnitIsAccepted, PacketsInOrder, ReceiverCountsUnits, RecordedPacketsInOrder};
 ghost use Rattle.sl_tcflow.specs.ReorderedUnits.{UnitsInOrder, VrCountsUnits, WindowIsNear, WindowNeverLocks};
@@ -21,6 +23,12 @@ pub fn tc_series_are_listed()
 /// before it.
 pub fn tc_packets_end_once()
     ensures packets { PacketsEndOnce }
+{}
+
+/// What a [`Receiver`](crate::Receiver) hands over for a virtual channel and a MAP, given frames one after another, where
+/// each call answers Ok, are the packets that they deliver there, idle ones left out.
+pub fn tc_packets_are_handed_over()
+    ensures { DeliveredAreHandedOver }
 {}
 
 /// The series that is incomplete after the last segment of a list, told: what is told is one, each is told, and
@@ -70,14 +78,26 @@ pub fn packets_are_divided_into_segments()
     ensures segments { EachIsDivided }
 {}
 
-/// The normal form of packets that frames can carry is frames end to end, none longer than the managed greatest length.
+/// The normal form of packets that frames can carry is frames end to end, none longer than the managed greatest length and
+/// none skipped.
 /// Read as a recording, with the same initial V(R) and the same virtual channels without segment headers, whatever the
 /// window, it delivers exactly the packets that it was made of, on each virtual channel and MAP: frames are written,
 /// delimited, read back and accepted, and their segments put together.
 pub fn normal_form_delivers_its_packets()
     ensures frames { NormalFormIsFrames }
     ensures within { NoFrameIsLong }
+    ensures read { NoFrameIsSkipped }
     ensures packets { NormalFormDelivers }
+{}
+
+/// The frames of the normal form, read as a recording: their virtual channels never fall, nor do the MAPs of a virtual
+/// channel, and each frame of a virtual channel is of type AD, with the N(S) that is the channel's initial V(R)
+/// plus the number of its frames before, modulo 256. The packets of a MAP come in their own order
+/// ([`normal_form_delivers_its_packets`]).
+pub fn normal_form_is_in_order()
+    ensures channels { ChannelsNeverFall }
+    ensures maps { MapsNeverFall }
+    ensures ns { NsCounts }
 {}
 
 /// Units are sent on a virtual channel in frames of type AD with N(S) counting from the initial V(R) on, modulo 256. These

@@ -50,8 +50,9 @@ impl Receiver {
     /// V(R) of `starts`. The frames of the virtual channels of `plain` have no segment headers. It takes memory only
     /// as segments come.
     pub fn new(alloc: Global, window: Window, starts: &Starts, plain: VcSet) -> Receiver
-        ensures { HasProcessed
+        ensures processed { HasProcessed
             (record { window = window; starts = starts.now; plain = plain }) result [] }
+        ensures memory { result.series.room ≡ 0 }
     {
         Receiver {
             farms: farms_at_start(window, starts),
@@ -215,16 +216,16 @@ fn take<S: PacketSink>(
 ) -> Result<TcStep, FlowFault>
     // Whichever frames came before, as long as they left these series: the unit goes on with its series,
     // begins or ends it, its packets are handed over, and the step reports them.
-    ensures series { OnOk result (ForIncomplete plain series.old verdict frame.now
-        (λ r views. AreIncomplete r series.new (views ++ frame.now ∷ []))) }
-    ensures hands_over { ForIncomplete plain series.old verdict frame.now
+    ensures series { OnOk result (ForIncomplete plain series.old.list verdict frame.now
+        (λ r views. AreIncomplete r series.new.list (views ++ frame.now ∷ []))) }
+    ensures hands_over { ForIncomplete plain series.old.list verdict frame.now
         (λ r views. HandsOver S.taking S.failing S.failures counts_of
         sink.old (unit_channel r frame.now) (ended_by r views frame.now) result sink.new) }
     ensures step { IfOk result
-        (λ step. ForIncomplete plain series.old verdict frame.now
+        (λ step. ForIncomplete plain series.old.list verdict frame.now
         (λ r views. IsReportedOf r views frame.now step)) }
     ensures memory { IfErr result (λ flow. flow ≡ FlowFault.Memory →
-        ForIncomplete plain series.old verdict frame.now
+        ForIncomplete plain series.old.list verdict frame.now
         (λ r views. IsIncompleteAround r views frame.now)) }
 
     // The sink failed exactly where the fault says so.

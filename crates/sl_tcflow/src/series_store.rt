@@ -23,9 +23,9 @@ pub struct SeriesStore {
 }
 
 impl Model for SeriesStore {
-    ghost use Rattle.std.specs.Prelude.{Option, List, ℕ};
+    ghost use Rattle.sl_tcflow.specs.Receiving.{IncompleteSeries};
 
-    ghost Value = { List (Option (List ℕ)) };
+    ghost Value = { IncompleteSeries };
 
     ghost use Rattle.sl_tcflow.specs.ReceiverModel.{series_in};
 
@@ -35,7 +35,8 @@ impl Model for SeriesStore {
 impl SeriesStore {
     /// None is incomplete. It takes memory only as series begin.
     pub fn new(alloc: Global) -> SeriesStore
-        ensures { result ≡ [] }
+        ensures none { result.list ≡ [] }
+        ensures memory { result.room ≡ 0 }
     {
         SeriesStore {
             alloc,
@@ -47,7 +48,7 @@ impl SeriesStore {
     pub fn held(&self, vc: u8, map: u8) -> Option<u32>
         requires vc { vc ≤ 63 }
         requires map { map ≤ 63 }
-        ensures octets { result ≡ option_map length (at self.now (channel_at vc map)) }
+        ensures octets { result ≡ option_map length (at self.now.list (channel_at vc map)) }
         ensures most { IfSome result (λ octets. octets ≤ 65542) }
     {
         let index = 64 * usize::from(vc) + usize::from(map);
@@ -68,22 +69,22 @@ impl SeriesStore {
         requires short { length segment.now.octets.now ≤ 1019 }
         requires channel { segment.now.channel ≤ 4095 }
         // The series of the channel goes on, begins or ends as its sequence flags say,
-        ensures placed { OnOk result (IsPlaced self.old segment.now.channel
-            (incomplete_with (at self.old segment.now.channel) segment.now.flags
-            segment.now.octets.now) self.new) }
+        ensures placed { OnOk result (IsPlaced self.old.list segment.now.channel
+            (incomplete_with (at self.old.list segment.now.channel) segment.now.flags
+            segment.now.octets.now) self.new.list) }
 
         // and the sink is handed the packets that end with the segment, which the step reports.
         ensures hands_over { HandsOver S.taking S.failing S.failures counts_of
             sink.old segment.now.channel
-            (packets_with (at self.old segment.now.channel) segment.now.flags
+            (packets_with (at self.old.list segment.now.channel) segment.now.flags
             segment.now.octets.now) result sink.new }
-        ensures step { IfOk result (IsReported (at self.old segment.now.channel)
+        ensures step { IfOk result (IsReported (at self.old.list segment.now.channel)
             segment.now.flags segment.now.octets.now) }
 
         // Memory is wanted only where a series is incomplete, before the segment or after it.
         ensures memory { IfErr result (λ flow. flow ≡ FlowFault.Memory →
-            (at self.old segment.now.channel ≢ None)
-            ⊎ (incomplete_with (at self.old segment.now.channel) segment.now.flags
+            (at self.old.list segment.now.channel ≢ None)
+            ⊎ (incomplete_with (at self.old.list segment.now.channel) segment.now.flags
             segment.now.octets.now ≢ None)) }
     {
         let index = usize::from(segment.channel);

@@ -1,9 +1,9 @@
 -- The normal form of packets is a recording that delivers these packets and no others.
-use Rattle.std.specs.Prelude.{◌≡◌, ℕ, ◌≤◌, List, [], length}
+use Rattle.std.specs.Prelude.{◌≡◌, ℕ, ◌≤◌, List, [], length, Ok}
 use Rattle.std.specs.List.{AllByRecursion}
 use Rattle.sl_packet.specs.Delivered.{IsDeliverable}
 use Rattle.sl_tmframe.specs.TmDelimited.{IsTmDelimited}
-use Rattle.sl_tmframe.specs.TmFrame.{TmFormat}
+use Rattle.sl_tmframe.specs.TmFrame.{TmFormat, TmView, tm_frame}
 use Rattle.sl_tmflow.specs.NormalForm.{frames_from_channel, normal_form}
 use Rattle.sl_tmflow.specs.Recording.{tm_lists}
 
@@ -17,6 +17,10 @@ pub record AreDeliverable (lists : List (List (List ℕ))) : Type 0 where
   pub eight : length lists ≡ 8
   pub each : AllByRecursion (AllByRecursion IsDeliverable) lists
 
+-- a frame is read, and not skipped
+abbrev pub IsRead : TmFormat → ℕ → List ℕ → Type 0
+IsRead format spacecraft frame = (view : TmView) × (tm_frame format spacecraft frame ≡ Ok view)
+
 -- ---- laws
 
 -- What a recording delivers are such lists.
@@ -28,6 +32,12 @@ abbrev pub NormalFormIsFrames : Type 0
 NormalFormIsFrames =
     (format : TmFormat) (spacecraft : ℕ) (lists : List (List (List ℕ))) → IsFormat format → spacecraft ≤ 1023 → AreDeliverable lists
     → IsTmDelimited format.len (normal_form format spacecraft lists) (frames_from_channel format spacecraft 0 0 lists) []
+
+-- each of them is read, so none is skipped,
+abbrev pub NoFrameIsSkipped : Type 0
+NoFrameIsSkipped =
+    (format : TmFormat) (spacecraft : ℕ) (lists : List (List (List ℕ))) → IsFormat format → spacecraft ≤ 1023 → AreDeliverable lists
+    → AllByRecursion (IsRead format spacecraft) (frames_from_channel format spacecraft 0 0 lists)
 
 -- and read as a recording it delivers exactly the packets that it was made of
 abbrev pub NormalFormDelivers : Type 0

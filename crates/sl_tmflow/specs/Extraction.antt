@@ -1,16 +1,16 @@
 -- What an extractor has made of the frames of virtual channels, CCSDS 132.0-B, that it was given.
 use Rattle.std.specs.Prelude.{◌≡◌, ◌≢◌, ◌⊎◌, ℕ, ◌<◌, ◌==◌, Bool, true, false, if◌then◌else◌, List, [], ◌∷◌, ◌++◌}
-use Rattle.std.specs.List.{slice_index_or}
+use Rattle.std.specs.List.{AllByRecursion, slice_index_or}
 use Rattle.sl_packet.specs.Packets.{without_idle}
 use Rattle.sl_tmframe.specs.TmFrame.{TmView}
 use Rattle.sl_tmflow.specs.Channel.{channel_of, last_count}
-use Rattle.sl_tmflow.specs.ChannelState.{ChannelState, no_frame}
+use Rattle.sl_tmflow.specs.ChannelState.{ChannelState, KeptChannel, no_channel}
 use Rattle.sl_tmflow.specs.Delivery.{packets_ending}
 use Rattle.sl_tmflow.specs.Incomplete.{incomplete_of}
 use Rattle.sl_tmflow.specs.Recording.{packets_on}
 
 pub record ExtractorState : Type 0 where
-  pub channels : List ChannelState
+  pub channels : List KeptChannel
   pub has_failed : Bool
 
 -- octets that are held, as a list of none or of one
@@ -26,7 +26,7 @@ pub record HasSeen (state : ChannelState) (channel : List TmView) : Type 0 where
 -- These frames were processed, and no fault came. Other frames may have left the same.
 pub record HasProcessed (state : ExtractorState) (views : List TmView) : Type 0 where
   pub working : state.has_failed ≡ false
-  pub each : (vc : ℕ) → vc < 8 → HasSeen (slice_index_or state.channels vc no_frame) (channel_of vc views)
+  pub each : (vc : ℕ) → vc < 8 → HasSeen (slice_index_or state.channels vc no_channel).state (channel_of vc views)
 
 -- some frames were processed, and no fault came
 abbrev pub IsWorking : ExtractorState → Type 0
@@ -35,6 +35,10 @@ IsWorking state = (views : List TmView) × HasProcessed state views
 -- it holds whichever frames were processed
 abbrev pub ForProcessed : ExtractorState → (List TmView → Type 0) → Type 0
 ForProcessed state holds = (views : List TmView) → HasProcessed state views → holds views
+
+-- no memory was taken for packets
+abbrev pub HasNoMemory : ExtractorState → Type 0
+HasNoMemory state = AllByRecursion (λ (channel : KeptChannel). channel.room ≡ 0) state.channels
 
 -- a fault came
 abbrev pub HasFailed : ExtractorState → Type 0

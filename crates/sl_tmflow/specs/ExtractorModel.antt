@@ -1,12 +1,13 @@
 -- An `Extractor` is the states of its virtual channels, and whether a fault came.
 use Rattle.std.specs.Prelude.{◌≤◌, length}
-use Rattle.sl_tmflow.specs.ChannelState.{ChannelState}
+use Rattle.std.specs.Vec.{vec_capacity}
+use Rattle.sl_tmflow.specs.ChannelState.{KeptChannel}
 use Rattle.sl_tmflow.specs.Extraction.{ExtractorState}
 use Rattle.sl_tmflow.specs.declared.channel.Channel.TheInside as channel
 use Rattle.sl_tmflow.specs.declared.extractor.Extractor.TheInside as extractor
 
-abbrev pub channel_state : channel.Inside → ChannelState
-channel_state c = record { count = c.count; held = c.held.items }
+abbrev pub kept_channel : channel.Inside → KeptChannel
+kept_channel c = record { state = record { count = c.count; held = c.held.items }; room = vec_capacity c.held }
 
 -- the octets that are held are fewer than the longest packet's
 abbrev pub HoldsNoPacket : channel.Inside → Type 0

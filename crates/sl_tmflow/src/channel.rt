@@ -6,7 +6,7 @@ ghost use Rattle.sl_packet.specs.Stopping.{HandsOver};
 ghost use Rattle.sl_tmframe.specs.TmField.{data_field};
 ghost use Rattle.sl_tmframe.specs.TmFrame.{IsInField, Packets};
 ghost use Rattle.sl_tmflow.specs.Anomaly.{gap_after};
-ghost use Rattle.sl_tmflow.specs.ChannelState.{foreign_in, held_after, incomplete_in, is_after, kept_octets, kept_of, lost_by, lost_of, no_frame, packets_after, state_after, step_in};
+ghost use Rattle.sl_tmflow.specs.ChannelState.{foreign_in, held_after, incomplete_in, is_after, kept_octets, kept_of, lost_by, lost_of, no_channel, packets_after, state_after, step_in};
 ghost use Rattle.sl_tmflow.specs.Delivery.{ended, field_step};
 ghost use Rattle.sl_tmflow.specs.PacketStart.{whole_packets};
 ghost use Rattle.sl_tmflow.specs.StepReport.{counts_of};
@@ -29,13 +29,13 @@ pub struct Channel {
 }
 
 impl Model for Channel {
-    ghost use Rattle.sl_tmflow.specs.ChannelState.{ChannelState};
+    ghost use Rattle.sl_tmflow.specs.ChannelState.{KeptChannel};
 
-    ghost Value = { ChannelState };
+    ghost Value = { KeptChannel };
 
-    ghost use Rattle.sl_tmflow.specs.ExtractorModel.{channel_state, HoldsNoPacket};
+    ghost use Rattle.sl_tmflow.specs.ExtractorModel.{kept_channel, HoldsNoPacket};
 
-    ghost view = { channel_state };
+    ghost view = { kept_channel };
 
     ghost invariant = { HoldsNoPacket };
 }
@@ -43,7 +43,7 @@ impl Model for Channel {
 impl Channel {
     /// A virtual channel without a frame.
     pub fn new(alloc: Global) -> Channel
-        ensures { result ≡ no_frame }
+        ensures { result ≡ no_channel }
     {
         Channel {
             count: None,
@@ -57,15 +57,17 @@ impl Channel {
         frame: &TmFrame,
         sink: &mut S,
     ) -> Result<TmStep, FlowFault>
-        ensures state { OnOk result (self.new ≡ state_after self.old frame.now) }
+        ensures state { OnOk result (self.new.state ≡ state_after self.old.state frame.now) }
         ensures hands_over { HandsOver S.taking S.failing S.failures counts_of
-            sink.old frame.now.vc (packets_after self.old frame.now) result sink.new }
-        ensures gap { IfOk result (λ step. step.gap ≡ gap_after self.old.count frame.now.vc_count) }
-        ensures dropped { IfOk result (λ step. step.dropped ≡ length (lost_by self.old frame.now)) }
+            sink.old frame.now.vc (packets_after self.old.state frame.now) result sink.new }
+        ensures gap { IfOk result (λ step.
+            step.gap ≡ gap_after self.old.state.count frame.now.vc_count) }
+        ensures dropped { IfOk result (λ step.
+            step.dropped ≡ length (lost_by self.old.state frame.now)) }
         ensures foreign { IfOk result (λ step. step.foreign ≡ foreign_in frame.now.field) }
         // Memory is wanted only where a packet is incomplete, before the frame or after it.
         ensures memory { IfErr result (λ flow. flow ≡ FlowFault.Memory
-            → (self.old.held ≢ []) ⊎ ((state_after self.old frame.now).held ≢ [])) }
+            → (self.old.state.held ≢ []) ⊎ ((state_after self.old.state frame.now).held ≢ [])) }
     {
         let gap = self.gap_at(frame.vc_count());
         let ended = match self.go_on(frame, sink) {
@@ -88,7 +90,7 @@ impl Channel {
 
     /// The octets so far of the packet that is incomplete, 0 where none is.
     pub fn held(&self) -> u32
-        ensures value { result ≡ length self.now.held }
+        ensures value { result ≡ length self.now.state.held }
         ensures most { result ≤ 65541 }
     {
         self.held.len() as u32
@@ -96,7 +98,7 @@ impl Channel {
 
     // The count that was expected, where this one doesn't come after the last one.
     fn gap_at(&self, count: u8) -> Option<u8>
-        ensures { result ≡ gap_after self.now.count count }
+        ensures { result ≡ gap_after self.now.state.count count }
     {
         let expected = self.count?.wrapping_add(1);
         if count == expected {
@@ -108,14 +110,15 @@ impl Channel {
 
     // Goes on with the packet that is incomplete, if one is.
     fn go_on<S: PacketSink>(&mut self, frame: &TmFrame, sink: &mut S) -> Result<TmStep, FlowFault>
-        ensures count { self.new.count ≡ self.old.count }
-        ensures held { OnOk result (self.new.held
-            ≡ kept_octets (step_in self.old frame.now) self.old.held frame.now) }
+        ensures count { self.new.state.count ≡ self.old.state.count }
+        ensures held { OnOk result (self.new.state.held
+            ≡ kept_octets (step_in self.old.state frame.now) self.old.state.held frame.now) }
         ensures hands_over { HandsOver S.taking S.failing S.failures counts_of
-            sink.old frame.now.vc (ended (step_in self.old frame.now)) result sink.new }
+            sink.old frame.now.vc (ended (step_in self.old.state frame.now)) result sink.new }
         ensures few { IfOk result (λ step. step.packets + step.idle ≤ 1) }
-        ensures dropped { IfOk result (λ step. step.dropped ≡ length (lost_by self.old frame.now)) }
-        ensures memory { IfErr result (λ flow. flow ≡ FlowFault.Memory → self.old.held ≢ []) }
+        ensures dropped { IfOk result (λ step.
+            step.dropped ≡ length (lost_by self.old.state frame.now)) }
+        ensures memory { IfErr result (λ flow. flow ≡ FlowFault.Memory → self.old.state.held ≢ []) }
     {
         if self.held.is_empty() || !self.is_followed_by(frame.vc_count()) {
             return Ok(self.break_off());
@@ -131,11 +134,11 @@ impl Channel {
 
     // Gives up the packet that is incomplete, if one is, and the memory that it takes.
     fn break_off(&mut self) -> TmStep
-        ensures count { self.new.count ≡ self.old.count }
-        ensures held { self.new.held ≡ [] }
+        ensures count { self.new.state.count ≡ self.old.state.count }
+        ensures held { self.new.state.held ≡ [] }
         ensures packets { result.packets ≡ 0 }
         ensures idle { result.idle ≡ 0 }
-        ensures dropped { result.dropped ≡ length self.old.held }
+        ensures dropped { result.dropped ≡ length self.old.state.held }
     {
         let dropped = self.held.len() as u32;
         if dropped > 0 {
@@ -146,7 +149,7 @@ impl Channel {
 
     // Whether a frame with this count comes after the last one.
     fn is_followed_by(&self, count: u8) -> bool
-        ensures { result ≡ is_after self.now.count count }
+        ensures { result ≡ is_after self.now.state.count count }
     {
         match self.count {
             Some(last) => count == last.wrapping_add(1),
@@ -165,18 +168,18 @@ impl Channel {
         requires vc { vc ≤ 7 }
         requires short { length octets.now ≤ 2042 }
         // The packet goes on with all of the field's octets, or isn't kept.
-        ensures count { self.new.count ≡ self.old.count }
-        ensures held { OnOk result (self.new.held
-            ≡ kept_of (field_step self.old.held (Packets first octets.now))
-            (self.old.held ++ octets.now)) }
+        ensures count { self.new.state.count ≡ self.old.state.count }
+        ensures held { OnOk result (self.new.state.held
+            ≡ kept_of (field_step self.old.state.held (Packets first octets.now))
+            (self.old.state.held ++ octets.now)) }
 
         // The sink is handed the packet where it ends, and what it had is counted where it is broken off.
         ensures hands_over { HandsOver S.taking S.failing S.failures counts_of
-            sink.old vc (ended (field_step self.old.held (Packets first octets.now)))
+            sink.old vc (ended (field_step self.old.state.held (Packets first octets.now)))
             result sink.new }
         ensures few { IfOk result (λ step. step.packets + step.idle ≤ 1) }
-        ensures dropped { IfOk result (λ step. step.dropped ≡ length
-            (lost_of (field_step self.old.held (Packets first octets.now)) self.old.held)) }
+        ensures dropped { IfOk result (λ step. step.dropped ≡ length (lost_of
+            (field_step self.old.state.held (Packets first octets.now)) self.old.state.held)) }
     {
         let before = self.held.len();
         let progress = match add_field(&mut self.held, first, octets) {
@@ -207,11 +210,11 @@ impl Channel {
         requires vc { vc ≤ 7 }
         requires inside { IsInField (data_field field.now) }
         // What is incomplete at the end of the field is kept; memory is wanted for that alone.
-        ensures count { self.new.count ≡ self.old.count }
+        ensures count { self.new.state.count ≡ self.old.state.count }
         ensures held { OnOk result
-            (self.new.held ≡ held_after (data_field field.now) self.old.held) }
+            (self.new.state.held ≡ held_after (data_field field.now) self.old.state.held) }
         ensures memory { IfErr result (λ flow. flow ≡ FlowFault.Memory
-            → held_after (data_field field.now) self.old.held ≢ []) }
+            → held_after (data_field field.now) self.old.state.held ≢ []) }
 
         // The sink is handed the packets that lie whole in the field.
         ensures hands_over { HandsOver S.taking S.failing S.failures counts_of
@@ -238,8 +241,8 @@ impl Channel {
         requires vc { vc ≤ 7 }
         requires short { length octets.now ≤ 2042 }
         // What is incomplete at the end of the octets is kept; memory is wanted for that alone.
-        ensures count { self.new.count ≡ self.old.count }
-        ensures held { OnOk result (self.new.held
+        ensures count { self.new.state.count ≡ self.old.state.count }
+        ensures held { OnOk result (self.new.state.held
             ≡ incomplete_in (front (rest_of octets.now)) (rest_of octets.now)) }
         ensures memory { IfErr result (λ flow. flow ≡ FlowFault.Memory
             → incomplete_in (front (rest_of octets.now)) (rest_of octets.now) ≢ []) }

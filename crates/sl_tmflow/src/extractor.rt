@@ -6,7 +6,7 @@ ghost use Rattle.std.specs.List.{concat};
 ghost use Rattle.sl_tmflow.specs.Anomaly.{dropped_of, foreign_of, gap_of};
 ghost use Rattle.sl_tmflow.specs.Channel.{channel_of};
 ghost use Rattle.sl_tmflow.specs.Incomplete.{incomplete_of};
-ghost use Rattle.sl_tmflow.specs.Extraction.{ForProcessed, HasProcessed, HasFailed, IsIncompleteAround, ended_by};
+ghost use Rattle.sl_tmflow.specs.Extraction.{ForProcessed, HasProcessed, HasFailed, HasNoMemory, IsIncompleteAround, ended_by};
 ghost use Rattle.sl_packet.specs.Stopping.{CountsFault, IsStopped};
 
 use crate::channel::Channel;
@@ -36,7 +36,8 @@ impl Model for Extractor {
 impl Extractor {
     /// An extractor that was given no frame. It takes memory only as packets come.
     pub fn new(alloc: Global) -> Extractor
-        ensures { HasProcessed result [] }
+        ensures processed { HasProcessed result [] }
+        ensures memory { HasNoMemory result }
     {
         Extractor {
             channels: [(); 8].map(|()| Channel::new(alloc)),

@@ -2,7 +2,7 @@
 ghost use Rattle.sl_tmflow.specs.Anomaly.{EachGapIsTold, EachToldIsAGap, EachListedIsBrokenOff, EachBrokenOffIsListed, OneIsBrokenOff, BrokenOffIsShort};
 ghost use Rattle.sl_tmflow.specs.Anomaly.{BrokenOffIsTold, WhatIsToldIsBrokenOff};
 ghost use Rattle.sl_tmflow.specs.Anomaly.{EachForeignStartIsTold, EachToldIsAForeignStart};
-ghost use Rattle.sl_tmflow.specs.Canonical.{NormalFormIsFrames, NormalFormDelivers, RecordedListsAreDeliverable};
+ghost use Rattle.sl_tmflow.specs.Canonical.{NoFrameIsSkipped, NormalFormIsFrames, NormalFormDelivers, RecordedListsAreDeliverable};
 ghost use Rattle.sl_tmflow.specs.Delivery.{EachIsDelivery, EachIsListed, DeliveriesAreInOrder};
 ghost use Rattle.sl_tmflow.specs.Delivery.{PacketsEndOnce, EndsAreInOrder, EachEndsByTheNextStart, NoneOverlap};
 ghost use Rattle.sl_tmflow.specs.Extraction.{DeliveredAreHandedOver};
@@ -128,8 +128,10 @@ pub fn tm_recordings_deliver_packets()
 {}
 
 /// The normal form of packets is frames end to end, and read as a recording it delivers exactly the packets that it
-/// was made of, on each virtual channel: frames are written, delimited, read back, and their packets put together.
+/// was made of, on each virtual channel: frames are written, delimited, read back, none of them skipped, and their packets
+/// put together.
 pub fn normal_form_delivers_its_packets()
     ensures frames { NormalFormIsFrames }
+    ensures read { NoFrameIsSkipped }
     ensures packets { NormalFormDelivers }
 {}

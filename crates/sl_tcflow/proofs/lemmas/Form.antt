@@ -1,5 +1,6 @@
 pub mod Canonical
 pub mod Form
 pub mod Left
+pub mod Order
 pub mod Plain
 pub mod Pushed

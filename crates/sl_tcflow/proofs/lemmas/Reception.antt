@@ -1,6 +1,7 @@
 pub mod Channel
 pub mod Ended
 pub mod Farm
+pub mod Handed
 pub mod PlainRecording
 pub mod Recording
 pub mod Reordered

@@ -35,6 +35,15 @@ normal_form_is_frames format spacecraft starts plain lists is known are fits =
 pub no_frame_is_long : NoFrameIsLong
 no_frame_is_long format spacecraft starts plain lists is known are fits = form_within format spacecraft is known starts plain lists are fits
 
+-- which are those that are read
+pub views_are : (format : TcFormat) (spacecraft : ℕ) (starts plain : List ℕ) (lists : List (List (List ℕ))) → IsFormat format → spacecraft ≤ 1023 → AreDeliverable lists
+    → FitsTc format plain lists
+    → recorded_views format spacecraft (tc_normal_form_of format spacecraft starts plain lists) ≡ views_of format spacecraft (tc_frames_form format spacecraft starts plain lists)
+views_are format spacecraft starts plain lists is known are fits =
+    ap (views_of format spacecraft)
+    (delimited_once format (tc_normal_form_of format spacecraft starts plain lists) (tc_frames_form format spacecraft starts plain lists) []
+    (normal_form_is_frames format spacecraft starts plain lists is known are fits)).0
+
 -- ---- the packets of a channel
 
 -- none of the packets that may be delivered is left out
@@ -52,12 +61,6 @@ module _ (format : TcFormat) (spacecraft : ℕ) (r : ReceptionParameters) (lists
   abbrev form : List ℕ
   form = tc_normal_form_of format spacecraft r.starts r.plain lists
 
-  views_are : recorded_views format spacecraft form ≡ views_of format spacecraft (tc_frames_form format spacecraft r.starts r.plain lists)
-  views_are =
-      ap (views_of format spacecraft)
-      (delimited_once format form (tc_frames_form format spacecraft r.starts r.plain lists) []
-      (normal_form_is_frames format spacecraft r.starts r.plain lists is known are fits)).0
-
   packets_at : (vc mid : ℕ) → vc < 64 → mid < 64
       → packets_on (segments_of r vc mid (recorded_views format spacecraft form)) ≡ slice_index_or lists (64 * vc + mid) []
   packets_at vc mid vc_fits mid_fits =
@@ -66,7 +69,7 @@ module _ (format : TcFormat) (spacecraft : ℕ) (r : ReceptionParameters) (lists
       let all : length lists ≡ 4096 = are.all in
       let left : 64 ≤ length (drop (64 * vc) lists) = omega (arith, length-drop (64 * vc) lists, all) in
       let small : initial_vr r vc < 256 = octets.each vc 0 (omega (arith, octets.count, vc_fits)) in
-      ap (λ views. packets_on (segments_of r vc mid views)) views_are
+      ap (λ views. packets_on (segments_of r vc mid views)) (views_are format spacecraft r.starts r.plain lists is known are fits)
       ∙ ap (λ channel. packets_on (segments_on mid (map (segment_in (is_plain r vc)) (accepted_units r.window (initial_vr r vc) channel)))) (channel_back format spacecraft is known r.starts r.plain lists are fits vc vc_fits)
       ∙ ap (λ accepted. packets_on (segments_on mid (map (segment_in (is_plain r vc)) accepted))) (all_accepted r.window vc (initial_vr r vc) (initial_vr r vc) units small (omega (arith, small)))
       ∙ back_on format lists vc room (some_room format spacecraft is known) left (is_plain r vc) mid mid_fits (fits vc vc_fits) (some_lists 64 (64 * vc) lists are.each)

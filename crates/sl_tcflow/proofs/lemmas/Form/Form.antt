@@ -39,7 +39,7 @@ abbrev pub views_from : ℕ → ℕ → List (List ℕ) → List TcView
 views_from vc ns [] = []
 views_from vc ns (unit ∷ units) = record { vc = vc; content = Ad (ns % 256) unit } ∷ views_from vc (ns + 1) units
 
-on_channel : (vc ns : ℕ) (units : List (List ℕ)) → AllByRecursion (λ (view : TcView). view.vc ≡ vc) (views_from vc ns units)
+pub on_channel : (vc ns : ℕ) (units : List (List ℕ)) → AllByRecursion (λ (view : TcView). view.vc ≡ vc) (views_from vc ns units)
 on_channel vc ns [] = tt
 on_channel vc ns (unit ∷ units) = (refl, on_channel vc (ns + 1) units)
 
@@ -127,7 +127,7 @@ module _ (format : TcFormat) (spacecraft : ℕ) (is : IsFormat format) (known : 
     abbrev start : ℕ → ℕ
     start vc = slice_index_or starts vc 0
 
-    abbrev units_on : ℕ → List (List ℕ)
+    abbrev pub units_on : ℕ → List (List ℕ)
     units_on vc = units_of_maps (has_vc plain vc) (segment_room_of format) 0 (lists_on lists vc)
 
     abbrev frames_on : ℕ → List (List ℕ)
@@ -136,7 +136,7 @@ module _ (format : TcFormat) (spacecraft : ℕ) (is : IsFormat format) (known : 
     each_unit : (vc : ℕ) → vc < 64 → AllByRecursion (IsUnit format) (units_on vc)
     each_unit vc below = are_units lists vc (has_vc plain vc) are.each (fits vc below)
 
-    each_on : (P : List ℕ → Type 0)
+    pub each_on : (P : List ℕ → Type 0)
         → ((vc ns : ℕ) (unit : List ℕ) → FitAdFrame format spacecraft vc ns unit → P (ad_frame format spacecraft vc ns unit))
         → AllByRecursion P (tc_frames_form format spacecraft starts plain lists)
     each_on P each =
@@ -150,7 +150,7 @@ module _ (format : TcFormat) (spacecraft : ℕ) (is : IsFormat format) (known : 
         each_on (λ frame. length frame ≤ format.max)
         (λ vc ns unit fit. omega (arith, length-ad_frame format spacecraft vc ns unit fit, within format spacecraft vc ns unit fit))
 
-    views_by : (from n : ℕ) → from + n ≤ 64
+    pub views_by : (from n : ℕ) → from + n ≤ 64
         → views_of format spacecraft (flat_map frames_on (range_with_len from n)) ≡ flat_map (λ vc. views_from vc (start vc) (units_on vc)) (range_with_len from n)
     views_by from zero below = refl
     views_by from (suc n) below =

@@ -10,7 +10,7 @@ use Rattle.sl_cop.proofs.ReorderedLemmas.{state_more}
 use Rattle.sl_tcframe.specs.TcFrame.{TcView}
 use Rattle.sl_tcframe.specs.VcSet.{has_vc}
 use Rattle.sl_tcflow.specs.AcceptedUnit.{channel_of, event_of, farm_after}
-use Rattle.sl_tcflow.specs.Receiving.{AreIncomplete, ForIncomplete, ForProcessed, HasProcessed, HaveStepped, ReceiverState, channel_at, farm_at_start, farm_of, verdict_on}
+use Rattle.sl_tcflow.specs.Receiving.{AreIncomplete, ForIncomplete, ForProcessed, HasProcessed, HaveStepped, IncompleteSeries, ReceiverState, channel_at, farm_at_start, farm_of, verdict_on}
 use Rattle.sl_tcflow.specs.ReceptionParameters.{ReceptionParameters, is_plain, initial_vr}
 
 -- ---- one of the channels
@@ -88,8 +88,8 @@ module _ (r : ReceptionParameters) (farms : List FarmView) (views : List TcView)
             ];
       }
 
-pub processed_none : (r : ReceptionParameters) (farms : List FarmView) (incomplete : List (Option (List ℕ))) → HaveStepped r farms [] → incomplete ≡ []
-    → HasProcessed r (record { farms = farms; plain = r.plain; incomplete = incomplete; has_failed = false }) []
+pub processed_none : (r : ReceptionParameters) (farms : List FarmView) (incomplete : IncompleteSeries) → HaveStepped r farms [] → incomplete.list ≡ []
+    → HasProcessed r (record { farms = farms; plain = r.plain; series = incomplete; has_failed = false }) []
 processed_none r farms incomplete stepped none =
     record {
       working = refl;
@@ -108,8 +108,8 @@ plain_is r inside state vc same is = ap (λ (s : ReceiverState). has_vc s.plain 
 pub of_processed : (holds : ReceptionParameters → List TcView → Type 0) (inside state : ReceiverState) (plain : Bool) (verdict : Verdict) (next : TcView) → inside ≡ state
     → plain ≡ has_vc inside.plain next.vc
     → ((r : ReceptionParameters) (views : List TcView) → HaveStepped r inside.farms views → verdict ≡ verdict_on r views next)
-    → ForIncomplete plain inside.incomplete verdict next holds → ForProcessed state holds
+    → ForIncomplete plain inside.series.list verdict next holds → ForProcessed state holds
 of_processed holds inside state plain verdict next same headers verdict_is known r views processed =
     let farms = subst (λ (s : ReceiverState). HaveStepped r s.farms views) (sym same) processed.farms in
-    let series = subst (λ (s : ReceiverState). AreIncomplete r s.incomplete views) (sym same) processed.series in
+    let series = subst (λ (s : ReceiverState). AreIncomplete r s.series.list views) (sym same) processed.series in
     known r views (headers ∙ plain_is r inside state next.vc same processed.plain) series (verdict_is r views farms)

@@ -36,7 +36,7 @@ header_of_unit segment fit =
 pub octets_of_unit : (segment : SegmentFields × List ℕ) → segment_data (unit_made segment) ≡ segment.1
 octets_of_unit segment = drop_at (segment_octets segment.0) segment.1 1 (length-octets_of 1 (segment_fields segment.0))
 
-map_of_unit : (room : ℕ) (On : ℕ → Type 0) (segment : SegmentFields × List ℕ) → IsSegment room On segment → (header_at (unit_made segment)).map ≡ segment.0.map
+pub map_of_unit : (room : ℕ) (On : ℕ → Type 0) (segment : SegmentFields × List ℕ) → IsSegment room On segment → (header_at (unit_made segment)).map ≡ segment.0.map
 map_of_unit room On segment is = ap (λ (h : SegmentFields). h.map) (header_of_unit segment is.header)
 
 -- ---- segments on their MAPs

@@ -8,15 +8,15 @@ use Rattle.sl_tcflow.proofs.receiver.take.Goals as goal
 
 pub returns-in-None-clause-series : goal.returns-in-None-clause-series
 returns-in-None-clause-series g c r views headers are is =
-    incomplete_same r c.args.series.now views c.args.frame.now are
+    incomplete_same r c.args.series.now.list views c.args.frame.now are
     (segment_on c.args.plain c.args.verdict _ r views c.args.frame.now [] headers is c.content.ensures.value c.in-None.ensures.none)
 
 pub returns-in-Ok-clause-series : goal.returns-in-Ok-clause-series
 returns-in-Ok-clause-series g c r views headers are is =
     let unit = c.in-Some.unit.now in
     let segment = segment_in c.args.plain unit in
-    incomplete_more r c.args.series.now views c.args.frame.now segment (channel_at c.vc.result (header_at segment).map)
-    c.take.new.self are (omega (arith, c.vc.ensures.value, c.vc.ensures.fits))
+    incomplete_more r c.args.series.now.list views c.args.frame.now segment (channel_at c.vc.result (header_at segment).map)
+    c.take.new.self.list are (omega (arith, c.vc.ensures.value, c.vc.ensures.fits))
     (segment_on c.args.plain c.args.verdict _ r views c.args.frame.now (unit ∷ []) headers is c.content.ensures.value c.in-Some.ensures.unit)
     (ap (λ n. channel_at n (header_at segment).map) c.vc.ensures.value) (rw (c.segment_of.ensures.channel, c.segment_of.ensures.flags, c.segment_of.ensures.octets) at c.in-Ok.ensures.placed)
 
@@ -24,7 +24,7 @@ pub returns-in-Ok-clause-step : goal.returns-in-Ok-clause-step
 returns-in-Ok-clause-step g c r views headers are is =
     let unit = c.in-Some.unit.now in
     let segment = segment_in c.args.plain unit in
-    reported_more r c.args.series.now views c.args.frame.now segment c.vc.result c.in-Ok.step are (omega (arith, c.vc.ensures.value, c.vc.ensures.fits))
+    reported_more r c.args.series.now.list views c.args.frame.now segment c.vc.result c.in-Ok.step are (omega (arith, c.vc.ensures.value, c.vc.ensures.fits))
     (segment_on c.args.plain c.args.verdict _ r views c.args.frame.now (unit ∷ []) headers is c.content.ensures.value c.in-Some.ensures.unit)
     (map_on c.args.plain _ r c.args.frame.now (header_at segment).map headers c.content.ensures.value (c.in-Some.ensures.map c.args.plain))
     c.vc.ensures.value (sym is ∙ c.in-Some.ensures.accepted) (rw (c.segment_of.ensures.channel, c.segment_of.ensures.flags, c.segment_of.ensures.octets) at c.in-Ok.ensures.step)
@@ -44,7 +44,7 @@ returns-in-Ok-clause-hands_over g c r views headers are is =
     let segment = segment_in c.args.plain unit in
     let mid = map_on c.args.plain _ r c.args.frame.now (header_at segment).map headers c.content.ensures.value (c.in-Some.ensures.map c.args.plain) in
     hands_same (unit_channel_is c.vc.result r segment c.args.frame.now c.vc.ensures.value mid)
-    (sym (ended_more r c.args.series.now views c.args.frame.now segment (channel_at c.vc.result (header_at segment).map)
+    (sym (ended_more r c.args.series.now.list views c.args.frame.now segment (channel_at c.vc.result (header_at segment).map)
     are (omega (arith, c.vc.ensures.value, c.vc.ensures.fits))
     (segment_on c.args.plain c.args.verdict _ r views c.args.frame.now (unit ∷ []) headers is c.content.ensures.value c.in-Some.ensures.unit)
     mid (ap (λ n. channel_at n (header_at segment).map) c.vc.ensures.value)))
@@ -56,7 +56,7 @@ returns-in-Err-clause-hands_over g c r views headers are is =
     let segment = segment_in c.args.plain unit in
     let mid = map_on c.args.plain _ r c.args.frame.now (header_at segment).map headers c.content.ensures.value (c.in-Some.ensures.map c.args.plain) in
     hands_same (unit_channel_is c.vc.result r segment c.args.frame.now c.vc.ensures.value mid)
-    (sym (ended_more r c.args.series.now views c.args.frame.now segment (channel_at c.vc.result (header_at segment).map)
+    (sym (ended_more r c.args.series.now.list views c.args.frame.now segment (channel_at c.vc.result (header_at segment).map)
     are (omega (arith, c.vc.ensures.value, c.vc.ensures.fits))
     (segment_on c.args.plain c.args.verdict _ r views c.args.frame.now (unit ∷ []) headers is c.content.ensures.value c.in-Some.ensures.unit)
     mid (ap (λ n. channel_at n (header_at segment).map) c.vc.ensures.value)))
@@ -66,7 +66,7 @@ pub returns-in-Err-clause-memory : goal.returns-in-Err-clause-memory
 returns-in-Err-clause-memory g c e r views headers are is =
     let unit = c.in-Some.unit.now in
     let segment = segment_in c.args.plain unit in
-    around_more r c.args.series.now views c.args.frame.now segment (channel_at c.vc.result (header_at segment).map)
+    around_more r c.args.series.now.list views c.args.frame.now segment (channel_at c.vc.result (header_at segment).map)
     are (omega (arith, c.vc.ensures.value, c.vc.ensures.fits))
     (segment_on c.args.plain c.args.verdict _ r views c.args.frame.now (unit ∷ []) headers is c.content.ensures.value c.in-Some.ensures.unit)
     (map_on c.args.plain _ r c.args.frame.now (header_at segment).map headers c.content.ensures.value (c.in-Some.ensures.map c.args.plain))

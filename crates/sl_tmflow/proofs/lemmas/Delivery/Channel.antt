@@ -13,7 +13,7 @@ use Rattle.sl_packet.specs.declared.sink.SinkFault.{SinkFault}
 use Rattle.sl_packet.proofs.StoppingLemmas.{hands_same}
 use Rattle.sl_tmframe.specs.TmFrame.{TmView, DataField, Packets, Idle, Opaque}
 use Rattle.sl_tmflow.specs.Channel.{channel_of, follows, last_count, packet_data}
-use Rattle.sl_tmflow.specs.ChannelState.{ChannelState, no_frame, held_step, kept_of, kept_octets, incomplete_in, held_after, state_after, packets_after}
+use Rattle.sl_tmflow.specs.ChannelState.{ChannelState, KeptChannel, no_channel, held_step, kept_of, kept_octets, incomplete_in, held_after, state_after, packets_after}
 use Rattle.sl_tmflow.specs.Delivery.{Continuation, Ends, Continues, Breaks, agreeing_pointer, ended, field_step, front_step, outcome_of, outcome_of_front, packets_ending, step_of}
 use Rattle.sl_tmflow.specs.Incomplete.{frame_incomplete, incomplete_octets}
 use Rattle.sl_tmflow.specs.Extraction.{ExtractorState, HasSeen, HasProcessed, ended_by, held_as}
@@ -180,57 +180,58 @@ other_seen vc views next other =
     ]
 
 -- what was seen of each channel, where one of them has a frame more
-pub each_seen : (states : List ChannelState) (views : List TmView) (next : TmView) → next.vc < length states
-    → (vc : ℕ) → HasSeen (slice_index_or states vc no_frame) (channel_of vc views)
-    → HasSeen (slice_index_or (set states next.vc (state_after (slice_index_or states next.vc no_frame) next)) vc no_frame) (channel_of vc (views ++ next ∷ []))
-each_seen states views next inside vc s =
-    let after = state_after (slice_index_or states next.vc no_frame) next in
+pub each_seen : (states : List KeptChannel) (after : KeptChannel) (views : List TmView) (next : TmView) → next.vc < length states
+    → after.state ≡ state_after (slice_index_or states next.vc no_channel).state next
+    → (vc : ℕ) → HasSeen (slice_index_or states vc no_channel).state (channel_of vc views)
+    → HasSeen (slice_index_or (set states next.vc after) vc no_channel).state (channel_of vc (views ++ next ∷ []))
+each_seen states after views next inside is vc s =
     elim (eqb_tells next.vc vc) [
       | inl (test, same) ↦
-          subst (λ c. HasSeen (slice_index_or (set states next.vc after) c no_frame) (channel_of c (views ++ next ∷ []))) same
-          (rw (get_or-set_same states next.vc after no_frame inside, same_seen next.vc views next refl)
-          (seen_more (slice_index_or states next.vc no_frame) (channel_of next.vc views) next
-          (subst (λ c. HasSeen (slice_index_or states c no_frame) (channel_of c views)) (sym same) s)))
+          subst (λ c. HasSeen (slice_index_or (set states next.vc after) c no_channel).state (channel_of c (views ++ next ∷ []))) same
+          (rw (get_or-set_same states next.vc after no_channel inside, is, same_seen next.vc views next refl)
+          (seen_more (slice_index_or states next.vc no_channel).state (channel_of next.vc views) next
+          (subst (λ c. HasSeen (slice_index_or states c no_channel).state (channel_of c views)) (sym same) s)))
       | inr (test, other) ↦
-          rw (get_or-set_other states next.vc vc after no_frame (λ e. other (sym e)), other_seen vc views next other) s
+          rw (get_or-set_other states next.vc vc after no_channel (λ e. other (sym e)), other_seen vc views next other) s
     ]
 
 -- ---- all of them
 
 -- of the channel of a number
-pub seen_at : (old : ExtractorState) (views : List TmView) (states : List ChannelState) (at vc : ℕ) (d : ChannelState) → HasProcessed old views → states ≡ old.channels
-    → length states ≡ 8 → vc ≤ 7 → at ≡ vc → HasSeen (slice_index_or states at d) (channel_of vc views)
+pub seen_at : (old : ExtractorState) (views : List TmView) (states : List KeptChannel) (at vc : ℕ) (d : KeptChannel) → HasProcessed old views → states ≡ old.channels
+    → length states ≡ 8 → vc ≤ 7 → at ≡ vc → HasSeen (slice_index_or states at d).state (channel_of vc views)
 seen_at old views states at vc d p are eight fits same =
     let inside : vc < length states = omega arith in
-    let seen : HasSeen (slice_index_or states vc no_frame) (channel_of vc views) =
-    subst (λ l. HasSeen (slice_index_or l vc no_frame) (channel_of vc views)) (sym are) (p.each vc (omega arith)) in
-    subst (λ i. HasSeen (slice_index_or states i d) (channel_of vc views)) (sym same)
-    (subst (λ s. HasSeen s (channel_of vc views)) (get_or_default states vc no_frame d inside) seen)
+    let seen : HasSeen (slice_index_or states vc no_channel).state (channel_of vc views) =
+    subst (λ l. HasSeen (slice_index_or l vc no_channel).state (channel_of vc views)) (sym are) (p.each vc (omega arith)) in
+    subst (λ i. HasSeen (slice_index_or states i d).state (channel_of vc views)) (sym same)
+    (subst (λ (s : KeptChannel). HasSeen s.state (channel_of vc views)) (get_or_default states vc no_channel d inside) seen)
 
-module _ (old : ExtractorState) (views : List TmView) (next : TmView) (states : List ChannelState) (at : ℕ) (d : ChannelState) where
+module _ (old : ExtractorState) (views : List TmView) (next : TmView) (states : List KeptChannel) (at : ℕ) (d : KeptChannel) where
   pub ended_now : HasProcessed old views → states ≡ old.channels → length states ≡ 8 → next.vc ≤ 7 → at ≡ next.vc
-      → ended_by views next ≡ packets_after (slice_index_or states at d) next
+      → ended_by views next ≡ packets_after (slice_index_or states at d).state next
   ended_now p are eight fits same =
-      one_more (slice_index_or states at d) (channel_of next.vc views) next (seen_at old views states at next.vc d p are eight fits same)
+      one_more (slice_index_or states at d).state (channel_of next.vc views) next (seen_at old views states at next.vc d p are eight fits same)
 
   -- so a step that hands over the packets after that state hands over those that end in the frame
   pub handed_now : {S : Type 0} {taking : S → ℕ → List ℕ → S → Type 0} {failing : S → ℕ → List ℕ → SinkFault → S → Type 0} {failures : S → ℕ}
       {sink sink' : S} {channel : ℕ} {result : Result StepReport FlowFault} → states ≡ old.channels → length states ≡ 8 → next.vc ≤ 7 → at ≡ next.vc
-      → HandsOver taking failing failures counts_of sink channel (packets_after (slice_index_or states at d) next) result sink'
+      → HandsOver taking failing failures counts_of sink channel (packets_after (slice_index_or states at d).state next) result sink'
       → HasProcessed old views → HandsOver taking failing failures counts_of sink channel (ended_by views next) result sink'
   handed_now are eight fits same handed p = hands_same refl (sym (ended_now p are eight fits same)) handed
 
-  pub processed_more : (after : ChannelState) → HasProcessed old views → states ≡ old.channels → length states ≡ 8 → next.vc ≤ 7 → at ≡ next.vc
-      → after ≡ state_after (slice_index_or states at d) next
+  pub processed_more : (after : KeptChannel) → HasProcessed old views → states ≡ old.channels → length states ≡ 8 → next.vc ≤ 7 → at ≡ next.vc
+      → after.state ≡ state_after (slice_index_or states at d).state next
       → HasProcessed (record { channels = set states at after; has_failed = false }) (views ++ next ∷ [])
   processed_more after p are eight fits same by =
       let inside : next.vc < length states = omega arith in
-      let now : after ≡ state_after (slice_index_or states next.vc no_frame) next =
-      by ∙ ap (λ i. state_after (slice_index_or states i d) next) same ∙ ap (λ s. state_after s next) (get_or_default states next.vc d no_frame inside) in
+      let now : after.state ≡ state_after (slice_index_or states next.vc no_channel).state next =
+      by ∙ ap (λ i. state_after (slice_index_or states i d).state next) same
+      ∙ ap (λ (s : KeptChannel). state_after s.state next) (get_or_default states next.vc d no_channel inside) in
       record {
         working = refl;
         each = λ vc below.
-            let seen : HasSeen (slice_index_or states vc no_frame) (channel_of vc views) =
-            subst (λ l. HasSeen (slice_index_or l vc no_frame) (channel_of vc views)) (sym are) (p.each vc below) in
-            rw (same, now) (each_seen states views next inside vc seen);
+            let seen : HasSeen (slice_index_or states vc no_channel).state (channel_of vc views) =
+            subst (λ l. HasSeen (slice_index_or l vc no_channel).state (channel_of vc views)) (sym are) (p.each vc below) in
+            rw (same) (each_seen states after views next inside now vc seen);
       }

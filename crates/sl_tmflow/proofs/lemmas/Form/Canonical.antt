@@ -8,12 +8,12 @@ use Rattle.sl_fields.proofs.FecfLemmas.{fecf_len_le}
 use Rattle.sl_packet.specs.Delivered.{IsDeliverable}
 use Rattle.sl_packet.specs.Packet.{IsPacket}
 use Rattle.sl_packet.specs.Packets.{without_idle}
-use Rattle.sl_tmframe.specs.PacketFrame.{FitFrame, field_room_of}
+use Rattle.sl_tmframe.specs.PacketFrame.{FitFrame, field_room_of, packet_frame, packet_view}
 use Rattle.sl_tmframe.specs.TmDelimited.{tm_frames_of}
 use Rattle.sl_tmframe.specs.TmFrame.{TmFormat, TmView, tm_frame}
-use Rattle.sl_tmframe.proofs.DelimitedLemmas.{AreWhole, only_frames}
+use Rattle.sl_tmframe.proofs.DelimitedLemmas.{only_frames}
 use Rattle.sl_tmframe.proofs.PacketFrameLemmas.{length-packet_frame, packet_frame_back}
-use Rattle.sl_tmflow.specs.Canonical.{IsFormat, NormalFormIsFrames, NormalFormDelivers}
+use Rattle.sl_tmflow.specs.Canonical.{IsFormat, IsRead, NoFrameIsSkipped, NormalFormIsFrames, NormalFormDelivers}
 use Rattle.sl_tmflow.specs.Channel.{views_of, channel_of}
 use Rattle.sl_tmflow.specs.Delivery.{deliveries_of, packets_delivered}
 use Rattle.sl_tmflow.specs.NormalForm.{with_filling, filling, data_field_of, first_of, IsLeastStart, channel_frame, channel_frames, frames_from_channel, normal_form}
@@ -42,6 +42,11 @@ short_room format is = let most = is.most in omega arith
 each_of_channel : (room vc mc : ℕ) (packets : List (List ℕ)) (many number : ℕ) → AllByRecursion (λ view. view.vc ≡ vc) (views_from room vc mc packets number many)
 each_of_channel room vc mc packets zero number = tt
 each_of_channel room vc mc packets (suc many) number = (refl, each_of_channel room vc mc packets many (number + 1))
+
+-- a format's frames of packets, for a spacecraft, are such
+abbrev EachFrameIs : TmFormat → ℕ → (List ℕ → Type 0) → Type 0
+EachFrameIs format spacecraft P =
+    (vc mc vcc : ℕ) (first : Option ℕ) (field : List ℕ) → FitFrame format spacecraft vc mc vcc first field → P (packet_frame format spacecraft vc mc vcc first field)
 
 -- ---- the frames of packets that fill so many data fields
 
@@ -75,13 +80,14 @@ module _ (format : TmFormat) (spacecraft vc mc : ℕ) (packets : List (List ℕ)
         fills = field_filled number below;
       }
 
-  frames_whole : (many number : ℕ) → number + many ≤ count → AreWhole format.len (frames number many)
-  frames_whole zero number inside = tt
-  frames_whole (suc many) number inside =
-      let fit = frame_fits number (omega (arith, inside)) in (
-        length-packet_frame format spacecraft vc ((mc + number) % 256) (number % 256) (first_of room number (packet_offsets 0 packets [])) (data_field_of room number (concat packets)) fit,
-        frames_whole many (number + 1) (omega (arith, inside)),
-      )
+  -- what is so of each frame that fits is so of all
+  frames_each : (P : List ℕ → Type 0) → EachFrameIs format spacecraft P → (many number : ℕ) → number + many ≤ count → AllByRecursion P (frames number many)
+  frames_each P each zero number inside = tt
+  frames_each P each (suc many) number inside = (
+      each vc ((mc + number) % 256) (number % 256) (first_of room number (packet_offsets 0 packets [])) (data_field_of room number (concat packets))
+      (frame_fits number (omega (arith, inside))),
+      frames_each P each many (number + 1) (omega (arith, inside)),
+  )
 
   frames_back : (many number : ℕ) → number + many ≤ count → views_of format spacecraft (frames number many) ≡ views_from room vc mc packets number many
   frames_back zero number inside = refl
@@ -126,8 +132,8 @@ module _ (format : TmFormat) (spacecraft vc mc : ℕ) (packets : List (List ℕ)
       let none = filled_whole (field_room_of format) packets (omega (arith, wide)) (omega (arith, short_room format is)) in
       omega arith
 
-  pub channel_whole : AreWhole format.len (channel_frames format spacecraft vc mc packets)
-  channel_whole = frames_whole format spacecraft vc mc filled frame_count is fits vc_fits filled_size frame_count 0 (omega arith)
+  channel_each : (P : List ℕ → Type 0) → EachFrameIs format spacecraft P → AllByRecursion P (channel_frames format spacecraft vc mc packets)
+  channel_each P each_is = frames_each format spacecraft vc mc filled frame_count is fits vc_fits filled_size P each_is frame_count 0 (omega arith)
 
   pub channel_back : views_of format spacecraft (channel_frames format spacecraft vc mc packets) ≡ channel_views format vc mc packets
   channel_back = frames_back format spacecraft vc mc filled frame_count is fits vc_fits filled_size frame_count 0 (omega arith)
@@ -162,14 +168,14 @@ module _ (format : TmFormat) (spacecraft : ℕ) (is : IsFormat format) (fits : s
   abbrev form_views : ℕ → ℕ → List (List (List ℕ)) → List TmView
   form_views vc mc lists = views_of format spacecraft (frames_from_channel format spacecraft vc mc lists)
 
-  form_whole : (lists : List (List (List ℕ))) (vc mc : ℕ) → vc + length lists ≤ 8 → AllByRecursion (AllByRecursion IsDeliverable) lists
-      → AreWhole format.len (frames_from_channel format spacecraft vc mc lists)
-  form_whole [] vc mc inside each = tt
-  form_whole (packets ∷ lists) vc mc inside each =
+  form_each : (P : List ℕ → Type 0) → EachFrameIs format spacecraft P → (lists : List (List (List ℕ))) (vc mc : ℕ) → vc + length lists ≤ 8
+      → AllByRecursion (AllByRecursion IsDeliverable) lists → AllByRecursion P (frames_from_channel format spacecraft vc mc lists)
+  form_each P each_is [] vc mc inside each = tt
+  form_each P each_is (packets ∷ lists) vc mc inside each =
       let frames = channel_frames format spacecraft vc mc packets in
-      each-append (λ frame. length frame ≡ format.len) frames (frames_from_channel format spacecraft (vc + 1) (mc + length frames) lists)
-      (channel_whole format spacecraft vc mc packets is fits (omega (arith, inside)) each.0)
-      (form_whole lists (vc + 1) (mc + length frames) (omega (arith, inside)) each.1)
+      each-append P frames (frames_from_channel format spacecraft (vc + 1) (mc + length frames) lists)
+      (channel_each format spacecraft vc mc packets is fits (omega (arith, inside)) each.0 P each_is)
+      (form_each P each_is lists (vc + 1) (mc + length frames) (omega (arith, inside)) each.1)
 
   -- the views of the first virtual channel, and of the others
   form_parts : (packets : List (List ℕ)) (lists : List (List (List ℕ))) (vc mc : ℕ) → vc ≤ 7 → AllByRecursion IsDeliverable packets
@@ -218,9 +224,17 @@ pub is_frames : NormalFormIsFrames
 is_frames format spacecraft lists is fits due =
     record {
       end_to_end = sym (append-nil (normal_form format spacecraft lists));
-      whole = let eight = due.eight in form_whole format spacecraft is fits lists 0 0 (omega arith) due.each;
+      whole =
+          let eight = due.eight in
+          form_each format spacecraft is fits (λ frame. length frame ≡ format.len) (length-packet_frame format spacecraft) lists 0 0 (omega arith) due.each;
       short = let least = is.least in omega arith;
     }
+
+pub none_is_skipped : NoFrameIsSkipped
+none_is_skipped format spacecraft lists is fits due =
+    let eight = due.eight in
+    form_each format spacecraft is fits (IsRead format spacecraft)
+    (λ vc mc vcc first field fit. (packet_view vc mc vcc first field, packet_frame_back format spacecraft vc mc vcc first field fit)) lists 0 0 (omega arith) due.each
 
 pub delivers : NormalFormDelivers
 delivers format spacecraft lists is fits due =

@@ -10,7 +10,7 @@ returns-in-Err-clause-stopped g c =
       refl,
       λ r views processed.
           let farms = subst (λ l. HaveStepped r l views) (sym (ap (λ s. s.farms) c.self.view_is)) processed.farms in
-          let series = subst (λ l. AreIncomplete r l views) (sym (ap (λ s. s.incomplete) c.self.view_is)) processed.series in (
+          let series = subst (λ l. AreIncomplete r l views) (sym (ap (λ s. s.series.list) c.self.view_is)) processed.series in (
             record { failed = refl; farms = c.step-verdict.ensures.farms r views farms },
             (c.in-Err.ensures.hands_over r views (c.has-plain.ensures.value ∙ ap (has_vc c.self.inside.plain) c.vc.ensures.value ∙ plain_is r _ _ c.args.frame.now.vc c.self.view_is processed.plain) series (c.step-verdict.ensures.verdict r views farms)).stopped,
           ),
@@ -20,7 +20,7 @@ pub returns-clause-processed : goal.returns-clause-processed
 returns-clause-processed g c =
     λ r views processed.
     let farms = subst (λ l. HaveStepped r l views) (sym (ap (λ s. s.farms) c.self.view_is)) processed.farms in
-    let series = subst (λ l. AreIncomplete r l views) (sym (ap (λ s. s.incomplete) c.self.view_is)) processed.series in
+    let series = subst (λ l. AreIncomplete r l views) (sym (ap (λ s. s.series.list) c.self.view_is)) processed.series in
     record {
       working = refl;
       plain = ap (λ s. s.plain) c.self.view_is ∙ processed.plain;
@@ -31,7 +31,7 @@ returns-clause-processed g c =
 pub returns-in-Err-clause-memory : goal.returns-in-Err-clause-memory
 returns-in-Err-clause-memory g c e r views processed =
     let farms = subst (λ l. HaveStepped r l views) (sym (ap (λ s. s.farms) c.self.view_is)) processed.farms in
-    let series = subst (λ l. AreIncomplete r l views) (sym (ap (λ s. s.incomplete) c.self.view_is)) processed.series in
+    let series = subst (λ l. AreIncomplete r l views) (sym (ap (λ s. s.series.list) c.self.view_is)) processed.series in
     c.in-Err.ensures.memory e r views (c.has-plain.ensures.value ∙ ap (has_vc c.self.inside.plain) c.vc.ensures.value ∙ plain_is r _ _ c.args.frame.now.vc c.self.view_is processed.plain) series (c.step-verdict.ensures.verdict r views farms)
 
 pub returns-clause-accepted : goal.returns-clause-accepted

@@ -3,7 +3,7 @@ use Rattle.sl_tcflow.specs.ReceptionParameters.{ReceptionParameters}
 use Rattle.sl_tcflow.proofs.lemmas.Reception.Farm.{processed_none}
 use Rattle.sl_tcflow.proofs.receiver.Receiver.new.Goals as goal
 
-pub returns : goal.returns
-returns c =
+pub returns-clause-processed : goal.returns-clause-processed
+returns-clause-processed c =
     let r : ReceptionParameters = record { window = c.args.window; starts = c.args.starts.now; plain = c.args.plain } in
-    processed_none r _ c.new.result (c.farms_at_start.ensures r refl refl) c.new.ensures
+    processed_none r _ c.new.result (c.farms_at_start.ensures r refl refl) c.new.ensures.none

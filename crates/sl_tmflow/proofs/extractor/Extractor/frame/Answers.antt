@@ -32,12 +32,12 @@ returns-clause-idle g c =
 
 pub returns-clause-gap : goal.returns-clause-gap
 returns-clause-gap g c =
-    λ views p. c.in-Ok.ensures.gap ∙ sym (gap_seen (slice_index_or c.self.inside.channels c.from.result c.index-self-from.result) (channel_of c.args.frame.now.vc views) c.args.frame.now
+    λ views p. c.in-Ok.ensures.gap ∙ sym (gap_seen (slice_index_or c.self.inside.channels c.from.result c.index-self-from.result).state (channel_of c.args.frame.now.vc views) c.args.frame.now
     (seen_at c.args.self.now views c.self.inside.channels c.from.result c.args.frame.now.vc c.index-self-from.result p (ap (λ s. s.channels) c.self.view_is) (omega arith) (omega arith) (omega arith)))
 
 pub returns-clause-dropped : goal.returns-clause-dropped
 returns-clause-dropped g c =
-    λ views p. c.in-Ok.ensures.dropped ∙ sym (dropped_seen (slice_index_or c.self.inside.channels c.from.result c.index-self-from.result) (channel_of c.args.frame.now.vc views) c.args.frame.now
+    λ views p. c.in-Ok.ensures.dropped ∙ sym (dropped_seen (slice_index_or c.self.inside.channels c.from.result c.index-self-from.result).state (channel_of c.args.frame.now.vc views) c.args.frame.now
     (seen_at c.args.self.now views c.self.inside.channels c.from.result c.args.frame.now.vc c.index-self-from.result p (ap (λ s. s.channels) c.self.view_is) (omega arith) (omega arith) (omega arith)))
 
 pub returns-clause-foreign : goal.returns-clause-foreign
@@ -45,7 +45,7 @@ returns-clause-foreign g c = c.in-Ok.ensures.foreign ∙ sym (foreign_is c.args.
 
 pub returns-in-Err-clause-memory : goal.returns-in-Err-clause-memory
 returns-in-Err-clause-memory g c =
-    λ memory views p. incomplete_around (slice_index_or c.self.inside.channels c.from.result c.index-self-from.result) views c.args.frame.now
+    λ memory views p. incomplete_around (slice_index_or c.self.inside.channels c.from.result c.index-self-from.result).state views c.args.frame.now
     (seen_at c.args.self.now views c.self.inside.channels c.from.result c.args.frame.now.vc c.index-self-from.result p (ap (λ s. s.channels) c.self.view_is) (omega arith) (omega arith) (omega arith))
     (c.in-Err.ensures.memory memory)
 

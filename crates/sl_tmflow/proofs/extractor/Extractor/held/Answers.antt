@@ -7,5 +7,5 @@ use Rattle.sl_tmflow.proofs.extractor.Extractor.held.Goals as goal
 
 pub returns-clause-value : goal.returns-clause-value
 returns-clause-value c =
-    λ views p. c.held.ensures.value ∙ held_seen (slice_index_or c.self.inside.channels c.from.result c.index-self-from.result) (channel_of c.args.vc views)
+    λ views p. c.held.ensures.value ∙ held_seen (slice_index_or c.self.inside.channels c.from.result c.index-self-from.result).state (channel_of c.args.vc views)
     (seen_at c.args.self.now views c.self.inside.channels c.from.result c.args.vc c.index-self-from.result p (ap (λ s. s.channels) c.self.view_is) (omega arith) (omega arith) (omega arith))

@@ -1,0 +1,124 @@
+-- The order of the frames of the normal form.
+use Rattle.std.proofs.Common.{◌≡◌, ℕ, zero, suc, ◌+◌, ◌*◌, ◌%◌, ◌<◌, ◌≤◌, Bool, true, false, List, [], ◌∷◌, ◌++◌, length, take, drop, map, flat_map, refl, sym, ◌∙◌, ap, subst, arith, length-take}
+use Rattle.std.specs.List.{AllByRecursion, range_with_len, slice_index_or}
+use Rattle.sl_tcframe.specs.AdFrame.{ad_frame, segment_room_of}
+use Rattle.sl_tcframe.specs.TcFrame.{TcFormat, TcView, Ad}
+use Rattle.sl_tcframe.specs.VcSet.{has_vc}
+use Rattle.sl_tcframe.proofs.AdFrameLemmas.{ad_frame_back}
+use Rattle.sl_tcflow.specs.AcceptedUnit.{channel_of}
+use Rattle.sl_tcflow.specs.FormOrder.{CanBeWritten, IsRead, form_views, NeverFall, NoFrameIsSkipped, ChannelsNeverFall, MapsNeverFall, NsCounts}
+use Rattle.sl_tcflow.specs.Receiving.{map_of}
+use Rattle.sl_tcflow.specs.Series.{header_at}
+use Rattle.sl_tcflow.specs.TcNormalForm.{units_of_maps}
+use Rattle.sl_fields.proofs.ListLemmas.{each-map, each-weaker}
+use Rattle.sl_tcflow.proofs.lemmas.Form.Canonical.{views_are}
+use Rattle.sl_tcflow.proofs.lemmas.Form.Form.{channel_back, each_on, on_channel, units_on, views_by, views_from}
+use Rattle.sl_tcflow.proofs.lemmas.Series.Segment.{IsSegment, flat_units, map_of_unit, packets_parts, segments_of_packet, unit_made}
+
+pub no_frame_is_skipped : NoFrameIsSkipped
+no_frame_is_skipped format spacecraft starts plain lists can =
+    each_on format spacecraft can.is_format can.known starts plain lists can.deliverable can.fit (IsRead format spacecraft)
+    (λ vc ns unit fit. (record { vc = vc; content = Ad ns unit }, ad_frame_back format spacecraft vc ns unit fit))
+
+-- ---- numbers that never fall
+
+lower : (least other : ℕ) (numbers : List ℕ) → other ≤ least → NeverFall least numbers → NeverFall other numbers
+lower least other [] low fall = tt
+lower least other (number ∷ numbers) low fall = (let first = fall.0 in omega arith, fall.1)
+
+-- those of one number, and then others that are no less
+module _ {X : Type 0} (f : X → ℕ) where
+  then_later : (m least : ℕ) (xs ys : List X) → least ≤ m → AllByRecursion (λ x. f x ≡ m) xs → NeverFall m (map f ys) → NeverFall least (map f (xs ++ ys))
+  then_later m least [] ys low same later = lower m least (map f ys) low later
+  then_later m least (x ∷ xs) ys low same later =
+      let is = same.0 in (omega arith, then_later m (f x) xs ys (omega arith) same.1 later)
+
+  by_range : (of : ℕ → List X) → ((i : ℕ) → AllByRecursion (λ x. f x ≡ i) (of i)) → (from n : ℕ) → NeverFall from (map f (flat_map of (range_with_len from n)))
+  by_range of each from zero = tt
+  by_range of each from (suc n) =
+      let later = by_range of each (from + 1) n in
+      then_later from from (of from) (flat_map of (range_with_len (from + 1) n)) (omega arith) (each from)
+      (lower (from + 1) from (map f (flat_map of (range_with_len (from + 1) n))) (omega arith) later)
+
+-- ---- the MAPs of units
+
+on_one_map : (room mid : ℕ) (packets : List (List ℕ)) → mid < 64 → AllByRecursion (λ unit. (header_at unit).map ≡ mid) (map unit_made (flat_map (segments_of_packet room mid) packets))
+on_one_map room mid packets small =
+    let segments = flat_map (segments_of_packet room mid) packets in
+    each-map (λ unit. (header_at unit).map ≡ mid) unit_made segments
+    (each-weaker (IsSegment room (λ m. m ≡ mid)) (λ segment. (header_at (unit_made segment)).map ≡ mid)
+    (λ segment is. map_of_unit room (λ m. m ≡ mid) segment is ∙ is.on) segments (packets_parts room mid small packets))
+
+maps_rise : (room mid : ℕ) (lists : List (List (List ℕ))) → mid + length lists ≤ 64 → NeverFall mid (map (λ unit. (header_at unit).map) (units_of_maps false room mid lists))
+maps_rise room mid [] few = tt
+maps_rise room mid (packets ∷ lists) few =
+    let later = units_of_maps false room (mid + 1) lists in
+    subst (λ l. NeverFall mid (map (λ unit. (header_at unit).map) (l ++ later))) (sym (flat_units room mid packets))
+    (then_later (λ unit. (header_at unit).map) mid mid (map unit_made (flat_map (segments_of_packet room mid) packets)) later (omega arith)
+    (on_one_map room mid packets (omega arith))
+    (lower (mid + 1) mid (map (λ unit. (header_at unit).map) later) (omega arith) (maps_rise room (mid + 1) lists (omega arith))))
+
+-- the units are those that the frames are read with
+maps_of_views : (b : Bool) (vc ns : ℕ) (units : List (List ℕ))
+    → map (λ (view : TcView). map_of b view.content) (views_from vc ns units) ≡ map (λ unit. map_of b (Ad 0 unit)) units
+maps_of_views b vc ns [] = refl
+maps_of_views b vc ns (unit ∷ units) = ap (λ l. map_of b (Ad 0 unit) ∷ l) (maps_of_views b vc (ns + 1) units)
+
+-- without segment headers all are on MAP 0
+all_on_none : (units : List (List ℕ)) → NeverFall 0 (map (λ unit. map_of true (Ad 0 unit)) units)
+all_on_none [] = tt
+all_on_none (unit ∷ units) = (omega arith, all_on_none units)
+
+maps_on : (b : Bool) (room : ℕ) (lists : List (List (List ℕ))) → length lists ≤ 64 → NeverFall 0 (map (λ unit. map_of b (Ad 0 unit)) (units_of_maps b room 0 lists))
+maps_on true room lists few = all_on_none (units_of_maps true room 0 lists)
+maps_on false room lists few = maps_rise room 0 lists (omega arith)
+
+-- ---- N(S)
+
+-- each frame carries its own
+ns_of : (vc ns : ℕ) (units : List (List ℕ)) (before later : List TcView) (view : TcView) → views_from vc ns units ≡ before ++ view ∷ later
+    → (unit : List ℕ) × (view.content ≡ Ad ((ns + length before) % 256) unit)
+ns_of vc ns [] [] later view is = cc
+ns_of vc ns [] (other ∷ before) later view is = cc
+ns_of vc ns (unit ∷ units) [] later view is =
+    let here : TcView = record { vc = vc; content = Ad (ns % 256) unit } in
+    let same : view ≡ here = cc in
+    (unit, ap (λ (v : TcView). v.content) same ∙ ap (λ n. Ad (n % 256) unit) (omega arith))
+ns_of vc ns (unit ∷ units) (other ∷ before) later view is =
+    let rest : views_from vc (ns + 1) units ≡ before ++ view ∷ later = cc in
+    let (own, content) = ns_of vc (ns + 1) units before later view rest in
+    (own, content ∙ ap (λ n. Ad (n % 256) own) (omega arith))
+
+-- ---- all
+
+module _ (format : TcFormat) (spacecraft : ℕ) (starts plain : List ℕ) (lists : List (List (List ℕ))) (can : CanBeWritten format spacecraft plain lists) where
+  abbrev units : ℕ → List (List ℕ)
+  units vc = units_on format spacecraft can.is_format can.known starts plain lists can.deliverable can.fit vc
+
+pub channels_never_fall : ChannelsNeverFall
+channels_never_fall format spacecraft starts plain lists can =
+    subst (λ views. NeverFall 0 (map (λ (view : TcView). view.vc) views))
+    (sym (views_are format spacecraft starts plain lists can.is_format can.known can.deliverable can.fit
+    ∙ views_by format spacecraft can.is_format can.known starts plain lists can.deliverable can.fit 0 64 (omega arith)))
+    (by_range (λ (view : TcView). view.vc) (λ vc. views_from vc (slice_index_or starts vc 0) (units format spacecraft starts plain lists can vc))
+    (λ vc. on_channel vc (slice_index_or starts vc 0) (units format spacecraft starts plain lists can vc)) 0 64)
+
+module _ (format : TcFormat) (spacecraft : ℕ) (starts plain : List ℕ) (lists : List (List (List ℕ))) (can : CanBeWritten format spacecraft plain lists) (vc : ℕ) (inside : vc < 64) where
+  -- the frames of a virtual channel, as they are read
+  own_views : channel_of vc (form_views format spacecraft starts plain lists) ≡ views_from vc (slice_index_or starts vc 0) (units format spacecraft starts plain lists can vc)
+  own_views =
+      ap (channel_of vc) (views_are format spacecraft starts plain lists can.is_format can.known can.deliverable can.fit)
+      ∙ channel_back format spacecraft can.is_format can.known starts plain lists can.deliverable can.fit vc inside
+
+pub maps_never_fall : MapsNeverFall
+maps_never_fall format spacecraft starts plain lists can vc inside =
+    let own = take 64 (drop (64 * vc) lists) in
+    subst (λ views. NeverFall 0 (map (λ (view : TcView). map_of (has_vc plain vc) view.content) views))
+    (sym (own_views format spacecraft starts plain lists can vc inside))
+    (subst (NeverFall 0) (sym (maps_of_views (has_vc plain vc) vc (slice_index_or starts vc 0) (units format spacecraft starts plain lists can vc)))
+    (maps_on (has_vc plain vc) (segment_room_of format) own (omega (arith, length-take 64 (drop (64 * vc) lists)))))
+
+pub ns_counts : NsCounts
+ns_counts format spacecraft starts plain lists can vc inside before later view is =
+    ns_of vc (slice_index_or starts vc 0) (units format spacecraft starts plain lists can vc) before later view
+    (sym (own_views format spacecraft starts plain lists can vc inside) ∙ is)

@@ -1,4 +1,4 @@
--- An `Extractor` is the states of its virtual channels, and whether a fault came.
+-- An `Extractor` stands for the states of its virtual channels, and for whether a fault came.
 use Rattle.std.specs.Prelude.{◌≤◌, length}
 use Rattle.sl_tmflow.specs.ChannelState.{ChannelState}
 use Rattle.sl_tmflow.specs.Extraction.{ExtractorState}
@@ -8,7 +8,7 @@ use Rattle.sl_tmflow.specs.declared.extractor.Extractor.TheInside as extractor
 abbrev pub channel_state : channel.Inside → ChannelState
 channel_state c = record { count = c.count; held = c.held.items }
 
--- the octets that are held are fewer than the longest packet's
+-- fewer octets are held than the longest packet has
 abbrev pub HoldsNoPacket : channel.Inside → Type 0
 HoldsNoPacket c = length c.held.items ≤ 65541
 

@@ -1,4 +1,4 @@
--- What a receiver has made of the frames of virtual channels, CCSDS 232.0-B and 232.1-B, that it was given.
+-- The state of a receiver after frames of virtual channels, CCSDS 232.0-B and 232.1-B, were given to it.
 use Rattle.std.specs.Prelude.{◌≡◌, ◌≢◌, ◌⊎◌, ℕ, ◌+◌, ◌*◌, ◌<◌, Bool, true, false, List, [], ◌∷◌, ◌++◌, length, map, flat_map, Option, None}
 use Rattle.std.specs.List.{slice_index_or}
 use Rattle.sl_cop.specs.declared.verdict.Verdict.{Verdict}
@@ -14,22 +14,24 @@ use Rattle.sl_tcflow.specs.Series.{header_at, segment_in}
 abbrev pub channel_at : ℕ → ℕ → ℕ
 channel_at vc mid = 64 * vc + mid
 
--- The FARM-1 of each virtual channel; the virtual channels without segment headers; and of each channel the octets so far
--- of the series that is incomplete, if one is: there is none past the last channel that is kept.
+-- The state: FARM-1 of each virtual channel; the virtual channels without segment headers; the octets so far of the
+-- incomplete series of each channel, if there is one, and none past the last channel that is kept; and whether a
+-- fault came.
 pub record ReceiverState : Type 0 where
   pub farms : List FarmView
   pub plain : List ℕ
   pub incomplete : List (Option (List ℕ))
   pub has_failed : Bool
 
--- FARM-1 of a virtual channel: at the start, and after these frames
+-- FARM-1 of a virtual channel before its first frame
 abbrev pub farm_at_start : ReceptionParameters → ℕ → FarmView
 farm_at_start r vc = record { window = r.window; state = farm_start (initial_vr r vc) }
 
+-- FARM-1 of a virtual channel after these frames
 abbrev pub farm_of : ReceptionParameters → ℕ → List TcView → FarmView
 farm_of r vc views = record { window = r.window; state = farm_after r.window (initial_vr r vc) (channel_of vc views) }
 
--- the virtual channels' FARMs had these frames
+-- each virtual channel's FARM-1 is the one after these frames
 pub record HaveStepped (r : ReceptionParameters) (farms : List FarmView) (views : List TcView) : Type 0 where
   pub count : length farms ≡ 64
   pub each : (vc : ℕ) → vc < 64 → slice_index_or farms vc (farm_at_start r vc) ≡ farm_of r vc views
@@ -39,7 +41,7 @@ abbrev pub AreIncomplete : ReceptionParameters → List (Option (List ℕ)) → 
 AreIncomplete r incomplete views =
     (vc mid : ℕ) → vc < 64 → mid < 64 → slice_index_or incomplete (channel_at vc mid) None ≡ incomplete_of (segments_of r vc mid views)
 
--- These frames were processed, and no fault came. Other frames may have left the same.
+-- These frames were processed, and no fault came. Other lists of frames may lead to the same state.
 pub record HasProcessed (r : ReceptionParameters) (state : ReceiverState) (views : List TcView) : Type 0 where
   pub working : state.has_failed ≡ false
   pub plain : state.plain ≡ r.plain
@@ -59,41 +61,42 @@ pub record HasFailedAfter (r : ReceptionParameters) (state : ReceiverState) (vie
 abbrev pub HasFailed : ReceiverState → Type 0
 HasFailed state = state.has_failed ≡ true
 
--- it holds whichever frames were processed, with whichever parameters of reception
+-- the property holds for all parameters and lists of frames that may have been processed
 abbrev pub ForProcessed : ReceiverState → (ReceptionParameters → List TcView → Type 0) → Type 0
 ForProcessed state holds = (r : ReceptionParameters) (views : List TcView) → HasProcessed r state views → holds r views
 
 -- ---- what the next frame does
 
--- the verdict of FARM-1 on it
+-- the verdict of FARM-1 on the next frame
 abbrev pub verdict_on : ReceptionParameters → List TcView → TcView → Verdict
 verdict_on r views next = (farm_step r.window (farm_of r next.vc views).state (event_of next.content)).0
 
--- the MAP of its unit, if it carries one
+-- the MAP of a frame's unit, and 0 where the frame carries none
 abbrev pub map_of : Bool → Content → ℕ
 map_of plain (Ad ns unit) = (header_at (segment_in plain unit)).map
 map_of plain (Bd unit) = (header_at (segment_in plain unit)).map
 map_of plain Unlock = 0
 map_of plain (SetVr vr) = 0
 
+-- the MAP of the next frame's unit
 abbrev pub map_by : ReceptionParameters → TcView → ℕ
 map_by r next = map_of (is_plain r next.vc) next.content
 
--- the channel of its unit
+-- the channel of the next frame's unit
 abbrev pub unit_channel : ReceptionParameters → TcView → ℕ
 unit_channel r next = channel_at next.vc (map_by r next)
 
--- the segment that its unit is, if it is accepted, as a list of one or of none
+-- the segment of the next frame's unit, if the unit is accepted, as a list of one or none
 abbrev pub segment_by : ReceptionParameters → List TcView → TcView → List (List ℕ)
 segment_by r views next = map (segment_in (is_plain r next.vc)) (unit_by (verdict_on r views next) next.content)
 
--- the packets that end with its unit, if it is accepted, idle ones included
+-- the packets that end with the next frame's unit, if the unit is accepted, idle packets included
 abbrev pub ended_by : ReceptionParameters → List TcView → TcView → List (List ℕ)
 ended_by r views next =
     flat_map (packets_ended (segments_of r next.vc (map_by r next) views)) (segment_by r views next)
 
--- it holds whichever frames came before the next one, with whichever parameters of reception, where its virtual channel
--- has segment headers or not, these series are incomplete and FARM-1 gives this verdict
+-- The property holds for all parameters and frames that may have come before the next one: its virtual channel has
+-- segment headers or not, these series are incomplete, and FARM-1 gives this verdict.
 abbrev pub ForIncomplete : Bool → List (Option (List ℕ)) → Verdict → TcView → (ReceptionParameters → List TcView → Type 0) → Type 0
 ForIncomplete plain incomplete verdict next holds =
     (r : ReceptionParameters) (views : List TcView) → plain ≡ is_plain r next.vc → AreIncomplete r incomplete views → verdict ≡ verdict_on r views next

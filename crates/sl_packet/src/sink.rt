@@ -51,7 +51,7 @@ pub trait PacketSink {
         ensures accepted { OnOk result (taking self.old channel p.now self.new) }
         ensures kept { OnOk result (failures self.new ≡ failures self.old) }
 
-        // Or the packet is refused, and counted.
+        // An error means that the packet is refused, and counted.
         ensures refused { IfErr result (λ fault. failing self.old channel p.now fault self.new) }
         ensures counted { OnErr result (failures self.new ≡ one_more (failures self.old)) };
 }
@@ -91,7 +91,8 @@ pub fn hand_over<'a, S: PacketSink>(
         handed.idle ≡ length (only_idle (packets_of octets.now))) }
     ensures remainder { IfOk result (λ handed. handed.remainder.now ≡ rest_of octets.now) }
 
-    // Or the sink accepts the packets before one that it refuses, and the refused packet is counted.
+    // An error means that the sink accepts the packets before one that it refuses, and the refused packet is
+    // counted.
     ensures refused { IfErr result (λ fault. StopsTaking S.taking S.failing
         sink.old channel (without_idle (packets_of octets.now)) fault sink.new) }
     ensures counted { OnErr result (S.failures sink.new ≡ one_more (S.failures sink.old)) }

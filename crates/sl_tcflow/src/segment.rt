@@ -34,7 +34,7 @@ pub fn segment_of(vc: u8, plain: bool, unit: &[u8]) -> Segment
     ensures channel { result.channel ≡ channel_at vc (header_at (segment_in plain unit.now)).map }
     ensures octets { result.octets.now ≡ segment_data (segment_in plain unit.now) }
 
-    // Its octets are no more than the unit's, its flags have 2 bits, and its channel is one of a MAP.
+    // The segment has no more octets than the unit, 2 bits of flags, and the channel of a MAP.
     ensures short { length result.octets.now ≤ length unit.now }
     ensures most { result.flags ≤ 3 }
     ensures channel_most { result.channel ≤ 4095 }

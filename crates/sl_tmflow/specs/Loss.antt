@@ -146,13 +146,15 @@ pub record IsRecordingOfKept (format : TmFormat) (spacecraft vc : ℕ) (numbers 
   pub channel : vc < 8
   pub kept : AreKept (recorded_channel format spacecraft vc whole) numbers (recorded_channel format spacecraft vc recording)
 
--- Such a recording delivers on the virtual channel the packets whose frames were all kept, idle packets left out.
+-- A recording of the kept frames delivers on the virtual channel the packets whose frames were all kept, idle packets
+-- left out.
 abbrev pub RecordedAreKept : Type 0
 RecordedAreKept =
     (format : TmFormat) (spacecraft vc : ℕ) (numbers whole recording : List ℕ) → IsRecordingOfKept format spacecraft vc numbers whole recording
     → recorded_packets format spacecraft vc recording ≡ without_idle (kept_packets numbers (recorded_channel format spacecraft vc whole))
 
--- Such a recording delivers on the virtual channel a sublist of what the other one delivers there.
+-- A recording of the kept frames delivers on the virtual channel a sublist of what the whole recording delivers
+-- there.
 abbrev pub RecordedAreSublist : Type 0
 RecordedAreSublist =
     (format : TmFormat) (spacecraft vc : ℕ) (numbers whole recording : List ℕ) → IsRecordingOfKept format spacecraft vc numbers whole recording

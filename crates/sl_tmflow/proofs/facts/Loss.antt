@@ -54,7 +54,7 @@ pub record OneIsLost : Type 0 where
   pub whole : packets_delivered (deliveries_of channel) ≡ long ∷ (begun ++ remainder) ∷ packet ∷ idle ∷ long ∷ (begun ++ remainder) ∷ packet ∷ idle ∷ []
   -- the deliveries that lost a frame
   pub lost : map (keeps_run numbers) (deliveries_of channel) ≡ true ∷ false ∷ false ∷ false ∷ true ∷ true ∷ true ∷ true ∷ []
-  -- these deliveries are missing, and no others
+  -- the deliveries that lost a frame are missing, and no others
   pub left :
       deliveries_of kept
       ≡ delivery_with 0 0 0 long ∷ delivery_with 1 0 1 long ∷ delivery_with 1 23 2 (begun ++ remainder) ∷ delivery_with 2 7 2 packet ∷ delivery_with 2 17 2 idle ∷ []

@@ -53,7 +53,7 @@ not_last_is_whole octets first start later s t less incomplete =
     let inside = t.inside in
     omega (arith, ap length all, rest_within (drop later octets), length-drop start octets, length-drop later octets)
 
--- such a packet is delivered in its own frame
+-- a packet with another start later in its data field is delivered in its own frame
 ends_in_its_frame : (view : TmView) (octets : List ℕ) (first : Option ℕ) (start later : ℕ) (run : List TmView) (packet : List ℕ) → IsStart octets first start
     → IsStart octets first later → start < later → IsDeliveredBy view (drop start octets) run packet → length run ≡ 0
 ends_in_its_frame view octets first start later [] packet s t less d = refl

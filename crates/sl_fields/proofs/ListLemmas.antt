@@ -56,8 +56,8 @@ module _ {X : Type 0} (P Q : X → Type 0) where
   each-both R both [] each other = tt
   each-both R both (x ∷ xs) each other = (both x each.0 other.0, each-both R both xs each.1 other.1)
 
-  -- elements that pass a test have a second property, where each element with the first one that passes the test has
-  -- it
+  -- the elements that pass a test have the second property, if each one with the first property that passes the test
+  -- does
   pub each-filter : (test : X → Bool) → ((x : X) → test x ≡ true → P x → Q x) → (xs : List X) → AllByRecursion P xs → AllByRecursion Q (filter test xs)
   each-filter test passed [] each = tt
   each-filter test passed (x ∷ xs) each = by (test x) refl (each-filter test passed xs each.1)

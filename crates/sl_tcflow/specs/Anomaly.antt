@@ -127,7 +127,7 @@ pub record IsReportedOf (r : ReceptionParameters) (views : List TcView) (next : 
 abbrev pub StrayIsTold : Type 0
 StrayIsTold = (list : List (List ℕ)) (next : List ℕ) → IsStray list next → stray_of list next ≡ true
 
--- A segment that is reported as out of sequence is so.
+-- A segment that is reported as out of sequence is out of sequence.
 abbrev pub WhatIsToldIsStray : Type 0
 WhatIsToldIsStray = (list : List (List ℕ)) (next : List ℕ) → stray_of list next ≡ true → IsStray list next
 
@@ -147,11 +147,11 @@ LongIsTold = (list : List (List ℕ)) (next : List ℕ) → IsLong list next →
 abbrev pub WhatIsToldIsLong : Type 0
 WhatIsToldIsLong = (list : List (List ℕ)) (next : List ℕ) → long_of list next ≡ true → IsLong list next
 
--- Octets that are left are reported, as many as they are.
+-- Octets that are left are reported, with their number.
 abbrev pub TailIsTold : Type 0
 TailIsTold = (list : List (List ℕ)) (next : List ℕ) (count : ℕ) → HasTail list next count → tail_of list next ≡ count
 
--- Where octets are reported as left, as many are left.
+-- Where octets are reported as left, this number of octets is left.
 abbrev pub WhatIsToldIsTail : Type 0
 WhatIsToldIsTail = (list : List (List ℕ)) (next : List ℕ) → 0 < tail_of list next → HasTail list next (tail_of list next)
 

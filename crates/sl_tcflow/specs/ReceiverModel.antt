@@ -1,5 +1,5 @@
 -- An `Incomplete` stands for the octets so far of a series, if one is incomplete. A `SeriesStore` stands for a list
--- of these. A `Receiver` stands for its FARM-1s, the virtual channels without segment headers, such a list, and
+-- of these. A `Receiver` stands for its FARM-1s, the virtual channels without segment headers, its `SeriesStore`, and
 -- whether a fault came.
 use Rattle.std.specs.Prelude.{◌≡◌, ℕ, ◌≤◌, false, if◌then◌else◌, List, [], length, Option, None, Some}
 use Rattle.std.specs.Vec.{vec_capacity}

@@ -69,7 +69,7 @@ impl<'d> TcForm<'d> {
     /// - `spacecraft` is 0 to 1023.
     /// - `starts` has V(R) of each virtual channel before its first frame, which is the N(S) of that frame.
     /// - `plain` has the virtual channels whose frames have no segment headers.
-    /// - The packets of `delivered` are such that [`fits_tc`](crate::fits_tc) is true.
+    /// - `delivered` has packets that frames can carry, as [`fits_tc`](crate::fits_tc) tests.
     pub fn new(
         shape: TcShape,
         spacecraft: u16,

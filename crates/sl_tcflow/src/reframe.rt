@@ -19,7 +19,7 @@ use std::alloc::{AllocError, Global};
 /// - `starts` has V(R) of each virtual channel before its first frame, which is the N(S) of that frame.
 /// - `plain` has the virtual channels whose frames have no segment headers; there each frame carries one
 ///   packet.
-/// - The packets of `delivered` are such that [`fits_tc`](crate::fits_tc) is true.
+/// - `delivered` has packets that frames can carry, as [`fits_tc`](crate::fits_tc) tests.
 ///
 /// Read as a recording, with these starts and these channels, the form delivers exactly these packets again,
 /// for every window of FARM-1. The only refusal is want of memory, and only where there are packets.

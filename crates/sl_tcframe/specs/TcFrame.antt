@@ -70,8 +70,8 @@ pub data Content : Type 0 where
   SetVr : (vr : ℕ) → Content
 
 -- The content of a data field under this header. The bypass flag and the control command flag are the type: 0 and 0
--- is AD, 1 and 0 is BD, 1 and 1 is BC. The frame sequence number counts in type AD alone; in the other types it is
--- ignored, and so are the spare bits in all types (mission profile). A unit has one octet or more. Unlock is one
+-- is AD, 1 and 0 is BD, 1 and 1 is BC. The frame sequence number counts in type AD alone. It is ignored in the other
+-- types, and the spare bits are ignored in all types (mission profile). A unit has one octet or more. Unlock is one
 -- octet of zeros, and Set V(R) is `82 00` and the value.
 abbrev pub Carries : TcFields → List ℕ → Content → Type 0
 Carries h field (Ad ns unit) =

@@ -6,7 +6,7 @@ ghost use Rattle.sl_tcframe.specs.TcFrame.{EachHasParts, HasPartsOnce, OnlyFrame
 ghost use Rattle.sl_tcframe.specs.VcSet.{AddedNumbersRise, ListsOnce, NumbersAreAdded};
 
 /// Octets that are one frame by their frame length field have the parts of a TC frame, in one way. No other
-/// octets have such parts.
+/// octets have these parts.
 pub fn tc_frames_have_parts()
     ensures each { EachHasParts }
     ensures once { HasPartsOnce }

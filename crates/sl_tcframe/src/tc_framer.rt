@@ -57,8 +57,7 @@ impl TcFramer {
     }
 
     /// Whether the octets in [`rest`](TcFramer::rest) state a length below [`TcShape::least`]. The framer
-    /// then takes no more octets and returns no more frames. That a recording ends so is this project's
-    /// choice.
+    /// then takes no more octets and returns no more frames. This end of a recording is the project's choice.
     pub fn stuck(&self) -> bool
         ensures { IsTrue result ↔ IsStuck self.now }
     {
@@ -73,8 +72,8 @@ impl TcFramer {
     /// returned also where it is longer than [`TcShape::max`].
     ///
     /// `None` comes where the chunk is used up before a frame is complete, and where four octets state a
-    /// length below [`TcShape::least`]. In the latter case the framer takes no octet after these four, in
-    /// this call and in every later one.
+    /// length below [`TcShape::least`]. After these four octets the framer takes none, in this call and in
+    /// every later one.
     pub fn next(&mut self, piece: &mut &[u8]) -> Option<&[u8]>
         ensures* taken { sem 𝓛 (Rests the_row self.entry (HasTaken self.old piece.old.now result)) }
         // A frame has the octets that were taken after the last frame, and then octets from the front of the

@@ -76,8 +76,8 @@ EachListedIsIncomplete = (channel : List TmView) → AllByRecursion (IsIncomplet
 abbrev pub EachIncompleteIsListed : Type 0
 EachIncompleteIsListed = (channel : List TmView) (octets : List ℕ) → IsIncomplete channel octets → IsAmong octets (incomplete_of channel)
 
--- At most one packet start of a channel has a packet that is incomplete after its last frame: two such starts are in
--- the same frame, at the same offset and with the same octets so far.
+-- At most one packet start of a channel has a packet that is incomplete after its last frame: two of them are in the
+-- same frame, at the same offset and with the same octets so far.
 abbrev pub OneStartIsIncomplete : Type 0
 OneStartIsIncomplete =
     (channel : List TmView) (frame start : ℕ) (octets : List ℕ) (other_frame other_start : ℕ) (others : List ℕ)

@@ -10,8 +10,7 @@ use Rattle.sl_tmflow.specs.PacketStart.{packet_offsets}
 
 -- ---- the packets of a channel, divided into data fields
 
--- the least number of octets that fills `len` octets up to a multiple of the room, and that is 0 or that an idle
--- packet can have
+-- the least filling that makes `len` octets a multiple of the room: no octets, or as many as an idle packet can have
 abbrev pub fill_of : ℕ → ℕ → ℕ
 fill_of room len =
     let missing : ℕ = (room - len % room) % room in

@@ -14,8 +14,8 @@ use sl_tmframe::{TmShape, push_tm};
 use std::alloc::{AllocError, Global};
 use std::marker::Model;
 
-/// Room for any piece. The longest piece has frames of 32 octets with an error control field: a packet of
-/// 65,542 octets, and octets that were left before it, complete 2731 such frames, 87,392 octets.
+/// Room for any piece. The longest piece is 2731 frames of 32 octets with an error control field, 87,392
+/// octets. A packet of 65,542 octets completes them, with the octets that were left before it.
 const PIECE: usize = 90_112;
 
 /// Room for a data field that isn't full, 2041 octets at most, and the idle packet that fills it up.
@@ -24,10 +24,10 @@ const OCTETS: usize = 4096;
 /// The normal form of delivered packets, made piece by piece: frames of CCSDS 132.0-B in this project's own
 /// order (docs/normal-form.md).
 ///
-/// A piece is the next octets of the form. By reading, it is the frames that the next packet of a virtual
-/// channel completes, none where the packet completes none, or the frames of the idle packet that fills the
-/// virtual channel up. Octets of a packet that don't fill a data field are kept for the next piece: 2041
-/// octets at most.
+/// A piece is the next octets of the form. By reading, a piece is the frames that the next packet of a
+/// virtual channel completes, perhaps none. Where an idle packet fills the virtual channel up, the frames
+/// that it completes are a piece too. Octets of a packet that don't fill a data field are kept for the next
+/// piece: 2041 octets at most.
 #[derive(Drop)]
 pub struct TmForm<'d> {
     shape: TmShape,

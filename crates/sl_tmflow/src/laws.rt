@@ -62,8 +62,8 @@ pub fn tm_incomplete_packets_are_listed()
     ensures is_counted { WhatIsCountedIsIncomplete }
 {}
 
-/// A gap is reported exactly where the virtual channel frame count doesn't follow that of the channel's last
-/// frame, and with the count that was expected.
+/// A gap is reported exactly where the virtual channel frame count isn't the expected one, which follows the
+/// count of the channel's last frame. The report has the expected count.
 pub fn tm_gaps_are_told()
     ensures each { EachGapIsTold }
     ensures only { EachToldIsAGap }

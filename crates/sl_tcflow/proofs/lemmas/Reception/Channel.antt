@@ -75,8 +75,8 @@ module _ (held : Option (List ℕ)) (next : List ℕ) where
       let most = incomplete_most (flags_of next == 1) (flags_of next == 0) in
       omega (arith, none, most)
 
-  -- the packets that end with a segment, and the octets that are incomplete after it, are no more than the octets
-  -- that were incomplete before it and the segment's
+  -- the packets that end with a segment and the octets held after it, counted together, are no more than the octets
+  -- held before it and the segment's
   pub ended_within : length (packets_after held next) + length (held_octets (incomplete_after held next)) ≤ length (held_octets held) + length octets
   ended_within =
       elim (eqb_tells (flags_of next) 1) [

@@ -20,7 +20,7 @@ use Rattle.sl_fields.proofs.ListLemmas.{each-append, each-every, each-flat_map, 
 abbrev pub unit_made : SegmentFields × List ℕ → List ℕ
 unit_made segment = segment_octets segment.0 ++ segment.1
 
--- a segment that a frame can have: with `room` octets at most, on such a MAP
+-- a segment that a frame can have: `room` octets at most, and a MAP with the property `On`
 pub record IsSegment (room : ℕ) (On : ℕ → Type 0) (segment : SegmentFields × List ℕ) : Type 0 where
   pub header : FitsSegmentHeader segment.0
   pub inside : length segment.1 ≤ room

@@ -1,6 +1,5 @@
 -- The octets of a TC normal form that are still to come, where the form is made packet by packet. A `TcForm` stands
--- for these octets, so they say how far it has come. Only contracts of private functions cite `piece_of` and
--- `ns_after`.
+-- for these octets. Only contracts of private functions cite `piece_of` and `ns_after`.
 use Rattle.std.specs.Prelude.{ℕ, ◌+◌, ◌-◌, ◌*◌, ◌/◌, ◌%◌, ◌<◌, ◌≤◌, Bool, List, [], ◌++◌, length, take, drop, flat_map}
 use Rattle.std.specs.List.{concat, range_with_len, slice_index_or}
 use Rattle.sl_packet.specs.Delivered.{PacketLists, channel_count, list_at}

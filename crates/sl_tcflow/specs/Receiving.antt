@@ -95,8 +95,8 @@ abbrev pub ended_by : ReceptionParameters → List TcView → TcView → List (L
 ended_by r views next =
     flat_map (packets_ended (segments_of r next.vc (map_by r next) views)) (segment_by r views next)
 
--- The property holds for all parameters and frames that may have come before the next one: its virtual channel has
--- segment headers or not, these series are incomplete, and FARM-1 gives this verdict.
+-- The property holds for all parameters and frames that may have come before the next one. The next frame's virtual
+-- channel has segment headers or not, these series are incomplete, and FARM-1 gives this verdict.
 abbrev pub ForIncomplete : Bool → List (Option (List ℕ)) → Verdict → TcView → (ReceptionParameters → List TcView → Type 0) → Type 0
 ForIncomplete plain incomplete verdict next holds =
     (r : ReceptionParameters) (views : List TcView) → plain ≡ is_plain r next.vc → AreIncomplete r incomplete views → verdict ≡ verdict_on r views next

@@ -12,8 +12,8 @@ use std::marker::Model;
 /// The delivered space packets (CCSDS 133.0-B) of each channel from 0 to 4095, in the order of their
 /// delivery. None of them is idle.
 ///
-/// As a [`PacketSink`] it adds a packet to the end of the channel's list. It refuses a packet only with
-/// [`Memory`](SinkFault::Memory), and then all lists stay as they were.
+/// As a [`PacketSink`] the store adds a packet to the end of the channel's list. The store refuses a packet
+/// only with [`Memory`](SinkFault::Memory), and then all lists stay as they were.
 #[derive(Debug, Drop)]
 pub struct Delivered {
     alloc: Global,

@@ -23,8 +23,8 @@ pub fn is_idle(octets: &[u8]) -> bool
     }
 }
 
-/// Adds an idle packet of `len` octets, 7 to 65,542. The packet is telemetry, unsegmented, without a
-/// secondary header, has count 0 and zeros as its data; these values are this project's choice.
+/// Adds an idle packet of `len` octets, 7 to 65,542. The packet is telemetry, unsegmented and without a
+/// secondary header, and has count 0 and zeros as its data. These values are this project's choice.
 ///
 /// Memory is refused only where the capacity of `out` has no room for the packet. `out` is then as it was.
 pub fn push_idle(out: &mut Vec<u8>, len: u32) -> Result<(), AllocError>

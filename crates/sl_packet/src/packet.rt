@@ -19,8 +19,9 @@ pub fn first_packet<'a>(octets: &'a [u8]) -> Option<&'a [u8]>
 }
 
 /// What the octets lack to begin with a whole space packet (CCSDS 133.0-B). `Foreign` exactly where the first
-/// octet has another version than 0. Otherwise the rest of the six octets of a header, the rest of the octets
-/// that the header states, or nothing.
+/// octet has another version than 0. Otherwise `Header` with the number of octets that a header of six octets
+/// lacks, `Octets` with the number of octets that the header states and that aren't there, or `Whole` with
+/// the length of the packet.
 pub fn need(octets: &[u8]) -> Need
     ensures { result ≡ need_of octets.now }
 {

@@ -11,7 +11,7 @@ const MOST_OCTETS: usize = 65542;
 /// packet.
 ///
 /// Memory is refused only where the capacity has no room for the part, and then nothing is added. By reading,
-/// the capacity becomes twice what it was, or what is wanted where this is more, and 65,542 at most.
+/// the capacity becomes twice what it was, or what is needed where this is more, and 65,542 at most.
 #[inline(always)]
 pub fn add_part(octets: &mut Vec<u8>, part: &[u8]) -> Result<(), AllocError>
     requires { vec_len octets.old + length part.now ≤ 65542 }

@@ -1,4 +1,4 @@
--- Known steps, runs and words, so that a wrong definition doesn't check.
+-- Known steps, runs and words. A wrong definition would fail these facts.
 use Rattle.std.proofs.Common.{◌≡◌, ℕ, Bool, true, false, List, [], ◌∷◌, ◌++◌, refl}
 use Rattle.sl_fields.specs.Clcw.{clcw_word}
 use Rattle.sl_cop.specs.declared.farm_event.FarmEvent.{FarmEvent}
@@ -8,7 +8,7 @@ use Rattle.sl_cop.specs.declared.verdict.Verdict.TheVariants.{Accept, Early, Lat
 use Rattle.sl_cop.specs.Farm.{FarmState, farm_start, farm_step, distance, verdicts_of, state_after}
 use Rattle.sl_cop.specs.FarmClcw.{clcw_of}
 
--- the verdict at the start, with this width of the window and this V(R), on a frame with this N(S)
+-- the verdict in the first state, with this width of the window and this V(R), on a frame of type AD with this N(S)
 abbrev verdict_at : ℕ → ℕ → ℕ → Verdict
 verdict_at w vr ns = (farm_step w (farm_start vr) (Ad ns)).0
 
@@ -54,7 +54,7 @@ edges = record {
   greatest_last_late = refl;
 }
 
--- V(R) 254, and N(S) ahead of it and behind it by the edges of a window of width 10
+-- V(R) 254, and N(S) ahead of it and behind it, at the edges of a window of width 10
 pub record AreModulo : Type 0 where
   pub ahead_by_3 : distance 0x01 254 ≡ 3
   pub early : verdict_at 10 254 0x01 ≡ Early
@@ -82,11 +82,11 @@ modulo = record {
 abbrev state : ℕ → Bool → Bool → ℕ → FarmState
 state vr lockout retransmit farm_b = record { vr = vr; lockout = lockout; retransmit = retransmit; farm_b = farm_b }
 
--- an early frame, a late one, one outside the window, and the one that was expected
+-- an early frame, a late frame, a frame outside the window, and the frame that was expected
 abbrev into_lockout : List FarmEvent
 into_lockout = Ad 4 ∷ Ad 251 ∷ Ad 5 ∷ Ad 0 ∷ []
 
--- a frame outside the window, and what is obeyed and accepted in the lockout state
+-- a frame outside the window, and then the events that count in the lockout state
 abbrev through_lockout : List FarmEvent
 through_lockout = Ad 250 ∷ SetVr 5 ∷ Bd ∷ Unlock ∷ []
 
@@ -128,7 +128,7 @@ runs = record {
   found_again = refl;
 }
 
--- what is reported for a virtual channel after these events, from V(R) 0 with a window of width 10
+-- the octets of the CLCW after these events on a virtual channel, from V(R) 0 with a window of width 10
 abbrev IsReported : ℕ → List FarmEvent → List ℕ → Type 0
 IsReported vc events octets = clcw_word octets ≡ clcw_of vc (state_after 10 (farm_start 0) events)
 

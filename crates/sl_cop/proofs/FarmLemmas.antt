@@ -57,9 +57,9 @@ runs_are_steps w s (e ∷ events) event =
     let later = runs_are_steps w (farm_step w s e).1 events event in
     (ap (λ vs. (farm_step w s e).0 ∷ vs) later.0, later.1)
 
--- ---- what FARM-1 keeps
+-- ---- properties that FARM-1 keeps
 
--- once N(S) isn't V(R), a frame isn't accepted, and V(R) stays
+-- where N(S) isn't V(R), the frame isn't accepted, and V(R) stays
 not_expected : (w ns : ℕ) (s t : FarmState) (verdict : Verdict) → distance ns s.vr ≢ 0 → IsStep w s (Ad ns) verdict t
     → (is_accept verdict ≡ false) × (t.vr ≡ s.vr)
 not_expected w ns s t Accept other step = absurd (other step.1)
@@ -79,7 +79,7 @@ none_accepted w (suc copies) ns s t (v ∷ verdicts) other run =
     let later = none_accepted w copies ns run.0 t verdicts (λ e. other (ap (λ vr. distance ns vr) (sym step.1) ∙ e)) run.2 in
     rw step.0 later
 
--- after the frame that was expected, N(S) isn't V(R)
+-- after the expected frame, its N(S) is no longer V(R)
 passed : (ns vr : ℕ) → vr < 256 → distance ns vr ≡ 0 → distance ns ((vr + 1) % 256) ≢ 0
 passed ns vr small expected again = omega arith
 
@@ -98,7 +98,7 @@ copies_are_accepted_once w (suc copies) ns s t (Outside ∷ verdicts) small run 
 copies_are_accepted_once w (suc copies) ns s t (Refused ∷ verdicts) small run = copies_are_accepted_once w copies ns run.0 t verdicts (rw run.1.1 small) run.2
 copies_are_accepted_once w (suc copies) ns s t (Command ∷ verdicts) small run = absurd run.1
 
--- an event that isn't Unlock leaves lockout as it is
+-- an event other than Unlock leaves the lockout state as it is
 lockout_stays : (w : ℕ) (s t : FarmState) (event : FarmEvent) (verdict : Verdict) → s.lockout ≡ true → IsStep w s event verdict t
     → (event ≡ Unlock) ⊎ (t.lockout ≡ true)
 lockout_stays w s t event verdict locked step = grind (arith, common_steps, step)

@@ -1,12 +1,12 @@
--- Known copies that arrive out of order, lost and repeated, so that the laws on them aren't empty, and what becomes of
--- copies that are too far away.
+-- Known copies that arrive out of order, lost and repeated. They show that the laws aren't empty, and what FARM-1
+-- does with copies that are too far away.
 use Rattle.std.proofs.Common.{◌≡◌, ℕ, ◌+◌, Bool, true, false, List, [], ◌∷◌, ◌++◌, get_or, drop, map, refl, ap, subst, arith, rules}
 use Rattle.std.specs.List.{range_with_len}
 use Rattle.sl_cop.specs.declared.verdict.Verdict.TheVariants.{Accept, Early, Late, Outside, Refused, Command}
 use Rattle.sl_cop.specs.Farm.{farm_start, verdicts_of}
 use Rattle.sl_cop.specs.Reordered.{Arrival, Copy, OfTypeBd, UnlockCommand, events_at, accepted_indices, accepted_count, state_at, OfEachCopy, IsNear, IsInWindow, AreNear, AreInWindow}
 
--- ---- what holds of each copy, one after another
+-- ---- properties of each copy, one after another
 
 abbrev IfCopy : (ℕ → Type 0) → Arrival → Type 0
 IfCopy holds (Copy k) = holds k
@@ -40,7 +40,7 @@ far = Copy 0 ∷ Copy 100 ∷ Copy 1 ∷ UnlockCommand ∷ Copy 256 ∷ Copy 1 �
 pub far_are_near : AreNear 10 254 far
 far_are_near = of_each (λ before k. IsNear (accepted_count 10 254 before) k) far (search rules)
 
--- ---- what becomes of them
+-- ---- the verdicts on these copies
 
 pub record AreAccepted : Type 0 where
   pub shuffled_verdicts : verdicts_of 10 (farm_start 254) (events_at 254 shuffled)
@@ -68,7 +68,7 @@ are_accepted = record {
 abbrev one_of_each : ℕ → List Arrival
 one_of_each n = map Copy (range_with_len 0 n)
 
--- A copy that is 255 after the frame that is expected, or 255 before it, is near, and isn't accepted.
+-- A copy that is 255 after the expected frame, or 255 before it, is near, and isn't accepted.
 pub record AreNearEdges : Type 0 where
   pub ahead : IsNear 0 255
   pub ahead_indices : accepted_indices 10 254 (Copy 255 ∷ []) ≡ []
@@ -85,8 +85,7 @@ near_edges = record {
   behind_indices = refl;
 }
 
--- A copy that is 256 after the frame that is expected, or 256 before it, has the N(S) that is expected: it is accepted,
--- and not in order.
+-- A copy that is 256 after the expected frame, or 256 before it, has the expected N(S). It is accepted, out of order.
 pub record AreTooFar : Type 0 where
   pub ahead : accepted_indices 10 254 (Copy 256 ∷ []) ≡ 256 ∷ []
   pub ahead_by : 256 ≡ accepted_count 10 254 [] + 256
@@ -103,11 +102,11 @@ are_too_far = record {
 
 -- ---- the edges of windows
 
--- whether FARM-1 with this window is in lockout after a copy of the frame with this index, where nothing arrived before
+-- whether FARM-1 with this window is in lockout after a copy of the frame with this index, as the first arrival
 abbrev lockout_ahead : ℕ → ℕ → Bool
 lockout_ahead w index = (state_at w 254 (Copy index ∷ [])).lockout
 
--- and after one of the first frame, where one of each of so many frames arrived before
+-- whether FARM-1 is in lockout after a copy of the first frame, after a copy of each of the first `n` frames
 abbrev lockout_behind : ℕ → ℕ → Bool
 lockout_behind w n = (state_at w 254 (one_of_each n ++ Copy 0 ∷ [])).lockout
 
@@ -134,7 +133,7 @@ edges_of_10 = record {
   past_behind_locks = refl;
 }
 
--- the least window: the frame that is expected and the one before it
+-- the smallest window: the expected frame and the one before it
 pub edges_of_2 : AreEdges 2 0 1
 edges_of_2 = record {
   last_ahead = (omega arith, omega arith);
@@ -147,7 +146,7 @@ edges_of_2 = record {
   past_behind_locks = refl;
 }
 
--- the greatest one, outside of which only two sequence numbers are left
+-- the greatest window: only two sequence numbers are left outside
 pub edges_of_254 : AreEdges 254 126 127
 edges_of_254 = record {
   last_ahead = (omega arith, omega arith);

@@ -1,4 +1,4 @@
--- Copies of frames of type AD that arrive in any order: which are accepted.
+-- Copies of frames of type AD that arrive in any order, and which of them are accepted.
 use Rattle.std.proofs.Common.{◌≡◌, ◌⊎◌, ℕ, ◌+◌, ◌-◌, ◌%◌, ◌<◌, ◌≤◌, false, List, [], ◌∷◌, ◌++◌, length, map, inl, inr, refl, sym, ◌∙◌, ap, subst, arith, append_assoc, append-nil, length-append}
 use Rattle.std.specs.List.{range_with_len}
 use Rattle.sl_cop.specs.declared.farm_event.FarmEvent.{FarmEvent}
@@ -16,7 +16,7 @@ use Rattle.sl_fields.proofs.ListLemmas.{range-push}
 near_in_window : (w m k : ℕ) → positive_width w + negative_width w ≤ 256 → IsInWindow w m k → IsNear m k
 near_in_window w m k small within = let behind = within.0 in let ahead = within.1 in (omega arith, omega arith)
 
--- of near indices the one that is expected alone has the N(S) that is
+-- among near indices, only the expected index has the N(S) of the expected index
 expected_index : (vr m k : ℕ) → IsNear m k → distance (ns_of vr k) (ns_of vr m) ≡ 0 → k ≡ m
 expected_index vr m k near same = let behind = near.0 in let ahead = near.1 in omega arith
 
@@ -39,11 +39,11 @@ module _ {A : Type 0} (P : List A → Type 0) (more : (before : List A) (next : 
   after_these before [] here = subst P (sym (append-nil before)) here
   after_these before (next ∷ list) here = subst P (append_assoc before (next ∷ []) list) (after_these (before ++ next ∷ []) list (more before next here))
 
-  -- what holds of no element, and goes on holding with one more, holds
+  -- a property of the empty list that each further element keeps holds of every list
   pub by_one_more : P [] → (list : List A) → P list
   by_one_more none list = after_these [] list none
 
--- ---- one event more
+-- ---- one more event
 
 module _ {A B : Type 0} (event : A → FarmEvent) (carried : A → List B) (w : ℕ) where
   pub accepted_more : (s : FarmState) (list : List A) (next : A)
@@ -65,7 +65,7 @@ module _ {A : Type 0} (event : A → FarmEvent) (w : ℕ) where
 
 -- ---- one arrival
 
--- after m frames were accepted: none is now, or the one that is expected is
+-- the next step, after `m` accepted frames: it accepts no copy, or it accepts the expected one
 abbrev GoesOn : ℕ → ℕ → List ℕ → FarmState → Type 0
 GoesOn vr m now t = ((now ≡ []) × (t.vr ≡ ns_of vr m)) ⊎ ((now ≡ m ∷ []) × (t.vr ≡ ns_of vr (m + 1)))
 
@@ -90,7 +90,7 @@ copy_keeps_open w vr m k s t Outside small counts is_open within step =
 copy_keeps_open w vr m k s t Refused small counts is_open within step = absurd (cc)
 copy_keeps_open w vr m k s t Command small counts is_open within step = absurd step
 
--- in the open state the frame with N(S) that is V(R) is accepted
+-- in the open state a frame whose N(S) is V(R) is accepted
 pub accepted_where_expected : (w ns : ℕ) (s t : FarmState) (verdict : Verdict) → negative_width w < 256 → s.lockout ≡ false → distance ns s.vr ≡ 0
     → IsStep w s (Ad ns) verdict t → verdict ≡ Accept
 accepted_where_expected w ns s t Accept small is_open none step = refl
@@ -116,13 +116,13 @@ arrival_keeps_open w vr m s (Copy k) small counts is_open within =
 arrival_keeps_open w vr m s OfTypeBd small counts is_open within = is_open
 arrival_keeps_open w vr m s UnlockCommand small counts is_open within = refl
 
--- ---- all of them
+-- ---- all arrivals
 
 pub in_window_are_near : InWindowAreNear
 in_window_are_near w vr arrivals small within before after k split =
     near_in_window w (accepted_count w vr before) k small (within before after k split)
 
--- the copies that were accepted are the first ones that were sent, and V(R) counts them
+-- the accepted copies are those of the first frames that were sent, and V(R) counts them
 abbrev AreCounted : ℕ → ℕ → List Arrival → Type 0
 AreCounted w vr before =
     (accepted_indices w vr before ≡ range_with_len 0 (accepted_count w vr before))

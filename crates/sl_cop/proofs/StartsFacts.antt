@@ -1,4 +1,4 @@
--- V(R) that are changed, texts that name some, and texts that name none, so that a wrong definition doesn't check.
+-- Changed V(R), texts that name some, and texts that name none. A wrong definition would fail these facts.
 use Rattle.std.proofs.Common.{◌≡◌, ℕ, suc, ◌≤◌, true, List, [], ◌∷◌, ◌++◌, length, slice_index_or, replicate, refl, ap, arith}
 use Rattle.std.specs.Fmt.{decimal, digits}
 use Rattle.std.proofs.lemmas.Fmt.{decimal_injective, decimal_nonempty}
@@ -48,7 +48,7 @@ lists_least_and_greatest =
 abbrev pub IsRefused : List ℕ → Type 0
 IsRefused text = (items : List Item) → Lists 0 text items → ⊥
 
--- what the numbers of one item are: those before and after its colon
+-- the parts of an item's text: one before its colon and one after it
 pub record HasNumbers (least : ℕ) (first rest : List ℕ) : Type 0 where
   pub vc : ℕ
   pub vr : ℕ
@@ -70,31 +70,31 @@ no_colon least text items colon comma listed =
     let only = has_one least text items (has_no 44 text comma) listed in
     has_colon text only.item (has_no 58 text colon) only.written
 
--- a number is the one that its digits are of
+-- two numbers with the same digits are equal
 is_number : (n m : ℕ) → n ≤ 256 → m ≤ 256 → decimal n ≡ decimal m → n ≡ m
 is_number n m small other is = decimal_injective n m (omega arith) (omega arith) is
 
--- the empty text,
+-- the empty text
 pub empty : IsRefused []
 empty items listed = no_colon 0 [] items refl refl listed
 
--- `5`,
+-- `5`
 pub no_start : IsRefused (0x35 ∷ [])
 no_start items listed = no_colon 0 (0x35 ∷ []) items refl refl listed
 
--- `5:`,
+-- `5:`
 pub empty_start : IsRefused (0x35 ∷ 0x3A ∷ [])
 empty_start items listed =
     let it = numbers 0 (0x35 ∷ []) [] items refl refl listed in
     absurd (omega (arith, ap length it.after, decimal_nonempty it.vr (let octet = it.octet in omega arith)))
 
--- `:5`,
+-- `:5`
 pub empty_channel : IsRefused (0x3A ∷ 0x35 ∷ [])
 empty_channel items listed =
     let it = numbers 0 [] (0x35 ∷ []) items refl refl listed in
     absurd (omega (arith, ap length it.before, decimal_nonempty it.vc (let high = it.high in omega arith)))
 
--- `5:256`,
+-- `5:256`
 pub above_an_octet : IsRefused (0x35 ∷ 0x3A ∷ 0x32 ∷ 0x35 ∷ 0x36 ∷ [])
 unfolding digits
 above_an_octet items listed =
@@ -102,7 +102,7 @@ above_an_octet items listed =
     let octet = it.octet in
     absurd (omega (arith, is_number 256 it.vr (omega arith) (omega arith) it.after, octet))
 
--- `64:0`,
+-- `64:0`
 pub above_the_greatest : IsRefused (0x36 ∷ 0x34 ∷ 0x3A ∷ 0x30 ∷ [])
 unfolding digits
 above_the_greatest items listed =
@@ -110,32 +110,32 @@ above_the_greatest items listed =
     let high = it.high in
     absurd (omega (arith, is_number 64 it.vc (omega arith) (omega arith) it.before, high))
 
--- `5:01`,
+-- `5:01`
 pub padded_start : IsRefused (0x35 ∷ 0x3A ∷ 0x30 ∷ 0x31 ∷ [])
 padded_start items listed =
     let it = numbers 0 (0x35 ∷ []) (0x30 ∷ 0x31 ∷ []) items refl refl listed in
     absurd (omega (arith, unpadded (0x30 ∷ 0x31 ∷ []) it.vr it.octet it.after (omega arith)))
 
--- `05:1`,
+-- `05:1`
 pub padded_channel : IsRefused (0x30 ∷ 0x35 ∷ 0x3A ∷ 0x31 ∷ [])
 padded_channel items listed =
     let it = numbers 0 (0x30 ∷ 0x35 ∷ []) (0x31 ∷ []) items refl refl listed in
     let high = it.high in
     absurd (omega (arith, unpadded (0x30 ∷ 0x35 ∷ []) it.vc (omega arith) it.before (omega arith)))
 
--- `5:+1`,
+-- `5:+1`
 pub plus_sign : IsRefused (0x35 ∷ 0x3A ∷ 0x2B ∷ 0x31 ∷ [])
 plus_sign items listed =
     let it = numbers 0 (0x35 ∷ []) (0x2B ∷ 0x31 ∷ []) items refl refl listed in
     absurd (omega (arith, unpadded (0x2B ∷ 0x31 ∷ []) it.vr it.octet it.after (omega arith)))
 
--- `5:1,`,
+-- `5:1,`
 pub trailing : IsRefused (0x35 ∷ 0x3A ∷ 0x31 ∷ 0x2C ∷ [])
 trailing items listed =
     let more = has_more 0 (0x35 ∷ 0x3A ∷ 0x31 ∷ 0x2C ∷ []) (0x35 ∷ 0x3A ∷ 0x31 ∷ []) [] items refl (has_no 44 (0x35 ∷ 0x3A ∷ 0x31 ∷ []) refl) listed in
     no_colon (suc more.item.vc) [] more.above refl refl more.listed
 
--- `5:1, 6:2`,
+-- `5:1, 6:2`
 pub blank : IsRefused (0x35 ∷ 0x3A ∷ 0x31 ∷ 0x2C ∷ 0x20 ∷ 0x36 ∷ 0x3A ∷ 0x32 ∷ [])
 blank items listed =
     let more =
@@ -159,7 +159,7 @@ repeated items listed =
     let above = it.high in
     absurd (omega (arith, is_number 5 more.item.vc (omega arith) (omega arith) parts.0, is_number 5 it.vc (omega arith) (omega arith) it.before, it.low))
 
--- and `5:1,4:2`
+-- `5:1,4:2`
 pub falling : IsRefused (0x35 ∷ 0x3A ∷ 0x31 ∷ 0x2C ∷ 0x34 ∷ 0x3A ∷ 0x32 ∷ [])
 unfolding digits
 falling items listed =

@@ -1,4 +1,4 @@
--- The V(R) of all virtual channels, changed for some of them.
+-- The V(R) of all virtual channels, with some of them changed.
 use Rattle.std.proofs.Common.{◌≡◌, ◌≢◌, ℕ, zero, suc, ◌+◌, ◌<◌, ◌≤◌, ◌==◌, Bool, true, false, if◌then◌else◌, List, [], ◌∷◌, length, slice_index_or, slice_set, replicate, All, refl, sym, ap, ◌∙◌, arith}
 use Rattle.std.proofs.lemmas.Bool.{eq-eqb, ne_eqb, eqb-true, eqb-false}
 use Rattle.std.proofs.lemmas.List.{get_or-set_same, get_or-set_other, length-set}
@@ -10,7 +10,7 @@ use Rattle.sl_cop.specs.Starts.{AreItems, AreStarts, IsItem, Item, over_from, st
 pub all_are_starts : (vr : ℕ) → vr < 256 → AreStarts (replicate 64 vr)
 all_are_starts vr small = record { count = refl; each = All-replicate (λ n. n < 256) 64 vr small }
 
--- a virtual channel that is given a V(R) has it, and every other keeps its own
+-- a virtual channel that is given a V(R) has this value, and every other virtual channel keeps its own
 pub one_is_changed : (starts : List ℕ) (vc vr v : ℕ) → vc < length starts → slice_index_or (slice_set starts vc vr) v 0 ≡ (if v == vc then vr else slice_index_or starts v 0)
 one_is_changed starts vc vr v inside = by (v == vc) refl
   where
@@ -21,16 +21,16 @@ one_is_changed starts vc vr v inside = by (v == vc) refl
 pub changed_are_starts : (starts : List ℕ) (vc vr : ℕ) → AreStarts starts → vr < 256 → AreStarts (slice_set starts vc vr)
 changed_are_starts starts vc vr are small = record { count = length-set starts vc vr ∙ are.count; each = All-set (λ n. n < 256) starts vc vr small are.each }
 
--- ---- several
+-- ---- several virtual channels
 
--- an item doesn't name a virtual channel after its own
+-- an item doesn't name a virtual channel after its own one
 passed : (vc : ℕ) (starts : List ℕ) (item : Item) (items : List Item) → item.vc < vc → over_from vc starts (item ∷ items) ≡ over_from vc starts items
 unfolding over_from
 passed vc [] item items low = refl
 passed vc (own ∷ starts) item items low =
     rw (ne_eqb vc item.vc (λ e. omega arith)) (ap (λ l. vr_of items vc own ∷ l) (passed (suc vc) starts item items (omega arith)))
 
--- one item more changes one of them
+-- one more item changes the V(R) of one virtual channel
 set_over_from : (first : ℕ) (starts : List ℕ) (item : Item) (items : List Item) (k : ℕ) → item.vc ≡ first + k → k < length starts
     → slice_set (over_from first starts items) k item.vr ≡ over_from first starts (item ∷ items)
 unfolding over_from
@@ -50,7 +50,7 @@ set_over starts changed item items is are high =
     let many : length starts ≡ 64 = omega (arith, are.count, ap length is, length-set (starts_over starts items) item.vc item.vr, length_over_from 0 starts items) in
     is ∙ set_over_from 0 starts item items item.vc (omega arith) (omega arith)
 
--- and no item leaves them
+-- no items change no V(R)
 none_over_from : (first : ℕ) (starts : List ℕ) → over_from first starts [] ≡ starts
 unfolding over_from
 none_over_from first [] = refl
@@ -61,7 +61,7 @@ one_over starts changed item is are high = set_over starts changed item [] (is �
 
 -- ---- laws
 
--- the V(R) of a virtual channel is the one that is named, or its own
+-- the V(R) of a virtual channel is the one that the items name for it, or its own
 at_over_from : (first : ℕ) (starts : List ℕ) (items : List Item) (k vc : ℕ) → vc ≡ first + k → k < length starts
     → slice_index_or (over_from first starts items) k 0 ≡ vr_of items vc (slice_index_or starts k 0)
 unfolding over_from
@@ -69,7 +69,7 @@ at_over_from first [] items k vc is inside = absurd (omega (arith, inside))
 at_over_from first (own ∷ starts) items zero vc is inside = ap (λ n. vr_of items n own) (omega arith)
 at_over_from first (own ∷ starts) items (suc k) vc is inside = at_over_from (suc first) starts items k vc (omega arith) (omega arith)
 
--- each item is one of those from the least on
+-- each item has a virtual channel from `least` to 63 and a V(R) of 255 at most
 item_at : (least : ℕ) (items : List Item) (k : ℕ) (d : Item) → AreItems least items → k < length items → IsItem least (slice_index_or items k d)
 item_at least [] k d rising inside = absurd (omega (arith, inside))
 item_at least (item ∷ items) zero d rising inside = rising.0
@@ -77,7 +77,7 @@ item_at least (item ∷ items) (suc k) d rising inside =
     let is = item_at (suc item.vc) items k d rising.1 (omega arith) in
     record { low = omega (arith, rising.0.low, is.low); high = is.high; octet = is.octet }
 
--- and the V(R) of its virtual channel is its own
+-- the V(R) of an item's virtual channel is the item's
 vr_at : (least : ℕ) (items : List Item) (k : ℕ) (d : Item) (own : ℕ) → AreItems least items → k < length items
     → vr_of items (slice_index_or items k d).vc own ≡ (slice_index_or items k d).vr
 vr_at least [] k d own rising inside = absurd (omega (arith, inside))
@@ -92,7 +92,7 @@ named_are_taken least starts items count rising k d inside =
     let is = item_at least items k d rising inside in
     at_over_from 0 starts items item.vc item.vc (omega arith) (omega (arith, count, is.high)) ∙ vr_at least items k d (slice_index_or starts item.vc 0) rising inside
 
--- items whose virtual channels are others name none
+-- items of other virtual channels name nothing for this one
 others_name_none : (items : List Item) (vc own : ℕ) → All (λ item. item.vc ≢ vc) items → vr_of items vc own ≡ own
 others_name_none [] vc own other = refl
 others_name_none (item ∷ items) vc own other =
@@ -108,7 +108,7 @@ kept_from first (own ∷ starts) items (suc k) vc is other = kept_from (suc firs
 pub others_are_kept : (starts : List ℕ) (items : List Item) (vc : ℕ) → All (λ item. item.vc ≢ vc) items → slice_index_or (starts_over starts items) vc 0 ≡ slice_index_or starts vc 0
 others_are_kept starts items vc other = kept_from 0 starts items vc vc (omega arith) other
 
--- what items name is 255 at most
+-- the V(R) that items name is 255 at most
 octet_of : (least : ℕ) (items : List Item) (vc own : ℕ) → AreItems least items → own < 256 → vr_of items vc own < 256
 octet_of least [] vc own rising small = small
 octet_of least (item ∷ items) vc own rising small = by (vc == item.vc) (octet_of (suc item.vc) items vc own rising.1 small)

@@ -1,4 +1,4 @@
--- A text of items, as it is split.
+-- A text of items, and how it is split.
 use Rattle.std.proofs.Common.{◌≡◌, ℕ, suc, ◌≤◌, List, [], ◌∷◌, ◌++◌, inl, inr, refl, sym, ap, subst, ◌∙◌, arith}
 use Rattle.std.specs.Fmt.{decimal}
 use Rattle.std.specs.List.{AllByRecursion}
@@ -12,17 +12,17 @@ use Rattle.sl_fields.proofs.JoinedLemmas.{HasNo, has_first, has_no-append, has_n
 no_colon : (n : ℕ) → n ≤ 255 → HasNo 58 (decimal n)
 no_colon n small = decimal_has_no 58 n (inr (omega arith)) small
 
--- the numbers of an item stand before and after its colon,
+-- the numbers of an item stand before and after its colon
 pub item_parts : (least : ℕ) (text first rest : List ℕ) (item : Item) → text ≡ first ++ 58 ∷ rest → HasNo 58 first → IsItem least item → text ≡ item_text item
     → (first ≡ decimal item.vc) × (rest ≡ decimal item.vr)
 item_parts least text first rest item split none is written =
     one_split 58 first (decimal item.vc) rest (decimal item.vr) none (no_colon item.vc (omega (arith, is.high))) (sym split ∙ written)
 
--- so it has one,
+-- the text of an item has a colon
 pub has_colon : (text : List ℕ) (item : Item) → HasNo 58 text → text ≡ item_text item → ⊥
 has_colon text item none written = separated 58 (decimal item.vc) (decimal item.vr) text written none
 
--- and no comma
+-- a number in decimal has no comma
 no_comma : (n : ℕ) → n ≤ 255 → HasNo 44 (decimal n)
 no_comma n small = decimal_has_no 44 n (inl (omega arith)) small
 
@@ -30,7 +30,7 @@ no_comma_in : (item : Item) → IsItem 0 item → HasNo 44 (item_text item)
 no_comma_in item is =
     has_no-append 44 (decimal item.vc) (58 ∷ decimal item.vr) (no_comma item.vc (omega (arith, is.high))) (has_no-cons 44 58 (decimal item.vr) (λ e. omega (arith, e)) (no_comma item.vr is.octet))
 
--- it is written in one way
+-- an item is written in one way
 item_once : (item other : Item) → IsItem 0 item → IsItem 0 other → item_text item ≡ item_text other → item ≡ other
 item_once item other is are same =
     let parts = item_parts 0 (item_text item) (decimal item.vc) (decimal item.vr) other refl (no_colon item.vc (omega (arith, is.high))) are same in
@@ -40,9 +40,9 @@ item_once item other is are same =
     let with_vr : ℕ → Item = λ n. record { vc = other.vc; vr = n } in
     ap with_vc vc ∙ ap with_vr vr
 
--- ---- several
+-- ---- several items
 
--- each of them is an item
+-- each of the items is an item
 each_item : (least : ℕ) (items : List Item) → AreItems least items → AllByRecursion (IsItem 0) items
 each_item least [] are = tt
 each_item least (item ∷ items) are = (record { low = omega arith; high = are.0.high; octet = are.0.octet }, each_item (suc item.vc) items are.1)
@@ -51,7 +51,7 @@ clear : (least : ℕ) (items : List Item) → AreItems least items → AllByRecu
 clear least [] are = tt
 clear least (item ∷ items) are = (no_comma_in item (each_item least (item ∷ items) are).0, clear (suc item.vc) items are.1)
 
--- what a text before and after its first comma is, where it lists items
+-- the parts of a text before and after its first comma, where it lists items
 pub record HasMore (least : ℕ) (first rest : List ℕ) (items : List Item) : Type 0 where
   pub item : Item
   pub above : List Item
@@ -85,7 +85,7 @@ has_one least text items none listed =
     let it = has_only 44 item_text text items none listed.some listed.written in
     record { item = it.item; is_item = (subst (AreItems least) it.alone listed.rising).0; written = it.written; alone = it.alone }
 
--- an item before those of a text, and an item alone
+-- an item in front of the items of a text, and an item alone
 pub lists_more : (least : ℕ) (text first rest : List ℕ) (item : Item) (items : List Item) → text ≡ first ++ 44 ∷ rest → IsItem least item → first ≡ item_text item → Lists (suc item.vc) rest items
     → Lists least text (item ∷ items)
 lists_more least text first rest item items split is written listed =

@@ -1,14 +1,14 @@
--- What is accepted of a list whose elements are events of FARM-1, CCSDS 232.1-B, one after another.
+-- The accepted part of a list whose elements are events of FARM-1, CCSDS 232.1-B, one after another.
 use Rattle.std.specs.Prelude.{List, [], ◌∷◌, ◌++◌}
 use Rattle.sl_cop.specs.declared.verdict.Verdict.{Verdict}
 use Rattle.sl_cop.specs.declared.verdict.Verdict.TheVariants.{Accept}
 
--- all of it under the verdict Accept, and none of it under any other
+-- the whole list under the verdict `Accept`, and none of it under any other verdict
 abbrev pub if_accepted : {A : Type 0} → Verdict → List A → List A
 if_accepted Accept carried = carried
 if_accepted verdict carried = []
 
--- of elements with these verdicts, what the accepted ones carry, in order
+-- what the accepted elements carry, in order, where the elements have these verdicts
 abbrev pub accepted_by : {A B : Type 0} → (A → List B) → List Verdict → List A → List B
 accepted_by carried [] elements = []
 accepted_by carried (verdict ∷ verdicts) [] = []

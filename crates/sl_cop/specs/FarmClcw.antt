@@ -3,6 +3,6 @@ use Rattle.std.specs.Prelude.{ℕ}
 use Rattle.sl_fields.specs.Clcw.{ClcwFields, farm_word}
 use Rattle.sl_cop.specs.Farm.{FarmState}
 
--- the word of its state; the report value is V(R)
+-- the word that reports a state on the virtual channel `vc`; the report value is V(R)
 abbrev pub clcw_of : ℕ → FarmState → ClcwFields
 clcw_of vc s = farm_word vc s.lockout s.retransmit s.farm_b s.vr

@@ -1,4 +1,4 @@
--- A `Window` is its width, which is even and 2 to 254. A `Farm` is its window and its state.
+-- A `Window` stands for its width, which is even and 2 to 254. A `Farm` stands for its window and its state.
 use Rattle.std.specs.Prelude.{ℕ, ◌<◌, ◌≤◌}
 use Rattle.sl_cop.specs.Farm.{FarmView, IsWidth}
 use Rattle.sl_cop.specs.declared.window.Window.TheInside as window

@@ -1,5 +1,6 @@
--- The initial V(R) of FARM-1, CCSDS 232.1-B, on each of the 64 virtual channels of TC frames, as a list of numbers, and the
--- text that names some of them.
+-- The initial V(R) of FARM-1, CCSDS 232.1-B, on each of the 64 virtual channels of TC frames, as a list of numbers,
+-- and the text that names some of them. A separate value for each virtual channel, and the text, are this project's
+-- mission profile.
 use Rattle.std.specs.Prelude.{◌≡◌, ◌≢◌, ℕ, suc, ◌<◌, ◌≤◌, ◌==◌, if◌then◌else◌, List, [], ◌∷◌, ◌++◌, map, length, slice_index_or, slice_set, All}
 use Rattle.std.specs.Fmt.{decimal}
 use Rattle.std.specs.List.{join_with_byte}
@@ -16,49 +17,50 @@ pub record Item : Type 0 where
   pub vc : ℕ
   pub vr : ℕ
 
--- the V(R) that items name for a virtual channel, or its own where they name none
+-- the V(R) that items name for the virtual channel `vc`, or `own` where they name none
 abbrev pub vr_of : List Item → ℕ → ℕ → ℕ
 vr_of [] vc own = own
 vr_of (item ∷ items) vc own = if vc == item.vc then item.vr else vr_of items vc own
 
--- of the virtual channels from this one on, each with the V(R) that the items name for it, or its own
+-- the V(R) of the virtual channels from `vc` on: the value that the items name for the channel, or its own
 unfoldable pub over_from : ℕ → List ℕ → List Item → List ℕ
 over_from vc [] items = []
 over_from vc (own ∷ starts) items = vr_of items vc own ∷ over_from (suc vc) starts items
 
--- the V(R) of all virtual channels, each the one that the items name for it, or its own
+-- the V(R) of all virtual channels: the value that the items name for the channel, or its own
 abbrev pub starts_over : List ℕ → List Item → List ℕ
 starts_over starts items = over_from 0 starts items
 
 -- ---- as text
 
--- a virtual channel, from the least on, up to 63, and a V(R) of 255 at most
+-- an item: a virtual channel from `least` to 63, and a V(R) of 255 at most
 pub record IsItem (least : ℕ) (item : Item) : Type 0 where
   pub low : least ≤ item.vc
   pub high : item.vc ≤ 63
   pub octet : item.vr ≤ 255
 
--- such items, whose virtual channels rise strictly from the least on
+-- items whose virtual channels rise strictly from `least` on
 abbrev pub AreItems : ℕ → List Item → Type 0
 AreItems least [] = Unit {0}
 AreItems least (item ∷ items) = IsItem least item × AreItems (suc item.vc) items
 
--- both numbers in decimal, with a colon between them
+-- the text of an item: both numbers in decimal, with a colon between them
 abbrev pub item_text : Item → List ℕ
 item_text item = decimal item.vc ++ 58 ∷ decimal item.vr
 
--- the items, joined by commas
+-- the text of items: joined by single commas
 abbrev pub items_text : List Item → List ℕ
 items_text items = join_with_byte 44 (map item_text items)
 
--- the text lists these items, one or more, whose virtual channels rise strictly from the least on, up to 63, and whose
--- V(R) are 255 at most
+-- The text lists these items: one or more, whose virtual channels rise strictly from `least` to 63, and whose V(R)
+-- are 255 at most.
 pub record Lists (least : ℕ) (text : List ℕ) (items : List Item) : Type 0 where
   pub some : 0 < length items
   pub rising : AreItems least items
   pub written : text ≡ items_text items
 
--- what the text names over others: the V(R) of the items that it lists, and the others' own everywhere else
+-- The values `starts` are `others` with the items that the text lists: the named V(R) for each named virtual channel,
+-- and the channel's own V(R) everywhere else.
 pub record AreNamed (least : ℕ) (text others starts : List ℕ) : Type 0 where
   pub items : List Item
   pub listed : Lists least text items
@@ -66,29 +68,29 @@ pub record AreNamed (least : ℕ) (text others starts : List ℕ) : Type 0 where
 
 -- ---- laws
 
--- A virtual channel that is given a V(R) has it, and every other keeps its own,
+-- A virtual channel that is given a V(R) has this value, and every other virtual channel keeps its own.
 abbrev pub OneIsChanged : Type 0
 OneIsChanged =
     (starts : List ℕ) (vc vr v : ℕ) → vc < length starts
     → slice_index_or (slice_set starts vc vr) v 0 ≡ (if v == vc then vr else slice_index_or starts v 0)
 
--- and there is one V(R) for each of them, as before.
+-- Each of the 64 virtual channels then still has one V(R).
 abbrev pub ChangedAreStarts : Type 0
 ChangedAreStarts = (starts : List ℕ) (vc vr : ℕ) → AreStarts starts → vr < 256 → AreStarts (slice_set starts vc vr)
 
--- Over others, each virtual channel of a text's items has the V(R) that is named for it,
+-- Each virtual channel of the items has the V(R) that is named for it.
 abbrev pub NamedAreTaken : Type 0
 NamedAreTaken =
     (least : ℕ) (starts : List ℕ) (items : List Item) → length starts ≡ 64 → AreItems least items
     → All (λ item. slice_index_or (starts_over starts items) item.vc 0 ≡ item.vr) items
 
--- each that none of them names keeps its own,
+-- Each virtual channel that no item names keeps its own V(R).
 abbrev pub OthersAreKept : Type 0
 OthersAreKept =
     (starts : List ℕ) (items : List Item) (vc : ℕ) → All (λ item. item.vc ≢ vc) items
     → slice_index_or (starts_over starts items) vc 0 ≡ slice_index_or starts vc 0
 
--- and there is one V(R) for each virtual channel.
+-- With the named values, each of the 64 virtual channels has one V(R).
 abbrev pub NamedAreStarts : Type 0
 NamedAreStarts = (least : ℕ) (starts : List ℕ) (items : List Item) → AreStarts starts → AreItems least items → AreStarts (starts_over starts items)
 

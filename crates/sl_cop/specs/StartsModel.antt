@@ -1,4 +1,4 @@
--- A `Starts` is the V(R) of its virtual channels, in their order.
+-- A `Starts` stands for the V(R) of its virtual channels, in their order.
 use Rattle.std.specs.Prelude.{ℕ, List}
 use Rattle.sl_cop.specs.Starts.{AreStarts}
 use Rattle.sl_cop.specs.declared.starts.Starts.TheInside.{Inside}

@@ -9,8 +9,11 @@ use crate::window::Window;
 use sl_fields::Clcw;
 use std::marker::Model;
 
-/// The frame acceptance and reporting mechanism (FARM-1) of CCSDS 232.1-B on one virtual channel: its window,
-/// the receiver frame sequence number V(R), and what is reported beside it.
+/// The frame acceptance and reporting mechanism (FARM-1) of CCSDS 232.1-B on one virtual channel, with
+/// buffers that are always free: the sliding window, and the state.
+///
+/// The state consists of the receiver frame sequence number V(R), the Lockout flag, the Retransmit flag and
+/// the FARM-B counter.
 #[derive(Clone, Copy, Debug, PartialEq, Eq)]
 pub struct Farm {
     window: Window,
@@ -37,7 +40,8 @@ impl Model for Farm {
 impl Farm {
     ghost use Rattle.sl_cop.specs.Farm.{FarmView};
 
-    /// In the open state with this V(R), Retransmit flag 0 and FARM-B counter 0.
+    /// FARM-1 before its first frame: the open state, V(R) `vr`, 0 to 255, Retransmit flag 0 and FARM-B
+    /// counter 0. This first state is this project's choice.
     pub fn new(window: Window, vr: u8) -> Farm
         ensures { let view : FarmView = record { window = window; state = farm_start vr } in
             result ≡ view }
@@ -51,9 +55,9 @@ impl Farm {
         }
     }
 
-    /// In a state that was read before by [`vr`](Farm::vr), [`lockout`](Farm::lockout),
-    /// [`retransmit`](Farm::retransmit) and [`farm_b`](Farm::farm_b), as a caller stores it. `None` exactly where the
-    /// FARM-B counter is over 3.
+    /// FARM-1 in a stored state, with the values that [`window`](Farm::window), [`vr`](Farm::vr),
+    /// [`lockout`](Farm::lockout), [`retransmit`](Farm::retransmit) and [`farm_b`](Farm::farm_b) read before.
+    /// `None` exactly where the FARM-B counter is over 3.
     pub fn restore(
         window: Window,
         vr: u8,
@@ -81,7 +85,15 @@ impl Farm {
         })
     }
 
-    /// Takes the next frame of the virtual channel, and answers what becomes of it.
+    /// Takes the next frame of the virtual channel, as one case of the table of FARM-1 (CCSDS 232.1-B), and
+    /// answers the verdict on the frame. [`Verdict`] says what each verdict does to the state; the window
+    /// stays.
+    ///
+    /// - A frame of type BD increments the FARM-B counter, in either state.
+    /// - Unlock increments the FARM-B counter and resets the Retransmit and Lockout flags, in either state.
+    /// - Set V(R) increments the FARM-B counter. In the open state it also sets V(R) and resets the
+    ///   Retransmit flag. In the lockout state it changes nothing else; the increment in this state is this
+    ///   project's choice.
     pub fn step(&mut self, event: FarmEvent) -> Verdict
         ensures verdict { result ≡ (farm_step self.old.window self.old.state event).0 }
         ensures state { self.new.state ≡ (farm_step self.old.window self.old.state event).1 }
@@ -106,29 +118,30 @@ impl Farm {
         }
     }
 
-    /// The receiver frame sequence number V(R), which is the N(S) that is expected next.
+    /// The receiver frame sequence number V(R), 0 to 255: the N(S) of the frame of type AD that is expected
+    /// next.
     pub fn vr(&self) -> u8
         ensures { result ≡ self.now.state.vr }
     {
         self.vr
     }
 
-    /// The Lockout flag: the state is the lockout state.
+    /// The Lockout flag: whether FARM-1 is in the lockout state. It is in the open state otherwise.
     pub fn lockout(&self) -> bool
         ensures { result ≡ self.now.state.lockout }
     {
         self.lockout
     }
 
-    /// The Retransmit flag: a frame of type AD was discarded as early, and since then neither an accepted one nor a
-    /// control command has cleared it.
+    /// The Retransmit flag. The verdict [`Early`](Verdict::Early) sets it. An accepted frame of type AD,
+    /// Unlock, and Set V(R) in the open state reset it.
     pub fn retransmit(&self) -> bool
         ensures { result ≡ self.now.state.retransmit }
     {
         self.retransmit
     }
 
-    /// The FARM-B counter, 0 to 3: how many frames of type BD and control commands were taken, modulo 4.
+    /// The FARM-B counter, 0 to 3. Each frame of type BD and each control command increments it, modulo 4.
     pub fn farm_b(&self) -> u8
         ensures value { result ≡ self.now.state.farm_b }
         ensures most { result ≤ 3 }
@@ -136,7 +149,7 @@ impl Farm {
         self.farm_b
     }
 
-    /// The sliding window.
+    /// The sliding window, which no step changes.
     pub fn window(&self) -> Window
         ensures value { result ≡ self.now.window }
         ensures width { IsWidth self.now.window }
@@ -145,7 +158,8 @@ impl Farm {
         self.window
     }
 
-    /// The Communications Link Control Word that reports the state, for the virtual channel 0 to 63.
+    /// The Communications Link Control Word (CCSDS 232.0-B) that reports the state, for the virtual channel
+    /// `vc`, 0 to 63. Its report value is V(R).
     pub fn clcw(&self, vc: u8) -> Clcw
         requires { vc ≤ 63 }
         ensures { result ≡ clcw_of vc self.now.state }
@@ -198,8 +212,8 @@ impl Farm {
     }
 }
 
-// What becomes of a frame of type AD in the open state, by how much its N(S) is ahead of V(R) modulo 256: a
-// verdict for each area of the window.
+// The verdict on a frame of type AD in the open state. Its N(S) is ahead of V(R) by `ahead`, modulo 256, and
+// each area of the window has a verdict.
 fn open_verdict(window: Window, ahead: u8) -> Verdict
     ensures { result ≡ verdict_in (area_of window ahead) }
 {

@@ -1,9 +1,9 @@
-//! FARM-1, the frame acceptance and reporting mechanism of CCSDS 232.1-B, on one virtual channel: which frames
-//! are accepted, and the Communications Link Control Word that reports it. Beside it [`Starts`], the V(R) at which it
-//! begins on each virtual channel.
+//! FARM-1, the frame acceptance and reporting mechanism of CCSDS 232.1-B, on one virtual channel: [`Farm`]
+//! decides which frames are accepted, and reports by a Communications Link Control Word. Beside it stands
+//! [`Starts`], the V(R) with which FARM-1 begins on each virtual channel.
 //!
-//! Buffers are always free, so the Wait state is never reached. Each [`step`](Farm::step) is one case of the
-//! table of FARM-1, and what holds of whole runs is said by [`laws`].
+//! Buffers are always free, so FARM-1 never reaches the wait state. Each [`step`](Farm::step) is one case of
+//! the table of FARM-1. The [`laws`] speak of whole runs.
 #![tactic(auto)]
 
 mod farm;

@@ -4,7 +4,8 @@ ghost use Rattle.sl_cop.specs.Farm.{IsWidth};
 
 use std::marker::Model;
 
-/// The width of the sliding window (W). Its positive part and its negative part are half of it each.
+/// The sliding window of CCSDS 232.1-B, as its width W: even, 2 to 254. The positive part and the negative
+/// part have half the width each.
 #[derive(Clone, Copy, Debug, PartialEq, Eq)]
 pub struct Window {
     pub(crate) width: u8,
@@ -25,7 +26,7 @@ impl Model for Window {
 }
 
 impl Window {
-    /// The window of this width, 2 to 254, `None` exactly for 0 and for odd numbers.
+    /// The window of the width `w`, even, 2 to 254. `None` exactly where `w` is 0 or odd.
     pub fn new(w: u8) -> Option<Window>
         ensures { SomeIff result (IsWidth w) w }
     {
@@ -35,7 +36,7 @@ impl Window {
         Some(Window { width: w })
     }
 
-    /// The width, even, 2 to 254.
+    /// The width W: even, 2 to 254.
     pub fn width(&self) -> u8
         ensures value { result ≡ self.now }
         ensures width { IsWidth self.now }

@@ -1,4 +1,4 @@
--- A CLCW as its fields with their widths.
+-- A CLCW is its fields with their widths.
 use Rattle.std.proofs.Common.{ℕ, List, [], ◌∷◌, refl, arith}
 use Rattle.sl_fields.specs.Clcw.{ClcwFields, FitsClcw, clcw_fields}
 use Rattle.sl_fields.proofs.Flags.{value_at, flag_at, flag_of-bit, bit_of-flag, bit_fits}

@@ -1,4 +1,4 @@
--- The register of the long division: what bits of a message make of it, and the numbers of bits.
+-- The register of the long division: its bits after bits of a message, and the numbers of these bits.
 use Rattle.std.proofs.Common.{◌≡◌, ℕ, zero, suc, ◌+◌, ◌-◌, ◌^◌, ◌<◌, ◌≤◌, Bool, true, false, not, List, [], ◌∷◌, ◌++◌, length, take, drop, map, replicate, refl, sym, ◌∙◌, ap, arith, bit_xor}
 use Rattle.std.proofs.lemmas.List.{length-append}
 use Rattle.std.proofs.lemmas.Nat.{xor_block}
@@ -11,17 +11,17 @@ use Rattle.sl_fields.specs.Fecf.{bits_number, plus_bit, plus_word, generator, di
 abbrev pub low_generator : List Bool
 low_generator = drop 1 generator
 
--- fifteen bits moved up, with the generator added where the bit that left asks for it
+-- fifteen bits moved up by one, with the generator added where the bit that left the register is 1
 abbrev pub reduced : Bool → List Bool → List Bool
 reduced false word = word ++ false ∷ []
 reduced true word = plus_word low_generator (word ++ false ∷ [])
 
--- the register's bits after one bit more of the message
+-- the register's bits after one more bit of the message
 abbrev pub stepped : List Bool → Bool → List Bool
 stepped [] b = []
 stepped (s ∷ word) b = reduced (plus_bit s b) word
 
--- and after a message
+-- the register's bits after a message
 abbrev pub ran : List Bool → List Bool → List Bool
 ran word [] = word
 ran word (b ∷ bits) = ran (stepped word b) bits
@@ -53,7 +53,7 @@ pub plus_word-zeros : (word : List Bool) → plus_word word (replicate (length w
 plus_word-zeros [] = refl
 plus_word-zeros (w ∷ word) = rw (plus_bit-false w, plus_word-zeros word) refl
 
--- a zero at the end adds nothing
+-- a zero at the end of the word adds nothing
 plus_word-longer : (word bits : List Bool) → plus_word (word ++ false ∷ []) bits ≡ plus_word word bits
 plus_word-longer [] [] = refl
 plus_word-longer [] (b ∷ bits) = refl
@@ -68,13 +68,13 @@ plus_word-assoc (v ∷ vs) (w ∷ ws) (b ∷ bits) e =
     let within : length vs ≤ length ws = omega arith in
     rw (plus_bit-assoc v w b, plus_word-assoc vs ws bits within) refl
 
--- the preset is a sum with ones
+-- the preset adds sixteen ones
 pub preset-ones : (k : ℕ) (bits : List Bool) → map not (take k bits) ++ drop k bits ≡ plus_word (replicate k true) bits
 preset-ones zero bits = refl
 preset-ones (suc k) [] = refl
 preset-ones (suc k) (b ∷ bits) = ap (λ rest. not b ∷ rest) (preset-ones k bits)
 
--- the division is the register's work
+-- the register does the division
 
 divided-step : (q : Bool) (word bits : List Bool) → length word ≡ 15 → divided (suc (length bits)) (q ∷ plus_word word (bits ++ zeros)) ≡ divided (length bits) (plus_word (reduced q word) (bits ++ zeros))
 divided-step false word bits e = ap (λ l. divided (length bits) l) (sym (plus_word-longer word (bits ++ zeros)))
@@ -113,7 +113,7 @@ pub ran-append : (word bits more : List Bool) → ran word (bits ++ more) ≡ ra
 ran-append word [] more = refl
 ran-append word (b ∷ bits) more = ran-append (stepped word b) bits more
 
--- on numbers
+-- the same on numbers
 
 pub bits_number-lt : (bits : List Bool) → bits_number bits < 2 ^ length bits
 bits_number-lt [] = omega arith
@@ -136,7 +136,7 @@ bits_number-plus (v ∷ vs) (w ∷ ws) e =
     rw (length-plus_word vs ws, same, bit_of-plus v w, bits_number-plus vs ws same)
     (sym (xor_block (length ws) (bit_of v) (bit_of w) (bits_number vs) (bits_number ws) below (bits_number-lt ws)))
 
--- what the register is
+-- the number of the register
 
 pub register_of-ran : (bits : List Bool) → register_of bits ≡ bits_number (ran ones bits)
 unfolding register_of
@@ -148,7 +148,7 @@ pub fecf_of-register : (octets : List ℕ) → fecf_of octets ≡ register_of (b
 unfolding fecf_of
 fecf_of-register octets = refl
 
--- and after octets more
+-- the field after more octets
 pub fecf_of-append : (before octets : List ℕ) → fecf_of (before ++ octets) ≡ bits_number (ran (ran ones (bits_of before)) (bits_of octets))
 fecf_of-append before octets =
     fecf_of-register (before ++ octets) ∙ register_of-ran (bits_of (before ++ octets))

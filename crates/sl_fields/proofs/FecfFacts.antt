@@ -1,4 +1,4 @@
--- Frame error control fields that are known from outside, so that a wrong definition doesn't check.
+-- Frame error control fields that are known from outside sources. A wrong definition would fail these facts.
 use Rattle.std.proofs.Common.{◌≡◌, true, false, [], ◌∷◌, codes, replicate, refl}
 use Rattle.sl_fields.specs.Fecf.{fecf_of, fecf_is_good, register_of}
 use Rattle.sl_fields.specs.FecfWords.{word_of}
@@ -45,7 +45,7 @@ cases = record {
   none = refl;
 }
 
--- words of octets after which none comes
+-- the words of last octets
 pub record AreKnownWords : Type 0 where
   pub of_0 : word_of 0 0 ≡ 0x0000
   pub of_1 : word_of 0 1 ≡ 0x1021

@@ -1,4 +1,4 @@
--- Several octets of a message in one step: each by its own word, and the words added.
+-- Several octets of a message in one step: each octet has its own word, and the words are added.
 use Rattle.std.proofs.Common.{◌≡◌, ℕ, zero, suc, ◌+◌, ◌*◌, ◌<◌, ◌≤◌, Bool, false, List, [], ◌∷◌, ◌++◌, length, take, drop, get_or, replicate, refl, sym, ◌∙◌, ap, arith, bit_xor, append-nil, append_assoc, add-one}
 use Rattle.std.specs.List.{concat}
 use Rattle.std.specs.Simd.{first_chunks}
@@ -17,7 +17,7 @@ length-bits_of : (octets : List ℕ) → length (bits_of octets) ≡ 8 * length 
 length-bits_of [] = refl
 length-bits_of (octet ∷ octets) = omega (arith, length-bits_of octets)
 
--- from no register it is what they make of it
+-- an octet and the bits after it, from a register of zeros: the sum of the octet's part and of the later bits' part
 ran-split : (octet : ℕ) (bits : List Bool) → ran zeros (octet_bits octet ++ bits) ≡ plus_word (ran zeros (octet_bits octet ++ replicate (length bits) false)) (ran zeros bits)
 ran-split octet bits =
     let eight = replicate 8 false in
@@ -43,7 +43,8 @@ words_sum-ran (octet ∷ octets) =
     ∙ ap (λ n. bit_xor n (bits_number (ran zeros bits))) word
     ∙ ap (bit_xor (word_of (length octets) octet)) (words_sum-ran octets)
 
--- a register is gone with as many bits as it has, which it is added to
+-- A register is used up by sixteen bits: the register is added to the first sixteen bits, and the division begins
+-- from zeros.
 ran-taken : (front rest firsts seconds bits : List Bool) → length front ≡ 8 → length rest ≡ 8 → length firsts ≡ 8 → length seconds ≡ 8 → ran (front ++ rest) (firsts ++ (seconds ++ bits)) ≡ ran zeros (plus_word front firsts ++ (plus_word rest seconds ++ bits))
 ran-taken front rest firsts seconds bits e f g h =
     let word = front ++ rest in
@@ -59,7 +60,8 @@ ran-taken front rest firsts seconds bits e f g h =
     ∙ ap (λ l. ran zeros (l ++ bits)) parts
     ∙ ap (ran zeros) (append_assoc (plus_word front firsts) (plus_word rest seconds) bits)
 
--- Two octets more and others after them: the words of all of them, with the register added to the first two.
+-- The field after two more octets and others: the sum of the words of all of them, with the register added to the
+-- first two octets.
 pub register-slice : (before : List ℕ) (high low first second : ℕ) (octets : List ℕ) → low < 256 → first < 256 → second < 256 → high * 256 + low ≡ fecf_of before → words_sum (bit_xor high first ∷ (bit_xor low second ∷ octets)) ≡ fecf_of (before ++ (first ∷ (second ∷ octets)))
 register-slice before high low first second octets low_fits first_fits second_fits register =
     let halved = register-halved before high low low_fits register in
@@ -75,7 +77,7 @@ register-slice before high low first second octets low_fits first_fits second_fi
     ∙ ap (λ l. bits_number (ran zeros (octet_bits (bit_xor high first) ++ (l ++ bits)))) (sym seconds)
     ∙ words_sum-ran (bit_xor high first ∷ (bit_xor low second ∷ octets)))
 
--- one word more of the sum
+-- one more word in the sum
 pub words_sum-more : (sum later place : ℕ) (octets : List ℕ) → later + place + 1 ≡ length octets → bit_xor (bit_xor sum (word_of later (get_or octets place 0))) (words_sum (drop (place + 1) octets)) ≡ bit_xor sum (words_sum (drop place octets))
 words_sum-more sum later place octets e =
     let octet = get_or octets place 0 in
@@ -87,12 +89,12 @@ words_sum-more sum later place octets e =
     ∙ ap (λ n. bit_xor sum (bit_xor (word_of n octet) (words_sum rest))) left
     ∙ ap (λ l. bit_xor sum (words_sum l)) next
 
--- and none more
+-- no more word in the sum
 pub words_sum-none : (sum place : ℕ) (octets : List ℕ) → length octets ≤ place → bit_xor sum (words_sum (drop place octets)) ≡ sum
 words_sum-none sum place octets h =
     ap (λ l. bit_xor sum (words_sum l)) (drop_all place octets h) ∙ xor_comm sum 0
 
--- the register after the octets of a slice, of which there are two or more
+-- the register after the octets of a slice, two or more
 pub register-slice_at : (before octets : List ℕ) (high low later : ℕ) → low < 256 → get_or octets 0 0 < 256 → get_or octets 1 0 < 256 → later + 2 ≡ length octets → high * 256 + low ≡ fecf_of before → bit_xor (bit_xor (word_of (later + 1) (bit_xor high (get_or octets 0 0))) (word_of later (bit_xor low (get_or octets 1 0)))) (words_sum (drop 2 octets)) ≡ fecf_of (before ++ octets)
 register-slice_at before [] high low later b c d e r = absurd (omega arith)
 register-slice_at before (first ∷ []) high low later b c d e r = absurd (omega arith)

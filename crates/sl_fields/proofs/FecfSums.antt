@@ -1,5 +1,5 @@
--- Sums without carries of registers and of messages: the register's work keeps them, so an octet's part in
--- it can be known beforehand.
+-- Sums without carries of registers and of messages. The register's steps keep sums, so the part that an octet adds
+-- can be computed beforehand.
 use Rattle.std.proofs.Common.{◌≡◌, ℕ, zero, suc, ◌≤◌, Bool, true, false, List, [], ◌∷◌, ◌++◌, length, replicate, refl, sym, ◌∙◌, ap, arith, append-nil, append_assoc}
 use Rattle.std.proofs.lemmas.List.{length-append}
 use Rattle.sl_fields.specs.Fecf.{plus_bit, plus_word}
@@ -30,12 +30,12 @@ plus_bit-twice true true = refl
 plus_bit-swap : (a b c : Bool) → plus_bit a (plus_bit b c) ≡ plus_bit b (plus_bit a c)
 plus_bit-swap a b c = plus_bit-assoc a b c ∙ ap (λ d. plus_bit d c) (plus_bit_comm a b) ∙ sym (plus_bit-assoc b a c)
 
--- the sum of two sums, two and two
+-- the sum of two sums, with the four bits in another order
 plus_bit-four : (s t a b : Bool) → plus_bit (plus_bit s t) (plus_bit a b) ≡ plus_bit (plus_bit s a) (plus_bit t b)
 plus_bit-four s t a b =
     sym (plus_bit-assoc s t (plus_bit a b)) ∙ ap (plus_bit s) (plus_bit-swap t a b) ∙ plus_bit-assoc s a (plus_bit t b)
 
--- what is added twice is gone
+-- a word that is added twice cancels out
 pub plus_word-twice : (word bits : List Bool) → plus_word word (plus_word word bits) ≡ bits
 plus_word-twice [] bits = refl
 plus_word-twice (w ∷ word) [] = refl
@@ -61,7 +61,7 @@ plus_word-append (v ∷ vs) (w ∷ ws) xs ys e =
     let same : length vs ≡ length ws = omega arith in
     ap (λ rest. plus_bit v w ∷ rest) (plus_word-append vs ws xs ys same)
 
--- the register's work keeps sums
+-- the register's steps keep sums
 
 reduced-plus : (p q : Bool) (vs ws : List Bool) → length vs ≡ 15 → length ws ≡ 15 → reduced (plus_bit p q) (plus_word vs ws) ≡ plus_word (reduced p vs) (reduced q ws)
 reduced-plus p q vs ws e f =
@@ -102,7 +102,7 @@ ran-plus vs ws (x ∷ xs) (y ∷ ys) e f g =
     ap (λ word. ran word (plus_word xs ys)) (stepped-plus vs ws x y e f)
     ∙ ran-plus (stepped vs x) (stepped ws y) xs ys (length-stepped vs x e) (length-stepped ws y f) same
 
--- bits of a message that are the register's own move it up and add nothing
+-- bits of a message that equal the register's first bits move the register up and add nothing
 pub ran-own : (front word : List Bool) → ran (front ++ word) front ≡ word ++ replicate (length front) false
 ran-own [] word = sym (append-nil word)
 ran-own (s ∷ front) word =
@@ -111,8 +111,8 @@ ran-own (s ∷ front) word =
     ∙ ran-own front (word ++ false ∷ [])
     ∙ append_assoc word (false ∷ []) (replicate (length front) false)
 
--- The register after bits of a message, no more than it has: what is left of it, moved up, and what the bits
--- with the register's first ones added make of no register.
+-- The register after bits of a message, no more bits than the register has: the register is moved up, and its first
+-- bits plus the message's bits, divided from a register of zeros, are added.
 pub ran-front : (front word bits : List Bool) → length (front ++ word) ≡ 16 → length front ≡ length bits → ran (front ++ word) bits ≡ plus_word (word ++ replicate (length front) false) (ran zeros (plus_word front bits))
 ran-front front word bits e f =
     let whole : plus_word (front ++ word) zeros ≡ front ++ word = ap (λ n. plus_word (front ++ word) (replicate n false)) (sym e) ∙ plus_word-zeros (front ++ word) in

@@ -1,4 +1,4 @@
--- The tables of words, each computed from the one before it.
+-- The tables of words. Each is computed from the table before it.
 use Rattle.std.proofs.Common.{◌≡◌, ℕ, zero, suc, ◌+◌, ◌*◌, ◌/◌, ◌%◌, ◌^◌, ◌<◌, false, List, [], ◌∷◌, ◌++◌, length, take, drop, map, get_or, replicate, refl, sym, ◌∙◌, ap, arith, bit_xor, append_assoc}
 use Rattle.std.specs.List.{range_with_len}
 use Rattle.std.proofs.lemmas.List.{length-take, length-drop, take-append-drop, replicate-append-replicate}
@@ -10,16 +10,16 @@ use Rattle.sl_fields.specs.declared.slices.TheConstants.{SLICES}
 use Rattle.sl_fields.proofs.Division.{ran, zeros, ran-append, length-ran, bits_number-lt}
 use Rattle.sl_fields.proofs.FecfWordLemmas.{word_of-ran, ran-octet, bits_number-append}
 
--- a word with eight zeros more, by the table of the words of last octets
+-- a word followed by eight more zeros, by the table of the words of last octets
 abbrev with_zeros : List ℕ → ℕ → ℕ
 with_zeros last word = bit_xor (word % 256 * 256) (get_or last (word / 256) 0)
 
--- so many tables from one on
+-- a number of tables, from one table on
 abbrev tables_from : List ℕ → ℕ → List ℕ → List (List ℕ)
 tables_from last zero table = []
 tables_from last (suc count) table = table ∷ tables_from last count (map (with_zeros last) table)
 
--- a table that has the words of last octets
+-- the table has the words of last octets
 abbrev HasLastWords : List ℕ → Type 0
 HasLastWords last = (octet : ℕ) → octet < 256 → get_or last octet 0 ≡ word_of 0 octet
 
@@ -64,7 +64,7 @@ tables_from-words last (suc count) later octets known =
     ap (λ table. map (word_of later) octets ∷ tables_from last count table) (words-later last later octets known)
     ∙ ap (λ tables. map (word_of later) octets ∷ tables) (tables_from-words last count (later + 1) octets known)
 
--- the slice's tables
+-- the tables for a slice
 
 first_words : get_or SLICES 0 [] ≡ words_of 0
 unfolding word_of
@@ -78,7 +78,7 @@ are_slice_words =
     let known : HasLastWords (words_of 0) = λ octet h. get_or-map-range_with_len (word_of 0) 0 256 octet octet 0 h (omega arith) in
     one_from_another ∙ ap (λ first. tables_from first 16 first) first_words ∙ tables_from-words (words_of 0) 16 0 (range_with_len 0 256) known
 
--- what they have at a place and an octet
+-- the word in the tables at a place and an octet
 pub slice_word_at : (later octet : ℕ) → later < 16 → octet < 256 → get_or (get_or SLICES later []) octet 0 ≡ word_of later octet
 slice_word_at later octet h k =
     ap (λ tables. get_or (get_or tables later []) octet 0) are_slice_words

@@ -1,4 +1,4 @@
--- The words of octets, on numbers, and the register after one octet more.
+-- The words of octets as numbers, and the register after one more octet.
 use Rattle.std.proofs.Common.{◌≡◌, ℕ, ◌+◌, ◌-◌, ◌*◌, ◌^◌, ◌<◌, Bool, true, false, List, [], ◌∷◌, ◌++◌, length, take, drop, map, get_or, replicate, refl, sym, ◌∙◌, ap, arith, bit_xor, append_assoc, add-zero}
 use Rattle.std.specs.List.{range_with_len}
 use Rattle.std.proofs.lemmas.List.{length-append, length-take, length-drop, length-replicate, take-append-drop, replicate-append-replicate, get_or-map}
@@ -53,7 +53,7 @@ octet_bits-number bits e =
     let below : bits_number bits < 256 = rw (ap (λ k. 2 ^ k) e) at (bits_number-lt bits) in
     bits_number_injective (octet_bits (bits_number bits)) bits (sym e) (bits_number-octet (bits_number bits) below)
 
--- the bits of a sum
+-- the bits of the sum of two numbers
 pub octet_bits-plus : (bits : List Bool) (octet : ℕ) → length bits ≡ 8 → octet < 256 → octet_bits (bit_xor (bits_number bits) octet) ≡ plus_word bits (octet_bits octet)
 octet_bits-plus bits octet e h =
     let both = plus_word bits (octet_bits octet) in
@@ -73,12 +73,12 @@ word_of-ran later octet =
     ∙ ap (λ l. bits_number (divided (length bits) l)) (sym (plus_word-false 16 (bits ++ zeros)))
     ∙ ap bits_number (divided-ran zeros bits refl)
 
--- the table's are computed
+-- the table has the words: computed
 pub are_words : AreWords WORDS
 unfolding word_of
 are_words = refl
 
--- what it has at an octet
+-- the table's word at an octet
 pub word_at : (octet : ℕ) → octet < 256 → number_of (get_or WORDS octet []) ≡ word_of 0 octet
 word_at octet h =
     sym (get_or-map number_of WORDS octet [] 0 h)
@@ -87,7 +87,7 @@ word_at octet h =
 
 -- the register
 
--- the bits of its two octets
+-- the bits of the register's two octets
 pub record IsHalved (before : List ℕ) (high low : ℕ) : Type 0 where
   pub front : List Bool
   pub rest : List Bool
@@ -117,8 +117,8 @@ register-halved before high low low_fits register =
       rest_number = sym parts.1;
     }
 
--- the register after an octet: what is left of it, moved up, and the word of its first octet with the
--- message's added
+-- The register after an octet: the register is moved up by one octet, and the word of its first octet plus the
+-- message's octet is added.
 
 pub ran-octet : (front rest : List Bool) (octet : ℕ) → length front ≡ 8 → length rest ≡ 8 → octet < 256 → bits_number (ran (front ++ rest) (octet_bits octet)) ≡ bit_xor (bits_number rest * 256) (word_of 0 (bit_xor (bits_number front) octet))
 ran-octet front rest octet e f h =
@@ -147,7 +147,7 @@ register-octet before high low octet top bottom low_fits octet_fits bottom_fits 
     ∙ ap (bit_xor (low * 256)) (sym word) in
     sym block ∙ ap (λ n. bit_xor n (top * 256 + bottom)) (add-zero (low * 256)) ∙ sym (fecf_of-append before (octet ∷ []) ∙ step)
 
--- two octets as a number
+-- the number of two octets
 pub number_of-two : (octets : List ℕ) → length octets ≡ 2 → number_of octets ≡ get_or octets 0 0 * 256 + get_or octets 1 0
 number_of-two [] e = absurd (omega arith)
 number_of-two (x ∷ []) e = absurd (omega arith)

@@ -3,7 +3,7 @@ use Rattle.std.proofs.Common.{◌≡◌, ℕ, ◌%◌, ◌^◌, ◌<◌, Bool, t
 use Rattle.std.proofs.lemmas.Bool.Decides.{nat_tests}
 use Rattle.sl_fields.specs.Field.{bit_of}
 
--- the value of one field, as a number and as a flag
+-- the value of one field: as a number, and as a flag
 abbrev pub value_at : List (ℕ × ℕ) → ℕ → ℕ
 value_at fs i = (get_or fs i (0, 0)).1
 
@@ -18,6 +18,6 @@ pub bit_fits : (b : Bool) → bit_of b < 2 ^ 1
 bit_fits true = omega arith
 bit_fits false = omega arith
 
--- a number of one bit is that bit
+-- a flag that is read from a number of one bit, as a number again
 pub bit_of-flag : (n : ℕ) → bit_of (n % 2 ^ 1 == 1) ≡ n % 2 ^ 1
 bit_of-flag n = grind (arith, nat_tests)

@@ -1,4 +1,4 @@
--- Headers of known octets, computed from the definitions, so that a wrong bit position doesn't check.
+-- Headers of known octets, computed from the definitions. A wrong bit position would fail these facts.
 use Rattle.std.proofs.Common.{◌≡◌, true, false, [], ◌∷◌, refl}
 use Rattle.sl_fields.specs.TmHeader.{tm_header}
 use Rattle.sl_fields.specs.Clcw.{clcw_word}

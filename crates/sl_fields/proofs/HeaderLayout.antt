@@ -1,4 +1,4 @@
--- Headers that are fields of given widths, one after another, which fill their octets.
+-- Headers whose fields have given widths, stand one after another and fill the header's octets.
 use Rattle.std.proofs.Common.{◌≡◌, ℕ, ◌^◌, ◌<◌, List, length, sym, ◌∙◌, ap}
 use Rattle.std.proofs.Math.Nat.{mod-eq_of_lt}
 use Rattle.byteorder.specs.Endian.{big_bytes}
@@ -7,8 +7,8 @@ use Rattle.sl_fields.specs.Field.{IsOctets, number_of, packed, FitWidths}
 use Rattle.sl_fields.proofs.Octets.{number_of_lt, number_of-bytes, octets-bytes, number_of_injective}
 use Rattle.sl_fields.proofs.Packing.{total, widths, unpacked, unpacked-packed, packed-unpacked}
 
--- A header of so many octets is its fields of these widths: `fields_of` gives them, and `header_of` the
--- header again.
+-- A header of `size` octets consists of fields of these widths: `fields_of` gives the fields of a header, and
+-- `header_of` gives the header of fields.
 pub record IsLayout {H : Type 0} (size : ℕ) (ws : List ℕ) (Fits : H → Type 0) (fields_of : H → List (ℕ × ℕ)) (header_of : List (ℕ × ℕ) → H) : Type 0 where
   pub fills : 2 ^ total ws ≡ 256 ^ size
   pub in_order : (h : H) → widths (fields_of h) ≡ ws
@@ -17,7 +17,7 @@ pub record IsLayout {H : Type 0} (size : ℕ) (ws : List ℕ) (Fits : H → Type
   pub fields : (n : ℕ) → fields_of (header_of (unpacked ws n)) ≡ unpacked ws n
 
 module _ {H : Type 0} {size : ℕ} {ws : List ℕ} {Fits : H → Type 0} {fields_of : H → List (ℕ × ℕ)} {header_of : List (ℕ × ℕ) → H} (layout : IsLayout size ws Fits fields_of header_of) (h : H) (n : ℕ) where
-  -- the octets of the number of the packed fields read as the header
+  -- the octets of the packed fields' number read back as the header
   pub reads_back : Fits h → n < 256 ^ size → n ≡ packed (fields_of h) → header_of (unpacked ws (number_of (big_bytes size n))) ≡ h
   reads_back fit below value =
       let fs = fields_of h in
@@ -25,7 +25,7 @@ module _ {H : Type 0} {size : ℕ} {ws : List ℕ} {Fits : H → Type 0} {fields
       ap (λ k. header_of (unpacked ws k)) packed_is ∙ ap (λ vs. header_of (unpacked vs (packed fs))) (sym (layout.in_order h))
       ∙ ap header_of (unpacked-packed fs (layout.fit h fit)) ∙ layout.header h
 
-  -- no other octets do
+  -- no other octets read as the header
   pub reads_back_only : n < 256 ^ size → n ≡ packed (fields_of h) → (octets : List ℕ) → length octets ≡ size → IsOctets octets → header_of (unpacked ws (number_of octets)) ≡ h → octets ≡ big_bytes size n
   reads_back_only below value octets long each same =
       let m = number_of octets in

@@ -1,4 +1,4 @@
--- Lists: what holds of each element, what a filter keeps, and one more at the end.
+-- Lists: properties of each element, what a filter keeps, and one more element at the end.
 use Rattle.std.proofs.Common.{◌≡◌, ℕ, zero, suc, ◌+◌, Bool, true, false, cond, List, [], ◌∷◌, ◌++◌, map, take, drop, replicate, slice_index_or, slice_set, refl, sym, ap, ◌∙◌, append-nil}
 use Rattle.std.specs.List.{AllByRecursion, concat, filter, flat_map, range_with_len}
 use Rattle.std.proofs.lemmas.List.{map-id}
@@ -6,7 +6,7 @@ use Rattle.std.proofs.lemmas.List.Elements.{All-append, All-drop, All-from_recur
 use Rattle.std.proofs.lemmas.List.Folds.{concat-append}
 use Rattle.std.proofs.lemmas.List.FromFn.{map-range_with_len_more}
 
--- ---- what holds of each element
+-- ---- properties of each element
 
 module _ {X : Type 0} (P : X → Type 0) where
   pub each-append : (xs ys : List X) → AllByRecursion P xs → AllByRecursion P ys → AllByRecursion P (xs ++ ys)
@@ -24,13 +24,13 @@ module _ {X : Type 0} (P : X → Type 0) where
   pub each-replicate : (n : ℕ) (x : X) → P x → AllByRecursion P (replicate n x)
   each-replicate n x one = recursion_from_All P (replicate n x) (All-replicate P n x one)
 
-  -- the element of a number, or another of which it holds
+  -- the property holds of the element at an index, or of the default where the index is past the end
   pub each-at : (xs : List X) (i : ℕ) (d : X) → P d → AllByRecursion P xs → P (slice_index_or xs i d)
   each-at [] i d one each = one
   each-at (x ∷ xs) zero d one each = each.0
   each-at (x ∷ xs) (suc i) d one each = each-at xs i d one each.1
 
-  -- one that stands in the list
+  -- the property holds of an element of the list
   pub each-among : (earlier : List X) (x : X) (later : List X) → AllByRecursion P (earlier ++ x ∷ later) → P x
   each-among [] x later each = each.0
   each-among (e ∷ earlier) x later each = each-among earlier x later each.1
@@ -56,7 +56,8 @@ module _ {X : Type 0} (P Q : X → Type 0) where
   each-both R both [] each other = tt
   each-both R both (x ∷ xs) each other = (both x each.0 other.0, each-both R both xs each.1 other.1)
 
-  -- what passes a test has what those of the list have that pass it
+  -- the elements that pass a test have the second property, if each one with the first property that passes the test
+  -- does
   pub each-filter : (test : X → Bool) → ((x : X) → test x ≡ true → P x → Q x) → (xs : List X) → AllByRecursion P xs → AllByRecursion Q (filter test xs)
   each-filter test passed [] each = tt
   each-filter test passed (x ∷ xs) each = by (test x) refl (each-filter test passed xs each.1)
@@ -67,17 +68,17 @@ module _ {X : Type 0} (P Q : X → Type 0) where
 
 -- ---- what a filter keeps
 
--- a test that each element passes keeps all of them,
+-- a test that each element passes keeps all elements
 pub filter_all : {X : Type 0} (test : X → Bool) (xs : List X) → AllByRecursion (λ x. test x ≡ true) xs → filter test xs ≡ xs
 filter_all test [] each = refl
 filter_all test (x ∷ xs) each = rw (each.0, filter_all test xs each.1) refl
 
--- and one that none passes keeps none
+-- a test that no element passes keeps none
 pub filter_none : {X : Type 0} (test : X → Bool) (xs : List X) → AllByRecursion (λ x. test x ≡ false) xs → filter test xs ≡ []
 filter_none test [] each = refl
 filter_none test (x ∷ xs) each = rw (each.0) (filter_none test xs each.1)
 
--- ---- one more at the end
+-- ---- one more element at the end
 
 pub concat-push : (xs : List (List ℕ)) (x : List ℕ) → concat (xs ++ x ∷ []) ≡ concat xs ++ x
 concat-push xs x = concat-append xs (x ∷ []) ∙ ap (λ l. concat xs ++ l) (append-nil x)

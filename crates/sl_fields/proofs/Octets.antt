@@ -8,19 +8,19 @@ use Rattle.byteorder.specs.Endian.{big_from, big_bytes}
 use Rattle.byteorder.specs.Numbers.{big_from-cons, big_number-reads_back, length-bytes_high_first}
 use Rattle.sl_fields.specs.Field.{IsOctets, number_of, octets_of, packed}
 
--- the number as `byteorder` reads it
+-- the number that `byteorder` reads
 pub number_of-big : (octets : List ℕ) → number_of octets ≡ big_from 0 (length octets) octets
 number_of-big [] = refl
 number_of-big (x ∷ xs) = ap (λ n. x * 256 ^ length xs + n) (number_of-big xs ∙ sym (big_from-cons 0 (length xs) x xs))
 
--- it has as many digits as there are octets
+-- the number has at most as many digits in base 256 as there are octets
 pub number_of_lt : (octets : List ℕ) → IsOctets octets → number_of octets < 256 ^ length octets
 number_of_lt [] h = omega arith
 number_of_lt (x ∷ xs) h =
     let head : x < 256 = All-head (λ n. n < 256) x xs h in
     rw (pow-suc 256 (length xs)) (mul-add-lt x (256 ^ length xs) (number_of xs) 256 head (number_of_lt xs (All-tail (λ n. n < 256) x xs h)))
 
--- octets come back from their number
+-- the number determines the octets
 pub number_of_injective : (xs ys : List ℕ) → IsOctets xs → IsOctets ys → length xs ≡ length ys → number_of xs ≡ number_of ys → xs ≡ ys
 number_of_injective [] [] h k e n = refl
 number_of_injective [] (y ∷ ys) h k e n = absurd (omega arith)
@@ -50,6 +50,6 @@ octets-bytes zero n = All-nil (λ octet. octet < 256)
 octets-bytes (suc k) n =
     All-cons (λ octet. octet < 256) (byte_at k n) (big_bytes k n) (byte_at_lt k n) (octets-bytes k n)
 
--- fields packed into so many octets
+-- fields packed into `count` octets
 pub length-octets_of : (count : ℕ) (fields : List (ℕ × ℕ)) → length (octets_of count fields) ≡ count
 length-octets_of count fields = length-bytes_high_first count (packed fields)

@@ -1,4 +1,4 @@
--- A space packet's header as its fields with their widths.
+-- A space packet's header is its fields with their widths.
 use Rattle.std.proofs.Common.{ℕ, List, [], ◌∷◌, refl, arith}
 use Rattle.sl_fields.specs.PacketHeader.{packet_fields, PacketFields, FitsPacketHeader}
 use Rattle.sl_fields.proofs.Flags.{value_at, flag_at, flag_of-bit, bit_of-flag, bit_fits}

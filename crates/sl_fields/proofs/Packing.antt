@@ -1,29 +1,29 @@
--- Fields packed into a number, and taken out of it again.
+-- Fields are packed into a number and taken out again.
 use Rattle.std.proofs.Common.{◌≡◌, ℕ, ◌+◌, ◌*◌, ◌/◌, ◌%◌, ◌^◌, ◌<◌, ◌≤◌, List, [], ◌∷◌, refl, sym, ◌∙◌, ap, arith, bit_or, ◌-◌}
 use Rattle.std.proofs.lemmas.Nat.{pow-add, mul-add-lt, pow_pos, pow_below, or_shifted, mod-pow-add, field_of, shr_high}
 use Rattle.std.proofs.Math.Nat.{add-mul, mul_assoc, mul_comm, add_assoc, mod-eq_of_lt, mod-one, mul-add-mod_self_right, le-mul_of_pos_right}
 use Rattle.sl_fields.specs.Field.{width_of, packed, FitWidths}
 
--- fields that fit make a number of as many bits as they take
+-- fields that fit make a number of no more bits than the fields have together
 pub packed_lt : (fs : List (ℕ × ℕ)) → FitWidths fs → packed fs < 2 ^ width_of fs
 packed_lt [] h = omega arith
 packed_lt (f ∷ fs) h =
     rw (pow-add 2 f.0 (width_of fs), mul_comm (2 ^ f.0) (2 ^ width_of fs))
     (mul-add-lt f.1 (2 ^ width_of fs) (packed fs) (2 ^ f.0) h.0 (packed_lt fs h.1))
 
--- one field more below the number, and one fewer to come
+-- one more field below the number, and one field fewer to come
 pub packed-step : (n : ℕ) (f : ℕ × ℕ) (fs : List (ℕ × ℕ)) → n * 2 ^ width_of (f ∷ fs) + packed (f ∷ fs) ≡ (n * 2 ^ f.0 + f.1) * 2 ^ width_of fs + packed fs
 packed-step n f fs =
     rw (pow-add 2 f.0 (width_of fs), ← mul_assoc n (2 ^ f.0) (2 ^ width_of fs), add-mul (n * 2 ^ f.0) f.1 (2 ^ width_of fs))
     (sym (add_assoc (n * 2 ^ f.0 * 2 ^ width_of fs) (f.1 * 2 ^ width_of fs) (packed fs)))
 
--- while fields are packed: the number so far, those to come, and all of them
+-- while fields are packed: the number so far, the fields to come, and all fields
 pub record IsPacking (number : ℕ) (rest fields : List (ℕ × ℕ)) : Type 0 where
   pub value : number * 2 ^ width_of rest + packed rest ≡ packed fields
   pub fit : FitWidths rest
   pub room : width_of rest ≤ width_of fields
 
--- the next field is shifted in without a loss
+-- the next field is shifted in, and no bit is lost
 pub shifted_in : (n : ℕ) (f : ℕ × ℕ) (rest fields : List (ℕ × ℕ)) → FitWidths fields → width_of fields < 64 → IsPacking n (f ∷ rest) fields → bit_or (n * 2 ^ f.0 % 18446744073709551616) f.1 ≡ n * 2 ^ f.0 + f.1
 shifted_in n f rest fields fit room p =
     let e : n * 2 ^ f.0 * 2 ^ width_of rest ≤ packed fields = let v = sym (packed-step n f rest) ∙ p.value in omega (arith, v, add-mul (n * 2 ^ f.0) f.1 (2 ^ width_of rest)) in
@@ -39,17 +39,17 @@ packing-next n f rest fields fit room p =
       room = let r = p.room in omega arith;
     }
 
--- the sum of widths
+-- the sum of the widths
 abbrev pub total : List ℕ → ℕ
 total [] = 0
 total (w ∷ ws) = w + total ws
 
--- the values of fields of these widths in a number
+-- a number, taken apart into fields of these widths
 abbrev pub unpacked : List ℕ → ℕ → List (ℕ × ℕ)
 unpacked [] n = []
 unpacked (w ∷ ws) n = (w, n / 2 ^ total ws % 2 ^ w) ∷ unpacked ws n
 
--- the widths alone
+-- the widths of fields
 abbrev pub widths : List (ℕ × ℕ) → List ℕ
 widths [] = []
 widths (f ∷ fs) = f.0 ∷ widths fs
@@ -62,7 +62,7 @@ pub width_of-unpacked : (ws : List ℕ) (n : ℕ) → width_of (unpacked ws n) �
 width_of-unpacked [] n = refl
 width_of-unpacked (w ∷ ws) n = ap (λ k. w + k) (width_of-unpacked ws n)
 
--- a field doesn't depend on what stands above it
+-- a field doesn't depend on the bits above it
 mod-above : (a b j k : ℕ) → j ≤ k → (a * 2 ^ k + b) % 2 ^ j ≡ b % 2 ^ j
 mod-above a b j k h =
     let parts : k ≡ (k - j) + j = omega arith in

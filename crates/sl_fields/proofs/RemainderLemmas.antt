@@ -1,4 +1,4 @@
--- The long division finds the one remainder that there is.
+-- The long division finds the one remainder that exists.
 use Rattle.std.proofs.Common.{◌≡◌, ℕ, zero, suc, ◌+◌, ◌-◌, ◌*◌, ◌≤◌, Bool, true, false, List, [], ◌∷◌, ◌++◌, length, replicate, refl, sym, ◌∙◌, ap, arith}
 use Rattle.std.proofs.lemmas.List.{length-append, length-replicate}
 use Rattle.sl_fields.specs.Fecf.{plus_word, divided, remainder, preset, octet_bits, bits_of, bits_number, fecf_of, register_of}
@@ -13,7 +13,7 @@ length-multiple (false ∷ quotient) = omega (arith, length-multiple quotient)
 length-multiple (true ∷ quotient) =
     omega (arith, length-multiple quotient, length-plus_word low_generator (multiple quotient))
 
--- adding the generator twice leaves what was there
+-- the generator cancels out when it is added twice
 generator-twice : (quotient bits : List Bool) → plus_word low_generator (plus_word (plus_word low_generator (multiple quotient)) bits) ≡ plus_word (multiple quotient) bits
 generator-twice quotient bits =
     let within : length low_generator ≤ length (multiple quotient) = omega (arith, length-multiple quotient) in
@@ -26,7 +26,7 @@ length-divided (suc steps) (false ∷ bits) e = length-divided steps bits (omega
 length-divided (suc steps) (true ∷ bits) e =
     length-divided steps (plus_word low_generator bits) (omega (arith, length-plus_word low_generator bits))
 
--- what is divided is a multiple and what is left
+-- the bits that are divided are a multiple of the generator plus the remainder that is left
 divided-multiple : (steps : ℕ) (bits : List Bool) → length bits ≡ steps + 16 → (quotient : List Bool) × (length quotient ≡ steps) × (bits ≡ plus_word (multiple quotient) (replicate steps false ++ divided steps bits))
 divided-multiple zero bits e = ([], refl, sym (plus_word-false 16 bits))
 divided-multiple (suc steps) [] e = absurd (omega arith)
@@ -41,7 +41,7 @@ divided-multiple (suc steps) (true ∷ bits) e =
     let back : bits ≡ plus_word (plus_word low_generator (multiple found.0)) left = sym (plus_word-twice low_generator bits) ∙ ap (plus_word low_generator) found.2 ∙ plus_word-assoc low_generator (multiple found.0) left within in
     (true ∷ found.0, ap suc found.1, ap (λ rest. true ∷ rest) back)
 
--- and what is left of a multiple and sixteen bits are these
+-- the division of a multiple plus sixteen bits leaves these sixteen bits
 multiple-divided : (quotient rest : List Bool) → divided (length quotient) (plus_word (multiple quotient) (replicate (length quotient) false ++ rest)) ≡ rest
 multiple-divided [] rest = plus_word-false 16 rest
 multiple-divided (false ∷ quotient) rest = multiple-divided quotient rest

@@ -1,4 +1,4 @@
--- A segment header as its fields with their widths.
+-- A segment header is its fields with their widths.
 use Rattle.std.proofs.Common.{ℕ, List, [], ◌∷◌, refl, arith}
 use Rattle.sl_fields.specs.SegmentHeader.{segment_fields, SegmentFields, FitsSegmentHeader}
 use Rattle.sl_fields.proofs.Flags.{value_at}

@@ -1,4 +1,4 @@
--- A TC header as its fields with their widths.
+-- A TC header is its fields with their widths.
 use Rattle.std.proofs.Common.{ℕ, List, [], ◌∷◌, refl, arith}
 use Rattle.sl_fields.specs.TcHeader.{tc_fields, TcFields, FitsTcHeader}
 use Rattle.sl_fields.proofs.Flags.{value_at, flag_at, flag_of-bit, bit_of-flag, bit_fits}

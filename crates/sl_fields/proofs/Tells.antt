@@ -1,8 +1,8 @@
--- Tests, and what they tell.
+-- Tests and the properties that they decide.
 use Rattle.std.proofs.Common.{◌≡◌, ◌≢◌, ℕ, suc, ◌<◌, ◌==◌, nat_lt, leb, Bool, true, false, not, ◌&&◌, inl, inr, refl, ◌∙◌, arith}
 use Rattle.std.proofs.lemmas.Bool.Decides.{eqb_tells, leb_tells}
 
--- the test is true exactly where this holds
+-- the test is true exactly where the property holds
 abbrev pub Tells : Bool → Type 0 → Type 0
 Tells true A = A
 Tells false A = A → ⊥

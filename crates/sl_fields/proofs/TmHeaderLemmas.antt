@@ -1,4 +1,4 @@
--- A TM header as its fields with their widths.
+-- A TM header is its fields with their widths.
 use Rattle.std.proofs.Common.{ℕ, List, [], ◌∷◌, refl, arith}
 use Rattle.sl_fields.specs.TmHeader.{tm_fields, TmFields, FitsTmHeader}
 use Rattle.sl_fields.proofs.Flags.{value_at, flag_at, flag_of-bit, bit_of-flag, bit_fits}

@@ -30,8 +30,8 @@ pub record FitsClcw (w : ClcwFields) : Type 0 where
   pub farm_b : w.farm_b < 2 ^ 2
   pub report : w.report < 2 ^ 8
 
--- The word that reports the state of FARM-1 on a virtual channel: control word type 0, CLCW version 0, status 0, COP-1 in
--- effect, spare bits 0, and the flags No RF Available, No Bit Lock and Wait 0.
+-- The word that reports the state of FARM-1 on a virtual channel: control word type 0, CLCW version 0, status 0,
+-- COP-1 in effect, spare bits 0, and the flags No RF Available, No Bit Lock and Wait 0.
 abbrev pub farm_word : ℕ → Bool → Bool → ℕ → ℕ → ClcwFields
 farm_word vc lockout retransmit farm_b report =
     record {
@@ -51,7 +51,7 @@ farm_word vc lockout retransmit farm_b report =
       report = report;
     }
 
--- the word that four octets are
+-- the word that is read from four octets
 abbrev pub clcw_word : List ℕ → ClcwFields
 clcw_word octets =
     record {
@@ -78,6 +78,6 @@ clcw_fields w =
     ∷ (1, bit_of w.no_lock) ∷ (1, bit_of w.lockout) ∷ (1, bit_of w.wait) ∷ (1, bit_of w.retransmit)
     ∷ (2, w.farm_b) ∷ (1, bit_of w.spare_end) ∷ (8, w.report) ∷ []
 
--- the octets that are the word with these fields
+-- the four octets of the word with these fields
 abbrev pub clcw_octets : ClcwFields → List ℕ
 clcw_octets w = octets_of 4 (clcw_fields w)

@@ -1,4 +1,4 @@
--- A `Clcw` is its fields, which are in range.
+-- A `Clcw` stands for its fields. Each field is in range.
 use Rattle.sl_fields.specs.Clcw.{ClcwFields, FitsClcw}
 use Rattle.sl_fields.specs.declared.clcw.Clcw.TheInside.{Inside}
 

@@ -2,26 +2,27 @@
 use Rattle.std.specs.Prelude.{ℕ, zero, suc, ◌+◌, ◌-◌, ◌*◌, ◌/◌, ◌%◌, ◌^◌, ◌==◌, nat_lt, ◌&&◌, Bool, true, false, not, cond, List, [], ◌∷◌, ◌++◌, length, take, drop, map, flat_map, replicate}
 use Rattle.sl_fields.specs.Field.{bit_of, number_of}
 
--- an octet's bits, the most significant first
+-- the bits of an octet, the most significant first
 abbrev pub octet_bits : ℕ → List Bool
 octet_bits octet =
     (octet / 128 % 2 == 1) ∷ (octet / 64 % 2 == 1) ∷ (octet / 32 % 2 == 1) ∷ (octet / 16 % 2 == 1)
     ∷ (octet / 8 % 2 == 1) ∷ (octet / 4 % 2 == 1) ∷ (octet / 2 % 2 == 1) ∷ (octet % 2 == 1) ∷ []
 
+-- the bits of octets, one octet after another
 abbrev pub bits_of : List ℕ → List Bool
 bits_of octets = flat_map octet_bits octets
 
--- the number that the bits are in base 2, the first one the most significant
+-- the number of the bits in base 2, the first bit the most significant
 abbrev pub bits_number : List Bool → ℕ
 bits_number [] = 0
 bits_number (b ∷ bits) = bit_of b * 2 ^ length bits + bits_number bits
 
--- the sum without carries of two bits
+-- the sum of two bits without carry
 abbrev pub plus_bit : Bool → Bool → Bool
 plus_bit false b = b
 plus_bit true b = not b
 
--- the bits with those of a word added without carries, from the front on
+-- the bits plus the bits of a word, added without carries from the front on
 abbrev pub plus_word : List Bool → List Bool → List Bool
 plus_word [] bits = bits
 plus_word (w ∷ word) [] = []
@@ -33,8 +34,8 @@ generator =
     true ∷ false ∷ false ∷ false ∷ true ∷ false ∷ false ∷ false ∷ false ∷ false ∷ false ∷ true ∷ false ∷ false ∷ false ∷ false
     ∷ true ∷ []
 
--- Long division without carries, by as many steps as the quotient has bits: where the first bit is 1
--- the generator is subtracted from there on, which clears it, and the next bit is then the first.
+-- Long division without carries, in as many steps as the quotient has bits. Where the first bit is 1, the generator
+-- is subtracted from there on, which clears the first bit; then the next bit is the first.
 abbrev pub divided : ℕ → List Bool → List Bool
 divided zero bits = bits
 divided (suc steps) [] = []
@@ -44,21 +45,21 @@ divided (suc steps) (b ∷ bits) = divided steps (drop 1 (cond b (plus_word gene
 abbrev pub remainder : List Bool → List Bool
 remainder bits = divided (length bits - 16) bits
 
--- the first sixteen bits inverted, as a register preset to all ones does
+-- the bits with the first sixteen inverted, as by a register that is preset to all ones
 abbrev pub preset : List Bool → List Bool
 preset bits = map not (take 16 bits) ++ drop 16 bits
 
--- The field of a message's bits: the bits and sixteen zeros, the first sixteen of these bits inverted, and
--- the remainder of it all. A register that divides bit by bit holds it after each of them.
+-- The field of a message's bits: sixteen zeros follow the bits, the first sixteen bits of this list are inverted, and
+-- the list is divided. A register that divides bit by bit holds this number after the message.
 unfoldable pub register_of : List Bool → ℕ
 register_of bits = bits_number (remainder (preset (bits ++ replicate 16 false)))
 
--- The frame error control field of the octets before it. Each message has one, that of no octets too.
+-- The frame error control field of the octets that come before it. Each message has one, also the empty message.
 unfoldable pub fecf_of : List ℕ → ℕ
 fecf_of octets = register_of (bits_of octets)
 
--- Octets of which the last two, as one number, are the frame error control field of those before them.
--- There is at least one octet before the field.
+-- Whether octets end with their frame error control field: the last two, as one number, are the field of the octets
+-- before them. At least one octet comes before the field.
 abbrev pub fecf_is_good : List ℕ → Bool
 fecf_is_good octets =
     nat_lt 2 (length octets)

@@ -5,42 +5,42 @@ use Rattle.std.specs.Prelude.{ℕ, ◌+◌, ◌-◌, ◌*◌, ◌/◌, ◌%◌, 
 use Rattle.std.specs.List.{AllByRecursion}
 use Rattle.byteorder.specs.Endian.{big_bytes}
 
--- each is an octet
+-- each number is an octet
 abbrev pub IsOctets : List ℕ → Type 0
 IsOctets octets = All (λ octet. octet < 256) octets
 
--- the octets' number in base 256, the first octet the most significant
+-- the number of octets in base 256, the first octet the most significant
 abbrev pub number_of : List ℕ → ℕ
 number_of [] = 0
 number_of (octet ∷ octets) = octet * 256 ^ length octets + number_of octets
 
--- the field of this many bits at this bit of a header of so many octets
+-- the field of `width` bits at the bit `bit` of a header of `octets` octets
 abbrev pub field : ℕ → ℕ → ℕ → List ℕ → ℕ
 field octets bit width header = number_of header / 2 ^ (8 * octets - bit - width) % 2 ^ width
 
--- a field of one bit, as a flag
+-- a field of one bit, read as a flag
 abbrev pub flag : ℕ → ℕ → List ℕ → Bool
 flag octets bit header = field octets bit 1 header == 1
 
--- a flag as a field of one bit
+-- a flag, written as a field of one bit
 abbrev pub bit_of : Bool → ℕ
 bit_of false = 0
 bit_of true = 1
 
--- the bits that fields, each given as its width and its value, take together
+-- the bits that fields take together, each field given as its width and its value
 abbrev pub width_of : List (ℕ × ℕ) → ℕ
 width_of [] = 0
 width_of (f ∷ fields) = f.0 + width_of fields
 
--- the number in which the fields stand one after another, the first one on top
+-- the number in which the fields stand one after another, the first one highest
 abbrev pub packed : List (ℕ × ℕ) → ℕ
 packed [] = 0
 packed (f ∷ fields) = f.1 * 2 ^ width_of fields + packed fields
 
--- each value fits the bits of its field
+-- each value fits in the bits of its field
 abbrev pub FitWidths : List (ℕ × ℕ) → Type 0
 FitWidths = AllByRecursion (λ f. f.1 < 2 ^ f.0)
 
--- so many octets, the most significant first, of the number in which the fields stand
+-- `count` octets, the most significant first, of the number in which the fields stand
 abbrev pub octets_of : ℕ → List (ℕ × ℕ) → List ℕ
 octets_of count fields = big_bytes count (packed fields)

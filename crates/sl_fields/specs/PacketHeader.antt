@@ -34,7 +34,7 @@ telemetry_header apid count length =
       length = length;
     }
 
--- the header that six octets are
+-- the header that is read from six octets
 abbrev pub packet_header : List ℕ → PacketFields
 packet_header octets =
     record {
@@ -53,6 +53,6 @@ packet_fields h =
     (3, h.version) ∷ (1, h.kind) ∷ (1, bit_of h.secondary) ∷ (11, h.apid) ∷ (2, h.flags) ∷ (14, h.count)
     ∷ (16, h.length) ∷ []
 
--- the octets that are the header with these fields
+-- the six octets of the header with these fields
 abbrev pub packet_octets : PacketFields → List ℕ
 packet_octets h = octets_of 6 (packet_fields h)

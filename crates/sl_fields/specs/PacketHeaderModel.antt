@@ -1,4 +1,4 @@
--- A `PacketHeader` is its fields, which are in range.
+-- A `PacketHeader` stands for its fields. Each field is in range.
 use Rattle.sl_fields.specs.PacketHeader.{PacketFields, FitsPacketHeader}
 use Rattle.sl_fields.specs.declared.packet_header.PacketHeader.TheInside.{Inside}
 

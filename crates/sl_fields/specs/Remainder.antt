@@ -1,41 +1,43 @@
--- What a remainder by the generator is, whichever way it is found.
+-- What a remainder by the generator is, apart from any way to find it.
 use Rattle.std.specs.Prelude.{◌≡◌, ℕ, ◌+◌, ◌*◌, ◌≤◌, Bool, true, false, List, [], ◌∷◌, ◌++◌, length, replicate}
 use Rattle.sl_fields.specs.Fecf.{generator, plus_word, remainder, preset, octet_bits, bits_of, bits_number, fecf_of}
 use Rattle.sl_fields.specs.FecfWords.{word_of}
 
--- The multiple of the generator by the bits of a quotient: the sum without carries of the generators that its
--- bits ask for, each moved to the place of its bit.
+-- The multiple of the generator by the bits of a quotient: each bit that is 1 asks for the generator, moved to the
+-- place of this bit, and their sum is taken without carries.
 abbrev pub multiple : List Bool → List Bool
 multiple [] = replicate 16 false
 multiple (false ∷ quotient) = false ∷ multiple quotient
 multiple (true ∷ quotient) = plus_word generator (false ∷ multiple quotient)
 
--- Sixteen bits, so fewer than the generator has, that make up the bits when a multiple of the generator is
--- added to them without carries.
+-- A remainder of bits: sixteen bits, fewer than the generator has. Together with a multiple of the generator, added
+-- without carries, they make up the bits.
 pub record IsRemainder (bits rest : List Bool) : Type 0 where
   pub short : length rest ≡ 16
   pub multiple_added :
       (quotient : List Bool)
       × (bits ≡ plus_word (multiple quotient) (replicate (length quotient) false ++ rest))
 
--- the long division finds a remainder, and there is no other
+-- The long division finds a remainder.
 abbrev pub DivisionFindsRemainder : Type 0
 DivisionFindsRemainder = (bits : List Bool) → 16 ≤ length bits → IsRemainder bits (remainder bits)
 
+-- There is no other remainder.
 abbrev pub RemainderIsOnlyOne : Type 0
 RemainderIsOnlyOne = (bits rest : List Bool) → IsRemainder bits rest → rest ≡ remainder bits
 
--- a number that is that of a remainder of the bits, and of no other one
+-- The number is the number of a remainder of the bits, and of no other remainder.
 pub record IsRemaindersNumber (bits : List Bool) (number : ℕ) : Type 0 where
   pub is : (rest : List Bool) × IsRemainder bits rest × (number ≡ bits_number rest)
   pub only : (rest : List Bool) → IsRemainder bits rest → number ≡ bits_number rest
 
--- the field is that of the message and sixteen zeros, preset
+-- The field is the remainder of the message followed by sixteen zeros, preset.
 abbrev pub FieldIsRemainder : Type 0
 FieldIsRemainder =
     (octets : List ℕ) → IsRemaindersNumber (preset (bits_of octets ++ replicate 16 false)) (fecf_of octets)
 
--- a word is that of its octet, the later octets' zeros and sixteen more, without preset
+-- A word is the remainder, without preset, of its octet followed by zeros for the later octets and sixteen zeros
+-- more.
 abbrev pub WordIsRemainder : Type 0
 WordIsRemainder =
     (later octet : ℕ)

@@ -12,11 +12,11 @@ pub record FitsSegmentHeader (h : SegmentFields) : Type 0 where
   pub flags : h.flags < 2 ^ 2
   pub map : h.map < 2 ^ 6
 
--- the sequence flags of a segment that is the first one of its service data unit or not, and the last one or not
+-- the sequence flags of a segment: whether it is the first one and the last one of its service data unit
 abbrev pub sequence_flags : Bool → Bool → ℕ
 sequence_flags first last = if first then (if last then 3 else 1) else (if last then 2 else 0)
 
--- the header that one octet is
+-- the header that is read from one octet
 abbrev pub segment_header : List ℕ → SegmentFields
 segment_header octets =
     record {
@@ -28,6 +28,6 @@ segment_header octets =
 abbrev pub segment_fields : SegmentFields → List (ℕ × ℕ)
 segment_fields h = (2, h.flags) ∷ (6, h.map) ∷ []
 
--- the octet that is the header with these fields
+-- the octet of the header with these fields
 abbrev pub segment_octets : SegmentFields → List ℕ
 segment_octets h = octets_of 1 (segment_fields h)

@@ -1,4 +1,4 @@
--- A `SegmentHeader` is its fields, which are in range.
+-- A `SegmentHeader` stands for its fields. Each field is in range.
 use Rattle.sl_fields.specs.SegmentHeader.{SegmentFields, FitsSegmentHeader}
 use Rattle.sl_fields.specs.declared.segment_header.SegmentHeader.TheInside.{Inside}
 

@@ -36,7 +36,7 @@ ad_header spacecraft vc length ns =
       ns = ns;
     }
 
--- the header that five octets are
+-- the header that is read from five octets
 abbrev pub tc_header : List ℕ → TcFields
 tc_header octets =
     record {
@@ -56,6 +56,6 @@ tc_fields h =
     (2, h.version) ∷ (1, bit_of h.bypass) ∷ (1, bit_of h.command) ∷ (2, h.spare) ∷ (10, h.spacecraft) ∷ (6, h.vc)
     ∷ (10, h.length) ∷ (8, h.ns) ∷ []
 
--- the octets that are the header with these fields
+-- the five octets of the header with these fields
 abbrev pub tc_octets : TcFields → List ℕ
 tc_octets h = octets_of 5 (tc_fields h)

@@ -1,4 +1,4 @@
--- A `TcHeader` is its fields, which are in range.
+-- A `TcHeader` stands for its fields. Each field is in range.
 use Rattle.sl_fields.specs.TcHeader.{TcFields, FitsTcHeader}
 use Rattle.sl_fields.specs.declared.tc_header.TcHeader.TheInside.{Inside}
 

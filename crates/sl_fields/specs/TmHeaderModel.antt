@@ -1,4 +1,4 @@
--- A `TmHeader` is its fields, which are in range.
+-- A `TmHeader` stands for its fields. Each field is in range.
 use Rattle.sl_fields.specs.TmHeader.{TmFields, FitsTmHeader}
 use Rattle.sl_fields.specs.declared.tm_header.TmHeader.TheInside.{Inside}
 

@@ -1,8 +1,8 @@
-//! Fields within the number that a header's octets are.
+//! Fields within the number whose big-endian octets are a header.
 ghost use Rattle.std.specs.Prelude.{◌≡◌, ◌/◌, ◌%◌, ◌^◌, ◌<◌, ◌==◌};
 ghost use Rattle.sl_fields.specs.Field.{width_of, packed, FitWidths};
 
-/// The field of `width` bits that has `below` bits below it.
+/// The field of `width` bits above the `below` lowest bits of the number.
 #[inline(always)]
 pub fn field(number: u64, below: u32, width: u32) -> u64
     requires inside { below < 64 }
@@ -13,7 +13,7 @@ pub fn field(number: u64, below: u32, width: u32) -> u64
     (number >> below) & ((1 << width) - 1)
 }
 
-/// The field of one bit that has `below` bits below it.
+/// The field of one bit above the `below` lowest bits of the number.
 #[inline(always)]
 pub fn flag(number: u64, below: u32) -> bool
     requires { below < 64 }
@@ -22,7 +22,7 @@ pub fn flag(number: u64, below: u32) -> bool
     field(number, below, 1) == 1
 }
 
-/// The number in which the fields, each a width and a value, stand one after another.
+/// The number in which the fields, each a width and a value, stand one after another, the first one highest.
 #[inline(always)]
 pub fn pack(fields: &[(u32, u64)]) -> u64
     requires fit { FitWidths fields.now }

@@ -41,8 +41,8 @@ impl Model for Clcw {
 }
 
 impl Clcw {
-    /// The word with these fields, `None` exactly where one is out of the range of its bits: `word` 0
-    /// or 1, `version`, `cop`, `spare` and `farm_b` 0 to 3, `status` 0 to 7, `vc` 0 to 63.
+    /// The word with these fields. `None` exactly where a field is out of the range of its bits: `word` 0 or
+    /// 1; `version`, `cop`, `spare` and `farm_b` 0 to 3; `status` 0 to 7; `vc` 0 to 63.
     pub fn new(
         word: u8,
         version: u8,
@@ -98,9 +98,11 @@ impl Clcw {
         })
     }
 
-    /// The word that reports the state of FARM-1 on the virtual channel `vc`, 0 to 63: control word type 0, CLCW version
-    /// 0, status 0, COP-1 in effect, spare bits 0, and the flags No RF Available, No Bit Lock and Wait 0. `farm_b` is the
-    /// FARM-B counter, 0 to 3, and `report` is V(R).
+    /// The word that reports the state of FARM-1 on the virtual channel `vc`, 0 to 63: control word type 0,
+    /// CLCW version 0, status 0, COP-1 in effect, spare bits 0, and the flags No RF Available, No Bit Lock
+    /// and Wait 0.
+    ///
+    /// `farm_b` is the FARM-B counter, 0 to 3, and `report` is V(R).
     pub fn of_farm(vc: u8, lockout: bool, retransmit: bool, farm_b: u8, report: u8) -> Clcw
         requires vc { vc ≤ 63 }
         requires farm_b { farm_b ≤ 3 }
@@ -124,7 +126,7 @@ impl Clcw {
         }
     }
 
-    /// The word that the octets are.
+    /// Reads the word from its four octets. All octets are a word; a CLCW has control word type 0.
     pub fn read(octets: &[u8; 4]) -> Clcw
         ensures { result ≡ clcw_word octets.now }
     {
@@ -147,7 +149,7 @@ impl Clcw {
         }
     }
 
-    /// Control word type, 0 for a CLCW.
+    /// Control word type, 0 or 1: 0 for a CLCW.
     pub fn word(&self) -> u8
         ensures value { result ≡ self.now.word }
         ensures fits { result < 2 ^ 1 }
@@ -171,7 +173,7 @@ impl Clcw {
         self.status
     }
 
-    /// COP in effect, 0 to 3.
+    /// COP in effect, 0 to 3: 1 for COP-1.
     pub fn cop(&self) -> u8
         ensures value { result ≡ self.now.cop }
         ensures fits { result < 2 ^ 2 }
@@ -195,42 +197,42 @@ impl Clcw {
         self.spare
     }
 
-    /// No RF Available flag.
+    /// No RF Available flag: whether the radio frequency channel isn't available.
     pub fn no_rf(&self) -> bool
         ensures { result ≡ self.now.no_rf }
     {
         self.no_rf
     }
 
-    /// No Bit Lock flag.
+    /// No Bit Lock flag: whether bit lock is missing.
     pub fn no_lock(&self) -> bool
         ensures { result ≡ self.now.no_lock }
     {
         self.no_lock
     }
 
-    /// Lockout flag.
+    /// Lockout flag: whether FARM-1 is in the lockout state.
     pub fn lockout(&self) -> bool
         ensures { result ≡ self.now.lockout }
     {
         self.lockout
     }
 
-    /// Wait flag.
+    /// Wait flag: whether FARM-1 is in the wait state.
     pub fn wait(&self) -> bool
         ensures { result ≡ self.now.wait }
     {
         self.wait
     }
 
-    /// Retransmit flag.
+    /// Retransmit flag: whether frames of type AD are asked for again.
     pub fn retransmit(&self) -> bool
         ensures { result ≡ self.now.retransmit }
     {
         self.retransmit
     }
 
-    /// FARM-B counter, 0 to 3.
+    /// FARM-B counter, 0 to 3: accepted frames of types BD and BC, modulo 4.
     pub fn farm_b(&self) -> u8
         ensures value { result ≡ self.now.farm_b }
         ensures fits { result < 2 ^ 2 }
@@ -245,18 +247,18 @@ impl Clcw {
         self.spare_end
     }
 
-    /// Report value: the next frame sequence number expected, N(R).
+    /// Report value, 0 to 255: N(R), the frame sequence number that is expected next.
     pub fn report(&self) -> u8
         ensures { result ≡ self.now.report }
     {
         self.report
     }
 
-    /// The four octets of the word.
+    /// Writes the word as its four octets.
     pub fn write(&self) -> [u8; 4]
-        // They read as this word,
+        // The octets read back as this word.
         ensures reads_back { clcw_word result ≡ self.now }
-        // and no others do.
+        // No other octets do.
         ensures only { (octets : List ℕ) → length octets ≡ 4 → IsOctets octets
             → clcw_word octets ≡ self.now → octets ≡ result }
         ensures octets { result ≡ clcw_octets self.now }

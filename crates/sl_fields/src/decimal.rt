@@ -2,7 +2,7 @@
 ghost use Rattle.std.specs.Prelude.{◌≡◌, ◌≤◌, ℕ, IfSome, Some};
 ghost use Rattle.std.specs.Fmt.{decimal};
 
-/// The number, 0 to 255, that the text is in decimal without leading zeros; `None` for any other text.
+/// Reads a number, 0 to 255, from decimal text without leading zeros; `None` for any other text.
 pub fn read_decimal(text: &str) -> Option<u8>
     ensures number { IfSome result (λ n. text.now ≡ decimal n) }
     ensures every { (n : ℕ) → n ≤ 255 → text.now ≡ decimal n → result ≡ Some n }

@@ -12,10 +12,12 @@ use crate::slices::SLICES;
 use crate::words::WORDS;
 use byteorder::{BigEndian, ByteOrder};
 
-/// The frame error control field of CCSDS 132.0-B and 232.0-B that stands after these octets of a frame.
+/// The frame error control field of CCSDS 132.0-B and 232.0-B for these octets, which come before the field
+/// in their frame.
 ///
-/// It is the remainder by the generator x^16 + x^12 + x^5 + 1 with the register preset to all ones, each
-/// octet taken from its most significant bit on, and it isn't inverted. Of no octets it is 0xFFFF.
+/// The field is the remainder by the generator x^16 + x^12 + x^5 + 1, with the register preset to all ones.
+/// Each octet is taken from its most significant bit on, and the remainder isn't inverted. For no octets the
+/// field is 0xFFFF.
 #[inline(never)]
 pub fn fecf(octets: &[u8]) -> u16
     ensures { result ≡ fecf_of octets.now }
@@ -28,8 +30,9 @@ pub fn fecf(octets: &[u8]) -> u16
     number(after_octets(after_slices(preset, slices), rest))
 }
 
-/// Whether there are three octets or more and the last two, the most significant first, are the frame
-/// error control field of those before them.
+/// Whether the octets end with their frame error control field (CCSDS 132.0-B and 232.0-B): the last two
+/// octets, the most significant first, are the field of the octets before them. False for fewer than three
+/// octets.
 pub fn fecf_good(octets: &[u8]) -> bool
     ensures { result ≡ fecf_is_good octets.now }
 {
@@ -40,8 +43,8 @@ pub fn fecf_good(octets: &[u8]) -> bool
     BigEndian::read_u16(field) == fecf(covered)
 }
 
-/// The frame error control field of these octets of a frame, as the two octets that stand after them, the
-/// most significant first.
+/// The frame error control field of these octets as two octets, the most significant first. The two octets
+/// stand after these octets in a frame.
 pub fn fecf_field(octets: &[u8]) -> [u8; 2]
     ensures { result ≡ fecf_octets octets.now }
 {
@@ -50,8 +53,8 @@ pub fn fecf_field(octets: &[u8]) -> [u8; 2]
     field
 }
 
-/// The octets of a frame, or those from some offset on, up to its frame error control field where frames have
-/// one: there are two octets or more then.
+/// Leaves out the frame error control field, where frames have one (`has_fecf`). `octets` is a frame, or a
+/// frame from some offset on, and has two octets or more in this case.
 #[inline(always)]
 pub fn without_fecf(has_fecf: bool, octets: &[u8]) -> &[u8]
     requires { fecf_len has_fecf ≤ length octets.now }
@@ -98,8 +101,8 @@ fn after_octets(register: Register, octets: &[u8]) -> Register
     after
 }
 
-// The register after one octet more: what is left of it, moved up by an octet, with the word of its first
-// octet and the message's added.
+// The register after one more octet. The register is moved up by one octet, and the word of its first octet
+// plus the message's octet is added.
 #[inline(always)]
 fn after_octet(register: Register, octet: u8) -> Register
     ensures { TakesIn register (octet ∷ []) result }
@@ -122,8 +125,8 @@ fn after_slices(register: Register, slices: &[[u8; 16]]) -> Register
     after
 }
 
-// The register after sixteen octets more: the words of all of them added, with the register added to the first
-// two.
+// The register after sixteen more octets: the sum of the words of all sixteen, with the register added to the
+// first two octets.
 #[inline(always)]
 fn after_slice(register: Register, slice: &[u8; 16]) -> Register
     ensures { TakesIn register slice.now result }
@@ -133,7 +136,8 @@ fn after_slice(register: Register, slice: &[u8; 16]) -> Register
     halves(first ^ second ^ later_words(slice))
 }
 
-// The sum of the words that want no register, so that it can be had before the register is.
+// The sum of the words that don't depend on the register: this sum can be computed before the register is
+// known.
 #[inline(always)]
 fn later_words(slice: &[u8; 16]) -> u16
     ensures { result ≡ words_sum (drop 2 slice.now) }
@@ -145,7 +149,7 @@ fn later_words(slice: &[u8; 16]) -> u16
     sum
 }
 
-// The word of a message's last octet.
+// The word of the last octet of a message.
 #[inline(always)]
 fn word(octet: u8) -> [u8; 2]
     ensures { number_of result ≡ word_of 0 octet }
@@ -153,7 +157,7 @@ fn word(octet: u8) -> [u8; 2]
     WORDS[usize::from(octet)]
 }
 
-// The word of an octet after which so many octets come.
+// The word of an octet that `later` more octets follow.
 #[inline(always)]
 fn slice_word(later: usize, octet: u8) -> u16
     requires { later < 16 }

@@ -1,8 +1,9 @@
-//! The headers of CCSDS telemetry and telecommand links and of space packets, each as its fields and
-//! as its octets, the frame error control field, and a number of one octet as text.
+//! The headers of CCSDS telemetry and telecommand links and of space packets, each as its fields and as its
+//! octets. Beside them stand the frame error control field, and the reading of a number of one octet from
+//! text.
 //!
-//! A header is its fields and nothing else: all bits are fields, those without a meaning included, so
-//! what [`write`](TmHeader::write) gives for what [`read`](TmHeader::read) took are the same octets.
+//! A header consists of its fields alone. Every bit belongs to a field, the spare bits too. So
+//! [`write`](TmHeader::write) gives back the same octets that [`read`](TmHeader::read) took.
 #![tactic(auto)]
 
 mod bits;

@@ -34,8 +34,9 @@ impl Model for PacketHeader {
 }
 
 impl PacketHeader {
-    /// The header with these fields, `None` exactly where one is out of the range of its bits:
-    /// `version` 0 to 7, `kind` 0 or 1, `apid` 0 to 2047, `flags` 0 to 3, `count` 0 to 16383.
+    /// The header with these fields. `None` exactly where a field is out of the range of its bits: `version`
+    /// 0 to 7, `kind` 0 or 1, `apid` 0 to 2047, `flags` 0 to 3, `count` 0 to 16,383. Any `length` is in
+    /// range.
     pub fn new(
         version: u8,
         kind: u8,
@@ -70,8 +71,9 @@ impl PacketHeader {
         })
     }
 
-    /// The header of an unsegmented telemetry packet without secondary header: version 0 and sequence flags 3. `apid` is
-    /// 0 to 2047 and `count` 0 to 16,383; `length` is the octets of the packet data field minus 1.
+    /// The header of an unsegmented telemetry packet without a secondary header: version 0 and sequence flags
+    /// 3. `apid` is 0 to 2047 and `count` 0 to 16,383; `length` is the octets of the packet data field minus
+    /// 1.
     pub fn of_telemetry(apid: u16, count: u16, length: u16) -> PacketHeader
         requires apid { apid ≤ 2047 }
         requires count { count ≤ 16383 }
@@ -88,7 +90,7 @@ impl PacketHeader {
         }
     }
 
-    /// The header that the octets are.
+    /// Reads the header from its six octets. All octets are a header; a space packet's has version 0.
     pub fn read(octets: &[u8; 6]) -> PacketHeader
         ensures { result ≡ packet_header octets.now }
     {
@@ -104,7 +106,7 @@ impl PacketHeader {
         }
     }
 
-    /// Packet version number, 0 for a space packet.
+    /// Packet version number, 0 to 7: 0 for a space packet.
     pub fn version(&self) -> u8
         ensures value { result ≡ self.now.version }
         ensures fits { result < 2 ^ 3 }
@@ -112,7 +114,7 @@ impl PacketHeader {
         self.version
     }
 
-    /// Packet type, 0 for telemetry, 1 for telecommand.
+    /// Packet type: 0 for telemetry, 1 for telecommand.
     pub fn kind(&self) -> u8
         ensures value { result ≡ self.now.kind }
         ensures fits { result < 2 ^ 1 }
@@ -120,7 +122,7 @@ impl PacketHeader {
         self.kind
     }
 
-    /// Secondary header flag: the packet data field begins with a secondary header.
+    /// Secondary header flag: whether the packet data field begins with a secondary header.
     pub fn secondary(&self) -> bool
         ensures { result ≡ self.now.secondary }
     {
@@ -135,7 +137,7 @@ impl PacketHeader {
         self.apid
     }
 
-    /// Sequence flags: 1 first, 0 continuing, 2 last, 3 unsegmented.
+    /// Sequence flags, 0 to 3: 1 first, 0 continuing, 2 last, 3 unsegmented.
     pub fn flags(&self) -> u8
         ensures value { result ≡ self.now.flags }
         ensures fits { result < 2 ^ 2 }
@@ -143,7 +145,7 @@ impl PacketHeader {
         self.flags
     }
 
-    /// Packet sequence count or packet name, 0 to 16383.
+    /// Packet sequence count or packet name, 0 to 16,383.
     pub fn count(&self) -> u16
         ensures value { result ≡ self.now.count }
         ensures fits { result < 2 ^ 14 }
@@ -151,18 +153,18 @@ impl PacketHeader {
         self.count
     }
 
-    /// Packet data length: the octets after the header, minus 1.
+    /// Packet data length: the octets after the primary header, minus 1.
     pub fn length(&self) -> u16
         ensures { result ≡ self.now.length }
     {
         self.length
     }
 
-    /// The six octets of the header.
+    /// Writes the header as its six octets.
     pub fn write(&self) -> [u8; 6]
-        // They read as this header,
+        // The octets read back as this header.
         ensures reads_back { packet_header result ≡ self.now }
-        // and no others do.
+        // No other octets do.
         ensures only { (octets : List ℕ) → length octets ≡ 6 → IsOctets octets
             → packet_header octets ≡ self.now → octets ≡ result }
         ensures octets { result ≡ packet_octets self.now }

@@ -7,7 +7,7 @@ use crate::bits::{field, pack};
 use byteorder::{BigEndian, ByteOrder};
 use std::marker::Model;
 
-/// The segment header of CCSDS 232.0-B, one octet at the front of a TC transfer frame's data field.
+/// The segment header of CCSDS 232.0-B: one octet at the front of a TC transfer frame's data field.
 #[derive(Clone, Copy, Debug, PartialEq, Eq)]
 pub struct SegmentHeader {
     flags: u8,
@@ -29,8 +29,8 @@ impl Model for SegmentHeader {
 }
 
 impl SegmentHeader {
-    /// The header with these fields, `None` exactly where one is out of the range of its bits: `flags`
-    /// 0 to 3, `map` 0 to 63.
+    /// The header with these fields. `None` exactly where a field is out of the range of its bits: `flags` 0
+    /// to 3, `map` 0 to 63.
     pub fn new(flags: u8, map: u8) -> Option<SegmentHeader>
         ensures { let fields : SegmentFields = record {
           flags = flags;
@@ -44,8 +44,9 @@ impl SegmentHeader {
         Some(SegmentHeader { flags, map })
     }
 
-    /// The header of a segment on the MAP `map`, 0 to 63, which is the first one of its service data unit or not, and the last one or
-    /// not. One that is both has no segmentation.
+    /// The header of a segment on the MAP `map`, 0 to 63. `first` and `last` say whether the segment is the
+    /// first one and the last one of its service data unit. A segment that is both has sequence flags 3, no
+    /// segmentation.
     pub fn of_segment(first: bool, last: bool, map: u8) -> SegmentHeader
         requires { map ≤ 63 }
         ensures { let fields : SegmentFields = record {
@@ -62,7 +63,7 @@ impl SegmentHeader {
         SegmentHeader { flags, map }
     }
 
-    /// The header that the octet is.
+    /// Reads the header from its octet. Every octet is a header.
     pub fn read(octets: &[u8; 1]) -> SegmentHeader
         ensures { result ≡ segment_header octets.now }
     {
@@ -73,7 +74,7 @@ impl SegmentHeader {
         }
     }
 
-    /// Sequence flags: 1 first, 0 continuing, 2 last, 3 no segmentation.
+    /// Sequence flags, 0 to 3: 1 first, 0 continuing, 2 last, 3 no segmentation.
     pub fn flags(&self) -> u8
         ensures value { result ≡ self.now.flags }
         ensures fits { result < 2 ^ 2 }
@@ -89,11 +90,11 @@ impl SegmentHeader {
         self.map
     }
 
-    /// The octet of the header.
+    /// Writes the header as its octet.
     pub fn write(&self) -> [u8; 1]
-        // It reads as this header,
+        // The octet reads back as this header.
         ensures reads_back { segment_header result ≡ self.now }
-        // and no other does.
+        // No other octet does.
         ensures only { (octets : List ℕ) → length octets ≡ 1 → IsOctets octets
             → segment_header octets ≡ self.now → octets ≡ result }
         ensures octets { result ≡ segment_octets self.now }

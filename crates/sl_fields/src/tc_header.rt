@@ -35,8 +35,8 @@ impl Model for TcHeader {
 }
 
 impl TcHeader {
-    /// The header with these fields, `None` exactly where one is out of the range of its bits:
-    /// `version` and `spare` 0 to 3, `spacecraft` and `length` 0 to 1023, `vc` 0 to 63.
+    /// The header with these fields. `None` exactly where a field is out of the range of its bits: `version`
+    /// and `spare` 0 to 3, `spacecraft` and `length` 0 to 1023, `vc` 0 to 63.
     pub fn new(
         version: u8,
         bypass: bool,
@@ -74,8 +74,10 @@ impl TcHeader {
         })
     }
 
-    /// The header of a frame of type AD: version 0, bypass flag 0, control command flag 0 and spare bits 0. `spacecraft`
-    /// and `length`, the octets of the frame minus 1, are 0 to 1023, and `vc` is 0 to 63; `ns` is N(S).
+    /// The header of a frame of type AD: version 0, bypass flag 0, control command flag 0 and spare bits 0.
+    ///
+    /// `spacecraft` is 0 to 1023 and `vc` 0 to 63. `length` is the octets of the frame minus 1, 0 to 1023.
+    /// `ns` is the frame sequence number N(S).
     pub fn of_ad(spacecraft: u16, vc: u8, length: u16, ns: u8) -> TcHeader
         requires spacecraft { spacecraft ≤ 1023 }
         requires vc { vc ≤ 63 }
@@ -94,7 +96,7 @@ impl TcHeader {
         }
     }
 
-    /// The header that the octets are.
+    /// Reads the header from its five octets. All octets are a header; a TC transfer frame's has version 0.
     pub fn read(octets: &[u8; 5]) -> TcHeader
         ensures { result ≡ tc_header octets.now }
     {
@@ -111,7 +113,7 @@ impl TcHeader {
         }
     }
 
-    /// Transfer frame version number, 0 for a TC transfer frame.
+    /// Transfer frame version number, 0 to 3: 0 for a TC transfer frame.
     pub fn version(&self) -> u8
         ensures value { result ≡ self.now.version }
         ensures fits { result < 2 ^ 2 }
@@ -119,14 +121,14 @@ impl TcHeader {
         self.version
     }
 
-    /// Bypass flag: the frame bypasses the frame acceptance checks (Type-B).
+    /// Bypass flag: whether the frame bypasses the frame acceptance checks of FARM-1 (Type-B).
     pub fn bypass(&self) -> bool
         ensures { result ≡ self.now.bypass }
     {
         self.bypass
     }
 
-    /// Control command flag: the frame carries a control command (Type-C), not data (Type-D).
+    /// Control command flag: whether the frame carries a control command (Type-C) or data (Type-D).
     pub fn command(&self) -> bool
         ensures { result ≡ self.now.command }
     {
@@ -157,7 +159,7 @@ impl TcHeader {
         self.vc
     }
 
-    /// Frame length, 0 to 1023: the octets of the frame, minus 1.
+    /// Frame length field, 0 to 1023: the octets of the frame, minus 1.
     pub fn length(&self) -> u16
         ensures value { result ≡ self.now.length }
         ensures fits { result < 2 ^ 10 }
@@ -165,18 +167,18 @@ impl TcHeader {
         self.length
     }
 
-    /// Frame sequence number, N(S).
+    /// Frame sequence number N(S), 0 to 255.
     pub fn ns(&self) -> u8
         ensures { result ≡ self.now.ns }
     {
         self.ns
     }
 
-    /// The five octets of the header.
+    /// Writes the header as its five octets.
     pub fn write(&self) -> [u8; 5]
-        // They read as this header,
+        // The octets read back as this header.
         ensures reads_back { tc_header result ≡ self.now }
-        // and no others do.
+        // No other octets do.
         ensures only { (octets : List ℕ) → length octets ≡ 5 → IsOctets octets
             → tc_header octets ≡ self.now → octets ≡ result }
         ensures octets { result ≡ tc_octets self.now }

@@ -38,8 +38,8 @@ impl Model for TmHeader {
 }
 
 impl TmHeader {
-    /// The header with these fields, `None` exactly where one is out of the range of its bits:
-    /// `version` 0 to 3, `spacecraft` 0 to 1023, `vc` 0 to 7, `segment` 0 to 3, `first` 0 to 2047.
+    /// The header with these fields. `None` exactly where a field is out of the range of its bits: `version`
+    /// 0 to 3, `spacecraft` 0 to 1023, `vc` 0 to 7, `segment` 0 to 3, `first` 0 to 2047.
     pub fn new(
         version: u8,
         spacecraft: u16,
@@ -86,10 +86,12 @@ impl TmHeader {
         })
     }
 
-    /// The header of a frame of packets: version 0, no operational control field, no secondary header, synchronisation
-    /// flag 0, packet order flag 0 and segment length identifier 3. `spacecraft` is 0 to 1023 and `vc` 0 to 7; `mc` and
-    /// `vcc` are the master and the virtual channel frame count; `first` is the first header pointer, 0 to 2047: 2046 is
-    /// that of an idle frame, 2047 of one in which no packet starts.
+    /// The header of a frame of packets: version 0, no operational control field, no secondary header,
+    /// synchronisation flag 0, packet order flag 0 and segment length identifier 3.
+    ///
+    /// `spacecraft` is 0 to 1023 and `vc` 0 to 7; `mc` and `vcc` are the master and the virtual channel frame
+    /// count. `first` is the first header pointer, 0 to 2047: 2046 for an idle frame, 2047 where no packet
+    /// starts in the frame.
     pub fn of_packets(spacecraft: u16, vc: u8, mc: u8, vcc: u8, first: u16) -> TmHeader
         requires spacecraft { spacecraft ≤ 1023 }
         requires vc { vc ≤ 7 }
@@ -111,7 +113,7 @@ impl TmHeader {
         }
     }
 
-    /// The header that the octets are.
+    /// Reads the header from its six octets. All octets are a header; a TM transfer frame's has version 0.
     pub fn read(octets: &[u8; 6]) -> TmHeader
         ensures { result ≡ tm_header octets.now }
     {
@@ -131,7 +133,7 @@ impl TmHeader {
         }
     }
 
-    /// Transfer frame version number, 0 for a TM transfer frame.
+    /// Transfer frame version number, 0 to 3: 0 for a TM transfer frame.
     pub fn version(&self) -> u8
         ensures value { result ≡ self.now.version }
         ensures fits { result < 2 ^ 2 }
@@ -155,49 +157,49 @@ impl TmHeader {
         self.vc
     }
 
-    /// Operational control field flag: the frame has an operational control field.
+    /// Operational control field flag: whether the frame has an operational control field.
     pub fn control(&self) -> bool
         ensures { result ≡ self.now.control }
     {
         self.control
     }
 
-    /// Master channel frame count.
+    /// Master channel frame count, 0 to 255.
     pub fn mc(&self) -> u8
         ensures { result ≡ self.now.mc }
     {
         self.mc
     }
 
-    /// Virtual channel frame count.
+    /// Virtual channel frame count, 0 to 255.
     pub fn vcc(&self) -> u8
         ensures { result ≡ self.now.vcc }
     {
         self.vcc
     }
 
-    /// Transfer frame secondary header flag.
+    /// Transfer frame secondary header flag: whether the frame has a secondary header.
     pub fn secondary(&self) -> bool
         ensures { result ≡ self.now.secondary }
     {
         self.secondary
     }
 
-    /// Synchronisation flag.
+    /// Synchronisation flag: false where the data field has packets or only idle data.
     pub fn sync(&self) -> bool
         ensures { result ≡ self.now.sync }
     {
         self.sync
     }
 
-    /// Packet order flag.
+    /// Packet order flag. CCSDS 132.0-B has it 0 in a frame of packets.
     pub fn order(&self) -> bool
         ensures { result ≡ self.now.order }
     {
         self.order
     }
 
-    /// Segment length identifier, 0 to 3.
+    /// Segment length identifier, 0 to 3. CCSDS 132.0-B has it 3 in a frame of packets.
     pub fn segment(&self) -> u8
         ensures value { result ≡ self.now.segment }
         ensures fits { result < 2 ^ 2 }
@@ -205,8 +207,8 @@ impl TmHeader {
         self.segment
     }
 
-    /// First header pointer, 0 to 2047: the octet of the data field at which the first packet starts,
-    /// 2046 for only idle data, 2047 for no packet start.
+    /// First header pointer, 0 to 2047: the offset in the data field at which the first packet starts, 2046
+    /// for only idle data, 2047 where no packet starts.
     pub fn first(&self) -> u16
         ensures value { result ≡ self.now.first }
         ensures fits { result < 2 ^ 11 }
@@ -214,11 +216,11 @@ impl TmHeader {
         self.first
     }
 
-    /// The six octets of the header.
+    /// Writes the header as its six octets.
     pub fn write(&self) -> [u8; 6]
-        // They read as this header,
+        // The octets read back as this header.
         ensures reads_back { tm_header result ≡ self.now }
-        // and no others do.
+        // No other octets do.
         ensures only { (octets : List ℕ) → length octets ≡ 6 → IsOctets octets
             → tm_header octets ≡ self.now → octets ≡ result }
         ensures octets { result ≡ tm_octets self.now }

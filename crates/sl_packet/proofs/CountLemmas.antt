@@ -1,4 +1,4 @@
--- How many packets octets have at most.
+-- The greatest number of packets that octets can have.
 use Rattle.std.proofs.Common.{◌≡◌, ℕ, suc, ◌+◌, ◌≤◌, Bool, true, false, not, List, [], ◌∷◌, length, refl, ap, arith, length-append, cond}
 use Rattle.std.specs.List.{AllByRecursion, concat}
 use Rattle.sl_packet.specs.Packet.{IsPacket, is_idle_packet}
@@ -11,7 +11,7 @@ count_one : (idle : Bool) (packet : List ℕ) (dues idles : List (List ℕ)) (n 
 count_one true packet dues idles n e = omega arith
 count_one false packet dues idles n e = omega arith
 
--- each packet is idle or isn't
+-- the packets that are idle and those that aren't are all packets
 pub split_count : (packets : List (List ℕ)) → length (without_idle packets) + length (only_idle packets) ≡ length packets
 split_count [] = refl
 split_count (packet ∷ packets) = count_one (is_idle_packet packet) packet (without_idle packets) (only_idle packets) (length packets) (split_count packets)
@@ -20,7 +20,7 @@ each_some : (packets : List (List ℕ)) → AllByRecursion IsPacket packets → 
 each_some [] all = omega arith
 each_some (packet ∷ packets) all = omega (arith, packet_least packet all.0, each_some packets all.1, length-append packet (concat packets))
 
--- they are no more than the octets
+-- octets have no more packets than octets
 pub packets_within : (octets : List ℕ) → length (without_idle (packets_of octets)) + length (only_idle (packets_of octets)) ≤ length octets
 packets_within octets =
     let has = each_has_packets octets in

@@ -4,7 +4,7 @@ use Rattle.std.proofs.lemmas.List.{length-replicate, get_or-set_same}
 use Rattle.sl_packet.specs.Delivered.{channel_count, no_lists, with_packet}
 use Rattle.sl_packet.proofs.Filling.{get_or_replicate}
 
--- a store with no packet has an empty list on each channel
+-- a store without packets has a list for each channel
 pub length-no_lists : length no_lists ≡ channel_count
 unfolding no_lists
 length-no_lists = length-replicate {A = List (List ℕ)} channel_count []

@@ -2,7 +2,7 @@
 use Rattle.std.proofs.Common.{◌≡◌, ℕ, zero, suc, ◌+◌, ◌≤◌, List, [], ◌∷◌, ◌++◌, length, take, replicate, get_or, set, refl, sym, ◌∙◌, ap, arith}
 use Rattle.std.proofs.lemmas.List.{take-replicate}
 
--- how often it is filled doesn't show in the first ones
+-- the number of filling elements doesn't change the first elements
 pub take_filled : {X : Type 0} (k : ℕ) (xs : List X) (x : X) (a b : ℕ) → k ≤ length xs + a → k ≤ length xs + b → take k (xs ++ replicate a x) ≡ take k (xs ++ replicate b x)
 take_filled k [] x a b h h' = take-replicate k a x (omega arith) ∙ sym (take-replicate k b x (omega arith))
 take_filled zero (y ∷ xs) x a b h h' = refl

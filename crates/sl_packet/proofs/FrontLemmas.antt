@@ -1,4 +1,4 @@
--- What octets begin with.
+-- The front of octets.
 use Rattle.std.proofs.Common.{◌≡◌, ℕ, ◌+◌, ◌-◌, ◌<◌, ◌≤◌, ◌==◌, ◌&&◌, nat_lt, Bool, true, false, not, if◌then◌else◌, List, [], ◌∷◌, ◌++◌, length, replicate, inl, inr, refl, sym, ◌∙◌, ap, arith, length-append}
 use Rattle.std.proofs.lemmas.Bool.{ltb-false, ltb-true, le-ltb, cases_lt}
 use Rattle.std.proofs.lemmas.Bool.Decides.{nat_tests}
@@ -10,7 +10,7 @@ use Rattle.sl_packet.specs.Front.{OtherVersion, Incomplete, WholePacket, is_fore
 use Rattle.sl_packet.proofs.Filling.{take_filled}
 use Rattle.sl_packet.proofs.PacketLemmas.{version_of-append, stated_packet_len-append, version_of-take, stated_packet_len-take, stated_packet_len-packet, version_of-packet}
 
--- the tests by which a front is told
+-- the tests that decide a front
 whole_tests : (f i : Bool) (n len : ℕ) → (if f then OtherVersion else if i then Incomplete else WholePacket n) ≡ WholePacket len → (f ≡ false) × (i ≡ false) × (n ≡ len)
 whole_tests true i n len h = absurd (cc)
 whole_tests false true n len h = absurd (cc)
@@ -40,7 +40,7 @@ foreign_false n v h some = grind (arith, nat_tests)
 pub not_foreign : (n v : ℕ) → v ≡ 0 → (nat_lt 0 n && not (v == 0)) ≡ false
 not_foreign n v h = grind (arith, nat_tests)
 
--- a whole front is of version 0 and states its length, and so many octets are there
+-- octets with a whole front have version 0, state this length, and are long enough
 pub record IsWholeFront (octets : List ℕ) (n : ℕ) : Type 0 where
   pub version : version_of octets ≡ 0
   pub len : stated_packet_len octets ≡ n
@@ -90,7 +90,7 @@ filled_version : (octets : List ℕ) (k : ℕ) → (0 < length octets → versio
 filled_version [] k version some = ap (λ xs. field 1 0 3 xs) (take-replicate 1 k 0 (omega arith))
 filled_version (x ∷ octets) k version some = version_of-append (x ∷ octets) (replicate k 0) (omega arith) ∙ version (omega arith)
 
--- octets that are fewer than they state are so too where zeros fill the header up
+-- octets that are fewer than they state stay fewer where zeros fill the header up
 still_less : (octets : List ℕ) → length octets < stated_packet_len octets → length octets < stated_packet_len (octets ++ replicate 6 0)
 still_less octets h =
     elim (cases_lt (length octets) 6) [
@@ -98,7 +98,7 @@ still_less octets h =
       | inr header ↦ rw (stated_packet_len-append octets (replicate 6 0) header) h
     ]
 
--- more zeros make the packet whole
+-- some more zeros make the octets a packet
 filled : (octets : List ℕ) (n : ℕ) → (0 < length octets → version_of octets ≡ 0) → n ≡ stated_packet_len (octets ++ replicate 6 0) → length octets < n → IsPacket (octets ++ replicate (n - length octets) 0)
 filled octets n version stated h =
     let more : List ℕ = replicate (n - length octets) 0 in

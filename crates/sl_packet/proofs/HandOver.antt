@@ -1,4 +1,4 @@
--- While packets are handed over.
+-- The loop that hands packets over.
 use Rattle.std.proofs.Common.{◌≡◌, ℕ, ◌+◌, ◌-◌, ◌≤◌, true, false, not, cond, List, [], ◌∷◌, ◌++◌, length, take, drop, Some, None, refl, sym, ◌∙◌, ap, subst, arith, length-append, length-drop, append-nil, append_assoc}
 use Rattle.std.proofs.lemmas.List.Elements.{filter-append}
 use Rattle.std.proofs.lemmas.List.{length-take-le, take-append-drop, take_rest}
@@ -10,7 +10,7 @@ use Rattle.sl_packet.proofs.PacketLemmas.{packet_least}
 use Rattle.sl_packet.proofs.FrontLemmas.{whole_is_a_packet, whole_front}
 use Rattle.sl_packet.proofs.PacketsLemmas.{packets_of-whole, rest_of-whole, packets_of-none, rest_of-none}
 
--- what is found at the front
+-- the packet that is found at the front
 pub record IsFirst (octets packet : List ℕ) : Type 0 where
   pub is : IsPacket packet
   pub packets : packets_of octets ≡ packet ∷ packets_of (drop (length packet) octets)
@@ -48,7 +48,7 @@ none_first octets h = packets_of-none octets (none_at_front (front octets) octet
 pub rest_first : (octets : List ℕ) → first_packet_of octets ≡ None → rest_of octets ≡ octets
 rest_first octets h = rest_of-none octets (none_at_front (front octets) octets h)
 
--- ---- what is due and what is idle
+-- ---- the packets to deliver, and the idle ones
 
 without_idle-idle : (done : List (List ℕ)) (packet : List ℕ) → is_idle_packet packet ≡ true → without_idle (done ++ packet ∷ []) ≡ without_idle done
 without_idle-idle done packet h =
@@ -73,7 +73,7 @@ module _ {S : Type 0} (taking : S → ℕ → List ℕ → S → Type 0) where
       (new, subst P all one, refl)
   TakesAll-push (p ∷ packets) old mid new channel packet all one = (all.0, all.1, TakesAll-push packets all.0 mid new channel packet all.2 one)
 
-  -- some of the packets of the octets are handed over, and these octets are left
+  -- the first packets of the octets are handed over, and the octets `left` are left
   pub record HasHanded (failures : S → ℕ) (old : S) (channel : ℕ) (octets left : List ℕ) (new : S) (packets idle : ℕ) : Type 0 where
     pub done : List (List ℕ)
     pub in_order : packets_of octets ≡ done ++ packets_of left
@@ -84,7 +84,7 @@ module _ {S : Type 0} (taking : S → ℕ → List ℕ → S → Type 0) where
     pub idle_count : idle ≡ length (only_idle done)
     pub room : packets + idle + length left ≤ length octets
 
-  -- all of them are
+  -- all packets of the octets are handed over
   pub record HasHandedAll (old : S) (channel : ℕ) (octets left : List ℕ) (new : S) (due_count idle_count : ℕ) : Type 0 where
     pub accepted : TakesAll taking old channel (without_idle (packets_of octets)) new
     pub packets : due_count ≡ length (without_idle (packets_of octets))
@@ -92,7 +92,7 @@ module _ {S : Type 0} (taking : S → ℕ → List ℕ → S → Type 0) where
     pub rest : left ≡ rest_of octets
 
   module _ (failures : S → ℕ) (old : S) (channel : ℕ) (octets : List ℕ) where
-    -- the octets that are left as the code takes them, with what is equal to the counts
+    -- the same, with the octets that the code has left, and with equal counts
     pub handed_at : (left joined : List ℕ) (n : ℕ) (new last : S) (packets packets' idle idle' : ℕ) → joined ≡ left → last ≡ new → packets' ≡ packets → idle' ≡ idle → HasHanded failures old channel octets (drop n left) new packets idle → HasHanded failures old channel octets (take (length joined - n) (drop n joined)) last packets' idle'
     handed_at left joined n new last packets packets' idle idle' same_left same_sink same_packets same_idle handed =
         rw (same_left, same_sink, same_packets, same_idle, take_rest left n) handed
@@ -141,7 +141,7 @@ module _ {S : Type 0} (taking : S → ℕ → List ℕ → S → Type 0) where
             room = omega (arith, length-drop (length packet) left);
           }
 
-      -- where no packet is left, all are handed over
+      -- where no packet is left, all packets are handed over
       pub handed_all : first_packet_of left ≡ None → HasHandedAll old channel octets left mid packets idle
       handed_all h =
           let none = none_at_front (front left) left h in

@@ -1,4 +1,4 @@
--- The idle packet of so many octets is one.
+-- The idle packet of a given length is an idle packet of this length.
 use Rattle.std.proofs.Common.{◌≡◌, ℕ, ◌+◌, ◌-◌, ◌<◌, ◌≤◌, ◌==◌, nat_lt, true, false, length, take, replicate, refl, sym, ◌∙◌, ap, arith, length-append}
 use Rattle.std.proofs.lemmas.Bool.{and_from, lt-ltb, eq-eqb}
 use Rattle.std.proofs.lemmas.List.{length-replicate, take_at}
@@ -14,7 +14,7 @@ use Rattle.sl_packet.specs.IdlePacket.{idle_packet}
 use Rattle.sl_packet.specs.Packet.{apid_of, is_idle_packet, IsPacket}
 use Rattle.sl_packet.proofs.PacketLemmas.{header_fields}
 
--- its header, which reads back
+-- the idle packet's header, which reads back
 abbrev idle_header : ℕ → PacketFields
 idle_header len =
     record {

@@ -1,4 +1,4 @@
--- The list of a channel among those that are kept, and what each packet in them is.
+-- The list of a channel among the kept lists, and the property of each packet in them.
 use Rattle.std.proofs.Common.{◌≡◌, ℕ, ◌+◌, ◌-◌, max, ◌<◌, ◌≤◌, List, [], ◌∷◌, ◌++◌, length, map, take, replicate, get_or, set, refl, sym, ◌∙◌, ap, subst, arith, length-append, append_assoc}
 use Rattle.std.proofs.lemmas.List.{get_or-map, get_or_past, length-map, map_push, map-set, set-get_or, length-replicate, replicate_more}
 use Rattle.std.specs.List.{AllByRecursion}
@@ -10,7 +10,7 @@ use Rattle.sl_packet.specs.KeptLists.{with_empty_lists, IsGrown}
 use Rattle.sl_packet.proofs.PaddedLemmas.{get_or-with_empty_lists}
 
 module _ {X Y : Type 0} where
-  -- the packets of a vector of them
+  -- the packets that a vector of vectors stands for
   abbrev packets_in : Vec (Vec ℕ X) Y → List (List ℕ)
   packets_in list = map vec_items (vec_items list)
 
@@ -24,7 +24,7 @@ module _ {X Y : Type 0} where
       let after : length (map packets_in kept) ≤ i = omega (arith, ap length same, length-map kept packets_in) in
       sym (get_or-with_empty_lists (map packets_in kept) i fit ∙ get_or_past (map packets_in kept) i [] after)
 
-  -- a list with a packet more, written at its channel
+  -- the lists where a packet was added to one channel's list
   pub packet_added : (items : List (Vec (Vec ℕ X) Y)) (channel : ℕ) (list new : Vec (Vec ℕ X) Y) (value : Vec ℕ X) (packet : List ℕ) → channel < length items → list ≡ get_or items channel list → vec_items new ≡ vec_items list ++ value ∷ [] → vec_items value ≡ packet → map packets_in (set items channel new) ≡ with_packet (map packets_in items) channel packet
   packet_added items channel list new value packet inside is added same =
       let before : packets_in list ≡ get_or (map packets_in items) channel [] = ap packets_in is ∙ sym (get_or-map packets_in items channel list [] inside) in
@@ -32,18 +32,18 @@ module _ {X Y : Type 0} where
       map-set packets_in items channel new
       ∙ ap (λ packets. set (map packets_in items) channel packets) (after ∙ ap (λ packets. packets ++ packet ∷ []) before)
 
-  -- and the same list
+  -- the lists where one channel's list was written back unchanged
   pub nothing_added : (items : List (Vec (Vec ℕ X) Y)) (channel : ℕ) (list new : Vec (Vec ℕ X) Y) → channel < length items → list ≡ get_or items channel list → vec_items new ≡ vec_items list → map packets_in (set items channel new) ≡ map packets_in items
   nothing_added items channel list new inside is same =
       map-set packets_in items channel new
       ∙ ap (λ packets. set (map packets_in items) channel packets) (ap (map vec_items) same ∙ ap packets_in is ∙ sym (get_or-map packets_in items channel list [] inside))
       ∙ set-get_or (map packets_in items) channel []
 
-  -- an empty list after them
+  -- the lists with an empty list added at the end
   pub none_added : (items new : List (Vec (Vec ℕ X) Y)) (list : Vec (Vec ℕ X) Y) → new ≡ items ++ list ∷ [] → vec_items list ≡ [] → map packets_in new ≡ map packets_in items ++ [] ∷ []
   none_added items new list e empty = ap (map packets_in) e ∙ map_push packets_in items list ∙ ap (λ l. map packets_in items ++ map vec_items l ∷ []) empty
 
--- while empty lists are added up to that of a channel
+-- while empty lists are added, up to the list of a channel
 pub record HasReached (old new : List (List (List ℕ))) (channel : ℕ) : Type 0 where
   pub grown : IsGrown old new
   pub no_further : length new ≤ max (length old) (channel + 1)
@@ -60,7 +60,7 @@ reached_more old lists new channel h e before =
       no_further = omega arith;
     }
 
--- ---- what holds of each
+-- ---- the property of each packet
 
 abbrev AllDeliverable : List (List ℕ) → Type 0
 AllDeliverable packets = AllByRecursion IsDeliverable packets
@@ -68,7 +68,7 @@ AllDeliverable packets = AllByRecursion IsDeliverable packets
 pub due_at : (kept : List (List (List ℕ))) (i : ℕ) → length kept ≤ channel_count → AllByRecursion AllDeliverable kept → AllDeliverable (get_or (with_empty_lists kept) i [])
 due_at kept i fit all = subst AllDeliverable (sym (get_or-with_empty_lists kept i fit)) (each-at AllDeliverable kept i [] tt all)
 
--- and so is each of the lists with empty ones after them
+-- each list has the property, the empty lists after the kept ones included
 filled_due : (n k : ℕ) (kept empty lists : List (List (List ℕ))) → empty ≡ replicate k [] → lists ≡ take n (kept ++ empty) → AllByRecursion AllDeliverable kept → AllByRecursion AllDeliverable lists
 filled_due n k kept empty lists none is all =
     let after : AllByRecursion AllDeliverable empty = subst (AllByRecursion AllDeliverable) (sym none) (each-replicate AllDeliverable k [] tt) in

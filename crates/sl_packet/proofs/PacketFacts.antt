@@ -37,7 +37,7 @@ pub record AreIdle : Type 0 where
   pub least : idle_packet 7 ≡ 0x07 ∷ 0xFF ∷ 0xC0 ∷ 0x00 ∷ 0x00 ∷ 0x00 ∷ 0x00 ∷ []
   pub two_octets : is_idle_packet (0x07 ∷ 0xFF ∷ []) ≡ true
   pub one_octet : is_idle_packet (0x07 ∷ []) ≡ false
-  -- the sequence flags, the kind and the version have no part in it
+  -- the sequence flags, the packet type and the version don't matter
   pub segmented : is_idle_packet (0x07 ∷ 0xFF ∷ 0x00 ∷ 0x07 ∷ 0x00 ∷ 0x00 ∷ 0x01 ∷ []) ≡ true
   pub version_one : is_idle_packet (0x2F ∷ 0xFF ∷ []) ≡ true
   pub other_apid : is_idle_packet (0x07 ∷ 0xFE ∷ 0xC0 ∷ 0x00 ∷ []) ≡ false

@@ -1,4 +1,4 @@
--- Packets, and what of them stands in their first octets.
+-- Packets, and the fields in their first octets.
 use Rattle.std.proofs.Common.{◌≡◌, ℕ, ◌+◌, ◌-◌, ◌*◌, ◌/◌, ◌%◌, ◌^◌, ◌<◌, ◌≤◌, List, [], ◌∷◌, ◌++◌, length, take, drop, refl, sym, ◌∙◌, ap, arith, length-append, length-drop}
 use Rattle.std.proofs.Math.Nat.{add-mul, mul_assoc, add_assoc}
 use Rattle.std.proofs.lemmas.List.{take-append-le, take-take, take-append-drop, take_at, length-take}
@@ -9,25 +9,25 @@ use Rattle.sl_fields.specs.Field.{IsOctets, field, number_of}
 use Rattle.sl_fields.specs.PacketHeader.{packet_header}
 use Rattle.sl_packet.specs.Packet.{version_of, stated_packet_len, IsPacket, OnePacketIsPrefix, HeaderFieldsStandFirst}
 
--- a packet has a header and an octet at least
+-- a packet has a header and one octet at least
 pub packet_least : (packet : List ℕ) → IsPacket packet → 7 ≤ length packet
 packet_least packet p = let e = p.len in omega arith
 
--- what more octets follow the version and the header doesn't change them
+-- octets after the version and the header don't change them
 pub version_of-append : (octets more : List ℕ) → 1 ≤ length octets → version_of (octets ++ more) ≡ version_of octets
 version_of-append octets more h = ap (λ xs. field 1 0 3 xs) (take-append-le 1 octets more h)
 
 pub stated_packet_len-append : (octets more : List ℕ) → 6 ≤ length octets → stated_packet_len (octets ++ more) ≡ stated_packet_len octets
 stated_packet_len-append octets more h = ap (λ xs. 7 + (packet_header xs).length) (take-append-le 6 octets more h)
 
--- nor does it matter where octets end after them
+-- the version and the header are the same in the first octets alone
 pub version_of-take : (len : ℕ) (octets : List ℕ) → 1 ≤ len → version_of (take len octets) ≡ version_of octets
 version_of-take len octets h = ap (λ xs. field 1 0 3 xs) (take-take 1 len octets h)
 
 pub stated_packet_len-take : (len : ℕ) (octets : List ℕ) → 6 ≤ len → stated_packet_len (take len octets) ≡ stated_packet_len octets
 stated_packet_len-take len octets h = ap (λ xs. 7 + (packet_header xs).length) (take-take 6 len octets h)
 
--- the octets that begin with a packet state its length
+-- octets that begin with a packet state the packet's length
 pub stated_packet_len-packet : (packet more : List ℕ) → IsPacket packet → stated_packet_len (packet ++ more) ≡ length packet
 stated_packet_len-packet packet more p =
     let least = packet_least packet p in
@@ -45,7 +45,7 @@ one_packet p q p' q' is_p is_q same =
     let long : length p ≡ length q = sym (stated_packet_len-packet p p' is_p) ∙ ap stated_packet_len same ∙ stated_packet_len-packet q q' is_q in
     sym (take_at p p' (length q) long) ∙ ap (λ xs. take (length q) xs) same ∙ take_at q q' (length q) refl
 
--- the high bits of a number of octets are those of the number of its first ones
+-- the number of octets, from the numbers of the first octets and of the later ones
 number_of-append : (xs ys : List ℕ) → number_of (xs ++ ys) ≡ number_of xs * 256 ^ length ys + number_of ys
 number_of-append [] ys = omega arith
 number_of-append (x ∷ xs) ys =
@@ -58,7 +58,7 @@ high_bits xs ys j k each size =
     sym (shr-shr (number_of (xs ++ ys)) j k)
     ∙ ap (λ n. n / 2 ^ k) (rw (number_of-append xs ys, size) (shr_high (number_of xs) j (number_of ys) low))
 
--- a field in the first octets of six is a field of those octets alone
+-- a field in the first octets of six is a field of these first octets alone
 field_in_front : (octets : List ℕ) (i j k width : ℕ) → IsOctets octets → 6 ≤ length octets → i ≤ 6 → 256 ^ (6 - i) ≡ 2 ^ j → number_of (take i octets) / 2 ^ k % 2 ^ width ≡ number_of (take 6 octets) / 2 ^ (j + k) % 2 ^ width
 field_in_front octets i j k width each long inside size =
     let six = take 6 octets in

@@ -12,7 +12,7 @@ packets_from-drop zero octets = refl
 packets_from-drop (suc skip) [] = refl
 packets_from-drop (suc skip) (octet ∷ octets) = packets_from-drop skip octets
 
--- where the front is whole, its packet comes first
+-- where the front is whole, its packet is the first one
 pub packets_of-whole : (octets : List ℕ) (len : ℕ) → front octets ≡ WholePacket len → packets_of octets ≡ take len octets ∷ packets_of (drop len octets)
 packets_of-whole [] len h = absurd (cc)
 packets_of-whole (octet ∷ octets) zero h = absurd (let w = whole_front (octet ∷ octets) zero h in omega arith)
@@ -30,7 +30,7 @@ rest_of-whole octets len h =
     ap (λ packets. drop (length (concat packets)) octets) (packets_of-whole octets len h)
     ∙ ap (λ n. drop n octets) long ∙ sym (drop-drop (length (concat later)) len octets)
 
--- where it isn't whole, there are none
+-- where the front isn't whole, there are no packets
 none_at : (f : Front) (octets after : List ℕ) → ((len : ℕ) → f ≡ WholePacket len → ⊥) → whole_at f octets ++ packets_from (packet_passed f octets) after ≡ packets_from (length octets) after
 none_at OtherVersion octets after h = refl
 none_at Incomplete octets after h = refl
@@ -50,7 +50,7 @@ cases_front OtherVersion = inr (λ len h. cc)
 cases_front Incomplete = inr (λ len h. cc)
 cases_front (WholePacket len) = inl (len, refl)
 
--- a packet and what follows it
+-- the packets of a packet and the octets after it
 pub packets_of-packet : (packet more : List ℕ) → IsPacket packet → packets_of (packet ++ more) ≡ packet ∷ packets_of more
 packets_of-packet packet more p =
     packets_of-whole (packet ++ more) (length packet) (packet_is_whole packet more p)
@@ -62,7 +62,7 @@ rest_of-packet packet more p =
     rest_of-whole (packet ++ more) (length packet) (packet_is_whole packet more p)
     ∙ ap rest_of (drop_at packet more (length packet) refl)
 
--- packets end to end and what follows them
+-- the packets of packets end to end and the octets after them
 pub packets_of-concat : (packets : List (List ℕ)) (more : List ℕ) → AllByRecursion IsPacket packets → packets_of (concat packets ++ more) ≡ packets ++ packets_of more
 packets_of-concat [] more each = refl
 packets_of-concat (packet ∷ packets) more each =

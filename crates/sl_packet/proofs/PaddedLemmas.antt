@@ -1,4 +1,4 @@
--- The lists of packets that are kept, with an empty one for each channel after them.
+-- The kept lists of packets, with an empty list for each channel after them.
 use Rattle.std.proofs.Common.{◌≡◌, ℕ, ◌+◌, ◌-◌, ◌<◌, ◌≤◌, List, [], ◌∷◌, ◌++◌, length, take, replicate, get_or, set, inl, inr, sym, ◌∙◌, ap, arith, append_assoc, length-append}
 use Rattle.std.proofs.lemmas.Bool.{cases_lt}
 use Rattle.std.proofs.lemmas.List.{length-replicate, take-replicate, replicate-append-replicate, set-append_left, get_or-take, get_or_past, length-take, length-take-le}
@@ -6,7 +6,7 @@ use Rattle.sl_packet.specs.Delivered.{channel_count, no_lists, with_packet}
 use Rattle.sl_packet.proofs.Filling.{take_filled, get_or_filled, take_set}
 use Rattle.sl_packet.specs.KeptLists.{with_empty_lists, IsGrown}
 
--- the lists of so many channels
+-- the lists of `n` channels
 
 module _ (n : ℕ) where
   filled : List (List (List ℕ)) → List (List (List ℕ))

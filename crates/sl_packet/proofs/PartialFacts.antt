@@ -1,9 +1,9 @@
--- What known octets want to be a packet, computed from the definition.
+-- The needs of known octets, computed from the definition.
 use Rattle.std.proofs.Common.{◌≡◌, [], ◌∷◌, ◌++◌, List, ℕ, refl}
 use Rattle.sl_packet.specs.Partial.{need_of}
 use Rattle.sl_packet.specs.declared.partial.Need.TheVariants.{Foreign, Header, Octets, Whole}
 
--- the header and the first octet of data of a telemetry packet of APID 1, and its other three octets
+-- a telemetry packet of APID 1 in two parts: its header and first octet of data, and its other three octets
 abbrev front_part : List ℕ
 front_part = 0x00 ∷ 0x01 ∷ 0xC0 ∷ 0x00 ∷ 0x00 ∷ 0x03 ∷ 0xAA ∷ []
 
@@ -18,7 +18,7 @@ pub record AreNeeds : Type 0 where
   pub header : need_of (0x00 ∷ 0x01 ∷ 0xC0 ∷ 0x00 ∷ 0x00 ∷ 0x03 ∷ []) ≡ Octets 4
   pub one_octet_of_data : need_of front_part ≡ Octets 3
   pub whole : need_of (front_part ++ other_part) ≡ Whole 10
-  -- what follows a packet isn't its own
+  -- octets after a packet don't belong to it
   pub more : need_of (front_part ++ other_part ++ 0x20 ∷ []) ≡ Whole 10
 
 pub needs : AreNeeds

@@ -1,4 +1,4 @@
--- The handing over of packets to a sink, list after list.
+-- Packets are handed over to a sink, list after list.
 use Rattle.std.proofs.Common.{◌≡◌, ℕ, ◌+◌, List, [], ◌∷◌, ◌++◌, length, Result, Ok, Err, OnErr, sym, ◌∙◌, ap, ap₂, append_assoc, length-append, subst}
 use Rattle.sl_packet.specs.Packets.{only_idle, without_idle}
 use Rattle.sl_packet.specs.Sink.{TakesAll, one_more}
@@ -8,19 +8,19 @@ use Rattle.sl_packet.specs.declared.sink.SinkFault.{SinkFault}
 use Rattle.sl_packet.specs.Stopping.{CountsFault, HandsOver, IsStopped}
 use Rattle.sl_packet.proofs.WithoutIdleLemmas.{only_idle-append, without_idle-append}
 
--- what holds where there is an error, too
+-- a proposition that holds anyway also holds at an error
 pub on_err : {A E : Type 0} (r : Result A E) (P : Type 0) → P → OnErr r P
 on_err (Ok a) P p = tt
 on_err (Err e) P p = p
 
 module _ {S : Type 0} (taking : S → ℕ → List ℕ → S → Type 0) where
-  -- one list after another is all of them
+  -- two lists that are taken one after another are taken as one list
   takes_both : (xs ys : List (List ℕ)) (old mid new : S) (channel : ℕ) → TakesAll taking old channel xs mid → TakesAll taking mid channel ys new → TakesAll taking old channel (xs ++ ys) new
   takes_both [] ys old mid new channel first second = subst (λ s. TakesAll taking s channel ys new) first second
   takes_both (x ∷ xs) ys old mid new channel first second = (first.0, first.1, takes_both xs ys first.0 mid new channel first.2 second)
 
   module _ (failing : S → ℕ → List ℕ → SinkFault → S → Type 0) (failures : S → ℕ) where
-    -- it stopped in the first list,
+    -- the handing over of two lists stops in the first list
     stops_before : (xs ys : List (List ℕ)) (old new : S) (channel : ℕ) (flow : FlowFault) → IsStopped taking failing failures old channel xs flow new → IsStopped taking failing failures old channel (xs ++ ys) flow new
     stops_before xs ys old new channel Memory s = (
       record {
@@ -45,7 +45,7 @@ module _ {S : Type 0} (taking : S → ℕ → List ℕ → S → Type 0) where
     )
     stops_before xs ys old new channel Failed s = absurd s
 
-    -- or in the second, after all of the first
+    -- the handing over of two lists stops in the second list, after all of the first
     stops_after : (xs ys : List (List ℕ)) (old mid new : S) (channel : ℕ) (flow : FlowFault) → TakesAll taking old channel xs mid → failures mid ≡ failures old
         → IsStopped taking failing failures mid channel ys flow new → IsStopped taking failing failures old channel (xs ++ ys) flow new
     stops_after xs ys old mid new channel Memory first kept s = (
@@ -71,7 +71,7 @@ module _ {S : Type 0} (taking : S → ℕ → List ℕ → S → Type 0) where
     )
     stops_after xs ys old mid new channel Failed first kept s = absurd s
 
-    -- and its fault is counted
+    -- the sink counts the fault at which the handing over stops
     pub counts_stopped : (old : S) (channel : ℕ) (packets : List (List ℕ)) (flow : FlowFault) (new : S) → IsStopped taking failing failures old channel packets flow new
         → CountsFault failures old flow new
     counts_stopped old channel packets Memory new s = s.1
@@ -81,14 +81,14 @@ module _ {S : Type 0} (taking : S → ℕ → List ℕ → S → Type 0) where
 -- ---- steps that hand over the packets that end with them
 
 module _ {S X : Type 0} {taking : S → ℕ → List ℕ → S → Type 0} {failing : S → ℕ → List ℕ → SinkFault → S → Type 0} {failures : S → ℕ} {counts : X → ℕ × ℕ} where
-  -- the same, of an equal channel and of equal packets
+  -- the record for an equal channel and equal packets
   pub hands_same : {old new : S} {channel channel' : ℕ} {xs xs' : List (List ℕ)} {result : Result X FlowFault} → channel ≡ channel' → xs ≡ xs'
       → HandsOver taking failing failures counts old channel xs result new → HandsOver taking failing failures counts old channel' xs' result new
   hands_same {old} {new} {channel} {channel'} {xs} {xs'} {result} same same' h =
       subst (λ n. HandsOver taking failing failures counts old n xs' result new) same
       (subst (λ l. HandsOver taking failing failures counts old channel l result new) same' h)
 
-  -- one step and then another is a step of the packets of both,
+  -- two steps one after another are a step of the packets of both
   pub hands_both : {old mid new : S} {channel : ℕ} {xs ys : List (List ℕ)} {first second both : X}
       → (counts both).0 ≡ (counts first).0 + (counts second).0 → (counts both).1 ≡ (counts first).1 + (counts second).1
       → HandsOver taking failing failures counts old channel xs (Ok first) mid → HandsOver taking failing failures counts mid channel ys (Ok second) new
@@ -103,7 +103,7 @@ module _ {S X : Type 0} {taking : S → ℕ → List ℕ → S → Type 0} {fail
         stopped = tt;
       }
 
-  -- which stops where the first one does,
+  -- two steps stop where the first one does
   pub hands_first : {old new : S} {channel : ℕ} {xs : List (List ℕ)} (ys : List (List ℕ)) {flow : FlowFault}
       → HandsOver taking failing failures counts old channel xs (Err flow) new → HandsOver taking failing failures counts old channel (xs ++ ys) (Err flow) new
   hands_first {old} {new} {channel} {xs} ys {flow} f =
@@ -116,7 +116,7 @@ module _ {S X : Type 0} {taking : S → ℕ → List ℕ → S → Type 0} {fail
             (stops_before taking failing failures (without_idle xs) (without_idle ys) old new channel flow f.stopped);
       }
 
-  -- or where the second one does, after all of the first
+  -- two steps stop where the second one does, after all packets of the first
   pub hands_second : {old mid new : S} {channel : ℕ} {xs ys : List (List ℕ)} {first : X} {flow : FlowFault}
       → HandsOver taking failing failures counts old channel xs (Ok first) mid → HandsOver taking failing failures counts mid channel ys (Err flow) new
       → HandsOver taking failing failures counts old channel (xs ++ ys) (Err flow) new

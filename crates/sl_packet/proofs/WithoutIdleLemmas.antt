@@ -1,4 +1,4 @@
--- Packets, idle ones left out, and idle ones alone.
+-- Packets without the idle ones, and the idle ones alone.
 use Rattle.std.proofs.Common.{◌≡◌, Bool, true, false, not, cond, ℕ, List, [], ◌∷◌, ◌++◌, refl}
 use Rattle.std.specs.List.{AllByRecursion}
 use Rattle.std.proofs.lemmas.List.Elements.{filter-append}
@@ -18,12 +18,12 @@ without_idle-append xs ys = filter-append (λ packet. not (is_idle_packet packet
 pub only_idle-append : (xs ys : List (List ℕ)) → only_idle (xs ++ ys) ≡ only_idle xs ++ only_idle ys
 only_idle-append xs ys = filter-append is_idle_packet xs ys
 
--- they may be delivered,
+-- packets without the idle ones may be delivered
 pub without_idle_due : (packets : List (List ℕ)) → AllByRecursion IsPacket packets → AllByRecursion IsDeliverable (without_idle packets)
 without_idle_due [] each = tt
 without_idle_due (packet ∷ packets) each =
     next_due packet (without_idle packets) (is_idle_packet packet) refl each.0 (without_idle_due packets each.1)
 
--- and what may be are packets
+-- deliverable lists are lists of packets
 pub due_packets : (packets : List (List ℕ)) → AllByRecursion IsDeliverable packets → AllByRecursion IsPacket packets
 due_packets packets each = each-weaker IsDeliverable IsPacket (λ packet is. is.0) packets each

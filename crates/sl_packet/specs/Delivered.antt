@@ -1,4 +1,4 @@
--- Delivered packets: a list for each channel, how often one was refused, and the lists that memory was taken for.
+-- Delivered packets: a list for each channel, the count of refused packets, and the memory for lists.
 use Rattle.std.specs.Prelude.{◌≡◌, ◌≢◌, ℕ, ◌<◌, ◌≤◌, List, [], ◌∷◌, ◌++◌, replicate, false}
 use Rattle.std.specs.List.{slice_index_or, slice_set}
 use Rattle.sl_packet.specs.Packet.{IsPacket, is_idle_packet}
@@ -22,29 +22,29 @@ list_at d channel = slice_index_or d.lists channel []
 abbrev pub with_packet : List (List (List ℕ)) → ℕ → List ℕ → List (List (List ℕ))
 with_packet lists channel packet = slice_set lists channel (slice_index_or lists channel [] ++ packet ∷ [])
 
--- a packet was added to the list of its channel, and the other lists were left
+-- the packet was added to the end of its channel's list, and the other lists stay
 abbrev pub AddsPacket : PacketLists → ℕ → List ℕ → PacketLists → Type 0
 AddsPacket old channel packet new = new.lists ≡ with_packet old.lists channel packet
 
--- the lists of a store that has none yet
+-- the lists of a store without packets
 unfoldable pub no_lists : List (List (List ℕ))
 no_lists = replicate channel_count []
 
--- a packet that may be delivered
+-- a packet that may be delivered: a packet that isn't idle
 abbrev pub IsDeliverable : List ℕ → Type 0
 IsDeliverable packet = IsPacket packet × (is_idle_packet packet ≡ false)
 
--- no channel from one on up to another has packets
+-- no channel from `from` to the one before `to` has packets
 abbrev pub HasNone : PacketLists → ℕ → ℕ → Type 0
 HasNone d from to = (channel : ℕ) → from ≤ channel → channel < to → list_at d channel ≡ []
 
--- the least channel from one on that has packets
+-- the least channel with packets, from `from` on
 pub record IsLeast (d : PacketLists) (from channel : ℕ) : Type 0 where
   pub after : from ≤ channel
   pub inside : channel < channel_count
   pub some : list_at d channel ≢ []
   pub least : HasNone d from channel
 
--- no packets but on the virtual channels of telemetry, 0 to 7
+-- only the virtual channels of TM frames, 0 to 7, have packets
 abbrev pub FitsTm : PacketLists → Type 0
 FitsTm d = HasNone d 8 channel_count

@@ -1,4 +1,4 @@
--- A `Delivered` is its lists. Lists beyond the last one that is kept are empty.
+-- A `Delivered` stands for its lists. The lists beyond the last one that is kept are empty.
 use Rattle.std.specs.Prelude.{ℕ, ◌≤◌, List, length}
 use Rattle.std.specs.List.{AllByRecursion}
 use Rattle.std.specs.Vec.{vec_capacity}

@@ -1,4 +1,4 @@
--- What octets begin with: a space packet, CCSDS 133.0-B, or less, or something else.
+-- What octets begin with: a space packet, CCSDS 133.0-B, or a part of one, or something else.
 use Rattle.std.specs.Prelude.{◌≡◌, ℕ, ◌≤◌, ◌==◌, ◌&&◌, nat_lt, Bool, not, if◌then◌else◌, List, ◌++◌, length, take, Option, None, Some}
 use Rattle.sl_packet.specs.Packet.{version_of, stated_packet_len, IsPacket}
 
@@ -7,13 +7,14 @@ pub data Front : Type 0 where
   OtherVersion : Front
   -- a packet of version 0 may begin here, but isn't there whole
   Incomplete : Front
-  -- a packet of so many octets
+  -- a packet of this number of octets
   WholePacket : (len : ℕ) → Front
 
+-- whether there is a first octet, and it has another version than 0
 abbrev pub is_foreign : List ℕ → Bool
 is_foreign octets = nat_lt 0 (length octets) && not (version_of octets == 0)
 
--- Fewer than six octets are no header, but then they are also fewer than any header states.
+-- The front of octets. Fewer than six octets are no header; they are also fewer than any header states.
 abbrev pub front : List ℕ → Front
 front octets =
     if is_foreign octets then OtherVersion
@@ -26,24 +27,24 @@ packet_at OtherVersion octets = None
 packet_at Incomplete octets = None
 packet_at (WholePacket len) octets = Some (take len octets)
 
--- the packet that octets begin with
+-- the packet at the front of octets
 abbrev pub first_packet_of : List ℕ → Option (List ℕ)
 first_packet_of octets = packet_at (front octets) octets
 
 -- ---- laws
 
--- where a front is whole, the octets begin with a packet,
+-- Octets with a whole front begin with a packet.
 abbrev pub WholeIsAPacket : Type 0
 WholeIsAPacket = (octets : List ℕ) (len : ℕ) → front octets ≡ WholePacket len → IsPacket (take len octets) × (len ≤ length octets)
 
--- and they do so only there
+-- Octets that begin with a packet have a whole front.
 abbrev pub APacketIsWhole : Type 0
 APacketIsWhole = (packet more : List ℕ) → IsPacket packet → front (packet ++ more) ≡ WholePacket (length packet)
 
--- octets of another version begin no packet, whatever follows
+-- Octets of another version begin no packet, whatever follows.
 abbrev pub ForeignIsNoPacket : Type 0
 ForeignIsNoPacket = (octets more packet rest : List ℕ) → front octets ≡ OtherVersion → octets ++ more ≡ packet ++ rest → IsPacket packet → ⊥
 
--- where a front is incomplete, some octets more make it a packet
+-- Octets with an incomplete front become a packet with some further octets.
 abbrev pub IncompleteMayBecomeWhole : Type 0
 IncompleteMayBecomeWhole = (octets : List ℕ) → front octets ≡ Incomplete → (more : List ℕ) × IsPacket (octets ++ more)

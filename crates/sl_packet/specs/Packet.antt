@@ -1,4 +1,4 @@
--- The space packet, CCSDS 133.0-B: what one is, and whether it is idle.
+-- The space packet, CCSDS 133.0-B: what a packet is, and whether it is idle.
 use Rattle.std.specs.Prelude.{◌≡◌, ℕ, ◌+◌, ◌≤◌, ◌==◌, ◌&&◌, nat_lt, Bool, List, [], ◌++◌, length, take}
 use Rattle.sl_fields.specs.Field.{IsOctets, field}
 use Rattle.sl_fields.specs.PacketHeader.{packet_header}
@@ -11,8 +11,8 @@ version_of octets = field 1 0 3 (take 1 octets)
 abbrev pub apid_of : List ℕ → ℕ
 apid_of octets = field 2 5 11 (take 2 octets)
 
--- How many octets a packet with this header has: six of the header, and one more than the packet data length says. Of
--- fewer than six octets it is what their number states; a packet has more.
+-- The length of a packet with this header: six octets of the header, and one more than the packet data length. Fewer
+-- than six octets state their number, read as a header; a packet is always longer than that.
 abbrev pub stated_packet_len : List ℕ → ℕ
 stated_packet_len octets = 7 + (packet_header (take 6 octets)).length
 
@@ -21,22 +21,22 @@ pub record IsPacket (packet : List ℕ) : Type 0 where
   pub version : version_of packet ≡ 0
   pub len : length packet ≡ stated_packet_len packet
 
--- Octets, two or more, are of an idle packet where the APID is 2047. No other field decides this.
+-- Two octets or more begin an idle packet where their APID is 2047. No other field decides this.
 abbrev pub is_idle_packet : List ℕ → Bool
 is_idle_packet octets = nat_lt 1 (length octets) && (apid_of octets == 2047)
 
 -- ---- laws
 
--- no packet is a proper prefix of another
+-- No packet is a proper prefix of another packet.
 abbrev pub PacketsArePrefixFree : Type 0
 PacketsArePrefixFree = (packet more : List ℕ) → IsPacket packet → IsPacket (packet ++ more) → more ≡ []
 
--- at most one packet is a prefix of given octets
+-- At most one packet is a prefix of given octets.
 abbrev pub OnePacketIsPrefix : Type 0
 OnePacketIsPrefix =
     (p q p' q' : List ℕ) → IsPacket p → IsPacket q → p ++ p' ≡ q ++ q' → p ≡ q
 
--- the version and the APID are fields of the primary header
+-- The version and the APID are fields of the primary header.
 abbrev pub HeaderFieldsStandFirst : Type 0
 HeaderFieldsStandFirst =
     (octets : List ℕ) → IsOctets octets → 6 ≤ length octets

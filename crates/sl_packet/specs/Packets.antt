@@ -6,70 +6,71 @@ use Rattle.std.specs.List.{AllByRecursion, concat, filter}
 use Rattle.sl_packet.specs.Packet.{IsPacket, is_idle_packet}
 use Rattle.sl_packet.specs.Front.{Front, OtherVersion, Incomplete, WholePacket, front, first_packet_of}
 
--- ---- what they are
+-- ---- the packets at the front
 
--- The packets of octets lie end to end from the first octet on, up to the first offset at which no
--- packet begins. The octets from there on are left.
+-- The packets at the front of octets: they lie end to end from the first octet on, up to the first offset at which no
+-- packet begins. The octets from this offset on are left.
 pub record ArePacketsOf (octets : List ℕ) (packets : List (List ℕ)) (rest : List ℕ) : Type 0 where
   pub end_to_end : octets ≡ concat packets ++ rest
   pub each : AllByRecursion IsPacket packets
   pub no_more : (packet more : List ℕ) → IsPacket packet → rest ≡ packet ++ more → ⊥
 
--- ---- the same, as functions of the octets
+-- ---- the packets at the front, as functions of the octets
 
--- The law `octets_have_packets` says that `packets_of` and `rest_of` are the packets and what is left, and that there
--- are no others; `front_packets_are_longest`, that no list of packets end to end at the front is longer.
+-- The law `octets_have_packets` says that `packets_of` and `rest_of` are the packets and the octets that are left,
+-- and that there are no others. The law `front_packets_are_longest` says that no list of packets end to end at the
+-- front is longer.
 
--- the packet of a front, as a list of one or of none
+-- the packet of a front, as a list of one or none
 abbrev pub whole_at : Front → List ℕ → List (List ℕ)
 whole_at OtherVersion octets = []
 whole_at Incomplete octets = []
 whole_at (WholePacket len) octets = take len octets ∷ []
 
--- how many of the later octets are passed over: those of the packet, or all
+-- how many octets after the first one are passed over: the rest of the packet, or all
 abbrev pub packet_passed : Front → List ℕ → ℕ
 packet_passed OtherVersion octets = length octets
 packet_passed Incomplete octets = length octets
 packet_passed (WholePacket len) octets = len - 1
 
--- the packets from the front on, after so many octets that belong to the packet before
+-- the packets from the front on, after `skip` octets that belong to the packet before
 abbrev pub packets_from : ℕ → List ℕ → List (List ℕ)
 packets_from skip [] = []
 packets_from (suc skip) (octet ∷ octets) = packets_from skip octets
 packets_from zero (octet ∷ octets) =
     whole_at (front (octet ∷ octets)) (octet ∷ octets) ++ packets_from (packet_passed (front (octet ∷ octets)) (octet ∷ octets)) octets
 
--- the packets of octets
+-- the packets at the front of octets
 abbrev pub packets_of : List ℕ → List (List ℕ)
 packets_of octets = packets_from 0 octets
 
--- what is left of the octets after their packets
+-- the octets that are left after the packets
 abbrev pub rest_of : List ℕ → List ℕ
 rest_of octets = drop (length (concat (packets_of octets))) octets
 
 -- ---- idle packets among them
 
--- those that are idle
+-- the idle packets among packets
 abbrev pub only_idle : List (List ℕ) → List (List ℕ)
 only_idle packets = filter is_idle_packet packets
 
--- those that are not
+-- packets without the idle ones
 abbrev pub without_idle : List (List ℕ) → List (List ℕ)
 without_idle packets = filter (λ packet. not (is_idle_packet packet)) packets
 
 -- ---- laws
 
--- these are the packets and what is left,
+-- The functions give the packets at the front, and the octets that are left.
 abbrev pub EachHasPackets : Type 0
 EachHasPackets = (octets : List ℕ) → ArePacketsOf octets (packets_of octets) (rest_of octets)
 
--- and no others
+-- No other packets and octets are the packets at the front and the octets that are left.
 abbrev pub HasPacketsOnce : Type 0
 HasPacketsOnce =
     (octets : List ℕ) (packets : List (List ℕ)) (rest : List ℕ) → ArePacketsOf octets packets rest
     → (packets_of octets ≡ packets) × (rest_of octets ≡ rest)
 
--- Every list of packets whose octets, end to end, are a prefix of these octets is a prefix of their packets.
+-- Every list of packets that are end to end a prefix of the octets is a prefix of the octets' packets.
 abbrev pub OthersArePrefixes : Type 0
 OthersArePrefixes =
     (octets more : List ℕ) (others : List (List ℕ)) → octets ≡ concat others ++ more → AllByRecursion IsPacket others
@@ -77,17 +78,19 @@ OthersArePrefixes =
 
 -- ---- one after another
 
--- the packets of what was left are this one and those of what is left now; or there are none, before and after
+-- The packets before are the given packet and then the packets now. Or none is given, and there are none before and
+-- now.
 abbrev pub GivesFirst : List ℕ → Option (Bor (List ℕ)) → List ℕ → Type 0
 GivesFirst = YieldsFirstBy (λ packet. packet.now) packets_of
 
--- The packet that the octets begin with is given, and what follows it is left; or none is given, and all are left. A
--- `Bor` is octets that are lent, and `now` what they are. `IfSome` speaks of what is given, `IfNone` of nothing given.
+-- The packet at the front of the octets is given, and the octets after it are left. Or none is given, and all octets
+-- are left. A `Bor` is octets that are lent, and `now` says which. `IfSome` speaks of a given packet, `IfNone` of
+-- none.
 pub record GivesPacket (old : List ℕ) (given : Option (Bor (List ℕ))) (new : List ℕ) : Type 0 where
   pub packets : GivesFirst old given new
   pub first : option_map (λ packet. packet.now) given ≡ first_packet_of old
   pub taken : IfSome given (λ packet. old ≡ packet.now ++ new)
   pub unchanged : IfNone given (new ≡ old)
-  -- what is left in the end is the same, and where none is given it is what is left now
+  -- the octets that are left in the end stay the same, and where none is given they are the octets that are left now
   pub same_rest : rest_of new ≡ rest_of old
   pub all_given : IfNone given (new ≡ rest_of old)

@@ -1,4 +1,4 @@
--- A `Packets` is the octets that are left.
+-- A `Packets` stands for the octets that are left.
 use Rattle.std.specs.Prelude.{ℕ, List}
 use Rattle.sl_packet.specs.declared.packets.Packets.TheInside.{Inside}
 

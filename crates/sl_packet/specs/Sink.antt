@@ -1,8 +1,8 @@
--- What a sink of packets does, one by one and list by list.
+-- What a sink does with packets, one by one and list by list.
 use Rattle.std.specs.Prelude.{◌≡◌, ℕ, ◌+◌, ◌-◌, ◌^◌, min, List, [], ◌∷◌, ◌++◌}
 use Rattle.sl_packet.specs.declared.sink.SinkFault.{SinkFault}
 
--- a count stops at the greatest number that it can be
+-- one more, up to the greatest number that a count can be
 abbrev pub one_more : ℕ → ℕ
 one_more count = min (count + 1) (2 ^ 64 - 1)
 
@@ -12,7 +12,7 @@ module _ {S : Type 0} (taking : S → ℕ → List ℕ → S → Type 0) where
   TakesAll old channel [] new = new ≡ old
   TakesAll old channel (packet ∷ packets) new = (mid : S) × taking old channel packet mid × TakesAll mid channel packets new
 
-  -- some were accepted, and the next one was refused
+  -- the first packets were accepted, and the next one was refused
   pub record StopsTaking (failing : S → ℕ → List ℕ → SinkFault → S → Type 0) (old : S) (channel : ℕ) (packets : List (List ℕ)) (fault : SinkFault) (new : S) : Type 0 where
     pub accepted : List (List ℕ)
     pub refused : List ℕ

@@ -1,4 +1,4 @@
-//! Delivered packets, kept.
+//! Delivered packets that are kept.
 ghost use Rattle.std.specs.Prelude.{◌≡◌, ◌≤◌, ◌<◌, ◌+◌, max, [], map, length, IfSome, IfNone, IsTrue, ◌↔◌, OnOk, OnErr};
 ghost use Rattle.std.specs.List.{AllByRecursion};
 ghost use Rattle.std.specs.Vec.{vec_items, vec_len};
@@ -9,7 +9,11 @@ use crate::sink::{PacketSink, SinkFault};
 use std::alloc::{AllocError, Global};
 use std::marker::Model;
 
-/// The packets that were delivered on each channel from 0 to 4095, in order. None of them is idle.
+/// The delivered space packets (CCSDS 133.0-B) of each channel from 0 to 4095, in the order of their
+/// delivery. None of them is idle.
+///
+/// As a [`PacketSink`] the store adds a packet to the end of the channel's list. The store refuses a packet
+/// only with [`Memory`](SinkFault::Memory), and then all lists stay as they were.
 #[derive(Debug, Drop)]
 pub struct Delivered {
     alloc: Global,
@@ -30,7 +34,7 @@ impl Model for Delivered {
 }
 
 impl Delivered {
-    /// No packet on any channel. It takes memory only as packets come.
+    /// A store without a packet on any channel. It takes memory only as packets come.
     pub fn new(alloc: Global) -> Delivered
         ensures lists { result.lists ≡ no_lists }
         ensures failures { result.failures ≡ 0 }
@@ -43,7 +47,7 @@ impl Delivered {
         }
     }
 
-    /// The packets of a channel; none above 4095.
+    /// The packets of a channel, in the order of their delivery. The list is empty for a channel above 4095.
     pub fn list(&self, channel: u16) -> &[Vec<u8>]
         ensures packets { map vec_items result.now ≡ list_at self.now channel }
         ensures none_above { 4095 < channel → list_at self.now channel ≡ [] }
@@ -57,7 +61,8 @@ impl Delivered {
         }
     }
 
-    /// The least channel from this one to 4095 that has packets.
+    /// The least channel with packets, from `channel` to 4095. `None` exactly where none of these channels
+    /// has packets.
     pub fn at_or_above(&self, channel: u16) -> Option<u16>
         ensures some { IfSome result (λ least. IsLeast self.now channel least) }
         ensures none { IfNone result (HasNone self.now channel channel_count) }
@@ -70,7 +75,8 @@ impl Delivered {
         None
     }
 
-    /// Whether no channel from 8 to 4095 has packets, so that each is on a virtual channel of telemetry, 0 to 7.
+    /// Whether no channel from 8 to 4095 has packets. Each packet is then on a virtual channel of TM frames,
+    /// 0 to 7.
     pub fn fits_tm(&self) -> bool
         ensures { IsTrue result ↔ FitsTm self.now }
     {
@@ -97,7 +103,7 @@ impl PacketSink for Delivered {
     }
 }
 
-// Adds a packet to the list of a channel.
+// Adds a packet to the list of a channel. Where memory is refused, all lists stay as they were.
 fn add(
     alloc: Global,
     lists: &mut Vec<Vec<Vec<u8>>>,
@@ -121,7 +127,7 @@ fn add(
     Ok(())
 }
 
-// Adds empty lists up to that of a channel.
+// Adds empty lists, up to the list of a channel.
 fn reach(alloc: Global, lists: &mut Vec<Vec<Vec<u8>>>, channel: usize) -> Result<(), AllocError>
     ensures reached { OnOk result (channel < vec_len lists.new) }
     ensures grown { IsGrown (lists_in lists.old) (lists_in lists.new) }

@@ -1,4 +1,4 @@
-//! Why the flow of packets to a sink stopped.
+//! Why the delivery of packets to a sink stopped.
 
 use crate::sink::SinkFault;
 use thiserror::Error;
@@ -9,10 +9,10 @@ pub enum FlowFault {
     /// Memory was refused.
     #[error("memory")]
     Memory,
-    /// The sink refused a packet.
+    /// The sink refused a packet, for this reason.
     #[error("sink: {0}")]
     Sink(SinkFault),
-    /// An earlier call failed.
+    /// An earlier call stopped with `Memory` or `Sink`.
     #[error("failed")]
     Failed,
 }

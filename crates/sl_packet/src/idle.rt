@@ -12,7 +12,8 @@ use std::alloc::AllocError;
 /// The APID of idle packets.
 const IDLE: u16 = 2047;
 
-/// Whether there are two octets or more and their APID is 2047, as in an idle packet.
+/// Whether the octets begin like an idle packet (CCSDS 133.0-B): there are two octets or more, and their APID
+/// is 2047. No other field is looked at.
 pub fn is_idle(octets: &[u8]) -> bool
     ensures { result ≡ is_idle_packet octets.now }
 {
@@ -22,14 +23,16 @@ pub fn is_idle(octets: &[u8]) -> bool
     }
 }
 
-/// Adds an idle packet of `len` octets, 7 to 65,542: telemetry, unsegmented, with count 0 and zeros as its
-/// data. It leaves `out` as it was where memory is refused.
+/// Adds an idle packet of `len` octets, 7 to 65,542. The packet is telemetry, unsegmented and without a
+/// secondary header, and has count 0 and zeros as its data. These values are this project's choice.
+///
+/// Memory is refused only where the capacity of `out` has no room for the packet. `out` is then as it was.
 pub fn push_idle(out: &mut Vec<u8>, len: u32) -> Result<(), AllocError>
     requires least { 7 ≤ len }
     requires most { len ≤ 65542 }
     ensures added { OnOk result (out.new.items ≡ out.old.items ++ idle_packet len) }
     ensures unchanged { OnErr result (out.new.items ≡ out.old.items) }
-    // Memory is refused only where there was no room for the packet.
+    // Memory is refused only where `out` had no room for the packet.
     ensures full { OnErr result (vec_capacity out.old < vec_len out.old + len) }
     ensures capacity { vec_capacity out.old ≤ vec_capacity out.new }
 {
@@ -40,7 +43,7 @@ pub fn push_idle(out: &mut Vec<u8>, len: u32) -> Result<(), AllocError>
     out.resize(end, 0)
 }
 
-// The header of an idle packet with this length field.
+// The header of an idle packet with this packet data length.
 fn idle_header(length: u16) -> [u8; 6]
     ensures { result ≡ octets_of 6 (idle_fields (length + 7)) }
 {

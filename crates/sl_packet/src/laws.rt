@@ -1,4 +1,4 @@
-//! What holds of the definitions alone. Each function does nothing; its clauses are the laws.
+//! The laws on this crate's definitions. Each function is empty; its clauses are the laws.
 ghost use Rattle.sl_packet.specs.Front.{WholeIsAPacket, APacketIsWhole, ForeignIsNoPacket, IncompleteMayBecomeWhole};
 ghost use Rattle.sl_packet.specs.IdlePacket.{IdlePacketsAreIdle};
 ghost use Rattle.sl_packet.specs.Packet.{PacketsArePrefixFree, OnePacketIsPrefix, HeaderFieldsStandFirst};
@@ -11,13 +11,15 @@ pub fn packets_are_prefix_free()
     ensures one { OnePacketIsPrefix }
 {}
 
-/// The version and the APID, which are read from the first two octets, are those of the primary header.
+/// The version and the APID are fields of the primary header, although they are read from the first two
+/// octets alone.
 pub fn header_fields_stand_first()
     ensures { HeaderFieldsStandFirst }
 {}
 
-/// What octets begin with: a packet where the front is whole, and none, whatever follows, where it is
-/// foreign. Where it is incomplete, some octets more make it a packet.
+/// The front of octets decides which packet they begin with. With a whole front the octets begin with a
+/// packet, and only then. With a foreign front no packet begins here, whatever follows. With an incomplete
+/// front some further octets make a packet.
 pub fn fronts_tell_packets()
     ensures whole { WholeIsAPacket }
     ensures only_whole { APacketIsWhole }
@@ -25,8 +27,8 @@ pub fn fronts_tell_packets()
     ensures incomplete { IncompleteMayBecomeWhole }
 {}
 
-/// What octets want is what their front is: they are foreign or whole where it is. The octets that are
-/// wanted fill the header up, or make a packet of the octets, whichever they are.
+/// The need of octets agrees with their front: the need is foreign or whole exactly where the front is. The
+/// wanted octets complete the header, or complete the packet whatever their values are.
 pub fn needs_tell_packets()
     ensures foreign { ForeignIsForeign }
     ensures whole { WholeIsWhole }
@@ -34,19 +36,19 @@ pub fn needs_tell_packets()
     ensures octets { OctetsMakeAPacket }
 {}
 
-/// Octets begin with packets that lie end to end, up to the first offset at which none begins, in one way.
+/// Octets begin with packets end to end, up to the first offset at which no packet begins, in one way.
 pub fn octets_have_packets()
     ensures each { EachHasPackets }
     ensures once { HasPacketsOnce }
 {}
 
-/// The list of these packets is the longest: every list of packets whose octets, end to end, are a prefix of the
-/// octets is a prefix of that list.
+/// The list of the packets at the front is the longest. Every list of packets that are end to end a prefix of
+/// the octets is a prefix of this list.
 pub fn front_packets_are_longest()
     ensures { OthersArePrefixes }
 {}
 
-/// The idle packet of 7 to 65,542 octets is a packet, idle, and of that length.
+/// The idle packet of 7 to 65,542 octets is a packet, is idle, and has this length.
 pub fn idle_packets_are_idle()
     ensures { IdlePacketsAreIdle }
 {}

@@ -1,8 +1,8 @@
-//! Space packets of CCSDS 133.0-B: how they are found at the front of octets, where they go, and how
-//! they are kept.
+//! Space packets of CCSDS 133.0-B: how packets are found at the front of octets, how they are handed to a
+//! sink, and how they are kept.
 //!
-//! A packet is told by its version and its length alone. No packet is a proper prefix of another
-//! ([`laws`]), so octets begin with at most one packet. What a packet carries isn't looked at.
+//! The version and the length alone decide what a packet is; what a packet carries isn't looked at. No packet
+//! is a proper prefix of another packet ([`laws`]), so octets begin with at most one packet.
 #![tactic(auto)]
 
 mod delivered;

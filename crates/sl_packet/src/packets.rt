@@ -1,4 +1,4 @@
-//! The packets that lie end to end.
+//! The packets that lie end to end at the front of octets.
 ghost use Rattle.std.specs.Prelude.{◌≡◌};
 ghost use Rattle.std.specs.Iterator.{item_count};
 ghost use Rattle.sl_packet.specs.Packets.{packets_of, GivesPacket};
@@ -6,8 +6,8 @@ ghost use Rattle.sl_packet.specs.Packets.{packets_of, GivesPacket};
 use crate::packet::first_packet;
 use std::marker::Model;
 
-/// The space packets (CCSDS 133.0-B) that lie end to end at the front of octets, in order: as many as there
-/// are, idle ones too.
+/// An iterator over the space packets (CCSDS 133.0-B) that lie end to end at the front of octets, in order,
+/// idle packets included. It ends at the first offset at which no whole packet begins.
 #[derive(Debug, Drop)]
 pub struct Packets<'a> {
     rest: &'a [u8],
@@ -24,15 +24,15 @@ impl<'a> Model for Packets<'a> {
 }
 
 impl<'a> Packets<'a> {
-    /// The packets of the octets.
+    /// The packets at the front of these octets.
     pub fn new(octets: &'a [u8]) -> Packets<'a>
         ensures { result ≡ octets.now }
     {
         Packets { rest: octets }
     }
 
-    /// The octets after the packets that were given. Once there is no further packet, they are those that
-    /// are in none.
+    /// The octets after the packets that were yielded so far. Once the iterator has ended, no packet begins
+    /// with these octets.
     pub fn rest(&self) -> &'a [u8]
         ensures { result.now ≡ self.now }
     {
@@ -47,7 +47,7 @@ impl<'a> Iterator for Packets<'a> {
 
     ghost remaining = { item_count packets_of };
 
-    /// The packet that the octets begin with, if there is one.
+    /// The packet at the front of the remaining octets, if there is one.
     fn next(&mut self) -> Option<&'a [u8]> {
         let packet = first_packet(self.rest)?;
         self.rest = &self.rest[packet.len()..];

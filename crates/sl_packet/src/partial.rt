@@ -1,14 +1,14 @@
-//! How much of a packet is there.
+//! How much of a packet has come.
 
-/// What octets want to begin with a whole space packet (CCSDS 133.0-B).
+/// What octets lack to begin with a whole space packet (CCSDS 133.0-B).
 #[derive(Clone, Copy, Debug, PartialEq, Eq)]
 pub enum Need {
     /// The first octet has another version than 0.
     Foreign,
-    /// So many octets more, 1 to 6, are wanted for a primary header.
+    /// The primary header lacks this number of octets, 1 to 6.
     Header(u32),
-    /// So many octets more, 1 to 65,536, are wanted for the packet whose header is there.
+    /// The primary header is complete, and the packet lacks this number of octets, 1 to 65,536.
     Octets(u32),
-    /// A packet of so many octets, 7 to 65,542, is there.
+    /// A whole packet of this number of octets, 7 to 65,542.
     Whole(u32),
 }

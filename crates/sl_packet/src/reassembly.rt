@@ -1,15 +1,17 @@
-//! Octets that come in parts, of a packet or of a service data unit, and the memory that they take.
+//! Packets and service data units that come in parts, and the memory that they take.
 ghost use Rattle.std.specs.Prelude.{◌≡◌, ◌+◌, ◌≤◌, ◌<◌, ◌++◌, [], length, OnOk, OnErr};
 ghost use Rattle.std.specs.Vec.{vec_capacity, vec_len};
 
 use std::alloc::AllocError;
 
-/// The longest packet, and the longest service data unit.
+/// The octets of the longest packet, and of the longest service data unit.
 const MOST_OCTETS: usize = 65542;
 
-/// Adds a part to the octets so far, and nothing where memory is refused, which is only where their capacity has no
-/// room for it. Together they are 65,542 octets at most, the length of the longest packet. Where there is no room, the
-/// capacity becomes twice what it was, or what is wanted where that is more, and 65,542 at most.
+/// Adds a part to the octets so far. With the part they have 65,542 octets at most, the length of the longest
+/// packet.
+///
+/// Memory is refused only where the capacity has no room for the part, and then nothing is added. By reading,
+/// the capacity becomes twice what it was, or what is needed where this is more, and 65,542 at most.
 #[inline(always)]
 pub fn add_part(octets: &mut Vec<u8>, part: &[u8]) -> Result<(), AllocError>
     requires { vec_len octets.old + length part.now ≤ 65542 }
@@ -24,7 +26,7 @@ pub fn add_part(octets: &mut Vec<u8>, part: &[u8]) -> Result<(), AllocError>
     octets.extend_from_slice(part)
 }
 
-// Makes room for as many octets more.
+// Makes room for `more` octets.
 #[cold]
 fn grow(octets: &mut Vec<u8>, more: usize) -> Result<(), AllocError>
     requires full { vec_capacity octets.old < vec_len octets.old + more }
@@ -39,7 +41,7 @@ fn grow(octets: &mut Vec<u8>, more: usize) -> Result<(), AllocError>
     octets.reserve_exact(doubled.max(wanted) - octets.len())
 }
 
-/// Forgets octets that aren't gone on with, and gives their memory back.
+/// Clears octets that are given up, and gives their memory back.
 #[cold]
 pub fn give_back(octets: &mut Vec<u8>)
     ensures none { octets.new.items ≡ [] }

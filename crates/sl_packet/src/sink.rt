@@ -1,4 +1,4 @@
-//! Where delivered packets go.
+//! The destination of delivered packets.
 ghost use Rattle.std.specs.Prelude.{◌≡◌, ◌≤◌, ◌<◌, ℕ, List, length, false, OnOk, OnErr, IfOk, IfErr};
 ghost use Rattle.sl_packet.specs.Packet.{IsPacket, is_idle_packet};
 ghost use Rattle.sl_packet.specs.Packets.{packets_of, rest_of, without_idle, only_idle};
@@ -17,69 +17,82 @@ pub enum SinkFault {
     /// The sink's own writer failed.
     #[error("device")]
     Device,
-    /// The sink's own rule refused it.
+    /// A rule of the sink refused the packet.
     #[error("refused")]
     Refused,
 }
 
-/// What accepts delivered packets, each on a channel.
+/// A destination of delivered space packets (CCSDS 133.0-B), each on a channel from 0 to 4095. An
+/// implementation states what accepting a packet does to it (`taking`), what refusing does (`failing`), and
+/// its count of refused packets (`failures`).
 pub trait PacketSink {
     ghost use Rattle.sl_packet.specs.declared.sink.SinkFault.{SinkFault};
 
-    /// A packet was accepted on a channel: the sink before it and after it.
+    /// The sink before and after it accepted a packet on a channel.
     ghost taking: { Self → ℕ → List ℕ → Self → Type 0 };
 
-    /// A packet was refused on a channel, with this fault: the sink before it and after it.
+    /// The sink before and after it refused a packet on a channel, with this fault.
     ghost failing: { Self → ℕ → List ℕ → SinkFault → Self → Type 0 };
 
-    /// How many packets were refused.
+    /// The count of refused packets, which stops at 2^64 - 1.
     ghost failures: { Self → ℕ };
 
-    /// Hands over a packet that isn't idle, on a channel from 0 to 4095.
+    /// Hands over one packet on the channel `channel`, 0 to 4095. `p` is a whole packet, 7 to 65,542 octets,
+    /// and isn't idle.
+    ///
+    /// On `Ok` the sink has accepted the packet, as its `taking` states, and its count of refused packets
+    /// stays. On an error the sink has refused the packet with this fault, as its `failing` states, and its
+    /// count has risen by one, unless it was 2^64 - 1.
     fn packet(&mut self, channel: u16, p: &[u8]) -> Result<(), SinkFault>
         requires packet { IsPacket p.now }
         requires not_idle { is_idle_packet p.now ≡ false }
         requires channel { channel ≤ 4095 }
-        // It is accepted, and the sink has refused none,
+        // The packet is accepted, and the count of refused packets stays.
         ensures accepted { OnOk result (taking self.old channel p.now self.new) }
         ensures kept { OnOk result (failures self.new ≡ failures self.old) }
 
-        // or refused, which the sink counts.
+        // An error means that the packet is refused, and counted.
         ensures refused { IfErr result (λ fault. failing self.old channel p.now fault self.new) }
         ensures counted { OnErr result (failures self.new ≡ one_more (failures self.old)) };
 }
 
-/// What a sink was handed of some octets.
+/// The result of handing the packets of some octets to a sink.
 #[derive(Clone, Copy, Debug)]
 pub struct HandedOver<'a> {
-    /// How many packets it accepted.
+    /// The number of packets that the sink accepted.
     pub packets: usize,
-    /// How many idle packets there were, which it is not handed.
+    /// The number of idle packets, which the sink isn't handed.
     pub idle: usize,
     /// The octets after the last packet.
     pub remainder: &'a [u8],
 }
 
-/// Hands a sink the packets that lie end to end at the front of the octets, in order, but for idle ones.
+/// Hands a sink the packets that lie end to end at the front of the octets, in order and without idle
+/// packets, on the channel `channel`, 0 to 4095.
+///
+/// On `Ok` the sink has accepted all of them, and its count of refused packets stays. On an error the sink
+/// has accepted the packets before the refused one and refused this one with this fault, and no later packet
+/// was handed over. The sink's count of refused packets has then risen by one, unless it was 2^64 - 1.
 pub fn hand_over<'a, S: PacketSink>(
     sink: &mut S,
     channel: u16,
     octets: &'a [u8],
 ) -> Result<HandedOver<'a>, SinkFault>
     requires channel { channel ≤ 4095 }
-    // The sink accepts them all, and has refused none,
+    // The sink accepts all packets, and its count of refused packets stays.
     ensures accepted { OnOk result (TakesAll S.taking
         sink.old channel (without_idle (packets_of octets.now)) sink.new) }
     ensures kept { OnOk result (S.failures sink.new ≡ S.failures sink.old) }
 
-    // they are counted, and what follows them is given back,
+    // The packets are counted, and the octets after them are given back.
     ensures packets { IfOk result (λ handed.
         handed.packets ≡ length (without_idle (packets_of octets.now))) }
     ensures idle { IfOk result (λ handed.
         handed.idle ≡ length (only_idle (packets_of octets.now))) }
     ensures remainder { IfOk result (λ handed. handed.remainder.now ≡ rest_of octets.now) }
 
-    // or it accepts those before one that it refuses, which it counts.
+    // An error means that the sink accepts the packets before one that it refuses, and the refused packet is
+    // counted.
     ensures refused { IfErr result (λ fault. StopsTaking S.taking S.failing
         sink.old channel (without_idle (packets_of octets.now)) fault sink.new) }
     ensures counted { OnErr result (S.failures sink.new ≡ one_more (S.failures sink.old)) }

@@ -1,4 +1,5 @@
--- The frame data units that FARM-1 accepts on a virtual channel, CCSDS 232.0-B and 232.1-B.
+-- The frame data units that FARM-1 accepts on a virtual channel, CCSDS 232.0-B and 232.1-B. That units of types AD
+-- and BD make one list, in the order of acceptance, is this project's mission profile.
 use Rattle.std.specs.Prelude.{ℕ, ◌==◌, List, [], ◌∷◌, map}
 use Rattle.std.specs.Result.{result_ok}
 use Rattle.std.specs.List.{filter, filter_map}
@@ -9,21 +10,22 @@ use Rattle.sl_cop.specs.Accepted.{if_accepted, accepted_by}
 use Rattle.sl_cop.specs.Farm.{FarmState, farm_start, state_after, verdicts_of}
 use Rattle.sl_tcframe.specs.TcFrame.{TcFormat, TcView, Content, Ad, Bd, Unlock, SetVr, tc_frame}
 
--- the frames that aren't skipped, as they are read
+-- the views of the frames that aren't skipped
 abbrev pub views_of : TcFormat → ℕ → List (List ℕ) → List TcView
 views_of format spacecraft frames = filter_map (λ frame. result_ok (tc_frame format spacecraft frame)) frames
 
--- those of a virtual channel, in order
+-- the frames of a virtual channel, in order
 abbrev pub channel_of : ℕ → List TcView → List TcView
 channel_of vc views = filter (λ view. view.vc == vc) views
 
--- what a frame is to FARM-1
+-- the event that a frame is to FARM-1
 abbrev pub event_of : Content → FarmEvent
 event_of (Ad ns unit) = event.Ad ns
 event_of (Bd unit) = event.Bd
 event_of Unlock = event.Unlock
 event_of (SetVr vr) = event.SetVr vr
 
+-- the events of the frames of a virtual channel
 abbrev pub events_of : List TcView → List FarmEvent
 events_of channel = map (λ view. event_of view.content) channel
 
@@ -31,14 +33,14 @@ events_of channel = map (λ view. event_of view.content) channel
 abbrev pub farm_after : ℕ → ℕ → List TcView → FarmState
 farm_after w vr channel = state_after w (farm_start vr) (events_of channel)
 
--- the unit of a frame of type AD or BD, as a list of one or of none
+-- the unit of a frame of type AD or BD, as a list of one or none
 abbrev pub unit_of : Content → List (List ℕ)
 unit_of (Ad ns unit) = unit ∷ []
 unit_of (Bd unit) = unit ∷ []
 unit_of Unlock = []
 unit_of (SetVr vr) = []
 
--- that of a frame of type AD alone
+-- the unit of a frame of type AD alone, as a list of one or none
 abbrev pub ad_unit_of : Content → List (List ℕ)
 ad_unit_of (Ad ns unit) = unit ∷ []
 ad_unit_of (Bd unit) = []
@@ -49,14 +51,15 @@ ad_unit_of (SetVr vr) = []
 abbrev pub unit_by : Verdict → Content → List (List ℕ)
 unit_by verdict content = if_accepted verdict (unit_of content)
 
--- of the frames that FARM-1 with this window and this initial V(R) accepts, these units, in the order of acceptance
+-- the units, of the wanted types, of the frames that FARM-1 accepts with this window and this initial V(R), in the
+-- order of acceptance
 abbrev pub accepted_of : (Content → List (List ℕ)) → ℕ → ℕ → List TcView → List (List ℕ)
 accepted_of units w vr channel = accepted_by (λ (view : TcView). units view.content) (verdicts_of w (farm_start vr) (events_of channel)) channel
 
--- the units that it accepts, of types AD and BD in one order
+-- The units that FARM-1 accepts, of types AD and BD in one order: mission profile.
 abbrev pub accepted_units : ℕ → ℕ → List TcView → List (List ℕ)
 accepted_units w vr channel = accepted_of unit_of w vr channel
 
--- those of type AD alone
+-- the accepted units of type AD alone
 abbrev pub accepted_ad_units : ℕ → ℕ → List TcView → List (List ℕ)
 accepted_ad_units w vr channel = accepted_of ad_unit_of w vr channel

@@ -10,45 +10,45 @@ use Rattle.sl_tcflow.specs.ReceptionParameters.{ReceptionParameters}
 use Rattle.sl_tcflow.specs.Recording.{tc_lists}
 use Rattle.sl_tcflow.specs.TcNormalForm.{tc_frames_form, tc_normal_form_of}
 
--- a managed format, whose frames have 16 to 1024 octets at most
+-- a managed format: its frames have a greatest length of 16 to 1024 octets
 pub record IsFormat (format : TcFormat) : Type 0 where
   pub least : 16 ≤ format.max
   pub most : format.max ≤ 1024
 
--- lists of packets, none of them idle, one for each virtual channel and MAP
+-- lists of packets that aren't idle, one list for each virtual channel and MAP
 pub record AreDeliverable (lists : List (List (List ℕ))) : Type 0 where
   pub all : length lists ≡ channel_count
   pub each : AllByRecursion (AllByRecursion IsDeliverable) lists
 
 -- ---- laws
 
--- What a recording delivers are such lists,
+-- A recording delivers lists of packets that aren't idle, one for each virtual channel and MAP.
 abbrev pub RecordedListsAreDeliverable : Type 0
 RecordedListsAreDeliverable =
     (format : TcFormat) (spacecraft : ℕ) (r : ReceptionParameters) (recording : List ℕ) → AreDeliverable (tc_lists format spacecraft r recording)
 
--- and frames can carry them, also on the virtual channels without segment headers.
+-- Frames can carry the packets that a recording delivers, also on the virtual channels without segment headers.
 abbrev pub RecordedListsFit : Type 0
 RecordedListsFit =
     (format : TcFormat) (spacecraft : ℕ) (r : ReceptionParameters) (recording : List ℕ)
     → FitsTc format r.plain (tc_lists format spacecraft r recording)
 
--- The frames of the normal form, end to end, are all of it: nothing remains,
+-- The normal form is its frames end to end: no octet remains.
 abbrev pub NormalFormIsFrames : Type 0
 NormalFormIsFrames =
     (format : TcFormat) (spacecraft : ℕ) (starts plain : List ℕ) (lists : List (List (List ℕ))) → IsFormat format → spacecraft ≤ 1023
     → AreDeliverable lists → FitsTc format plain lists
     → IsTcDelimited format (tc_normal_form_of format spacecraft starts plain lists) (tc_frames_form format spacecraft starts plain lists) []
 
--- none of them is longer than the managed greatest length,
+-- No frame of the normal form is longer than the managed greatest length.
 abbrev pub NoFrameIsLong : Type 0
 NoFrameIsLong =
     (format : TcFormat) (spacecraft : ℕ) (starts plain : List ℕ) (lists : List (List (List ℕ))) → IsFormat format → spacecraft ≤ 1023
     → AreDeliverable lists → FitsTc format plain lists
     → AllByRecursion (λ frame. length frame ≤ format.max) (tc_frames_form format spacecraft starts plain lists)
 
--- and read as a recording, with the same initial V(R) and the same virtual channels without segment headers, whatever
--- the window, it delivers exactly the packets that it was made of
+-- Read as a recording, with the same initial V(R), the same virtual channels without segment headers and any window,
+-- the normal form delivers exactly the packets that it was made from.
 abbrev pub NormalFormDelivers : Type 0
 NormalFormDelivers =
     (format : TcFormat) (spacecraft : ℕ) (r : ReceptionParameters) (lists : List (List (List ℕ))) → IsFormat format → spacecraft ≤ 1023

@@ -5,12 +5,12 @@ use Rattle.sl_tcframe.specs.AdFrame.{plain_room_of}
 use Rattle.sl_tcframe.specs.TcFrame.{TcFormat}
 use Rattle.sl_tcframe.specs.VcSet.{has_vc}
 
--- Of the lists, that of virtual channel v and MAP m at the index 64 v + m, those of one virtual channel have packets on
--- MAP 0 alone, and each of them fits in a data field.
+-- The lists of a virtual channel fit frames without segment headers: it has packets on MAP 0 alone, and each of them
+-- fits in a data field. The list of virtual channel v and MAP m has the index 64 v + m.
 pub record FitsOn (format : TcFormat) (lists : List (List (List ℕ))) (vc : ℕ) : Type 0 where
   pub short : AllByRecursion (λ packet. length packet ≤ plain_room_of format) (slice_index_or lists (64 * vc) [])
   pub others : (mid : ℕ) → 0 < mid → mid < 64 → slice_index_or lists (64 * vc + mid) [] ≡ []
 
--- so it is on each virtual channel without segment headers
+-- the lists fit on each virtual channel without segment headers
 abbrev pub FitsTc : TcFormat → List ℕ → List (List (List ℕ)) → Type 0
 FitsTc format plain lists = (vc : ℕ) → vc < 64 → has_vc plain vc ≡ true → FitsOn format lists vc

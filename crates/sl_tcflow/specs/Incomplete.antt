@@ -1,5 +1,5 @@
--- A series of segments that is incomplete, CCSDS 232.0-B: it began, and its last segment didn't come yet. How long
--- a reassembled service data unit may be is the mission profile's.
+-- A series of segments that is incomplete, CCSDS 232.0-B: it has begun, and its last segment hasn't come yet. The
+-- greatest length of a reassembled service data unit is the mission profile's.
 use Rattle.std.specs.Prelude.{◌≡◌, ℕ, ◌+◌, ◌≤◌, ◌==◌, ◌&&◌, Bool, true, false, nat_le, nat_lt, if◌then◌else◌, List, [], ◌∷◌, ◌++◌, length, Option, None, Some}
 use Rattle.std.specs.List.{AllByRecursion}
 use Rattle.sl_tcflow.specs.Series.{flags_of, reassembled}
@@ -8,35 +8,36 @@ use Rattle.sl_tcflow.specs.Series.{flags_of, reassembled}
 
 -- A series is incomplete after the last segment of a MAP's list, with these octets so far.
 pub record IsIncomplete (list : List (List ℕ)) (octets : List ℕ) : Type 0 where
-  -- its first segment, and the segments from there on, to the last one
+  -- the first segment of the series, and the segments after it, up to the last one of the list
   pub earlier : List (List ℕ)
   pub first : List ℕ
   pub later : List (List ℕ)
   pub in_order : list ≡ earlier ++ first ∷ later
   pub begins : flags_of first ≡ 1
-  -- which are continuing ones
+  -- the later segments are continuing ones
   pub goes_on : AllByRecursion (λ segment. flags_of segment ≡ 0) later
-  -- together they have these octets after the segment headers, and not too many
+  -- the segments have these octets after their headers, and not too many (mission profile)
   pub together : octets ≡ reassembled (first ∷ later)
   pub fits : length octets ≤ 65542
 
 -- ---- the octets so far, if a series is incomplete
 
--- octets of a service data unit, where they aren't too many
+-- the octets of a service data unit, where they aren't too many
 abbrev pub if_fits : List ℕ → Option (List ℕ)
 if_fits octets = if nat_le (length octets) 65542 then Some octets else None
 
--- whether a series with this many octets so far, if one is incomplete, passes the greatest service data unit with more
+-- whether the incomplete series, if there is one, has too many octets with `more` octets
 abbrev pub passes : Option ℕ → ℕ → Bool
 passes None more = false
 passes (Some octets) more = nat_lt 65542 (octets + more)
 
--- whether all of them are continuing segments
+-- whether all segments are continuing ones
 abbrev pub are_continuing : List (List ℕ) → Bool
 are_continuing [] = true
 are_continuing (segment ∷ later) = flags_of segment == 0 && are_continuing later
 
--- a segment begins the series, and those after it continue it
+-- the octets of the incomplete series, if there is one: a first segment begins it, and only continuing ones come
+-- after it
 abbrev pub incomplete_of : List (List ℕ) → Option (List ℕ)
 incomplete_of [] = None
 incomplete_of (segment ∷ later) =
@@ -45,24 +46,24 @@ incomplete_of (segment ∷ later) =
 
 -- ---- laws
 
--- what is told is incomplete,
+-- A series that is reported is incomplete.
 abbrev pub WhatIsToldIsIncomplete : Type 0
 WhatIsToldIsIncomplete = (list : List (List ℕ)) (octets : List ℕ) → incomplete_of list ≡ Some octets → IsIncomplete list octets
 
--- and what is incomplete is told.
+-- A series that is incomplete is reported.
 abbrev pub IncompleteIsTold : Type 0
 IncompleteIsTold = (list : List (List ℕ)) (octets : List ℕ) → IsIncomplete list octets → incomplete_of list ≡ Some octets
 
--- At most one series is incomplete: two begin at the same segment,
+-- At most one series is incomplete: two begin at the same segment.
 abbrev pub OneBegins : Type 0
 OneBegins =
     (list : List (List ℕ)) (octets others : List ℕ) (one : IsIncomplete list octets) (other : IsIncomplete list others)
     → length one.earlier ≡ length other.earlier
 
--- and have the same octets so far,
+-- Two incomplete series have the same octets so far.
 abbrev pub OneIsIncomplete : Type 0
 OneIsIncomplete = (list : List (List ℕ)) (octets others : List ℕ) → IsIncomplete list octets → IsIncomplete list others → octets ≡ others
 
--- of 65,542 octets at most.
+-- An incomplete series has 65,542 octets at most.
 abbrev pub IncompleteFits : Type 0
 IncompleteFits = (list : List (List ℕ)) (octets : List ℕ) → incomplete_of list ≡ Some octets → length octets ≤ 65542

@@ -1,10 +1,12 @@
--- A list with another value at one index. Past its end there is none.
+-- A list with another value at one index. Past its end there is no value.
 use Rattle.std.specs.Prelude.{◌≡◌, ◌≢◌, ℕ, List, Option, None}
 use Rattle.std.specs.List.{slice_index_or}
 
+-- the value of a list at an index
 abbrev pub at : List (Option (List ℕ)) → ℕ → Option (List ℕ)
 at list index = slice_index_or list index None
 
+-- the new list has this value at this index, and elsewhere the values of the old one
 pub record IsPlaced (old : List (Option (List ℕ))) (index : ℕ) (value : Option (List ℕ)) (new : List (Option (List ℕ))) : Type 0 where
   pub here : at new index ≡ value
   pub others : (other : ℕ) → other ≢ index → at new other ≡ at old other

@@ -1,5 +1,6 @@
--- An `Incomplete` is the octets so far of a series, if one is incomplete; a `SeriesStore` is a list of these, with its memory; a `Receiver`
--- is its FARMs, the virtual channels without segment headers, such a list, and whether a fault came.
+-- An `Incomplete` stands for the octets so far of a series, if one is incomplete. A `SeriesStore` stands for a list
+-- of these, and for how many channels it has memory. A `Receiver` stands for its FARM-1s, the virtual channels without
+-- segment headers, its `SeriesStore`, and whether a fault came.
 use Rattle.std.specs.Prelude.{◌≡◌, ℕ, ◌≤◌, false, if◌then◌else◌, List, [], length, Option, None, Some}
 use Rattle.std.specs.Vec.{vec_capacity}
 use Rattle.sl_tcflow.specs.Receiving.{IncompleteSeries, ReceiverState}
@@ -10,7 +11,7 @@ use Rattle.sl_tcflow.specs.declared.series_store.SeriesStore.TheInside as store
 abbrev pub octets_so_far : incomplete.Inside → Option (List ℕ)
 octets_so_far s = if s.is_begun then Some s.octets.items else None
 
--- where no series is incomplete, no octet is kept, and memory for 4096 octets at most
+-- where no series is incomplete, no octet is kept, and memory is kept for 4096 octets at most
 pub record IsKept (s : incomplete.Inside) : Type 0 where
   pub fits : length s.octets.items ≤ 65542
   pub none : s.is_begun ≡ false → s.octets.items ≡ []

@@ -1,4 +1,4 @@
--- What a receiver has made of the frames of virtual channels, CCSDS 232.0-B and 232.1-B, that it was given.
+-- The state of a receiver after frames of virtual channels, CCSDS 232.0-B and 232.1-B, were given to it.
 use Rattle.std.specs.Prelude.{◌≡◌, ◌≢◌, ◌⊎◌, ℕ, ◌+◌, ◌*◌, ◌<◌, ◌==◌, Bool, true, false, if◌then◌else◌, List, [], ◌∷◌, ◌++◌, length, map, flat_map, Option, None}
 use Rattle.std.specs.List.{slice_index_or}
 use Rattle.sl_cop.specs.declared.verdict.Verdict.{Verdict}
@@ -18,26 +18,29 @@ channel_at vc mid = 64 * vc + mid
 
 -- The series that are incomplete.
 pub record IncompleteSeries : Type 0 where
-  -- of each channel the octets so far, if a series is incomplete: there is none past the last channel that is kept
+  -- the octets so far of the incomplete series of each channel, if there is one, and none past the last channel that
+  -- is kept
   pub list : List (Option (List ℕ))
   -- the channels that memory was taken for
   pub room : ℕ
 
--- The FARM-1 of each virtual channel, the virtual channels without segment headers, and the series that are incomplete.
+-- The state: FARM-1 of each virtual channel; the virtual channels without segment headers; the series that are
+-- incomplete; and whether a fault came.
 pub record ReceiverState : Type 0 where
   pub farms : List FarmView
   pub plain : List ℕ
   pub series : IncompleteSeries
   pub has_failed : Bool
 
--- FARM-1 of a virtual channel: at the start, and after these frames
+-- FARM-1 of a virtual channel before its first frame
 abbrev pub farm_at_start : ReceptionParameters → ℕ → FarmView
 farm_at_start r vc = record { window = r.window; state = farm_start (initial_vr r vc) }
 
+-- FARM-1 of a virtual channel after these frames
 abbrev pub farm_of : ReceptionParameters → ℕ → List TcView → FarmView
 farm_of r vc views = record { window = r.window; state = farm_after r.window (initial_vr r vc) (channel_of vc views) }
 
--- the virtual channels' FARMs had these frames
+-- each virtual channel's FARM-1 is the one after these frames
 pub record HaveStepped (r : ReceptionParameters) (farms : List FarmView) (views : List TcView) : Type 0 where
   pub count : length farms ≡ 64
   pub each : (vc : ℕ) → vc < 64 → slice_index_or farms vc (farm_at_start r vc) ≡ farm_of r vc views
@@ -47,7 +50,7 @@ abbrev pub AreIncomplete : ReceptionParameters → List (Option (List ℕ)) → 
 AreIncomplete r incomplete views =
     (vc mid : ℕ) → vc < 64 → mid < 64 → slice_index_or incomplete (channel_at vc mid) None ≡ incomplete_of (segments_of r vc mid views)
 
--- These frames were processed, and no fault came. Other frames may have left the same.
+-- These frames were processed, and no fault came. Other lists of frames may lead to the same state.
 pub record HasProcessed (r : ReceptionParameters) (state : ReceiverState) (views : List TcView) : Type 0 where
   pub working : state.has_failed ≡ false
   pub plain : state.plain ≡ r.plain
@@ -67,41 +70,42 @@ pub record HasFailedAfter (r : ReceptionParameters) (state : ReceiverState) (vie
 abbrev pub HasFailed : ReceiverState → Type 0
 HasFailed state = state.has_failed ≡ true
 
--- it holds whichever frames were processed, with whichever parameters of reception
+-- the property holds for all parameters and lists of frames that may have been processed
 abbrev pub ForProcessed : ReceiverState → (ReceptionParameters → List TcView → Type 0) → Type 0
 ForProcessed state holds = (r : ReceptionParameters) (views : List TcView) → HasProcessed r state views → holds r views
 
 -- ---- what the next frame does
 
--- the verdict of FARM-1 on it
+-- the verdict of FARM-1 on the next frame
 abbrev pub verdict_on : ReceptionParameters → List TcView → TcView → Verdict
 verdict_on r views next = (farm_step r.window (farm_of r next.vc views).state (event_of next.content)).0
 
--- the MAP of its unit, if it carries one
+-- the MAP of a frame's unit, and 0 where the frame carries none
 abbrev pub map_of : Bool → Content → ℕ
 map_of plain (Ad ns unit) = (header_at (segment_in plain unit)).map
 map_of plain (Bd unit) = (header_at (segment_in plain unit)).map
 map_of plain Unlock = 0
 map_of plain (SetVr vr) = 0
 
+-- the MAP of the next frame's unit
 abbrev pub map_by : ReceptionParameters → TcView → ℕ
 map_by r next = map_of (is_plain r next.vc) next.content
 
--- the channel of its unit
+-- the channel of the next frame's unit
 abbrev pub unit_channel : ReceptionParameters → TcView → ℕ
 unit_channel r next = channel_at next.vc (map_by r next)
 
--- the segment that its unit is, if it is accepted, as a list of one or of none
+-- the segment of the next frame's unit, if the unit is accepted, as a list of one or none
 abbrev pub segment_by : ReceptionParameters → List TcView → TcView → List (List ℕ)
 segment_by r views next = map (segment_in (is_plain r next.vc)) (unit_by (verdict_on r views next) next.content)
 
--- the packets that end with its unit, if it is accepted, idle ones included
+-- the packets that end with the next frame's unit, if the unit is accepted, idle packets included
 abbrev pub ended_by : ReceptionParameters → List TcView → TcView → List (List ℕ)
 ended_by r views next =
     flat_map (packets_ended (segments_of r next.vc (map_by r next) views)) (segment_by r views next)
 
--- it holds whichever frames came before the next one, with whichever parameters of reception, where its virtual channel
--- has segment headers or not, these series are incomplete and FARM-1 gives this verdict
+-- The property holds for all parameters and frames that may have come before the next one. The next frame's virtual
+-- channel has segment headers or not, these series are incomplete, and FARM-1 gives this verdict.
 abbrev pub ForIncomplete : Bool → List (Option (List ℕ)) → Verdict → TcView → (ReceptionParameters → List TcView → Type 0) → Type 0
 ForIncomplete plain incomplete verdict next holds =
     (r : ReceptionParameters) (views : List TcView) → plain ≡ is_plain r next.vc → AreIncomplete r incomplete views → verdict ≡ verdict_on r views next
@@ -117,15 +121,15 @@ IsIncompleteAround r views next =
 
 -- ---- all frames
 
--- the packets that a receiver hands over for a channel when it is given these frames one after another, where each call
--- answers Ok, and has processed others before
+-- the packets that a receiver hands over for a channel where it is given `later` frames one after another, after
+-- `views`, and each call answers Ok
 abbrev pub handed_over : ReceptionParameters → ℕ → List TcView → List TcView → List (List ℕ)
 handed_over r channel views [] = []
 handed_over r channel views (next ∷ later) =
     (if unit_channel r next == channel then without_idle (ended_by r views next) else [])
     ++ handed_over r channel (views ++ next ∷ []) later
 
--- From the first frame on they are the packets of the channel, idle ones left out.
+-- From the first frame on they are the packets of the channel, idle packets left out.
 abbrev pub DeliveredAreHandedOver : Type 0
 DeliveredAreHandedOver =
     (r : ReceptionParameters) (channel : ℕ) (views : List TcView)

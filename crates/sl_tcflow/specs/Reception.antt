@@ -1,5 +1,5 @@
--- The packets of a MAP, CCSDS 232.0-B and 133.0-B. The greatest service data unit, and that what follows its
--- last whole packet is dropped, are the mission profile's.
+-- The packets of a MAP, CCSDS 232.0-B and 133.0-B. The greatest length of a service data unit, and that the octets
+-- after its last whole packet are dropped, are the mission profile's.
 use Rattle.std.specs.Prelude.{◌≡◌, ℕ, ◌+◌, ◌==◌, nat_le, if◌then◌else◌, List, [], ◌∷◌, ◌++◌, length, map, flat_map}
 use Rattle.std.specs.List.{filter}
 use Rattle.sl_packet.specs.Packets.{packets_of}
@@ -8,7 +8,8 @@ use Rattle.sl_tcflow.specs.AcceptedUnit.{channel_of, accepted_units}
 use Rattle.sl_tcflow.specs.ReceptionParameters.{ReceptionParameters, is_plain, initial_vr}
 use Rattle.sl_tcflow.specs.Series.{SeriesAt, past, reassembled, segment_in, segments_on, series_of}
 
--- the packets of a service data unit: the longest list of them that lies at its front
+-- The packets of a service data unit: the longest list of packets at its front. A unit of more than 65,542 octets has
+-- none: mission profile.
 abbrev pub packets_in : List (List ℕ) → List (List ℕ)
 packets_in segments = if nat_le (length (reassembled segments)) 65542 then packets_of (reassembled segments) else []
 
@@ -16,7 +17,7 @@ packets_in segments = if nat_le (length (reassembled segments)) 65542 then packe
 abbrev pub packets_on : List (List ℕ) → List (List ℕ)
 packets_on list = flat_map (λ (s : SeriesAt). packets_in s.segments) (series_of list)
 
--- those of the series that ends with the next segment
+-- the packets of the series that ends with the next segment
 abbrev pub packets_ended : List (List ℕ) → List ℕ → List (List ℕ)
 packets_ended list next =
     flat_map (λ (s : SeriesAt). packets_in s.segments) (filter (λ (s : SeriesAt). past s == length list + 1) (series_of (list ++ next ∷ [])))
@@ -28,6 +29,6 @@ segments_of r vc mid views =
 
 -- ---- laws
 
--- the packets of one segment more are those before, and those of the series that ends with it
+-- The packets of a list with one more segment are those before, and those of the series that ends with this segment.
 abbrev pub PacketsEndOnce : Type 0
 PacketsEndOnce = (list : List (List ℕ)) (next : List ℕ) → packets_on (list ++ next ∷ []) ≡ packets_on list ++ packets_ended list next

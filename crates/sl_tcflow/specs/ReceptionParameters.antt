@@ -3,8 +3,9 @@ use Rattle.std.specs.Prelude.{ℕ, Bool, List}
 use Rattle.std.specs.List.{slice_index_or}
 use Rattle.sl_tcframe.specs.VcSet.{has_vc}
 
--- the width of FARM-1's sliding window; V(R), the receiver frame sequence number, of each of 64 virtual channels before
--- its first frame; and the numbers of the virtual channels whose frames have no segment headers
+-- The width of FARM-1's sliding window; V(R), the receiver frame sequence number, of each of 64 virtual channels
+-- before its first frame; and the virtual channels whose frames have no segment headers. An initial V(R) for each
+-- virtual channel is the mission profile's.
 pub record ReceptionParameters : Type 0 where
   pub window : ℕ
   pub starts : List ℕ
@@ -14,6 +15,6 @@ pub record ReceptionParameters : Type 0 where
 abbrev pub initial_vr : ReceptionParameters → ℕ → ℕ
 initial_vr r vc = slice_index_or r.starts vc 0
 
--- whether its frames have no segment headers
+-- whether a virtual channel's frames have no segment headers
 abbrev pub is_plain : ReceptionParameters → ℕ → Bool
 is_plain r vc = has_vc r.plain vc

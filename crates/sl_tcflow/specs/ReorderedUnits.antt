@@ -1,5 +1,5 @@
--- Units that are sent on a virtual channel in frames of type AD, CCSDS 232.0-B and 232.1-B, with N(S) counting from the
--- initial V(R) on, modulo 256. The frames arrive in any order, any of them lost or repeated, and no Set V(R) comes.
+-- Units that are sent on a virtual channel in frames of type AD, CCSDS 232.0-B and 232.1-B, with N(S) counting from
+-- the initial V(R) on, modulo 256. The frames arrive in any order, lost or repeated, and no Set V(R) comes.
 use Rattle.std.specs.Prelude.{◌≡◌, ◌≢◌, ℕ, ◌+◌, ◌<◌, ◌≤◌, false, List, [], ◌∷◌, ◌++◌, length, map}
 use Rattle.std.specs.List.{AllByRecursion, AllZip, slice_index_or}
 use mathlib.Core.List.{IsPrefix}
@@ -16,17 +16,17 @@ use Rattle.sl_tcflow.specs.ReceptionParameters.{ReceptionParameters, is_plain, i
 use Rattle.sl_tcflow.specs.Recording.{recorded_views, tc_lists}
 use Rattle.sl_tcflow.specs.Series.{segment_in, segments_on}
 
--- the unit with this index among those that were sent
+-- the sent unit with this index
 abbrev pub unit_at : List (List ℕ) → ℕ → List ℕ
 unit_at sent index = slice_index_or sent index []
 
--- What a frame is: a copy of the frame of type AD with the unit of this index, of type BD, or Unlock.
+-- A frame is an arrival: a copy of the frame of type AD with the unit of this index, or of type BD, or Unlock.
 abbrev pub IsArrival : ℕ → List (List ℕ) → TcView → Arrival → Type 0
 IsArrival vr sent view (Copy index) = (index < length sent) × (view.content ≡ Ad (ns_of vr index) (unit_at sent index))
 IsArrival vr sent view OfTypeBd = (unit : List ℕ) × (view.content ≡ Bd unit)
 IsArrival vr sent view UnlockCommand = view.content ≡ Unlock
 
--- the frames of a virtual channel, one after another
+-- the frames of a virtual channel are these arrivals, one after another
 abbrev pub AreArrivals : ℕ → List (List ℕ) → List TcView → List Arrival → Type 0
 AreArrivals vr sent channel arrivals = AllZip (IsArrival vr sent) channel arrivals
 
@@ -34,35 +34,35 @@ AreArrivals vr sent channel arrivals = AllZip (IsArrival vr sent) channel arriva
 abbrev pub HaveNoBd : List TcView → Type 0
 HaveNoBd channel = AllByRecursion (λ (view : TcView). (unit : List ℕ) → view.content ≢ Bd unit) channel
 
--- the number of units of type AD that are accepted, which is the index of the unit that is expected next
+-- the number of accepted units of type AD, which is the index of the unit that is expected next
 abbrev pub accepted_ad_count : ℕ → ℕ → List TcView → ℕ
 accepted_ad_count w vr channel = length (accepted_ad_units w vr channel)
 
--- the N(S) of its frame
+-- the N(S) of the frame that is expected next
 abbrev pub expected_ns : ℕ → ℕ → List TcView → ℕ
 expected_ns w vr channel = ns_of vr (accepted_ad_count w vr channel)
 
--- the frames of a recording on a virtual channel; those that are skipped are on none
+-- the frames of a recording on a virtual channel; skipped frames are on none
 abbrev pub recorded_channel : TcFormat → ℕ → ℕ → List ℕ → List TcView
 recorded_channel format spacecraft vc recording = channel_of vc (recorded_views format spacecraft recording)
 
--- the packets that it delivers on a virtual channel and MAP, idle ones left out
+-- the packets that a recording delivers on a virtual channel and MAP, idle packets left out
 abbrev pub recorded_packets : TcFormat → ℕ → ReceptionParameters → ℕ → ℕ → List ℕ → List (List ℕ)
 recorded_packets format spacecraft r vc mid recording =
     slice_index_or (tc_lists format spacecraft r recording) (channel_at vc mid) []
 
--- the segments of a MAP among the units that were sent
+-- the segments of a MAP among the sent units
 abbrev pub segments_sent : ReceptionParameters → ℕ → ℕ → List (List ℕ) → List (List ℕ)
 segments_sent r vc mid sent = segments_on mid (map (segment_in (is_plain r vc)) sent)
 
--- The frames of a virtual channel are copies of what was sent, each less than 256 away from the frame that is expected
--- when it arrives, and between them frames of type BD and Unlock, but no Set V(R).
+-- The frames of a virtual channel are copies of what was sent, each less than 256 away from the frame that is
+-- expected at the copy's arrival, and among them frames of type BD and Unlock, but no Set V(R).
 pub record AreReordered (w vr : ℕ) (sent : List (List ℕ)) (channel : List TcView) (arrivals : List Arrival) : Type 0 where
   pub initial : vr < 256
   pub arrive : AreArrivals vr sent channel arrivals
   pub near : AreNear w vr arrivals
 
--- Each copy is in the window when it arrives, which is at most all 256 sequence numbers.
+-- Each copy is in the window at its arrival, and the window is at most all 256 sequence numbers.
 pub record AreReorderedInWindow (w vr : ℕ) (sent : List (List ℕ)) (channel : List TcView) (arrivals : List Arrival) : Type 0 where
   pub initial : vr < 256
   pub most : positive_width w + negative_width w ≤ 256
@@ -71,50 +71,50 @@ pub record AreReorderedInWindow (w vr : ℕ) (sent : List (List ℕ)) (channel :
 
 -- ---- laws
 
--- Copies in the window are less than 256 away from the frame that is expected.
+-- Copies in the window are less than 256 away from the expected frame.
 abbrev pub WindowIsNear : Type 0
 WindowIsNear =
     (w vr : ℕ) (sent : List (List ℕ)) (channel : List TcView) (arrivals : List Arrival) → AreReorderedInWindow w vr sent channel arrivals
     → AreReordered w vr sent channel arrivals
 
--- Whatever the window, the accepted units of type AD are a prefix of the units that were sent,
+-- The accepted units of type AD are a prefix of the sent units, for every window.
 abbrev pub UnitsInOrder : Type 0
 UnitsInOrder =
     (w vr : ℕ) (sent : List (List ℕ)) (channel : List TcView) (arrivals : List Arrival) → AreReordered w vr sent channel arrivals
     → IsPrefix (accepted_ad_units w vr channel) sent
 
--- and V(R) is at each moment the initial one and their number, modulo 256.
+-- V(R) is at each moment the initial V(R) plus the number of accepted units of type AD, modulo 256.
 abbrev pub VrCountsUnits : Type 0
 VrCountsUnits =
     (w vr : ℕ) (sent : List (List ℕ)) (channel : List TcView) (arrivals : List Arrival) → AreReordered w vr sent channel arrivals
     → AtEachMoment channel (λ before. (farm_after w vr before).vr ≡ expected_ns w vr before)
 
--- Where no frame is of type BD, these are all the accepted units,
+-- The accepted units of type AD are all accepted units, where no frame is of type BD.
 abbrev pub AdUnitsAreAll : Type 0
 AdUnitsAreAll = (w vr : ℕ) (channel : List TcView) → HaveNoBd channel → accepted_ad_units w vr channel ≡ accepted_units w vr channel
 
--- and the packets of each MAP are a prefix of those of the units that were sent.
+-- The packets of each MAP are a prefix of those of the sent units, where no frame is of type BD.
 abbrev pub PacketsInOrder : Type 0
 PacketsInOrder =
     (r : ReceptionParameters) (vc mid : ℕ) (sent : List (List ℕ)) (views : List TcView) (arrivals : List Arrival) → AreReordered r.window (initial_vr r vc) sent (channel_of vc views) arrivals
     → HaveNoBd (channel_of vc views)
     → IsPrefix (packets_on (segments_of r vc mid views)) (packets_on (segments_sent r vc mid sent))
 
--- On a virtual channel and MAP a recording then delivers a prefix of them, idle ones left out. Of the other virtual
--- channels nothing is said.
+-- A recording delivers on a virtual channel and MAP a prefix of the packets of the sent units, idle packets left out,
+-- where no frame of the channel is of type BD. Nothing is said of the other virtual channels.
 abbrev pub RecordedPacketsInOrder : Type 0
 RecordedPacketsInOrder =
     (format : TcFormat) (spacecraft : ℕ) (r : ReceptionParameters) (vc mid : ℕ) (sent : List (List ℕ)) (recording : List ℕ) (arrivals : List Arrival) → vc < 64 → mid < 64
     → AreReordered r.window (initial_vr r vc) sent (recorded_channel format spacecraft vc recording) arrivals → HaveNoBd (recorded_channel format spacecraft vc recording)
     → IsPrefix (recorded_packets format spacecraft r vc mid recording) (without_idle (packets_on (segments_sent r vc mid sent)))
 
--- In the window the Lockout flag is never set,
+-- Where each copy is in the window, the Lockout flag is never set.
 abbrev pub WindowNeverLocks : Type 0
 WindowNeverLocks =
     (w vr : ℕ) (sent : List (List ℕ)) (channel : List TcView) (arrivals : List Arrival) → AreReorderedInWindow w vr sent channel arrivals
     → AtEachMoment channel (λ before. (farm_after w vr before).lockout ≡ false)
 
--- and each copy of the frame that is expected is accepted.
+-- Where each copy is in the window, each copy of the expected frame is accepted.
 abbrev pub ExpectedUnitIsAccepted : Type 0
 ExpectedUnitIsAccepted =
     (w vr : ℕ) (sent : List (List ℕ)) (channel : List TcView) (arrivals : List Arrival) → AreReorderedInWindow w vr sent channel arrivals
@@ -122,8 +122,8 @@ ExpectedUnitIsAccepted =
     → view.content ≡ Ad (expected_ns w vr before) (unit_at sent (accepted_ad_count w vr before))
     → (farm_step w (farm_after w vr before) (event_of view.content)).0 ≡ Accept
 
--- A receiver whose FARMs had these frames, also one that has failed, has FARM-1 of the virtual channel with that V(R):
--- its CLCW, which reports V(R), reports this.
+-- A receiver has FARM-1 of the virtual channel with this V(R) after these frames, also a receiver that has failed.
+-- Its CLCW reports V(R).
 abbrev pub ReceiverCountsUnits : Type 0
 ReceiverCountsUnits =
     (r : ReceptionParameters) (vc : ℕ) (sent : List (List ℕ)) (farms : List FarmView) (views : List TcView) (arrivals : List Arrival) → vc < 64

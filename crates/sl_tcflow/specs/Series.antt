@@ -1,21 +1,23 @@
--- Segments and the series of them that carry one service data unit, CCSDS 232.0-B.
+-- Segments, and the series of them that carry one service data unit, CCSDS 232.0-B.
 use Rattle.std.specs.Prelude.{◌≡◌, ℕ, ◌+◌, ◌==◌, ◌||◌, nat_le, Bool, if◌then◌else◌, List, [], ◌∷◌, ◌++◌, length, take, drop, map, Contains}
 use Rattle.std.specs.List.{AllByRecursion, concat, filter}
 use Rattle.sl_fields.specs.Field.{octets_of}
 use Rattle.sl_fields.specs.SegmentHeader.{SegmentFields, segment_header}
 
--- the segment header of a segment, and the octets after it
+-- the segment header of a segment
 abbrev pub header_at : List ℕ → SegmentFields
 header_at segment = segment_header (take 1 segment)
 
+-- the octets of a segment after its header
 abbrev pub segment_data : List ℕ → List ℕ
 segment_data segment = drop 1 segment
 
--- the segment that a unit is. On a virtual channel without segment headers it is whole, on MAP 0: all its octets, as
--- after a segment header with sequence flags 3, no segmentation, and MAP 0.
+-- The segment of a unit without a segment header: all octets of the unit, as if after a segment header with sequence
+-- flags 3, no segmentation, and MAP 0. MAP 0 is the mission profile's.
 abbrev pub whole_segment : List ℕ → List ℕ
 whole_segment unit = octets_of 1 ((2, 3) ∷ (6, 0) ∷ []) ++ unit
 
+-- the segment of a unit, on a virtual channel without segment headers (`plain`) or with them
 abbrev pub segment_in : Bool → List ℕ → List ℕ
 segment_in plain unit = if plain then whole_segment unit else unit
 
@@ -23,15 +25,15 @@ segment_in plain unit = if plain then whole_segment unit else unit
 abbrev pub segments_on : ℕ → List (List ℕ) → List (List ℕ)
 segments_on mid segments = filter (λ segment. (header_at segment).map == mid) segments
 
--- the sequence flags: first 1, continuing 0, last 2, no segmentation 3
+-- the sequence flags of a segment: first 1, continuing 0, last 2, no segmentation 3
 abbrev pub flags_of : List ℕ → ℕ
 flags_of segment = (header_at segment).flags
 
--- a segment with these flags continues a series, as a continuing or a last one
+-- whether a segment with these flags continues a series, as a continuing or a last one
 abbrev pub continues_by : ℕ → Bool
 continues_by flags = flags == 0 || flags == 2
 
--- or begins one, as a first segment or one with no segmentation
+-- whether a segment with these flags begins a series, as a first one or one with no segmentation
 abbrev pub begins_by : ℕ → Bool
 begins_by flags = flags == 1 || flags == 3
 
@@ -42,12 +44,12 @@ pub data IsSeries : List (List ℕ) → Type 0 where
       → AllByRecursion (λ segment. flags_of segment ≡ 0) middle → flags_of last ≡ 2
       → IsSeries (first ∷ middle ++ last ∷ [])
 
--- a series in the list of a MAP's segments: those before it, and itself
+-- a series in the list of a MAP's segments: how many segments come before it, and its own
 pub record SeriesAt : Type 0 where
   pub before : ℕ
   pub segments : List (List ℕ)
 
--- the segments of the series stand in the list from that index on
+-- the series is one of the list: its segments stand there from this index on
 pub record IsSeriesOf (list : List (List ℕ)) (s : SeriesAt) : Type 0 where
   pub series : IsSeries s.segments
   pub earlier : List (List ℕ)
@@ -59,15 +61,15 @@ pub record IsSeriesOf (list : List (List ℕ)) (s : SeriesAt) : Type 0 where
 abbrev pub past : SeriesAt → ℕ
 past s = s.before + length s.segments
 
--- each ends before the next begins: no segment is in two
+-- each series ends before the next one begins: no segment is in two
 pub data AreApart : List SeriesAt → Type 0 where
   none : AreApart []
   one : (s : SeriesAt) → AreApart (s ∷ [])
   more : (s t : SeriesAt) (later : List SeriesAt) → nat_le (past s) t.before ≡ Bool.true → AreApart (t ∷ later) → AreApart (s ∷ t ∷ later)
 
--- ---- the series of a list, each found from its first segment with those after it
+-- ---- the series of a list, each found from its first segment and the segments after it
 
--- the series that these segments so far become with later ones: one, or none
+-- the series that these segments so far become with the later ones, as a list of one or none
 abbrev pub completed : List (List ℕ) → List (List ℕ) → List (List (List ℕ))
 completed so_far [] = []
 completed so_far (segment ∷ later) =
@@ -75,29 +77,30 @@ completed so_far (segment ∷ later) =
     else if flags_of segment == 2 then (so_far ++ segment ∷ []) ∷ []
     else []
 
--- the series that begins with a segment: one, or none
+-- the series that begins with a segment, as a list of one or none
 abbrev pub series_with : List ℕ → List (List ℕ) → List (List (List ℕ))
 series_with segment later =
     if flags_of segment == 3 then (segment ∷ []) ∷ []
     else if flags_of segment == 1 then completed (segment ∷ []) later
     else []
 
--- all series, by their first segments, where so many segments come before the list
+-- all series of a list, by their first segments, where `before` segments come before the list
 abbrev pub series_from : ℕ → List (List ℕ) → List SeriesAt
 series_from before [] = []
 series_from before (segment ∷ later) =
     map (λ segments. record { before = before; segments = segments }) (series_with segment later) ++ series_from (before + 1) later
 
+-- all series of a list
 abbrev pub series_of : List (List ℕ) → List SeriesAt
 series_of list = series_from 0 list
 
--- ---- what a series carries
+-- ---- the service data unit of a series
 
 -- the reassembled service data unit
 abbrev pub reassembled : List (List ℕ) → List ℕ
 reassembled segments = concat (map segment_data segments)
 
--- a segment has no segmentation, is on MAP 0, and its octets are all of the unit's
+-- the segment has no segmentation, is on MAP 0, and has all octets of the unit
 pub record HasNoSegmentation (unit segment : List ℕ) : Type 0 where
   pub flags : flags_of segment ≡ 3
   pub map : (header_at segment).map ≡ 0
@@ -105,19 +108,19 @@ pub record HasNoSegmentation (unit segment : List ℕ) : Type 0 where
 
 -- ---- laws
 
--- each series that is listed is one,
+-- Each listed series is a series of the list.
 abbrev pub EachIsSeries : Type 0
 EachIsSeries = (list : List (List ℕ)) → AllByRecursion (IsSeriesOf list) (series_of list)
 
--- and each series is listed.
+-- Each series of the list is listed.
 abbrev pub EachSeriesIsListed : Type 0
 EachSeriesIsListed = (list : List (List ℕ)) (s : SeriesAt) → IsSeriesOf list s → Contains (series_of list) s
 
--- One ends before the next begins.
+-- Each series ends before the next one begins.
 abbrev pub SeriesAreApart : Type 0
 SeriesAreApart = (list : List (List ℕ)) → AreApart (series_of list)
 
--- The segment that a unit is on a virtual channel without segment headers has no segmentation, is on MAP 0, and has all
+-- The segment of a unit on a virtual channel without segment headers has no segmentation, is on MAP 0, and has all
 -- octets of the unit.
 abbrev pub PlainUnitIsWhole : Type 0
 PlainUnitIsWhole = (unit : List ℕ) → HasNoSegmentation unit (segment_in Bool.true unit)

@@ -1,4 +1,4 @@
--- A `TcStep` is its report.
+-- A `TcStep` stands for its report.
 use Rattle.sl_tcflow.specs.StepReport.{StepReport}
 use Rattle.sl_tcflow.specs.declared.step.TcStep.TheInside.{Inside}
 

@@ -1,4 +1,4 @@
--- A `TcForm` is the octets that are left of its form.
+-- A `TcForm` stands for the octets of its form that are still to come.
 use Rattle.std.specs.Prelude.{ℕ, ◌≤◌, List}
 use Rattle.sl_tcflow.specs.FitsTc.{FitsTc}
 use Rattle.sl_tcflow.specs.FormLeft.{IsPlace, form_left}

@@ -1,6 +1,6 @@
--- The normal form of a TC recording: the delivered packets of each virtual channel and MAP in frames of type AD
--- that have nothing of the recording's own. All of it is this project's mission profile; the frames are those of
--- CCSDS 232.0-B.
+-- The normal form of a TC recording: the delivered packets of each virtual channel and MAP, in frames of type AD that
+-- have nothing of the recording's own. All of it is this project's mission profile; the frames are those of CCSDS
+-- 232.0-B.
 use Rattle.std.specs.Prelude.{◌≡◌, ℕ, ◌+◌, ◌-◌, ◌*◌, ◌/◌, ◌%◌, ◌<◌, ◌≤◌, ◌==◌, Bool, false, if◌then◌else◌, List, [], ◌∷◌, ◌++◌, length, take, drop, map, flat_map}
 use Rattle.std.specs.List.{AllByRecursion, concat, range_with_len, slice_index_or}
 use Rattle.sl_fields.specs.Field.{octets_of}
@@ -9,15 +9,15 @@ use Rattle.sl_tcframe.specs.TcFrame.{TcFormat}
 use Rattle.sl_tcframe.specs.VcSet.{has_vc}
 use Rattle.sl_tcflow.specs.Series.{IsSeries, header_at, reassembled, segment_data}
 
--- how many segments a packet needs: each is full but the last, which has one octet or more
+-- how many segments a packet needs: each is full except the last one, which has one octet or more
 abbrev pub segment_count : ℕ → List ℕ → ℕ
 segment_count room packet = (length packet + room - 1) / room
 
--- the octets of the segment of that number
+-- the octets of the segment of a number
 abbrev pub piece_at : ℕ → List ℕ → ℕ → List ℕ
 piece_at room packet number = take room (drop (number * room) packet)
 
--- the sequence flags of the segment of that number among so many
+-- the sequence flags of the segment of a number among `count` segments
 abbrev pub flags_at : ℕ → ℕ → ℕ
 flags_at count number =
     if count == 1 then 3
@@ -25,46 +25,48 @@ flags_at count number =
     else if number + 1 == count then 2
     else 0
 
--- that segment, on a MAP: its header, the sequence flags and the MAP with their widths, and its octets
+-- the segment of a number on a MAP: its header, which is the sequence flags and the MAP with their widths, and its
+-- octets
 abbrev pub segment_of : ℕ → ℕ → List ℕ → ℕ → List ℕ
 segment_of room mid packet number =
     octets_of 1 ((2, flags_at (segment_count room packet) number) ∷ (6, mid) ∷ []) ++ piece_at room packet number
 
--- the units of a packet: its segments, or itself on a virtual channel without segment headers
+-- the units of a packet: its segments, or the packet itself on a virtual channel without segment headers
 abbrev pub units_of_packet : Bool → ℕ → ℕ → List ℕ → List (List ℕ)
 units_of_packet plain room mid packet =
     if plain then packet ∷ [] else map (segment_of room mid packet) (range_with_len 0 (segment_count room packet))
 
--- those of the packets of a virtual channel's MAPs, 64 lists by rising MAP
+-- the units of the packets of a virtual channel's MAPs, from `mid` on, one list for each MAP
 abbrev pub units_of_maps : Bool → ℕ → ℕ → List (List (List ℕ)) → List (List ℕ)
 units_of_maps plain room mid [] = []
 units_of_maps plain room mid (packets ∷ lists) = flat_map (units_of_packet plain room mid) packets ++ units_of_maps plain room (mid + 1) lists
 
--- frames of type AD of these units, N(S) from a number on, modulo 256
+-- frames of type AD of these units, with N(S) from `ns` on, modulo 256
 abbrev pub frames_of_units : TcFormat → ℕ → ℕ → ℕ → List (List ℕ) → List (List ℕ)
 frames_of_units format spacecraft vc ns [] = []
 frames_of_units format spacecraft vc ns (unit ∷ units) =
     ad_frame format spacecraft vc (ns % 256) unit ∷ frames_of_units format spacecraft vc (ns + 1) units
 
--- the frames of a virtual channel, of its 64 lists of packets by MAP, N(S) from a number on
+-- the frames of a virtual channel with these 64 lists of packets by MAP, with N(S) from `vr` on
 abbrev pub channel_frames : TcFormat → ℕ → Bool → ℕ → ℕ → List (List (List ℕ)) → List (List ℕ)
 channel_frames format spacecraft plain vr vc lists =
     frames_of_units format spacecraft vc vr (units_of_maps plain (segment_room_of format) 0 lists)
 
--- The normal form of lists of packets, that of virtual channel v and MAP m at the index 64 v + m. N(S) is on each
--- virtual channel from its V(R) before the first frame on.
+-- The frames of the normal form of lists of packets; that of virtual channel v and MAP m has the index 64 v + m. N(S)
+-- counts on each virtual channel from its initial V(R) on.
 abbrev pub tc_frames_form : TcFormat → ℕ → List ℕ → List ℕ → List (List (List ℕ)) → List (List ℕ)
 tc_frames_form format spacecraft starts plain lists =
     flat_map
     (λ vc. channel_frames format spacecraft (has_vc plain vc) (slice_index_or starts vc 0) vc (take 64 (drop (64 * vc) lists)))
     (range_with_len 0 64)
 
+-- the normal form of lists of packets: its frames end to end
 abbrev pub tc_normal_form_of : TcFormat → ℕ → List ℕ → List ℕ → List (List (List ℕ)) → List ℕ
 tc_normal_form_of format spacecraft starts plain lists = concat (tc_frames_form format spacecraft starts plain lists)
 
--- ---- what the segments of a packet are
+-- ---- the segments of a packet
 
--- The octets of segments that have room for so many: each segment is full but the last, which has one octet or more.
+-- The octets of segments with this room: each segment is full except the last one, which has one octet or more.
 pub data AreSegments (room : ℕ) : List (List ℕ) → Type 0 where
   last : (octets : List ℕ) → 0 < length octets → length octets ≤ room → AreSegments room (octets ∷ [])
   full : (octets : List ℕ) (later : List (List ℕ)) → length octets ≡ room → AreSegments room later → AreSegments room (octets ∷ later)
@@ -78,7 +80,7 @@ pub record IsDividedInto (room mid : ℕ) (packet : List ℕ) (segments : List (
 
 -- ---- laws
 
--- each packet is divided into its segments
+-- Each packet is divided into its segments.
 abbrev pub EachIsDivided : Type 0
 EachIsDivided =
     (room mid : ℕ) (packet : List ℕ) → 0 < room → mid < 64 → 0 < length packet → IsDividedInto room mid packet (units_of_packet false room mid packet)

@@ -6,9 +6,10 @@ ghost use Rattle.sl_tcflow.specs.FitsTc.{FitsOn, FitsTc};
 use sl_packet::Delivered;
 use sl_tcframe::{TcShape, VcSet};
 
-/// Whether frames of this format can carry the packets, those of virtual channel `v` and MAP `m` on channel `64 * v + m`:
-/// on each virtual channel of `plain`, whose frames have no segment headers, they are on MAP 0 alone, and none has more
-/// octets than [`TcShape::plain_room`]. It takes no memory.
+/// Whether frames of this format (CCSDS 232.0-B) can carry the packets, those of virtual channel `v` and MAP
+/// `m` on channel `64 * v + m`. On the virtual channels of `plain`, whose frames have no segment headers,
+/// packets are on MAP 0 alone, and each has at most [`TcShape::plain_room`] octets. Other virtual channels
+/// can carry all packets. The call takes no memory.
 pub fn fits_tc(shape: &TcShape, plain: &VcSet, delivered: &Delivered) -> bool
     ensures { IsTrue result ↔ FitsTc shape.now plain.now delivered.now.lists }
 {
@@ -20,7 +21,7 @@ pub fn fits_tc(shape: &TcShape, plain: &VcSet, delivered: &Delivered) -> bool
     true
 }
 
-// Whether they are such on a virtual channel without segment headers.
+// Whether frames can carry the packets of a virtual channel without segment headers.
 fn fits_on(shape: &TcShape, vc: u8, delivered: &Delivered) -> bool
     requires { vc ≤ 63 }
     ensures { IsTrue result ↔ FitsOn shape.now delivered.now.lists vc }
@@ -34,7 +35,7 @@ fn fits_on(shape: &TcShape, vc: u8, delivered: &Delivered) -> bool
     fit(shape.plain_room(), delivered.list(channel))
 }
 
-// Whether none of the packets has more octets.
+// Whether each packet has at most `room` octets.
 fn fit(room: u16, packets: &[Vec<u8>]) -> bool
     ensures { IsTrue result ↔ AllByRecursion (λ packet. vec_len packet ≤ room) packets.now }
 {

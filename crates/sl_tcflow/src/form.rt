@@ -19,15 +19,18 @@ use sl_tcframe::{TcShape, VcSet, push_tc_plain};
 use std::alloc::AllocError;
 use std::marker::Model;
 
-/// Room for any piece: a packet has 65,542 octets at most, and each of its frames 8 of its own at most and, but for
-/// the last one, 8 of the packet at least.
+/// Room for any piece: a packet has 65,542 octets at most. Each of its frames adds 8 octets of its own at
+/// most, and each but the last carries 8 octets of the packet at least.
 pub const PIECE_ROOM: usize = 131_091;
 
-// The number after the last channel.
+// The number after that of the last channel.
 const CHANNELS: u16 = 4096;
 
-/// The normal form of delivered packets, made piece by piece: a piece is the frames of a packet. A clause sees it as
-/// the octets that are still to come.
+/// The normal form of delivered packets, made piece by piece: frames of CCSDS 232.0-B of type AD in this
+/// project's own order (docs/normal-form.md). Clauses see the form as the octets that are still to come.
+///
+/// A piece is the next octets of the form, 1 to [`PIECE_ROOM`]. By reading, it is the frames of the next
+/// packet.
 #[derive(Drop)]
 pub struct TcForm<'d> {
     shape: TcShape,
@@ -38,8 +41,8 @@ pub struct TcForm<'d> {
     place: Place,
 }
 
-// The place of the next packet: its channel, 4096 after the last packet; how many packets of that channel come
-// before it; and the N(S) of its first frame.
+// The place of the next packet: its channel, which is 4096 after the last packet; the number of packets of
+// this channel that come before it; and the N(S) of its first frame.
 #[derive(Clone, Copy)]
 struct Place {
     channel: u16,
@@ -60,10 +63,13 @@ impl<'d> Model for TcForm<'d> {
 }
 
 impl<'d> TcForm<'d> {
-    /// The form of these packets, those of virtual channel `v` and MAP `m` on channel `64 * v + m`, with all of it
-    /// still to come. `spacecraft` is 0 to 1023; `starts` has V(R) of each virtual channel before its first frame, the
-    /// N(S) of that frame; the frames of the virtual channels of `plain` have no segment headers, and their packets
-    /// are such as [`fits_tc`](crate::fits_tc) tells. It takes no memory.
+    /// The form of the packets of `delivered`, those of virtual channel `v` and MAP `m` on channel
+    /// `64 * v + m`. All of the form is still to come. The call takes no memory.
+    ///
+    /// - `spacecraft` is 0 to 1023.
+    /// - `starts` has V(R) of each virtual channel before its first frame, which is the N(S) of that frame.
+    /// - `plain` has the virtual channels whose frames have no segment headers.
+    /// - `delivered` has packets that frames can carry, as [`fits_tc`](crate::fits_tc) tests.
     pub fn new(
         shape: TcShape,
         spacecraft: u16,
@@ -74,8 +80,8 @@ impl<'d> TcForm<'d> {
         requires spacecraft { spacecraft ≤ 1023 }
         requires fits { FitsTc shape plain delivered.now.lists }
         ensures all { result ≡ tc_normal_form_of shape spacecraft starts plain delivered.now.lists }
-        // Read as a recording with these starts and these channels, it delivers the packets again,
-        // whatever the window.
+        // Read as a recording with these starts and these channels, the form delivers the packets again, for
+        // every window.
         ensures delivers { (w : ℕ) →
             tc_lists shape spacecraft (record { window = w; starts = starts; plain = plain }) result
             ≡ delivered.now.lists }
@@ -99,24 +105,26 @@ impl<'d> TcForm<'d> {
         }
     }
 
-    /// Adds the next piece to `form`, and answers whether there was one. A piece has 1 to [`PIECE_ROOM`] octets.
+    /// Adds the next piece to the end of `form`, and answers whether there was one. A piece has 1 to
+    /// [`PIECE_ROOM`] octets. `false` means that the whole normal form was made.
     ///
-    /// The only refusal is want of memory, and only where a piece is left and the capacity of `form` has no room for
-    /// [`PIECE_ROOM`] octets more. Both are then as they were.
+    /// Memory is refused only where a piece is left and the capacity of `form` has no room for [`PIECE_ROOM`]
+    /// octets more. The piece is then still to come, and `form` is as it was.
     pub fn next(&mut self, form: &mut Vec<u8>) -> Result<bool, AllocError>
-        // The piece is the beginning of the octets of the normal form that were still to come, and what
-        // follows it is still to come; there is none where the whole normal form was made.
+        // The piece is the front of the octets that were still to come, and the octets after it are still to
+        // come. Without a piece the whole normal form was made.
         ensures piece { IfOk result (λ some. IsTrue some
             → AddsPiece self.old form.old.items self.new form.new.items) }
         ensures end { IfOk result (λ some. IsFalse some
             → (self.old ≡ []) × (self.new ≡ []) × (form.new.items ≡ form.old.items)) }
 
-        // Where memory is refused, a piece is still to come, the same is, and nothing was added.
+        // Where memory is refused, a piece is still to come, the same octets are still to come, and nothing
+        // was added.
         ensures pieces { OnErr result (self.old ≢ []) }
         ensures unchanged { OnErr result
             ((self.new ≡ self.old) × (form.new.items ≡ form.old.items)) }
 
-        // Memory is refused only where there is no room for a piece, and none is given back.
+        // Memory is refused only where there is no room for a piece, and no memory is given back.
         ensures capacity { vec_capacity form.old ≤ vec_capacity form.new }
         ensures full { OnErr result (vec_capacity form.old < vec_len form.old + piece_room) }
         ensures succeeds { vec_len form.old + piece_room ≤ vec_capacity form.old → IsOk result }
@@ -143,16 +151,16 @@ impl<'d> TcForm<'d> {
     }
 }
 
-// The packet of a place, if there is one.
+// The packet at a place, if there is one.
 fn packet_at(delivered: &Delivered, place: Place) -> Option<&[u8]>
-    // It is the packet of this number of the channel's list,
+    // The packet has this number in the channel's list.
     ensures some { IfSome result (λ packet.
         packet.now ≡ slice_index_or (list_at delivered.now place.channel) place.framed []) }
     ensures inside { IfSome result (λ packet.
         place.framed < length (list_at delivered.now place.channel)) }
     ensures none { IfNone result (length (list_at delivered.now place.channel) ≤ place.framed) }
 
-    // and as such deliverable, on a channel.
+    // The packet may be delivered, and its place is on a channel.
     ensures counted { IfSome result (λ packet. place.framed + 1 < 2 ^ 64) }
     ensures channel { IfSome result (λ packet. place.channel < channel_count) }
     ensures deliverable { IfSome result (λ packet. IsDeliverable packet.now) }
@@ -163,8 +171,8 @@ fn packet_at(delivered: &Delivered, place: Place) -> Option<&[u8]>
     Some(packet.as_slice())
 }
 
-// Adds the frames of a packet, on a virtual channel without segment headers (`plain`) or with them, and answers the N(S)
-// of the next frame.
+// Adds the frames of a packet, on a virtual channel without segment headers (`plain`) or with them. Answers
+// the N(S) of the next frame.
 fn push_piece(
     form: &mut Vec<u8>,
     shape: &TcShape,
@@ -176,7 +184,7 @@ fn push_piece(
     requires channel { heading.channel < channel_count }
     requires deliverable { IsDeliverable packet.now }
     requires short { plain ≡ true → length packet.now ≤ plain_room_of shape.now }
-    // They are the piece of the packet, and N(S) goes on by one for each.
+    // The frames are the piece of the packet, and N(S) rises by one for each.
     ensures frames { OnOk result (form.new.items ≡ form.old.items
         ++ piece_of shape.now heading.spacecraft plain heading.channel heading.ns packet.now) }
     ensures next { IfOk result (λ next. next
@@ -185,7 +193,7 @@ fn push_piece(
         (piece_of shape.now heading.spacecraft plain heading.channel heading.ns packet.now) }
     ensures most { OnOk result (vec_len form.new ≤ vec_len form.old + piece_room) }
 
-    // Memory is refused only where there is no room for a piece, and nothing was added then.
+    // Memory is refused only where there is no room for a piece, and then nothing is added.
     ensures unchanged { OnErr result (form.new.items ≡ form.old.items) }
     ensures capacity { vec_capacity form.old ≤ vec_capacity form.new }
     ensures full { OnErr result (vec_capacity form.old < vec_len form.old + piece_room) }
@@ -205,8 +213,8 @@ fn push_piece(
     }
 }
 
-// The place of the first packet from a place on. N(S) goes on within a virtual channel, and begins with V(R) of `starts` on
-// the next one.
+// The place of the first packet from a place on. N(S) goes on within a virtual channel, and begins with V(R)
+// of `starts` on the next one.
 fn next_place(delivered: &Delivered, starts: &Starts, from: Place) -> Place
     requires channel { from.channel < channel_count }
     ensures left { (format : TcFormat) (spacecraft : ℕ) (plain : List ℕ)

@@ -9,11 +9,11 @@ use sl_fields::SegmentHeader;
 use sl_tcframe::{TcShape, push_tc};
 use std::alloc::AllocError;
 
-/// What the headers of the frames of a packet show.
+/// The values in the headers of a packet's frames.
 #[derive(Clone, Copy)]
 pub(crate) struct Heading {
     pub(crate) spacecraft: u16,
-    /// The channel of the packet: 64 times its virtual channel, plus its MAP.
+    /// The channel of the packet: 64 times its virtual channel plus its MAP.
     pub(crate) channel: u16,
     /// The N(S) of the first frame.
     pub(crate) ns: u8,
@@ -28,8 +28,8 @@ pub(crate) fn push_packet(
 ) -> Result<u8, AllocError>
     requires spacecraft { heading.spacecraft ≤ 1023 }
     requires channel { heading.channel < channel_count }
-    // The frames are those of the packet on a virtual channel with segment headers; N(S) goes on by one
-    // for each.
+    // The frames are those of the packet on a virtual channel with segment headers, and N(S) rises by one for
+    // each.
     ensures frames { OnOk result (form.new.items ≡ form.old.items
         ++ piece_of shape.now heading.spacecraft false heading.channel heading.ns packet.now) }
     ensures next { IfOk result (λ next. next
@@ -37,7 +37,8 @@ pub(crate) fn push_packet(
     ensures room { 0 < segment_room_of shape.now }
     ensures most { OnOk result (vec_len form.new ≤ vec_len form.old + 2 * length packet.now + 7) }
 
-    // Memory is refused only where there is no room for them. Some frames may have been added then.
+    // Memory is refused only where there is no room for the frames. Some of the frames may have been added
+    // then.
     ensures kept { OnErr result (take (vec_len form.old) form.new.items ≡ form.old.items) }
     ensures capacity { vec_capacity form.old ≤ vec_capacity form.new }
     ensures full { OnErr result
@@ -59,7 +60,7 @@ pub(crate) fn push_packet(
     Ok(ns)
 }
 
-// The octets of the next segment, and those after it.
+// Splits off the octets of the next segment.
 fn split_segment(left: &[u8], room: usize) -> (&[u8], &[u8])
     ensures octets { result.0.now ≡ take room left.now }
     ensures later { result.1.now ≡ drop room left.now }

@@ -12,13 +12,13 @@ use sl_packet::{FlowFault, PacketSink, add_part, give_back};
 use std::alloc::Global;
 use std::marker::Model;
 
-/// The longest service data unit, as long as the longest packet.
+/// The octets of the longest service data unit, as many as the longest packet has.
 const MOST_OCTETS: usize = 65542;
 
-/// The most memory that is kept for the next series.
+/// The octets of memory that are kept at most for the next series.
 const MOST_KEPT: usize = 4096;
 
-/// The octets so far of the series that is incomplete, if one is.
+/// The octets so far of the incomplete series, if there is one.
 #[derive(Drop)]
 pub struct Incomplete {
     is_begun: bool,
@@ -38,7 +38,7 @@ impl Model for Incomplete {
 }
 
 impl Incomplete {
-    /// None is incomplete.
+    /// No series is incomplete.
     pub fn new(alloc: Global) -> Incomplete
         ensures { result ≡ None }
     {
@@ -48,7 +48,7 @@ impl Incomplete {
         }
     }
 
-    /// How many octets it has so far, if a series is incomplete.
+    /// The number of octets so far of the incomplete series, if there is one.
     #[inline(always)]
     pub fn held(&self) -> Option<u32>
         ensures octets { result ≡ option_map length self.now }
@@ -60,7 +60,8 @@ impl Incomplete {
         Some(self.octets.len() as u32)
     }
 
-    /// Takes the next segment, hands the sink the packets that end with it, and reports these and what is amiss.
+    /// Takes the next segment, hands the sink the packets that end with the segment, and reports these
+    /// packets and the anomalies.
     #[inline(always)]
     pub fn take<S: PacketSink>(
         &mut self,
@@ -70,18 +71,18 @@ impl Incomplete {
         requires flags { segment.now.flags ≤ 3 }
         requires short { length segment.now.octets.now ≤ 1019 }
         requires channel { segment.now.channel ≤ 4095 }
-        // The series goes on, begins or ends as these sequence flags say,
+        // The series continues, begins or ends as the sequence flags say.
         ensures state { OnOk result (self.new
             ≡ incomplete_with self.old segment.now.flags segment.now.octets.now) }
 
-        // and the sink is handed the packets that end with the segment, which the step reports.
+        // The sink is handed the packets that end with the segment, and the step reports them.
         ensures hands_over { HandsOver S.taking S.failing S.failures counts_of
             sink.old segment.now.channel
             (packets_with self.old segment.now.flags segment.now.octets.now) result sink.new }
         ensures step { IfOk result
             (IsReported self.old segment.now.flags segment.now.octets.now) }
 
-        // Memory is wanted only where a series is incomplete, before the segment or after it.
+        // Memory is asked for only where a series is incomplete, before the segment or after it.
         ensures memory { IfErr result (λ flow. flow ≡ FlowFault.Memory → (self.old ≢ None)
             ⊎ (incomplete_with self.old segment.now.flags segment.now.octets.now ≢ None)) }
     {
@@ -103,7 +104,7 @@ impl Incomplete {
         }
     }
 
-    // Begins with these octets, and gives up what was incomplete.
+    // Begins a series with these octets, and gives up the incomplete one.
     #[inline(always)]
     fn begin(&mut self, octets: &[u8]) -> Result<TcStep, FlowFault>
         requires { length octets.now ≤ 1019 }
@@ -120,7 +121,7 @@ impl Incomplete {
         }
     }
 
-    // Goes on with these octets, and gives the series up where it is too long with them.
+    // Continues the series with these octets, and gives the series up where it becomes too long.
     #[inline(always)]
     fn go_on(&mut self, octets: &[u8]) -> Result<TcStep, FlowFault>
         requires { length octets.now ≤ 1019 }
@@ -176,7 +177,7 @@ impl Incomplete {
         ended
     }
 
-    // Forgets a series that has ended. The memory of a short one is kept for the next.
+    // Clears a series that has ended. The memory of a short series is kept for the next one.
     #[inline(always)]
     fn close(&mut self)
         ensures { self.new ≡ None }
@@ -189,7 +190,8 @@ impl Incomplete {
         self.octets.clear();
     }
 
-    // Gives up the series that is incomplete, if one is, and the memory that it takes. Answers how many octets it had.
+    // Gives up the incomplete series, if there is one, and gives its memory back. Answers how many octets the
+    // series had.
     #[inline(always)]
     fn give_up(&mut self) -> Option<u32>
         ensures none { self.new ≡ None }

@@ -1,4 +1,4 @@
-//! Packets out of the frames that FARM-1 accepts.
+//! Packets from the frames that FARM-1 accepts.
 ghost use Rattle.std.specs.Prelude.{◌≡◌, ◌≢◌, ◌≤◌, ◌<◌, ◌++◌, ◌∷◌, [], ℕ, Bool, List, length, is_some, OnOk, IfOk, IfErr, IfSome, IfNone, Err};
 ghost use Rattle.sl_cop.specs.FarmClcw.{clcw_of};
 ghost use Rattle.sl_packet.specs.Packets.{only_idle, without_idle};
@@ -25,8 +25,9 @@ use sl_tcframe::{TcContent, TcFrame, VcSet};
 use std::alloc::Global;
 use std::marker::Model;
 
-/// Delivers the packets of the virtual channels and MAPs of CCSDS 232.0-B from the frames that FARM-1 accepts,
-/// given one after another.
+/// Delivers the packets of the virtual channels and MAPs of CCSDS 232.0-B from the frames that FARM-1 (CCSDS
+/// 232.1-B) accepts. The frames are given one after another. AD and BD units of a MAP make one list, in the
+/// order of their acceptance; this is this project's choice.
 #[derive(Drop)]
 pub struct Receiver {
     farms: [Farm; 64],
@@ -46,9 +47,9 @@ impl Model for Receiver {
 }
 
 impl Receiver {
-    /// A receiver that was given no frame: FARM-1 of each virtual channel is open, with this window and its own
-    /// V(R) of `starts`. The frames of the virtual channels of `plain` have no segment headers. It takes memory only
-    /// as segments come.
+    /// A receiver that was given no frame yet. FARM-1 of each virtual channel is open, with this window and
+    /// the channel's own V(R) of `starts`. The frames of the virtual channels of `plain` have no segment
+    /// headers. The receiver takes memory only as segments come.
     pub fn new(alloc: Global, window: Window, starts: &Starts, plain: VcSet) -> Receiver
         ensures processed { HasProcessed
             (record { window = window; starts = starts.now; plain = plain }) result [] }
@@ -62,27 +63,33 @@ impl Receiver {
         }
     }
 
-    /// Steps FARM-1 of the frame's virtual channel, and hands the sink the packets that end with the frame's
-    /// unit, if it is accepted, but for idle ones. Their channel is 64 times the virtual channel, plus the MAP. The
-    /// step says what is amiss with the unit.
+    /// Takes the next frame: steps FARM-1 of the frame's virtual channel, and takes the frame's unit if it is
+    /// accepted. Hands the sink the packets of the service data unit that ends with the unit, in order and
+    /// without idle packets. Their channel is 64 times the virtual channel plus the MAP, 0 to 4095. Answers
+    /// what the frame brought.
     ///
-    /// The fault is `Memory` where memory was refused, which is wanted only where the unit is accepted and a series
-    /// is incomplete on its MAP, before the frame or after it, and `Sink` where the sink refused a packet: it has
-    /// accepted the packets before that one, and none after it. At `Sink` the sink's count of failures has risen by
-    /// one, unless it was at its greatest. At either FARM-1 has taken the frame, and after it each call is `Failed`,
-    /// and hands over nothing.
+    /// - `Memory`: memory was refused. Memory is asked for only where the unit is accepted and a series is
+    ///   incomplete on its MAP, before the frame or after it. The sink has accepted some of the packets, from
+    ///   the first one on, and refused none.
+    /// - `Sink`: the sink refused a packet. It has accepted the packets before this one, and none after it.
+    ///   Its count of refused packets has risen by one, unless it was 2^64 - 1.
+    /// - `Failed`: an earlier call answered `Memory` or `Sink`. Every call after these two answers `Failed`,
+    ///   hands over nothing and changes nothing; no other call answers it.
+    ///
+    /// At `Memory` and `Sink` FARM-1 has taken the frame.
     pub fn frame<S: PacketSink>(
         &mut self,
         frame: &TcFrame,
         sink: &mut S,
     ) -> Result<TcStep, FlowFault>
-        // Whichever frames were processed before, now they and this one are, and FARM-1 gave the verdict.
+        // Whichever frames were processed before, these and the new frame are processed now, and FARM-1 gave
+        // the verdict.
         ensures processed { OnOk result (ForProcessed self.old (λ r views.
             HasProcessed r self.new (views ++ frame.now ∷ []))) }
         ensures verdict { IfOk result (λ step. ForProcessed self.old (λ r views.
             step.verdict ≡ verdict_on r views frame.now)) }
 
-        // The packets that end with its unit were accepted and counted, and the sink has refused none.
+        // The packets that end with the frame's unit were accepted and counted, and the sink refused none.
         ensures accepted { OnOk result (ForProcessed self.old (λ r views.
             TakesAll S.taking sink.old (unit_channel r frame.now)
             (without_idle (ended_by r views frame.now)) sink.new)) }
@@ -92,7 +99,7 @@ impl Receiver {
             step.idle ≡ length (only_idle (ended_by r views frame.now)))) }
         ensures kept { OnOk result (S.failures sink.new ≡ S.failures sink.old) }
 
-        // What is amiss with its unit is told, if it is accepted.
+        // The anomalies of the frame's unit are reported, if it is accepted.
         ensures stray { IfOk result (λ step. ForProcessed self.old (λ r views.
             step.stray ≡ stray_by r views frame.now)) }
         ensures dropped { IfOk result (λ step. ForProcessed self.old (λ r views.
@@ -102,20 +109,21 @@ impl Receiver {
         ensures tail { IfOk result (λ step. ForProcessed self.old (λ r views.
             step.tail ≡ tail_by r views frame.now)) }
 
-        // After a fault each call fails, and leaves all as it was; none fails before.
+        // After a fault each call answers `Failed` and changes nothing. No call answers `Failed` before a
+        // fault.
         ensures failed { HasFailed self.old → result ≡ Err FlowFault.Failed }
         ensures left { result ≡ Err FlowFault.Failed
             → HasFailed self.old × (self.new ≡ self.old) × (sink.new ≡ sink.old) }
 
-        // At a fault some of the packets were accepted, the first ones, and FARM-1 has taken the frame.
-        // Whatever was processed before, the sink failed exactly where the fault says so.
+        // At a fault some of the packets were accepted, from the first one on, and FARM-1 has taken the
+        // frame, whichever frames were processed before. The sink failed exactly where the fault says so.
         ensures stopped { IfErr result (λ flow. flow ≢ FlowFault.Failed → HasFailed self.new
             × ForProcessed self.old (λ r views. HasFailedAfter r self.new (views ++ frame.now ∷ [])
             × IsStopped S.taking S.failing S.failures sink.old (unit_channel r frame.now)
             (without_idle (ended_by r views frame.now)) flow sink.new)) }
         ensures counted { IfErr result (λ flow. CountsFault S.failures sink.old flow sink.new) }
 
-        // Memory is wanted only where the frame's unit is accepted and a series is incomplete on its MAP,
+        // Memory is asked for only where the frame's unit is accepted and a series is incomplete on its MAP,
         // before the frame or after it.
         ensures memory { IfErr result (λ flow. flow ≡ FlowFault.Memory →
             ForProcessed self.old (λ r views. IsIncompleteAround r views frame.now)) }
@@ -123,7 +131,7 @@ impl Receiver {
         if self.has_failed {
             return Err(FlowFault::Failed);
         }
-        // A fault leaves it set.
+        // A fault leaves the flag set.
         self.has_failed = true;
         let verdict = step(&mut self.farms, frame);
         let plain = self.plain.has(frame.vc());
@@ -135,7 +143,9 @@ impl Receiver {
         Ok(reported)
     }
 
-    /// The Communications Link Control Word of a virtual channel.
+    /// The Communications Link Control Word (CCSDS 232.0-B) of the virtual channel `vc`, 0 to 63: it reports
+    /// the state of FARM-1 after all frames so far. After a fault the last of these is the frame at which the
+    /// fault came, and the word stays so.
     pub fn clcw(&self, vc: u8) -> Clcw
         requires { vc ≤ 63 }
         ensures processed { ForProcessed self.now (λ r views.
@@ -147,8 +157,9 @@ impl Receiver {
         self.farms[usize::from(vc)].clcw(vc)
     }
 
-    /// The octets so far of the series that is incomplete on a virtual channel and a MAP, 0 where none is. After a
-    /// fault they are at most 65,542, as ever, and nothing else is said of them.
+    /// The number of octets so far of the series that is incomplete on the virtual channel `vc` and the MAP
+    /// `map`, each 0 to 63: at most 65,542, and 0 where no series is incomplete. An incomplete series may
+    /// have 0 octets too. After a fault only the bound holds.
     pub fn held(&self, vc: u8, map: u8) -> u32
         requires vc { vc ≤ 63 }
         requires map { map ≤ 63 }
@@ -159,8 +170,8 @@ impl Receiver {
         self.series.held(vc, map).unwrap_or(0)
     }
 
-    /// Whether a series is incomplete on a virtual channel and a MAP. It may have no octets so far. After a fault
-    /// nothing is said of it.
+    /// Whether a series is incomplete on the virtual channel `vc` and the MAP `map`, each 0 to 63. The series
+    /// may have no octets so far. After a fault the answer means nothing.
     pub fn is_open(&self, vc: u8, map: u8) -> bool
         requires vc { vc ≤ 63 }
         requires map { map ≤ 63 }
@@ -193,7 +204,7 @@ fn step(farms: &mut [Farm; 64], frame: &TcFrame) -> Verdict
     farms[usize::from(frame.vc())].step(event_in(&frame.content()))
 }
 
-// What a frame is to FARM-1.
+// The event that a frame is to FARM-1.
 fn event_in(carried: &TcContent) -> FarmEvent
     ensures { result ≡ event_of (content carried.now) }
 {
@@ -205,8 +216,8 @@ fn event_in(carried: &TcContent) -> FarmEvent
     }
 }
 
-// Takes the unit of a frame, if it carries one and this verdict accepts it, on a virtual channel without segment headers
-// or with them.
+// Takes the unit of a frame, if the frame carries one and this verdict accepts it, on a virtual channel
+// without segment headers (`plain`) or with them.
 fn take<S: PacketSink>(
     series: &mut SeriesStore,
     plain: bool,
@@ -214,8 +225,8 @@ fn take<S: PacketSink>(
     frame: &TcFrame,
     sink: &mut S,
 ) -> Result<TcStep, FlowFault>
-    // Whichever frames came before, as long as they left these series: the unit goes on with its series,
-    // begins or ends it, its packets are handed over, and the step reports them.
+    // The clauses hold for all frames that may have come before and led to these series. The unit continues,
+    // ends or begins its series, its packets are handed over, and the step reports them.
     ensures series { OnOk result (ForIncomplete plain series.old.list verdict frame.now
         (λ r views. AreIncomplete r series.new.list (views ++ frame.now ∷ []))) }
     ensures hands_over { ForIncomplete plain series.old.list verdict frame.now
@@ -242,15 +253,15 @@ fn take<S: PacketSink>(
     }
 }
 
-// The unit that is accepted.
+// The unit of a frame, where this verdict accepts it.
 fn accepted_unit<'a>(verdict: Verdict, carried: &TcContent<'a>) -> Option<&'a [u8]>
     requires { IsContent (content carried.now) }
-    // It is the unit that the frame carries, where this verdict accepts one,
+    // The unit is the one that the frame carries, where the verdict accepts one.
     ensures unit { IfSome result (λ unit. unit_by verdict (content carried.now) ≡ unit.now ∷ []) }
     ensures accepted { IfSome result (λ unit. verdict ≡ Verdict.Accept) }
     ensures none { IfNone result (unit_by verdict (content carried.now) ≡ []) }
 
-    // and such as a frame can carry.
+    // The unit is one that a frame can carry.
     ensures map { IfSome result (λ unit. (plain : Bool)
         → map_of plain (content carried.now) ≡ (header_at (segment_in plain unit.now)).map) }
     ensures some { IfSome result (λ unit. 0 < length unit.now) }

@@ -5,7 +5,8 @@ ghost use Rattle.sl_tcflow.specs.Series.{flags_of, header_at, segment_data, segm
 
 use sl_fields::{SegmentHeader, front};
 
-/// The sequence flags of a continuing, a first and a last segment, and of one with no segmentation (CCSDS 232.0-B).
+/// The sequence flags of segments (CCSDS 232.0-B): of a continuing, a first and a last one, and of one with
+/// no segmentation.
 pub const CONTINUING: u8 = 0;
 
 pub const FIRST: u8 = 1;
@@ -14,8 +15,9 @@ pub const LAST: u8 = 2;
 
 pub const WHOLE: u8 = 3;
 
-/// A segment: the sequence flags of its segment header, the channel of its packets, 64 times the virtual channel plus the
-/// MAP of that header, and the octets after it. One on a virtual channel without segment headers is whole and on MAP 0.
+/// A segment: the sequence flags of its segment header, the channel of its packets, and the octets after the
+/// header. The channel is 64 times the virtual channel plus the header's MAP. A segment on a virtual channel
+/// without segment headers has no segmentation and is on MAP 0.
 #[derive(Clone, Copy)]
 pub struct Segment<'a> {
     pub flags: u8,
@@ -23,16 +25,16 @@ pub struct Segment<'a> {
     pub octets: &'a [u8],
 }
 
-/// The segment that a unit of a virtual channel is, without segment headers (`plain`) or with them.
+/// Reads a unit of a virtual channel as a segment, without segment headers (`plain`) or with them.
 pub fn segment_of(vc: u8, plain: bool, unit: &[u8]) -> Segment
     requires vc { vc ≤ 63 }
     requires some { 0 < length unit.now }
-    // It is the segment that the unit stands for,
+    // The segment is the one that the unit stands for.
     ensures flags { result.flags ≡ flags_of (segment_in plain unit.now) }
     ensures channel { result.channel ≡ channel_at vc (header_at (segment_in plain unit.now)).map }
     ensures octets { result.octets.now ≡ segment_data (segment_in plain unit.now) }
 
-    // no longer than the unit, with 2 bits of flags, on a channel.
+    // The segment has no more octets than the unit, 2 bits of flags, and the channel of a MAP.
     ensures short { length result.octets.now ≤ length unit.now }
     ensures most { result.flags ≤ 3 }
     ensures channel_most { result.channel ≤ 4095 }

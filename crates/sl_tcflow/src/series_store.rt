@@ -14,11 +14,11 @@ use sl_packet::{FlowFault, PacketSink};
 use std::alloc::{AllocError, Global};
 use std::marker::Model;
 
-/// The series that are incomplete, by the channels of their packets.
+/// The incomplete series, by the channels of their packets.
 #[derive(Drop)]
 pub struct SeriesStore {
     alloc: Global,
-    // Reaches the greatest channel on which a series has begun.
+    // The list reaches up to the greatest channel on which a series has begun.
     list: Vec<Incomplete>,
 }
 
@@ -33,7 +33,7 @@ impl Model for SeriesStore {
 }
 
 impl SeriesStore {
-    /// None is incomplete. It takes memory only as series begin.
+    /// No series is incomplete. The store takes memory only as series begin.
     pub fn new(alloc: Global) -> SeriesStore
         ensures none { result.list ≡ [] }
         ensures memory { result.room ≡ 0 }
@@ -44,7 +44,7 @@ impl SeriesStore {
         }
     }
 
-    /// How many octets the series of a virtual channel and a MAP has so far, if one is incomplete.
+    /// The number of octets so far of the incomplete series on a virtual channel and a MAP, if there is one.
     pub fn held(&self, vc: u8, map: u8) -> Option<u32>
         requires vc { vc ≤ 63 }
         requires map { map ≤ 63 }
@@ -68,12 +68,12 @@ impl SeriesStore {
         requires flags { segment.now.flags ≤ 3 }
         requires short { length segment.now.octets.now ≤ 1019 }
         requires channel { segment.now.channel ≤ 4095 }
-        // The series of the channel goes on, begins or ends as its sequence flags say,
+        // The series of the channel continues, begins or ends as the sequence flags say.
         ensures placed { OnOk result (IsPlaced self.old.list segment.now.channel
             (incomplete_with (at self.old.list segment.now.channel) segment.now.flags
             segment.now.octets.now) self.new.list) }
 
-        // and the sink is handed the packets that end with the segment, which the step reports.
+        // The sink is handed the packets that end with the segment, and the step reports them.
         ensures hands_over { HandsOver S.taking S.failing S.failures counts_of
             sink.old segment.now.channel
             (packets_with (at self.old.list segment.now.channel) segment.now.flags
@@ -81,7 +81,7 @@ impl SeriesStore {
         ensures step { IfOk result (IsReported (at self.old.list segment.now.channel)
             segment.now.flags segment.now.octets.now) }
 
-        // Memory is wanted only where a series is incomplete, before the segment or after it.
+        // Memory is asked for only where a series is incomplete, before the segment or after it.
         ensures memory { IfErr result (λ flow. flow ≡ FlowFault.Memory →
             (at self.old.list segment.now.channel ≢ None)
             ⊎ (incomplete_with (at self.old.list segment.now.channel) segment.now.flags
@@ -99,7 +99,7 @@ impl SeriesStore {
     }
 }
 
-// Adds to the list up to this index. Nothing is incomplete at what is added.
+// Extends the list up to this index. No series is incomplete at the new places.
 fn reach(alloc: Global, list: &mut Vec<Incomplete>, index: usize) -> Result<(), AllocError>
     ensures reached { OnOk result (index < vec_len list.new) }
     ensures same { (other : ℕ) → at list.new.items other ≡ at list.old.items other }

@@ -1,10 +1,11 @@
-//! What a frame brought.
+//! What a frame brought to a receiver.
 ghost use Rattle.std.specs.Prelude.{◌≡◌};
 
 use sl_cop::Verdict;
 use std::marker::Model;
 
-/// What a receiver made of a frame.
+/// The report of a [`Receiver`](crate::Receiver) on one frame. Where the frame's unit isn't accepted, or the
+/// frame carries none, only the verdict says something: all else is false, `None` or 0.
 #[derive(Clone, Copy, Debug, PartialEq, Eq)]
 pub struct TcStep {
     pub(crate) verdict: Verdict,
@@ -16,7 +17,7 @@ pub struct TcStep {
     pub(crate) tail: u32,
 }
 
-/// What an accepted frame brings where nothing ends with its unit and nothing is amiss with it.
+/// The report on an accepted frame whose unit ends no service data unit and has no anomaly.
 pub(crate) const QUIET: TcStep = TcStep {
     verdict: Verdict::Accept,
     packets: 0,
@@ -40,53 +41,54 @@ impl Model for TcStep {
 }
 
 impl TcStep {
-    /// What FARM-1 answered.
+    /// The verdict of FARM-1 on the frame.
     pub fn verdict(&self) -> Verdict
         ensures { result ≡ self.now.verdict }
     {
         self.verdict
     }
 
-    /// Packets that end with the frame's unit, idle ones left out.
+    /// The number of packets of the service data unit that ends with the frame's unit, idle packets left out.
     pub fn packets(&self) -> u32
         ensures { result ≡ self.now.packets }
     {
         self.packets
     }
 
-    /// Idle packets that end with the frame's unit.
+    /// The number of idle packets of the service data unit that ends with the frame's unit.
     pub fn idle(&self) -> u32
         ensures { result ≡ self.now.idle }
     {
         self.idle
     }
 
-    /// Whether the frame's unit is out of sequence: a continuing or last segment where no series is incomplete.
+    /// Whether the frame's unit is out of sequence: it is a continuing or last segment, and no series is
+    /// incomplete.
     pub fn stray(&self) -> bool
         ensures { result ≡ self.now.stray }
     {
         self.stray
     }
 
-    /// The octets of the series that was incomplete, if one was, where the frame's unit begins another one. It may
-    /// have had none.
+    /// The octets of the series that was incomplete, 0 to 65,542, where the frame's unit begins another one.
+    /// `None` where no series was incomplete, or where the unit doesn't begin one.
     pub fn dropped(&self) -> Option<u32>
         ensures { result ≡ self.now.dropped }
     {
         self.dropped
     }
 
-    /// Whether the series that was incomplete is given up: together with the frame's unit it has more than 65,542
-    /// octets.
+    /// Whether the series that was incomplete is given up, because it has more than 65,542 octets together
+    /// with the frame's unit. This bound is this project's choice.
     pub fn long(&self) -> bool
         ensures { result ≡ self.now.long }
     {
         self.long
     }
 
-    /// The octets that are left after the packets of the service data unit that ends with the frame's unit, all of
-    /// them where it has none. 0 where none are left, and where no service data unit ends: a series that is given up
-    /// ends none.
+    /// The octets that are left after the last whole packet of the service data unit that ends with the
+    /// frame's unit: all of its octets where it has no packet. 0 where no octets are left, and where no
+    /// service data unit ends. A series that is given up ends none.
     pub fn tail(&self) -> u32
         ensures { result ≡ self.now.tail }
     {

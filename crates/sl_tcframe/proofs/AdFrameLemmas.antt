@@ -1,4 +1,4 @@
--- A frame of type AD as it is made, and as it is read back.
+-- A frame of type AD, as it is made and as it is read back.
 use Rattle.std.proofs.Common.{◌≡◌, ℕ, ◌+◌, ◌-◌, ◌<◌, ◌≤◌, ◌==◌, nat_lt, true, false, not, ◌&&◌, List, [], ◌∷◌, ◌++◌, length, Option, Some, None, Ok, if◌then◌else◌, refl, sym, ◌∙◌, ap, arith, append_assoc, length-append}
 use Rattle.std.proofs.lemmas.Bool.{eq-eqb, ne_eqb, le-ltb}
 use Rattle.sl_fields.specs.FecfField.{fecf_part}
@@ -15,7 +15,7 @@ use Rattle.sl_tcframe.specs.TcFrame.{TcFormat, TcParts, ArePartsOf, Ad, tc_heade
 use Rattle.sl_tcframe.specs.AdFrame.{FitAdFrame, ad_len, ad_frame}
 use Rattle.sl_tcframe.proofs.PartLemmas.{only_parts, parts_cut}
 
--- the header of a frame of type AD of so many octets, which reads back
+-- the header of a frame of type AD of `len` octets, which reads back
 abbrev ad_header : ℕ → ℕ → ℕ → ℕ → TcFields
 ad_header spacecraft vc ns len =
     record {
@@ -34,7 +34,7 @@ unit_is : (h : TcFields) (field : List ℕ) → h.bypass ≡ false → 0 < lengt
 unit_is h [] kept some = absurd (omega arith)
 unit_is h (octet ∷ octets) kept some = rw kept refl
 
--- why a frame under this header with this data field is skipped whose error control field isn't wrong
+-- the reason to skip a frame under this header, with this data field and a right error control field
 abbrev reason_by : ℕ → ℕ → ℕ → TcFields → List ℕ → Option TcSkip
 reason_by spacecraft max len h field =
     if not (h.version == 0) then Some Version

@@ -1,4 +1,4 @@
--- Octets that are incomplete become a frame.
+-- Octets with an incomplete front become a frame.
 use Rattle.std.proofs.Common.{◌≡◌, ℕ, ◌-◌, ◌<◌, ◌≤◌, List, [], ◌∷◌, ◌++◌, length, replicate, inl, inr, rules, sym, ◌∙◌, ap, subst, arith, append_assoc, length-append}
 use Rattle.std.proofs.lemmas.Bool.Decides.{leb_tells}
 use Rattle.std.proofs.lemmas.List.{length-replicate}
@@ -12,7 +12,7 @@ use Rattle.sl_tcframe.proofs.FramingLemmas.{front_tells, front_whole, len_by_fou
 abbrev Becomes : TcFormat → List ℕ → Type 0
 Becomes format octets = (more : List ℕ) × IsOctets more × (front_of format (octets ++ more) ≡ WholeFrame (length (octets ++ more)))
 
--- with zeros, where four octets state the length
+-- zeros complete a frame where four octets state its length
 filled_up : (format : TcFormat) (octets : List ℕ) → 4 ≤ length octets → least_of format ≤ len_by_four octets → length octets ≤ len_by_four octets → Becomes format octets
 filled_up format octets four enough short =
     let wanted : ℕ = len_by_four octets - length octets in
@@ -24,7 +24,7 @@ filled_up format octets four enough short =
       front_whole format (octets ++ more) (omega (arith, four, short, size)) (omega (arith, enough, same)) (omega (arith, same, size)) ∙ ap WholeFrame (same ∙ sym size),
     )
 
--- octets up to the fourth, which states 256 octets or more
+-- fewer than four octets, filled up to four that state 256 octets or more
 record Header (octets : List ℕ) : Type 0 where
   pub pad : List ℕ
   pub each : IsOctets pad

@@ -14,7 +14,7 @@ use Rattle.sl_tcframe.proofs.PartLemmas.{facts_cut}
 
 -- ---- the front
 
--- the fifth octet changes nothing
+-- the fifth octet doesn't change the stated length
 stated_by_four : (octets : List ℕ) → IsOctets octets → 5 ≤ length octets → len_by_four octets ≡ stated_frame_len octets
 stated_by_four octets each five = four_state_it octets five (All-get_or (λ octet. octet < 256) octets 4 0 (omega arith) each)
 
@@ -38,7 +38,7 @@ frame_is_whole format octets len each some =
     let same : len_by_four octets ≡ len = stated_by_four octets each header ∙ sym f.stated in
     front_whole format octets (omega (arith, header)) (omega (arith, least, same)) (omega (arith, inside, same)) ∙ ap WholeFrame same
 
--- the frame that octets begin with
+-- the frame at the front of octets
 begins_with : (format : TcFormat) (octets : List ℕ) (len : ℕ) → front_len format octets ≡ Some len → BeginsWith format octets len
 begins_with format octets len some =
     let f = front_some format octets len some in
@@ -57,7 +57,7 @@ fronts_are_frames format octets len each = (
   λ begins. frame_is_whole format octets len each (front_begins format octets len begins),
 )
 
--- no frame is at a front that isn't whole
+-- no frame is at the front of octets where their stated length rules it out
 no_frame : (format : TcFormat) (octets : List ℕ) → IsOctets octets
     → (IsFront format octets (stated_frame_len octets) → len_by_four octets ≡ stated_frame_len octets → ⊥) → front_len format octets ≡ None
 no_frame format octets each not_so =
@@ -86,7 +86,7 @@ none_follows_below_least format octets more len each below begins =
     apart_from : None ≡ Some len → ⊥
     apart_from e = cc
 
--- what is whole is a frame
+-- a whole front is a frame
 whole_is_cut : (format : TcFormat) (octets frame left : List ℕ) → octets ≡ frame ++ left → IsOctets frame → FrontIs format octets (WholeFrame (length frame))
     → is_cut format frame ≡ true
 whole_is_cut format octets frame left parts each w =
@@ -97,7 +97,7 @@ whole_is_cut format octets frame left parts each w =
 
 -- ---- a call that yields no frame
 
--- four octets that state a length below the least are taken, and the others left
+-- four octets that state a length below the least are taken, and the octets after them are left
 below_taken : (format : TcFormat) (octets : List ℕ) → front_of format octets ≡ BelowLeast → length (take 4 octets) ≡ 4
 below_taken format octets below = length-take-le 4 octets (front_tells format octets BelowLeast below).0
 
@@ -121,7 +121,7 @@ pause_rest f chunk left p =
       | inr below ↦ rw below (inr (below_again f.format octets below, below_taken f.format octets below))
     ]
 
--- what is taken, and what is left, are the octets
+-- the octets that are taken and those that are left make up all octets
 pub pause_parts : (f : TcFraming) (chunk left : List ℕ) → YieldsNone f chunk left → f.rest ++ chunk ≡ (after_call f chunk None).rest ++ left
 pause_parts f chunk left p =
     let octets = f.rest ++ chunk in
@@ -138,7 +138,7 @@ all_of-paused f chunk left chunks p =
     sym (append_assoc f.rest chunk (concat chunks)) ∙ ap (λ l. l ++ concat chunks) (pause_parts f chunk left p)
     ∙ append_assoc (after_call f chunk None).rest left (concat chunks)
 
--- after a stated length below the least nothing is yielded, and nothing is taken
+-- a framer that is stuck yields no frame, and takes no octet
 pub record StaysStuck (f : TcFraming) (chunks frames : List (List ℕ)) (new : TcFraming) (behind : List ℕ) : Type 0 where
   pub none : frames ≡ []
   pub rest : new.rest ≡ f.rest
@@ -231,11 +231,11 @@ chunks_are_delimited format chunks frames new behind each yields =
 abbrev Taken : TcFraming → List (List ℕ) → Type 0
 Taken f chunks = (frames : List (List ℕ)) × (new : TcFraming) × (behind : List ℕ) × YieldsFrames f chunks frames new behind
 
--- others after a chunk, whatever was taken before them
+-- the chunks after a chunk yield frames, whatever was taken before them
 abbrev Others : TcFraming → List (List ℕ) → Type 0
 Others f chunks = (g : TcFraming) → g.format ≡ f.format → IsRest g.format g.rest → Taken g chunks
 
--- a whole frame has more octets than were taken before
+-- a whole frame has more octets than were taken before the chunk
 pub less_than_whole : (format : TcFormat) (rest chunk : List ℕ) (len : ℕ) → IsRest format rest → FrontIs format (rest ++ chunk) (WholeFrame len) → length rest < len
 less_than_whole format rest chunk len is_rest w =
     elim (leb_tells (length rest) 4) [

@@ -12,7 +12,7 @@ use Rattle.std.proofs.lemmas.Option.{none-some, same_Some}
 
 -- ---- the front
 
--- what is so of a frame's length at the front
+-- the facts about a frame's length at the front
 pub record IsFront (format : TcFormat) (octets : List ℕ) (len : ℕ) : Type 0 where
   pub header : 5 ≤ length octets
   pub least : least_of format ≤ len
@@ -46,11 +46,11 @@ cases_front format octets = go (begin_no_frame format octets) refl
     go true e = inr (e, rw e refl)
     go false e = inl (front_facts format octets e, rw e refl)
 
--- a frame's header is that of what it begins
+-- the header of octets that begin with a frame is the frame's
 header_seam : (frame more : List ℕ) → 5 ≤ length frame → take 5 (frame ++ more) ≡ take 5 frame
 header_seam frame more long = take-append-le 5 frame more long
 
--- the front of a frame and what follows it is the frame
+-- the front of a frame and the octets after it is the frame
 pub cut_front : (format : TcFormat) (frame more : List ℕ) → is_cut format frame ≡ true → IsFront format (frame ++ more) (length frame)
 cut_front format frame more cut =
     let facts = cut_facts format frame cut in
@@ -63,7 +63,7 @@ cut_front format frame more cut =
       stated = facts.1 ∙ ap (λ h. (tc_header h).length + 1) (sym (header_seam frame more five));
     }
 
--- and the front is a frame
+-- the octets at the front, of the stated length, are a frame
 pub front_cut : (format : TcFormat) (octets : List ℕ) (len : ℕ) → IsFront format octets len → is_cut format (take len octets) ≡ true
 front_cut format octets len f =
     let least = f.least in
@@ -79,7 +79,7 @@ frames_from-drop format zero octets = refl
 frames_from-drop format (suc skip) [] = refl
 frames_from-drop format (suc skip) (octet ∷ octets) = frames_from-drop format skip octets
 
--- where a frame is at the front, it comes first
+-- where a frame is at the front, it is the first one
 pub frames_of-front : (format : TcFormat) (octets : List ℕ) (len : ℕ) → front_len format octets ≡ Some len → 0 < len → 0 < length octets
     → tc_frames_of format octets ≡ take len octets ∷ tc_frames_of format (drop len octets)
 frames_of-front format [] len h some long = absurd (omega arith)
@@ -98,7 +98,7 @@ remainder_of-front format octets len h some inside =
     ap (λ frames. drop (length (concat frames)) octets) (frames_of-front format octets len h some (omega arith))
     ∙ ap (λ n. drop n octets) long ∙ sym (drop-drop (length (concat later)) len octets)
 
--- where none is, there are none
+-- where no frame is at the front, there are no frames
 pub frames_of-none : (format : TcFormat) (octets : List ℕ) → front_len format octets ≡ None → tc_frames_of format octets ≡ []
 frames_of-none format [] h = refl
 frames_of-none format (octet ∷ octets) h =
@@ -112,7 +112,7 @@ remainder_of-none format octets h = ap (λ frames. drop (length (concat frames))
 pub front_is : (format : TcFormat) (octets : List ℕ) (len : ℕ) → IsFront format octets len → front_len format octets ≡ Some len
 front_is format octets len f = rw (facts_front format octets len f) (ap Some (sym f.stated))
 
--- a frame and what follows it
+-- the frames of a frame and the octets after it
 pub frames_of-frame : (format : TcFormat) (frame more : List ℕ) → is_cut format frame ≡ true → tc_frames_of format (frame ++ more) ≡ frame ∷ tc_frames_of format more
 frames_of-frame format frame more cut =
     let f = cut_front format frame more cut in
@@ -131,7 +131,7 @@ remainder_of-frame format frame more cut =
 abbrev pub AreCuts : TcFormat → List (List ℕ) → Type 0
 AreCuts format frames = AllByRecursion (λ frame. is_cut format frame ≡ true) frames
 
--- frames end to end and what follows them
+-- the frames of frames end to end and the octets after them
 pub frames_of-concat : (format : TcFormat) (frames : List (List ℕ)) (more : List ℕ) → AreCuts format frames → tc_frames_of format (concat frames ++ more) ≡ frames ++ tc_frames_of format more
 frames_of-concat format [] more each = refl
 frames_of-concat format (frame ∷ frames) more each =

@@ -1,4 +1,4 @@
--- Fronts of known octets, so that a wrong definition doesn't check.
+-- Fronts of known octets. A wrong definition would fail these facts.
 use Rattle.std.proofs.Common.{◌≡◌, ℕ, List, [], ◌∷◌, ◌++◌, refl}
 use Rattle.sl_tcframe.specs.TcFraming.{Incomplete, BelowLeast, WholeFrame, len_by_four, front_of}
 use Rattle.sl_tcframe.proofs.TcFrameFacts.{carrier, format, with_error_control}

@@ -1,4 +1,4 @@
--- Frames of a recording that comes chunk by chunk.
+-- Frames of a recording that comes in chunks.
 use Rattle.std.proofs.Common.{◌≡◌, ◌⊎◌, ℕ, ◌+◌, ◌-◌, ◌/◌, ◌%◌, ◌^◌, ◌<◌, ◌≤◌, nat_lt, Bool, true, false, List, [], ◌∷◌, ◌++◌, length, take, drop, Option, Some, None, if◌then◌else◌, inl, inr, refl, sym, ◌∙◌, ap, subst, arith, append_assoc, append-nil, length-append, length-take-le}
 use Rattle.std.specs.List.{slice_index_or}
 use Rattle.std.proofs.lemmas.Bool.{le-ltb, lt-ltb, ltb-false}
@@ -28,11 +28,11 @@ pub front_whole : (format : TcFormat) (octets : List ℕ) → 4 ≤ length octet
 front_whole format octets four enough whole =
     rw (le-ltb (length octets) 4 four, le-ltb (len_by_four octets) (least_of format) enough, le-ltb (length octets) (len_by_four octets) whole) refl
 
--- more octets state no other length
+-- octets after the fourth don't change the stated length
 pub len_by_four-append : (octets more : List ℕ) → 4 ≤ length octets → len_by_four (octets ++ more) ≡ len_by_four octets
 len_by_four-append octets more four = ap (λ front. stated_frame_len (front ++ 0 ∷ [])) (take-append-le 4 octets more four)
 
--- what is so of the octets at each front
+-- the facts about octets, by their front
 abbrev pub FrontIs : TcFormat → List ℕ → FrameFront → Type 0
 FrontIs format octets Incomplete = (length octets < 4) ⊎ ((least_of format ≤ len_by_four octets) × (length octets < len_by_four octets))
 FrontIs format octets BelowLeast = (4 ≤ length octets) × (len_by_four octets < least_of format)
@@ -60,9 +60,9 @@ front_facts format octets =
 pub front_tells : (format : TcFormat) (octets : List ℕ) (front : FrameFront) → front_of format octets ≡ front → FrontIs format octets front
 front_tells format octets front is = subst (FrontIs format octets) is (front_facts format octets)
 
--- ---- what is left where no frame is whole
+-- ---- the octets that are left where no frame is whole
 
--- there are four octets at most, or fewer than four of them state
+-- there are four octets at most, or the first four state more than there are
 abbrev pub FitsRest : TcFormat → List ℕ → Type 0
 FitsRest format octets = (length octets ≤ 4) ⊎ ((least_of format ≤ len_by_four octets) × (length octets < len_by_four octets))
 
@@ -92,7 +92,7 @@ fits_rest format octets fits =
           ]
     ]
 
--- more octets state no other length
+-- a stated length below the least stays so with more octets
 pub below_stays : (format : TcFormat) (octets more : List ℕ) → front_of format octets ≡ BelowLeast → front_of format (octets ++ more) ≡ BelowLeast
 below_stays format octets more below =
     let facts = front_tells format octets BelowLeast below in
@@ -101,7 +101,7 @@ below_stays format octets more below =
 pub below_is_not_whole : (len : ℕ) → BelowLeast ≡ WholeFrame len → ⊥
 below_is_not_whole len e = cc
 
--- ---- octets from the front of a chunk, until there are so many
+-- ---- octets from the front of a chunk, until there are enough
 
 module _ (count : ℕ) (taken chunk : List ℕ) where
   abbrev pub filled : List ℕ
@@ -135,14 +135,14 @@ module _ (format : TcFormat) (old chunk : List ℕ) (fits : FitsRest format old)
   abbrev later : List ℕ
   later = unfilled 4 old chunk
 
-  -- what four octets state, all state
+  -- all octets state the length that the first four state
   same_len : 4 ≤ length first → len_by_four (old ++ chunk) ≡ len_by_four first
   same_len four = ap len_by_four (fill_parts 4 old chunk) ∙ len_by_four-append first later four
 
   all_four : 4 ≤ length first → 4 ≤ length (old ++ chunk)
   all_four four = omega (arith, four, ap length (fill_parts 4 old chunk), length-append first later)
 
-  -- more than four were taken before only where a frame isn't whole
+  -- more than four octets were taken before only where the front is incomplete
   begun : 4 < length old → (least_of format ≤ len_by_four first) × (length first < len_by_four first)
   begun many =
       let zero_more : 4 - length old ≡ 0 = omega (arith, many) in
@@ -160,7 +160,7 @@ module _ (format : TcFormat) (old chunk : List ℕ) (fits : FitsRest format old)
         | inr (is, many) ↦ inr (begun (omega (arith, many)))
       ]
 
-  -- a length that no frame has stops it after four octets
+  -- a length below the least stops the framer after four octets
   pub takes_low : 4 ≤ length first → len_by_four first < least_of format → TakesUpToFrame format old chunk false first later
   takes_low four low =
       let front : front_of format (old ++ chunk) ≡ BelowLeast = front_below_least format (old ++ chunk) (all_four four) (omega (arith, low, same_len four)) in
@@ -175,7 +175,7 @@ module _ (format : TcFormat) (old chunk : List ℕ) (fits : FitsRest format old)
         fits_rest format first (inl (omega (arith, exact))),
       )
 
-  -- else octets are taken until there are as many as are stated
+  -- otherwise octets are taken until there are as many as are stated
   module _ (four : 4 ≤ length first) (enough : least_of format ≤ len_by_four first) where
     abbrev whole : List ℕ
     whole = filled (len_by_four first) first later
@@ -216,7 +216,7 @@ module _ (format : TcFormat) (old chunk : List ℕ) (fits : FitsRest format old)
     takes_either true is_whole is_part = let w = is_whole refl in takes_whole w.0 w.1
     takes_either false is_whole is_part = takes_part (is_part refl)
 
--- ---- what is stated
+-- ---- the stated length
 
 abbrev or_zero : Option ℕ → ℕ
 or_zero None = 0
@@ -230,7 +230,7 @@ len_told octets len told = by (nat_lt (length octets) 4) refl told
     by true is told = absurd (cc)
     by false is told = (ltb-false (length octets) 4 is, sym (ap or_zero told))
 
--- the fifth octet of a header states nothing of the length
+-- the fifth octet of a header doesn't change the stated length
 pub four_state_it : (octets : List ℕ) → 5 ≤ length octets → slice_index_or octets 4 0 < 256 → len_by_four octets ≡ stated_frame_len octets
 four_state_it [] five small = absurd (omega arith)
 four_state_it (a ∷ []) five small = absurd (omega arith)
@@ -243,7 +243,7 @@ four_state_it (a ∷ b ∷ c ∷ d ∷ e ∷ more) five small =
 
 -- ---- octets that begin with a whole frame
 
--- octets after the fifth change nothing of the stated length
+-- octets after the fifth don't change the stated length
 stated_frame_len-append : (octets more : List ℕ) → 5 ≤ length octets → stated_frame_len (octets ++ more) ≡ stated_frame_len octets
 stated_frame_len-append octets more five = ap (λ front. (tc_header front).length + 1) (take-append-le 5 octets more five)
 

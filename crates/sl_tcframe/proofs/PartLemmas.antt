@@ -1,4 +1,4 @@
--- A frame is its parts, and no others.
+-- A frame has its parts, and no others.
 use Rattle.std.proofs.Common.{◌≡◌, ℕ, ◌+◌, ◌-◌, ◌≤◌, ◌==◌, nat_lt, true, not, List, ◌++◌, length, take, drop, refl, sym, ◌∙◌, ap, arith, append_assoc, length-append, length-drop, length-take-le}
 use Rattle.std.proofs.Math.Seq.{take-append_seam, drop-append_seam, drop-append-add}
 use Rattle.std.proofs.lemmas.Bool.{not-true, ltb-false, eqb-true, le-ltb, eq-eqb}
@@ -8,7 +8,7 @@ use Rattle.sl_fields.specs.TcHeader.{tc_header}
 use Rattle.sl_tcframe.specs.TcFrame.{TcFormat, TcParts, ArePartsOf, field_len, is_cut, least_of, tc_parts_of, stated_frame_len}
 use Rattle.std.proofs.lemmas.Bool.{and_parts}
 
--- what it is to be a frame by the frame length field
+-- the facts about a frame by its frame length field
 pub cut_facts : (format : TcFormat) (frame : List ℕ) → is_cut format frame ≡ true
     → (least_of format ≤ length frame) × (length frame ≡ stated_frame_len frame)
 cut_facts format frame h =
@@ -22,7 +22,7 @@ pub facts_cut : (format : TcFormat) (frame : List ℕ) → least_of format ≤ l
 facts_cut format frame least stated =
     rw (le-ltb (length frame) (least_of format) least, eq-eqb (length frame) (stated_frame_len frame) stated) refl
 
--- a list in three parts, of which two have these lengths
+-- a list in three parts, where two have given lengths
 three_parts : (a b : ℕ) (xs : List ℕ) → xs ≡ take a xs ++ take b (drop a xs) ++ drop (a + b) xs
 three_parts a b xs =
     let tail : take b (drop a xs) ++ drop (a + b) xs ≡ drop a xs =
@@ -56,12 +56,12 @@ parts h f e = record { header = h; field = f; fecf = e }
 same_parts : (h h' f f' e e' : List ℕ) → h ≡ h' → f ≡ f' → e ≡ e' → parts h f e ≡ parts h' f' e'
 same_parts h h' f f' e e' p q r = rw (p, q, r) refl
 
--- the octets of a frame with these parts
+-- the length of a frame with these parts
 all_octets : (format : TcFormat) (frame : List ℕ) (p : TcParts) → ArePartsOf format frame p → length frame ≡ 5 + length p.field + fecf_len format.fecf
 all_octets format frame p a =
     ap length a.in_order ∙ length-append (p.header ++ p.field) p.fecf ∙ omega (arith, length-append p.header p.field, a.header, a.fecf)
 
--- the header that it begins with
+-- the header at the front of a frame with these parts
 same_header : (format : TcFormat) (frame : List ℕ) (p : TcParts) → ArePartsOf format frame p → take 5 frame ≡ p.header
 same_header format frame p a =
     ap (λ n. take n frame) (sym a.header) ∙ ap (take (length p.header)) a.in_order ∙ (cut_parts p.header p.field p.fecf).0

@@ -9,7 +9,7 @@ use Rattle.sl_tcframe.specs.declared.tc_frame.TcSkip.TheVariants.{Fecf, Version,
 use Rattle.sl_tcframe.specs.TcFrame.{TcFormat, TcView, Content, Ad, Bd, Unlock, SetVr, Carries, HasReason, IsReadAs, tc_header_of, tc_parts_of, command_of, content_of, order_of, early_reason, read_as, tc_frame}
 use Rattle.sl_fields.proofs.Tells.{Tells, tells_both, tells_less, tells_other}
 
--- ---- tests, and what they tell
+-- ---- tests and the properties that they decide
 
 tells_command_alone : (a b : Bool) → Tells (not a && b) ((a ≡ false) × (b ≡ true))
 tells_command_alone false true = (refl, refl)
@@ -49,7 +49,7 @@ order_of_least Empty = omega arith
 order_of_least Command = omega arith
 
 module _ (Has : TcSkip → Type 0) where
-  -- no reason before the nth holds
+  -- no reason before the `n`th one holds
   abbrev NoneBelow : ℕ → Type 0
   NoneBelow n = (earlier : TcSkip) → order_of earlier < n → Has earlier → ⊥
 
@@ -63,12 +63,12 @@ module _ (Has : TcSkip → Type 0) where
         | inr (e, other) ↦ none earlier (omega arith) has
       ]
 
-  -- the first that holds
+  -- the first reason that holds
   abbrev IsFirst : Option TcSkip → Type 0
   IsFirst (Some reason) = Has reason × NoneBelow (order_of reason)
   IsFirst None = NoneBelow 7
 
-  -- tried one after another
+  -- the reasons tried one after another
   abbrev tried : Bool → Bool → Bool → Bool → Bool → Bool → Option TcSkip
   tried a b c d e f =
       if a then Some Fecf else if b then Some Version else if c then Some Spacecraft else if d then Some Long else if e then Some Kind else if f then Some Empty else None
@@ -86,7 +86,7 @@ module _ (Has : TcSkip → Type 0) where
   first_is false false false false false false p q r s t u =
       none_next Empty (none_next Kind (none_next Long (none_next Spacecraft (none_next Version (none_next Fecf none_first p) q) r) s) t) u
 
-  -- two that are first are one
+  -- two reasons that are both the first one are equal
   one_first : (r s : TcSkip) → Has r → NoneBelow (order_of r) → Has s → NoneBelow (order_of s) → r ≡ s
   one_first r s has none has' none' =
       elim (eqb_tells (order_of r) (order_of s)) [
@@ -98,9 +98,9 @@ module _ (Has : TcSkip → Type 0) where
             ]
       ]
 
--- ---- what a data field carries
+-- ---- the content of a data field
 
--- by the two flags, the frame sequence number and the data field
+-- the content of a data field, by the two flags, the frame sequence number and the data field
 abbrev With : Bool → Bool → ℕ → List ℕ → Content → Type 0
 With bypass command count field (Ad ns unit) =
     (bypass ≡ false) × (command ≡ false) × (field ≢ []) × (ns ≡ count) × (unit ≡ field)
@@ -180,7 +180,7 @@ found_by-content_of h (octet ∷ octets) = refl
 pub content_found : (h : TcFields) (field : List ℕ) → Finds (Carries h field) (content_of h field)
 content_found h field = rw (found_by-content_of h field) (found h.bypass h.command h.ns field)
 
--- a content of a unit is found where no flag and no empty field is in the way
+-- a data field that isn't empty and has no content is of type BC, unless its flags are of no type
 type_bc : (bypass command : Bool) (count : ℕ) (field : List ℕ) → ((bypass ≡ false) × (command ≡ true) → ⊥) → field ≢ [] → Finds (With bypass command count field) None
     → (bypass ≡ true) × (command ≡ true)
 type_bc true true count field kind some none = (refl, refl)

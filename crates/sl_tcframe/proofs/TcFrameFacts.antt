@@ -1,4 +1,4 @@
--- Frames of known octets, read, written and cut, so that a wrong definition doesn't check.
+-- Frames of known octets, read, written and cut. A wrong definition would fail these facts.
 use Rattle.std.proofs.Common.{◌≡◌, ℕ, true, false, arith, List, [], ◌∷◌, ◌++◌, replicate, Ok, Err, refl}
 use Rattle.sl_fields.specs.Fecf.{fecf_of, register_of}
 use Rattle.sl_fields.specs.SegmentHeader.{SegmentFields}
@@ -100,7 +100,7 @@ pub frames_are_written : AreWritten
 unfolding fecf_of register_of
 frames_are_written = record { whole = refl; no_octets = refl; protected = refl }
 
--- the packet of the segment, whose frame on virtual channel 5 has no segment header
+-- the packet of the segment, in a frame on virtual channel 5, which has no segment headers
 abbrev packet : List ℕ
 packet = 0x10 ∷ 0x01 ∷ 0xC0 ∷ 0x00 ∷ 0x00 ∷ 0x03 ∷ 0xAA ∷ 0xBB ∷ 0xCC ∷ 0xDD ∷ []
 
@@ -151,7 +151,7 @@ frames_are_delimited = record {
   nothing = refl;
 }
 
--- the conditions of a frame that is written can be met
+-- the conditions on a frame that is written can be met
 pub fit_frame : FitAdFrame (format 16) 1 5 0 (replicate 11 0xAA)
 fit_frame = record {
   least = omega arith;

@@ -1,4 +1,4 @@
--- A frame read from its octets, part by part.
+-- A frame that is read from its octets, part by part.
 use Rattle.std.proofs.Common.{◌≡◌, ℕ, ◌-◌, List, length, take, drop, Option, Some, None, Ok, Err, sym, ◌∙◌, ap, length-drop}
 use Rattle.sl_fields.specs.TcHeader.{TcFields}
 use Rattle.sl_tcframe.specs.declared.tc_frame.TcSkip.TheVariants.{Command}
@@ -9,7 +9,7 @@ pub field_lies : (frame : List ℕ) (last : ℕ) → take (length (drop 5 frame)
 field_lies frame last = ap (λ n. take (n - last) (drop 5 frame)) (length-drop 5 frame)
 
 module _ (format : TcFormat) (spacecraft : ℕ) (frame field : List ℕ) (h : TcFields) (kept : early_reason format spacecraft frame ≡ None) (header : h ≡ tc_header_of frame) (lies : field ≡ (tc_parts_of format frame).field) where
-  -- the content that is found, or that none is, is what is read
+  -- the result of reading is the content that is found, or that none is found
   read_with : (found : Option Content) → found ≡ content_of h field → read_as None (tc_header_of frame) found ≡ tc_frame format spacecraft frame
   read_with found carried =
       ap (read_as None (tc_header_of frame)) (carried ∙ ap (λ g. content_of g field) header ∙ ap (content_of (tc_header_of frame)) lies)

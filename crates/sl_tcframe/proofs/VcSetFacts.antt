@@ -1,4 +1,4 @@
--- Texts that list virtual channels, and texts that don't, so that a wrong definition doesn't check.
+-- Texts that list virtual channels, and texts that don't. A wrong definition would fail these facts.
 use Rattle.std.proofs.Common.{◌≡◌, ℕ, suc, ◌≤◌, true, false, List, [], ◌∷◌, length, refl, ap, arith}
 use Rattle.std.specs.Fmt.{decimal, digits}
 use Rattle.std.proofs.lemmas.Fmt.{decimal_injective, decimal_nonempty}
@@ -36,36 +36,36 @@ lists_one_channel = record { some = omega arith; rising = (omega arith, omega ar
 abbrev pub IsRefused : List ℕ → Type 0
 IsRefused text = (vcs : List ℕ) → Lists 0 text vcs → ⊥
 
--- the empty text,
+-- the empty text
 pub empty : IsRefused []
 empty vcs listed =
     let one = has_one 0 [] vcs (has_no 44 [] refl) listed in
     absurd (omega (arith, ap length one.is, decimal_nonempty one.vc (let high = one.high in omega arith)))
 
--- `5,`,
+-- `5,`
 pub trailing : IsRefused (0x35 ∷ 0x2C ∷ [])
 trailing vcs listed =
     let more = has_more 0 (0x35 ∷ 0x2C ∷ []) (0x35 ∷ []) [] vcs refl (has_no 44 (0x35 ∷ []) refl) listed in
     let one = has_one (suc more.vc) [] more.above (has_no 44 [] refl) more.listed in
     absurd (omega (arith, ap length one.is, decimal_nonempty one.vc (let high = one.high in omega arith)))
 
--- `05`,
+-- `05`
 pub padded : IsRefused (0x30 ∷ 0x35 ∷ [])
 padded vcs listed =
     let one = has_one 0 (0x30 ∷ 0x35 ∷ []) vcs (has_no 44 (0x30 ∷ 0x35 ∷ []) refl) listed in
     absurd (omega (arith, unpadded (0x30 ∷ 0x35 ∷ []) one.vc (let high = one.high in omega arith) one.is (omega arith)))
 
--- a blank and `5`,
+-- a blank and `5`
 pub blank : IsRefused (0x20 ∷ 0x35 ∷ [])
 blank vcs listed =
     let one = has_one 0 (0x20 ∷ 0x35 ∷ []) vcs (has_no 44 (0x20 ∷ 0x35 ∷ []) refl) listed in
     absurd (omega (arith, unpadded (0x20 ∷ 0x35 ∷ []) one.vc (let high = one.high in omega arith) one.is (omega arith)))
 
--- a number is the one that its digits are of
+-- two numbers with the same digits are equal
 is_number : (n vc : ℕ) → n ≤ 64 → vc ≤ 63 → decimal n ≡ decimal vc → n ≡ vc
 is_number n vc small high is = decimal_injective n vc (omega arith) (omega arith) is
 
--- `5,5`,
+-- `5,5`
 pub repeated : IsRefused (0x35 ∷ 0x2C ∷ 0x35 ∷ [])
 unfolding digits
 repeated vcs listed =
@@ -73,7 +73,7 @@ repeated vcs listed =
     let one = has_one (suc more.vc) (0x35 ∷ []) more.above (has_no 44 (0x35 ∷ []) refl) more.listed in
     absurd (omega (arith, is_number 5 more.vc (omega arith) more.high more.is, is_number 5 one.vc (omega arith) one.high one.is, one.low))
 
--- `6,5`,
+-- `6,5`
 pub falling : IsRefused (0x36 ∷ 0x2C ∷ 0x35 ∷ [])
 unfolding digits
 falling vcs listed =

@@ -5,7 +5,7 @@ use Rattle.sl_tcframe.specs.VcSet.{AreRising, has_vc, with_vc}
 use Rattle.sl_tcframe.specs.VcSetBack.{none_below}
 use Rattle.sl_tcframe.specs.VcSetModel.{numbers_from}
 
--- a number is one of theirs where its flag is set
+-- a number is in the set exactly where its flag is set
 pub has_flag : (first : ℕ) (flags : List Bool) (k vc : ℕ) → vc ≡ first + k → has_vc (numbers_from first flags) vc ≡ slice_index_or flags k false
 has_flag first [] k vc is = refl
 has_flag first (true ∷ flags) zero vc is = rw (eq-eqb vc first (omega arith)) refl
@@ -13,7 +13,7 @@ has_flag first (false ∷ flags) zero vc is = none_below (suc first) flags vc (o
 has_flag first (true ∷ flags) (suc k) vc is = rw (ne_eqb vc first (λ e. omega arith)) (has_flag (suc first) flags k vc (omega arith))
 has_flag first (false ∷ flags) (suc k) vc is = has_flag (suc first) flags k vc (omega arith)
 
--- and they rise strictly, up to 63, where there are no more flags than that
+-- the numbers rise strictly up to 63, where there are no more than 64 flags
 rising_lower : (least : ℕ) (vcs : List ℕ) → AreRising (suc least) vcs → AreRising least vcs
 rising_lower least [] rising = tt
 rising_lower least (vc ∷ vcs) rising = (omega (arith, rising.0), rising.1, rising.2)
@@ -23,13 +23,13 @@ numbers_rise first [] few = tt
 numbers_rise first (true ∷ flags) few = (omega arith, omega arith, numbers_rise (suc first) flags (omega arith))
 numbers_rise first (false ∷ flags) few = rising_lower first (numbers_from (suc first) flags) (numbers_rise (suc first) flags (omega arith))
 
--- a number below the first stands before them
+-- a number below the first one is added in front
 with_below : (first : ℕ) (flags : List Bool) (vc : ℕ) → vc < first → with_vc (numbers_from first flags) vc ≡ vc ∷ numbers_from first flags
 with_below first [] vc low = refl
 with_below first (true ∷ flags) vc low = rw (lt-ltb vc first low) refl
 with_below first (false ∷ flags) vc low = with_below (suc first) flags vc (omega arith)
 
--- a flag that is set puts its number in its place
+-- setting a flag adds its number
 pub with_flag : (first : ℕ) (flags : List Bool) (k vc : ℕ) → vc ≡ first + k → k < length flags → numbers_from first (slice_set flags k true) ≡ with_vc (numbers_from first flags) vc
 with_flag first [] k vc is inside = absurd (omega arith)
 with_flag first (true ∷ flags) zero vc is inside = rw (le-ltb vc first (omega arith), eq-eqb vc first (omega arith)) refl
@@ -37,7 +37,7 @@ with_flag first (false ∷ flags) zero vc is inside = sym (with_below (suc first
 with_flag first (true ∷ flags) (suc k) vc is inside = rw (le-ltb vc first (omega arith), ne_eqb vc first (λ e. omega arith)) (ap (λ l. first ∷ l) (with_flag (suc first) flags k vc (omega arith) (omega arith)))
 with_flag first (false ∷ flags) (suc k) vc is inside = with_flag (suc first) flags k vc (omega arith) (omega arith)
 
--- a number below those that rise stands before them
+-- a number below those that rise is added in front of them
 pub with_first : (least : ℕ) (vcs : List ℕ) (vc : ℕ) → AreRising least vcs → vc < least → with_vc vcs vc ≡ vc ∷ vcs
 with_first least [] vc rising low = refl
 with_first least (v ∷ vcs) vc rising low = rw (lt-ltb vc v (omega (arith, rising.0))) refl
@@ -51,7 +51,7 @@ or_twice : (a c : Bool) → (a || c) ≡ (a || (a || c))
 or_twice true c = refl
 or_twice false c = refl
 
--- a number that is put in its place is one of them, and nothing else is changed
+-- a number that is added is in the set, and nothing else changes
 pub added : (vcs : List ℕ) (vc v : ℕ) → has_vc (with_vc vcs vc) v ≡ (v == vc || has_vc vcs v)
 added [] vc v = refl
 added (w ∷ vcs) vc v = by (nat_lt vc w) (vc == w) refl (added vcs vc v)

@@ -1,4 +1,4 @@
--- A text of several virtual channels, as it is split.
+-- A text of several virtual channels, and how it is split.
 use Rattle.std.proofs.Common.{◌≡◌, ℕ, suc, ◌≤◌, List, [], ◌∷◌, ◌++◌, inl, sym, subst, ◌∙◌, arith}
 use Rattle.std.specs.Fmt.{decimal}
 use Rattle.std.specs.List.{AllByRecursion}
@@ -10,15 +10,15 @@ use Rattle.sl_tcframe.specs.VcSet.{AreRising, Lists}
 abbrev IsVc : ℕ → Type 0
 IsVc vc = vc ≤ 63
 
--- a number in decimal has no comma,
+-- a number in decimal has no comma
 no_comma : (vc : ℕ) → IsVc vc → HasNo 44 (decimal vc)
 no_comma vc small = decimal_has_no 44 vc (inl (omega arith)) (omega arith)
 
--- and is of one number
+-- a decimal text is the text of one number
 same_number : (vc other : ℕ) → IsVc vc → IsVc other → decimal vc ≡ decimal other → vc ≡ other
 same_number vc other small low is = decimal_injective vc other (omega arith) (omega arith) is
 
--- each number of those that rise is 63 at most
+-- each of the rising numbers is 63 at most
 each_vc : (least : ℕ) (vcs : List ℕ) → AreRising least vcs → AllByRecursion IsVc vcs
 each_vc least [] rising = tt
 each_vc least (vc ∷ vcs) rising = (rising.1, each_vc (suc vc) vcs rising.2)
@@ -27,7 +27,7 @@ clear : (least : ℕ) (vcs : List ℕ) → AreRising least vcs → AllByRecursio
 clear least [] rising = tt
 clear least (vc ∷ vcs) rising = (no_comma vc rising.1, clear (suc vc) vcs rising.2)
 
--- what a text before and after its first comma is, where it lists numbers
+-- the parts of a text before and after its first comma, where it lists numbers
 pub record HasMore (least : ℕ) (first rest vcs : List ℕ) : Type 0 where
   pub vc : ℕ
   pub above : List ℕ
@@ -65,7 +65,7 @@ has_one least text vcs none listed =
     let rising = subst (AreRising least) it.alone listed.rising in
     record { vc = it.item; low = rising.0; high = rising.1; is = it.written; alone = it.alone }
 
--- a number before those of a text
+-- a number in front of the numbers of a text
 pub lists_more : (least : ℕ) (text first rest : List ℕ) (vc : ℕ) (vcs : List ℕ) → text ≡ first ++ 44 ∷ rest → least ≤ vc → vc ≤ 63 → first ≡ decimal vc → Lists (suc vc) rest vcs → Lists least text (vc ∷ vcs)
 lists_more least text first rest vc vcs split low high is listed =
     record { some = omega arith; rising = (low, high, listed.rising); written = joined_more 44 decimal text first rest vc vcs split is listed.some listed.written }

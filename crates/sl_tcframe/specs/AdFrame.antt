@@ -1,4 +1,4 @@
--- The TC transfer frame of type AD that is written.
+-- The TC transfer frame of type AD that is written, CCSDS 232.0-B.
 use Rattle.std.specs.Prelude.{◌≡◌, ℕ, ◌+◌, ◌-◌, ◌<◌, ◌≤◌, true, List, [], ◌∷◌, ◌++◌, length, Ok}
 use Rattle.sl_fields.specs.FecfField.{fecf_len, with_fecf}
 use Rattle.sl_fields.specs.Field.{octets_of}
@@ -9,25 +9,25 @@ use Rattle.sl_tcframe.specs.TcFrame.{TcFormat, Ad, is_cut, tc_frame}
 abbrev pub plain_room_of : TcFormat → ℕ
 plain_room_of format = format.max - 5 - fecf_len format.fecf
 
--- and a segment, after its header
+-- how many octets a segment has at most, after its header
 abbrev pub segment_room_of : TcFormat → ℕ
 segment_room_of format = format.max - 6 - fecf_len format.fecf
 
--- The fields of the header of a frame of so many octets, with their widths: version 0, bypass flag and control command
+-- The fields of the header of a frame of `len` octets, with their widths: version 0, bypass flag and control command
 -- flag 0, spare bits 0, the spacecraft, the virtual channel, the frame length, 1 less than the octets, and N(S).
 abbrev pub ad_fields : ℕ → ℕ → ℕ → ℕ → List (ℕ × ℕ)
 ad_fields spacecraft vc ns len = (2, 0) ∷ (1, 0) ∷ (1, 0) ∷ (2, 0) ∷ (10, spacecraft) ∷ (6, vc) ∷ (10, len - 1) ∷ (8, ns) ∷ []
 
--- how many octets a frame has with so many in its data field
+-- how many octets a frame has with this many in its data field
 abbrev pub ad_len : TcFormat → ℕ → ℕ
 ad_len format octets = 5 + octets + fecf_len format.fecf
 
--- a frame of type AD, with its N(S) and the unit that its data field is
+-- a frame of type AD with this N(S), whose data field is this unit
 abbrev pub ad_frame : TcFormat → ℕ → ℕ → ℕ → List ℕ → List ℕ
 ad_frame format spacecraft vc ns unit =
     with_fecf format.fecf (octets_of 5 (ad_fields spacecraft vc ns (ad_len format (length unit))) ++ unit)
 
--- the unit that a segment is: its header, and its octets
+-- the unit of a segment: its header and its octets
 abbrev pub segment_unit : SegmentFields → List ℕ → List ℕ
 segment_unit header octets = segment_octets header ++ octets
 
@@ -43,13 +43,13 @@ pub record FitAdFrame (format : TcFormat) (spacecraft vc ns : ℕ) (unit : List 
   pub some : 0 < length unit
   pub inside : length unit ≤ plain_room_of format
 
--- the frame is one by its frame length field,
+-- A frame of type AD is one frame by its frame length field.
 abbrev pub AdFramesAreWhole : Type 0
 AdFramesAreWhole =
     (format : TcFormat) (spacecraft vc ns : ℕ) (unit : List ℕ) → FitAdFrame format spacecraft vc ns unit
     → is_cut format (ad_frame format spacecraft vc ns unit) ≡ true
 
--- and is read back
+-- A frame of type AD is read back as it was made.
 abbrev pub AdFramesAreReadBack : Type 0
 AdFramesAreReadBack =
     (format : TcFormat) (spacecraft vc ns : ℕ) (unit : List ℕ) → FitAdFrame format spacecraft vc ns unit

@@ -1,4 +1,5 @@
--- The TC transfer frame, CCSDS 232.0-B: its parts, why one is skipped, and what it carries.
+-- The TC transfer frame, CCSDS 232.0-B: its parts, why a frame is skipped, and what a frame carries. The spare bits
+-- of the header, and N(S) of types BD and BC, are not looked at: this is the mission profile's.
 use Rattle.std.specs.Prelude.{◌≡◌, ◌≢◌, ⊤, ℕ, ◌+◌, ◌-◌, ◌<◌, ◌≤◌, ◌==◌, nat_lt, Bool, true, false, not, ◌&&◌, if◌then◌else◌, List, [], ◌∷◌, ◌++◌, length, take, drop, Option, None, Some, Result, Ok, Err}
 use Rattle.sl_fields.specs.Fecf.{fecf_is_good}
 use Rattle.sl_fields.specs.FecfField.{fecf_len}
@@ -6,40 +7,41 @@ use Rattle.sl_fields.specs.TcHeader.{TcFields, tc_header}
 use Rattle.sl_tcframe.specs.declared.tc_frame.TcSkip.{TcSkip}
 use Rattle.sl_tcframe.specs.declared.tc_frame.TcSkip.TheVariants.{Fecf, Version, Spacecraft, Long, Kind, Empty, Command}
 
--- the managed format of a physical channel's frames: how many octets one has at most, and whether its
--- last two are a frame error control field
+-- The managed format of a physical channel's frames: the greatest length of a frame, and whether the last two octets
+-- of a frame are a frame error control field.
 pub record TcFormat : Type 0 where
   pub max : ℕ
   pub fecf : Bool
 
 -- ---- the parts
 
+-- the parts of a frame
 pub record TcParts : Type 0 where
   pub header : List ℕ
   pub field : List ℕ
   pub fecf : List ℕ
 
--- The primary header has five octets; the data field follows; then the frame error control field, two
--- octets where the format has it. The frame length field is the octets of the whole frame minus 1.
+-- The parts of a frame. The primary header has five octets, and the data field follows. The frame error control field
+-- is last: two octets where the format has it. The frame length field is the octets of the whole frame minus 1.
 pub record ArePartsOf (format : TcFormat) (frame : List ℕ) (p : TcParts) : Type 0 where
   pub in_order : frame ≡ p.header ++ p.field ++ p.fecf
   pub header : length p.header ≡ 5
   pub fecf : length p.fecf ≡ fecf_len format.fecf
   pub stated : length frame ≡ (tc_header p.header).length + 1
 
--- the header that a frame begins with
+-- the header at the front of a frame
 abbrev pub tc_header_of : List ℕ → TcFields
 tc_header_of frame = tc_header (take 5 frame)
 
--- how many octets a frame has without a data field, which is the fewest that one can have
+-- how many octets a frame has without a data field, the fewest that a frame can have
 abbrev pub least_of : TcFormat → ℕ
 least_of format = 5 + fecf_len format.fecf
 
--- how many octets the frame that begins here has, as its frame length field states
+-- how many octets the frame that begins here has, by its frame length field
 abbrev pub stated_frame_len : List ℕ → ℕ
 stated_frame_len octets = (tc_header_of octets).length + 1
 
--- octets that are one frame by the frame length field
+-- whether octets are one frame by their frame length field
 abbrev pub is_cut : TcFormat → List ℕ → Bool
 is_cut format octets = not (nat_lt (length octets) (least_of format)) && length octets == stated_frame_len octets
 
@@ -47,7 +49,7 @@ is_cut format octets = not (nat_lt (length octets) (least_of format)) && length 
 abbrev pub field_len : TcFormat → List ℕ → ℕ
 field_len format frame = length frame - 5 - fecf_len format.fecf
 
--- the parts, by where they lie
+-- the parts, by their places in the frame
 abbrev pub tc_parts_of : TcFormat → List ℕ → TcParts
 tc_parts_of format frame =
     record {
@@ -58,18 +60,19 @@ tc_parts_of format frame =
 
 -- ---- what a frame carries
 
--- A frame of type AD or BD carries a unit, its whole data field, which begins with a segment header but on virtual
--- channels that have none. One of type BC carries a control command for FARM-1: Unlock, or Set V(R) with the value to
--- be set.
+-- The content of a frame. A frame of type AD or BD carries a unit, its whole data field. A unit begins with a segment
+-- header, except on virtual channels without segment headers. A frame of type BC carries a control command for
+-- FARM-1: Unlock, or Set V(R) with the value to set.
 pub data Content : Type 0 where
   Ad : (ns : ℕ) (unit : List ℕ) → Content
   Bd : (unit : List ℕ) → Content
   Unlock : Content
   SetVr : (vr : ℕ) → Content
 
--- What a data field under this header carries. The bypass flag and the control command flag tell the type:
--- 0 and 0 is AD, 1 and 0 is BD, 1 and 1 is BC. The frame sequence number counts in type AD alone. A unit
--- has one octet or more; Unlock is one octet of zeros, and Set V(R) is `82 00` and the value.
+-- The content of a data field under this header. The bypass flag and the control command flag are the type: 0 and 0
+-- is AD, 1 and 0 is BD, 1 and 1 is BC. The frame sequence number counts in type AD alone. It is ignored in the other
+-- types, and the spare bits are ignored in all types (mission profile). A unit has one octet or more. Unlock is one
+-- octet of zeros, and Set V(R) is `82 00` and the value.
 abbrev pub Carries : TcFields → List ℕ → Content → Type 0
 Carries h field (Ad ns unit) =
     (h.bypass ≡ false) × (h.command ≡ false) × (field ≢ []) × (ns ≡ h.ns) × (unit ≡ field)
@@ -79,9 +82,9 @@ Carries h field (SetVr vr) = (h.bypass ≡ true) × (h.command ≡ true) × (fie
 
 -- ---- whether a frame is skipped
 
--- Why a frame is skipped: a wrong error control field where the format has one; another version than 0;
--- another spacecraft; more octets than the managed length; the control command flag without the bypass
--- flag; no data field; and a frame of type BC that is no control command.
+-- Why a frame is skipped: a wrong error control field where the format has one; another version than 0; another
+-- spacecraft; more octets than the managed greatest length; the control command flag without the bypass flag; no data
+-- field; or type BC without a control command.
 abbrev pub HasReason : TcFormat → ℕ → List ℕ → TcSkip → Type 0
 HasReason format spacecraft frame Fecf = (format.fecf ≡ true) × (fecf_is_good frame ≡ false)
 HasReason format spacecraft frame Version = (tc_header_of frame).version ≢ 0
@@ -93,7 +96,7 @@ HasReason format spacecraft frame Command =
     ((tc_header_of frame).bypass ≡ true) × ((tc_header_of frame).command ≡ true)
     × ((content : Content) → Carries (tc_header_of frame) (tc_parts_of format frame).field content → ⊥)
 
--- the reasons in the order in which they are looked for
+-- the reasons in their order
 abbrev pub order_of : TcSkip → ℕ
 order_of Fecf = 1
 order_of Version = 2
@@ -105,12 +108,12 @@ order_of Command = 7
 
 -- ---- a frame as it is read for a spacecraft
 
--- what a frame shows to whoever reads it
+-- the view that a reader has of a frame
 pub record TcView : Type 0 where
   pub vc : ℕ
   pub content : Content
 
--- a frame is skipped for the first reason that holds, and is read where none does
+-- A frame is skipped for the first reason that holds, and is read where no reason holds.
 abbrev pub IsReadAs : TcFormat → ℕ → List ℕ → Result TcView TcSkip → Type 0
 IsReadAs format spacecraft frame (Ok view) =
     ((reason : TcSkip) → HasReason format spacecraft frame reason → ⊥) × (view.vc ≡ (tc_header_of frame).vc)
@@ -119,11 +122,11 @@ IsReadAs format spacecraft frame (Err reason) =
     HasReason format spacecraft frame reason
     × ((earlier : TcSkip) → order_of earlier < order_of reason → HasReason format spacecraft frame earlier → ⊥)
 
--- ---- the same, as functions of the octets
+-- ---- the reading, as functions of the octets
 
--- The law `tc_frames_are_read` says that the reading of a frame is that of `tc_frame`, and that there is no other.
+-- The law `tc_frames_are_read` says that `tc_frame` is the reading of a frame, and that there is no other.
 
--- the control command that a data field is
+-- the control command of a data field, if it is one
 abbrev pub command_of : List ℕ → Option Content
 command_of [] = None
 command_of (code ∷ []) = if code == 0x00 then Some Unlock else None
@@ -131,19 +134,19 @@ command_of (code ∷ second ∷ []) = None
 command_of (code ∷ second ∷ third ∷ []) = if code == 0x82 && second == 0x00 then Some (SetVr third) else None
 command_of (code ∷ second ∷ third ∷ fourth ∷ more) = None
 
--- the unit that a data field is, in a frame of type AD or BD
+-- the unit of a data field in a frame of type AD or BD, if it isn't empty
 abbrev pub unit_content : TcFields → List ℕ → Option Content
 unit_content h [] = None
 unit_content h (octet ∷ octets) = Some (if h.bypass then Bd (octet ∷ octets) else Ad h.ns (octet ∷ octets))
 
--- what a data field carries, where it carries something
+-- the content of a data field, if it has one
 abbrev pub content_of : TcFields → List ℕ → Option Content
 content_of h field =
     if not h.command then unit_content h field
     else if h.bypass then command_of field
     else None
 
--- the first of these reasons that holds, but for the last
+-- the first reason that holds, apart from `Command`
 abbrev pub early_reason : TcFormat → ℕ → List ℕ → Option TcSkip
 early_reason format spacecraft frame =
     if format.fecf && not (fecf_is_good frame) then Some Fecf
@@ -154,12 +157,13 @@ early_reason format spacecraft frame =
     else if length (tc_parts_of format frame).field == 0 then Some Empty
     else None
 
--- what is read under this header, or why it is skipped
+-- the view under this header, or the reason to skip the frame
 abbrev pub read_as : Option TcSkip → TcFields → Option Content → Result TcView TcSkip
 read_as (Some reason) h content = Err reason
 read_as None h (Some content) = Ok (record { vc = h.vc; content = content })
 read_as None h None = Err Command
 
+-- the frame as it is read for a spacecraft: its view, or the reason to skip it
 abbrev pub tc_frame : TcFormat → ℕ → List ℕ → Result TcView TcSkip
 tc_frame format spacecraft frame =
     read_as (early_reason format spacecraft frame) (tc_header_of frame) (content_of (tc_header_of frame) (tc_parts_of format frame).field)
@@ -173,32 +177,32 @@ IsContent (Bd unit) = (0 < length unit) × (length unit ≤ 1019)
 IsContent Unlock = ⊤
 IsContent (SetVr vr) = ⊤
 
--- what is so of each frame that is read
+-- each frame that is read has a virtual channel up to 63, and a content in range
 pub record IsInRange (view : TcView) : Type 0 where
   pub vc : view.vc ≤ 63
   pub content : IsContent view.content
 
 -- ---- laws
 
--- octets that are one frame by their length field have these parts,
+-- Octets that are one frame by their frame length field have these parts.
 abbrev pub EachHasParts : Type 0
 EachHasParts = (format : TcFormat) (frame : List ℕ) → is_cut format frame ≡ true → ArePartsOf format frame (tc_parts_of format frame)
 
--- no others,
+-- Octets have no other parts.
 abbrev pub HasPartsOnce : Type 0
 HasPartsOnce = (format : TcFormat) (frame : List ℕ) (p : TcParts) → ArePartsOf format frame p → tc_parts_of format frame ≡ p
 
--- and no other octets have parts
+-- No other octets have parts.
 abbrev pub OnlyFramesHaveParts : Type 0
 OnlyFramesHaveParts = (format : TcFormat) (frame : List ℕ) (p : TcParts) → ArePartsOf format frame p → is_cut format frame ≡ true
 
--- each frame is read, or skipped, as this says,
+-- Each frame is read, or skipped, as the relation says.
 abbrev pub EachIsRead : Type 0
 EachIsRead =
     (format : TcFormat) (spacecraft : ℕ) (frame : List ℕ)
     → IsReadAs format spacecraft frame (tc_frame format spacecraft frame)
 
--- and in no other way
+-- A frame is read in no other way.
 abbrev pub IsReadOnce : Type 0
 IsReadOnce =
     (format : TcFormat) (spacecraft : ℕ) (frame : List ℕ) (read : Result TcView TcSkip)

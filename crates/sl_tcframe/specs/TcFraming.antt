@@ -1,4 +1,4 @@
--- Delimiting TC frames in a recording that comes in chunks. Contracts of private functions alone cite
+-- TC frames are delimited in a recording that comes in chunks. Only contracts of private functions cite
 -- `BeginsWithFrame`, `TakesUpToFrame` and `Answers`.
 use Rattle.std.specs.Prelude.{◌≡◌, ◌⊎◌, ⊤, ◌↔◌, ℕ, nat_lt, Bool, true, false, if◌then◌else◌, List, [], ◌∷◌, ◌++◌, length, take, drop, Option, None, Some, IsNone}
 use Rattle.std.specs.Borrow.{Bor}
@@ -11,18 +11,19 @@ use Rattle.sl_tcframe.specs.declared.tc_framer.TcFramer.TheInside.{Inside}
 -- ---- the front of octets
 
 pub data FrameFront : Type 0 where
-  -- octets are wanting, for the frame length field or for a frame
+  -- more octets are needed, for the frame length field or for the frame
   Incomplete : FrameFront
-  -- a length is stated that is below the least of a frame
+  -- the stated length is below the least length of a frame
   BelowLeast : FrameFront
-  -- a frame of so many octets is there
+  -- a whole frame of this number of octets
   WholeFrame : ℕ → FrameFront
 
--- The frame length field ends with the fourth octet; 0 stands for the fifth, the frame sequence number, which is no part
--- of it.
+-- The length that the first four octets state. The frame length field ends with the fourth octet; 0 stands for the
+-- fifth, the frame sequence number, which isn't part of the field.
 abbrev pub len_by_four : List ℕ → ℕ
 len_by_four octets = stated_frame_len (take 4 octets ++ 0 ∷ [])
 
+-- the front of octets: how far the frame at their front has come
 abbrev pub front_of : TcFormat → List ℕ → FrameFront
 front_of format octets =
     if nat_lt (length octets) 4 then Incomplete
@@ -32,16 +33,16 @@ front_of format octets =
 
 -- ---- what was taken
 
--- the octets that were taken after the last frame
+-- the state of a framer: the format, and the octets that were taken after the last frame
 pub record TcFraming : Type 0 where
   pub format : TcFormat
   pub rest : List ℕ
 
--- no octet was taken
+-- no octet was taken yet
 abbrev pub at_start : TcFormat → TcFraming
 at_start format = record { format = format; rest = [] }
 
--- a frame that is lent is no longer among the octets
+-- the octets that are held; a frame that is lent is no longer among them
 abbrev pub rest_of : Bool → List ℕ → List ℕ
 rest_of true taken = []
 rest_of false taken = taken
@@ -49,8 +50,8 @@ rest_of false taken = taken
 abbrev pub framing_of : Inside → TcFraming
 framing_of f = record { format = f.shape; rest = rest_of f.is_lent f.taken.items }
 
--- No frame is whole at the front of these octets. Where the first four state a length below the least, there are only
--- these four.
+-- The rest of a framer: no frame is whole at its front, and where its first four octets state a length below the
+-- least, there are only these four.
 abbrev pub IsRest : TcFormat → List ℕ → Type 0
 IsRest format octets =
     (front_of format octets ≡ Incomplete) ⊎ ((front_of format octets ≡ BelowLeast) × (length octets ≡ 4))
@@ -64,18 +65,19 @@ pub record IsTcFramer (f : Inside) : Type 0 where
 
 -- ---- one call, with a chunk
 
--- The frame has the octets that were taken after the last one, and then those from the front of the chunk, of which
--- the others are left.
+-- The frame has the octets that were taken after the last frame, and then octets from the front of the chunk. The
+-- other octets of the chunk are left.
 pub record YieldsFrame (old : TcFraming) (chunk frame left : List ℕ) : Type 0 where
   pub parts : old.rest ++ chunk ≡ frame ++ left
   pub whole : front_of old.format (old.rest ++ chunk) ≡ WholeFrame (length frame)
 
--- the octets that are taken where no frame is whole: all, or four that state a length below the least
+-- the octets that are taken where no frame is whole: all, or the four that state a length below the least
 abbrev pub taken_at : FrameFront → List ℕ → List ℕ
 taken_at Incomplete octets = octets
 taken_at BelowLeast octets = take 4 octets
 taken_at (WholeFrame len) octets = []
 
+-- the octets that are left where no frame is whole: none, or those after the four
 abbrev pub left_at : FrameFront → List ℕ → List ℕ
 left_at Incomplete octets = []
 left_at BelowLeast octets = drop 4 octets
@@ -86,41 +88,42 @@ pub record YieldsNone (old : TcFraming) (chunk left : List ℕ) : Type 0 where
   pub front : (front_of old.format (old.rest ++ chunk) ≡ Incomplete) ⊎ (front_of old.format (old.rest ++ chunk) ≡ BelowLeast)
   pub left_is : left ≡ left_at (front_of old.format (old.rest ++ chunk)) (old.rest ++ chunk)
 
--- after it: nothing was taken after a frame that is lent
+-- the state after a call; after a frame no octet is held
 abbrev pub after_call : TcFraming → List ℕ → Option (List ℕ) → TcFraming
 after_call old chunk (Some frame) = record { format = old.format; rest = [] }
 after_call old chunk None = record { format = old.format; rest = taken_at (front_of old.format (old.rest ++ chunk)) (old.rest ++ chunk) }
 
+-- the octets of a frame that is lent, if one is
 abbrev pub lent_octets : Option (Bor (List ℕ)) → Option (List ℕ)
 lent_octets None = None
 lent_octets (Some octets) = Some octets.now
 
--- the octets that were taken state a length below the least of a frame
+-- the framer is stuck: the octets that it holds state a length below the least length of a frame
 abbrev pub IsStuck : TcFraming → Type 0
 IsStuck f = front_of f.format f.rest ≡ BelowLeast
 
--- What stands after a call with this chunk that gave this answer. After a stated length below the least nothing changes
--- any more.
+-- The state after a call with this chunk and this answer. A framer that is stuck doesn't change any more.
 pub record HasTaken (old : TcFraming) (chunk : List ℕ) (answer : Option (Bor (List ℕ))) (new : TcFraming) : Type 0 where
   pub after : new ≡ after_call old chunk (lent_octets answer)
   pub stuck : IsStuck old → new ≡ old
 
--- what the answer says of the chunk: a frame is lent, which is one by its frame length field, or none is whole
+-- The answer and what is left of the chunk: a frame is lent, which is one by its frame length field, or no frame is
+-- whole.
 abbrev pub Answers : TcFraming → List ℕ → Option (Bor (List ℕ)) → List ℕ → Type 0
 Answers old chunk None left = YieldsNone old chunk left
 Answers old chunk (Some frame) left = YieldsFrame old chunk frame.now left × (is_cut old.format frame.now ≡ true)
 
--- after a stated length below the least no octet is taken and no frame lent
+-- A framer that is stuck takes no octet and lends no frame.
 abbrev pub StaysStuck : TcFraming → List ℕ → Option (Bor (List ℕ)) → List ℕ → Type 0
 StaysStuck old chunk answer left = IsStuck old → (left ≡ chunk) × IsNone answer
 
--- octets begin with a whole frame, and these come after it
+-- octets begin with a whole frame, and these octets come after it
 pub record BeginsWithFrame (format : TcFormat) (octets frame later : List ℕ) : Type 0 where
   pub parts : octets ≡ frame ++ later
   pub whole : front_of format octets ≡ WholeFrame (length frame)
   pub cut : is_cut format frame ≡ true
 
--- octets are taken until a frame is whole, or none is
+-- Octets are taken until a frame is whole, or no frame is whole.
 abbrev pub TakesUpToFrame : TcFormat → List ℕ → List ℕ → Bool → List ℕ → List ℕ → Type 0
 TakesUpToFrame format old chunk true new left =
     (old ++ chunk ≡ new ++ left) × (front_of format (old ++ chunk) ≡ WholeFrame (length new)) × (is_cut format new ≡ true)
@@ -132,8 +135,8 @@ TakesUpToFrame format old chunk false new left =
 
 -- ---- calls with chunks, one after another
 
--- A chunk is given until no frame is yielded, then the next one. These frames are yielded, this is left, and these
--- octets of the chunks aren't taken.
+-- Each chunk is given until no frame is yielded, and then the next one. These frames are yielded, this state is left,
+-- and the octets `behind` of the chunks aren't taken.
 pub data YieldsFrames : TcFraming → List (List ℕ) → List (List ℕ) → TcFraming → List ℕ → Type 0 where
   ended : (f : TcFraming) → YieldsFrames f [] [] f []
   yielded : (f new : TcFraming) (chunk frame left behind : List ℕ) (chunks frames : List (List ℕ)) → YieldsFrame f chunk frame left
@@ -148,32 +151,32 @@ abbrev pub BeginsWith : TcFormat → List ℕ → ℕ → Type 0
 BeginsWith format octets len =
     (frame : List ℕ) × (later : List ℕ) × (octets ≡ frame ++ later) × (is_cut format frame ≡ true) × (length frame ≡ len)
 
--- A frame is whole at the front of octets exactly where they begin with one,
+-- The front of octets is a whole frame exactly where the octets begin with a frame.
 abbrev pub FrontsAreFrames : Type 0
 FrontsAreFrames =
     (format : TcFormat) (octets : List ℕ) (len : ℕ) → IsOctets octets → (front_of format octets ≡ WholeFrame len) ↔ BeginsWith format octets len
 
--- and after a stated length below the least none begins here, whatever follows.
+-- After a stated length below the least no frame begins here, whatever follows.
 abbrev pub NoneFollowsBelowLeast : Type 0
 NoneFollowsBelowLeast =
     (format : TcFormat) (octets more : List ℕ) (len : ℕ) → IsOctets (octets ++ more) → front_of format octets ≡ BelowLeast
     → BeginsWith format (octets ++ more) len → ⊥
 
--- The frames that are yielded are those of the recording that the chunks are end to end, and its remainder is what is
--- left and then what isn't taken.
+-- The frames that are yielded are those of the recording, which is the chunks end to end. The remainder is the octets
+-- that are held, and then the octets that weren't taken.
 abbrev pub ChunksAreDelimited : Type 0
 ChunksAreDelimited =
     (format : TcFormat) (chunks frames : List (List ℕ)) (new : TcFraming) (behind : List ℕ) → IsOctets (concat chunks)
     → YieldsFrames (at_start format) chunks frames new behind
     → IsTcDelimited format (concat chunks) frames (new.rest ++ behind)
 
--- Octets that are incomplete become a frame by others that follow.
+-- Octets with an incomplete front become a frame with some octets after them.
 abbrev pub IncompleteBecomesFrame : Type 0
 IncompleteBecomesFrame =
     (format : TcFormat) (octets : List ℕ) → IsOctets octets → front_of format octets ≡ Incomplete
     → (more : List ℕ) × IsOctets more × (front_of format (octets ++ more) ≡ WholeFrame (length (octets ++ more)))
 
--- Any chunks are taken so.
+-- Every list of chunks yields some frames and leaves some state.
 abbrev pub AnyChunksAreTaken : Type 0
 AnyChunksAreTaken =
     (format : TcFormat) (chunks : List (List ℕ))

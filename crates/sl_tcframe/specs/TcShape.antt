@@ -1,10 +1,11 @@
--- Which managed formats TC transfer frames may have.
+-- The managed formats that TC transfer frames may have.
 use Rattle.std.specs.Prelude.{if◌then◌else◌, Result, Ok, Err}
 use Rattle.sl_fields.specs.Shape.{is_outside}
 use Rattle.sl_fields.specs.declared.shape_fault.ShapeFault.{ShapeFault}
 use Rattle.sl_fields.specs.declared.shape_fault.ShapeFault.TheVariants.{TcLength}
 use Rattle.sl_tcframe.specs.TcFrame.{TcFormat}
 
--- the format, which is refused where its greatest frame doesn't have 16 to 1024 octets
+-- The format, which is refused where its greatest length isn't 16 to 1024 octets. CCSDS 232.0-B has 1024; the bound
+-- of 16 is the mission profile's.
 abbrev pub tc_shape : TcFormat → Result TcFormat ShapeFault
 tc_shape format = if is_outside 16 1024 format.max then Err TcLength else Ok format

@@ -1,4 +1,4 @@
--- A `TcShape` is its format, which isn't refused.
+-- A `TcShape` stands for its format, which isn't refused.
 use Rattle.std.specs.Prelude.{◌≤◌}
 use Rattle.sl_tcframe.specs.TcFrame.{TcFormat}
 use Rattle.sl_tcframe.specs.declared.tc_shape.TcShape.TheInside.{Inside}

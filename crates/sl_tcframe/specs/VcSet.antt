@@ -1,30 +1,31 @@
--- A set of virtual channels, as its numbers in rising order, and the text that lists them.
+-- A set of virtual channels of CCSDS 232.0-B, as its numbers in rising order, and the text that lists them. The text
+-- is this project's.
 use Rattle.std.specs.Prelude.{◌≡◌, ℕ, suc, ◌<◌, ◌≤◌, ◌==◌, nat_lt, Bool, false, ◌||◌, if◌then◌else◌, List, [], ◌∷◌, map, length}
 use Rattle.std.specs.Fmt.{decimal}
 use Rattle.std.specs.List.{join_with_byte}
 
--- whether the channel is one of them
+-- whether the virtual channel is in the set
 abbrev pub has_vc : List ℕ → ℕ → Bool
 has_vc [] vc = false
 has_vc (v ∷ vcs) vc = vc == v || has_vc vcs vc
 
--- the numbers with this one in its place
+-- the set with this number added in its place
 abbrev pub with_vc : List ℕ → ℕ → List ℕ
 with_vc [] vc = vc ∷ []
 with_vc (v ∷ vcs) vc = if nat_lt vc v then vc ∷ v ∷ vcs else if vc == v then v ∷ vcs else v ∷ with_vc vcs vc
 
--- numbers that rise strictly, from the least on, up to 63
+-- numbers that rise strictly, from `least` to 63
 abbrev pub AreRising : ℕ → List ℕ → Type 0
 AreRising least [] = Unit {0}
 AreRising least (vc ∷ vcs) = (least ≤ vc) × (vc ≤ 63) × AreRising (suc vc) vcs
 
 -- ---- as text
 
--- the numbers in decimal, joined by commas
+-- the text of numbers: in decimal, joined by single commas
 abbrev pub vc_text : List ℕ → List ℕ
 vc_text vcs = join_with_byte 44 (map decimal vcs)
 
--- the text lists these numbers, which are one or more, rise strictly from the least on, and are 63 at most
+-- the text lists these numbers: one or more, which rise strictly from `least` to 63
 pub record Lists (least : ℕ) (text vcs : List ℕ) : Type 0 where
   pub some : 0 < length vcs
   pub rising : AreRising least vcs
@@ -32,11 +33,11 @@ pub record Lists (least : ℕ) (text vcs : List ℕ) : Type 0 where
 
 -- ---- laws
 
--- a number that is put in its place is one of them, and nothing else is changed
+-- A number that is added is in the set, and nothing else changes.
 abbrev pub NumbersAreAdded : Type 0
 NumbersAreAdded = (vcs : List ℕ) (vc v : ℕ) → has_vc (with_vc vcs vc) v ≡ (v == vc || has_vc vcs v)
 
--- and numbers that rise up to 63 do so with one more of 63 at most
+-- Numbers that rise strictly up to 63 still do so with one more number up to 63.
 abbrev pub AddedNumbersRise : Type 0
 AddedNumbersRise = (least : ℕ) (vcs : List ℕ) (vc : ℕ) → AreRising least vcs → least ≤ vc → vc ≤ 63 → AreRising least (with_vc vcs vc)
 

@@ -1,15 +1,15 @@
--- A `VcSet` is the numbers at which its flags are set.
+-- A `VcSet` stands for the numbers at which its flags are set.
 use Rattle.std.specs.Prelude.{◌≡◌, ℕ, zero, suc, Bool, true, false, List, [], ◌∷◌, length}
 use Rattle.sl_tcframe.specs.VcSet.{has_vc}
 use Rattle.sl_tcframe.specs.declared.vc_set.VcSet.TheInside.{Inside}
 
--- the numbers at which flags are set, the first flag being that of the first number
+-- the numbers at which flags are set; the first flag has the number `first`
 abbrev pub numbers_from : ℕ → List Bool → List ℕ
 numbers_from first [] = []
 numbers_from first (true ∷ flags) = first ∷ numbers_from (suc first) flags
 numbers_from first (false ∷ flags) = numbers_from (suc first) flags
 
--- so many flags, set at these numbers
+-- `count` flags from the number `first` on, set at these numbers
 unfoldable pub flags_from : ℕ → ℕ → List ℕ → List Bool
 flags_from zero first vcs = []
 flags_from (suc count) first vcs = has_vc vcs first ∷ flags_from count (suc first) vcs

@@ -1,4 +1,4 @@
-//! The TC transfer frame of type AD, as it is written.
+//! The TC transfer frame of type AD, as the project writes it.
 ghost use Rattle.std.specs.Prelude.{◌≡◌, ◌+◌, ◌<◌, ◌≤◌, ◌++◌, length, vec_len, OnOk, OnErr};
 ghost use Rattle.std.specs.Vec.{vec_capacity};
 ghost use Rattle.sl_fields.specs.Field.{octets_of};
@@ -8,12 +8,17 @@ use crate::tc_shape::TcShape;
 use sl_fields::{SegmentHeader, TcHeader, fecf_field};
 use std::alloc::AllocError;
 
-/// Adds a frame of type AD: the segment header, and `octets` of the segment after it, none to as many as the
-/// format has room for. `spacecraft` is 0 to 1023 and `vc` 0 to 63; `ns` is the frame sequence number N(S).
+/// Adds a TC transfer frame (CCSDS 232.0-B) of type AD to `out`. The frame's data field is the segment header
+/// `header` and then `octets`.
+///
+/// - `spacecraft` is 0 to 1023 and `vc` 0 to 63.
+/// - `ns` is the frame sequence number N(S), 0 to 255.
+/// - `octets` has 0 to [`TcShape::room`] octets.
 ///
 /// The frame has version 0, bypass flag 0, control command flag 0 and spare bits 0, and its error control
-/// field where the format has one. It leaves `out` as it was where memory is refused, which can be only where
-/// the capacity of `out` has no room for the frame.
+/// field where the format has one.
+///
+/// Memory is refused only where the capacity of `out` has no room for the frame. `out` is then as it was.
 pub fn push_tc(
     out: &mut Vec<u8>,
     shape: &TcShape,
@@ -32,7 +37,7 @@ pub fn push_tc(
     ensures len { OnOk result (vec_len out.new
         ≡ vec_len out.old + ad_len shape.now (1 + length octets.now)) }
 
-    // Memory is refused only where there is no room for it: nothing is added then.
+    // Memory is refused only where `out` had no room for the frame, and then nothing is added.
     ensures unchanged { OnErr result (out.new.items ≡ out.old.items) }
     ensures capacity { vec_capacity out.old ≤ vec_capacity out.new }
     ensures full { OnErr result (vec_capacity out.old
@@ -41,11 +46,12 @@ pub fn push_tc(
     push_unit(out, shape, spacecraft, vc, ns, &header.write(), octets)
 }
 
-/// Adds a frame of type AD without segment header, as a virtual channel has them that goes without by
-/// management: its data field is `octets`, 1 to as many as the format has room for in a data field.
-/// `spacecraft` is 0 to 1023 and `vc` 0 to 63; `ns` is the frame sequence number N(S).
+/// Adds a TC transfer frame (CCSDS 232.0-B) of type AD without a segment header to `out`, for a virtual
+/// channel that has no segment headers by management. The frame's data field is `octets`, 1 to
+/// [`TcShape::plain_room`] octets. `spacecraft` is 0 to 1023 and `vc` 0 to 63; `ns` is the frame sequence
+/// number N(S), 0 to 255.
 ///
-/// The rest of the frame is as [`push_tc`] writes it, and so is what is left where memory is refused.
+/// The other parts of the frame, and what stands after a refusal, are as for [`push_tc`].
 pub fn push_tc_plain(
     out: &mut Vec<u8>,
     shape: &TcShape,
@@ -64,7 +70,7 @@ pub fn push_tc_plain(
     ensures len { OnOk result (vec_len out.new
         ≡ vec_len out.old + ad_len shape.now (length octets.now)) }
 
-    // Memory is refused only where there is no room for it: nothing is added then.
+    // Memory is refused only where `out` had no room for the frame, and then nothing is added.
     ensures unchanged { OnErr result (out.new.items ≡ out.old.items) }
     ensures capacity { vec_capacity out.old ≤ vec_capacity out.new }
     ensures full { OnErr result (vec_capacity out.old
@@ -73,7 +79,7 @@ pub fn push_tc_plain(
     push_unit(out, shape, spacecraft, vc, ns, &[], octets)
 }
 
-// Adds a frame of type AD whose data field is a segment header, or none, and the octets after it.
+// Adds a frame of type AD. Its data field is `segment`, a segment header or nothing, and then `octets`.
 fn push_unit<const N: usize>(
     out: &mut Vec<u8>,
     shape: &TcShape,
@@ -92,7 +98,7 @@ fn push_unit<const N: usize>(
     ensures len { OnOk result (vec_len out.new
         ≡ vec_len out.old + ad_len shape.now (length segment.now + length octets.now)) }
 
-    // Memory is refused only where there is no room for it: nothing is added then.
+    // Memory is refused only where `out` had no room for the frame, and then nothing is added.
     ensures unchanged { OnErr result (out.new.items ≡ out.old.items) }
     ensures capacity { vec_capacity out.old ≤ vec_capacity out.new }
     ensures full { OnErr result (vec_capacity out.old
@@ -111,7 +117,7 @@ fn push_unit<const N: usize>(
     out.extend_from_slice(&field)
 }
 
-// Octets of the frame with so many octets in its data field.
+// The octets of a frame with `unit` octets in its data field.
 fn frame_len(shape: &TcShape, unit: usize) -> u16
     requires { unit ≤ 1 + segment_room_of shape.now }
     ensures value { result ≡ ad_len shape.now unit }
@@ -122,7 +128,7 @@ fn frame_len(shape: &TcShape, unit: usize) -> u16
     around + unit as u16
 }
 
-// The header of a frame of type AD with so many octets.
+// The header of a frame of type AD with `len` octets.
 fn frame_header(spacecraft: u16, vc: u8, ns: u8, len: u16) -> [u8; 5]
     requires spacecraft { spacecraft ≤ 1023 }
     requires vc { vc ≤ 63 }

@@ -7,49 +7,49 @@ use crate::tc_shape::TcShape;
 use sl_fields::{TcHeader, fecf_good, front, without_fecf};
 use std::marker::Model;
 
-/// Why a TC transfer frame is skipped: the first of these that holds.
+/// Why a TC transfer frame is skipped: the first of these reasons that holds.
 #[derive(Clone, Copy, Debug, PartialEq, Eq)]
 pub enum TcSkip {
-    /// Its frame error control field is wrong, where frames have one.
+    /// Frames have a frame error control field, and this frame's is wrong.
     Fecf,
-    /// Its version isn't 0.
+    /// The transfer frame version number isn't 0.
     Version,
-    /// It is another spacecraft's.
+    /// The frame is of another spacecraft.
     Spacecraft,
-    /// It has more octets than frames may have.
+    /// The frame has more octets than [`TcShape::max`].
     Long,
-    /// It has the control command flag without the bypass flag, which is no type of frame.
+    /// The control command flag is 1 and the bypass flag is 0, which is no type of frame.
     Kind,
-    /// It has no data field.
+    /// The frame has no data field.
     Empty,
-    /// It is of type BC, and its data field is no control command.
+    /// The frame is of type BC, and its data field is neither Unlock nor Set V(R).
     Command,
 }
 
-/// What a TC transfer frame carries.
+/// The content of a TC transfer frame (CCSDS 232.0-B).
 #[derive(Clone, Copy, Debug)]
 pub enum TcContent<'a> {
-    /// A unit under the acceptance checks of FARM-1.
+    /// The unit of a frame of type AD, which the acceptance checks of FARM-1 apply to.
     Ad {
-        /// Frame sequence number N(S).
+        /// Frame sequence number N(S), 0 to 255.
         ns: u8,
-        /// The data field: a segment header and the octets of the segment, or these alone where the virtual channel has
-        /// no segment headers.
+        /// The data field, 1 to 1019 octets: a segment header and the octets of the segment, or only these
+        /// octets where the virtual channel has no segment headers.
         unit: &'a [u8],
     },
-    /// A unit that bypasses the acceptance checks.
+    /// The unit of a frame of type BD, which bypasses the acceptance checks.
     Bd {
-        /// The data field: a segment header and the octets of the segment, or these alone where the virtual channel has
-        /// no segment headers.
+        /// The data field, 1 to 1019 octets: a segment header and the octets of the segment, or only these
+        /// octets where the virtual channel has no segment headers.
         unit: &'a [u8],
     },
-    /// The control command Unlock.
+    /// The control command Unlock, in a frame of type BC.
     Unlock,
-    /// The control command Set V(R), with the value to be set.
+    /// The control command Set V(R), in a frame of type BC, with the value to set, 0 to 255.
     SetVr(u8),
 }
 
-/// A TC transfer frame of CCSDS 232.0-B: its virtual channel, and what it carries.
+/// A TC transfer frame of CCSDS 232.0-B that wasn't skipped: its virtual channel and its content.
 #[derive(Debug, Drop)]
 pub struct TcFrame<'a> {
     vc: u8,
@@ -71,8 +71,11 @@ impl<'a> Model for TcFrame<'a> {
 impl<'a> TcFrame<'a> {
     ghost use Rattle.sl_tcframe.specs.TcFrame.{tc_frame};
 
-    /// Reads a frame of this format and spacecraft from octets that are one by their frame length field, or
-    /// tells why it is skipped. Its unit is borrowed from the octets.
+    /// Reads a frame of this format and spacecraft, or answers why the frame is skipped. `octets` are one
+    /// frame by their frame length field, as [`TcShape::is_cut`] tests. The unit is borrowed from `octets`.
+    ///
+    /// The spare bits of the header, and N(S) of types BD and BC, are not looked at, by this project's
+    /// choice.
     #[inline(always)]
     pub fn read(shape: &TcShape, spacecraft: u16, octets: &'a [u8]) -> Result<TcFrame<'a>, TcSkip>
         requires cut { is_cut shape.now octets.now ≡ true }
@@ -100,7 +103,7 @@ impl<'a> TcFrame<'a> {
         self.vc
     }
 
-    /// What the frame carries. A unit has 1 to 1019 octets.
+    /// The content of the frame. A unit has 1 to 1019 octets.
     pub fn content(&self) -> TcContent<'a>
         ensures value { content result ≡ self.now.content }
         ensures inside { IsContent (content result) }
@@ -120,7 +123,7 @@ fn split_header(octets: &[u8]) -> (TcHeader, &[u8])
     (TcHeader::read(header), behind)
 }
 
-// The first reason to skip a frame under this header with this data field, but for a wrong command.
+// The first reason to skip a frame under this header with this data field, apart from `Command`.
 #[inline(always)]
 fn early_skip_of(
     shape: &TcShape,
@@ -154,7 +157,7 @@ fn early_skip_of(
     None
 }
 
-// What a data field under this header carries, where it carries something.
+// The content of a data field under this header, if it has one.
 #[inline(always)]
 fn content_under<'a>(header: &TcHeader, field: &'a [u8]) -> Option<TcContent<'a>>
     requires { length field.now ≤ 1019 }

@@ -1,4 +1,4 @@
-//! TC frames out of a recording that comes in chunks.
+//! TC frames from a recording that comes in chunks.
 ghost use Rattle.std.specs.Prelude.{◌≡◌, ◌↔◌, IsTrue, ◌-◌, ◌≤◌, ◌<◌, ◌++◌, nat_lt, true, false, length, take, drop, Some, None, IfSome, IfNone, if◌then◌else◌};
 ghost use Rattle.std.specs.Borrow.{sem};
 ghost use Rattle.std.specs.Io.BufRead.{Rests};
@@ -10,8 +10,8 @@ use arrayvec::ArrayVec;
 use sl_fields::TcHeader;
 use std::marker::Model;
 
-/// Takes the octets of a recording in chunks, and lends each TC transfer frame (CCSDS 232.0-B) that they complete. It
-/// keeps one frame at most, and takes no memory.
+/// Takes the octets of a recording in chunks, and returns each TC transfer frame (CCSDS 232.0-B) that the
+/// octets complete. The framer keeps one frame at most, 1024 octets, and takes no memory.
 #[derive(Drop)]
 pub struct TcFramer {
     shape: TcShape,
@@ -44,8 +44,8 @@ impl TcFramer {
         }
     }
 
-    /// The octets that were taken after the last frame: fewer than are wanted for one, or four that state a length
-    /// below the least of a frame.
+    /// The octets that were taken after the last frame: fewer than a frame needs, or exactly four octets that
+    /// state a length below [`TcShape::least`].
     pub fn rest(&self) -> &[u8]
         ensures octets { result.now ≡ self.now.rest }
         ensures part { IsRest self.now.format result.now }
@@ -56,8 +56,8 @@ impl TcFramer {
         self.taken.as_slice()
     }
 
-    /// Whether the first four octets of [`rest`](TcFramer::rest) state a length below the least of a frame. No frame
-    /// is lent from then on.
+    /// Whether the octets in [`rest`](TcFramer::rest) state a length below [`TcShape::least`]. The framer
+    /// then takes no more octets and returns no more frames. This end of a recording is the project's choice.
     pub fn stuck(&self) -> bool
         ensures { IsTrue result ↔ IsStuck self.now }
     {
@@ -67,17 +67,22 @@ impl TcFramer {
         }
     }
 
-    /// Takes octets from the front of the chunk, and lends the frame that they complete with those taken before, also
-    /// where it is longer than the managed greatest length. `None` comes where the chunk is used up before a frame is
-    /// whole, and where four octets state a length below the least of a frame: no octet after these is ever taken.
+    /// Takes octets from the front of the chunk `piece`, and returns the frame that they complete together
+    /// with the octets that were taken before. `piece` is left with the octets after the frame. A frame is
+    /// returned also where it is longer than [`TcShape::max`].
+    ///
+    /// `None` comes where the chunk is used up before a frame is complete, and where four octets state a
+    /// length below [`TcShape::least`]. After these four octets the framer takes none, in this call and in
+    /// every later one.
     pub fn next(&mut self, piece: &mut &[u8]) -> Option<&[u8]>
         ensures* taken { sem 𝓛 (Rests the_row self.entry (HasTaken self.old piece.old.now result)) }
-        // A frame has the octets that were taken after the last one, and then those from the front of the chunk.
+        // A frame has the octets that were taken after the last frame, and then octets from the front of the
+        // chunk.
         ensures frame { IfSome result (λ frame.
             YieldsFrame self.old piece.old.now frame.now piece.new.now) }
         ensures cut { IfSome result (λ frame. is_cut self.old.format frame.now ≡ true) }
         ensures none { IfNone result (YieldsNone self.old piece.old.now piece.new.now) }
-        // Once it is stuck it stays so, whatever comes.
+        // Once the framer is stuck, it stays so, whatever comes.
         ensures stuck { StaysStuck self.old piece.old.now result piece.new.now }
     {
         if self.is_lent {
@@ -91,8 +96,10 @@ impl TcFramer {
         Some(self.taken.as_slice())
     }
 
-    /// As [`next`](TcFramer::next), for octets that outlive the frame: one that lies whole in the chunk is lent from
-    /// there, and only one that lies in several chunks is copied.
+    /// As [`next`](TcFramer::next), with the same clauses, for a chunk that outlives the frame.
+    ///
+    /// By reading, a frame that lies whole in the chunk is returned as a slice of the chunk, and only a frame
+    /// that lies in several chunks is copied. No clause says where the octets of a frame lie.
     #[inline]
     pub fn next_from<'a, 'p: 'a>(&'a mut self, piece: &mut &'p [u8]) -> Option<&'a [u8]>
         ensures* taken { sem 𝓛 (Rests the_row self.entry (HasTaken self.old piece.old.now result)) }
@@ -115,7 +122,7 @@ impl TcFramer {
         frame
     }
 
-    // Lends a frame that lies in several chunks, if one is whole then.
+    // Returns a frame that lies in several chunks, if one is complete.
     #[cold]
     fn next_across(&mut self, piece: &mut &[u8]) -> Option<&[u8]>
         ensures* taken { sem 𝓛 (Rests the_row self.entry (HasTaken self.old piece.old.now result)) }
@@ -126,7 +133,7 @@ impl TcFramer {
     }
 }
 
-// The frame that octets begin with, where one is whole, and those after it.
+// Splits octets after the whole frame at their front, if there is one.
 #[inline]
 fn split_frame<'p>(shape: &TcShape, octets: &'p [u8]) -> Option<(&'p [u8], &'p [u8])>
     ensures { IfSome result (λ parts.
@@ -139,7 +146,7 @@ fn split_frame<'p>(shape: &TcShape, octets: &'p [u8]) -> Option<(&'p [u8], &'p [
     Some(octets.split_at(len))
 }
 
-// Takes octets from the front of the chunk until a frame is whole, and answers whether one is.
+// Takes octets from the front of the chunk until a frame is whole. Answers whether a frame is whole.
 fn complete(shape: &TcShape, taken: &mut ArrayVec<u8, 1024>, chunk: &mut &[u8]) -> bool
     requires { IsRest shape.now taken.old.items }
     ensures taken { TakesUpToFrame shape.now
@@ -170,7 +177,7 @@ fn is_whole(octets: &[u8], len: usize) -> bool
     octets.len() >= len
 }
 
-// The octets of the frame that begins here, where four state them.
+// The length of the frame that begins here, where there are four octets to state it.
 fn len_by_four(octets: &[u8]) -> Option<usize>
     ensures value { result
         ≡ (if nat_lt (length octets.now) 4 then None else Some (len_by_four octets.now)) }
@@ -181,7 +188,7 @@ fn len_by_four(octets: &[u8]) -> Option<usize>
     Some(usize::from(header.length()) + 1)
 }
 
-// Takes octets from the front of the chunk until there are so many, or none is left.
+// Takes octets from the front of the chunk until `count` octets were taken, or none is left.
 fn fill(taken: &mut ArrayVec<u8, 1024>, chunk: &mut &[u8], count: usize)
     requires { count ≤ 1024 }
     ensures taken { taken.new.items

@@ -6,7 +6,7 @@ ghost use Rattle.sl_tcframe.specs.VcSet.{AreRising, Lists, has_vc, with_vc};
 use sl_fields::read_decimal;
 use std::marker::Model;
 
-/// A set of TC virtual channels of CCSDS 232.0-B, by their identifiers, the numbers 0 to 63.
+/// A set of TC virtual channels of CCSDS 232.0-B, by their identifiers, 0 to 63.
 #[derive(Clone, Copy, Debug, PartialEq, Eq)]
 pub struct VcSet {
     flags: [bool; 64],
@@ -33,7 +33,7 @@ impl Model for VcSet {
 }
 
 impl VcSet {
-    /// The set of no virtual channel.
+    /// The empty set.
     pub fn new() -> VcSet
         ensures { result ≡ [] }
     {
@@ -60,8 +60,9 @@ impl VcSet {
         self.flags[usize::from(vc)]
     }
 
-    /// The set that the text lists: one or more decimal numbers, 0 to 63, without leading zeros, which rise
-    /// strictly and are joined by single commas; no set where it is any other text.
+    /// Reads the set that the text lists: one or more virtual channels, 0 to 63, in decimal without leading
+    /// zeros, which rise strictly and are joined by single commas. `None` for any other text, also for the
+    /// empty one.
     pub fn read(text: &str) -> Option<VcSet>
         ensures listed { IfSome result (λ vcs. Lists 0 text.now vcs) }
         ensures every { (vcs : List ℕ) → Lists 0 text.now vcs → result ≡ Some vcs }
@@ -71,7 +72,7 @@ impl VcSet {
     }
 }
 
-// The set that the text lists, where its numbers are the least one or above.
+// Reads the set that the text lists. Its virtual channels are `least` or above.
 fn read_from(text: &str, least: u8) -> Option<VcSet>
     ensures listed { IfSome result (λ vcs. Lists least text.now vcs) }
     ensures every { (vcs : List ℕ) → Lists least text.now vcs → result ≡ Some vcs }
@@ -89,7 +90,7 @@ fn read_from(text: &str, least: u8) -> Option<VcSet>
     }
 }
 
-// The number, the least one to 63, that the text is in decimal.
+// Reads a virtual channel, `least` to 63, from decimal text.
 fn read_vc(text: &str, least: u8) -> Option<u8>
     ensures number { IfSome result (λ vc. (least ≤ vc) × (vc ≤ 63) × (text.now ≡ decimal vc)) }
     ensures every { (vc : ℕ) → least ≤ vc → vc ≤ 63 → text.now ≡ decimal vc → result ≡ Some vc }

@@ -1,6 +1,5 @@
--- What is amiss in the next frame of a virtual channel, CCSDS 132.0-B: a gap in the virtual channel frame
--- counts before it, an incomplete packet that it breaks off, and octets of another packet version than 0 at a
--- packet start.
+-- Anomalies at the next frame of a virtual channel, CCSDS 132.0-B: a gap in the virtual channel frame counts before
+-- it, an incomplete packet that it breaks off, and octets of another packet version than 0 at a packet start.
 use Rattle.std.specs.Prelude.{◌≡◌, ◌≢◌, ℕ, ◌+◌, ◌%◌, ◌<◌, ◌≤◌, Bool, true, false, if◌then◌else◌, List, [], ◌∷◌, ◌++◌, length, drop, Option, None, Some}
 use Rattle.std.specs.List.{AllByRecursion, concat, flat_map, list_any}
 use Rattle.sl_packet.specs.Front.{is_foreign}
@@ -14,8 +13,8 @@ use Rattle.sl_tmflow.specs.PacketStart.{IsStart, starts_of}
 
 -- ---- gaps
 
--- The virtual channel frame count of the next frame isn't the one that comes after the last frame's, which was
--- expected.
+-- The virtual channel frame count of the next frame isn't the expected one, which follows the count of the last
+-- frame.
 pub record IsGap (channel : List TmView) (next : TmView) (expected : ℕ) : Type 0 where
   pub earlier : List TmView
   pub last : TmView
@@ -23,19 +22,19 @@ pub record IsGap (channel : List TmView) (next : TmView) (expected : ℕ) : Type
   pub broken : is_consecutive last next ≡ false
   pub value : expected ≡ (last.vc_count + 1) % 256
 
--- the count that was expected after the last one, where this one isn't it
+-- the count that was expected after the last one, where this one is another
 abbrev pub gap_after : Option ℕ → ℕ → Option ℕ
 gap_after None count = None
 gap_after (Some last) count = if follows last count then None else Some ((last + 1) % 256)
 
--- the count that was expected after a channel's last frame, where the next frame's isn't it
+-- the count that was expected after a channel's last frame, where the next frame has another one
 abbrev pub gap_of : List TmView → TmView → Option ℕ
 gap_of channel next = gap_after (last_count channel) next.vc_count
 
 -- ---- packets that are broken off
 
--- A packet is incomplete after the channel's last frame, with these octets so far; after the next frame it is
--- not, and it isn't delivered with that frame.
+-- A packet is broken off: it is incomplete after the channel's last frame, with these octets so far, and after the
+-- next frame it isn't incomplete and wasn't delivered with this frame.
 pub record IsBrokenOff (channel : List TmView) (next : TmView) (octets : List ℕ) : Type 0 where
   pub frame : ℕ
   pub start : ℕ
@@ -44,8 +43,8 @@ pub record IsBrokenOff (channel : List TmView) (next : TmView) (octets : List �
   pub not_delivered :
       (d : Delivery) → IsDelivery (channel ++ next ∷ []) d → d.frame ≡ frame → d.start ≡ start → d.ending ≡ length channel → ⊥
 
--- the octets so far of the packet that is broken off, of a packet start by its outcome before the next frame
--- and by that after it
+-- the octets so far of the broken-off packet of a packet start, by the start's outcome before the next frame and
+-- after it
 abbrev pub broken_octets : Outcome → Outcome → List (List ℕ)
 broken_octets (Completes packet passed) after = []
 broken_octets (StillIncomplete octets) (Completes packet passed) = []
@@ -53,18 +52,19 @@ broken_octets (StillIncomplete octets) (StillIncomplete later) = []
 broken_octets (StillIncomplete octets) Undelivered = octets ∷ []
 broken_octets Undelivered after = []
 
--- of the packet starts of a frame, where these frames come later, and then the next one
+-- the broken-off packets of the packet starts of a frame, where the frames `later` and then the next one come after
+-- it
 abbrev pub frame_broken : TmView → List TmView → TmView → List (List ℕ)
 frame_broken view later next =
     flat_map (λ start. broken_octets (outcome_of view (drop start (packet_data view)) later) (outcome_of view (drop start (packet_data view)) (later ++ next ∷ [])))
     (starts_of view.field)
 
--- of those of a channel, by the frames and then the starts of the packets
+-- the broken-off packets of a channel, by the frames and then the starts of the packets
 abbrev pub broken_off : List TmView → TmView → List (List ℕ)
 broken_off [] next = []
 broken_off (view ∷ later) next = frame_broken view later next ++ broken_off later next
 
--- how many octets so far they have
+-- how many octets so far the broken-off packets have
 abbrev pub dropped_of : List TmView → TmView → ℕ
 dropped_of channel next = length (concat (broken_off channel next))
 
@@ -79,50 +79,50 @@ pub record HasForeignStart (field : DataField) : Type 0 where
   pub is_start : IsStart octets first start
   pub version : version_of (drop start octets) ≢ 0
 
--- whether they do
+-- whether octets of another version than 0 stand at a packet start of the data field
 abbrev pub foreign_of : DataField → Bool
 foreign_of field = list_any (λ start. is_foreign (drop start (data_of field))) (starts_of field)
 
 -- ---- laws
 
--- a count is told where the next frame follows a gap, as the one that was expected,
+-- A gap before the next frame is reported, with the count that was expected.
 abbrev pub EachGapIsTold : Type 0
 EachGapIsTold = (channel : List TmView) (next : TmView) (expected : ℕ) → IsGap channel next expected → gap_of channel next ≡ Some expected
 
--- and only there
+-- A count is reported only at a gap.
 abbrev pub EachToldIsAGap : Type 0
 EachToldIsAGap = (channel : List TmView) (next : TmView) (expected : ℕ) → gap_of channel next ≡ Some expected → IsGap channel next expected
 
--- each that is listed is broken off,
+-- Each listed packet is broken off.
 abbrev pub EachListedIsBrokenOff : Type 0
 EachListedIsBrokenOff = (channel : List TmView) (next : TmView) → AllByRecursion (IsBrokenOff channel next) (broken_off channel next)
 
--- each that is broken off is listed,
+-- Each packet that is broken off is listed.
 abbrev pub EachBrokenOffIsListed : Type 0
 EachBrokenOffIsListed = (channel : List TmView) (next : TmView) (octets : List ℕ) → IsBrokenOff channel next octets → IsAmong octets (broken_off channel next)
 
--- and at most one packet is broken off by a frame,
+-- At most one packet is broken off by a frame.
 abbrev pub OneIsBrokenOff : Type 0
 OneIsBrokenOff = (channel : List TmView) (next : TmView) → length (broken_off channel next) ≤ 1
 
--- with one to 65,541 octets so far
+-- A packet that is broken off has 1 to 65,541 octets so far.
 abbrev pub BrokenOffIsShort : Type 0
 BrokenOffIsShort = (channel : List TmView) (next : TmView) → AllByRecursion IsShort (broken_off channel next)
 
--- as many octets are told as dropped as the packet has that is broken off,
+-- The octets that are reported as dropped are as many as the broken-off packet has.
 abbrev pub BrokenOffIsTold : Type 0
 BrokenOffIsTold =
     (channel : List TmView) (next : TmView) (octets : List ℕ) → IsBrokenOff channel next octets → dropped_of channel next ≡ length octets
 
--- and where some are told, there is such a packet
+-- Where octets are reported as dropped, there is a broken-off packet.
 abbrev pub WhatIsToldIsBrokenOff : Type 0
 WhatIsToldIsBrokenOff =
     (channel : List TmView) (next : TmView) → 0 < dropped_of channel next → (octets : List ℕ) × IsBrokenOff channel next octets
 
--- a data field is told to have octets of another version at a packet start where it does,
+-- Octets of another version at a packet start of a data field are reported.
 abbrev pub EachForeignStartIsTold : Type 0
 EachForeignStartIsTold = (field : DataField) → HasForeignStart field → foreign_of field ≡ true
 
--- and only there
+-- Octets of another version are reported only where a data field has them at a packet start.
 abbrev pub EachToldIsAForeignStart : Type 0
 EachToldIsAForeignStart = (field : DataField) → foreign_of field ≡ true → HasForeignStart field

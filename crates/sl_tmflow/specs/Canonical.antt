@@ -7,12 +7,12 @@ use Rattle.sl_tmframe.specs.TmFrame.{TmFormat, TmView, tm_frame}
 use Rattle.sl_tmflow.specs.NormalForm.{frames_from_channel, normal_form}
 use Rattle.sl_tmflow.specs.Recording.{tm_lists}
 
--- a managed format, whose frames have 32 to 2048 octets
+-- a managed format: its frames have 32 to 2048 octets
 pub record IsFormat (format : TmFormat) : Type 0 where
   pub least : 32 ≤ format.len
   pub most : format.len ≤ 2048
 
--- lists of packets, none of them idle, one for each virtual channel
+-- lists of packets that aren't idle, one list for each virtual channel
 pub record AreDeliverable (lists : List (List (List ℕ))) : Type 0 where
   pub eight : length lists ≡ 8
   pub each : AllByRecursion (AllByRecursion IsDeliverable) lists
@@ -23,11 +23,11 @@ IsRead format spacecraft frame = (view : TmView) × (tm_frame format spacecraft 
 
 -- ---- laws
 
--- What a recording delivers are such lists.
+-- A recording delivers lists of packets that aren't idle, one for each virtual channel.
 abbrev pub RecordedListsAreDeliverable : Type 0
 RecordedListsAreDeliverable = (format : TmFormat) (spacecraft : ℕ) (recording : List ℕ) → AreDeliverable (tm_lists format spacecraft recording)
 
--- The frames of the normal form, end to end, are all of it: nothing remains,
+-- The normal form is its frames end to end: no octet remains.
 abbrev pub NormalFormIsFrames : Type 0
 NormalFormIsFrames =
     (format : TmFormat) (spacecraft : ℕ) (lists : List (List (List ℕ))) → IsFormat format → spacecraft ≤ 1023 → AreDeliverable lists
@@ -39,7 +39,7 @@ NoFrameIsSkipped =
     (format : TmFormat) (spacecraft : ℕ) (lists : List (List (List ℕ))) → IsFormat format → spacecraft ≤ 1023 → AreDeliverable lists
     → AllByRecursion (IsRead format spacecraft) (frames_from_channel format spacecraft 0 0 lists)
 
--- and read as a recording it delivers exactly the packets that it was made of
+-- Read as a recording, the normal form delivers exactly the packets that it was made from.
 abbrev pub NormalFormDelivers : Type 0
 NormalFormDelivers =
     (format : TmFormat) (spacecraft : ℕ) (lists : List (List (List ℕ))) → IsFormat format → spacecraft ≤ 1023 → AreDeliverable lists

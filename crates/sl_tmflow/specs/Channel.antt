@@ -1,18 +1,18 @@
--- A virtual channel of a recording, CCSDS 132.0-B: its frames in order, and how one follows another.
+-- A virtual channel of a recording, CCSDS 132.0-B: its frames in order, and how one frame follows another.
 use Rattle.std.specs.Prelude.{◌≡◌, ⊤, ℕ, ◌+◌, ◌%◌, ◌==◌, Bool, true, List, [], ◌∷◌, ◌++◌, map, Option, None, Some}
 use Rattle.std.specs.Result.{result_ok}
 use Rattle.std.specs.List.{filter, filter_map, concat}
 use Rattle.sl_tmframe.specs.TmFrame.{TmFormat, TmView, DataField, Packets, Idle, Opaque, tm_frame}
 
--- the frames that aren't skipped, as they are read
+-- the views of the frames that aren't skipped
 abbrev pub views_of : TmFormat → ℕ → List (List ℕ) → List TmView
 views_of format spacecraft frames = filter_map (λ frame. result_ok (tm_frame format spacecraft frame)) frames
 
--- those of a virtual channel
+-- the frames of a virtual channel
 abbrev pub channel_of : ℕ → List TmView → List TmView
 channel_of vc views = filter (λ view. view.vc == vc) views
 
--- the virtual channel frame count that comes after one is the next one, modulo 256
+-- whether a virtual channel frame count follows another one: it is one more, modulo 256
 abbrev pub follows : ℕ → ℕ → Bool
 follows count next = next == (count + 1) % 256
 
@@ -22,24 +22,25 @@ last_count [] = None
 last_count (view ∷ []) = Some view.vc_count
 last_count (view ∷ next ∷ later) = last_count (next ∷ later)
 
--- the next frame has the one that comes after this one's
+-- whether the next frame's count follows this frame's
 abbrev pub is_consecutive : TmView → TmView → Bool
 is_consecutive view next = follows view.vc_count next.vc_count
 
--- each frame is consecutive to the one before it, the first one to this one
+-- each frame follows the frame before it, and the first one follows this frame
 abbrev pub AreConsecutive : TmView → List TmView → Type 0
 AreConsecutive view [] = ⊤
 AreConsecutive view (next ∷ later) = (is_consecutive view next ≡ true) × AreConsecutive next later
 
--- the octets of packets that a frame carries: its data field, where that is of packets
+-- the octets of packets in a data field: the whole field where it is of packets, and none otherwise
 abbrev pub data_of : DataField → List ℕ
 data_of (Packets first octets) = octets
 data_of Idle = []
 data_of Opaque = []
 
+-- the octets of packets in a frame
 abbrev pub packet_data : TmView → List ℕ
 packet_data view = data_of view.field
 
--- octets, and then the packet data of frames
+-- octets, followed by the packet data of frames
 abbrev pub reassembly : List ℕ → List TmView → List ℕ
 reassembly octets views = octets ++ concat (map packet_data views)

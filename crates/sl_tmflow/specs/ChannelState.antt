@@ -1,5 +1,5 @@
--- What an extractor keeps of a virtual channel of CCSDS 132.0-B, and what the next frame makes of it. These
--- are the code's steps, not the standard's: contracts of private functions alone cite what a step does.
+-- The state that an extractor keeps of a virtual channel of CCSDS 132.0-B, and the state after the next frame. These
+-- are the code's steps, not the standard's. Only contracts of private functions cite the steps.
 use Rattle.std.specs.Prelude.{ℕ, Bool, false, List, [], ◌∷◌, ◌++◌, drop, Option, None, Some}
 use Rattle.sl_packet.specs.Front.{Front, OtherVersion, Incomplete, WholePacket, front, is_foreign}
 use Rattle.sl_packet.specs.Packets.{rest_of}
@@ -8,12 +8,13 @@ use Rattle.sl_tmflow.specs.Channel.{follows, packet_data}
 use Rattle.sl_tmflow.specs.Delivery.{Continuation, Ends, Continues, Breaks, ended, step_after}
 use Rattle.sl_tmflow.specs.PacketStart.{whole_packets}
 
--- the virtual channel frame count of its last frame, and the octets so far of the packet that is incomplete
--- after it, none where none is
+-- the virtual channel frame count of the channel's last frame, and the octets so far of the packet that is incomplete
+-- after it, if one is
 pub record ChannelState : Type 0 where
   pub count : Option ℕ
   pub held : List ℕ
 
+-- the state before the first frame
 abbrev pub no_frame : ChannelState
 no_frame = record { count = None; held = [] }
 
@@ -34,18 +35,18 @@ held_step (Some count) (octet ∷ octets) next = step_after count (octet ∷ oct
 abbrev pub step_in : ChannelState → TmView → Continuation
 step_in state next = held_step state.count state.held next
 
--- a virtual channel frame count comes after the last one
+-- whether a virtual channel frame count follows the last one
 abbrev pub is_after : Option ℕ → ℕ → Bool
 is_after None count = false
 is_after (Some last) count = follows last count
 
--- the octets that are held after a step, where these are all of the packet so far
+-- the octets that are held after a step, where `octets` are all octets of the packet so far
 abbrev pub kept_of : Continuation → List ℕ → List ℕ
 kept_of (Ends packet) octets = []
 kept_of Continues octets = octets
 kept_of Breaks octets = []
 
--- the octets that are held after the next frame, but for those of a packet that starts in it
+-- the octets that are held after the next frame, before the packets that start in it
 abbrev pub kept_octets : Continuation → List ℕ → TmView → List ℕ
 kept_octets step held next = kept_of step (held ++ packet_data next)
 
@@ -55,17 +56,17 @@ lost_of (Ends packet) octets = []
 lost_of Continues octets = []
 lost_of Breaks octets = octets
 
--- the octets that are held and that the next frame breaks off
+-- the held octets that the next frame breaks off
 abbrev pub lost_by : ChannelState → TmView → List ℕ
 lost_by state next = lost_of (step_in state next) state.held
 
--- octets that begin an incomplete packet
+-- the octets where they begin an incomplete packet, and none otherwise
 abbrev pub incomplete_in : Front → List ℕ → List ℕ
 incomplete_in OtherVersion octets = []
 incomplete_in Incomplete octets = octets
 incomplete_in (WholePacket len) octets = []
 
--- the octets that are held after a data field, where these were held before the packets that start in it
+-- the octets that are held after a data field, where `held` were held before the packets that start in it
 abbrev pub held_after : DataField → List ℕ → List ℕ
 held_after (Packets None octets) held = held
 held_after (Packets (Some pointer) octets) held =
@@ -73,14 +74,14 @@ held_after (Packets (Some pointer) octets) held =
 held_after Idle held = held
 held_after Opaque held = held
 
--- what the packets that lie whole in a data field leave is of another version
+-- whether the octets after the packets that lie whole in a data field are of another version
 abbrev pub foreign_in : DataField → Bool
 foreign_in (Packets None octets) = false
 foreign_in (Packets (Some pointer) octets) = is_foreign (rest_of (drop pointer octets))
 foreign_in Idle = false
 foreign_in Opaque = false
 
--- the state after the next frame, and the packets that end in it
+-- the state after the next frame
 abbrev pub state_after : ChannelState → TmView → ChannelState
 state_after state next =
     record {
@@ -88,5 +89,6 @@ state_after state next =
       held = held_after next.field (kept_octets (step_in state next) state.held next);
     }
 
+-- the packets that end in the next frame
 abbrev pub packets_after : ChannelState → TmView → List (List ℕ)
 packets_after state next = ended (step_in state next) ++ whole_packets next.field

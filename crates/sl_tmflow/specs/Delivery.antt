@@ -1,6 +1,6 @@
--- Which packets a virtual channel of CCSDS 132.0-B delivers. A packet is found by its start in a frame, and by
--- the run of frames after that one in which it ends. That the pointers of these frames have to agree with the
--- packet (`agreeing_pointer`) is this project's mission profile.
+-- The packets that a virtual channel of CCSDS 132.0-B delivers. A packet is found by its start in a frame and by the
+-- run of later frames in which it ends. The pointers of these frames have to agree with the packet
+-- (`agreeing_pointer`); this is the project's mission profile.
 use Rattle.std.specs.Prelude.{◌≡◌, ◌≢◌, ⊤, ◌⊎◌, ℕ, ◌+◌, ◌-◌, ◌<◌, ◌≤◌, ◌==◌, nat_eq, nat_lt, if◌then◌else◌, List, [], ◌∷◌, ◌++◌, length, take, drop, map, Option, None, Some, is_some}
 use Rattle.std.specs.List.{AllByRecursion, filter, flat_map}
 use Rattle.std.specs.Option.{option_eq}
@@ -14,36 +14,37 @@ use Rattle.sl_tmflow.specs.PacketStart.{IsStart, starts_of}
 
 -- ---- the relation
 
--- the first header pointer that agrees with a packet of so many octets, of which so many came before the
--- frame: none where the packet covers the data field to its end, and else where it ends
+-- The first header pointer that agrees with a packet of `len` octets, where `before` of them came before the frame:
+-- none where the packet covers the data field to its end, and otherwise the offset at which it ends. Mission profile.
 abbrev pub agreeing_pointer : ℕ → ℕ → List ℕ → Option ℕ
 agreeing_pointer len before field = if nat_lt len (before + length field) then Some (len - before) else None
 
--- A packet that starts in a frame, with these octets of the frame's from its start on, is delivered at the
--- end of a run of later frames.
+-- A packet that starts in a frame is delivered at the end of a run of later frames. `octets` are those of the frame
+-- from the packet's start on.
 pub record IsDeliveredBy (view : TmView) (octets : List ℕ) (run : List TmView) (packet : List ℕ) : Type 0 where
   pub is_packet : IsPacket packet
-  -- it ends in the last frame of the run, and not earlier
+  -- the packet ends in the last frame of the run, and not earlier
   pub ends : IsPrefix packet (reassembly octets run)
   pub not_earlier : (earlier : List TmView) (last : TmView) → run ≡ earlier ++ last ∷ [] → IsPrefix packet (reassembly octets earlier) → ⊥
   -- the virtual channel frame counts are consecutive
   pub consecutive : AreConsecutive view run
-  -- and none of them is opaque
+  -- no frame of the run is opaque
   pub none_opaque : AllByRecursion (λ next. next.field ≢ Opaque) run
-  -- the pointer of each frame of packets agrees with the packet
+  -- the pointer of each frame of packets agrees with the packet: mission profile
   pub agreed :
       (earlier : List TmView) (next : TmView) (later : List TmView) (first : Option ℕ) (field : List ℕ)
       → run ≡ earlier ++ next ∷ later → next.field ≡ Packets first field
       → first ≡ agreeing_pointer (length packet) (length (reassembly octets earlier)) field
 
--- a packet that a channel delivers: the numbers of the frames in which it starts and ends, counted from 0 in
--- the channel, and its start
+-- a packet that a channel delivers, its start, and the numbers of the frames in which it starts and ends, counted
+-- from 0 in the channel
 pub record Delivery : Type 0 where
   pub frame : ℕ
   pub start : ℕ
   pub ending : ℕ
   pub packet : List ℕ
 
+-- a delivery of the channel: its packet is delivered from its start in its frame, in the frame where it ends
 pub record IsDelivery (channel : List TmView) (d : Delivery) : Type 0 where
   pub before : List TmView
   pub view : TmView
@@ -58,14 +59,15 @@ pub record IsDelivery (channel : List TmView) (d : Delivery) : Type 0 where
   pub start : IsStart octets first d.start
   pub delivered : IsDeliveredBy view (drop d.start octets) run d.packet
 
--- ---- what becomes of a packet start
+-- ---- the outcome of a packet start
 
+-- the outcome of a packet start
 pub data Outcome : Type 0 where
-  -- the packet is delivered so many frames later
+  -- the packet is delivered, this many frames later
   Completes : (packet : List ℕ) (passed : ℕ) → Outcome
-  -- it is still incomplete after the last frame
+  -- the packet is still incomplete after the last frame
   StillIncomplete : (octets : List ℕ) → Outcome
-  -- it is never delivered: it has another version than 0, or is broken off
+  -- the packet is never delivered: it has another version than 0, or is broken off
   Undelivered : Outcome
 
 -- what the next frame does to an incomplete packet
@@ -80,47 +82,53 @@ ended (Ends packet) = packet ∷ []
 ended Continues = []
 ended Breaks = []
 
--- a packet ends here if the pointer agrees; an incomplete one goes on only where no packet starts
+-- The packet ends here if it is whole and the pointer agrees. An incomplete packet goes on only where no packet
+-- starts in the frame.
 abbrev pub front_step : Option ℕ → ℕ → List ℕ → List ℕ → Front → Continuation
 front_step first before field all OtherVersion = Breaks
 front_step first before field all Incomplete = if is_some first then Breaks else Continues
 front_step first before field all (WholePacket len) =
     if option_eq nat_eq first (agreeing_pointer len before field) then Ends (take len all) else Breaks
 
+-- what the data field of the next frame does to an incomplete packet
 abbrev pub field_step : List ℕ → DataField → Continuation
 field_step octets (Packets first field) = front_step first (length octets) field (octets ++ field) (front (octets ++ field))
 field_step octets Idle = Continues
 field_step octets Opaque = Breaks
 
--- after a frame with this virtual channel frame count
+-- what the next frame does to an incomplete packet, after a frame with this virtual channel frame count
 abbrev pub step_after : ℕ → List ℕ → TmView → Continuation
 step_after count octets next = if follows count next.vc_count then field_step octets next.field else Breaks
 
+-- what the next frame does to an incomplete packet, after this frame
 abbrev pub step_of : TmView → List ℕ → TmView → Continuation
 step_of view octets next = step_after view.vc_count octets next
 
+-- the outcome after a step, where `later` is the outcome of a packet that goes on
 abbrev pub after_step : Continuation → ℕ → Outcome → Outcome
 after_step (Ends packet) passed later = Completes packet passed
 after_step Continues passed later = later
 after_step Breaks passed later = Undelivered
 
--- of an incomplete packet, with its octets up to this frame, which is so many frames after its start
+-- the outcome of an incomplete packet with these octets up to this frame, which comes `passed` frames after its start
 abbrev pub outcome_after : ℕ → TmView → List ℕ → List TmView → Outcome
 outcome_after passed view octets [] = StillIncomplete octets
 outcome_after passed view octets (next ∷ later) =
     after_step (step_of view octets next) (passed + 1) (outcome_after (passed + 1) next (octets ++ packet_data next) later)
 
+-- the outcome of a packet start, by the front of the octets from it on
 abbrev pub outcome_of_front : Front → TmView → List ℕ → List TmView → Outcome
 outcome_of_front OtherVersion view octets later = Undelivered
 outcome_of_front Incomplete view octets later = outcome_after 0 view octets later
 outcome_of_front (WholePacket len) view octets later = Completes (take len octets) 0
 
--- of a packet start, with the octets of its frame from it on, and the frames that come later
+-- the outcome of a packet start, with the octets of its frame from it on and the later frames
 abbrev pub outcome_of : TmView → List ℕ → List TmView → Outcome
 outcome_of view octets later = outcome_of_front (front octets) view octets later
 
 -- ---- the deliveries of a channel, by the frames and then the starts of their packets
 
+-- the delivery of an outcome, if there is one
 abbrev pub delivery_of : ℕ → ℕ → Outcome → List Delivery
 delivery_of frame start (Completes packet passed) =
     record {
@@ -132,21 +140,25 @@ delivery_of frame start (Completes packet passed) =
 delivery_of frame start (StillIncomplete octets) = []
 delivery_of frame start Undelivered = []
 
+-- the deliveries of the packet starts of a frame
 abbrev pub frame_deliveries : ℕ → TmView → List TmView → List Delivery
 frame_deliveries frame view later =
     flat_map (λ start. delivery_of frame start (outcome_of view (drop start (packet_data view)) later)) (starts_of view.field)
 
+-- the deliveries of a channel whose first frame has the number `frame`
 abbrev pub deliveries_from : ℕ → List TmView → List Delivery
 deliveries_from frame [] = []
 deliveries_from frame (view ∷ later) = frame_deliveries frame view later ++ deliveries_from (frame + 1) later
 
+-- the deliveries of a channel
 abbrev pub deliveries_of : List TmView → List Delivery
 deliveries_of channel = deliveries_from 0 channel
 
--- those that end in the frame of a number
+-- the deliveries that end in the frame of a number
 abbrev pub ending_in : ℕ → List Delivery → List Delivery
 ending_in number deliveries = filter (λ d. d.ending == number) deliveries
 
+-- the packets of deliveries
 abbrev pub packets_delivered : List Delivery → List (List ℕ)
 packets_delivered deliveries = map (λ d. d.packet) deliveries
 
@@ -154,42 +166,43 @@ packets_delivered deliveries = map (λ d. d.packet) deliveries
 abbrev pub packets_ending : List TmView → TmView → List (List ℕ)
 packets_ending channel next = packets_delivered (ending_in (length channel) (deliveries_of (channel ++ next ∷ [])))
 
--- ---- what the list of deliveries is
+-- ---- laws on the list of deliveries
 
--- each that is listed is a delivery
+-- Each listed delivery is a delivery.
 abbrev pub EachIsDelivery : Type 0
 EachIsDelivery = (channel : List TmView) → AllByRecursion (IsDelivery channel) (deliveries_of channel)
 
--- each delivery is listed
+-- Each delivery is listed.
 abbrev pub EachIsListed : Type 0
 EachIsListed = (channel : List TmView) (d : Delivery) → IsDelivery channel d → IsAmong d (deliveries_of channel)
 
--- an earlier frame, or an earlier start in the same frame
+-- a delivery starts before another: in an earlier frame, or earlier in the same frame
 abbrev pub StartsBefore : Delivery → Delivery → Type 0
 StartsBefore d e = (d.frame < e.frame) ⊎ ((d.frame ≡ e.frame) × (d.start < e.start))
 
+-- each delivery starts before all later ones
 abbrev pub AreInOrder : List Delivery → Type 0
 AreInOrder [] = ⊤
 AreInOrder (d ∷ deliveries) = AllByRecursion (StartsBefore d) deliveries × AreInOrder deliveries
 
--- they are listed by frame and packet start
+-- The deliveries are listed by frame and packet start.
 abbrev pub DeliveriesAreInOrder : Type 0
 DeliveriesAreInOrder = (channel : List TmView) → AreInOrder (deliveries_of channel)
 
--- ---- where packets end
+-- ---- laws on where packets end
 
--- the packets that a channel with one frame more delivers are those before, and those that end in that frame;
+-- The packets of a channel with one frame more are the packets before, and then those that end in this frame.
 abbrev pub PacketsEndOnce : Type 0
 PacketsEndOnce =
     (channel : List TmView) (next : TmView)
     → packets_delivered (deliveries_of (channel ++ next ∷ [])) ≡ packets_delivered (deliveries_of channel) ++ packets_ending channel next
 
--- packets in the order of their starts are in the order of their ends:
+-- Packets in the order of their starts are in the order of their ends.
 abbrev pub EndsAreInOrder : Type 0
 EndsAreInOrder =
     (channel : List TmView) (d e : Delivery) → IsDelivery channel d → IsDelivery channel e → StartsBefore d e → d.ending ≤ e.ending
 
--- a packet has ended by the frame in which the next one starts,
+-- A packet has ended by the frame in which the next one starts.
 abbrev pub EachEndsByTheNextStart : Type 0
 EachEndsByTheNextStart =
     (channel : List TmView) (d e : Delivery) → IsDelivery channel d → IsDelivery channel e → StartsBefore d e → d.ending ≤ e.frame
@@ -198,7 +211,7 @@ EachEndsByTheNextStart =
 abbrev pub start_offset : List TmView → Delivery → ℕ
 start_offset channel d = length (reassembly [] (take d.frame channel)) + d.start
 
--- and there it ends before that start, or at it: no two packets share an octet
+-- A packet ends before the start of the next one, or at it: no two packets share an octet.
 abbrev pub NoneOverlap : Type 0
 NoneOverlap =
     (channel : List TmView) (d e : Delivery) → IsDelivery channel d → IsDelivery channel e → StartsBefore d e

@@ -1,4 +1,4 @@
--- What an extractor has made of the frames of virtual channels, CCSDS 132.0-B, that it was given.
+-- The state of an extractor after frames of virtual channels, CCSDS 132.0-B, were given to it.
 use Rattle.std.specs.Prelude.{◌≡◌, ◌≢◌, ◌⊎◌, ℕ, ◌<◌, ◌==◌, Bool, true, false, if◌then◌else◌, List, [], ◌∷◌, ◌++◌}
 use Rattle.std.specs.List.{AllByRecursion, slice_index_or}
 use Rattle.sl_packet.specs.Packets.{without_idle}
@@ -9,21 +9,22 @@ use Rattle.sl_tmflow.specs.Delivery.{packets_ending}
 use Rattle.sl_tmflow.specs.Incomplete.{incomplete_of}
 use Rattle.sl_tmflow.specs.Recording.{packets_on}
 
+-- the states of the virtual channels, and whether a fault came
 pub record ExtractorState : Type 0 where
   pub channels : List KeptChannel
   pub has_failed : Bool
 
--- octets that are held, as a list of none or of one
+-- octets that are held, as a list of one or none
 abbrev pub held_as : List ℕ → List (List ℕ)
 held_as [] = []
 held_as (octet ∷ octets) = (octet ∷ octets) ∷ []
 
--- a virtual channel had these frames
+-- the state of a virtual channel is the one after these frames
 pub record HasSeen (state : ChannelState) (channel : List TmView) : Type 0 where
   pub count : state.count ≡ last_count channel
   pub held : held_as state.held ≡ incomplete_of channel
 
--- These frames were processed, and no fault came. Other frames may have left the same.
+-- These frames were processed, and no fault came. Other lists of frames may lead to the same state.
 pub record HasProcessed (state : ExtractorState) (views : List TmView) : Type 0 where
   pub working : state.has_failed ≡ false
   pub each : (vc : ℕ) → vc < 8 → HasSeen (slice_index_or state.channels vc no_channel).state (channel_of vc views)
@@ -32,7 +33,7 @@ pub record HasProcessed (state : ExtractorState) (views : List TmView) : Type 0 
 abbrev pub IsWorking : ExtractorState → Type 0
 IsWorking state = (views : List TmView) × HasProcessed state views
 
--- it holds whichever frames were processed
+-- the property holds for every list of frames that may have been processed
 abbrev pub ForProcessed : ExtractorState → (List TmView → Type 0) → Type 0
 ForProcessed state holds = (views : List TmView) → HasProcessed state views → holds views
 
@@ -52,13 +53,13 @@ ended_by views next = packets_ending (channel_of next.vc views) next
 abbrev pub IsIncompleteAround : List TmView → TmView → Type 0
 IsIncompleteAround views next = (incomplete_of (channel_of next.vc views) ≢ []) ⊎ (incomplete_of (channel_of next.vc (views ++ next ∷ [])) ≢ [])
 
--- the packets that an extractor hands over for a virtual channel when it is given these frames one after another, where
--- each call answers Ok, and has processed others before
+-- the packets that an extractor hands over for a virtual channel: it has processed the first frames and is given the
+-- others one after another, and each call answers Ok
 abbrev pub handed_over : ℕ → List TmView → List TmView → List (List ℕ)
 handed_over vc views [] = []
 handed_over vc views (next ∷ later) =
     (if next.vc == vc then without_idle (ended_by views next) else []) ++ handed_over vc (views ++ next ∷ []) later
 
--- From the first frame on they are the packets of the virtual channel, idle ones left out.
+-- The packets that are handed over from the first frame on are those of the virtual channel, idle packets left out.
 abbrev pub DeliveredAreHandedOver : Type 0
 DeliveredAreHandedOver = (vc : ℕ) (views : List TmView) → handed_over vc [] views ≡ without_idle (packets_on views vc)

@@ -1,4 +1,4 @@
--- An `Extractor` is the states of its virtual channels, and whether a fault came.
+-- An `Extractor` stands for the states of its virtual channels, and for whether a fault came.
 use Rattle.std.specs.Prelude.{◌≤◌, length}
 use Rattle.std.specs.Vec.{vec_capacity}
 use Rattle.sl_tmflow.specs.ChannelState.{KeptChannel}
@@ -9,7 +9,7 @@ use Rattle.sl_tmflow.specs.declared.extractor.Extractor.TheInside as extractor
 abbrev pub kept_channel : channel.Inside → KeptChannel
 kept_channel c = record { state = record { count = c.count; held = c.held.items }; room = vec_capacity c.held }
 
--- the octets that are held are fewer than the longest packet's
+-- fewer octets are held than the longest packet has
 abbrev pub HoldsNoPacket : channel.Inside → Type 0
 HoldsNoPacket c = length c.held.items ≤ 65541
 

@@ -1,6 +1,5 @@
--- Incomplete packets of a virtual channel, CCSDS 132.0-B: those that start in one of its frames and go on past
--- the last one. That the first header pointer of a frame agrees with the packet is this project's mission
--- profile.
+-- Incomplete packets of a virtual channel, CCSDS 132.0-B: they start in one of its frames and go on past the last
+-- one. The first header pointer of each frame has to agree with the packet; this is the project's mission profile.
 use Rattle.std.specs.Prelude.{◌≡◌, ◌≢◌, ℕ, ◌<◌, ◌≤◌, List, [], ◌∷◌, ◌++◌, length, drop, Option, None}
 use Rattle.std.specs.List.{AllByRecursion, concat, flat_map}
 use mathlib.Core.List.{IsPrefix}
@@ -13,13 +12,14 @@ use Rattle.sl_tmflow.specs.PacketStart.{IsStart, starts_of}
 
 -- ---- the relation
 
--- no packet starts in the frame: where it is one of packets, its first header pointer says so
+-- no packet starts in the frame: where the frame is of packets, its first header pointer says so
 abbrev pub HasNoStart : TmView → Type 0
 HasNoStart view = (first : Option ℕ) (field : List ℕ) → view.field ≡ Packets first field → first ≡ None
 
--- A packet that starts in a frame of the channel is incomplete after its last frame, with these octets so far.
+-- A packet that starts in a frame of the channel is incomplete after the channel's last frame, with these octets so
+-- far.
 pub record IsIncomplete (channel : List TmView) (octets : List ℕ) : Type 0 where
-  -- the frame, and the run of later frames, to the last one
+  -- the frame, and the run of later frames up to the last one
   pub before : List TmView
   pub view : TmView
   pub run : List TmView
@@ -30,78 +30,78 @@ pub record IsIncomplete (channel : List TmView) (octets : List ℕ) : Type 0 whe
   pub carries : view.field ≡ Packets first field
   pub offset : ℕ
   pub start : IsStart field first offset
-  -- the octets from there on may begin a packet, but none is whole yet
+  -- the octets from the start on may begin a packet, but no packet is whole yet
   pub came : octets ≡ reassembly (drop offset field) run
   pub version : version_of octets ≡ 0
   pub no_packet : (packet : List ℕ) → IsPacket packet → IsPrefix packet octets → ⊥
   -- the virtual channel frame counts of the run are consecutive
   pub consecutive : AreConsecutive view run
-  -- none of its frames is opaque
+  -- no frame of the run is opaque
   pub none_opaque : AllByRecursion (λ next. next.field ≢ Opaque) run
-  -- and the pointer of each frame of packets agrees with the packet, which covers the data field
+  -- the pointer of each frame of packets agrees with the packet, which covers the data field: mission profile
   pub no_start : AllByRecursion HasNoStart run
 
--- The packet that starts in the frame of a number, counted from 0, and at this offset in its data field is
--- incomplete after the channel's last frame, with these octets so far. It adds the two numbers alone: each
--- `IsIncomplete` is one at those of its own frame and start.
+-- The packet that starts in the frame of this number, counted from 0, at this offset in its data field, is incomplete
+-- after the channel's last frame. This record adds the two numbers alone to `IsIncomplete`.
 pub record IsIncompleteAt (channel : List TmView) (frame start : ℕ) (octets : List ℕ) : Type 0 where
   pub incomplete : IsIncomplete channel octets
   pub in_frame : frame ≡ length incomplete.before
   pub at : start ≡ incomplete.offset
 
--- ---- the octets so far of each, listed
+-- ---- the octets so far of the incomplete packets, listed
 
--- of a packet start, by its outcome
+-- the octets so far of a packet start's packet, by the start's outcome
 abbrev pub incomplete_octets : Outcome → List (List ℕ)
 incomplete_octets (Completes packet passed) = []
 incomplete_octets (StillIncomplete octets) = octets ∷ []
 incomplete_octets Undelivered = []
 
--- of the packet starts of a frame, where these frames come later
+-- the incomplete packets of the packet starts of a frame, where these frames come later
 abbrev pub frame_incomplete : TmView → List TmView → List (List ℕ)
 frame_incomplete view later =
     flat_map (λ start. incomplete_octets (outcome_of view (drop start (packet_data view)) later)) (starts_of view.field)
 
--- of those of a channel, by the frames and then the starts of the packets
+-- the incomplete packets of a channel, by the frames and then the starts of the packets
 abbrev pub incomplete_of : List TmView → List (List ℕ)
 incomplete_of [] = []
 incomplete_of (view ∷ later) = frame_incomplete view later ++ incomplete_of later
 
 -- ---- laws
 
--- each that is listed is incomplete,
+-- Each listed packet is incomplete.
 abbrev pub EachListedIsIncomplete : Type 0
 EachListedIsIncomplete = (channel : List TmView) → AllByRecursion (IsIncomplete channel) (incomplete_of channel)
 
--- and each that is incomplete is listed
+-- Each incomplete packet is listed.
 abbrev pub EachIncompleteIsListed : Type 0
 EachIncompleteIsListed = (channel : List TmView) (octets : List ℕ) → IsIncomplete channel octets → IsAmong octets (incomplete_of channel)
 
--- at most one packet start of a channel is incomplete after its last frame: two are in the same frame and at the
--- same offset, with the same octets so far;
+-- At most one packet start of a channel has a packet that is incomplete after its last frame: two of them are in the
+-- same frame, at the same offset and with the same octets so far.
 abbrev pub OneStartIsIncomplete : Type 0
 OneStartIsIncomplete =
     (channel : List TmView) (frame start : ℕ) (octets : List ℕ) (other_frame other_start : ℕ) (others : List ℕ)
     → IsIncompleteAt channel frame start octets → IsIncompleteAt channel other_frame other_start others
     → (frame ≡ other_frame) × (start ≡ other_start) × (octets ≡ others)
 
--- so at most one is listed,
+-- At most one packet is listed.
 abbrev pub OneIsIncomplete : Type 0
 OneIsIncomplete = (channel : List TmView) → length (incomplete_of channel) ≤ 1
 
--- of one to 65,541 octets
+-- the octets of an incomplete packet: 1 to 65,541
 abbrev pub IsShort : List ℕ → Type 0
 IsShort octets = (1 ≤ length octets) × (length octets ≤ 65541)
 
+-- A listed packet has 1 to 65,541 octets so far.
 abbrev pub IncompleteIsShort : Type 0
 IncompleteIsShort = (channel : List TmView) → AllByRecursion IsShort (incomplete_of channel)
 
--- the octets of all that are listed are as many as the packet has that is incomplete,
+-- The octets in the list are as many as the incomplete packet has so far.
 abbrev pub IncompleteIsCounted : Type 0
 IncompleteIsCounted =
     (channel : List TmView) (octets : List ℕ) → IsIncomplete channel octets → length (concat (incomplete_of channel)) ≡ length octets
 
--- and where there are some, there is such a packet
+-- Where the list has octets, there is an incomplete packet.
 abbrev pub WhatIsCountedIsIncomplete : Type 0
 WhatIsCountedIsIncomplete =
     (channel : List TmView) → 0 < length (concat (incomplete_of channel)) → (octets : List ℕ) × IsIncomplete channel octets

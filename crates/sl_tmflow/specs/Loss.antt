@@ -1,5 +1,5 @@
--- Lost frames of a virtual channel, CCSDS 132.0-B, and the packets that the kept frames deliver. A frame that is
--- damaged, so that it is skipped, is lost, too.
+-- Lost frames of a virtual channel, CCSDS 132.0-B, and the packets that the kept frames deliver. A damaged frame that
+-- is skipped counts as lost.
 use Rattle.std.specs.Prelude.{◌≡◌, ⊤, ◌↔◌, ℕ, ◌+◌, ◌-◌, ◌<◌, ◌≤◌, ◌==◌, Bool, true, List, [], ◌∷◌, ◌++◌, length}
 use Rattle.std.specs.List.{filter, list_all, list_any, range_with_len, slice_index_or}
 use Rattle.sl_packet.specs.Packets.{without_idle}
@@ -13,15 +13,14 @@ use Rattle.sl_tmflow.specs.Sublist.{IsSublist}
 
 -- ---- which frames were kept
 
--- the element of a list that has this number, counted from 0
+-- the element of a list with this number, counted from 0
 pub record HasNumber {X : Type 0} (all : List X) (number : ℕ) (x : X) : Type 0 where
   pub before : List X
   pub after : List X
   pub in_order : all ≡ before ++ x ∷ after
   pub counted : number ≡ length before
 
--- the frame counts of a channel have no gap: each frame but the first has the virtual channel frame count that comes
--- after the one before it
+-- the frame counts of a channel have no gap: each frame's count follows that of the frame before it
 abbrev pub HasNoGap : List TmView → Type 0
 HasNoGap [] = ⊤
 HasNoGap (view ∷ later) = AreConsecutive view later
@@ -31,32 +30,31 @@ abbrev pub RiseFrom : ℕ → List ℕ → Type 0
 RiseFrom number [] = ⊤
 RiseFrom number (next ∷ later) = (number < next) × (next ≤ number + 256) × RiseFrom next later
 
--- Numbers of frames, in rising order, of which fewer than 256 in a row are left out between two. After 256 the
--- count would be the one that is expected, as if none were missing. Any number may be left out before the first one
--- and after the last one.
+-- Numbers of frames in rising order, with fewer than 256 left out in a row between two of them. After 256 the count
+-- would be the expected one, as if none were missing. Any number of frames may be left out before the first one and
+-- after the last.
 abbrev pub FewAreLost : List ℕ → Type 0
 FewAreLost [] = ⊤
 FewAreLost (number ∷ later) = RiseFrom number later
 
--- the frames of a channel that have these numbers, in this order
+-- the frames of a channel with these numbers, in this order
 abbrev pub HaveNumbers : List TmView → List ℕ → List TmView → Type 0
 HaveNumbers channel [] [] = ⊤
 HaveNumbers channel [] (view ∷ kept) = ⊥
 HaveNumbers channel (number ∷ numbers) [] = ⊥
 HaveNumbers channel (number ∷ numbers) (view ∷ kept) = HasNumber channel number view × HaveNumbers channel numbers kept
 
--- The frames that were kept of a channel whose frame counts have no gap: those that have these numbers in it. All
--- others were lost.
+-- The kept frames of a channel whose frame counts have no gap: those with these numbers. All others were lost.
 pub record AreKept (channel : List TmView) (numbers : List ℕ) (kept : List TmView) : Type 0 where
   pub no_gap : HasNoGap channel
   pub few_lost : FewAreLost numbers
   pub frames : HaveNumbers channel numbers kept
 
--- ---- what they deliver
+-- ---- the deliveries from the kept frames
 
--- A delivery from the frames that were kept, which have these numbers in the whole channel, and one from the whole
--- channel: the same packet from the same start in the same frame, to the same frame. As many frames come between
--- these two in the whole channel as among those that were kept, so none of them was lost.
+-- A delivery from the kept frames, which have these numbers in the whole channel, is the same as one from the whole
+-- channel: the same packet from the same start in the same frame, to the same frame. As many frames lie between the
+-- two in the whole channel as among the kept ones, so none of them was lost.
 pub record IsSameDelivery (numbers : List ℕ) (d whole : Delivery) : Type 0 where
   pub frame : HasNumber numbers d.frame whole.frame
   pub ending : HasNumber numbers d.ending whole.ending
@@ -64,69 +62,69 @@ pub record IsSameDelivery (numbers : List ℕ) (d whole : Delivery) : Type 0 whe
   pub start : d.start ≡ whole.start
   pub packet : d.packet ≡ whole.packet
 
--- each frame was kept from the one in which a packet of the whole channel starts to the one in which it ends
+-- each frame of a delivery of the whole channel was kept, from the one where the packet starts to the one where it
+-- ends
 abbrev pub RunIsKept : List ℕ → Delivery → Type 0
 RunIsKept numbers whole = (number : ℕ) → whole.frame ≤ number → number ≤ whole.ending → IsAmong number numbers
 
--- whether each was
+-- whether each frame of a delivery was kept
 abbrev pub keeps_run : List ℕ → Delivery → Bool
 keeps_run numbers whole =
     list_all (λ number. list_any (λ kept. kept == number) numbers) (range_with_len whole.frame (whole.ending + 1 - whole.frame))
 
--- the packets of the whole channel of which all frames were kept, in their order
+-- the packets of the whole channel whose frames were all kept, in their order
 abbrev pub kept_packets : List ℕ → List TmView → List (List ℕ)
 kept_packets numbers channel = packets_delivered (filter (keeps_run numbers) (deliveries_of channel))
 
 -- ---- laws
 
--- each delivery from the frames that were kept is one from the whole channel, and none of its frames was lost;
+-- Each delivery from the kept frames is one from the whole channel, and none of its frames was lost.
 abbrev pub NoneIsNew : Type 0
 NoneIsNew =
     (channel : List TmView) (numbers : List ℕ) (kept : List TmView) (d : Delivery) → AreKept channel numbers kept
     → IsDelivery kept d → (whole : Delivery) × IsDelivery channel whole × IsSameDelivery numbers d whole
 
--- and each from the whole channel, where none of its frames was lost, is one from those that were kept
+-- Each delivery from the whole channel that lost no frame is one from the kept frames.
 abbrev pub EachIsLeft : Type 0
 EachIsLeft =
     (channel : List TmView) (numbers : List ℕ) (kept : List TmView) (d whole : Delivery) → AreKept channel numbers kept
     → IsDelivery channel whole → IsSameDelivery numbers d whole → IsDelivery kept d
 
--- So what is left are the deliveries of which all frames were kept: those that are left have them all,
+-- A delivery from the kept frames has all its frames kept in the whole channel.
 abbrev pub RunsAreKept : Type 0
 RunsAreKept =
     (numbers : List ℕ) (d whole : Delivery) → FewAreLost numbers → IsSameDelivery numbers d whole → RunIsKept numbers whole
 
--- and each that has them all is left
+-- Each delivery of the whole channel whose frames were all kept is one from the kept frames.
 abbrev pub KeptRunsAreLeft : Type 0
 KeptRunsAreLeft =
     (channel : List TmView) (numbers : List ℕ) (kept : List TmView) (whole : Delivery) → AreKept channel numbers kept
     → IsDelivery channel whole → RunIsKept numbers whole → (d : Delivery) × IsDelivery kept d × IsSameDelivery numbers d whole
 
--- The test of a run tells whether it was kept.
+-- The test decides whether all frames of a delivery were kept.
 abbrev pub TestTellsRun : Type 0
 TestTellsRun = (numbers : List ℕ) (whole : Delivery) → (keeps_run numbers whole ≡ true) ↔ RunIsKept numbers whole
 
--- The packets that the kept frames deliver are those of the whole channel of which all frames were kept, in their
--- order.
+-- The packets that the kept frames deliver are those of the whole channel whose frames were all kept, in their order.
 abbrev pub PacketsAreKept : Type 0
 PacketsAreKept =
     (channel : List TmView) (numbers : List ℕ) (kept : List TmView) → AreKept channel numbers kept
     → packets_delivered (deliveries_of kept) ≡ kept_packets numbers channel
 
--- So they are among those of the whole channel, in their order.
+-- The packets that the kept frames deliver are a sublist of those of the whole channel.
 abbrev pub PacketsAreSublist : Type 0
 PacketsAreSublist =
     (channel : List TmView) (numbers : List ℕ) (kept : List TmView) → AreKept channel numbers kept
     → IsSublist (packets_delivered (deliveries_of kept)) (packets_delivered (deliveries_of channel))
 
--- So an extractor that is given the kept frames hands over the packets of which all frames were kept, idle ones left
--- out, where each call answers Ok:
+-- An extractor that is given the kept frames hands over the packets whose frames were all kept, idle packets left
+-- out, where each call answers Ok.
 abbrev pub HandedOverAreKept : Type 0
 HandedOverAreKept =
     (vc : ℕ) (channel : List TmView) (numbers : List ℕ) (views : List TmView) → AreKept channel numbers (channel_of vc views)
     → handed_over vc [] views ≡ without_idle (kept_packets numbers channel)
 
--- packets of the whole channel, in their order.
+-- The packets that an extractor hands over from the kept frames are a sublist of those of the whole channel.
 abbrev pub HandedOverAreSublist : Type 0
 HandedOverAreSublist =
     (vc : ℕ) (channel : List TmView) (numbers : List ℕ) (views : List TmView) → AreKept channel numbers (channel_of vc views)
@@ -134,27 +132,29 @@ HandedOverAreSublist =
 
 -- ---- recordings
 
--- the frames of a recording on a virtual channel; those that are skipped are on none
+-- the frames of a recording on a virtual channel; skipped frames are on none
 abbrev pub recorded_channel : TmFormat → ℕ → ℕ → List ℕ → List TmView
 recorded_channel format spacecraft vc recording = channel_of vc (recorded_views format spacecraft recording)
 
--- the packets that it delivers there, idle ones left out
+-- the packets that a recording delivers on a virtual channel, idle packets left out
 abbrev pub recorded_packets : TmFormat → ℕ → ℕ → List ℕ → List (List ℕ)
 recorded_packets format spacecraft vc recording = slice_index_or (tm_lists format spacecraft recording) vc []
 
--- On a virtual channel a recording has the frames of another one that were kept, which have these numbers there. Of the
--- other virtual channels nothing is said.
+-- A recording has on a virtual channel the kept frames of another recording, with these numbers there. Nothing is
+-- said of the other virtual channels.
 pub record IsRecordingOfKept (format : TmFormat) (spacecraft vc : ℕ) (numbers whole recording : List ℕ) : Type 0 where
   pub channel : vc < 8
   pub kept : AreKept (recorded_channel format spacecraft vc whole) numbers (recorded_channel format spacecraft vc recording)
 
--- It then delivers there the packets of which all frames were kept, idle ones left out:
+-- A recording of the kept frames delivers on the virtual channel the packets whose frames were all kept, idle packets
+-- left out.
 abbrev pub RecordedAreKept : Type 0
 RecordedAreKept =
     (format : TmFormat) (spacecraft vc : ℕ) (numbers whole recording : List ℕ) → IsRecordingOfKept format spacecraft vc numbers whole recording
     → recorded_packets format spacecraft vc recording ≡ without_idle (kept_packets numbers (recorded_channel format spacecraft vc whole))
 
--- packets that the other one delivers there, in their order.
+-- A recording of the kept frames delivers on the virtual channel a sublist of what the whole recording delivers
+-- there.
 abbrev pub RecordedAreSublist : Type 0
 RecordedAreSublist =
     (format : TmFormat) (spacecraft vc : ℕ) (numbers whole recording : List ℕ) → IsRecordingOfKept format spacecraft vc numbers whole recording

@@ -1,6 +1,5 @@
--- The normal form of a TM recording: the delivered packets of each virtual channel in frames that have
--- nothing of the recording's own. All of it is this project's mission profile; the frames are those of CCSDS
--- 132.0-B.
+-- The normal form of a TM recording: the delivered packets of each virtual channel, in frames that have nothing of
+-- the recording's own. All of it is this project's mission profile; the frames are those of CCSDS 132.0-B.
 use Rattle.std.specs.Prelude.{◌≡◌, ◌⊎◌, ℕ, ◌+◌, ◌-◌, ◌*◌, ◌/◌, ◌%◌, ◌<◌, ◌≤◌, ◌==◌, ◌||◌, nat_lt, Bool, not, if◌then◌else◌, List, [], ◌∷◌, ◌++◌, length, take, drop, map, Option, None, Some, option_map}
 use Rattle.std.specs.List.{concat, find, range_with_len}
 use Rattle.sl_packet.specs.IdlePacket.{idle_packet}
@@ -11,18 +10,17 @@ use Rattle.sl_tmflow.specs.PacketStart.{packet_offsets}
 
 -- ---- the packets of a channel, divided into data fields
 
--- the least number of octets, none or as many as a packet has at least, that fill octets up to a multiple
--- of the room
+-- the least filling that makes `len` octets a multiple of the room: no octets, or as many as an idle packet can have
 abbrev pub fill_of : ℕ → ℕ → ℕ
 fill_of room len =
     let missing : ℕ = (room - len % room) % room in
     if (missing == 0) || not (nat_lt missing 7) then missing else missing + room
 
--- the idle packet of that many octets, if one is wanted
+-- the idle packet that fills `len` octets up, if one is needed
 abbrev pub filling : ℕ → ℕ → List (List ℕ)
 filling room len = if fill_of room len == 0 then [] else idle_packet (fill_of room len) ∷ []
 
--- packets, filled up
+-- packets, filled up by an idle packet
 abbrev pub with_filling : ℕ → List (List ℕ) → List (List ℕ)
 with_filling room packets = packets ++ filling room (length (concat packets))
 
@@ -30,33 +28,36 @@ with_filling room packets = packets ++ filling room (length (concat packets))
 abbrev pub data_field_of : ℕ → ℕ → List ℕ → List ℕ
 data_field_of room number octets = take room (drop (number * room) octets)
 
--- an offset lies in it
+-- whether an offset lies in the data field of a number
 abbrev pub lies_in : ℕ → ℕ → ℕ → Bool
 lies_in room number offset = offset / room == number
 
--- the least offset in it at which a packet starts (the offsets rise, so it is the first that lies in it)
+-- the least offset in the data field of a number at which a packet starts; since the offsets rise, it is the first
+-- one there
 abbrev pub first_of : ℕ → ℕ → List ℕ → Option ℕ
 first_of room number offsets = option_map (λ offset. offset - number * room) (find (lies_in room number) offsets)
 
 -- ---- the frames
 
--- the frame of a number, from 0, of a virtual channel with these packets, filled up, before which there are so many
--- frames of other virtual channels
+-- the frame of a number, from 0, of a virtual channel with these packets, filled up, after `mc` frames of other
+-- virtual channels
 abbrev pub channel_frame : TmFormat → ℕ → ℕ → ℕ → List (List ℕ) → ℕ → List ℕ
 channel_frame format spacecraft vc mc packets number =
     packet_frame format spacecraft vc ((mc + number) % 256) (number % 256)
     (first_of (field_room_of format) number (packet_offsets 0 packets []))
     (data_field_of (field_room_of format) number (concat packets))
 
+-- the frames of a virtual channel with these packets, filled up
 abbrev pub frames_of_packets : TmFormat → ℕ → ℕ → ℕ → List (List ℕ) → List (List ℕ)
 frames_of_packets format spacecraft vc mc packets =
     map (channel_frame format spacecraft vc mc packets) (range_with_len 0 (length (concat packets) / field_room_of format))
 
+-- the frames of a virtual channel with these packets
 abbrev pub channel_frames : TmFormat → ℕ → ℕ → ℕ → List (List ℕ) → List (List ℕ)
 channel_frames format spacecraft vc mc packets =
     frames_of_packets format spacecraft vc mc (with_filling (field_room_of format) packets)
 
--- the frames of virtual channels with these packets, from one virtual channel on, after so many frames
+-- the frames of virtual channels with these packets, from `vc` on, after `mc` frames
 abbrev pub frames_from_channel : TmFormat → ℕ → ℕ → ℕ → List (List (List ℕ)) → List (List ℕ)
 frames_from_channel format spacecraft vc mc [] = []
 frames_from_channel format spacecraft vc mc (packets ∷ lists) =
@@ -67,15 +68,15 @@ frames_from_channel format spacecraft vc mc (packets ∷ lists) =
 abbrev pub normal_form : TmFormat → ℕ → List (List (List ℕ)) → List ℕ
 normal_form format spacecraft lists = concat (frames_from_channel format spacecraft 0 0 lists)
 
--- ---- what the filling and the pointer are
+-- ---- laws on the filling and the pointer
 
--- the filling is the least that may be
+-- `fill` is the least filling of `len` octets
 pub record IsLeastFill (room len fill : ℕ) : Type 0 where
   pub allowed : (fill ≡ 0) ⊎ (7 ≤ fill)
   pub fills : (len + fill) % room ≡ 0
   pub least : (other : ℕ) → (other ≡ 0) ⊎ (7 ≤ other) → (len + other) % room ≡ 0 → fill ≤ other
 
--- it always is
+-- The filling of the normal form is the least one.
 abbrev pub EachFillIsLeast : Type 0
 EachFillIsLeast = (room len : ℕ) → 7 ≤ room → IsLeastFill room len (fill_of room len)
 
@@ -84,14 +85,14 @@ pub record LiesIn (room number offset : ℕ) : Type 0 where
   pub from : number * room ≤ offset
   pub below : offset < number * room + room
 
--- where packets start at these offsets, this is the least start in the data field, from its front
+-- `first` is the least packet start in the data field of a number, where packets start at these offsets
 abbrev pub IsLeastStart : ℕ → ℕ → List ℕ → Option ℕ → Type 0
 IsLeastStart room number offsets None = (offset : ℕ) → IsAmong offset offsets → LiesIn room number offset → ⊥
 IsLeastStart room number offsets (Some first) =
     IsAmong (number * room + first) offsets × LiesIn room number (number * room + first)
     × ((offset : ℕ) → IsAmong offset offsets → LiesIn room number offset → number * room + first ≤ offset)
 
--- the pointer always is
+-- The pointer of the normal form is the least packet start.
 abbrev pub EachPointerIsLeast : Type 0
 EachPointerIsLeast =
     (room number : ℕ) (packets : List (List ℕ)) → 0 < room

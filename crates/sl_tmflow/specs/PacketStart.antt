@@ -1,4 +1,4 @@
--- The packet starts of a data field: the first header pointer, CCSDS 132.0-B, and those that follow from it.
+-- The packet starts of a data field: the first header pointer, CCSDS 132.0-B, and the offsets that follow from it.
 use Rattle.std.specs.Prelude.{◌≡◌, ℕ, ◌+◌, ◌<◌, List, [], ◌∷◌, ◌++◌, length, drop, Option, None, Some}
 use Rattle.std.specs.List.{AllByRecursion, concat}
 use Rattle.sl_packet.specs.Packet.{IsPacket}
@@ -6,8 +6,8 @@ use Rattle.sl_packet.specs.Packets.{packets_of, rest_of}
 use Rattle.sl_tmflow.specs.Among.{IsAmong}
 use Rattle.sl_tmframe.specs.TmFrame.{DataField, Packets, Idle, Opaque}
 
--- The packet starts are the first header pointer and each offset in the field at which whole packets end to
--- end from there end. What begins there need not be a packet.
+-- A packet start: the first header pointer, or an offset in the field at which whole packets end, which lie end to
+-- end from the pointer on. A packet may begin at a packet start, or something else.
 pub record IsStart (field : List ℕ) (first : Option ℕ) (start : ℕ) : Type 0 where
   pub pointer : ℕ
   pub pointed : first ≡ Some pointer
@@ -17,7 +17,7 @@ pub record IsStart (field : List ℕ) (first : Option ℕ) (start : ℕ) : Type 
   pub here : start ≡ pointer + length (concat before)
   pub inside : start < length field
 
--- the offsets of packets that lie end to end from an offset on, and of octets after them, if there are any
+-- the offsets of packets that lie end to end from an offset on, and of the octets after them, if there are any
 abbrev pub packet_offsets : ℕ → List (List ℕ) → List ℕ → List ℕ
 packet_offsets offset [] [] = []
 packet_offsets offset [] (octet ∷ octets) = offset ∷ []
@@ -28,7 +28,7 @@ abbrev pub starts_from : Option ℕ → List ℕ → List ℕ
 starts_from None field = []
 starts_from (Some pointer) field = packet_offsets pointer (packets_of (drop pointer field)) (rest_of (drop pointer field))
 
--- those of a frame
+-- the packet starts of a frame's data field
 abbrev pub starts_of : DataField → List ℕ
 starts_of (Packets first octets) = starts_from first octets
 starts_of Idle = []
@@ -39,7 +39,7 @@ abbrev pub whole_from : Option ℕ → List ℕ → List (List ℕ)
 whole_from None octets = []
 whole_from (Some pointer) octets = packets_of (drop pointer octets)
 
--- those of a frame
+-- the packets that lie whole in a frame's data field
 abbrev pub whole_packets : DataField → List (List ℕ)
 whole_packets (Packets first octets) = whole_from first octets
 whole_packets Idle = []
@@ -47,10 +47,10 @@ whole_packets Opaque = []
 
 -- ---- laws
 
--- each offset that is listed is a packet start,
+-- Each listed offset is a packet start.
 abbrev pub EachIsStart : Type 0
 EachIsStart = (first : Option ℕ) (field : List ℕ) → AllByRecursion (IsStart field first) (starts_from first field)
 
--- and each packet start is listed
+-- Each packet start is listed.
 abbrev pub EachStartIsListed : Type 0
 EachStartIsListed = (field : List ℕ) (first : Option ℕ) (start : ℕ) → IsStart field first start → IsAmong start (starts_from first field)

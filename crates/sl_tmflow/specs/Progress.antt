@@ -1,5 +1,5 @@
--- What a frame of packets does to an incomplete packet, as the code says it. Contracts of private functions
--- alone cite it.
+-- What a frame of packets does to an incomplete packet, as the code says it. Only contracts of private functions cite
+-- this file.
 use Rattle.std.specs.Prelude.{◌≡◌, ℕ, ◌+◌, ◌≤◌, List, ◌++◌, length, take, Option}
 use Rattle.sl_packet.specs.Front.{Incomplete, front}
 use Rattle.sl_tmframe.specs.TmFrame.{Packets}
@@ -7,17 +7,17 @@ use Rattle.sl_tmflow.specs.declared.progress.Progress.{Progress}
 use Rattle.sl_tmflow.specs.declared.progress.Progress.TheVariants as code
 use Rattle.sl_tmflow.specs.Delivery.{Continuation, Ends, Continues, Breaks, field_step, front_step}
 
--- of the octets of the packet and of the frame's data field
+-- the step that the code's answer is, where the packet has these octets
 abbrev pub progress_step : Progress → List ℕ → Continuation
 progress_step (code.Ends len) octets = Ends (take len octets)
 progress_step code.Continues octets = Continues
 progress_step code.Breaks octets = Breaks
 
--- Octets of a data field that are enough for the packet that is incomplete before it:
+-- Octets at the front of a data field that are enough for the packet that is incomplete before it.
 pub record IsEnough (held field part : List ℕ) : Type 0 where
-  -- whatever the pointer, they do to it what the field does,
+  -- whatever the pointer, these octets do to the packet what the whole field does
   pub step : (first : Option ℕ) → front_step first (length held) field (held ++ part) (front (held ++ part)) ≡ field_step held (Packets first field)
-  -- they are all of the field's where it stays incomplete,
+  -- the octets are the whole field where the packet stays incomplete
   pub all : front (held ++ part) ≡ Incomplete → part ≡ field
-  -- and with them it is no longer than the longest packet.
+  -- with these octets the packet is no longer than the longest packet
   pub fits : length held + length part ≤ 65542

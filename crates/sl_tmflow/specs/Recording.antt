@@ -1,4 +1,4 @@
--- The packets that a recording of TM frames delivers, CCSDS 132.0-B and 133.0-B, on each virtual channel.
+-- The packets that a recording of TM frames delivers on each virtual channel, CCSDS 132.0-B and 133.0-B.
 use Rattle.std.specs.Prelude.{ℕ, List, map}
 use Rattle.std.specs.List.{range_with_len}
 use Rattle.sl_packet.specs.Packets.{without_idle}
@@ -19,7 +19,7 @@ virtual_channels = range_with_len 0 8
 abbrev pub packets_on : List TmView → ℕ → List (List ℕ)
 packets_on views vc = packets_delivered (deliveries_of (channel_of vc views))
 
--- the packets of each virtual channel, without idle ones: eight lists
+-- the packets of each virtual channel, idle packets left out: eight lists
 abbrev pub tm_lists : TmFormat → ℕ → List ℕ → List (List (List ℕ))
 tm_lists format spacecraft recording =
     map (λ vc. without_idle (packets_on (recorded_views format spacecraft recording) vc)) virtual_channels

@@ -1,4 +1,4 @@
--- A `TmStep` is its report.
+-- A `TmStep` stands for its report.
 use Rattle.sl_tmflow.specs.StepReport.{StepReport}
 use Rattle.sl_tmflow.specs.declared.step.TmStep.TheInside.{Inside}
 

@@ -1,8 +1,8 @@
--- A list within another one: its elements are among the other's, in the order that they have there.
+-- A list within another list: its elements are among the other's, in the same order.
 use Rattle.std.specs.Prelude.{◌≡◌, ⊤, ◌⊎◌, List, [], ◌∷◌}
 
 module _ {X : Type 0} where
-  -- each element is one of the other list's, after the one that the element before it is
+  -- each element is in the other list, after the place of the element before it
   abbrev pub IsSublist : List X → List X → Type 0
   IsSublist [] ys = ⊤
   IsSublist (x ∷ xs) [] = ⊥

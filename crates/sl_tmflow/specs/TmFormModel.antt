@@ -1,4 +1,4 @@
--- A `TmForm` is how far it is. The octets that it keeps don't fill a data field.
+-- A `TmForm` stands for its progress. The octets that it keeps don't fill a data field.
 use Rattle.std.specs.Prelude.{◌<◌, ◌≤◌, length}
 use Rattle.std.specs.Vec.{vec_capacity}
 use Rattle.sl_tmframe.specs.PacketFrame.{field_room_of}

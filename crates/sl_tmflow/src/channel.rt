@@ -1,4 +1,4 @@
-//! A virtual channel and the packet that is incomplete on it.
+//! A virtual channel, and the packet that is incomplete on it.
 ghost use Rattle.std.specs.Prelude.{◌≡◌, ◌≢◌, ◌⊎◌, ◌≤◌, ◌+◌, ◌++◌, [], length, OnOk, IfOk, IfErr};
 ghost use Rattle.sl_packet.specs.Front.{front, is_foreign};
 ghost use Rattle.sl_packet.specs.Packets.{packets_of, rest_of};
@@ -22,9 +22,9 @@ use std::marker::Model;
 /// A virtual channel after its last frame.
 #[derive(Drop)]
 pub struct Channel {
-    // The virtual channel frame count of its last frame.
+    // The virtual channel frame count of the last frame.
     count: Option<u8>,
-    // The octets so far of the packet that is incomplete, none where none is.
+    // The octets so far of the incomplete packet; empty where no packet is incomplete.
     held: Vec<u8>,
 }
 
@@ -41,7 +41,7 @@ impl Model for Channel {
 }
 
 impl Channel {
-    /// A virtual channel without a frame.
+    /// A virtual channel that had no frame yet.
     pub fn new(alloc: Global) -> Channel
         ensures { result ≡ no_channel }
     {
@@ -51,7 +51,7 @@ impl Channel {
         }
     }
 
-    /// Takes the next frame, and hands the sink the packets that end in it.
+    /// Takes the next frame, and hands the sink the packets that end in the frame.
     pub fn take<S: PacketSink>(
         &mut self,
         frame: &TmFrame,
@@ -65,7 +65,7 @@ impl Channel {
         ensures dropped { IfOk result (λ step.
             step.dropped ≡ length (lost_by self.old.state frame.now)) }
         ensures foreign { IfOk result (λ step. step.foreign ≡ foreign_in frame.now.field) }
-        // Memory is wanted only where a packet is incomplete, before the frame or after it.
+        // Memory is asked for only where a packet is incomplete, before the frame or after it.
         ensures memory { IfErr result (λ flow. flow ≡ FlowFault.Memory
             → (self.old.state.held ≢ []) ⊎ ((state_after self.old.state frame.now).held ≢ [])) }
     {
@@ -88,7 +88,7 @@ impl Channel {
         })
     }
 
-    /// The octets so far of the packet that is incomplete, 0 where none is.
+    /// The number of octets so far of the incomplete packet, and 0 where no packet is incomplete.
     pub fn held(&self) -> u32
         ensures value { result ≡ length self.now.state.held }
         ensures most { result ≤ 65541 }
@@ -96,7 +96,7 @@ impl Channel {
         self.held.len() as u32
     }
 
-    // The count that was expected, where this one doesn't come after the last one.
+    // The count that was expected, where `count` doesn't follow the last one.
     fn gap_at(&self, count: u8) -> Option<u8>
         ensures { result ≡ gap_after self.now.state.count count }
     {
@@ -108,7 +108,7 @@ impl Channel {
         }
     }
 
-    // Goes on with the packet that is incomplete, if one is.
+    // Goes on with the incomplete packet, if there is one.
     fn go_on<S: PacketSink>(&mut self, frame: &TmFrame, sink: &mut S) -> Result<TmStep, FlowFault>
         ensures count { self.new.state.count ≡ self.old.state.count }
         ensures held { OnOk result (self.new.state.held
@@ -132,7 +132,7 @@ impl Channel {
         }
     }
 
-    // Gives up the packet that is incomplete, if one is, and the memory that it takes.
+    // Gives up the incomplete packet, if there is one, and gives its memory back.
     fn break_off(&mut self) -> TmStep
         ensures count { self.new.state.count ≡ self.old.state.count }
         ensures held { self.new.state.held ≡ [] }
@@ -147,7 +147,7 @@ impl Channel {
         TmStep { dropped, ..NOTHING }
     }
 
-    // Whether a frame with this count comes after the last one.
+    // Whether a frame with this count follows the last frame.
     fn is_followed_by(&self, count: u8) -> bool
         ensures { result ≡ is_after self.now.state.count count }
     {
@@ -157,7 +157,7 @@ impl Channel {
         }
     }
 
-    // Goes on with it in the data field of a frame of packets.
+    // Goes on with the incomplete packet in the data field of a frame of packets.
     fn join<S: PacketSink>(
         &mut self,
         first: Option<u16>,
@@ -167,13 +167,14 @@ impl Channel {
     ) -> Result<TmStep, FlowFault>
         requires vc { vc ≤ 7 }
         requires short { length octets.now ≤ 2042 }
-        // The packet goes on with all of the field's octets, or isn't kept.
+        // The packet goes on with all octets of the field, or isn't kept.
         ensures count { self.new.state.count ≡ self.old.state.count }
         ensures held { OnOk result (self.new.state.held
             ≡ kept_of (field_step self.old.state.held (Packets first octets.now))
             (self.old.state.held ++ octets.now)) }
 
-        // The sink is handed the packet where it ends, and what it had is counted where it is broken off.
+        // Where the packet ends, the sink is handed it. Where the packet is broken off, its octets before the
+        // field are counted.
         ensures hands_over { HandsOver S.taking S.failing S.failures counts_of
             sink.old vc (ended (field_step self.old.state.held (Packets first octets.now)))
             result sink.new }
@@ -200,7 +201,8 @@ impl Channel {
         }
     }
 
-    // The packets that start in a data field: those that lie whole in it, and the one that is incomplete.
+    // Takes the packets that start in a data field: those that lie whole in the field, and the one that is
+    // incomplete.
     fn begin<S: PacketSink>(
         &mut self,
         field: &TmField,
@@ -209,7 +211,8 @@ impl Channel {
     ) -> Result<TmStep, FlowFault>
         requires vc { vc ≤ 7 }
         requires inside { IsInField (data_field field.now) }
-        // What is incomplete at the end of the field is kept; memory is wanted for that alone.
+        // A packet that is incomplete at the end of the field is kept, and memory is asked for only for this
+        // packet.
         ensures count { self.new.state.count ≡ self.old.state.count }
         ensures held { OnOk result
             (self.new.state.held ≡ held_after (data_field field.now) self.old.state.held) }
@@ -231,7 +234,7 @@ impl Channel {
         }
     }
 
-    // The packets of octets from a packet start on.
+    // Takes the packets of octets that begin at a packet start.
     fn begin_at<S: PacketSink>(
         &mut self,
         octets: &[u8],
@@ -240,7 +243,8 @@ impl Channel {
     ) -> Result<TmStep, FlowFault>
         requires vc { vc ≤ 7 }
         requires short { length octets.now ≤ 2042 }
-        // What is incomplete at the end of the octets is kept; memory is wanted for that alone.
+        // A packet that is incomplete at the end of the octets is kept, and memory is asked for only for this
+        // packet.
         ensures count { self.new.state.count ≡ self.old.state.count }
         ensures held { OnOk result (self.new.state.held
             ≡ incomplete_in (front (rest_of octets.now)) (rest_of octets.now)) }
@@ -269,14 +273,14 @@ impl Channel {
     }
 }
 
-// Whether the first octet has another version than 0.
+// Whether there is a first octet, and it has another version than 0.
 fn is_foreign(octets: &[u8]) -> bool
     ensures { result ≡ is_foreign octets.now }
 {
     matches!(need(octets), Need::Foreign)
 }
 
-// The octets, where a packet may begin with them that isn't there whole, and else none.
+// The octets, where they begin a packet that isn't there whole, and no octets otherwise.
 fn incomplete(octets: &[u8]) -> &[u8]
     ensures { result.now ≡ incomplete_in (front octets.now) octets.now }
 {

@@ -1,4 +1,4 @@
-//! Packets out of the frames of virtual channels.
+//! Packets from the frames of virtual channels.
 ghost use Rattle.std.specs.Prelude.{◌≡◌, ◌≢◌, ◌≤◌, ◌++◌, ◌∷◌, [], length, OnOk, IfOk, IfErr, Err};
 ghost use Rattle.sl_packet.specs.Packets.{only_idle, without_idle};
 ghost use Rattle.sl_packet.specs.Sink.{TakesAll};
@@ -16,7 +16,8 @@ use sl_tmframe::TmFrame;
 use std::alloc::Global;
 use std::marker::Model;
 
-/// Delivers the packets of the virtual channels of CCSDS 132.0-B from their frames, given one after another.
+/// Delivers the packets of the virtual channels of CCSDS 132.0-B from their frames, which are given one after
+/// another. The frames may be of any formats and spacecraft.
 #[derive(Drop)]
 pub struct Extractor {
     channels: [Channel; 8],
@@ -34,7 +35,7 @@ impl Model for Extractor {
 }
 
 impl Extractor {
-    /// An extractor that was given no frame. It takes memory only as packets come.
+    /// An extractor that was given no frame yet. It takes memory only as packets come.
     pub fn new(alloc: Global) -> Extractor
         ensures processed { HasProcessed result [] }
         ensures memory { HasNoMemory result }
@@ -45,23 +46,27 @@ impl Extractor {
         }
     }
 
-    /// Hands the sink the packets that end in the next frame, but for idle ones, in the order of their starts
-    /// and on the channel of the frame's virtual channel.
+    /// Takes the next frame: hands the sink the packets that end in the frame, and answers what the frame
+    /// brought. The packets are handed over in the order of their starts, without idle packets, on the
+    /// channel of the frame's virtual channel, 0 to 7.
     ///
-    /// The fault is `Memory` where memory was refused, which is wanted only where a packet is incomplete on the
-    /// frame's virtual channel, before the frame or after it, and `Sink` where the sink refused a packet: it has
-    /// accepted the packets before that one, and none after it, and its count of failures has risen by one, unless it
-    /// was at its greatest. After either each call is `Failed`, and hands over nothing.
+    /// - `Memory`: memory was refused. Memory is asked for only where a packet is incomplete on the frame's
+    ///   virtual channel, before the frame or after it. The sink has accepted some of the packets, from the
+    ///   first one on, and refused none.
+    /// - `Sink`: the sink refused a packet. It has accepted the packets before this one, and none after it.
+    ///   Its count of refused packets has risen by one, unless it was 2^64 - 1.
+    /// - `Failed`: an earlier call answered `Memory` or `Sink`. Every call after these two answers `Failed`,
+    ///   hands over nothing and changes nothing; no other call answers it.
     pub fn frame<S: PacketSink>(
         &mut self,
         frame: &TmFrame,
         sink: &mut S,
     ) -> Result<TmStep, FlowFault>
-        // Whichever frames were processed before, now they and this one are.
+        // Whichever frames were processed before, these and the new frame are processed now.
         ensures processed { OnOk result (ForProcessed self.old (λ views.
             HasProcessed self.new (views ++ frame.now ∷ []))) }
 
-        // The packets that end in it were accepted and counted, and the sink has refused none.
+        // The packets that end in the frame were accepted and counted, and the sink refused none.
         ensures accepted { OnOk result (ForProcessed self.old (λ views.
             TakesAll S.taking sink.old frame.now.vc (without_idle (ended_by views frame.now))
             sink.new)) }
@@ -71,28 +76,29 @@ impl Extractor {
             step.idle ≡ length (only_idle (ended_by views frame.now)))) }
         ensures kept { OnOk result (S.failures sink.new ≡ S.failures sink.old) }
 
-        // What is amiss: a count that doesn't come after the last one, an incomplete packet that is
-        // broken off, and octets of another packet version at a packet start.
+        // The anomalies: a count that doesn't follow the last one, an incomplete packet that the frame breaks
+        // off, and octets of another packet version at a packet start.
         ensures gap { IfOk result (λ step. ForProcessed self.old (λ views.
             step.gap ≡ gap_of (channel_of frame.now.vc views) frame.now)) }
         ensures dropped { IfOk result (λ step. ForProcessed self.old (λ views.
             step.dropped ≡ dropped_of (channel_of frame.now.vc views) frame.now)) }
         ensures foreign { IfOk result (λ step. step.foreign ≡ foreign_of frame.now.field) }
 
-        // After a fault each call fails, and leaves all as it was; none fails before.
+        // After a fault each call answers `Failed` and changes nothing. No call answers `Failed` before a
+        // fault.
         ensures failed { HasFailed self.old → result ≡ Err FlowFault.Failed }
         ensures left { result ≡ Err FlowFault.Failed
             → HasFailed self.old × (self.new ≡ self.old) × (sink.new ≡ sink.old) }
 
-        // At a fault some of the packets were accepted, the first ones. Whatever was processed before,
-        // the sink failed exactly where the fault says so.
+        // At a fault some of the packets were accepted, from the first one on, whichever frames were
+        // processed before. The sink failed exactly where the fault says so.
         ensures stopped { IfErr result (λ flow. flow ≢ FlowFault.Failed → HasFailed self.new
             × ForProcessed self.old (λ views.
             IsStopped S.taking S.failing S.failures sink.old frame.now.vc
             (without_idle (ended_by views frame.now)) flow sink.new)) }
         ensures counted { IfErr result (λ flow. CountsFault S.failures sink.old flow sink.new) }
 
-        // Memory is wanted only where a packet is incomplete on the frame's virtual channel, before the
+        // Memory is asked for only where a packet is incomplete on the frame's virtual channel, before the
         // frame or after it.
         ensures memory { IfErr result (λ flow. flow ≡ FlowFault.Memory →
             ForProcessed self.old (λ views. IsIncompleteAround views frame.now)) }
@@ -100,7 +106,7 @@ impl Extractor {
         if self.has_failed {
             return Err(FlowFault::Failed);
         }
-        // A fault leaves it set.
+        // A fault leaves the flag set.
         self.has_failed = true;
         let step = match self.channels[usize::from(frame.vc())].take(frame, sink) {
             Ok(step) => step,
@@ -110,8 +116,8 @@ impl Extractor {
         Ok(step)
     }
 
-    /// How many octets so far the packet has that is incomplete after the last frame of a virtual channel: 65,541
-    /// at most, 0 where none is incomplete, and 0 after a fault.
+    /// The octets so far of the packet that is incomplete after the last frame of the virtual channel `vc`, 0
+    /// to 7: at most 65,541, 0 where no packet is incomplete, and 0 after a fault.
     pub fn held(&self, vc: u8) -> u32
         requires { vc ≤ 7 }
         ensures value { ForProcessed self.now (λ views.

@@ -14,43 +14,48 @@ use sl_tmframe::{TmShape, push_tm};
 use std::alloc::{AllocError, Global};
 use std::marker::Model;
 
-/// Octets of which no piece has more: the frames of 32 octets that a packet of 65,542 completes, and those of
-/// longer frames, with the data field that was begun before it.
+/// Room for any piece. The longest piece is 2731 frames of 32 octets with an error control field, 87,392
+/// octets. A packet of 65,542 octets completes them, with the octets that were left before it.
 const PIECE: usize = 90_112;
 
-/// Octets enough for a data field that isn't full, 2041 at most, and the idle packet that fills it up.
+/// Room for a data field that isn't full, 2041 octets at most, and the idle packet that fills it up.
 const OCTETS: usize = 4096;
 
-/// The normal form of delivered packets, made piece by piece. A piece is the frames that the next packet of a
-/// virtual channel completes, none where it completes none, or those of the idle packet that fills the channel up.
+/// The normal form of delivered packets, made piece by piece: frames of CCSDS 132.0-B in this project's own
+/// order (docs/normal-form.md).
 ///
-/// So much of a packet as doesn't fill a data field is kept for the next piece: 2041 octets at most.
+/// A piece is the next octets of the form. By reading, a piece is the frames that the next packet of a
+/// virtual channel completes, perhaps none. Where an idle packet fills the virtual channel up, the frames
+/// that it completes are a piece too. Octets of a packet that don't fill a data field are kept for the next
+/// piece: 2041 octets at most.
 #[derive(Drop)]
 pub struct TmForm<'d> {
     shape: TmShape,
     delivered: &'d Delivered,
-    // What the next frame shows: its virtual channel is that of the next packet, 8 where there is none.
+    // The header of the next frame. Its virtual channel is that of the next packet, and 8 where no packet is
+    // left.
     heading: Heading,
-    // How many packets of that virtual channel were taken, with the one that fills it up.
+    // The number of packets of this virtual channel that were taken, the one that fills it up included.
     taken: usize,
-    // The octets of those packets that don't fill a data field yet.
+    // The octets of the taken packets that don't fill a data field yet.
     octets: Vec<u8>,
-    // Where the first packet starts in that data field, or the next one if none does yet.
+    // The offset in that data field at which its first packet starts. Where no packet starts in it yet, the
+    // next packet starts there.
     start: u16,
 }
 
-// What the header of a frame shows, but for its first header pointer.
+// The values in the header of a frame, without the first header pointer.
 #[derive(Clone, Copy)]
 struct Heading {
     spacecraft: u16,
     vc: u8,
-    // The frame counts, of the master and of the virtual channel.
+    // The frame counts of the master channel and of the virtual channel.
     master: u8,
     counter: u8,
 }
 
 impl Heading {
-    // The heading so many frames later.
+    // The heading after `frames` more frames.
     fn after(self, frames: usize) -> Heading
         ensures { result ≡ heading_after self frames }
     {
@@ -76,7 +81,8 @@ impl<'d> Model for TmForm<'d> {
 }
 
 impl<'d> TmForm<'d> {
-    /// The whole normal form is still to come. It takes no memory. `spacecraft` is 0 to 1023.
+    /// The form of the packets on channels 0 to 7 of `delivered`, which are the virtual channels. All of the
+    /// form is still to come. `spacecraft` is 0 to 1023. The call takes no memory.
     pub fn new(
         alloc: Global,
         shape: &TmShape,
@@ -86,12 +92,12 @@ impl<'d> TmForm<'d> {
         requires spacecraft { spacecraft ≤ 1023 }
         ensures left { IsLeft result.progress (form_of shape.now spacecraft delivered.now.lists) }
         ensures lists { result.progress.lists ≡ delivered.now.lists }
-        // Read as a recording, the form delivers the packets again.
+        // Read as a recording, the form delivers these packets again.
         ensures delivers { tm_lists shape.now spacecraft
             (form_of shape.now spacecraft delivered.now.lists) ≡ take 8 delivered.now.lists }
         ensures memory { result.octets_room ≡ 0 }
     {
-        // For the proof alone, at no cost: what every format and every store of packets is.
+        // For the proof alone, at no cost: the properties of every format and every store of packets.
         has_format(shape);
         has_packets(delivered);
         TmForm {
@@ -109,14 +115,18 @@ impl<'d> TmForm<'d> {
         }
     }
 
-    /// Takes the memory that pieces want, so that none is refused any more where `form` has room for a piece again:
-    /// 4096 octets for itself, and 90,112 in `form`.
+    /// Reserves memory for the next piece: 4096 octets in the form itself, and 90,112 octets in `form` beyond
+    /// its length. Afterwards [`next`](TmForm::next) is refused no memory, as long as `form` has room for
+    /// 90,112 octets more at each call.
+    ///
+    /// Memory is refused only where one of the two rooms was missing. Nothing is added to `form` either way,
+    /// and the same octets of the normal form are still to come.
     pub fn reserve(&mut self, form: &mut Vec<u8>) -> Result<(), AllocError>
-        // Afterwards there is room for a piece in both.
+        // Afterwards both have room for a piece.
         ensures ready { OnOk result (HasRoom self.new) }
         ensures room { OnOk result (vec_len form.new + piece_room ≤ vec_capacity form.new) }
 
-        // Nothing is added, and no memory given back; where there was memory for both, none is wanted.
+        // Nothing is added, and no memory is given back. Where both had room, no memory is refused.
         ensures progress { self.new.progress ≡ self.old.progress }
         ensures form { form.new.items ≡ form.old.items }
         ensures keeps { self.old.octets_room ≤ self.new.octets_room }
@@ -127,27 +137,28 @@ impl<'d> TmForm<'d> {
         form.reserve(PIECE)
     }
 
-    /// Adds the next piece, and tells whether there was one.
+    /// Adds the next piece to the end of `form`, and answers whether there was one. `false` means that the
+    /// whole normal form was made. A piece may have no octets, but the number of pieces is finite.
     ///
-    /// Memory is refused only where there are packets, and only where it wasn't reserved: the piece is still to come
-    /// then, and `form` is as it was.
+    /// Memory is refused only where there are packets, and only where it wasn't reserved. The piece is then
+    /// still to come, and `form` is as it was.
     pub fn next(&mut self, form: &mut Vec<u8>) -> Result<bool, AllocError>
-        // The piece is the beginning of the octets of the normal form that were still to come, and what
-        // follows it is still to come; where there is no piece, the whole normal form was made.
+        // The piece is the front of the octets that were still to come, and the octets after it are still to
+        // come. Without a piece the whole normal form was made.
         ensures piece { OnOk result
             (AddsPiece self.old.progress form.old.items form.new.items self.new.progress) }
         ensures all { IfOk result (λ more. more ≡ false → IsAllMade self.old.progress) }
         ensures none { IfOk result (λ more. more ≡ false → form.new.items ≡ form.old.items) }
 
-        // Each piece takes a packet, or fills a virtual channel up, so there is a last one; there is one
-        // only where there are packets.
+        // Each piece takes a packet or fills a virtual channel up, so there is a last piece. Pieces come only
+        // where there are packets.
         ensures fewer { IfOk result (λ more. IsTrue more
             → HasFewer self.old.progress self.new.progress) }
         ensures some { IfOk result (λ more. IsTrue more → IsOfPackets self.old.progress) }
         ensures lists { self.new.progress.lists ≡ self.old.progress.lists }
 
-        // Where memory is refused, which it isn't where it was reserved, the same is still to come, and
-        // nothing was added.
+        // Where memory is refused, which doesn't happen where it was reserved, the same octets are still to
+        // come, and nothing was added.
         ensures full { OnErr result (LacksRoom self.old form.old) }
         ensures left { OnErr result (KeepsLeft self.old.progress self.new.progress) }
         ensures unchanged { OnErr result (form.new.items ≡ form.old.items) }
@@ -165,7 +176,8 @@ impl<'d> TmForm<'d> {
         Ok(true)
     }
 
-    // Goes over virtual channels of which nothing is left, and tells whether there is another.
+    // Goes past virtual channels whose packets are all made, and answers whether another virtual channel is
+    // left.
     fn go_on(&mut self) -> bool
         ensures more { IsTrue result → HasMore self.new.progress }
         ensures left { KeepsLeft self.old.progress self.new.progress }
@@ -186,10 +198,10 @@ impl<'d> TmForm<'d> {
         false
     }
 
-    // Takes the next packet, or fills up.
+    // Takes the next packet, or fills the virtual channel up.
     fn add_next(&mut self, form: &mut Vec<u8>) -> Result<(), AllocError>
         requires more { HasMore self.old.progress }
-        // A piece of what is still to come is added, and there are fewer to come.
+        // A piece of the octets that are still to come is added, and fewer packets are still to come.
         ensures piece { OnOk result
             (AddsPiece self.old.progress form.old.items form.new.items self.new.progress) }
         ensures fewer { OnOk result (HasFewer self.old.progress self.new.progress) }
@@ -215,7 +227,7 @@ impl<'d> TmForm<'d> {
         Ok(())
     }
 
-    // Counts frames that were added.
+    // Counts the frames that were added.
     fn pass(&mut self, frames: usize, taken: usize)
         ensures progress { self.new.progress ≡ passed self.old.progress frames taken }
         ensures keeps { self.new.octets_room ≡ self.old.octets_room }
@@ -228,8 +240,8 @@ impl<'d> TmForm<'d> {
     }
 }
 
-// Adds the frames that octets and a packet after them fill, keeps the octets beyond them, and tells how many frames
-// they are. The first frame has a packet start, the others have none.
+// Adds the frames that the kept octets and then a packet fill. Keeps the octets beyond these frames, and
+// answers the number of frames. A packet starts in the first frame, and in no other.
 fn add(
     form: &mut Vec<u8>,
     octets: &mut Vec<u8>,
@@ -242,7 +254,7 @@ fn add(
     requires vc { heading.vc ≤ 7 }
     requires start { start < field_room_of shape.now }
     requires few { length octets.old.items < field_room_of shape.now }
-    // The octets are divided into the fields of frames, and what is beyond these is kept.
+    // The octets are divided into the data fields of frames, and the octets beyond these are kept.
     ensures frames { OnOk result (form.new.items ≡ form.old.items
         ++ frames_of shape.now heading (Some start) (octets.old.items ++ packet.now)) }
     ensures beyond { OnOk result (octets.new.items
@@ -273,8 +285,8 @@ fn add(
     Ok(rest.len() / room + 1)
 }
 
-// Adds the frames that octets fill, filled up by an idle packet, keeps none, and tells how many frames they are. The
-// first frame has a packet start, the others have none.
+// Adds the frames that the kept octets fill once an idle packet has filled them up. Keeps no octets, and
+// answers the number of frames. A packet starts in the first frame, and in no other.
 fn fill(
     form: &mut Vec<u8>,
     octets: &mut Vec<u8>,
@@ -286,7 +298,7 @@ fn fill(
     requires vc { heading.vc ≤ 7 }
     requires start { start < field_room_of shape.now }
     requires few { length octets.old.items < field_room_of shape.now }
-    // The octets are divided into the fields of frames, and what is beyond these is kept.
+    // The octets are divided into the data fields of frames, and the octets beyond these are kept.
     ensures frames { OnOk result (form.new.items ≡ form.old.items
         ++ frames_of shape.now heading (Some start) (filled_up shape.now octets.old.items)) }
     ensures beyond { OnOk result (octets.new.items
@@ -310,7 +322,7 @@ fn fill(
     Ok(frames)
 }
 
-// Adds the idle packet that fills up the octets, if one is wanted.
+// Adds the idle packet that fills up the octets, if one is needed.
 fn fill_up(octets: &mut Vec<u8>, room: usize) -> Result<(), AllocError>
     requires least { 24 ≤ room }
     requires most { room ≤ 2042 }
@@ -327,7 +339,8 @@ fn fill_up(octets: &mut Vec<u8>, room: usize) -> Result<(), AllocError>
     push_idle(octets, fill as u32)
 }
 
-// The octets of the least idle packet that fills up so many octets, or none.
+// The length of the shortest idle packet that fills up `len` octets to a multiple of the room; 0 where none
+// is needed.
 fn fill_len(room: usize, len: usize) -> usize
     requires least { 24 ≤ room }
     requires most { room ≤ 2042 }
@@ -341,8 +354,8 @@ fn fill_len(room: usize, len: usize) -> usize
     missing + room
 }
 
-// Adds a frame for each data field at the front of the octets: the first frame has this first header pointer, and in
-// the others no packet starts.
+// Adds a frame for each data field at the front of the octets. The first frame has this first header pointer,
+// and no packet starts in the other frames.
 fn push_fields(
     form: &mut Vec<u8>,
     shape: &TmShape,
@@ -353,13 +366,13 @@ fn push_fields(
     requires spacecraft { heading.spacecraft ≤ 1023 }
     requires vc { heading.vc ≤ 7 }
     requires first { IfSome first (λ first. first < field_room_of shape.now) }
-    // A frame is added for each field that the octets fill.
+    // A frame is added for each data field that the octets fill.
     ensures frames { OnOk result (form.new.items
         ≡ form.old.items ++ frames_of shape.now heading first octets.now) }
     ensures size { OnOk result (vec_len form.new
         ≡ vec_len form.old + frames_len shape.now octets.now) }
 
-    // Memory is refused only where there is no room for them, and none is given back.
+    // Memory is refused only where there is no room for these frames, and none is given back.
     ensures full { OnErr result (vec_capacity form.old
         < vec_len form.old + frames_len shape.now octets.now) }
     ensures capacity { vec_capacity form.old ≤ vec_capacity form.new }
@@ -384,7 +397,7 @@ fn push_fields(
     Ok(())
 }
 
-// The format of a `TmShape` is one that frames may have: its length is read, and dropped.
+// The format of a `TmShape` is one that frames may have. The length is read for the proof alone, and dropped.
 #[inline(always)]
 fn has_format(shape: &TmShape)
     ensures { IsFormat shape.now }
@@ -392,7 +405,7 @@ fn has_format(shape: &TmShape)
     let _ = shape.len();
 }
 
-// The packets of a `Delivered` may be delivered: one list is lent, and dropped.
+// The packets of a `Delivered` may be delivered. One list is lent for the proof alone, and dropped.
 #[inline(always)]
 fn has_packets(delivered: &Delivered)
     ensures { AreDeliverable (take 8 delivered.now.lists) }

@@ -1,4 +1,4 @@
-//! Packets that a sink is handed.
+//! Packets that are handed to a sink.
 ghost use Rattle.std.specs.Prelude.{◌≡◌, ◌≢◌, ◌≤◌, ◌+◌, ◌∷◌, [], length, IfOk, IfErr};
 ghost use Rattle.sl_packet.specs.Packet.{IsPacket};
 ghost use Rattle.sl_packet.specs.Packets.{packets_of, rest_of};
@@ -8,7 +8,7 @@ ghost use Rattle.sl_tmflow.specs.StepReport.{counts_of};
 use crate::step::{NOTHING, TmStep};
 use sl_packet::{FlowFault, PacketSink, hand_over, is_idle};
 
-/// Hands the sink a packet, unless it is idle.
+/// Hands the sink a packet, unless the packet is idle.
 pub(crate) fn hand_packet<S: PacketSink>(
     sink: &mut S,
     vc: u16,
@@ -33,7 +33,7 @@ pub(crate) fn hand_packet<S: PacketSink>(
     }
 }
 
-/// Hands the sink the packets at the front of octets. The answer has the octets after them.
+/// Hands the sink the packets at the front of octets. Answers the octets after them too.
 pub(crate) fn hand<'a, S: PacketSink>(
     sink: &mut S,
     vc: u16,
@@ -41,13 +41,13 @@ pub(crate) fn hand<'a, S: PacketSink>(
 ) -> Result<(TmStep, &'a [u8]), FlowFault>
     requires vc { vc ≤ 7 }
     requires short { length octets.now ≤ 65542 }
-    // The packets at the front are handed over; what follows them is given back.
+    // The packets at the front are handed over, and the octets after them are given back.
     ensures hands_over { HandsOver S.taking S.failing S.failures (λ handed. counts_of handed.0)
         sink.old vc (packets_of octets.now) result sink.new }
     ensures remainder { IfOk result (λ handed. handed.1.now ≡ rest_of octets.now) }
     ensures not_memory { IfErr result (λ flow. flow ≢ FlowFault.Memory) }
 
-    // The counts are small, and nothing is amiss.
+    // The counts are small, and no packet is broken off.
     ensures few { IfOk result (λ handed. handed.0.packets + handed.0.idle ≤ length octets.now) }
     ensures dropped { IfOk result (λ handed. handed.0.dropped ≡ 0) }
 {

@@ -1,4 +1,4 @@
-//! What holds of the definitions alone. Each function does nothing; its clauses are the laws.
+//! The laws on this crate's definitions. Each function is empty; its clauses are the laws.
 ghost use Rattle.sl_tmflow.specs.Anomaly.{EachGapIsTold, EachToldIsAGap, EachListedIsBrokenOff, EachBrokenOffIsListed, OneIsBrokenOff, BrokenOffIsShort};
 ghost use Rattle.sl_tmflow.specs.Anomaly.{BrokenOffIsTold, WhatIsToldIsBrokenOff};
 ghost use Rattle.sl_tmflow.specs.Anomaly.{EachForeignStartIsTold, EachToldIsAForeignStart};
@@ -14,35 +14,35 @@ ghost use Rattle.sl_tmflow.specs.Loss.{HandedOverAreKept, HandedOverAreSublist, 
 ghost use Rattle.sl_tmflow.specs.NormalForm.{EachFillIsLeast, EachPointerIsLeast};
 ghost use Rattle.sl_tmflow.specs.PacketStart.{EachIsStart, EachStartIsListed};
 
-/// The packet starts of a data field, listed: each is one, and each is listed.
+/// The listed packet starts of a data field are packet starts, and every packet start is listed.
 pub fn tm_packet_starts_are_listed()
     ensures each { EachIsStart }
     ensures all { EachStartIsListed }
 {}
 
-/// The deliveries of a virtual channel, listed by frame and packet start: each is one, each is listed, and
-/// they are in order.
+/// The listed deliveries of a virtual channel are deliveries, every delivery is listed, and the list is in
+/// order of frame and packet start.
 pub fn tm_deliveries_are_listed()
     ensures each { EachIsDelivery }
     ensures all { EachIsListed }
     ensures in_order { DeliveriesAreInOrder }
 {}
 
-/// The packets of a virtual channel, told one frame after another: those that end in a frame come after those before
-/// it.
+/// The packets of a virtual channel with one frame more are the packets before, and then those that end in
+/// this frame.
 pub fn tm_packets_end_once()
     ensures { PacketsEndOnce }
 {}
 
-/// What an [`Extractor`](crate::Extractor) hands over for a virtual channel, given frames one after another, where each
-/// call answers Ok, are the packets that the channel delivers, idle ones left out.
+/// The packets that an [`Extractor`](crate::Extractor) hands over for a virtual channel are those that the
+/// channel delivers, idle packets left out. The frames are given one after another, and each call answers Ok.
 pub fn tm_packets_are_handed_over()
     ensures { DeliveredAreHandedOver }
 {}
 
-/// Packets in the order of their starts are in the order of their ends: each has ended by the frame in which
-/// the next one starts, and no two share an octet. At most one is incomplete after a frame, of one to 65,541
-/// octets.
+/// Packets in the order of their starts are also in the order of their ends: each packet has ended by the
+/// frame in which the next one starts, and no two packets share an octet. At most one packet is incomplete
+/// after a frame, with 1 to 65,541 octets so far.
 pub fn tm_packets_end_in_order()
     ensures in_order { EndsAreInOrder }
     ensures by_the_next { EachEndsByTheNextStart }
@@ -51,9 +51,9 @@ pub fn tm_packets_end_in_order()
     ensures short { IncompleteIsShort }
 {}
 
-/// The packets that are incomplete after the last frame of a virtual channel, listed by their octets so far: each is,
-/// each that is is listed, and it is the packet of one packet start at most. The octets of the list are as many as it
-/// has, and none where there is none.
+/// The listed packets that are incomplete after the last frame of a virtual channel are incomplete, and every
+/// incomplete packet is listed. At most one packet start has an incomplete packet. The octets in the list are
+/// as many as this packet has so far, and none where no packet is incomplete.
 pub fn tm_incomplete_packets_are_listed()
     ensures each { EachListedIsIncomplete }
     ensures all { EachIncompleteIsListed }
@@ -62,16 +62,16 @@ pub fn tm_incomplete_packets_are_listed()
     ensures is_counted { WhatIsCountedIsIncomplete }
 {}
 
-/// A virtual channel frame count that doesn't come after the one of the channel's last frame is told with the
-/// count that was expected, and no other one is.
+/// A gap is reported exactly where the virtual channel frame count isn't the expected one, which follows the
+/// count of the channel's last frame. The report has the expected count.
 pub fn tm_gaps_are_told()
     ensures each { EachGapIsTold }
     ensures only { EachToldIsAGap }
 {}
 
-/// The packets that were incomplete before a frame of a virtual channel, and that it neither ends nor goes on with,
-/// listed by their octets so far: each is broken off by the frame, each that is is listed, and it is one at most, with
-/// one to 65,541 octets. As many octets are told as dropped as it has, and none where there is none.
+/// The listed packets that the next frame of a virtual channel breaks off are broken off, and every packet
+/// that it breaks off is listed. At most one packet is broken off, with 1 to 65,541 octets so far. The octets
+/// that are reported as dropped are as many as this packet has, and none where no packet is broken off.
 pub fn tm_broken_packets_are_listed()
     ensures each { EachListedIsBrokenOff }
     ensures all { EachBrokenOffIsListed }
@@ -81,17 +81,20 @@ pub fn tm_broken_packets_are_listed()
     ensures is_told { WhatIsToldIsBrokenOff }
 {}
 
-/// A data field is told to have octets of another packet version than 0 at a packet start where it does, and only
-/// there.
+/// Octets of another packet version than 0 at a packet start are reported exactly where a data field has
+/// them.
 pub fn tm_foreign_starts_are_told()
     ensures each { EachForeignStartIsTold }
     ensures only { EachToldIsAForeignStart }
 {}
 
-/// Where frames are lost of a virtual channel whose frame counts have no gap, fewer than 256 in a row between two that are
-/// kept, those that are kept deliver exactly the packets of which all frames were kept. Each delivery from them is one from
-/// the whole channel, the same packet from the same start in the same frame, to the same frame, and none of its frames was
-/// lost; and each from the whole channel of which no frame was lost is one from them.
+/// The loss of frames is local. Some frames of a virtual channel whose frame counts have no gap are kept, and
+/// fewer than 256 in a row are lost between two kept frames. The kept frames then deliver exactly the packets
+/// whose frames were all kept.
+///
+/// Each delivery from the kept frames is one from the whole channel: the same packet from the same start in
+/// the same frame, to the same frame, and none of its frames was lost. Each delivery from the whole channel
+/// that lost no frame is one from the kept frames.
 pub fn tm_loss_is_local()
     ensures none_new { NoneIsNew }
     ensures each_left { EachIsLeft }
@@ -99,12 +102,14 @@ pub fn tm_loss_is_local()
     ensures kept_left { KeptRunsAreLeft }
 {}
 
-/// Under the same conditions the packets that the kept frames deliver are those of the whole channel of which all frames
-/// were kept, in their order. So what a station that lost frames delivers on a virtual channel is a sublist of what all
-/// frames deliver there. That holds of what an [`Extractor`](crate::Extractor) hands over, given the kept frames one after
-/// another, where each call answers Ok; and of a recording that has the kept frames of the virtual channel, whatever it
-/// has on the others: it delivers there a sublist of what the recording of all frames delivers. Idle packets are left out
-/// in both.
+/// Under the conditions of `tm_loss_is_local`, the packets that the kept frames deliver are the packets of
+/// the whole channel whose frames were all kept, in their order. So a station that lost frames delivers on a
+/// virtual channel a sublist of what all frames deliver there.
+///
+/// The same holds of the packets that an [`Extractor`](crate::Extractor) hands over, given the kept frames
+/// one after another, where each call answers Ok. It also holds of a recording that has the kept frames of
+/// the virtual channel, whatever it has on the others: there it delivers a sublist of what the recording of
+/// all frames delivers. Idle packets are left out on both sides.
 pub fn tm_lost_frames_leave_a_sublist()
     ensures run { TestTellsRun }
     ensures exactly { PacketsAreKept }
@@ -115,21 +120,20 @@ pub fn tm_lost_frames_leave_a_sublist()
     ensures recording { RecordedAreSublist }
 {}
 
-/// Packets are filled up by the least number of octets that is none or an idle packet's, and the pointer to a
-/// data field is the least packet start in it.
+/// Packets are filled up by the least number of octets that is 0 or that an idle packet can have. The pointer
+/// of a data field is the least packet start in the field.
 pub fn normal_forms_are_filled_least()
     ensures fill { EachFillIsLeast }
     ensures pointer { EachPointerIsLeast }
 {}
 
-/// What a recording delivers are packets, none of them idle, on eight virtual channels.
+/// A recording delivers packets that aren't idle, on eight virtual channels.
 pub fn tm_recordings_deliver_packets()
     ensures { RecordedListsAreDeliverable }
 {}
 
-/// The normal form of packets is frames end to end, and read as a recording it delivers exactly the packets that it
-/// was made of, on each virtual channel: frames are written, delimited, read back, none of them skipped, and their packets
-/// put together.
+/// The normal form of packets is frames end to end, and none of them is skipped. Read as a recording, it delivers
+/// exactly the packets that it was made from, on each virtual channel.
 pub fn normal_form_delivers_its_packets()
     ensures frames { NormalFormIsFrames }
     ensures read { NoFrameIsSkipped }

@@ -12,14 +12,16 @@ use std::alloc::AllocError;
 /// What a frame of packets does to an incomplete packet.
 #[derive(Clone, Copy)]
 pub(crate) enum Progress {
-    /// It ends, with so many octets.
+    /// The packet ends in the frame, with this number of octets.
     Ends(usize),
+    /// The packet goes on past the frame.
     Continues,
+    /// The packet is broken off.
     Breaks,
 }
 
-/// Adds to an incomplete packet what it wants of a data field, and says what the frame with that field and this pointer
-/// does to it.
+/// Adds the first octets of a data field to an incomplete packet, as many as the packet needs, and answers
+/// what the frame with this field and this pointer does to the packet.
 #[inline(always)]
 pub(crate) fn add_field(
     held: &mut Vec<u8>,
@@ -28,13 +30,13 @@ pub(crate) fn add_field(
 ) -> Result<Progress, AllocError>
     requires held { length held.old.items ≤ 65541 }
     requires short { length field.now ≤ 2042 }
-    // What the frame does to the packet is told from all octets of it so far.
+    // The answer depends on all octets of the packet so far.
     ensures step { IfOk result (λ progress. progress_step progress held.new.items
         ≡ field_step held.old.items (Packets first field.now)) }
     ensures inside { IfOk result (λ progress.
         (len : ℕ) → progress ≡ Progress.Ends len → len ≤ length held.new.items) }
 
-    // All of the field is there where the packet goes on, and the octets before it are as they were.
+    // The whole field was added where the packet goes on, and the octets before it are as they were.
     ensures all { IfOk result (λ progress.
         progress ≡ Progress.Continues → held.new.items ≡ held.old.items ++ field.now) }
     ensures most { IfOk result (λ progress.
@@ -49,14 +51,14 @@ pub(crate) fn add_field(
     Ok(progress_in(held.as_slice(), before, field, first))
 }
 
-// The first octets of a data field, as many as the packet wants that is incomplete before it; all where it wants more, or
-// where its length isn't known yet.
+// The first octets of a data field, as many as the incomplete packet needs. These are all octets of the field
+// where the packet needs more, or where its length isn't known yet.
 fn wanted<'a>(held: &[u8], field: &'a [u8]) -> &'a [u8]
     requires held { length held.now ≤ 65541 }
     requires short { length field.now ≤ 2042 }
     ensures { IsEnough held.now field.now result.now }
 {
-    // For the proof alone, at no cost: what a `Need` says of the octets' front.
+    // For the proof alone, at no cost: what a `Need` says of the front of octets.
     needs_tell_packets();
     match need(held) {
         Need::Octets(wanted) if wanted as usize <= field.len() => &field[..wanted as usize],
@@ -65,8 +67,8 @@ fn wanted<'a>(held: &[u8], field: &'a [u8]) -> &'a [u8]
     }
 }
 
-// What octets make of a packet: so many came before this data field, whose frame has this pointer, and then those that
-// were wanted of it.
+// Whether the incomplete packet ends, continues or breaks in this frame: `octets` are all of its octets so
+// far, the first `before` of them from earlier frames, and `first` is the frame's pointer.
 fn progress_in(octets: &[u8], before: usize, field: &[u8], first: Option<u16>) -> Progress
     requires { before + length field.now < 2 ^ 64 }
     ensures step { progress_step result octets.now
@@ -89,7 +91,7 @@ fn progress_in(octets: &[u8], before: usize, field: &[u8], first: Option<u16>) -
     }
 }
 
-// The pointer that agrees with a packet of this length, so much of which came before the data field.
+// The pointer that agrees with a packet of `len` octets, where `before` of them came before the data field.
 fn agreeing_pointer(len: usize, before: usize, field: &[u8]) -> Option<usize>
     requires { before + length field.now < 2 ^ 64 }
     ensures { result ≡ agreeing_pointer len before field.now }

@@ -1,9 +1,9 @@
-//! What a frame brought.
+//! What a frame brought to an extractor.
 ghost use Rattle.std.specs.Prelude.{◌≡◌};
 
 use std::marker::Model;
 
-/// What an extractor made of a frame.
+/// The report of an [`Extractor`](crate::Extractor) on one frame.
 #[derive(Clone, Copy, Debug, PartialEq, Eq)]
 pub struct TmStep {
     pub(crate) packets: u32,
@@ -25,7 +25,7 @@ impl Model for TmStep {
     ghost inverse = { inside_of };
 }
 
-/// The step of a frame in which no packet ends and nothing is amiss.
+/// The report on a frame in which no packet ends and that has no anomaly.
 pub(crate) const NOTHING: TmStep = TmStep {
     packets: 0,
     idle: 0,
@@ -35,30 +35,32 @@ pub(crate) const NOTHING: TmStep = TmStep {
 };
 
 impl TmStep {
-    /// Packets that end in the frame, idle ones left out.
+    /// The number of packets that end in the frame, idle packets left out.
     pub fn packets(&self) -> u32
         ensures { result ≡ self.now.packets }
     {
         self.packets
     }
 
-    /// Idle packets that end in the frame.
+    /// The number of idle packets that end in the frame.
     pub fn idle(&self) -> u32
         ensures { result ≡ self.now.idle }
     {
         self.idle
     }
 
-    /// The virtual channel frame count that was expected, where the frame's isn't the one after that of the
-    /// frame before it on the virtual channel, modulo 256. The first frame of a channel follows none.
+    /// The virtual channel frame count that was expected, 0 to 255, where the frame has another one. Expected
+    /// is the count of the frame before it on its virtual channel plus 1, modulo 256. `None` where the frame
+    /// has the expected count, and for the first frame of a virtual channel, since no frame comes before it.
     pub fn gap(&self) -> Option<u8>
         ensures { result ≡ self.now.gap }
     {
         self.gap
     }
 
-    /// Octets so far of the packet that was incomplete before the frame, where the frame neither ends it nor goes
-    /// on with it: one to 65,541, and none of the frame's own; 0 where no packet is broken off.
+    /// The octets so far of a packet that the frame breaks off: 1 to 65,541, none of them the frame's own,
+    /// and 0 where the frame breaks off no packet. A frame breaks off a packet that was incomplete before it
+    /// where the packet neither ends in the frame nor goes on past it.
     pub fn dropped(&self) -> u32
         ensures { result ≡ self.now.dropped }
     {

@@ -1,4 +1,4 @@
--- Frames end to end, and what is left after them.
+-- Frames end to end, and the octets after them.
 use Rattle.std.proofs.Common.{◌≡◌, ℕ, zero, suc, ◌+◌, ◌*◌, ◌/◌, ◌<◌, ◌≤◌, List, [], ◌∷◌, ◌++◌, length, take, drop, refl, sym, ◌∙◌, ap, arith, append_assoc, append-nil, length-append, add-one, length-drop, length-take-le}
 use Rattle.std.proofs.Math.Seq.{take-append_seam, drop-append_seam, drop-append-add}
 use Rattle.std.proofs.Math.Nat.{add-div_left, div-eq_of_lt, add-mul, one-mul, zero-mul, suc-mul}
@@ -11,7 +11,7 @@ use Rattle.sl_tmframe.specs.TmDelimited.{IsTmDelimited, tm_frames_from, tm_frame
 abbrev pub AreWhole : ℕ → List (List ℕ) → Type 0
 AreWhole len frames = AllByRecursion (λ frame. length frame ≡ len) frames
 
--- a whole frame in front is the first frame
+-- a whole frame at the front is the first frame
 pub frames_of-first : (len : ℕ) (frame rest : List ℕ) → 0 < len → length frame ≡ len → tm_frames_of len (frame ++ rest) ≡ frame ∷ tm_frames_of len rest
 frames_of-first len frame rest some e =
     let count : length (frame ++ rest) / len ≡ suc (length rest / len) =
@@ -28,7 +28,7 @@ remainder_of-first len frame rest some e =
     add-mul (length rest / len) 1 len ∙ omega (arith, one-mul len) in
     ap (λ n. drop (n * len) (frame ++ rest)) count ∙ ap (λ n. drop n (frame ++ rest)) skipped ∙ drop-append-add frame rest (length rest / len * len)
 
--- whole frames in front are the first frames
+-- whole frames at the front are the first frames
 pub frames_of-concat : (len : ℕ) (frames : List (List ℕ)) (rest : List ℕ) → 0 < len → AreWhole len frames → tm_frames_of len (concat frames ++ rest) ≡ frames ++ tm_frames_of len rest
 frames_of-concat len [] rest some h = refl
 frames_of-concat len (f ∷ frames) rest some h =
@@ -41,14 +41,14 @@ remainder_of-concat len (f ∷ frames) rest some h =
     ap (tm_remainder_of len) (append_assoc f (concat frames) rest) ∙ remainder_of-first len f (concat frames ++ rest) some h.0
     ∙ remainder_of-concat len frames rest some h.1
 
--- octets that are no whole frame are a remainder
+-- octets that are too few for a frame are a remainder
 pub frames_of-short : (len : ℕ) (rest : List ℕ) → length rest < len → tm_frames_of len rest ≡ []
 frames_of-short len rest short = ap (λ n. tm_frames_from len n rest) (div-eq_of_lt short)
 
 pub remainder_of-short : (len : ℕ) (rest : List ℕ) → length rest < len → tm_remainder_of len rest ≡ rest
 remainder_of-short len rest short = ap (λ n. drop (n * len) rest) (div-eq_of_lt short) ∙ ap (λ n. drop n rest) (zero-mul len)
 
--- The frames and the remainder of a recording are the only ones that it is delimited into.
+-- A recording is delimited into no other frames and remainder.
 pub only_frames : (len : ℕ) (recording : List ℕ) (frames : List (List ℕ)) (remainder : List ℕ) → 0 < len → IsTmDelimited len recording frames remainder → tm_frames_of len recording ≡ frames
 only_frames len recording frames remainder some d =
     ap (tm_frames_of len) d.end_to_end ∙ frames_of-concat len frames remainder some d.whole
@@ -58,7 +58,7 @@ pub only_remainder : (len : ℕ) (recording : List ℕ) (frames : List (List ℕ
 only_remainder len recording frames remainder some d =
     ap (tm_remainder_of len) d.end_to_end ∙ remainder_of-concat len frames remainder some d.whole ∙ remainder_of-short len remainder d.short
 
--- as many frames as fit are whole, and with the octets after them they are the recording
+-- as many frames as fit are whole, and make up the recording together with the octets after them
 tm_frames_from-whole : (len count : ℕ) (recording : List ℕ) → count * len ≤ length recording → AreWhole len (tm_frames_from len count recording)
 tm_frames_from-whole len zero recording h = tt
 tm_frames_from-whole len (suc count) recording h =

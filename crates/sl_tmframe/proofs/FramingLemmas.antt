@@ -8,7 +8,7 @@ use Rattle.sl_tmframe.specs.TmDelimited.{IsTmDelimited, tm_frames_of, tm_remaind
 use Rattle.sl_tmframe.specs.TmFraming.{TmFraming, YieldsFrame, YieldsFrames, ended, yielded, used_up, after_call, at_start, AnyChunksAreTaken, ChunksAreDelimited, ShortBecomesFrame}
 use Rattle.sl_tmframe.proofs.DelimitedLemmas.{is_delimited, frames_of-first, frames_of-short, remainder_of-first, remainder_of-short}
 
--- what was taken and what comes is what is delimited
+-- the frames and the remainder of the octets that were taken and that come
 abbrev AreTheirs : TmFraming → List (List ℕ) → List (List ℕ) → TmFraming → Type 0
 AreTheirs f chunks frames new =
     (tm_frames_of f.len (f.rest ++ concat chunks) ≡ frames) × (tm_remainder_of f.len (f.rest ++ concat chunks) ≡ new.rest)
@@ -52,7 +52,7 @@ short_becomes_frame len octets short =
 abbrev Taken : TmFraming → List (List ℕ) → Type 0
 Taken f chunks = (frames : List (List ℕ)) × (new : TmFraming) × YieldsFrames f chunks frames new
 
--- others after a chunk that is used up, whatever was taken before them
+-- the chunks after a chunk that is used up yield frames, whatever was taken before them
 abbrev Others : TmFraming → List (List ℕ) → Type 0
 Others f chunks = (g : TmFraming) → g.len ≡ f.len → length g.rest < g.len → Taken g chunks
 

@@ -1,4 +1,4 @@
--- A frame of packets as it is made, and as it is read back.
+-- A frame of packets, as it is made and as it is read back.
 use Rattle.std.proofs.Common.{◌≡◌, ℕ, ◌<◌, ◌≤◌, ◌==◌, not, List, [], ◌++◌, length, Option, Some, None, IfSome, Ok, unwrap_or, if◌then◌else◌, refl, sym, ◌∙◌, ap, arith, append-nil, length-append}
 use Rattle.std.proofs.lemmas.Bool.{eq-eqb, ne_eqb, lt-ltb}
 use Rattle.sl_fields.specs.FecfField.{fecf_part, fecf_len, with_fecf}
@@ -15,12 +15,12 @@ use Rattle.sl_tmframe.specs.declared.tm_frame.TmSkip.{TmSkip}
 use Rattle.sl_tmframe.specs.declared.tm_frame.TmSkip.TheVariants.{Fecf, Version, Spacecraft}
 use Rattle.sl_tmframe.proofs.PartLemmas.{only_parts}
 
--- the first header pointer as it is made, with 2047 for none
+-- the first header pointer of a frame that is made: 2047 for `None`
 pub pointer_is : (first : Option ℕ) → unwrap_or first 2047 ≡ pointer_value first
 pointer_is None = refl
 pointer_is (Some first) = refl
 
--- a frame has the octets of its format
+-- a frame has the length of its format
 pub with_fecf_whole : (format : TmFormat) (header field : List ℕ) → 8 ≤ format.len → length header ≡ 6 → length field ≡ field_room_of format
     → length (with_fecf format.fecf (header ++ field)) ≡ format.len
 with_fecf_whole format header field least six fills =
@@ -44,7 +44,7 @@ class_is spacecraft vc mc vcc None field room most fills inside = refl
 class_is spacecraft vc mc vcc (Some first) field room most fills inside =
     rw (ne_eqb first 2046 (λ e. omega arith), ne_eqb first 2047 (λ e. omega arith), lt-ltb first (length field) (omega arith)) refl
 
--- why a frame under this header is skipped whose error control field isn't wrong, and what it shows
+-- the reason to skip a frame under this header with a right error control field, and the frame's view
 abbrev reason_by : ℕ → TmFields → Option TmSkip
 reason_by spacecraft h = if not (h.version == 0) then Some Version else if not (h.spacecraft == spacecraft) then Some Spacecraft else None
 

@@ -1,4 +1,4 @@
--- A frame is its parts, and no others.
+-- A frame has its parts, and no others.
 use Rattle.std.proofs.Common.{◌≡◌, ℕ, ◌+◌, ◌-◌, ◌≤◌, Bool, true, false, if◌then◌else◌, List, ◌++◌, length, take, drop, refl, sym, ◌∙◌, ap, arith, append_assoc, length-append, length-drop, length-take-le}
 use Rattle.std.proofs.Math.Seq.{take-append_seam, drop-append_seam, drop-append-add}
 use Rattle.std.proofs.lemmas.List.{take-append-drop, drop-drop}
@@ -7,7 +7,7 @@ use Rattle.sl_fields.specs.TmHeader.{tm_header}
 use Rattle.sl_fields.proofs.FecfLemmas.{fecf_len_le}
 use Rattle.sl_tmframe.specs.TmFrame.{TmFormat, TmParts, ArePartsOf, tm_header_of, control_len, field_len, tm_parts_of}
 
--- a list in four parts, of which three have these lengths
+-- a list in four parts, where three have given lengths
 four_parts : (a b c : ℕ) (xs : List ℕ) → xs ≡ take a xs ++ take b (drop a xs) ++ take c (drop (a + b) xs) ++ drop (a + b + c) xs
 four_parts a b c xs =
     let last : take c (drop (a + b) xs) ++ drop (a + b + c) xs ≡ drop (a + b) xs =

@@ -15,7 +15,7 @@ use Rattle.sl_fields.proofs.Tells.{Tells, tells_other}
 
 -- ---- the first reason
 
--- an error control field is wrong where there is one
+-- an error control field can be wrong only where frames have one
 tells_wrong : (has long : Bool) (a a' b b' : ℕ) → (has ≡ true → (long ≡ true) × (a ≡ a') × (b ≡ b'))
     → Tells (has && not (long && a == b)) ((has ≡ true) × (a' ≢ b'))
 tells_wrong false long a a' b b' h = λ p. cc
@@ -113,13 +113,13 @@ class_found false false first h field =
 has_class : (h : TmFields) (field : List ℕ) → HasClass h field (class_of h field)
 has_class h field = class_found h.secondary h.sync h.first h field
 
--- a frame that is opaque is of no other class,
+-- a frame that isn't opaque by its flags, with a pointer before the end, isn't opaque at all
 not_opaque : (h : TmFields) (field : List ℕ) → h.secondary ≡ false → h.sync ≡ false → (IsOffset h.first → h.first < length field) → HasClass h field Opaque → ⊥
 not_opaque h field secondary sync inside (inl flag) = cc
 not_opaque h field secondary sync inside (inr (inl flag)) = cc
 not_opaque h field secondary sync inside (inr (inr past)) = let less = inside past.0 in let long = past.1 in omega arith
 
--- since pointer 2046 is no offset, nor is that of a frame of packets one past the data field,
+-- pointer 2046 is no offset, so it is no offset past the data field
 idle_inside : (pointer : ℕ) (field : List ℕ) → pointer ≡ 2046 → IsOffset pointer → pointer < length field
 idle_inside pointer field idle offset = absurd (offset.0 idle)
 
@@ -127,7 +127,7 @@ packets_inside : (pointer : ℕ) (field : List ℕ) (first : Option ℕ) → Poi
 packets_inside pointer field None none offset = absurd (offset.1 none)
 packets_inside pointer field (Some start) p offset = p.1
 
--- nor 2046, and it points to one start at most
+-- the pointer of a data field of packets isn't 2046
 not_idle : (pointer : ℕ) (field : List ℕ) (first : Option ℕ) → PointsTo pointer field first → pointer ≢ 2046
 not_idle pointer field None none idle = omega arith
 not_idle pointer field (Some start) p idle = p.0.0 idle
@@ -149,7 +149,7 @@ one_class h field (Packets first octets) Opaque p q = absurd (not_opaque h field
 one_class h field (Packets first octets) Idle p q = absurd (not_idle h.first field first p.2 q.2)
 one_class h field (Packets first octets) (Packets start others) p q = rw (one_start h.first field first start p.2 q.2, p.3, q.3) refl
 
--- ---- what a frame shows
+-- ---- the view of a frame
 
 control_shown : (flag : Bool) (control : List ℕ) → ShowsControl flag control (if flag then Some control else None)
 control_shown true control = (refl, refl)

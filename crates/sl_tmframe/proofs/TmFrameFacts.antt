@@ -1,4 +1,4 @@
--- Frames of known octets, read and written, so that a wrong definition doesn't check.
+-- Frames of known octets, read and written. A wrong definition would fail these facts.
 use Rattle.std.proofs.Common.{◌≡◌, ℕ, true, false, arith, List, [], ◌∷◌, ◌++◌, replicate, Option, Some, None, Ok, Err, refl}
 use Rattle.sl_fields.specs.Fecf.{fecf_of, register_of}
 use Rattle.sl_tmframe.specs.declared.tm_frame.TmSkip.TheVariants.{Fecf, Version, Spacecraft}
@@ -11,7 +11,8 @@ format len = record { len = len; fecf = false }
 abbrev with_error_control : ℕ → TmFormat
 with_error_control len = record { len = len; fecf = true }
 
--- a packet of ten octets and the idle packet that fills up its data field, all or all but the last four octets
+-- a packet of ten octets and the idle packet that fills up its data field, once whole and once without its last four
+-- octets
 abbrev packets : List ℕ
 packets =
     0x00 ∷ 0x01 ∷ 0xC0 ∷ 0x00 ∷ 0x00 ∷ 0x03 ∷ 0xAA ∷ 0xBB ∷ 0xCC ∷ 0xDD
@@ -26,7 +27,7 @@ header a b = 0x00 ∷ 0x10 ∷ 0x00 ∷ 0x00 ∷ a ∷ b ∷ []
 abbrev shows : Option (List ℕ) → DataField → TmView
 shows control carried = record { vc = 0; mc_count = 0; vc_count = 0; control = control; field = carried }
 
--- with an operational control field, and then one with its error control field
+-- a frame with an operational control field, and then the same with an error control field
 abbrev clcw : List ℕ
 clcw = 0x01 ∷ 0x00 ∷ 0x28 ∷ 0x05 ∷ []
 
@@ -85,7 +86,7 @@ frames_are_written = record {
   guarded_room = refl;
 }
 
--- a frame can be made of these
+-- a frame can be made from these values
 pub fits : FitFrame (with_error_control 34) 1 0 0 0 (Some 0) field
 fits = record {
   least = omega arith;

@@ -1,4 +1,4 @@
--- A frame read from its octets, part by part.
+-- A frame that is read from its octets, part by part.
 use Rattle.std.proofs.Common.{◌≡◌, ℕ, ◌+◌, ◌-◌, ◌≤◌, Bool, true, false, List, length, take, drop, Option, Some, None, Ok, refl, sym, ◌∙◌, ap, arith, if◌then◌else◌, length-drop, length-take-le}
 use Rattle.std.proofs.lemmas.List.{drop-drop, drop-take, take-take}
 use Rattle.sl_fields.specs.FecfField.{fecf_len}
@@ -6,8 +6,8 @@ use Rattle.sl_fields.specs.TmHeader.{TmFields}
 use Rattle.sl_fields.proofs.FecfLemmas.{fecf_len_le}
 use Rattle.sl_tmframe.specs.TmFrame.{TmFormat, TmView, DataField, tm_header_of, class_of, view_of, skip_reason, read_as, tm_frame}
 
--- Octets in which `last` come last and `word` before them, all after the first six: those between are the
--- octets after the first six without both,
+-- The data field of octets that end with `word` octets and then `last` octets, after the first six: the octets after
+-- the first six without both.
 field_lies : (frame covered : List ℕ) (last word : ℕ) → covered ≡ take (length (drop 6 frame) - last) (drop 6 frame)
     → take (length covered - word) covered ≡ take (length frame - 6 - word - last) (drop 6 frame)
 field_lies frame covered last word is_covered =
@@ -17,7 +17,7 @@ field_lies frame covered last word is_covered =
     ap (take (length covered - word)) is_covered ∙ take-take (length covered - word) (length (drop 6 frame) - last) (drop 6 frame) (omega arith)
     ∙ ap (λ n. take n (drop 6 frame)) same
 
--- and the word's are the last of those before the last.
+-- The operational control field: the last `word` octets of those before the last `last`.
 word_lies : (frame covered : List ℕ) (last word : ℕ) → 6 + word + last ≤ length frame → covered ≡ take (length (drop 6 frame) - last) (drop 6 frame)
     → drop (length covered - word) covered ≡ take word (drop (6 + (length frame - 6 - word - last)) frame)
 word_lies frame covered last word room is_covered =
@@ -28,14 +28,14 @@ word_lies frame covered last word room is_covered =
     ap (λ n. drop n covered) from ∙ ap (drop (length frame - 6 - word - last)) (is_covered ∙ ap (λ n. take n (drop 6 frame)) whole)
     ∙ drop-take (length frame - 6 - word - last) word (drop 6 frame) ∙ ap (take word) (drop-drop (length frame - 6 - word - last) 6 frame)
 
--- the operational control field by its flag
+-- the operational control field, by its flag
 control_lies : (flag : Bool) (frame covered : List ℕ) (last : ℕ) → 10 + last ≤ length frame → covered ≡ take (length (drop 6 frame) - last) (drop 6 frame)
     → (if flag then Some (drop (length covered - 4) covered) else None)
     ≡ (if flag then Some (take (if flag then 4 else 0) (drop (6 + (length frame - 6 - (if flag then 4 else 0) - last)) frame)) else None)
 control_lies true frame covered last room is_covered = ap Some (word_lies frame covered last 4 (omega arith) is_covered)
 control_lies false frame covered last room is_covered = refl
 
--- what a frame under this header shows
+-- the view of a frame under this header
 abbrev view_with : TmFormat → List ℕ → TmFields → TmView
 view_with format frame h =
     let word : ℕ = if h.control then 4 else 0 in
@@ -48,7 +48,7 @@ view_with format frame h =
       field = class_of h (take room (drop 6 frame));
     }
 
--- the parts that the code takes are the view
+-- the parts that the code takes give the frame's view
 pub read_parts : (format : TmFormat) (spacecraft : ℕ) (frame covered field : List ℕ) (h : TmFields) (control : Option (List ℕ)) (class : DataField)
     → 12 ≤ length frame
     → skip_reason format spacecraft frame ≡ None

@@ -1,38 +1,40 @@
--- A recording of TM frames: frames of the managed length end to end, and a remainder shorter than one.
+-- A recording of TM frames: frames of the managed length end to end, and a remainder shorter than a frame. This way
+-- to cut a recording is this project's mission profile.
 use Rattle.std.specs.Prelude.{◌≡◌, ℕ, zero, suc, ◌*◌, ◌/◌, ◌<◌, List, [], ◌∷◌, ◌++◌, length, take, drop}
 use Rattle.std.specs.List.{AllByRecursion, concat}
 
--- The frames of a recording lie end to end from the first octet on, each of the managed length. The octets after them,
--- fewer than a frame has, are the remainder.
+-- The frames of a recording lie end to end from the first octet on, each of the managed length. The octets after
+-- them, fewer than a frame has, are the remainder.
 pub record IsTmDelimited (len : ℕ) (recording : List ℕ) (frames : List (List ℕ)) (remainder : List ℕ) : Type 0 where
   pub end_to_end : recording ≡ concat frames ++ remainder
   pub whole : AllByRecursion (λ frame. length frame ≡ len) frames
   pub short : length remainder < len
 
--- ---- the same, as functions of the recording
+-- ---- the frames and the remainder, as functions of the recording
 
 -- The law `tm_recordings_are_delimited` says that `tm_frames_of` and `tm_remainder_of` are the frames and the
 -- remainder, and that there are no others.
 
--- this many frames from the front on
+-- `count` frames from the front on
 abbrev pub tm_frames_from : ℕ → ℕ → List ℕ → List (List ℕ)
 tm_frames_from len zero recording = []
 tm_frames_from len (suc count) recording = take len recording ∷ tm_frames_from len count (drop len recording)
 
--- the frames of a recording, as many as it has room for, and what is left
+-- the frames of a recording, as many as it has room for
 abbrev pub tm_frames_of : ℕ → List ℕ → List (List ℕ)
 tm_frames_of len recording = tm_frames_from len (length recording / len) recording
 
+-- the octets that are left after the frames of a recording
 abbrev pub tm_remainder_of : ℕ → List ℕ → List ℕ
 tm_remainder_of len recording = drop (length recording / len * len) recording
 
--- ---- what these two functions are
+-- ---- laws
 
--- every recording is delimited into its frames and its remainder
+-- Every recording is delimited into its frames and its remainder.
 abbrev pub EachIsTmDelimited : Type 0
 EachIsTmDelimited = (len : ℕ) (recording : List ℕ) → 0 < len → IsTmDelimited len recording (tm_frames_of len recording) (tm_remainder_of len recording)
 
--- and into no others
+-- No recording is delimited into other frames and another remainder.
 abbrev pub IsTmDelimitedOnce : Type 0
 IsTmDelimitedOnce =
     (len : ℕ) (recording : List ℕ) (frames : List (List ℕ)) (remainder : List ℕ) → 0 < len → IsTmDelimited len recording frames remainder

@@ -1,4 +1,6 @@
--- The TM transfer frame, CCSDS 132.0-B: its parts, why one is skipped, and what it carries.
+-- The TM transfer frame, CCSDS 132.0-B: its parts, why a frame is skipped, and what a frame carries. The packet order
+-- flag, the segment length identifier and the master channel frame count are not checked: this is the mission
+-- profile's.
 use Rattle.std.specs.Prelude.{◌≡◌, ◌≢◌, ◌⊎◌, ⊤, ℕ, ◌+◌, ◌-◌, ◌<◌, ◌≤◌, ◌==◌, nat_lt, Bool, true, false, not, ◌&&◌, ◌||◌, if◌then◌else◌, List, ◌++◌, length, take, drop, Option, None, Some, IfSome, Result, Ok, Err}
 use Rattle.sl_fields.specs.Field.{number_of}
 use Rattle.sl_fields.specs.Fecf.{fecf_of, fecf_is_good}
@@ -7,23 +9,24 @@ use Rattle.sl_fields.specs.TmHeader.{TmFields, tm_header}
 use Rattle.sl_tmframe.specs.declared.tm_frame.TmSkip.{TmSkip}
 use Rattle.sl_tmframe.specs.declared.tm_frame.TmSkip.TheVariants.{Fecf, Version, Spacecraft}
 
--- the managed format of a physical channel's frames: how many octets each has, and whether the last two
--- of them are a frame error control field
+-- The managed format of a physical channel's frames: the length of every frame, and whether the last two octets of a
+-- frame are a frame error control field. One managed length is the mission profile's.
 pub record TmFormat : Type 0 where
   pub len : ℕ
   pub fecf : Bool
 
 -- ---- the parts
 
+-- the parts of a frame
 pub record TmParts : Type 0 where
   pub header : List ℕ
   pub field : List ℕ
   pub control : List ℕ
   pub fecf : List ℕ
 
--- The primary header has six octets; the data field follows; then the operational control field, four
--- octets where the header's own flag says that there is one; then the frame error control field, two
--- octets where the format has it.
+-- The parts of a frame. The primary header has six octets, and the data field follows. Then comes the operational
+-- control field: four octets where the header's own flag says that there is one. The frame error control field is
+-- last: two octets where the format has it.
 pub record ArePartsOf (format : TmFormat) (frame : List ℕ) (p : TmParts) : Type 0 where
   pub whole : length frame ≡ format.len
   pub in_order : frame ≡ p.header ++ p.field ++ p.control ++ p.fecf
@@ -31,7 +34,7 @@ pub record ArePartsOf (format : TmFormat) (frame : List ℕ) (p : TmParts) : Typ
   pub control : length p.control ≡ (if (tm_header p.header).control then 4 else 0)
   pub fecf : length p.fecf ≡ fecf_len format.fecf
 
--- the header that a frame begins with
+-- the header at the front of a frame
 abbrev pub tm_header_of : List ℕ → TmFields
 tm_header_of frame = tm_header (take 6 frame)
 
@@ -43,7 +46,7 @@ control_len frame = if (tm_header_of frame).control then 4 else 0
 abbrev pub field_len : TmFormat → List ℕ → ℕ
 field_len format frame = length frame - 6 - control_len frame - fecf_len format.fecf
 
--- the parts, by where they lie
+-- the parts, by their places in the frame
 abbrev pub tm_parts_of : TmFormat → List ℕ → TmParts
 tm_parts_of format frame =
     record {
@@ -55,8 +58,8 @@ tm_parts_of format frame =
 
 -- ---- whether a frame is skipped
 
--- Why a frame of these parts is skipped: its error control field isn't that of the octets before it, where the
--- format has one; its transfer frame version number isn't 0; it is another spacecraft's.
+-- Why a frame of these parts is skipped: the format has an error control field and it isn't that of the octets before
+-- it; the transfer frame version number isn't 0; or the frame is of another spacecraft.
 abbrev pub HasReason : TmFormat → ℕ → TmParts → TmSkip → Type 0
 HasReason format spacecraft p Fecf = (format.fecf ≡ true) × (number_of p.fecf ≢ fecf_of (p.header ++ p.field ++ p.control))
 HasReason format spacecraft p Version = (tm_header p.header).version ≢ 0
@@ -70,33 +73,34 @@ order_of Spacecraft = 3
 
 -- ---- what a frame carries
 
--- An opaque frame's data field isn't read, an idle frame's has only idle data, and a packet frame's has
--- the octets of packets. The first packet that starts in it, if one does, starts at the pointer.
+-- The content of a data field. An opaque frame's data field isn't read, an idle frame's has only idle data, and a
+-- packet frame's has the octets of packets. The first packet that starts in it, if one does, starts at the pointer.
 pub data DataField : Type 0 where
   Packets : (first : Option ℕ) (octets : List ℕ) → DataField
   Idle : DataField
   Opaque : DataField
 
--- First header pointers 2046 and 2047 have a meaning of their own. Any other is an offset in the data field.
+-- First header pointers 2046 and 2047 have a meaning of their own. Any other pointer is an offset in the data field.
 abbrev pub IsOffset : ℕ → Type 0
 IsOffset pointer = (pointer ≢ 2046) × (pointer ≢ 2047)
 
--- A data field of packets: pointer 2047 says that no packet starts in it, and an offset before its end that the first
--- one starts there.
+-- A data field of packets. Pointer 2047 says that no packet starts in it. An offset before its end says that the
+-- first packet starts at this offset.
 abbrev pub PointsTo : ℕ → List ℕ → Option ℕ → Type 0
 PointsTo pointer field None = pointer ≡ 2047
 PointsTo pointer field (Some start) = IsOffset pointer × (pointer < length field) × (start ≡ pointer)
 
--- What a data field under this header is. The frame is opaque where its secondary header flag or its synchronisation
--- flag is 1, or its pointer is an offset at or past the end of the data field. Where both flags are 0, pointer 2046
--- says that there is only idle data; with 2047, and with an offset before the end, the data field is of packets.
+-- The class of a data field under this header. The frame is opaque where its secondary header flag or its
+-- synchronisation flag is 1, or where its pointer is an offset at or past the end of the data field; this class is
+-- the mission profile's. Where both flags are 0, pointer 2046 says that there is only idle data. With both flags 0
+-- and pointer 2047, or an offset before the end, the data field is of packets.
 abbrev pub HasClass : TmFields → List ℕ → DataField → Type 0
 HasClass h field Opaque = (h.secondary ≡ true) ⊎ (h.sync ≡ true) ⊎ (IsOffset h.first × (length field ≤ h.first))
 HasClass h field Idle = (h.secondary ≡ false) × (h.sync ≡ false) × (h.first ≡ 2046)
 HasClass h field (Packets first octets) =
     (h.secondary ≡ false) × (h.sync ≡ false) × PointsTo h.first field first × (octets ≡ field)
 
--- what a frame shows to whoever reads it
+-- the view that a reader has of a frame
 pub record TmView : Type 0 where
   pub vc : ℕ
   pub mc_count : ℕ
@@ -104,12 +108,12 @@ pub record TmView : Type 0 where
   pub control : Option (List ℕ)
   pub field : DataField
 
--- the operational control field is shown where the header's own flag says that there is one
+-- the operational control field is shown exactly where the header's own flag says that there is one
 abbrev pub ShowsControl : Bool → List ℕ → Option (List ℕ) → Type 0
 ShowsControl flag control None = flag ≡ false
 ShowsControl flag control (Some shown) = (flag ≡ true) × (shown ≡ control)
 
--- what a frame of these parts shows
+-- the view of a frame of these parts
 pub record Shows (p : TmParts) (view : TmView) : Type 0 where
   pub vc : view.vc ≡ (tm_header p.header).vc
   pub mc_count : view.mc_count ≡ (tm_header p.header).mc
@@ -119,20 +123,20 @@ pub record Shows (p : TmParts) (view : TmView) : Type 0 where
 
 -- ---- a frame as it is read for a spacecraft
 
--- A frame of these parts is skipped for the first reason that holds, and is read where none does.
+-- A frame of these parts is skipped for the first reason that holds, and is read where no reason holds.
 abbrev pub AreReadAs : TmFormat → ℕ → TmParts → Result TmView TmSkip → Type 0
 AreReadAs format spacecraft p (Ok view) = ((reason : TmSkip) → HasReason format spacecraft p reason → ⊥) × Shows p view
 AreReadAs format spacecraft p (Err reason) =
     HasReason format spacecraft p reason
     × ((earlier : TmSkip) → order_of earlier < order_of reason → HasReason format spacecraft p earlier → ⊥)
 
--- The octets have these parts, and are read as this. The law `tm_frames_are_read` says that the parts are those of
--- `tm_parts_of` and the reading is that of `tm_frame`, and that there are no others.
+-- The octets have these parts, and are read with this result. The law `tm_frames_are_read` says that the parts are
+-- those of `tm_parts_of` and the result is that of `tm_frame`, and that there are no others.
 pub record IsReadAs (format : TmFormat) (spacecraft : ℕ) (frame : List ℕ) (p : TmParts) (read : Result TmView TmSkip) : Type 0 where
   pub parts : ArePartsOf format frame p
   pub reading : AreReadAs format spacecraft p read
 
--- ---- the same, as functions of the octets
+-- ---- the reading, as functions of the octets
 
 -- the first reason that holds
 abbrev pub skip_reason : TmFormat → ℕ → List ℕ → Option TmSkip
@@ -148,7 +152,7 @@ is_opaque header field =
     (header.secondary || header.sync)
     || (not (header.first == 2046) && not (header.first == 2047) && not (nat_lt header.first (length field)))
 
--- the class that it has
+-- the class of a data field under this header
 abbrev pub class_of : TmFields → List ℕ → DataField
 class_of header field =
     if is_opaque header field then Opaque
@@ -160,7 +164,7 @@ class_of header field =
 abbrev pub control_of : TmFormat → List ℕ → Option (List ℕ)
 control_of format frame = if (tm_header_of frame).control then Some (tm_parts_of format frame).control else None
 
--- what the frame shows
+-- the view of the frame
 abbrev pub view_of : TmFormat → List ℕ → TmView
 view_of format frame =
     record {
@@ -171,7 +175,7 @@ view_of format frame =
       field = class_of (tm_header_of frame) (tm_parts_of format frame).field;
     }
 
--- what it shows, or why it is skipped
+-- the view of a frame, or the reason to skip the frame
 abbrev pub read_as : Option TmSkip → TmView → Result TmView TmSkip
 read_as None view = Ok view
 read_as (Some reason) view = Err reason
@@ -180,7 +184,7 @@ read_as (Some reason) view = Err reason
 abbrev pub tm_frame : TmFormat → ℕ → List ℕ → Result TmView TmSkip
 tm_frame format spacecraft frame = read_as (skip_reason format spacecraft frame) (view_of format frame)
 
--- ---- what is so of each frame that is read
+-- ---- ranges
 
 -- the first packet start lies in the data field, which has at most 2042 octets
 abbrev pub IsInField : DataField → Type 0
@@ -188,28 +192,28 @@ IsInField (Packets first octets) = IfSome first (λ start. start < length octets
 IsInField Idle = ⊤
 IsInField Opaque = ⊤
 
--- what is so of each frame that is read
+-- each frame that is read has a virtual channel up to 7, and a data field in range
 pub record IsInRange (view : TmView) : Type 0 where
   pub vc : view.vc ≤ 7
   pub field : IsInField view.field
 
 -- ---- laws
 
--- octets of the format's length have these parts
+-- Octets of the format's length have these parts.
 abbrev pub EachHasParts : Type 0
 EachHasParts = (format : TmFormat) (frame : List ℕ) → 12 ≤ format.len → length frame ≡ format.len → ArePartsOf format frame (tm_parts_of format frame)
 
--- and no others
+-- Octets have no other parts.
 abbrev pub HasPartsOnce : Type 0
 HasPartsOnce = (format : TmFormat) (frame : List ℕ) (p : TmParts) → ArePartsOf format frame p → tm_parts_of format frame ≡ p
 
--- octets of the format's length are read, or skipped, as this says,
+-- Octets of the format's length are read, or skipped, as the relation says.
 abbrev pub EachIsRead : Type 0
 EachIsRead =
     (format : TmFormat) (spacecraft : ℕ) (frame : List ℕ) → 12 ≤ format.len → length frame ≡ format.len
     → IsReadAs format spacecraft frame (tm_parts_of format frame) (tm_frame format spacecraft frame)
 
--- and in no other way
+-- Octets are read in no other way.
 abbrev pub IsReadOnce : Type 0
 IsReadOnce =
     (format : TmFormat) (spacecraft : ℕ) (frame : List ℕ) (p : TmParts) (read : Result TmView TmSkip)

@@ -1,4 +1,4 @@
--- A `TmFrame` is what it shows, which is in range.
+-- A `TmFrame` stands for its view, which is in range.
 use Rattle.sl_tmframe.specs.TmFrame.{TmView, IsInRange}
 use Rattle.sl_tmframe.specs.TmField.{data_field}
 use Rattle.sl_tmframe.specs.declared.tm_frame.TmFrame.TheInside.{Inside}

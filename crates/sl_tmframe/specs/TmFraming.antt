@@ -1,4 +1,4 @@
--- Delimiting TM frames in a recording that comes in chunks. Contracts of private functions alone cite `Answers`.
+-- TM frames are delimited in a recording that comes in chunks. Only contracts of private functions cite `Answers`.
 use Rattle.std.specs.Prelude.{◌≡◌, ℕ, ◌<◌, ◌≤◌, List, [], ◌∷◌, ◌++◌, length, take, Option, None, Some}
 use Rattle.std.specs.Borrow.{Bor}
 use Rattle.std.specs.List.{concat}
@@ -6,16 +6,16 @@ use Rattle.sl_fields.specs.Field.{IsOctets}
 use Rattle.sl_tmframe.specs.TmDelimited.{IsTmDelimited, tm_frames_of}
 use Rattle.sl_tmframe.specs.declared.tm_framer.TmFramer.TheInside.{Inside}
 
--- the length of each frame, and the octets that were taken after the last one
+-- the state of a framer: the length of each frame, and the octets that were taken after the last frame
 pub record TmFraming : Type 0 where
   pub len : ℕ
   pub rest : List ℕ
 
--- no octet was taken
+-- no octet was taken yet
 abbrev pub at_start : ℕ → TmFraming
 at_start len = record { len = len; rest = [] }
 
--- the octets that are held lie in front
+-- the octets that a framer holds lie in front of its array
 abbrev pub framing_of : Inside → TmFraming
 framing_of f = record { len = f.len; rest = take f.held f.taken.items }
 
@@ -27,38 +27,39 @@ pub record IsTmFramer (f : Inside) : Type 0 where
 
 -- ---- one call, with a chunk
 
--- The frame has the octets that were taken after the last one, and then those from the front of the chunk, of which
--- the others are left.
+-- The frame has the octets that were taken after the last frame, and then octets from the front of the chunk. The
+-- other octets of the chunk are left.
 pub record YieldsFrame (old : TmFraming) (chunk frame left : List ℕ) : Type 0 where
   pub parts : old.rest ++ chunk ≡ frame ++ left
   pub whole : length frame ≡ old.len
 
--- The octets are too few for a frame, and all of the chunk is taken.
+-- The octets are too few for a frame, and the whole chunk is taken.
 pub record UsesUpChunk (old : TmFraming) (chunk left : List ℕ) : Type 0 where
   pub short : length (old.rest ++ chunk) < old.len
   pub none_left : left ≡ []
 
--- after it: nothing was taken after a frame that is lent
+-- the state after a call; after a frame no octet is held
 abbrev pub after_call : TmFraming → List ℕ → Option (List ℕ) → TmFraming
 after_call old chunk (Some frame) = record { len = old.len; rest = [] }
 after_call old chunk None = record { len = old.len; rest = old.rest ++ chunk }
 
+-- the octets of a frame that is lent, if one is
 abbrev pub lent_octets : Option (Bor (List ℕ)) → Option (List ℕ)
 lent_octets None = None
 lent_octets (Some octets) = Some octets.now
 
--- what stands after a call with this chunk that gave this answer
+-- the state after a call with this chunk and this answer
 abbrev pub HasTaken : TmFraming → List ℕ → Option (Bor (List ℕ)) → TmFraming → Type 0
 HasTaken old chunk answer new = new ≡ after_call old chunk (lent_octets answer)
 
--- what the answer says of the chunk: a frame is lent, or it was used up first
+-- The answer and what is left of the chunk: a frame is lent, or the chunk was used up first.
 abbrev pub Answers : TmFraming → List ℕ → Option (Bor (List ℕ)) → List ℕ → Type 0
 Answers old chunk None left = UsesUpChunk old chunk left
 Answers old chunk (Some frame) left = YieldsFrame old chunk frame.now left
 
 -- ---- calls with chunks, one after another
 
--- A chunk is given until it is used up, then the next one. These frames are yielded, and this is left.
+-- Each chunk is given until it is used up, and then the next one. These frames are yielded, and this state is left.
 pub data YieldsFrames : TmFraming → List (List ℕ) → List (List ℕ) → TmFraming → Type 0 where
   ended : (f : TmFraming) → YieldsFrames f [] [] f
   yielded : (f new : TmFraming) (chunk frame left : List ℕ) (chunks frames : List (List ℕ)) → YieldsFrame f chunk frame left
@@ -68,19 +69,20 @@ pub data YieldsFrames : TmFraming → List (List ℕ) → List (List ℕ) → Tm
 
 -- ---- laws
 
--- The frames that are yielded are those of the recording that the chunks are end to end, and its remainder is left.
+-- The frames that are yielded are those of the recording, which is the chunks end to end. The octets that are left
+-- are its remainder.
 abbrev pub ChunksAreDelimited : Type 0
 ChunksAreDelimited =
     (len : ℕ) (chunks frames : List (List ℕ)) (new : TmFraming) → 0 < len → YieldsFrames (at_start len) chunks frames new
     → IsTmDelimited len (concat chunks) frames new.rest
 
--- Octets that are too few for a frame become one by others that follow.
+-- Octets that are too few for a frame become a frame with some octets after them.
 abbrev pub ShortBecomesFrame : Type 0
 ShortBecomesFrame =
     (len : ℕ) (octets : List ℕ) → length octets < len
     → (more : List ℕ) × IsOctets more × (tm_frames_of len (octets ++ more) ≡ (octets ++ more) ∷ [])
 
--- Any chunks are taken so.
+-- Every list of chunks yields some frames and leaves some state.
 abbrev pub AnyChunksAreTaken : Type 0
 AnyChunksAreTaken =
     (len : ℕ) (chunks : List (List ℕ)) → 0 < len → (frames : List (List ℕ)) × (new : TmFraming) × YieldsFrames (at_start len) chunks frames new

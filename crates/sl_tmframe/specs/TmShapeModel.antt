@@ -1,4 +1,4 @@
--- A `TmShape` is its format, which isn't refused.
+-- A `TmShape` stands for its format, which isn't refused.
 use Rattle.std.specs.Prelude.{◌≤◌}
 use Rattle.sl_tmframe.specs.TmFrame.{TmFormat}
 use Rattle.sl_tmframe.specs.declared.tm_shape.TmShape.TheInside.{Inside}

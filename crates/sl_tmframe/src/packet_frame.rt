@@ -1,4 +1,4 @@
-//! The TM transfer frame of packets, as it is written.
+//! The TM transfer frame of packets, as the project writes it.
 ghost use Rattle.std.specs.Prelude.{◌≡◌, ◌+◌, ◌<◌, ◌≤◌, ◌++◌, length, IfSome, OnOk, OnErr};
 ghost use Rattle.std.specs.Vec.{vec_len, vec_capacity};
 ghost use Rattle.sl_fields.specs.Field.{octets_of};
@@ -11,12 +11,18 @@ use std::alloc::AllocError;
 /// The first header pointer of a frame in which no packet starts.
 const NONE_STARTS: u16 = 2047;
 
-/// Adds a frame of packets: `octets` is its data field, as many octets as the format has room for, in which
-/// the first packet starts at `first`, below the room, if one does. `spacecraft` is 0 to 1023 and `vc` 0 to
-/// 7; `mc` and `vcc` are the master and the virtual channel frame count.
+/// Adds a TM transfer frame (CCSDS 132.0-B) of packets to `out`.
 ///
-/// The frame has version 0, no operational control field, packet order flag 0 and segment length identifier
-/// 3, and its error control field where the format has one. It leaves `out` as it was where memory is refused.
+/// - `spacecraft` is 0 to 1023 and `vc` 0 to 7.
+/// - `mc` and `vcc` are the master and the virtual channel frame count, 0 to 255.
+/// - `octets` is the data field: exactly [`TmShape::room`] octets.
+/// - `first` is the offset in the data field at which the first packet starts, below the room, or `None`
+///   where no packet starts in the data field.
+///
+/// The frame has version 0, no operational control field, no secondary header, synchronisation flag 0, packet
+/// order flag 0 and segment length identifier 3, and its error control field where the format has one.
+///
+/// Memory is refused only where the capacity of `out` has no room for the frame. `out` is then as it was.
 pub fn push_tm(
     out: &mut Vec<u8>,
     shape: &TmShape,
@@ -35,7 +41,7 @@ pub fn push_tm(
     ensures added { OnOk result (out.new.items ≡ out.old.items
         ++ packet_frame shape.now spacecraft vc mc vcc first octets.now) }
 
-    // Memory is refused only where there is no room for it: nothing is added then.
+    // Memory is refused only where `out` had no room for the frame, and then nothing is added.
     ensures unchanged { OnErr result (out.new.items ≡ out.old.items) }
     ensures full { OnErr result (vec_capacity out.old < vec_len out.old + shape.now.len) }
     ensures capacity { vec_capacity out.old ≤ vec_capacity out.new }

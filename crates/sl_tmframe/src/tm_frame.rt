@@ -7,34 +7,39 @@ use crate::tm_shape::TmShape;
 use sl_fields::{TmHeader, back, fecf_good, front, without_fecf};
 use std::marker::Model;
 
-/// Why a TM transfer frame is skipped: the first of these that holds.
+/// Why a TM transfer frame is skipped: the first of these reasons that holds.
 #[derive(Clone, Copy, Debug, PartialEq, Eq)]
 pub enum TmSkip {
-    /// Its frame error control field is wrong, where frames have one.
+    /// Frames have a frame error control field, and this frame's is wrong.
     Fecf,
-    /// Its version isn't 0.
+    /// The transfer frame version number isn't 0.
     Version,
-    /// It is another spacecraft's.
+    /// The frame is of another spacecraft.
     Spacecraft,
 }
 
-/// What a TM transfer frame carries.
+/// The content of a TM transfer frame (CCSDS 132.0-B).
 #[derive(Clone, Copy, Debug)]
 pub enum TmField<'a> {
-    /// Octets of packets.
+    /// Octets of packets. The secondary header flag and the synchronisation flag are 0, and the first header
+    /// pointer is 2047 or an offset in the data field.
     Packets {
-        /// The first packet start, as an offset in the data field, if one lies in it.
+        /// The offset in the data field at which the first packet starts, or `None` where no packet starts in
+        /// it (pointer 2047).
         first: Option<u16>,
-        /// The data field.
+        /// The data field, at most 2042 octets.
         octets: &'a [u8],
     },
-    /// Only idle data.
+    /// Only idle data: both flags are 0, and the first header pointer is 2046.
     Idle,
-    /// A data field that isn't read.
+    /// A data field that isn't read: the secondary header flag or the synchronisation flag is 1, or the first
+    /// header pointer is an offset at or past the end of the data field. The class of opaque frames is this
+    /// project's choice.
     Opaque,
 }
 
-/// A TM transfer frame of CCSDS 132.0-B: its counts, its operational control field and its data field.
+/// A TM transfer frame of CCSDS 132.0-B that wasn't skipped: its virtual channel, its frame counts, its
+/// operational control field and the content of its data field.
 #[derive(Debug, Drop)]
 pub struct TmFrame<'a> {
     header: TmHeader,
@@ -57,8 +62,11 @@ impl<'a> Model for TmFrame<'a> {
 impl<'a> TmFrame<'a> {
     ghost use Rattle.sl_tmframe.specs.TmFrame.{tm_frame};
 
-    /// Reads a frame of this format and spacecraft, from as many octets as the format has, or tells why it
-    /// is skipped. The data field is borrowed from the octets.
+    /// Reads a frame of this format and spacecraft, or answers why the frame is skipped. `octets` has exactly
+    /// [`TmShape::len`] octets. The data field is borrowed from `octets`.
+    ///
+    /// The packet order flag, the segment length identifier and the master channel frame count are not
+    /// checked, by this project's choice.
     #[inline(always)]
     pub fn read(shape: &TmShape, spacecraft: u16, octets: &'a [u8]) -> Result<TmFrame<'a>, TmSkip>
         requires whole { length octets.now ≡ shape.now.len }
@@ -85,28 +93,29 @@ impl<'a> TmFrame<'a> {
         self.header.vc()
     }
 
-    /// Master channel frame count.
+    /// Master channel frame count, 0 to 255.
     pub fn mc_count(&self) -> u8
         ensures { result ≡ self.now.mc_count }
     {
         self.header.mc()
     }
 
-    /// Virtual channel frame count.
+    /// Virtual channel frame count, 0 to 255.
     pub fn vc_count(&self) -> u8
         ensures { result ≡ self.now.vc_count }
     {
         self.header.vcc()
     }
 
-    /// The operational control field, if the frame has one.
+    /// The four octets of the operational control field, or `None` where the frame has no such field. Frames
+    /// with only idle data and opaque frames may have one too.
     pub fn control(&self) -> Option<[u8; 4]>
         ensures { result ≡ self.now.control }
     {
         self.control
     }
 
-    /// What the frame carries. A packet start lies in the data field, which has at most 2042 octets.
+    /// The content of the frame. A first packet start lies in the data field, which has at most 2042 octets.
     pub fn field(&self) -> TmField<'a>
         ensures value { data_field result ≡ self.now.field }
         ensures inside { IsInField (data_field result) }
@@ -161,7 +170,7 @@ fn split_control<'a>(header: &TmHeader, behind: &'a [u8]) -> (&'a [u8], Option<[
     (field, Some(*control))
 }
 
-// What a data field under this header carries.
+// The content of a data field under this header.
 #[inline(always)]
 fn data_field_of<'a>(header: &TmHeader, field: &'a [u8]) -> TmField<'a>
     requires { length field.now ≤ 2042 }

@@ -1,4 +1,4 @@
-//! TM frames out of a recording that comes in chunks.
+//! TM frames from a recording that comes in chunks.
 ghost use Rattle.std.specs.Prelude.{◌≡◌, ◌+◌, ◌<◌, ◌≤◌, [], ◌++◌, length, take, IfSome, IfNone};
 ghost use Rattle.std.specs.Borrow.{sem};
 ghost use Rattle.std.specs.Io.BufRead.{Rests};
@@ -7,15 +7,15 @@ use crate::tm_shape::TmShape;
 use arrayvec::ArrayVec;
 use std::marker::Model;
 
-/// Takes the octets of a recording in chunks, and lends each TM transfer frame (CCSDS 132.0-B) that they complete. It
-/// keeps one frame at most, and takes no memory.
+/// Takes the octets of a recording in chunks, and returns each TM transfer frame (CCSDS 132.0-B) that the
+/// octets complete. The framer keeps one frame at most, and takes no memory.
 #[derive(Drop)]
 pub struct TmFramer {
     len: u16,
-    // How many octets were taken after the last frame.
+    // The number of octets that were taken after the last frame.
     held: usize,
-    // These octets lie in front. It is full from the start, and octets are written over others, so that none are
-    // blanked between frames.
+    // The octets that were taken after the last frame lie in front. The array is full from the start and is
+    // overwritten, so it needn't be blanked between frames.
     taken: ArrayVec<u8, 2048>,
 }
 
@@ -44,7 +44,8 @@ impl TmFramer {
         }
     }
 
-    /// The octets that were taken after the last frame, fewer than a frame has.
+    /// The octets that were taken after the last frame, fewer than a frame has. At the end of a recording
+    /// they are its remainder.
     pub fn rest(&self) -> &[u8]
         ensures octets { result.now ≡ self.now.rest }
         ensures short { length result.now < self.now.len }
@@ -52,14 +53,18 @@ impl TmFramer {
         &self.taken.as_slice()[..self.held]
     }
 
-    /// Takes octets from the front of the chunk, and lends the frame that they complete with those taken before.
-    /// `None` comes where the chunk is used up before a frame is whole.
+    /// Takes octets from the front of the chunk `piece`, and returns the frame that they complete together
+    /// with the octets that were taken before. `piece` is left with the octets after the frame.
+    ///
+    /// `None` comes exactly where the chunk is used up before a frame is complete; then all octets of the
+    /// chunk are taken.
     pub fn next(&mut self, piece: &mut &[u8]) -> Option<&[u8]>
         ensures* taken { sem 𝓛 (Rests the_row self.entry (HasTaken self.old piece.old.now result)) }
-        // A frame has the octets that were taken after the last one, and then those from the front of the chunk.
+        // A frame has the octets that were taken after the last frame, and then octets from the front of the
+        // chunk.
         ensures frame { IfSome result (λ frame.
             YieldsFrame self.old piece.old.now frame.now piece.new.now) }
-        // Without one the chunk was used up first.
+        // Without a frame the chunk was used up first.
         ensures used_up { IfNone result (UsesUpChunk self.old piece.old.now piece.new.now) }
     {
         let wanted = usize::from(self.len) - self.held;
@@ -76,8 +81,10 @@ impl TmFramer {
         Some(&self.taken.as_slice()[..usize::from(self.len)])
     }
 
-    /// As [`next`](TmFramer::next), for octets that outlive the frame: one that lies whole in the chunk is lent from
-    /// there, and only one that lies in several chunks is copied.
+    /// As [`next`](TmFramer::next), with the same clauses, for a chunk that outlives the frame.
+    ///
+    /// By reading, a frame that lies whole in the chunk is returned as a slice of the chunk, and only a frame
+    /// that lies in several chunks is copied. No clause says where the octets of a frame lie.
     #[inline]
     pub fn next_from<'a, 'p: 'a>(&'a mut self, piece: &mut &'p [u8]) -> Option<&'a [u8]>
         ensures* taken { sem 𝓛 (Rests the_row self.entry (HasTaken self.old piece.old.now result)) }
@@ -99,7 +106,7 @@ impl TmFramer {
         frame
     }
 
-    // Lends a frame that lies in several chunks.
+    // Returns a frame that lies in several chunks.
     #[cold]
     fn next_across(&mut self, piece: &mut &[u8]) -> Option<&[u8]>
         ensures* taken { sem 𝓛 (Rests the_row self.entry (HasTaken self.old piece.old.now result)) }
@@ -109,7 +116,7 @@ impl TmFramer {
     }
 }
 
-// Writes these octets over those at this offset.
+// Writes these octets over the octets at this offset.
 fn write_at(room: &mut [u8], offset: usize, octets: &[u8])
     requires { offset + length octets.now ≤ length room.old }
     ensures front { take (offset + length octets.now) room.new

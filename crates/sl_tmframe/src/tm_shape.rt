@@ -5,8 +5,8 @@ ghost use Rattle.sl_tmframe.specs.PacketFrame.{field_room_of};
 use sl_fields::ShapeFault;
 use std::marker::Model;
 
-/// The managed format of a physical channel's TM transfer frames: their length, and whether each has a
-/// frame error control field.
+/// The managed format of a physical channel's TM transfer frames (CCSDS 132.0-B): the length of all frames,
+/// and whether each frame ends with a frame error control field.
 #[derive(Clone, Copy, Debug, PartialEq, Eq)]
 pub struct TmShape {
     pub(crate) len: u16,
@@ -31,7 +31,8 @@ impl TmShape {
     ghost use Rattle.sl_tmframe.specs.TmFrame.{TmFormat};
     ghost use Rattle.sl_tmframe.specs.TmShape.{tm_shape};
 
-    /// The format with this length, 32 to 2048 octets, else `TmLength`.
+    /// The format with this length, 32 to 2048 octets, and a frame error control field where `fecf` is set.
+    /// Any other length is refused with `TmLength`. These bounds are this project's choice.
     pub fn new(len: u16, fecf: bool) -> Result<TmShape, ShapeFault>
         ensures { let format : TmFormat = record { len = len; fecf = fecf } in
             result ≡ tm_shape format }
@@ -42,7 +43,7 @@ impl TmShape {
         Ok(TmShape { len, fecf })
     }
 
-    /// Octets of a frame, 32 to 2048.
+    /// The octets of a frame, 32 to 2048.
     pub fn len(&self) -> u16
         ensures value { result ≡ self.now.len }
         ensures least { 32 ≤ result }
@@ -58,7 +59,7 @@ impl TmShape {
         self.fecf
     }
 
-    /// Octets of the data field of a frame without an operational control field, 24 to 2042.
+    /// The octets of the data field of a frame without an operational control field, 24 to 2042.
     pub fn room(&self) -> u16
         ensures value { result ≡ field_room_of self.now }
         ensures least { 24 ≤ result }

@@ -1,4 +1,4 @@
--- Segments and frames of known octets, and what is amiss with them, computed from the definitions.
+-- Segments and frames of known octets, and their anomalies, computed from the definitions.
 use Rattle.std.proofs.Common.{◌≡◌, ℕ, true, false, List, [], ◌∷◌, ◌++◌, replicate, None, Some, refl}
 use Rattle.std.specs.Prelude.{is_some}
 use Rattle.sl_tcframe.specs.TcDelimited.{tc_frames_of}
@@ -49,10 +49,10 @@ are_out_of_sequence = record {
 }
 
 pub record AreDropped : Type 0 where
-  -- a series of no octets is one,
+  -- a series without octets is dropped too
   pub by_a_first_one : dropped_of (first ∷ []) first ≡ Some 0
   pub by_a_whole_one : dropped_of (first ∷ continuing ∷ []) whole ≡ Some 0
-  -- its own octets are counted, and those of the next segment are not
+  -- the octets of the dropped series count, and those of the next segment don't
   pub of_two_octets : dropped_of ((0x40 ∷ 0x10 ∷ []) ∷ (0x00 ∷ 0x02 ∷ []) ∷ []) (0xC0 ∷ packet) ≡ Some 2
   pub not_by_a_last_one : dropped_of (first ∷ []) last ≡ None
   pub not_after_the_last : dropped_of (first ∷ last ∷ []) whole ≡ None
@@ -98,7 +98,7 @@ are_left = record {
   not_out_of_sequence = refl;
 }
 
--- nothing is amiss with a unit without octets
+-- a unit without octets has no anomaly
 pub record IsEmpty : Type 0 where
   pub in_sequence : stray_of [] whole ≡ false
   pub none_dropped : dropped_of [] whole ≡ None
@@ -115,7 +115,7 @@ is_empty = record {
 
 -- ---- frames on virtual channel 0
 
--- a window of width 10, and V(R) 0 at the start
+-- a window of width 10, and the initial V(R) 0
 abbrev from_0 : ReceptionParameters
 from_0 = record { window = 10; starts = replicate 64 0; plain = [] }
 
@@ -129,7 +129,7 @@ pub record AreOfFrames : Type 0 where
   pub out_of_sequence : stray_by from_0 [] (bypassing last) ≡ true
   pub a_series_dropped : dropped_by from_0 (bypassing first ∷ []) (bypassing whole) ≡ Some 0
   pub left : tail_by from_0 [] (bypassing (0xC0 ∷ packet ++ 0x77 ∷ [])) ≡ 1
-  -- nothing is told of a unit that is not accepted
+  -- a unit that isn't accepted has no anomaly
   pub not_accepted : stray_by from_0 [] (early last) ≡ false
   pub none_dropped : dropped_by from_0 (bypassing first ∷ []) (early whole) ≡ None
   pub none_too_long : long_by from_0 (bypassing first ∷ []) (early last) ≡ false
@@ -155,7 +155,7 @@ read recording = let format : TcFormat = record { max = 16; fecf = false } in vi
 abbrev begun : List ℕ
 begun = 0x00 ∷ 0x01 ∷ 0x00 ∷ 0x05 ∷ 0x00 ∷ first
 
--- a packet and one octet more
+-- a packet and one more octet
 abbrev with_tail : List ℕ
 with_tail = 0x00 ∷ 0x01 ∷ 0x00 ∷ 0x0D ∷ 0x00 ∷ 0xC0 ∷ packet ++ 0x77 ∷ []
 

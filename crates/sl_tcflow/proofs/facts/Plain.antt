@@ -1,5 +1,5 @@
--- Worked recordings with virtual channels without segment headers, and with initial V(R) of their own, computed from the
--- definitions, so that a wrong definition doesn't check. The spacecraft is 1.
+-- Worked recordings of spacecraft 1, with virtual channels without segment headers, and with an initial V(R) of their
+-- own, computed from the definitions. A wrong definition would fail these facts.
 use Rattle.std.proofs.Common.{◌≡◌, ℕ, true, false, List, [], ◌∷◌, ◌++◌, replicate, None, refl}
 use Rattle.std.specs.List.{slice_set}
 use Rattle.sl_tcframe.specs.AdFrame.{plain_room_of}
@@ -32,7 +32,7 @@ packets r vc mid recording = packets_on (segments_of r vc mid (read recording))
 abbrev packet : List ℕ
 packet = 0x10 ∷ 0x01 ∷ 0xC0 ∷ 0x00 ∷ 0x00 ∷ 0x03 ∷ 0xAA ∷ 0xBB ∷ 0xCC ∷ 0xDD ∷ []
 
--- on virtual channel 5, of type AD and N(S) 0, and of type BD
+-- a unit on virtual channel 5, of type AD with N(S) 0, and of type BD
 abbrev plain : List ℕ
 plain = 0x00 ∷ 0x01 ∷ 0x14 ∷ 0x0E ∷ 0x00 ∷ packet
 
@@ -45,14 +45,14 @@ first = 0x10 ∷ 0x02 ∷ 0xC0 ∷ 0x01 ∷ 0x00 ∷ 0x00 ∷ 0xEE ∷ []
 abbrev second : List ℕ
 second = 0x10 ∷ 0x02 ∷ 0xC0 ∷ 0x02 ∷ 0x00 ∷ 0x00 ∷ 0xEF ∷ []
 
--- two packets in one frame, and in one each
+-- two packets in one frame, and each in its own
 abbrev both : List ℕ
 both = 0x00 ∷ 0x01 ∷ 0x14 ∷ 0x12 ∷ 0x00 ∷ (first ++ second)
 
 abbrev apart : List ℕ
 apart = 0x00 ∷ 0x01 ∷ 0x14 ∷ 0x0B ∷ 0x00 ∷ (first ++ 0x00 ∷ 0x01 ∷ 0x14 ∷ 0x0B ∷ 0x01 ∷ second)
 
--- lists of packets of virtual channel 5, the first MAPs of it, and none before
+-- lists of packets of virtual channel 5: of its first MAPs, and none on channels before
 abbrev on_5 : List (List (List ℕ)) → List (List (List ℕ))
 on_5 lists = replicate 320 [] ++ lists
 

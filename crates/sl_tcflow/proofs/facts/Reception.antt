@@ -1,5 +1,5 @@
--- Recordings of known octets: their accepted units, series and packets, and the normal form of these, computed from
--- the definitions.
+-- Recordings of known octets: their accepted units, series and packets, and the normal form of these packets,
+-- computed from the definitions.
 use Rattle.std.proofs.Common.{◌≡◌, ℕ, false, List, [], ◌∷◌, ◌++◌, replicate, None, Some, refl}
 use Rattle.sl_packet.specs.Packets.{without_idle}
 use Rattle.sl_tcframe.specs.TcDelimited.{tc_frames_of}
@@ -23,7 +23,7 @@ read max recording = views_of (format max) 1 (tc_frames_of (format max) recordin
 abbrev accepted : ℕ → ℕ → List ℕ → List (List ℕ)
 accepted vr vc recording = accepted_units 10 vr (channel_of vc (read 16 recording))
 
--- the parameters of reception with that width, and this V(R) at the start
+-- the parameters of reception with this width and this initial V(R)
 abbrev from_vr : ℕ → ReceptionParameters
 from_vr vr = record { window = 10; starts = replicate 64 vr; plain = [] }
 
@@ -69,11 +69,11 @@ is_whole = record {
 abbrev short : ℕ → List ℕ
 short ns = 0x00 ∷ 0x01 ∷ 0x00 ∷ 0x06 ∷ ns ∷ 0xC0 ∷ 0x00 ∷ []
 
--- early, late, outside the window, and refused in the lockout state
+-- frames that are early, late, outside the window, and refused in the lockout state
 abbrev not_accepted : List ℕ
 not_accepted = short 0x04 ++ short 0xFB ++ short 0x05 ++ short 0x00
 
--- lockout, Set V(R) that is not obeyed, a frame of type BD, and Unlock
+-- lockout, Set V(R) that isn't obeyed, a frame of type BD, and Unlock
 abbrev bypassing : List ℕ
 bypassing =
     short 0xFA ++ 0x30 ∷ 0x01 ∷ 0x00 ∷ 0x07 ∷ 0x00 ∷ 0x82 ∷ 0x00 ∷ 0x05 ∷ 0x20 ∷ 0x01 ∷ 0x00 ∷ 0x0F ∷ 0x00 ∷ 0xC0 ∷ packet
@@ -116,7 +116,7 @@ first_of_2 = 0x42 ∷ 0x10 ∷ 0x02 ∷ 0xC0 ∷ 0x01 ∷ 0x00 ∷ []
 abbrev last_of_2 : List ℕ
 last_of_2 = 0x82 ∷ 0x00 ∷ 0xEE ∷ []
 
--- a continuing segment without a first one, and then these
+-- a continuing segment without a first one, and then the two series
 abbrev on_two_maps : List ℕ
 on_two_maps =
     0x00 ∷ 0x01 ∷ 0x00 ∷ 0x06 ∷ 0x00 ∷ 0x01 ∷ 0xFF ∷ []
@@ -165,7 +165,7 @@ are_on_two_maps = record {
   normal = refl;
 }
 
--- ---- a series of three on virtual channel 5
+-- ---- a series of three segments on virtual channel 5
 
 -- frames with these N(S)
 abbrev divided : ℕ → ℕ → ℕ → List ℕ
@@ -184,9 +184,9 @@ on_5 = replicate 320 [] ++ (longer ∷ []) ∷ []
 pub record AreDivided : Type 0 where
   pub delivers : packets 0 5 0 (divided 0x00 0x01 0x02) ≡ longer ∷ []
   pub normal : form 0 on_5 ≡ divided 0x00 0x01 0x02
-  -- the first V(R) is 255, and each of them is early,
+  -- with the initial V(R) 255, each of the frames is early
   pub early : accepted 255 5 (divided 0x00 0x01 0x02) ≡ []
-  -- or they begin with that N(S)
+  -- with the initial V(R) 255, the frames begin with N(S) 255
   pub delivers_at_255 : packets 255 5 0 (divided 0xFF 0x00 0x01) ≡ longer ∷ []
   pub normal_at_255 : form 255 on_5 ≡ divided 0xFF 0x00 0x01
 
@@ -199,7 +199,7 @@ are_divided = record {
   normal_at_255 = refl;
 }
 
--- ---- two packets in one unit, the second an idle one
+-- ---- two packets in one unit, the second one idle
 
 abbrev idle : List ℕ
 idle = 0x07 ∷ 0xFF ∷ 0xC0 ∷ 0x00 ∷ 0x00 ∷ 0x00 ∷ 0x00 ∷ []
@@ -227,7 +227,7 @@ of_both_types =
 abbrev at_last : List ℕ
 at_last = 0x00 ∷ 0x01 ∷ 0xFC ∷ 0x0F ∷ 0xFF ∷ 0xFF ∷ packet
 
--- two unsegmented units: octets that are left after the packet of the first one would be completed by the second one
+-- two unsegmented units: the second one would complete the octets that are left after the packet of the first one
 abbrev with_rest : List ℕ
 with_rest = 0xC0 ∷ packet ++ 0x10 ∷ 0x02 ∷ 0xC0 ∷ []
 
@@ -239,7 +239,7 @@ pub record AreAtLimits : Type 0 where
   pub empty_last : packets_on ((0x40 ∷ packet) ∷ (0x80 ∷ []) ∷ []) ≡ packet ∷ []
   pub empty_whole : packets_on ((0xC0 ∷ []) ∷ []) ≡ []
   pub empty_first : incomplete_of ((0x40 ∷ []) ∷ []) ≡ Some []
-  -- an unsegmented unit gives up the series that is incomplete
+  -- an unsegmented unit drops the incomplete series
   pub whole_between : packets_on (first_of_2 ∷ (0xC2 ∷ packet) ∷ last_of_2 ∷ []) ≡ packet ∷ []
   pub left_over : packets_on (with_rest ∷ completing ∷ []) ≡ packet ∷ []
   pub both_types : packets 0 0 0 of_both_types ≡ packet ∷ []

@@ -1,5 +1,5 @@
--- Known frames that arrive out of order, lost and repeated, so that the laws on them aren't empty, and what becomes of
--- copies that are too far away and of packets between whose segments a frame of type BD comes.
+-- Known frames that arrive out of order, lost and repeated. They show that the laws aren't empty, what FARM-1 does
+-- with copies that are too far away, and what a frame of type BD between the segments of a packet does.
 use Rattle.std.proofs.Common.{◌≡◌, ◌≢◌, ℕ, ◌/◌, ◌%◌, true, false, List, [], ◌∷◌, ◌++◌, get_or, map, replicate, refl, ap, arith, rules}
 use Rattle.std.specs.List.{range_with_len}
 use mathlib.Core.List.{IsPrefix}
@@ -22,7 +22,7 @@ use Rattle.sl_tcflow.proofs.lemmas.Reception.Reordered.{recorded_on}
 abbrev format : TcFormat
 format = record { max = 16; fecf = false }
 
--- a window of width 10, and V(R) 0 at the start
+-- a window of width 10, and the initial V(R) 0
 abbrev from_0 : ReceptionParameters
 from_0 = record { window = 10; starts = replicate 64 0; plain = [] }
 
@@ -89,7 +89,7 @@ is_reordered = record {
 
 -- ---- frames of all types, while V(R) passes 255
 
--- unit k of those that were sent, and a copy of its frame
+-- the sent unit of number `k`, and a copy of its frame
 abbrev numbered : ℕ → List ℕ
 numbered k = 0xC0 ∷ k / 256 ∷ k % 256 ∷ []
 
@@ -173,7 +173,7 @@ are_far = record {
   vr = refl;
 }
 
--- ---- copies that are 256 away from the frame that is expected
+-- ---- copies that are 256 away from the expected frame
 
 pub record AreTooFar : Type 0 where
   pub ahead : accepted_ad_units 10 254 (copy 256 ∷ []) ≡ numbered 256 ∷ []
@@ -194,7 +194,7 @@ last_unit octet = 0x80 ∷ octet ∷ octet ∷ octet ∷ octet ∷ []
 abbrev divided : List (List ℕ)
 divided = header_unit ∷ last_unit 0xAA ∷ []
 
--- Between the two a frame of type BD comes, with a last segment too.
+-- a frame of type BD with a last segment comes between the two
 abbrev between : List TcView
 between =
     record { vc = 0; content = Ad 0 header_unit } ∷ record { vc = 0; content = Bd (last_unit 0xBB) } ∷ record { vc = 0; content = Ad 1 (last_unit 0xAA) } ∷ []
@@ -211,8 +211,8 @@ between_in_window =
 not_as_sent : IsPrefix (packet 0xBB ∷ []) (packet 0xAA ∷ []) → ⊥
 not_as_sent (more, same) = let octet : 0xBB ≡ 0xAA = ap (λ l. get_or (get_or l 0 []) 6 0) same in omega (arith, octet)
 
--- The units of type AD are accepted as they were sent. A packet is delivered that none of them make, and the one that
--- they make is not.
+-- The units of type AD are accepted as they were sent. A packet is delivered that none of them make, and the packet
+-- that they make isn't.
 pub record BdMatters : Type 0 where
   pub units : accepted_ad_units 10 0 (channel_of 0 between) ≡ divided
   pub packets : packets_on (segments_of from_0 0 0 between) ≡ packet 0xBB ∷ []

@@ -1,4 +1,4 @@
--- What holds of each element of a list, and lists that are filtered by it.
+-- Properties of each element of a list, and lists that a property filters.
 use Rattle.std.proofs.Common.{◌≡◌, ◌≢◌, ℕ, zero, suc, ◌+◌, ◌<◌, ◌≤◌, ◌==◌, Bool, true, false, List, [], ◌∷◌, ◌++◌, length, map, flat_map, filter, inl, inr, refl, sym, ◌∙◌, ap, arith, append-nil, eq-eqb, ne_eqb}
 use Rattle.std.specs.List.{AllByRecursion, range_with_len}
 use Rattle.std.proofs.lemmas.Bool.Decides.{eqb_tells}
@@ -11,7 +11,7 @@ each-flat_map_range P f from (suc n) each =
     each-append P (f from) (flat_map f (range_with_len (from + 1) n)) (each from (omega arith))
     (each-flat_map_range P f (from + 1) n (λ i below. each i (omega arith)))
 
--- the elements with a key, among lists each of one key, by rising key
+-- the elements with a key, in lists by rising key with one key each
 module _ {X : Type 0} (key : X → ℕ) (f : ℕ → List X) (each : (i : ℕ) → AllByRecursion (λ x. key x ≡ i) (f i)) (k : ℕ) where
   abbrev has_key : X → Bool
   has_key x = key x == k
@@ -41,7 +41,7 @@ module _ {X : Type 0} (key : X → ℕ) (f : ℕ → List X) (each : (i : ℕ) �
             ap (λ l. l ++ filter has_key later) (key_none from other) ∙ own_part (from + 1) n (omega (arith, other, above)) (omega arith)
       ]
 
--- lists that are as long as is said of what they are made of
+-- lists whose lengths are the sizes of the elements that they are made from
 pub short_all : {X : Type 0} (f : X → List ℕ) (size : X → ℕ) → ((x : X) → length (f x) ≡ size x) → (n : ℕ) (xs : List X)
     → AllByRecursion (λ x. size x ≤ n) xs → AllByRecursion (λ l. length l ≤ n) (map f xs)
 short_all f size same n [] each = tt

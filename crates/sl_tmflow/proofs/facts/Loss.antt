@@ -1,5 +1,5 @@
--- What is left of small channels when frames are lost, computed from the definitions, and what too many lost frames
--- would do.
+-- The deliveries that small channels keep when frames are lost, and the effect of too many lost frames, computed from
+-- the definitions.
 use Rattle.std.proofs.Common.{◌≡◌, ℕ, zero, suc, ◌+◌, ◌%◌, ◌<◌, true, false, List, [], ◌∷◌, ◌++◌, length, take, drop, map, refl, ◌∙◌, arith, eq-eqb}
 use Rattle.sl_tmframe.specs.TmFrame.{TmFormat, TmView, Opaque}
 use Rattle.sl_tmflow.specs.Channel.{AreConsecutive, follows}
@@ -11,18 +11,18 @@ use Rattle.sl_tmflow.proofs.facts.Incomplete.{begun, first, frame, idle, long, p
 
 -- ---- one frame is lost
 
--- two packets that go on in the next frame, and counts that start at 0 again
+-- two packets that go on in the next frame, and counts that begin at 0 again
 abbrev pub channel : List TmView
 channel = first 254 ∷ second 255 ∷ first 0 ∷ second 1 ∷ []
 
--- without the frame of number 1
+-- the channel without the frame of number 1
 abbrev pub numbers : List ℕ
 numbers = 0 ∷ 2 ∷ 3 ∷ []
 
 abbrev pub kept : List TmView
 kept = first 254 ∷ first 0 ∷ second 1 ∷ []
 
--- the element between those before it and those after it
+-- the element with this number, between those before it and those after it
 pub stands : {X : Type 0} (list : List X) (number : ℕ) (x : X) → list ≡ take number list ++ x ∷ drop (number + 1) list → number ≡ length (take number list)
     → HasNumber list number x
 stands list number x in_order counted =
@@ -52,9 +52,9 @@ is_same = record {
 
 pub record OneIsLost : Type 0 where
   pub whole : packets_delivered (deliveries_of channel) ≡ long ∷ (begun ++ remainder) ∷ packet ∷ idle ∷ long ∷ (begun ++ remainder) ∷ packet ∷ idle ∷ []
-  -- those of which a frame was lost
+  -- the deliveries that lost a frame
   pub lost : map (keeps_run numbers) (deliveries_of channel) ≡ true ∷ false ∷ false ∷ false ∷ true ∷ true ∷ true ∷ true ∷ []
-  -- are missing, and no others
+  -- the deliveries that lost a frame are missing, and no others
   pub left :
       deliveries_of kept
       ≡ delivery_with 0 0 0 long ∷ delivery_with 1 0 1 long ∷ delivery_with 1 23 2 (begun ++ remainder) ∷ delivery_with 2 7 2 packet ∷ delivery_with 2 17 2 idle ∷ []
@@ -66,21 +66,21 @@ one_is_lost = record {
   left = refl;
 }
 
--- ---- as many as may be, and one more
+-- ---- as many lost frames as may be, and one more
 
--- so many opaque frames, with counts from this one on
+-- `n` opaque frames, with counts from this one on
 abbrev pub opaques : ℕ → ℕ → List TmView
 opaques count zero = []
 opaques count (suc n) = frame (count % 256) Opaque ∷ opaques (count + 1) n
 
--- a frame in which a packet begins, so many opaque ones, and one that would end the packet
+-- a frame where a packet begins, `lost` opaque frames, and a frame that would end the packet
 abbrev pub last_after : ℕ → TmView
 last_after lost = second ((lost + 1) % 256)
 
 abbrev pub through : ℕ → List TmView
 through lost = first 0 ∷ (opaques 1 lost ++ last_after lost ∷ [])
 
--- the opaque ones are lost
+-- the channel without the opaque frames
 abbrev pub ends_of : ℕ → List TmView
 ends_of lost = first 0 ∷ last_after lost ∷ []
 
@@ -88,7 +88,7 @@ pub opaques_long : (count n : ℕ) → length (opaques count n) ≡ n
 opaques_long count zero = refl
 opaques_long count (suc n) = omega (arith, opaques_long (count + 1) n)
 
--- they have no gap where the frames after them have none
+-- opaque frames have no gap where the frames after them have none
 pub goes_through : (view : TmView) (count n : ℕ) (later : List TmView) → view.vc_count ≡ count % 256
     → ((last : TmView) → last.vc_count ≡ (count + n) % 256 → AreConsecutive last later) → AreConsecutive view (opaques (count + 1) n ++ later)
 goes_through view count zero later here goes_on =
@@ -101,14 +101,14 @@ goes_through view count (suc n) later here goes_on =
       goes_through (frame ((count + 1) % 256) Opaque) (count + 1) n later refl (λ last at. goes_on last (at ∙ as_many)),
     )
 
--- whatever their number, the channel has no gap
+-- the channel has no gap, for any number of opaque frames
 pub no_gap_through : (lost : ℕ) → HasNoGap (through lost)
 no_gap_through lost =
     goes_through (first 0) 0 lost (last_after lost ∷ []) refl
     (λ last at. let next : (lost + 1) % 256 ≡ (last.vc_count + 1) % 256 = omega (arith, at) in
     (eq-eqb ((lost + 1) % 256) ((last.vc_count + 1) % 256) next, tt))
 
--- and the two frames have their numbers
+-- the two kept frames have their numbers
 pub ends_have_numbers : (lost : ℕ) → HaveNumbers (through lost) (0 ∷ (lost + 1) ∷ []) (ends_of lost)
 ends_have_numbers lost = (
   record {
@@ -128,7 +128,7 @@ ends_have_numbers lost = (
   ),
 )
 
--- so up to 255 of them may be lost
+-- up to 255 opaque frames may be lost
 pub ends_are_kept : (lost : ℕ) → lost < 256 → AreKept (through lost) (0 ∷ (lost + 1) ∷ []) (ends_of lost)
 ends_are_kept lost few =
     record {
@@ -137,7 +137,7 @@ ends_are_kept lost few =
       frames = ends_have_numbers lost;
     }
 
--- the count of the last frame tells of 255 lost ones, and not of 256
+-- the count of the last frame shows that 255 frames are lost, and not that 256 are
 pub record AreTold : Type 0 where
   pub none : follows 0 (last_after 0).vc_count ≡ true
   pub one : follows 0 (last_after 1).vc_count ≡ false
@@ -154,12 +154,12 @@ are_told = record {
   lost_256 = refl;
 }
 
--- what the frames deliver
+-- the packets that the frames deliver
 pub record AreFar : Type 0 where
-  -- with 255 lost, what all of them do,
+  -- with 255 lost frames, the kept frames deliver what all frames deliver
   pub whole_255 : packets_delivered (deliveries_of (through 255)) ≡ long ∷ packet ∷ idle ∷ []
   pub left_255 : packets_delivered (deliveries_of (ends_of 255)) ≡ long ∷ packet ∷ idle ∷ []
-  -- but with 256 lost a packet that is none of theirs
+  -- with 256 lost frames, the kept frames deliver a packet that all frames don't
   pub whole_256 : packets_delivered (deliveries_of (through 256)) ≡ long ∷ packet ∷ idle ∷ []
   pub left_256 : packets_delivered (deliveries_of (ends_of 256)) ≡ long ∷ (begun ++ remainder) ∷ packet ∷ idle ∷ []
 
@@ -186,15 +186,15 @@ first_octets count = 0x00 ∷ 0x10 ∷ count ∷ count ∷ 0x18 ∷ 0x00 ∷ (lo
 abbrev pub second_octets : ℕ → List ℕ
 second_octets count = 0x00 ∷ 0x10 ∷ count ∷ count ∷ 0x18 ∷ 0x07 ∷ (remainder ++ packet ++ idle)
 
--- and of one on virtual channel 7
+-- the octets of a frame on virtual channel 7
 abbrev pub other_octets : ℕ → List ℕ
 other_octets count = 0x00 ∷ 0x1E ∷ count ∷ count ∷ 0x18 ∷ 0x00 ∷ (long ++ begun)
 
--- frames on virtual channel 0 without a gap, and on virtual channel 7 with one
+-- frames on virtual channel 0 without a gap, and on virtual channel 7 with a gap
 abbrev pub recording : List ℕ
 recording = first_octets 254 ++ (other_octets 3 ++ (second_octets 255 ++ (first_octets 0 ++ (other_octets 5 ++ second_octets 1))))
 
--- the same with another version in the third frame, so that it is skipped
+-- the same recording with another version in the third frame, which is then skipped
 abbrev pub damaged : List ℕ
 damaged =
     first_octets 254 ++ (other_octets 3 ++ (0x40 ∷ drop 1 (second_octets 255) ++ (first_octets 0 ++ (other_octets 5 ++ second_octets 1))))

@@ -1,5 +1,4 @@
--- What the laws on lost frames say at their edges, and where a premise of theirs is missing, computed from the
--- definitions.
+-- The laws on lost frames at their edges, and where one of their premises is missing, computed from the definitions.
 use Rattle.std.proofs.Common.{◌≡◌, ℕ, ◌+◌, ◌%◌, true, false, List, [], ◌∷◌, ◌++◌, map, inl, inr, refl, sym, subst, arith, eq-eqb, append_assoc, append-nil, length-append}
 use Rattle.sl_tmframe.specs.TmFrame.{TmView, Idle, Opaque}
 use Rattle.sl_tmflow.specs.Among.{IsAmong}
@@ -12,14 +11,14 @@ use Rattle.sl_tmflow.proofs.facts.Loss.{channel, goes_through, opaques, opaques_
 
 -- ---- a channel with gaps
 
--- Without the frame with count 9 the counts of the others are consecutive.
+-- Without the frame with count 9, the counts of the others are consecutive.
 abbrev pub with_gaps : List TmView
 with_gaps = first 0 ∷ second 9 ∷ second 1 ∷ []
 
 abbrev pub joined : List TmView
 joined = first 0 ∷ second 1 ∷ []
 
--- what its packets are, and what the other two frames deliver
+-- the packets of the channel, and that the packet of the other two frames isn't one of them
 abbrev pub gap_packets : List (List ℕ)
 gap_packets = long ∷ packet ∷ idle ∷ packet ∷ idle ∷ []
 
@@ -31,7 +30,7 @@ not_among (inr (inr (inr (inl same)))) = cc
 not_among (inr (inr (inr (inr (inl same))))) = cc
 not_among (inr (inr (inr (inr (inr none))))) = none
 
--- So they deliver a packet that is none of its packets, though one frame alone is lost.
+-- The two kept frames deliver a packet that isn't one of the channel's, although only one frame is lost.
 pub record GapsMatter : Type 0 where
   pub gap : HasNoGap with_gaps → ⊥
   pub few : FewAreLost (0 ∷ 2 ∷ [])
@@ -59,7 +58,7 @@ gaps_matter = record {
 abbrev pub with_idle : List TmView
 with_idle = first 254 ∷ second 255 ∷ first 0 ∷ frame 1 Idle ∷ second 2 ∷ []
 
--- the idle frame is lost, or the second frame is
+-- the channel without the idle frame, and without the second frame
 abbrev pub without_idle_frame : List TmView
 without_idle_frame = first 254 ∷ second 255 ∷ first 0 ∷ second 2 ∷ []
 
@@ -88,12 +87,12 @@ second_is_lost = record {
 
 pub record IdleFramesCount : Type 0 where
   pub whole : packets_delivered (deliveries_of with_idle) ≡ long ∷ (begun ++ remainder) ∷ packet ∷ idle ∷ long ∷ (begun ++ remainder) ∷ packet ∷ idle ∷ []
-  -- The lost idle frame costs the packet that goes past it,
+  -- the lost idle frame costs the packet that goes past it
   pub lost : map (keeps_run (0 ∷ 1 ∷ 2 ∷ 4 ∷ [])) (deliveries_of with_idle) ≡ true ∷ true ∷ true ∷ true ∷ true ∷ false ∷ true ∷ true ∷ []
   pub left : packets_delivered (deliveries_of without_idle_frame) ≡ long ∷ (begun ++ remainder) ∷ packet ∷ idle ∷ long ∷ packet ∷ idle ∷ []
-  -- though all octets of packets were kept.
+  -- all octets of packets were kept
   pub octets : reassembly [] without_idle_frame ≡ reassembly [] with_idle
-  -- Where the idle frame was kept with the others of the packet, the packet is left.
+  -- the packet is left where the idle frame was kept with the packet's other frames
   pub kept : map (keeps_run (0 ∷ 2 ∷ 3 ∷ 4 ∷ [])) (deliveries_of with_idle) ≡ true ∷ false ∷ false ∷ false ∷ true ∷ true ∷ true ∷ true ∷ []
   pub packets :
       deliveries_of without_second
@@ -111,7 +110,7 @@ idle_frames_count = record {
 
 -- ---- frames lost before the first one that was kept, and after the last one
 
--- the first frame and the last one are lost
+-- the channel without its first and its last frame
 abbrev pub inner : List TmView
 inner = second 255 ∷ first 0 ∷ []
 
@@ -122,8 +121,8 @@ inner_are_kept = record {
   frames = (stands channel 1 (second 255) refl refl, (stands channel 2 (first 0) refl refl, tt));
 }
 
--- Of frames that deliver no packet any number may be lost: one more than this before the two that are kept, and this
--- many after them.
+-- Frames that deliver no packet, in any number: `lost` + 1 of them are lost before the two kept frames, and `lost`
+-- after them.
 abbrev pub amid : ℕ → List TmView
 amid lost = frame 0 Opaque ∷ (opaques 1 lost ++ first ((lost + 1) % 256) ∷ second ((lost + 2) % 256) ∷ opaques (lost + 2 + 1) lost)
 
@@ -167,11 +166,11 @@ two_are_kept lost =
     }
 
 pub record EndsAreLost : Type 0 where
-  -- a packet that starts in the lost first frame, and one that ends in the lost last one, are lost, and no others of
+  -- a packet that starts in the lost first frame and one that ends in the lost last frame are lost, and no others of
   -- these two frames
   pub lost : map (keeps_run (1 ∷ 2 ∷ [])) (deliveries_of channel) ≡ false ∷ false ∷ true ∷ true ∷ true ∷ false ∷ false ∷ false ∷ []
   pub left : packets_delivered (deliveries_of inner) ≡ packet ∷ idle ∷ long ∷ []
-  -- more than 256 frames are lost at either end, and no packet
+  -- more than 256 frames are lost at either end, and no packet is
   pub whole_300 : packets_delivered (deliveries_of (amid 300)) ≡ long ∷ (begun ++ remainder) ∷ packet ∷ idle ∷ []
   pub left_300 : packets_delivered (deliveries_of (two 300)) ≡ long ∷ (begun ++ remainder) ∷ packet ∷ idle ∷ []
 

@@ -4,7 +4,7 @@ use Rattle.sl_fields.specs.Field.{octets_of}
 use Rattle.sl_packet.specs.IdlePacket.{idle_fields, idle_packet}
 use Rattle.sl_packet.proofs.idle.push_idle.Goals as goal
 
--- the octets after the header is added and then zeros up to an end
+-- the octets after the header and then zeros were added
 filled_up : {A E : Type 0} (r : Result A E) (old mid new header : List ℕ) (start end len : ℕ) → mid ≡ old ++ header → header ≡ octets_of 6 (idle_fields len) → length mid ≡ start → start + (len - 6) ≡ end → new ≡ (if is_ok r then take end mid ++ replicate (end - start) 0 else mid) → OnOk r (new ≡ old ++ idle_packet len)
 unfolding idle_packet
 filled_up (Ok a) old mid new header start end len added is_header long ends e =

@@ -1,5 +1,5 @@
--- What is amiss with a segment of a MAP, as it is told: told exactly where it is, and told from the series that is
--- incomplete before that segment.
+-- The anomalies of a segment of a MAP are reported exactly where they are, and from the series that is incomplete
+-- before the segment.
 use Rattle.std.proofs.Common.{◌≡◌, ◌⊎◌, ℕ, ◌+◌, ◌<◌, ◌==◌, ◌&&◌, ◌||◌, Bool, true, false, if◌then◌else◌, List, [], ◌∷◌, length, Option, None, Some, inl, inr, refl, sym, ◌∙◌, ap, eqb-true, lt-ltb}
 use Rattle.std.proofs.lemmas.Bool.{ltb-true}
 use Rattle.std.proofs.lemmas.Bool.Decides.{eqb_tells}
@@ -18,12 +18,12 @@ use Rattle.std.proofs.lemmas.Bool.{and_parts}
 
 -- ---- the accepted unit of the next frame
 
--- without one there is nothing to tell
+-- without an accepted unit nothing is reported
 pub told_none : {X : Type 0} (none : X) (told : List (List ℕ) → List ℕ → X) (r : ReceptionParameters) (views : List TcView) (next : TcView)
     → segment_by r views next ≡ [] → of_accepted none told r views next ≡ none
 told_none none told r views next e = ap (of_segment none (told (segments_of r next.vc (map_by r next) views))) e
 
--- of one it is told from what is incomplete at its index
+-- with an accepted unit, the report depends on the series that is incomplete at the unit's index
 module _ (r : ReceptionParameters) (old : List (Option (List ℕ))) (views : List TcView) (next : TcView) (unit : List ℕ) where
   told_more : {X : Type 0} (none : X) (told : List (List ℕ) → List ℕ → X) (from : Option (List ℕ) → List ℕ → X)
       → ((list : List (List ℕ)) (segment : List ℕ) → told list segment ≡ from (incomplete_of list) segment)

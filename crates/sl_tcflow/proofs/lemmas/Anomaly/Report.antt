@@ -1,4 +1,4 @@
--- The report of the next frame, from what is incomplete at the index of its unit.
+-- The report on the next frame, from the series that is incomplete at the index of its unit.
 use Rattle.std.proofs.Common.{◌≡◌, ℕ, ◌<◌, false, List, [], ◌∷◌, Option, None, refl, sym, ◌∙◌}
 use Rattle.sl_cop.specs.declared.verdict.Verdict.{Verdict}
 use Rattle.sl_cop.specs.declared.verdict.Verdict.TheVariants.{Accept}
@@ -13,7 +13,7 @@ use Rattle.sl_tcflow.specs.StepReport.{StepReport}
 use Rattle.sl_tcflow.proofs.lemmas.Anomaly.Anomaly.{told_at, told_none}
 use Rattle.sl_tcflow.proofs.lemmas.Reception.Ended.{tail_next}
 
--- of a frame whose unit is accepted
+-- the report on a frame whose unit is accepted
 pub reported_more : (r : ReceptionParameters) (old : List (Option (List ℕ))) (views : List TcView) (next : TcView) (unit : List ℕ) (vc : ℕ) (step : StepReport)
     → AreIncomplete r old views → next.vc < 64 → segment_by r views next ≡ unit ∷ []
     → map_by r next ≡ (header_at unit).map → vc ≡ next.vc → verdict_on r views next ≡ Accept
@@ -27,7 +27,7 @@ reported_more r old views next unit vc step are inside unit_is mid_is same_vc ac
       tail = told_at r old views next unit 0 tail_of tail_after tail_next vc step.tail are inside unit_is mid_is same_vc reported.tail;
     }
 
--- and of one without an accepted unit
+-- the report on a frame without an accepted unit
 pub reported_none : (r : ReceptionParameters) (views : List TcView) (next : TcView) (verdict : Verdict) → verdict ≡ verdict_on r views next
     → segment_by r views next ≡ [] → IsReportedOf r views next (record quiet_report { verdict = verdict })
 reported_none r views next verdict is none =

@@ -1,4 +1,5 @@
--- What is left after the packets of the service data unit that ends with a segment: told exactly as it is.
+-- The octets that are left after the packets of the service data unit that ends with a segment are reported exactly
+-- as they are.
 use Rattle.std.proofs.Common.{◌≡◌, ◌⊎◌, ℕ, ◌+◌, ◌<◌, ◌==◌, ◌&&◌, Bool, true, false, if◌then◌else◌, List, [], ◌∷◌, ◌++◌, length, inl, inr, refl, sym, ◌∙◌, ap, subst, arith, append-nil, eqb-true, le-leb, Contains}
 use Rattle.std.specs.List.{AllByRecursion, flat_map}
 use Rattle.std.proofs.lemmas.Bool.Decides.{leb_tells}
@@ -39,7 +40,7 @@ ending_one before (segment ∷ later) next =
 abbrev left_of : List SeriesAt → List ℕ
 left_of list = flat_map (λ (s : SeriesAt). left_in s.segments) list
 
--- what is left of it
+-- the octets that are left of the service data unit that ends with the segment
 tail_ending : (list : List (List ℕ)) (next : List ℕ) (s : SeriesAt) → series_ending 0 list next ≡ s ∷ [] → tail_of list next ≡ length (left_in s.segments)
 tail_ending list next s one = ap (λ l. length (left_of l)) (ending_is list next ∙ one) ∙ ap length (append-nil (left_in s.segments))
 
@@ -60,7 +61,7 @@ tail_is_told list next count x =
     ∙ ap (λ b. length (if b then rest_of octets else [])) (le-leb (length octets) 65542 x.fits)
     ∙ ap length (has_packets_once octets x.packets x.left x.are_packets).1 ∙ sym x.count_is
 
--- ---- what is told
+-- ---- the report on octets that are left
 
 told_of : (list : List (List ℕ)) (next : List ℕ) (s : SeriesAt) → series_ending 0 list next ≡ s ∷ [] → 0 < tail_of list next → HasTail list next (tail_of list next)
 told_of list next s one some =

@@ -46,7 +46,7 @@ views_are format spacecraft starts plain lists is known are fits =
 
 -- ---- the packets of a channel
 
--- none of the packets that may be delivered is left out
+-- no packet is left out of packets that may be delivered
 none_idle : (packets : List (List ℕ)) → AllByRecursion IsDeliverable packets → without_idle packets ≡ packets
 none_idle packets each =
     filter_all (λ packet. not (is_idle_packet packet)) packets

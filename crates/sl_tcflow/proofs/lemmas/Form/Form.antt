@@ -1,4 +1,4 @@
--- The frames of the normal form as they are read back, virtual channel by virtual channel, and accepted.
+-- The frames of the normal form, as they are read back, virtual channel by virtual channel, and accepted.
 use Rattle.std.proofs.Common.{◌≡◌, ℕ, zero, suc, ◌+◌, ◌*◌, ◌%◌, ◌<◌, ◌≤◌, Bool, true, false, List, [], ◌∷◌, ◌++◌, length, take, drop, flat_map, refl, sym, ◌∙◌, ap, ap₂, subst, arith, length-append, length-take}
 use Rattle.std.specs.Result.{result_ok}
 use Rattle.std.specs.List.{AllByRecursion, cons_option, range_with_len, slice_index_or}
@@ -30,11 +30,11 @@ use Rattle.sl_tcflow.proofs.lemmas.Series.Segment.{IsSegment, maps_parts, segmen
 not_ahead : (vr : ℕ) → vr < 256 → distance vr vr ≡ 0
 not_ahead vr small = omega arith
 
--- the frame that is expected is accepted, whatever the window
+-- the expected frame is accepted, for every window
 expected : (w vr : ℕ) → vr < 256 → farm_step w (farm_start vr) (event.Ad vr) ≡ (Accept, farm_start ((vr + 1) % 256))
 expected w vr small = ap (λ d. (verdict_in (area_of w d), state_in (area_of w d) (farm_start vr))) (not_ahead vr small)
 
--- what frames of type AD of units are read as, N(S) from a number on
+-- the views of frames of type AD of these units, with N(S) from `ns` on
 abbrev pub views_from : ℕ → ℕ → List (List ℕ) → List TcView
 views_from vc ns [] = []
 views_from vc ns (unit ∷ units) = record { vc = vc; content = Ad (ns % 256) unit } ∷ views_from vc (ns + 1) units
@@ -43,7 +43,7 @@ pub on_channel : (vc ns : ℕ) (units : List (List ℕ)) → AllByRecursion (λ 
 on_channel vc ns [] = tt
 on_channel vc ns (unit ∷ units) = (refl, on_channel vc (ns + 1) units)
 
--- from V(R) on, all are accepted
+-- frames with N(S) from V(R) on are all accepted
 pub all_accepted : (w vc ns vr : ℕ) (units : List (List ℕ)) → vr < 256 → ns % 256 ≡ vr → accepted_units w vr (views_from vc ns units) ≡ units
 all_accepted w vc ns vr [] small same = refl
 all_accepted w vc ns vr (unit ∷ units) small same =
@@ -56,7 +56,7 @@ all_accepted w vc ns vr (unit ∷ units) small same =
 
 -- ---- the units of a virtual channel
 
--- its 64 lists of packets, among those of all channels
+-- the 64 lists of packets of a virtual channel, among those of all channels
 abbrev pub lists_on : List (List (List ℕ)) → ℕ → List (List (List ℕ))
 lists_on lists vc = take 64 (drop (64 * vc) lists)
 
@@ -104,7 +104,7 @@ module _ (format : TcFormat) (spacecraft : ℕ) (is : IsFormat format) (known : 
         inside = s.1;
       }
 
-  -- what is so of each frame that fits is so of all
+  -- a property of each frame that fits holds for all frames
   each_of_units : (P : List ℕ → Type 0)
       → ((vc ns : ℕ) (unit : List ℕ) → FitAdFrame format spacecraft vc ns unit → P (ad_frame format spacecraft vc ns unit))
       → (vc ns : ℕ) (units : List (List ℕ)) → vc ≤ 63 → AllByRecursion (IsUnit format) units

@@ -1,4 +1,4 @@
--- What is left of the normal form, packet by packet and channel by channel.
+-- The octets of the normal form that are still to come, packet by packet and channel by channel.
 use Rattle.std.proofs.Common.{◌≡◌, ℕ, zero, suc, ◌+◌, ◌-◌, ◌*◌, ◌/◌, ◌%◌, ◌<◌, ◌≤◌, ◌==◌, Bool, true, false, if◌then◌else◌, List, [], ◌∷◌, ◌++◌, length, take, drop, flat_map, inl, inr, refl, sym, ◌∙◌, ap, ap₂, subst, arith, append_assoc, append-nil, length-append, ne_eqb}
 use Rattle.std.specs.List.{concat, range_with_len, slice_index_or}
 use Rattle.std.proofs.lemmas.Bool.Decides.{eqb_tells, leb_tells}
@@ -19,7 +19,7 @@ use Rattle.sl_tcflow.specs.TcNormalForm.{segment_count, segment_of, units_of_pac
 use Rattle.sl_tcflow.proofs.lemmas.Series.Part.{some_parts}
 use Rattle.sl_tcflow.proofs.lemmas.Form.Pushed.{frames_from_same, frames_from-append}
 
--- the MAPs from one on are that one and those after it
+-- the MAPs from one on are this one and those after it
 split_maps : (b : Bool) (room mid n : ℕ) (lists : List (List (List ℕ)))
     → units_of_maps b room mid (take (suc n) lists) ≡ flat_map (units_of_packet b room mid) (slice_index_or lists 0 []) ++ units_of_maps b room (mid + 1) (take n (drop 1 lists))
 split_maps b room mid n [] = sym (ap (units_of_maps b room (mid + 1)) (take-nil n))
@@ -35,7 +35,7 @@ module _ (format : TcFormat) (spacecraft : ℕ) (starts plain : List ℕ) (lists
   abbrev left : ℕ → ℕ → ℕ → List ℕ
   left = form_left format spacecraft starts plain lists
 
-  -- whether a virtual channel has no segment headers, and its start
+  -- whether a virtual channel has no segment headers, and its initial V(R)
   abbrev no_headers : ℕ → Bool
   no_headers vc = has_vc plain vc
 
@@ -48,7 +48,7 @@ module _ (format : TcFormat) (spacecraft : ℕ) (starts plain : List ℕ) (lists
   abbrev on_channels : ℕ → ℕ → List ℕ
   on_channels = channels_left format spacecraft starts plain lists
 
-  -- by virtual channel and MAP
+  -- the octets to come, by virtual channel and MAP
   left_is : (vc mid channel framed ns : ℕ) → mid < 64 → channel ≡ 64 * vc + mid
       → left channel framed ns ≡ on_maps vc mid ns (drop framed (list channel)) (take (63 - mid) (drop (channel + 1) lists)) ++ on_channels (vc + 1) (63 - vc)
   unfolding form_left
@@ -57,7 +57,7 @@ module _ (format : TcFormat) (spacecraft : ℕ) (starts plain : List ℕ) (lists
       let m : channel % 64 ≡ mid = omega (arith, is, small) in
       ap₂ (λ a b. on_maps a b ns (drop framed (list channel)) (take (63 - b) (drop (channel + 1) lists)) ++ on_channels (a + 1) (63 - a)) v m
 
-  -- the list of a channel, and those after it, among the lists from it on
+  -- the lists from a channel on are the channel's own and those after it
   first_list : (channel : ℕ) → slice_index_or (drop channel lists) 0 [] ≡ list channel
   first_list channel =
       let same : channel + 0 ≡ channel = omega arith in
@@ -83,7 +83,7 @@ module _ (format : TcFormat) (spacecraft : ℕ) (starts plain : List ℕ) (lists
 
   -- ---- channels whose packets are all framed
 
-  -- the next MAP,
+  -- where a channel's packets are all framed, the octets to come are those from the next MAP on
   to_next_map : (vc mid channel framed ns : ℕ) → mid < 63 → channel ≡ 64 * vc + mid → length (list channel) ≤ framed → left channel framed ns ≡ left (channel + 1) 0 ns
   to_next_map vc mid channel framed ns small is all =
       let b = no_headers vc in
@@ -99,7 +99,7 @@ module _ (format : TcFormat) (spacecraft : ℕ) (starts plain : List ℕ) (lists
       ∙ ap (λ n. flat_map (units_of_packet b room (mid + 1)) (list (channel + 1)) ++ units_of_maps b room (mid + 1 + 1) (take n (drop (channel + 1 + 1) lists))) few)
       ∙ sym (left_is vc (mid + 1) (channel + 1) 0 ns (omega (arith, small)) (omega (arith, is)))
 
-  -- after the last MAP the virtual channels that come next,
+  -- where the last MAP's packets are all framed, the octets to come are those of the next virtual channels
   after_last_map : (vc channel framed ns : ℕ) → channel ≡ 64 * vc + 63 → length (list channel) ≤ framed → left channel framed ns ≡ on_channels (vc + 1) (63 - vc)
   after_last_map vc channel framed ns is all =
       left_is vc 63 channel framed ns (omega arith) is
@@ -115,7 +115,7 @@ module _ (format : TcFormat) (spacecraft : ℕ) (starts plain : List ℕ) (lists
       ∙ ap (λ n. on_maps (vc + 1) 0 (start (vc + 1)) (list (channel + 1)) (take 63 (drop (channel + 1 + 1) lists)) ++ on_channels (vc + 1 + 1) n) few
       ∙ sym (left_is (vc + 1) 0 (channel + 1) 0 (start (vc + 1)) (omega arith) (omega (arith, is)))
 
-  -- and after the last channel nothing
+  -- after the last channel no octets are to come
   pub none_left : (channel framed ns : ℕ) → channel ≡ 4096 → length lists ≡ 4096 → left channel framed ns ≡ []
   none_left channel framed ns is all =
       let here : list channel ≡ [] = get_or_past lists channel [] (omega (arith, is, all)) in
@@ -128,7 +128,7 @@ module _ (format : TcFormat) (spacecraft : ℕ) (starts plain : List ℕ) (lists
   to_end channel framed ns ns' is size all =
       after_last_map 63 channel framed ns (omega (arith, is)) all ∙ sym (none_left (channel + 1) 0 ns' (omega (arith, is)) size)
 
-  -- the N(S) of the first frame on a channel, after that of another one
+  -- the N(S) of the first frame on a channel, after the frames of another channel
   abbrev number : ℕ → ℕ → ℕ → ℕ
   number channel next ns = if next / 64 == channel / 64 then ns else start (next / 64)
 
@@ -160,7 +160,7 @@ module _ (format : TcFormat) (spacecraft : ℕ) (starts plain : List ℕ) (lists
             ∙ ap (λ t. if t then ns else start (next / 64)) (sym (ne_eqb (next / 64) (channel / 64) (λ e. other (omega (arith, e, a, b)))))
       ]
 
-  -- the next channel that has packets
+  -- the octets to come are those from the next channel with packets on
   pub to_later : (k channel next framed ns : ℕ) → next ≡ channel + 1 + k → next ≤ 4096 → length lists ≡ 4096 → length (list channel) ≤ framed
       → ((other : ℕ) → channel + 1 ≤ other → other < next → list other ≡ [])
       → left channel framed ns ≡ left next 0 (number channel next ns)
@@ -183,7 +183,7 @@ module _ (format : TcFormat) (spacecraft : ℕ) (starts plain : List ℕ) (lists
       to_later (next - (channel + 1)) channel next framed ns (omega (arith, after)) inside size all none
       ∙ ap (λ b. left next 0 (if b then ns else start (next / 64))) is
 
-  -- none has
+  -- where no later channel has packets, no octets are to come
   pub to_none : (channel framed ns ns' : ℕ) → channel < 4096 → length lists ≡ 4096 → length (list channel) ≤ framed
       → ((other : ℕ) → channel + 1 ≤ other → other < 4096 → list other ≡ []) → left channel framed ns ≡ left 4096 0 ns'
   to_none channel framed ns ns' inside size all none =
@@ -255,7 +255,7 @@ module _ (format : TcFormat) (spacecraft : ℕ) where
   piece_some b channel ns packet wide long =
       frames_some (channel / 64) ns (units_of_packet b (segment_room_of format) (channel % 64) packet) (some_units b (segment_room_of format) (channel % 64) packet wide long)
 
-  -- where there are no segment headers it is one frame
+  -- where there are no segment headers, the piece is one frame
   pub piece_whole : (b : Bool) (channel ns : ℕ) (packet : List ℕ) → b ≡ true → ns < 256
       → piece_of format spacecraft b channel ns packet ≡ ad_frame format spacecraft (channel / 64) ns packet
   piece_whole false channel ns packet is small = absurd (cc)
@@ -274,7 +274,7 @@ no_packet d channel framed place past =
       | inr (test, low) ↦ absurd (let there : framed < length (list_at d channel) = place.packet low in omega (arith, there, past))
     ]
 
--- what is made and what is left are one form
+-- the octets that are made and those to come are one form
 pub piece_moved : (left made left' made' form : List ℕ) → made ++ left ≡ form → AddsPiece left made left' made' → made' ++ left' ≡ form
 piece_moved left made left' made' form all adds =
     ap (λ l. l ++ left') adds.added ∙ append_assoc made adds.piece left' ∙ ap (λ l. made ++ l) (sym adds.front) ∙ all

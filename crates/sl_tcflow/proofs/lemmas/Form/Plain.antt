@@ -1,4 +1,4 @@
--- The packets of a virtual channel without segment headers, and the segments that they are.
+-- The packets of a virtual channel without segment headers, and their segments.
 use Rattle.std.proofs.Common.{◌≡◌, ℕ, zero, suc, ◌+◌, ◌-◌, ◌*◌, ◌<◌, ◌≤◌, Bool, false, true, List, [], ◌∷◌, ◌++◌, length, take, drop, map, flat_map, inl, inr, refl, sym, ◌∙◌, ap, subst, arith, length-take, length-take-le}
 use Rattle.std.specs.List.{AllByRecursion, range_with_len, slice_index_or}
 use Rattle.std.proofs.lemmas.Bool.Decides.{leb_tells}
@@ -20,14 +20,14 @@ use Rattle.sl_tcflow.proofs.lemmas.Series.Segment.{on_all, on_none, packets_part
 abbrev own : List (List (List ℕ)) → ℕ → List (List (List ℕ))
 own lists vc = take 64 (drop (64 * vc) lists)
 
--- that of a MAP
+-- the list of a MAP
 pub list_on : (lists : List (List (List ℕ))) (vc mid : ℕ) → mid < 64 → slice_index_or (own lists vc) mid [] ≡ slice_index_or lists (64 * vc + mid) []
 list_on lists vc mid fits = get_or-take 64 (drop (64 * vc) lists) mid [] fits ∙ get_or-drop (64 * vc) lists mid []
 
 pub first_on : (lists : List (List (List ℕ))) (vc : ℕ) → slice_index_or (own lists vc) 0 [] ≡ slice_index_or lists (64 * vc) []
 first_on lists vc = let same : 64 * vc + 0 ≡ 64 * vc = omega arith in list_on lists vc 0 (omega arith) ∙ ap (λ n. slice_index_or lists n []) same
 
--- those of the other MAPs are empty where there are no segment headers
+-- the lists of the other MAPs are empty where there are no segment headers
 pub others_empty : (format : TcFormat) (lists : List (List (List ℕ))) (vc : ℕ) → FitsOn format lists vc
     → (mid : ℕ) → 0 < mid → slice_index_or (own lists vc) mid [] ≡ []
 others_empty format lists vc fits mid some =

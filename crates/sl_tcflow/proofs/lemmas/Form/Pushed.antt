@@ -15,7 +15,7 @@ module _ (format : TcFormat) (spacecraft vc : ℕ) where
   abbrev frames_from : ℕ → List (List ℕ) → List (List ℕ)
   frames_from = frames_of_units format spacecraft vc
 
-  -- the N(S) counts modulo 256 alone
+  -- N(S) matters modulo 256 alone
   pub frames_from_same : (ns ns' : ℕ) (units : List (List ℕ)) → ns % 256 ≡ ns' % 256 → frames_from ns units ≡ frames_from ns' units
   frames_from_same ns ns' [] same = refl
   frames_from_same ns ns' (unit ∷ units) same =
@@ -31,7 +31,7 @@ module _ (format : TcFormat) (spacecraft vc : ℕ) where
       ∙ ap (λ n. ad_frame format spacecraft vc (ns % 256) unit ∷ (frames_from (ns + 1) units ++ frames_from n more)) same
 
   module _ (base : List ℕ) (ns : ℕ) where
-    -- the frames of these units were added to a form, the N(S) of the first one `ns`, that of a next one `next`
+    -- the frames of these units were added to a form: the first one has N(S) `ns`, and the next one has N(S) `next`
     pub record IsPushed (units : List (List ℕ)) (next : ℕ) (form : List ℕ) : Type 0 where
       pub form_is : form ≡ base ++ concat (frames_from ns units)
       pub next_is : next ≡ (ns + length units) % 256
@@ -61,7 +61,7 @@ counts_more room packet number some inside =
     let one = suc-mul number room in
     (le-div_iff_mul-le {k = room} {x = suc number} {y = length packet + room - 1} some).1 (omega arith)
 
--- and none after its end
+-- no segment begins after the packet's end
 pub counts_all : (room : ℕ) (packet : List ℕ) (number : ℕ) → 0 < room → length packet ≤ number * room → segment_count room packet ≤ number
 counts_all room packet number some outside =
     let one = suc-mul number room in
@@ -72,12 +72,12 @@ flags_are : (count number : ℕ) → number < count
     → flags_at count number ≡ (if number == 0 then (if number + 1 == count then 3 else 1) else (if number + 1 == count then 2 else 0))
 flags_are count number inside = grind (arith, nat_tests)
 
--- the segment that begins at the packet's front is the first one,
+-- the segment at the packet's front is the first one
 is_first_one : (room len number : ℕ) → 0 < room → number * room < len → (len - number * room == len) ≡ (number == 0)
 is_first_one room len zero some inside = let none = zero-mul room in grind (arith, nat_tests)
 is_first_one room len (suc number) some inside = let one = suc-mul number room in grind (arith, nat_tests)
 
--- and the one that leaves none of it is the last one
+-- the segment that leaves no octets is the last one
 is_last_one : (room : ℕ) (packet : List ℕ) (number : ℕ) → 0 < room → number < segment_count room packet
     → (length packet - number * room - room == 0) ≡ (number + 1 == segment_count room packet)
 is_last_one room packet number some there =
@@ -91,11 +91,11 @@ module _ (format : TcFormat) (spacecraft vc mid : ℕ) (base : List ℕ) (ns roo
   abbrev unit_at : ℕ → List ℕ
   unit_at = segment_of room mid packet
 
-  -- the units of so many segments
+  -- the units of the first segments of the packet
   abbrev units_to : ℕ → List (List ℕ)
   units_to number = map unit_at (range_with_len 0 number)
 
-  -- so many segments of the packet were added, and these octets are left
+  -- the first segments of the packet were added, and these octets are left
   pub record IsDivided (left : List ℕ) (next : ℕ) (form : List ℕ) : Type 0 where
     pub number : ℕ
     pub left_is : left ≡ drop (number * room) packet
@@ -144,7 +144,7 @@ module _ (format : TcFormat) (spacecraft vc mid : ℕ) (base : List ℕ) (ns roo
           → ad_frame format spacecraft vc ns (segment_unit (record { flags = flags; map = mid }) octets) ≡ ad_frame format spacecraft vc ns' (segment_unit (record { flags = flags'; map = mid }) octets')
       same_frame ns ns' flags flags' octets octets' a b c = rw (a, b, c) refl
 
-  -- all of them
+  -- all segments were added
   pub all_divided : (left : List ℕ) (next : ℕ) (form : List ℕ) → 0 < room → length left ≡ 0 → IsDivided left next form
       → IsPushed format spacecraft vc base ns (units_of_packet false room mid packet) next form
   all_divided left next form some none s =
@@ -153,10 +153,10 @@ module _ (format : TcFormat) (spacecraft vc mid : ℕ) (base : List ℕ) (ns roo
       let count : s.number ≡ segment_count room packet = omega (arith, s.so_far, all) in
       subst (λ n. IsPushed format spacecraft vc base ns (units_to n) next form) count s.pushed
 
--- ---- how many octets they have
+-- ---- how many octets the frames have
 
--- octets of the frames of a packet of this size, added to so many octets: not more than twice those of the packet where
--- some of it is left, and 7 more at its end
+-- The frames of a packet of this size were added to `base` octets, and `left` octets of the packet are left. They are
+-- at most twice the octets that were taken, and 7 more at the packet's end.
 pub record AreFew (base size len left : ℕ) : Type 0 where
   pub before_end : 0 < left → len + 2 * left ≤ base + 2 * size
   pub most : len ≤ base + 2 * size + 7
@@ -164,14 +164,14 @@ pub record AreFew (base size len left : ℕ) : Type 0 where
 pub none_few : (base size : ℕ) → AreFew base size base size
 none_few base size = record { before_end = λ some. omega arith; most = omega arith }
 
--- with a frame more
+-- the bound holds with one more frame
 pub few_next : (base size len len' left left' octets around room : ℕ) → 8 ≤ room → around ≤ 8 → 0 < left → octets ≡ min room left → left' ≡ left - room
     → len' ≡ len + (octets + around) → AreFew base size len left → AreFew base size len' left'
 few_next base size len len' left left' octets around room wide thin some taken rest added few =
     let before = few.before_end some in
     record { before_end = λ more. omega (arith, before); most = omega (arith, before) }
 
--- and there is room for it
+-- there is room for one more frame
 pub few_fit : (base size len left octets around room : ℕ) → around ≤ 8 → 0 < left → octets ≡ min room left → AreFew base size len left
     → len + (octets + around) ≤ base + 2 * size + 7
 few_fit base size len left octets around room thin some taken few = let before = few.before_end some in omega (arith, before)

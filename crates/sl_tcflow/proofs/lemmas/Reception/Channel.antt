@@ -1,4 +1,4 @@
--- What one frame more does to the packets of each channel, and to the octets of the series that are incomplete.
+-- What one more frame does to the packets of each channel, and to the octets of the incomplete series.
 use Rattle.std.proofs.Common.{◌≡◌, ◌≢◌, ◌⊎◌, ℕ, ◌+◌, ◌/◌, ◌%◌, ◌<◌, ◌≤◌, ◌==◌, nat_le, Bool, if◌then◌else◌, cond, true, false, List, [], ◌∷◌, ◌++◌, length, map, Option, None, Some, inl, inr, refl, sym, ◌∙◌, ap, ap₂, subst, arith, append-nil, length-append, length-drop, ne_eqb, eq-eqb}
 use Rattle.std.specs.List.{flat_map}
 use Rattle.std.proofs.lemmas.Bool.Decides.{eqb_tells}
@@ -23,7 +23,7 @@ use Rattle.sl_tcflow.proofs.lemmas.Reception.Unit.{ended_none, segments_next}
 
 -- ---- the octets of a service data unit
 
--- the octets so far of an incomplete series, none where no series is incomplete
+-- the octets so far of an incomplete series; none where no series is incomplete
 abbrev pub held_octets : Option (List ℕ) → List ℕ
 held_octets None = []
 held_octets (Some octets) = octets
@@ -44,7 +44,8 @@ module _ (held : Option (List ℕ)) (next : List ℕ) where
   abbrev octets : List ℕ
   octets = segment_data next
 
-  -- what is incomplete after the next segment, and what ends with it, has no octets but those before and its own
+  -- the series that is incomplete after the next segment, and the unit that ends with it, have no octets but those
+  -- before and the segment's
   incomplete_most : (first continuing : Bool)
       → length (held_octets (if first then if_fits octets else if continuing then extended held octets else None)) ≤ length (held_octets held) + length octets
   incomplete_most true continuing = let most = fitting octets (nat_le (length octets) 65542) in omega (arith, most)
@@ -74,8 +75,8 @@ module _ (held : Option (List ℕ)) (next : List ℕ) where
       let most = incomplete_most (flags_of next == 1) (flags_of next == 0) in
       omega (arith, none, most)
 
-  -- the packets that end with a segment, and the octets that are incomplete after it, are no more than the octets that
-  -- were incomplete before it and its own
+  -- the packets that end with a segment and the octets held after it, counted together, are no more than the octets
+  -- held before it and the segment's
   pub ended_within : length (packets_after held next) + length (held_octets (incomplete_after held next)) ≤ length (held_octets held) + length octets
   ended_within =
       elim (eqb_tells (flags_of next) 1) [
@@ -93,14 +94,14 @@ module _ (held : Option (List ℕ)) (next : List ℕ) where
 
 -- ---- the unit of a frame
 
--- its octets
+-- the number of octets of a frame's unit
 abbrev pub unit_len : Content → ℕ
 unit_len (Ad ns unit) = length unit
 unit_len (Bd unit) = length unit
 unit_len Unlock = 0
 unit_len (SetVr vr) = 0
 
--- the segment that it is has no more after its header
+-- the segment of a unit has no more octets after its header than the unit
 octets_within : (plain : Bool) (unit : List ℕ) → length (segment_data (segment_in plain unit)) ≤ length unit
 octets_within true unit = omega (arith, ap length (octets_of_unit (record { flags = 3; map = 0 }, unit)))
 octets_within false unit = omega (arith, length-drop 1 unit)
@@ -127,7 +128,7 @@ small_map plain (Bd unit) = omega arith
 small_map plain Unlock = omega arith
 small_map plain (SetVr vr) = omega arith
 
--- ---- one frame more
+-- ---- one more frame
 
 -- the octets so far of the series that is incomplete on a channel
 abbrev pub held_in : ReceptionParameters → List TcView → ℕ → List ℕ
@@ -140,7 +141,7 @@ module _ (r : ReceptionParameters) (views : List TcView) (next : TcView) where
   abbrev units : List (List ℕ)
   units = segment_by r views next
 
-  -- the segments of its own MAP before it
+  -- the segments of the frame's own MAP before the frame
   abbrev own : List (List ℕ)
   own = segments_of r next.vc (map_by r next) views
 
@@ -152,7 +153,7 @@ module _ (r : ReceptionParameters) (views : List TcView) (next : TcView) where
             ap (segments_on mid) is ∙ ap (λ b. cond b (unit ∷ []) []) (ne_eqb (header_at unit).map mid (λ e. other (sym e ∙ sym map_is)))
       ]
 
-  -- a frame adds nothing to the segments of other channels than its own,
+  -- a frame adds nothing to the segments of other channels than its own
   segments_other : (vc mid : ℕ) → channel_at vc mid ≢ unit_channel r next → segments_of r vc mid after ≡ segments_of r vc mid views
   segments_other vc mid other =
       elim (eqb_tells next.vc vc) [
@@ -164,7 +165,7 @@ module _ (r : ReceptionParameters) (views : List TcView) (next : TcView) where
         | inr (test, apart) ↦ ap (λ l. segments_on mid (map (segment_in (is_plain r vc)) (accepted_units r.window (initial_vr r vc) l))) (other_channel vc views next apart)
       ]
 
-  -- and its unit, if it is accepted, to those of its own
+  -- a frame without an accepted unit adds nothing to the segments of its own channel
   own_none : units ≡ [] → segments_of r next.vc (map_by r next) after ≡ own
   own_none none =
       segments_next r (map_by r next) views next ∙ ap (λ l. own ++ segments_on (map_by r next) l) none ∙ append-nil own

@@ -1,5 +1,5 @@
--- What the service data unit that ends with the next segment of a MAP has, its packets and what is left after them:
--- told from the series that is incomplete before that segment.
+-- The packets of the service data unit that ends with the next segment of a MAP, and the octets after them, from the
+-- series that is incomplete before this segment.
 use Rattle.std.proofs.Common.{◌≡◌, ◌≢◌, ℕ, ◌+◌, ◌==◌, ◌&&◌, nat_le, Bool, true, false, if◌then◌else◌, List, [], ◌∷◌, ◌++◌, length, Option, None, Some, inl, inr, refl, sym, ◌∙◌, ap, append-nil, ne_eqb}
 use Rattle.std.specs.List.{filter, flat_map}
 use Rattle.std.proofs.lemmas.Bool.Decides.{eqb_tells}
@@ -19,21 +19,21 @@ ended_last : (held : Option (List ℕ)) (next : List ℕ) → flags_of next ≡ 
 ended_last held next is =
     ap (λ flags. if flags == 3 then if_fits (segment_data next) else if flags == 2 then extended held (segment_data next) else None) is
 
--- what was incomplete matters to a last segment alone
+-- the incomplete series matters to a last segment alone
 ended_other : (held other : Option (List ℕ)) (next : List ℕ) → flags_of next ≢ 2 → service_unit_ended held next ≡ service_unit_ended other next
 ended_other held other next not_2 =
     let by = λ (before : Option (List ℕ)). ap (λ b. if flags_of next == 3 then if_fits (segment_data next) else if b then extended before (segment_data next) else None) (ne_eqb (flags_of next) 2 not_2) in
     by held ∙ sym (by other)
 
--- ---- whatever a service data unit has
+-- ---- lists that belong to a service data unit
 
 module _ {X : Type 0} (of : List ℕ → List X) where
-  -- what one has, if there is one
+  -- the list of a service data unit, if there is one
   abbrev in_unit : Option (List ℕ) → List X
   in_unit None = []
   in_unit (Some octets) = of octets
 
-  -- what that of a series has, where it isn't too long
+  -- the list of a series' service data unit, where it isn't too long
   abbrev in_segments : List (List ℕ) → List X
   in_segments segments = if nat_le (length (reassembled segments)) 65542 then of (reassembled segments) else []
 
@@ -89,7 +89,7 @@ module _ {X : Type 0} (of : List ℕ → List X) where
       ≡ in_unit (service_unit_ended (incomplete_of list) next)
   in_ended list next = ap (flat_map (λ (s : SeriesAt). in_segments s.segments)) (ending_is list next) ∙ in_from 0 list next
 
--- ---- its packets, and what is left after them
+-- ---- the packets of the service data unit, and the octets after them
 
 pub ended_next : (list : List (List ℕ)) (next : List ℕ) → packets_ended list next ≡ packets_after (incomplete_of list) next
 ended_next list next = in_ended packets_of list next ∙ same (service_unit_ended (incomplete_of list) next)

@@ -1,4 +1,4 @@
--- The FARMs of the virtual channels, where one of them takes the next frame.
+-- FARM-1 of the virtual channels, where one of them takes the next frame.
 use Rattle.std.proofs.Common.{◌≡◌, ℕ, ◌<◌, ◌==◌, Bool, List, [], ◌∷◌, ◌++◌, length, set, Option, None, false, inl, inr, refl, sym, ◌∙◌, ap, ap₂, subst, arith, append-nil}
 use Rattle.std.specs.List.{slice_index_or}
 use Rattle.std.proofs.lemmas.Bool.Decides.{eqb_tells}
@@ -41,16 +41,16 @@ farm_after-push w vr channel next = state_more (λ (view : TcView). event_of vie
 abbrev farm_with : ReceptionParameters → ℕ → List TcView → FarmView
 farm_with r vc channel = record { window = r.window; state = farm_after r.window (initial_vr r vc) channel }
 
--- after one frame of its virtual channel more
+-- FARM-1 of a virtual channel after one more frame of this channel
 farm_next : (r : ReceptionParameters) (views : List TcView) (next : TcView)
     → (farm_of r next.vc (views ++ next ∷ [])).state ≡ (farm_step r.window (farm_of r next.vc views).state (event_of next.content)).1
 farm_next r views next =
     ap (farm_after r.window (initial_vr r next.vc)) (same_channel next.vc views next refl)
     ∙ farm_after-push r.window (initial_vr r next.vc) (channel_of next.vc views) next
 
--- ---- all of them
+-- ---- all channels
 
--- the first ones are at their start
+-- FARM-1 of the first `n` virtual channels is in its first state
 pub record AreSet (w : ℕ) (starts : List ℕ) (n : ℕ) (farms : List FarmView) : Type 0 where
   pub count : length farms ≡ 64
   pub each : (vc : ℕ) (d : FarmView) → vc < n → slice_index_or farms vc d ≡ record { window = w; state = farm_start (slice_index_or starts vc 0) }
@@ -100,11 +100,12 @@ processed_none r farms incomplete stepped none =
 
 -- ---- the next frame
 
--- whether its virtual channel has no segment headers
+-- whether the next frame's virtual channel has no segment headers
 pub plain_is : (r : ReceptionParameters) (inside state : ReceiverState) (vc : ℕ) → inside ≡ state → state.plain ≡ r.plain → has_vc inside.plain vc ≡ is_plain r vc
 plain_is r inside state vc same is = ap (λ (s : ReceiverState). has_vc s.plain vc) same ∙ ap (λ vcs. has_vc vcs vc) is
 
--- what is known of the frames that left these series, by the verdict on the next one, is known of those that were processed
+-- a property of the frames that led to these series, with the verdict on the next frame, holds for the frames that
+-- were processed
 pub of_processed : (holds : ReceptionParameters → List TcView → Type 0) (inside state : ReceiverState) (plain : Bool) (verdict : Verdict) (next : TcView) → inside ≡ state
     → plain ≡ has_vc inside.plain next.vc
     → ((r : ReceptionParameters) (views : List TcView) → HaveStepped r inside.farms views → verdict ≡ verdict_on r views next)

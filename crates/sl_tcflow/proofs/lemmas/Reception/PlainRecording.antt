@@ -1,4 +1,5 @@
--- What a recording delivers on a virtual channel without segment headers: packets of MAP 0 that fit in a data field.
+-- The packets that a recording delivers on a virtual channel without segment headers are on MAP 0 and fit in a data
+-- field.
 use Rattle.std.proofs.Common.{◌≡◌, ℕ, ◌+◌, ◌-◌, ◌*◌, ◌<◌, ◌≤◌, ◌==◌, nat_le, Bool, true, false, not, cond, if◌then◌else◌, List, [], ◌∷◌, ◌++◌, length, drop, map, flat_map, Result, Ok, Err, inl, inr, refl, sym, ◌∙◌, ap, subst, arith, append-nil, length-append, length-take, ne_eqb}
 use Rattle.std.specs.Result.{result_ok}
 use Rattle.std.specs.List.{AllByRecursion, concat, cons_option, slice_index_or}
@@ -31,7 +32,7 @@ use Rattle.sl_tcflow.proofs.lemmas.Series.Whole.{header_of_whole}
 
 -- ---- the units of frames
 
--- each unit of what a frame carries has so many octets at most
+-- each unit has `most` octets at most
 abbrev AreWithin : ℕ → List (List ℕ) → Type 0
 AreWithin most units = AllByRecursion (λ unit. length unit ≤ most) units
 
@@ -85,7 +86,7 @@ accepted_within most (verdict ∷ verdicts) (view ∷ channel) each =
     each-append (λ unit. length unit ≤ most) (if_accepted verdict (unit_of view.content)) (accepted_by (λ (view : TcView). unit_of view.content) verdicts channel)
     (if_within most verdict (unit_of view.content) each.0) (accepted_within most verdicts channel each.1)
 
--- the units that a recording's frames bring on a virtual channel
+-- the units of a recording's frames on a virtual channel
 units_within : (format : TcFormat) (spacecraft : ℕ) (r : ReceptionParameters) (vc : ℕ) (frames : List (List ℕ))
     → AreWithin (plain_room_of format) (accepted_units r.window (initial_vr r vc) (channel_of vc (views_of format spacecraft frames)))
 units_within format spacecraft r vc frames =
@@ -96,7 +97,7 @@ units_within format spacecraft r vc frames =
 
 -- ---- whole segments
 
--- they are on no other MAP than 0
+-- whole segments are on no other MAP than 0
 no_segments : (mid : ℕ) (units : List (List ℕ)) → 0 < mid → segments_on mid (map whole_segment units) ≡ []
 no_segments mid [] other = refl
 no_segments mid (unit ∷ units) other =
@@ -104,14 +105,14 @@ no_segments mid (unit ∷ units) other =
     ∙ ap (λ b. cond b (whole_segment unit ∷ segments_on mid (map whole_segment units)) (segments_on mid (map whole_segment units))) (ne_eqb 0 mid (λ e. absurd (omega (arith, e, other))))
     ∙ no_segments mid units other
 
--- on which all of them are
+-- whole segments are all on MAP 0
 all_segments : (units : List (List ℕ)) → segments_on 0 (map whole_segment units) ≡ map whole_segment units
 all_segments [] = refl
 all_segments (unit ∷ units) =
     ap (λ (h : SegmentFields). cond (h.map == 0) (whole_segment unit ∷ segments_on 0 (map whole_segment units)) (segments_on 0 (map whole_segment units))) (header_of_whole unit)
     ∙ ap (λ l. whole_segment unit ∷ l) (all_segments units)
 
--- the packets of octets have no more octets than these
+-- no packet has more octets than the list of packets end to end
 each_within : (packets : List (List ℕ)) → AreWithin (length (concat packets)) packets
 each_within [] = tt
 each_within (packet ∷ packets) =
@@ -131,7 +132,7 @@ packets_if : (most : ℕ) (fits : Bool) (octets : List ℕ) → length octets �
 packets_if most true octets few = packets_are_within most octets few
 packets_if most false octets few = tt
 
--- nor those of whole segments
+-- no packet of whole segments has more octets than a unit may have
 packets_of_whole : (most n : ℕ) (units : List (List ℕ)) → AreWithin most units
     → AreWithin most (flat_map (λ (s : SeriesAt). packets_in s.segments) (series_from n (map whole_segment units)))
 packets_of_whole most n [] each = tt

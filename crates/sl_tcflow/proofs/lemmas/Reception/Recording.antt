@@ -1,4 +1,4 @@
--- What FARM-1 lets through from a recording.
+-- The packets that FARM-1 accepts from a recording.
 use Rattle.std.proofs.Common.{◌≡◌, ℕ, ◌/◌, ◌%◌, Bool, true, false, nat_le, if◌then◌else◌, List, [], length, map}
 use Rattle.std.specs.List.{AllByRecursion}
 use Rattle.std.proofs.lemmas.List.FromFn.{length-map-range_with_len}

@@ -1,4 +1,4 @@
--- Units in frames of type AD that arrive in any order: which are accepted, and the packets that they carry.
+-- Units in frames of type AD that arrive in any order: the accepted ones, and the packets that they carry.
 use Rattle.std.proofs.Common.{◌≡◌, ℕ, zero, suc, ◌+◌, ◌/◌, ◌%◌, ◌<◌, ◌≤◌, ◌==◌, not, List, [], ◌∷◌, ◌++◌, length, get_or, map, take, drop, refl, sym, ◌∙◌, ap, ap₂, subst, arith, append-nil, append_assoc}
 use Rattle.std.specs.List.{AllByRecursion, AllZip, range_with_len}
 use mathlib.Core.List.{IsPrefix}
@@ -45,7 +45,7 @@ range_fits : (from n most : ℕ) → from ≤ most → AllByRecursion (λ k. k <
 range_fits from zero most start each = omega arith
 range_fits from (suc n) most start each = let first = each.0 in let later = range_fits (from + 1) n most (omega arith) each.1 in omega arith
 
--- what arrives first
+-- the arrivals of the first frames
 parts : {A B : Type 0} (R : A → B → Type 0) (before after : List A) (list : List B) → AllZip R (before ++ after) list
     → (earlier : List B) × (later : List B) × (list ≡ earlier ++ later) × AllZip R before earlier
 parts R [] after list are = ([], list, refl, tt)
@@ -54,7 +54,7 @@ parts R (first ∷ before) after (other ∷ list) are =
     let more = parts R before after list are.1 in
     (other ∷ more.0, more.1, ap (λ l. other ∷ l) more.2, (are.0, more.3))
 
--- ---- what is accepted
+-- ---- the accepted units
 
 map-if_accepted : {A B : Type 0} (f : A → B) (verdict : Verdict) (list : List A) → map f (if_accepted verdict list) ≡ if_accepted verdict (map f list)
 map-if_accepted f Accept list = refl

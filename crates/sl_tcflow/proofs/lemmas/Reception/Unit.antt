@@ -27,12 +27,12 @@ units_from : (w vr : ℕ) (channel : List TcView) (next : TcView)
     ≡ accepted_units w vr channel ++ unit_by (farm_step w (farm_after w vr channel) (event_of next.content)).0 next.content
 units_from w vr channel next = accepted_more (λ (view : TcView). event_of view.content) (λ (view : TcView). unit_of view.content) w (farm_start vr) channel next
 
--- the unit of what a frame carries, by the verdict on it
+-- the accepted unit of a frame's content, by the verdict on it
 pub unit_on : (verdict : Verdict) (carried : Content) (r : ReceptionParameters) (views : List TcView) (next : TcView) (units : List (List ℕ))
     → verdict ≡ verdict_on r views next → carried ≡ next.content → unit_by verdict carried ≡ units → unit_by (verdict_on r views next) next.content ≡ units
 unit_on verdict carried r views next units is same by = ap (λ v. unit_by v next.content) (sym is) ∙ ap (unit_by verdict) (sym same) ∙ by
 
--- the segment that it is
+-- the segment of the accepted unit
 pub segment_on : (plain : Bool) (verdict : Verdict) (carried : Content) (r : ReceptionParameters) (views : List TcView) (next : TcView) (units : List (List ℕ))
     → plain ≡ is_plain r next.vc → verdict ≡ verdict_on r views next → carried ≡ next.content → unit_by verdict carried ≡ units
     → segment_by r views next ≡ map (segment_in plain) units
@@ -40,7 +40,7 @@ segment_on plain verdict carried r views next units headers is same by =
     ap (λ b. map (segment_in b) (unit_by (verdict_on r views next) next.content)) (sym headers)
     ∙ ap (map (segment_in plain)) (unit_on verdict carried r views next units is same by)
 
--- and its MAP
+-- the MAP of the unit
 pub map_on : (plain : Bool) (carried : Content) (r : ReceptionParameters) (next : TcView) (mid : ℕ)
     → plain ≡ is_plain r next.vc → carried ≡ next.content → map_of plain carried ≡ mid → map_by r next ≡ mid
 map_on plain carried r next mid headers same is = ap₂ (λ b c. map_of b c) (sym headers) (sym same) ∙ is
@@ -63,7 +63,7 @@ segments_other : (r : ReceptionParameters) (vc mid : ℕ) (views : List TcView) 
 segments_other r vc mid views next other =
     ap (λ l. segments_on mid (map (segment_in (is_plain r vc)) (accepted_units r.window (initial_vr r vc) l))) (other_channel vc views next other)
 
--- the unit is one of its own MAP alone
+-- the unit is among the segments of its own MAP alone
 on_map : (mid : ℕ) (unit : List ℕ) → (header_at unit).map ≡ mid → segments_on mid (unit ∷ []) ≡ unit ∷ []
 on_map mid unit same = ap (λ b. cond b (unit ∷ []) []) (eq-eqb (header_at unit).map mid same)
 
@@ -73,9 +73,9 @@ on_other_map mid unit other = ap (λ b. cond b (unit ∷ []) []) (ne_eqb (header
 pub map_fits : (unit : List ℕ) → (header_at unit).map < 64
 map_fits unit = omega arith
 
--- ---- what is incomplete
+-- ---- the incomplete series
 
--- without an accepted unit all stays
+-- without an accepted unit all series stay
 pub incomplete_same : (r : ReceptionParameters) (incomplete : List (Option (List ℕ))) (views : List TcView) (next : TcView) → AreIncomplete r incomplete views
     → segment_by r views next ≡ [] → AreIncomplete r incomplete (views ++ next ∷ [])
 incomplete_same r incomplete views next are none vc mid vc_fits mid_fits =
@@ -93,7 +93,7 @@ other_index index vc mid vc' mid' is fits fits' other same = other (omega (arith
 other_vc_index : (index vc mid vc' mid' : ℕ) → index ≡ channel_at vc mid → mid < 64 → mid' < 64 → vc ≢ vc' → channel_at vc' mid' ≢ index
 other_vc_index index vc mid vc' mid' is fits fits' other same = other (omega (arith, is, fits, fits', same))
 
--- with one, its index alone has what is incomplete after it
+-- with an accepted unit, only the series at its index changes
 module _ (r : ReceptionParameters) (old : List (Option (List ℕ))) (views : List TcView) (next : TcView) (unit : List ℕ) (index : ℕ) where
   pub incomplete_more : (new : List (Option (List ℕ))) → AreIncomplete r old views → next.vc < 64 → segment_by r views next ≡ unit ∷ []
       → index ≡ channel_at next.vc (header_at unit).map → IsPlaced old index (incomplete_after (at old index) unit) new
@@ -139,7 +139,7 @@ module _ (r : ReceptionParameters) (old : List (Option (List ℕ))) (views : Lis
       ∙ ap (λ held. packets_after held unit) (sym (are next.vc (header_at unit).map inside (map_fits unit)))
       ∙ ap (λ n. packets_after (at old n) unit) (sym here)
 
-  -- ---- where memory is wanted
+  -- ---- where memory is asked for
 
   pub around_more : AreIncomplete r old views → next.vc < 64 → segment_by r views next ≡ unit ∷ []
       → map_by r next ≡ (header_at unit).map → index ≡ channel_at next.vc (header_at unit).map

@@ -1,4 +1,4 @@
--- A packet divided into segments: they are full but the last one, and they are the packet.
+-- A packet divided into segments: the segments are full except the last one, and make up the packet.
 use Rattle.std.proofs.Common.{◌≡◌, ℕ, zero, suc, ◌+◌, ◌-◌, ◌*◌, ◌<◌, ◌≤◌, List, [], ◌∷◌, length, drop, map, refl, sym, ◌∙◌, ap, ap₂, subst, arith, length-take-le}
 use Rattle.std.specs.List.{concat, range_with_len}
 use Rattle.std.proofs.lemmas.List.{length-drop, length-take, take_all}
@@ -21,7 +21,7 @@ begins_within room packet number some long inside =
     let below : suc number * room ≤ length packet + room - 1 = (le-div_iff_mul-le {k = room} {x = suc number} {y = length packet + room - 1} some).0 inside in
     omega (arith, one, below)
 
--- those from a number on
+-- the segments from a number on
 filled_from : (room : ℕ) (packet : List ℕ) (from n : ℕ) → 0 < room → 0 < length packet → 0 < n → from + n ≡ segment_count room packet
     → AreSegments room (map (piece_at room packet) (range_with_len from n))
 filled_from room packet from zero some long more is = absurd (omega arith)

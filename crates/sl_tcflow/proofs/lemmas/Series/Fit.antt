@@ -1,4 +1,4 @@
--- Octets of service data units that are not too many.
+-- Octets of service data units, and whether they are too many.
 use Rattle.std.proofs.Common.{◌≡◌, ℕ, ◌<◌, ◌≤◌, nat_le, Bool, true, false, if◌then◌else◌, List, [], ◌∷◌, ◌++◌, length, map, None, Some, inl, inr, refl, sym, ◌∙◌, ap, arith, append-nil, length-append, le-leb}
 use Rattle.std.specs.List.{concat}
 use Rattle.std.proofs.lemmas.Bool.Decides.{leb_tells}
@@ -23,7 +23,7 @@ fits_none octets many =
       | inr (test, over) ↦ ap (λ b. if b then Some octets else None) test
     ]
 
--- octets that fit, with some more, are the octets together, where these fit
+-- octets that fit, extended by some more, are the octets together where these fit
 pub extended_fits : (before octets : List ℕ) → extended (if_fits before) octets ≡ if_fits (before ++ octets)
 extended_fits before octets =
     elim (leb_tells (length before) 65542) [
@@ -37,7 +37,7 @@ fits_test : (b : Bool) (octets others : List ℕ) → (if b then Some octets els
 fits_test true octets others e = (refl, cc)
 fits_test false octets others e = absurd (cc)
 
--- which octets fit
+-- the octets that fit, and their length
 pub fits_are : (octets others : List ℕ) → if_fits octets ≡ Some others → (octets ≡ others) × (length others ≤ 65542)
 fits_are octets others e =
     let (test, same) = fits_test (nat_le (length octets) 65542) octets others e in

@@ -1,4 +1,4 @@
--- The series that is incomplete after the last segment of a list, as it is told: it is incomplete, and the only one.
+-- The series that is reported as incomplete after the last segment of a list is incomplete, and is the only one.
 use Rattle.std.proofs.Common.{◌≡◌, ℕ, ◌<◌, ◌==◌, ◌&&◌, Bool, true, false, if◌then◌else◌, List, [], ◌∷◌, ◌++◌, length, Some, inl, inr, refl, sym, ◌∙◌, ap, arith, append_assoc, eqb-true, eq-eqb, ne_eqb}
 use Rattle.std.specs.List.{AllByRecursion}
 use Rattle.std.proofs.lemmas.Bool.{cases_lt}
@@ -21,14 +21,14 @@ each_continuing [] each = refl
 each_continuing (segment ∷ later) each =
     ap (λ b. b && are_continuing later) (eq-eqb (flags_of segment) 0 each.0) ∙ each_continuing later each.1
 
--- a first segment is none
+-- a first segment isn't a continuing one
 pub not_continuing : (earlier : List (List ℕ)) (first : List ℕ) (later : List (List ℕ)) → flags_of first ≡ 1 → are_continuing (earlier ++ first ∷ later) ≡ false
 not_continuing [] first later begins =
     and_left (flags_of first == 0) (are_continuing later) (ne_eqb (flags_of first) 0 (λ e. absurd (omega (arith, e, begins))))
 not_continuing (segment ∷ earlier) first later begins =
     and_right (flags_of segment == 0) (are_continuing (earlier ++ first ∷ later)) (not_continuing earlier first later begins)
 
--- ---- what is told
+-- ---- a series that is reported
 
 told_first : (list earlier : List (List ℕ)) (first : List ℕ) (later : List (List ℕ)) (octets : List ℕ) → list ≡ earlier ++ first ∷ later
     → flags_of first ≡ 1 → are_continuing later ≡ true → if_fits (reassembled (first ∷ later)) ≡ Some octets → IsIncomplete list octets
@@ -61,7 +61,7 @@ told_from list earlier (segment ∷ later) octets all e =
 pub what_is_told_is_incomplete : WhatIsToldIsIncomplete
 what_is_told_is_incomplete list octets e = told_from list [] list octets refl e
 
--- ---- what is incomplete
+-- ---- a series that is incomplete
 
 told_later : (earlier : List (List ℕ)) (first : List ℕ) (later : List (List ℕ)) → flags_of first ≡ 1 → are_continuing later ≡ true
     → incomplete_of (earlier ++ first ∷ later) ≡ if_fits (reassembled (first ∷ later))
@@ -82,7 +82,7 @@ incomplete_is_told list octets x =
     ap incomplete_of x.in_order ∙ told_later x.earlier x.first x.later x.begins (each_continuing x.later x.goes_on)
     ∙ ap if_fits (sym x.together) ∙ fits_some octets x.fits
 
--- a first segment is not among those that follow another one in its series
+-- a first segment isn't among the segments that follow another first one in its series
 first_is_not_later : (earlier later : List (List ℕ)) (first : List ℕ) (earlier' later' : List (List ℕ)) (first' : List ℕ)
     → earlier ++ first ∷ later ≡ earlier' ++ first' ∷ later' → are_continuing later ≡ true → flags_of first' ≡ 1 → length earlier < length earlier' → ⊥
 first_is_not_later [] later first [] later' first' same continuing begins less = absurd (omega arith)

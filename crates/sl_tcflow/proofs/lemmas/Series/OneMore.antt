@@ -1,4 +1,4 @@
--- What the next segment of a MAP does: which packets end with it, and what is incomplete after it.
+-- What the next segment of a MAP does: the packets that end with it, and the series that is incomplete after it.
 use Rattle.std.proofs.Common.{◌≡◌, ◌≢◌, ℕ, ◌+◌, ◌≤◌, ◌==◌, ◌&&◌, Bool, true, false, if◌then◌else◌, List, [], ◌∷◌, ◌++◌, length, map, Option, None, inl, inr, refl, sym, ◌∙◌, ap, ap₂, arith, append-nil, append_assoc, length-append, eqb-true, eq-eqb, ne_eqb}
 use Rattle.std.specs.List.{AllByRecursion, filter, flat_map}
 use Rattle.std.proofs.lemmas.Bool.Decides.{eqb_tells}
@@ -22,13 +22,13 @@ after_continuing : (held : Option (List ℕ)) (next : List ℕ) → flags_of nex
 after_continuing held next is =
     ap (λ flags. if flags == 1 then if_fits (segment_data next) else if flags == 0 then extended held (segment_data next) else None) is
 
--- what was incomplete matters to a continuing segment alone,
+-- the incomplete series matters to a continuing segment alone
 after_other : (held other : Option (List ℕ)) (next : List ℕ) → flags_of next ≢ 0 → incomplete_after held next ≡ incomplete_after other next
 after_other held other next not_0 =
     let by = λ (before : Option (List ℕ)). ap (λ b. if flags_of next == 1 then if_fits (segment_data next) else if b then extended before (segment_data next) else None) (ne_eqb (flags_of next) 0 not_0) in
     by held ∙ sym (by other)
 
--- ---- what is incomplete
+-- ---- the incomplete series
 
 are_continuing-push : (later : List (List ℕ)) (next : List ℕ) → are_continuing (later ++ next ∷ []) ≡ (are_continuing later && are_continuing (next ∷ []))
 are_continuing-push [] next = refl
@@ -36,7 +36,7 @@ are_continuing-push (segment ∷ later) next =
     ap (λ b. (flags_of segment == 0) && b) (are_continuing-push later next)
     ∙ sym (and_assoc (flags_of segment == 0) (are_continuing later) (are_continuing (next ∷ [])))
 
--- whether a first segment is followed by continuing ones alone, and then by a continuing one
+-- the incomplete series with one more segment, where a first segment is followed by continuing ones or not
 one_more_after : (goes_on : Bool) (together held : Option (List ℕ)) (next : List ℕ)
     → (if goes_on && are_continuing (next ∷ []) then extended together (segment_data next) else incomplete_after held next)
     ≡ incomplete_after (if goes_on then together else held) next
@@ -73,15 +73,15 @@ incomplete_next (segment ∷ later) next =
 
 -- ---- the series that ends with the next segment
 
--- where so many segments come before the list: one, or none
+-- the series that ends with the next segment, as a list of one or none, where `before` segments come before the list
 abbrev pub series_ending : ℕ → List (List ℕ) → List ℕ → List SeriesAt
 series_ending before [] next = if flags_of next == 3 then series_at before (next ∷ []) ∷ [] else []
 series_ending before (segment ∷ later) next =
     if (flags_of segment == 1 && are_continuing later) && flags_of next == 2 then series_at before (segment ∷ (later ++ next ∷ [])) ∷ []
     else series_ending (before + 1) later next
 
--- it doesn't complete a series that isn't followed by continuing segments alone, and no series at all if it isn't a
--- last segment
+-- The next segment completes no series whose later segments aren't all continuing ones. It completes no series at all
+-- where it isn't a last segment.
 completed-push : (so_far later : List (List ℕ)) (next : List ℕ) → (are_continuing later && flags_of next == 2) ≡ false
     → completed so_far (later ++ next ∷ []) ≡ completed so_far later
 completed-push so_far [] next test =
@@ -158,7 +158,7 @@ ends_here before segment later next first each last =
     ∙ ap₂ (λ xs ys. series_at before (segment ∷ (later ++ next ∷ [])) ∷ (xs ++ ys)) (continuing_none (before + 1) later each) (ending_none (before + 1) later next each last)
     ∙ sym (ap₂ (λ xs ys. (map (series_at before) xs ++ ys) ++ series_at before (segment ∷ (later ++ next ∷ [])) ∷ []) earlier (continuing_none (before + 1) later each))
 
--- the series of one segment more are those before, and the one that ends with it
+-- the series with one more segment are those before, and the one that ends with this segment
 pub series_next : (before : ℕ) (list : List (List ℕ)) (next : List ℕ) → series_from before (list ++ next ∷ []) ≡ series_from before list ++ series_ending before list next
 series_next before [] next = ends_first before next
 series_next before (segment ∷ later) next =

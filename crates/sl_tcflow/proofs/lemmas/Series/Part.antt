@@ -18,7 +18,7 @@ use Rattle.sl_tcflow.proofs.lemmas.Form.Pushed.{counts_more}
 use Rattle.sl_tcflow.proofs.lemmas.Series.Segment.{unit_made, part_at, part_is, segments_of_packet, units_of_parts, header_of_unit, octets_of_unit}
 use Rattle.sl_tcflow.proofs.lemmas.Series.Series.{IsContinuing, BeginsNone, series_at, begins_whole, begins_divided, completed_all, none_begin, continuing_begins_none, last_begins_none}
 
--- ---- their octets
+-- ---- the octets of the segments
 
 module _ (room : ℕ) (packet : List ℕ) where
   abbrev part : ℕ → List ℕ
@@ -57,7 +57,7 @@ reassembled_parts room mid packet some =
     octets_of_parts room mid packet (range_with_len 0 count) ∙ parts_joined room packet count
     ∙ take_all (count * room) packet (covers room packet some)
 
--- ---- their sequence flags
+-- ---- the sequence flags of the segments
 
 first_of_many : (count : ℕ) → 1 < count → flags_at count 0 ≡ 1
 first_of_many count many = grind (arith, nat_tests)
@@ -97,7 +97,7 @@ pub parts_are_series : (room mid : ℕ) (packet : List ℕ) → 0 < room → mid
 parts_are_series room mid packet some small long =
     subst IsSeries (sym (units_of_parts room mid packet (range_with_len 0 (segment_count room packet)))) (units_are_series room mid packet some small long)
 
--- ---- a series first of all
+-- ---- a series at the front of a list
 
 pub series_first : (n k : ℕ) (segments later : List (List ℕ)) → k ≡ n + length segments → IsSeries segments
     → series_from n (segments ++ later) ≡ series_at n segments ∷ series_from k later
@@ -125,7 +125,7 @@ packet_carried room mid packet some is =
     ∙ ap (λ b. if b then packets_of packet else []) (le-leb (length packet) 65542 (packet_size packet is).1)
     ∙ ap packets_of (sym (append-nil packet)) ∙ packets_of-packet packet [] is
 
--- the packets of the series of their segments
+-- the packets of the series of the packets' segments
 pub packets_back : (room mid n : ℕ) (packets : List (List ℕ)) → 0 < room → mid < 64 → AllByRecursion IsPacket packets
     → flat_map (λ (s : SeriesAt). packets_in s.segments) (series_from n (map unit_made (flat_map (segments_of_packet room mid) packets))) ≡ packets
 packets_back room mid n [] some small each = refl

@@ -1,4 +1,4 @@
--- Segments of packets as the units that they are in frames, and these on their MAPs.
+-- Segments of packets as units in frames, and these units on their MAPs.
 use Rattle.std.proofs.Common.{◌≡◌, ◌≢◌, ℕ, zero, suc, ◌+◌, ◌*◌, ◌<◌, ◌≤◌, ◌==◌, true, false, List, [], ◌∷◌, ◌++◌, length, drop, map, flat_map, refl, sym, ◌∙◌, ap, ap₂, arith, append-nil, eq-eqb, ne_eqb}
 use Rattle.std.specs.List.{AllByRecursion, range_with_len, slice_index_or}
 use Rattle.std.proofs.lemmas.Bool.Decides.{nat_tests}
@@ -20,13 +20,13 @@ use Rattle.sl_fields.proofs.ListLemmas.{each-append, each-every, each-flat_map, 
 abbrev pub unit_made : SegmentFields × List ℕ → List ℕ
 unit_made segment = segment_octets segment.0 ++ segment.1
 
--- a segment that a frame can have, with so many octets at most, on such a MAP
+-- a segment that a frame can have: `room` octets at most, and a MAP with the property `On`
 pub record IsSegment (room : ℕ) (On : ℕ → Type 0) (segment : SegmentFields × List ℕ) : Type 0 where
   pub header : FitsSegmentHeader segment.0
   pub inside : length segment.1 ≤ room
   pub on : On segment.0.map
 
--- its header and its octets are read back
+-- the header and the octets of a segment are read back
 pub header_of_unit : (segment : SegmentFields × List ℕ) → FitsSegmentHeader segment.0 → header_at (unit_made segment) ≡ segment.0
 header_of_unit segment fit =
     let h = segment.0 in
@@ -42,7 +42,7 @@ map_of_unit room On segment is = ap (λ (h : SegmentFields). h.map) (header_of_u
 -- ---- segments on their MAPs
 
 module _ (room mid : ℕ) where
-  -- those of a MAP stay
+  -- the segments of a MAP stay when the MAP is selected
   pub on_all : (segments : List (SegmentFields × List ℕ)) → AllByRecursion (IsSegment room (λ m. m ≡ mid)) segments
       → segments_on mid (map unit_made segments) ≡ map unit_made segments
   on_all segments each =
@@ -51,7 +51,7 @@ module _ (room mid : ℕ) where
       (each-weaker (IsSegment room (λ m. m ≡ mid)) (λ segment. ((header_at (unit_made segment)).map == mid) ≡ true)
       (λ segment is. eq-eqb (header_at (unit_made segment)).map mid (map_of_unit room (λ m. m ≡ mid) segment is ∙ is.on)) segments each))
 
-  -- and those of others go
+  -- the segments of other MAPs go when the MAP is selected
   pub on_none : (On : ℕ → Type 0) → ((m : ℕ) → On m → m ≢ mid) → (segments : List (SegmentFields × List ℕ)) → AllByRecursion (IsSegment room On) segments
       → segments_on mid (map unit_made segments) ≡ []
   on_none On apart segments each =
@@ -69,7 +69,7 @@ module _ (room mid : ℕ) where
   abbrev pub part_at : List ℕ → ℕ → SegmentFields × List ℕ
   part_at packet number = (record { flags = flags_at (segment_count room packet) number; map = mid }, piece_at room packet number)
 
-  -- as their headers and their octets
+  -- the segments of a packet, as headers and octets
   abbrev pub segments_of_packet : List ℕ → List (SegmentFields × List ℕ)
   segments_of_packet packet = map (part_at packet) (range_with_len 0 (segment_count room packet))
 
@@ -91,18 +91,18 @@ module _ (room mid : ℕ) where
       each-flat_map (IsSegment room (λ m. m ≡ mid)) segments_of_packet packets
       (each-every (λ packet. AllByRecursion (IsSegment room (λ m. m ≡ mid)) (segments_of_packet packet)) (packet_parts small) packets)
 
-  -- which are the units of a packet
+  -- the segments of a packet are its units
   pub units_of_parts : (packet : List ℕ) (numbers : List ℕ) → map unit_made (map (part_at packet) numbers) ≡ map (segment_of room mid packet) numbers
   units_of_parts packet [] = refl
   units_of_parts packet (number ∷ numbers) = ap (λ l. segment_of room mid packet number ∷ l) (units_of_parts packet numbers)
 
--- ---- those of a virtual channel's MAPs
+-- ---- the segments of a virtual channel's MAPs
 
 abbrev pub segments_of_maps : ℕ → ℕ → List (List (List ℕ)) → List (SegmentFields × List ℕ)
 segments_of_maps room mid [] = []
 segments_of_maps room mid (packets ∷ lists) = flat_map (segments_of_packet room mid) packets ++ segments_of_maps room (mid + 1) lists
 
--- the units of these are the segments,
+-- the units of packets are their segments
 pub flat_units : (room mid : ℕ) (packets : List (List ℕ)) → flat_map (units_of_packet false room mid) packets ≡ map unit_made (flat_map (segments_of_packet room mid) packets)
 flat_units room mid [] = refl
 flat_units room mid (packet ∷ packets) =
@@ -115,7 +115,7 @@ units_are_segments room from (packets ∷ lists) =
     ap₂ (λ a b. a ++ b) (flat_units room from packets) (units_are_segments room (from + 1) lists)
     ∙ sym (map-append unit_made (flat_map (segments_of_packet room from) packets) (segments_of_maps room (from + 1) lists))
 
--- and the packets of the first MAP where there are no segment headers, and the other MAPs have none
+-- where there are no segment headers, the units of packets are the packets themselves
 flat_packets : (room mid : ℕ) (packets : List (List ℕ)) → flat_map (units_of_packet true room mid) packets ≡ packets
 flat_packets room mid [] = refl
 flat_packets room mid (packet ∷ packets) = ap (λ l. packet ∷ l) (flat_packets room mid packets)

@@ -1,4 +1,5 @@
--- The series of a list of segments, as they are listed: each is one, each is listed, and they are apart.
+-- The list of the series of a list of segments: each listed one is a series, each series is listed, and they are
+-- apart.
 use Rattle.std.proofs.Common.{◌≡◌, ◌≢◌, ◌⊎◌, ℕ, ◌+◌, ◌≤◌, ◌==◌, if◌then◌else◌, List, [], ◌∷◌, ◌++◌, length, map, inl, inr, refl, sym, ◌∙◌, ap, subst, arith, append_assoc, Contains, ne_eqb}
 use Rattle.std.specs.List.{AllByRecursion}
 use Rattle.std.proofs.lemmas.Bool.{le-leb}
@@ -55,7 +56,7 @@ begins_none segment later not_3 not_1 =
 
 -- ---- how a series is completed
 
--- these segments so far become this series with the later ones
+-- these segments so far become this series with later ones
 pub record IsCompleted (so_far later series : List (List ℕ)) : Type 0 where
   pub middle : List (List ℕ)
   pub last : List ℕ
@@ -120,7 +121,7 @@ continuing_begins_none segment is later = begins_none segment later (λ e. absur
 pub last_begins_none : (segment : List ℕ) → flags_of segment ≡ 2 → BeginsNone segment
 last_begins_none segment is later = begins_none segment later (λ e. absurd (omega (arith, e, is))) (λ e. absurd (omega (arith, e, is)))
 
--- this series begins with a segment, and no series begins in the rest of it
+-- this series begins with a segment, and no series begins in its later segments
 pub record IsBegun (segment : List ℕ) (later series : List (List ℕ)) : Type 0 where
   pub tail : List (List ℕ)
   pub behind : List (List ℕ)
@@ -171,7 +172,7 @@ beginning segment later =
           ]
     ]
 
--- ---- each that is listed is one
+-- ---- each listed one is a series
 
 begun_is_series : (list before : List (List ℕ)) (segment : List ℕ) (later : List (List ℕ)) (n : ℕ) → list ≡ before ++ segment ∷ later → n ≡ length before
     → Beginning segment later → AllByRecursion (IsSeriesOf list) (map (series_at n) (series_with segment later))
@@ -199,7 +200,7 @@ each_from list before (segment ∷ later) n all here =
 pub each_is_series : EachIsSeries
 each_is_series list = each_from list [] list 0 refl refl
 
--- ---- each is listed
+-- ---- each series is listed
 
 pub completed_all : (so_far middle : List (List ℕ)) (last : List ℕ) (behind : List (List ℕ)) → AllByRecursion IsContinuing middle → flags_of last ≡ 2
     → completed so_far ((middle ++ last ∷ []) ++ behind) ≡ (so_far ++ (middle ++ last ∷ [])) ∷ []
@@ -234,9 +235,9 @@ pub each_series_is_listed : EachSeriesIsListed
 each_series_is_listed list s x =
     subst (λ l. Contains (series_of l) s) (sym x.in_order) (listed_from 0 s.before x.earlier s.segments x.later (omega (arith, x.here)) x.series)
 
--- ---- they are apart
+-- ---- series are apart
 
--- where no series begins
+-- no series begins where no segment begins one
 pub none_begin : (n k : ℕ) (tail behind : List (List ℕ)) → k ≡ n + length tail → AllByRecursion BeginsNone tail
     → series_from n (tail ++ behind) ≡ series_from k behind
 none_begin n k [] behind here each = ap (λ m. series_from m behind) (omega (arith, here))

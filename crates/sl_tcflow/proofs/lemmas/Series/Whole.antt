@@ -1,5 +1,5 @@
--- The segments that the units of a virtual channel without segment headers are: none of them leaves a series incomplete,
--- and nothing but their tails is amiss.
+-- The segments of the units of a virtual channel without segment headers: none of them leaves a series incomplete,
+-- and octets that are left are their only anomaly.
 use Rattle.std.proofs.Common.{◌≡◌, ℕ, ◌==◌, ◌&&◌, Bool, true, false, if◌then◌else◌, List, [], ◌∷◌, length, map, None, refl, ◌∙◌, ap, arith}
 use Rattle.std.specs.List.{AllByRecursion}
 use Rattle.std.specs.Prelude.{is_none, option_map}
@@ -56,7 +56,7 @@ pub no_plain_series_is_incomplete : NoPlainSeriesIsIncomplete
 no_plain_series_is_incomplete r vc mid views plain =
     none_on (is_plain r vc) mid (accepted_units r.window (initial_vr r vc) (channel_of vc views)) plain
 
--- ---- nothing is amiss but the tail
+-- ---- octets that are left are the only anomaly
 
 module _ (list : List (List ℕ)) (unit : List ℕ) where
   not_stray : stray_of list (whole_segment unit) ≡ false
@@ -69,7 +69,7 @@ module _ (list : List (List ℕ)) (unit : List ℕ) where
   none_long : long_of list (whole_segment unit) ≡ false
   none_long = ap (λ flags. continues_by flags && passes (octets_held list) (length (segment_data (whole_segment unit)))) (flags_of_whole unit)
 
--- of the frame's unit, if it is accepted
+-- the report on the frame's unit, if it is accepted
 told_of_whole : {X : Type 0} (none : X) (told : List ℕ → X) → ((unit : List ℕ) → told (whole_segment unit) ≡ none)
     → (plain : Bool) (units : List (List ℕ)) → plain ≡ true → of_segment none told (map (segment_in plain) units) ≡ none
 told_of_whole none told nothing false units is = absurd (cc)

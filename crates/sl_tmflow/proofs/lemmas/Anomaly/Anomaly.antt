@@ -1,4 +1,4 @@
--- Gaps of a channel, and octets of another packet version in a data field: they are told where they are.
+-- Gaps of a channel, and octets of another packet version in a data field, are reported where they are.
 use Rattle.std.proofs.Common.{◌≡◌, ◌≢◌, ℕ, ◌+◌, ◌<◌, ◌≤◌, ◌%◌, ◌==◌, ◌&&◌, ◌||◌, nat_lt, Bool, true, false, not, if◌then◌else◌, List, [], ◌∷◌, ◌++◌, length, drop, None, Some, refl, sym, ◌∙◌, ap, subst, arith, append_assoc, length-drop}
 use Rattle.std.specs.List.{AllByRecursion, concat, list_any}
 use Rattle.std.proofs.lemmas.Bool.Decides.{nat_tests}
@@ -82,7 +82,7 @@ each_told_is_a_foreign_start (Packets first octets) e =
 each_told_is_a_foreign_start Idle e = absurd (cc)
 each_told_is_a_foreign_start Opaque e = absurd (cc)
 
--- a packet is of version 0
+-- a packet has version 0
 packet_not_foreign : (packet more : List ℕ) → IsPacket packet → is_foreign (packet ++ more) ≡ false
 packet_not_foreign packet more p =
     let some : 1 ≤ length packet = omega (arith, packet_least packet p) in
@@ -100,7 +100,7 @@ foreign_offsets octets offset (packet ∷ packets) rest each parts =
     (ap is_foreign later ∙ packet_not_foreign packet (concat packets ++ rest) each.0)
     ∙ foreign_offsets octets (offset + length packet) packets rest each.1 behind
 
--- what may be of another version is what packets leave
+-- only the octets after the packets may be of another version
 pub foreign_is : (field : DataField) → foreign_of field ≡ foreign_in field
 foreign_is (Packets None octets) = refl
 foreign_is (Packets (Some pointer) octets) =

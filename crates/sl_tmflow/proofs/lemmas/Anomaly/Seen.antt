@@ -1,4 +1,4 @@
--- What the next frame of a channel has amiss, and what is held of the channel, by what is kept of it.
+-- The anomalies at the next frame of a channel, and the octets that are held, from the state of the channel.
 use Rattle.std.proofs.Common.{◌≡◌, ◌≢◌, ◌⊎◌, inl, inr, ℕ, List, [], ◌∷◌, ◌++◌, length, Some, refl, sym, ◌∙◌, ap, subst, append-nil}
 use Rattle.std.specs.List.{concat, flat_map}
 use Rattle.sl_tmframe.specs.TmFrame.{TmView}
@@ -17,7 +17,7 @@ use Rattle.sl_tmflow.proofs.lemmas.Places.{has_last}
 pub gap_seen : (state : ChannelState) (channel : List TmView) (next : TmView) → HasSeen state channel → gap_of channel next ≡ gap_after state.count next.vc_count
 gap_seen state channel next s = ap (λ c. gap_after c next.vc_count) (sym s.count)
 
--- ---- what is held
+-- ---- the octets that are held
 
 held_octets : (held : List ℕ) → concat (held_as held) ≡ held
 held_octets [] = refl
@@ -30,7 +30,7 @@ none_held : (held : List ℕ) → held_as held ≡ [] → held ≡ []
 none_held [] e = refl
 none_held (octet ∷ octets) e = absurd (cc)
 
--- ---- what the next frame breaks off
+-- ---- the packet that the next frame breaks off
 
 lost_octets : (s : Continuation) (octets : List ℕ) → concat (lost s octets ++ []) ≡ lost_of s octets
 lost_octets (Ends packet) octets = refl
@@ -59,7 +59,7 @@ dropped_seen state (view ∷ later) next s =
 some_held : (held : List ℕ) → held ≢ [] → held_as held ≢ []
 some_held held some none = some (none_held held none)
 
--- what a channel's state holds, before the next frame or after it
+-- a packet is incomplete before or after the next frame, where the channel's state holds octets
 pub incomplete_around : (state : ChannelState) (views : List TmView) (next : TmView) → HasSeen state (channel_of next.vc views)
     → (state.held ≢ []) ⊎ ((state_after state next).held ≢ []) → IsIncompleteAround views next
 incomplete_around state views next s (inl before) = inl (λ none. some_held state.held before (s.held ∙ none))

@@ -1,4 +1,5 @@
--- What is found at the packet starts of a data field: at each packet that lies whole in it, and at what these packets leave.
+-- What is found at the packet starts of a data field: at each packet that lies whole in the field, and at the octets
+-- after these packets.
 use Rattle.std.proofs.Common.{◌≡◌, ℕ, ◌+◌, List, [], ◌∷◌, ◌++◌, length, take, drop, Some, refl, sym, ◌∙◌, ap, ap₂, append-nil, append_assoc}
 use Rattle.std.specs.List.{AllByRecursion, concat, flat_map}
 use Rattle.std.proofs.lemmas.List.{drop-drop, drop_at, take-append-drop}
@@ -11,7 +12,7 @@ use Rattle.sl_tmflow.specs.PacketStart.{packet_offsets, starts_from}
 
 -- ---- lists of lists
 
--- what turns lists end to end into lists end to end does so with those of each element
+-- a function that keeps lists end to end also keeps them element by element
 pub flat_map-pieces : {X A B : Type 0} (h : List A → List B) → h [] ≡ [] → ((xs ys : List A) → h (xs ++ ys) ≡ h xs ++ h ys)
     → (f : X → List A) (g : X → List B) → ((x : X) → h (f x) ≡ g x) → (xs : List X) → h (flat_map f xs) ≡ flat_map g xs
 flat_map-pieces h none end_to_end f g each [] = none
@@ -20,7 +21,7 @@ flat_map-pieces h none end_to_end f g each (x ∷ xs) =
 
 -- ---- the starts of a data field
 
--- what is found where packets leave octets
+-- what is found at the octets after packets
 abbrev pub at_rest : (List ℕ → List (List ℕ)) → List ℕ → List (List ℕ)
 at_rest f [] = []
 at_rest f (octet ∷ rest) = f (octet ∷ rest)
@@ -45,7 +46,7 @@ at_starts f g at_packet pointer octets =
     let has = each_has_packets (drop pointer octets) in
     at_offsets f g at_packet octets pointer (packets_of (drop pointer octets)) (rest_of (drop pointer octets)) has.each has.end_to_end
 
--- no packet is whole in what packets leave
+-- no packet is whole in the octets after packets
 pub none_in_rest : (octets : List ℕ) (len : ℕ) → front (rest_of octets) ≡ WholePacket len → ⊥
 none_in_rest octets len whole =
     (each_has_packets octets).no_more (take len (rest_of octets)) (drop len (rest_of octets)) (whole_is_a_packet (rest_of octets) len whole).0

@@ -1,4 +1,4 @@
--- What is kept of a channel is what its frames leave, frame by frame.
+-- The state of a channel is the one that its frames lead to, frame by frame.
 use Rattle.std.proofs.Common.{◌≡◌, ℕ, ◌<◌, ◌≤◌, ◌==◌, nat_eq, Bool, true, false, if◌then◌else◌, List, [], ◌∷◌, ◌++◌, length, take, drop, set, Option, None, Some, Result, inl, inr, refl, sym, ◌∙◌, ap, subst, arith, append-nil}
 use Rattle.std.specs.List.{flat_map, slice_index_or}
 use Rattle.std.specs.Option.{option_eq}
@@ -60,7 +60,7 @@ one_more state (view ∷ later) next s =
     let w = ends_with view later in
     ap (λ l. packets_ending l next) w.2 ∙ one_more_after state w.0 w.1 next (subst (HasSeen state) w.2 s)
 
--- ---- what is held
+-- ---- the octets that are held
 
 goes_on : (s : Continuation) (octet : ℕ) (octets : List ℕ) → carried s (octet ∷ octets) ++ [] ≡ held_as (kept_of s (octet ∷ octets))
 goes_on (Ends packet) octet octets = refl
@@ -72,7 +72,7 @@ carried_held : (last next : TmView) (held : List ℕ)
 carried_held last next [] = refl
 carried_held last next (octet ∷ octets) = goes_on (step_of last (octet ∷ octets) next) octet (octets ++ packet_data next)
 
--- where a packet starts, the one that was incomplete doesn't go on
+-- where a packet starts, the incomplete one doesn't go on
 
 ends_or_breaks : (b : Bool) (packet octets : List ℕ) → kept_of (if b then Ends packet else Breaks) octets ≡ []
 ends_or_breaks true packet octets = refl
@@ -97,7 +97,7 @@ none_kept (Some count) (octet ∷ held) next pointer octets is =
     if_follows (follows count next.vc_count) (field_step before next.field) (before ++ packet_data next)
     (rw is (not_past_start pointer (length before) octets all (front all)))
 
--- what starts in the frame
+-- the packets that start in the frame
 
 none_incomplete : (f : Front) → incomplete_in f [] ≡ []
 none_incomplete OtherVersion = refl
@@ -130,7 +130,7 @@ held_by_frame : (count : Option ℕ) (held : List ℕ) (next : TmView)
 held_by_frame count held next =
     incomplete_in_field next next.field (kept_octets (held_step count held next) held next) refl (λ pointer octets is. none_kept count held next pointer octets is)
 
--- ---- one frame more
+-- ---- one more frame
 
 seen_first : (state : ChannelState) (next : TmView) → HasSeen state [] → HasSeen (state_after state next) (next ∷ [])
 seen_first state next s =
@@ -179,7 +179,7 @@ other_seen vc views next other =
       | inr (test, not) ↦ rw (test) (append-nil (channel_of vc views))
     ]
 
--- what was seen of each channel, where one of them has a frame more
+-- the state of each channel, where one of them has one more frame
 pub each_seen : (states : List KeptChannel) (after : KeptChannel) (views : List TmView) (next : TmView) → next.vc < length states
     → after.state ≡ state_after (slice_index_or states next.vc no_channel).state next
     → (vc : ℕ) → HasSeen (slice_index_or states vc no_channel).state (channel_of vc views)
@@ -195,9 +195,9 @@ each_seen states after views next inside is vc s =
           rw (get_or-set_other states next.vc vc after no_channel (λ e. other (sym e)), other_seen vc views next other) s
     ]
 
--- ---- all of them
+-- ---- all channels
 
--- of the channel of a number
+-- the state of the channel of a number
 pub seen_at : (old : ExtractorState) (views : List TmView) (states : List KeptChannel) (at vc : ℕ) (d : KeptChannel) → HasProcessed old views → states ≡ old.channels
     → length states ≡ 8 → vc ≤ 7 → at ≡ vc → HasSeen (slice_index_or states at d).state (channel_of vc views)
 seen_at old views states at vc d p are eight fits same =
@@ -213,7 +213,7 @@ module _ (old : ExtractorState) (views : List TmView) (next : TmView) (states : 
   ended_now p are eight fits same =
       one_more (slice_index_or states at d).state (channel_of next.vc views) next (seen_at old views states at next.vc d p are eight fits same)
 
-  -- so a step that hands over the packets after that state hands over those that end in the frame
+  -- a step that hands over the packets of the state hands over those that end in the frame
   pub handed_now : {S : Type 0} {taking : S → ℕ → List ℕ → S → Type 0} {failing : S → ℕ → List ℕ → SinkFault → S → Type 0} {failures : S → ℕ}
       {sink sink' : S} {channel : ℕ} {result : Result StepReport FlowFault} → states ≡ old.channels → length states ≡ 8 → next.vc ≤ 7 → at ≡ next.vc
       → HandsOver taking failing failures counts_of sink channel (packets_after (slice_index_or states at d).state next) result sink'

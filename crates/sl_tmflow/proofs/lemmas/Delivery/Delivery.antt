@@ -1,4 +1,5 @@
--- The deliveries of a channel, as they are listed: each is one, each one is there, and they are in order.
+-- The list of the deliveries of a channel: each listed one is a delivery, each delivery is listed, and they are in
+-- order.
 use Rattle.std.proofs.Common.{◌≡◌, ℕ, ◌+◌, ◌<◌, ◌≤◌, List, [], ◌∷◌, ◌++◌, length, drop, Option, inl, inr, refl, sym, ◌∙◌, ap, subst, arith, append_assoc}
 use Rattle.std.specs.List.{AllByRecursion, flat_map}
 use Rattle.std.proofs.lemmas.List.{length_push}
@@ -16,7 +17,7 @@ abbrev pub field_deliveries : ℕ → TmView → List TmView → DataField → L
 field_deliveries frame view later field =
     flat_map (λ start. delivery_of frame start (outcome_of view (drop start (data_of field)) later)) (starts_of field)
 
--- ---- each that is listed is one
+-- ---- each listed one is a delivery
 
 pub start_delivery : (channel before : List TmView) (view : TmView) (later : List TmView) (frame : ℕ) (first : Option ℕ) (octets : List ℕ) (start : ℕ)
     → channel ≡ before ++ view ∷ later → frame ≡ length before → view.field ≡ Packets first octets → IsStart octets first start
@@ -68,7 +69,7 @@ each_from channel before (view ∷ later) frame all here =
 pub each_is_delivery : EachIsDelivery
 each_is_delivery channel = each_from channel [] channel 0 refl refl
 
--- ---- each one is listed
+-- ---- each delivery is listed
 
 module _ {X : Type 0} where
   pub among-left : (x : X) (xs ys : List X) → IsAmong x xs → IsAmong x (xs ++ ys)
@@ -123,7 +124,7 @@ each_is_listed channel d x =
     subst (λ l. IsAmong d (deliveries_of l)) (sym all)
     (listed_from d 0 x.before x.view (x.run ++ x.after) d.frame (x.frame ∙ (let e : length x.before ≡ 0 + length x.before = omega arith in e)) (listed_in_frame channel d x))
 
--- ---- they are in order
+-- ---- deliveries are in order
 
 pub in_order-append : (xs ys : List Delivery) → AreInOrder xs → AreInOrder ys → AllByRecursion (λ x. AllByRecursion (StartsBefore x) ys) xs → AreInOrder (xs ++ ys)
 in_order-append [] ys left right between = right
@@ -184,7 +185,7 @@ each_of_frame frame view later = of_starts (starts_of view.field)
         each-append (λ d. d.frame ≡ frame) (delivery_of frame start o) (flat_map (λ s. delivery_of frame s (outcome_of view (drop s (data_of view.field)) later)) starts)
         (each-weaker (IsFrom frame start) (λ d. d.frame ≡ frame) (λ d at. at.0) (delivery_of frame start o) (is_from frame start o)) (of_starts starts)
 
--- those of a number and of the frames after it are of that number or a greater one
+-- the deliveries of the frame of a number and of later frames have this number or a greater one
 pub each_from_frame : (frame : ℕ) (channel : List TmView) → AllByRecursion (λ d. frame ≤ d.frame) (deliveries_from frame channel)
 each_from_frame frame [] = tt
 each_from_frame frame (view ∷ later) =

@@ -20,7 +20,7 @@ use Rattle.std.proofs.lemmas.Option.{same_Some}
 
 -- ---- lists that begin alike
 
--- of two beginnings of a list the longer one begins with the other
+-- of two prefixes of a list, the longer one begins with the other
 pub longer_begins : {X : Type 0} (xs zs ys ws : List X) → ys ++ ws ≡ xs ++ zs → length xs ≤ length ys → (more : List X) × (ys ≡ xs ++ more) × (zs ≡ more ++ ws)
 longer_begins xs zs ys ws same fewer =
     let n = length xs in
@@ -33,7 +33,7 @@ longer_begins xs zs ys ws same fewer =
 
 -- ---- in one frame
 
--- what packets leave from a start on is what they leave from the pointer on
+-- the octets that packets leave are the same from a packet start on as from the pointer on
 rest_from_start : (octets : List ℕ) (first : Option ℕ) (start : ℕ) (s : IsStart octets first start)
     → rest_of (drop s.pointer octets) ≡ rest_of (drop start octets)
 rest_from_start octets first start s = ap rest_of s.end_to_end ∙ rest_of-concat s.before (drop start octets) s.packets
@@ -41,7 +41,7 @@ rest_from_start octets first start s = ap rest_of s.end_to_end ∙ rest_of-conca
 rest_within : (octets : List ℕ) → length (rest_of octets) ≤ length octets
 rest_within octets = omega (arith, length-drop (length (concat (packets_of octets))) octets)
 
--- where another packet starts later in the field, a packet is whole
+-- a packet is whole where another packet starts later in the field
 pub not_last_is_whole : (octets : List ℕ) (first : Option ℕ) (start later : ℕ)
     → IsStart octets first start → IsStart octets first later → start < later → front (drop start octets) ≡ Incomplete → ⊥
 not_last_is_whole octets first start later s t less incomplete =
@@ -53,7 +53,7 @@ not_last_is_whole octets first start later s t less incomplete =
     let inside = t.inside in
     omega (arith, ap length all, rest_within (drop later octets), length-drop start octets, length-drop later octets)
 
--- so it is delivered in its frame
+-- a packet with another start later in its data field is delivered in its own frame
 ends_in_its_frame : (view : TmView) (octets : List ℕ) (first : Option ℕ) (start later : ℕ) (run : List TmView) (packet : List ℕ) → IsStart octets first start
     → IsStart octets first later → start < later → IsDeliveredBy view (drop start octets) run packet → length run ≡ 0
 ends_in_its_frame view octets first start later [] packet s t less d = refl
@@ -79,7 +79,7 @@ at_start x first octets first' octets' is is' = let same : Packets first octets 
 from_frame : (channel : List TmView) (d : Delivery) (x : IsDelivery channel d) → channel ≡ x.before ++ x.view ∷ (x.run ++ x.after)
 from_frame channel d x = x.in_order ∙ append_assoc x.before (x.view ∷ x.run) x.after
 
--- in one frame, the other packet's start is one of the same data field
+-- the start of another packet in the same frame is one of the same data field
 start_in_frame : (channel : List TmView) (d e : Delivery) (x : IsDelivery channel d) → IsDelivery channel e → d.frame ≡ e.frame
     → IsStart x.octets x.first e.start
 start_in_frame channel d e x y same =
@@ -144,7 +144,7 @@ ends_are_in_order channel d e x y before = omega (arith, each_ends_by_the_next_s
 
 -- ---- places
 
--- of packets that lie end to end, one that starts before another start ends before it, or at it
+-- among packets that lie end to end, a packet that starts before another start ends before it, or at it
 ends_by_offset : (before others : List (List ℕ)) (packet more rest : List ℕ) → AllByRecursion IsPacket before → AllByRecursion IsPacket others → IsPacket packet
     → concat before ++ (packet ++ more) ≡ concat others ++ rest → length (concat before) < length (concat others)
     → length (concat before) + length packet ≤ length (concat others)

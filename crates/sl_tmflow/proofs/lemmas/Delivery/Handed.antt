@@ -1,4 +1,4 @@
--- What an extractor hands over, one frame after another.
+-- The packets that an extractor hands over, one frame after another.
 use Rattle.std.proofs.Common.{◌≡◌, ℕ, ◌==◌, not, if◌then◌else◌, List, [], ◌∷◌, ◌++◌, inl, inr, sym, ◌∙◌, ap, subst, append_assoc, append-nil}
 use Rattle.std.proofs.lemmas.Bool.Decides.{eqb_tells}
 use Rattle.sl_packet.specs.Packet.{is_idle_packet}

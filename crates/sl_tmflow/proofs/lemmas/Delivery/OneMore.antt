@@ -1,4 +1,4 @@
--- What the next frame of a channel does: which packets end in it, and what is incomplete after it.
+-- What the next frame of a channel does: the packets that end in it, and the packet that is incomplete after it.
 use Rattle.std.proofs.Common.{◌≡◌, ℕ, ◌+◌, ◌≤◌, ◌==◌, cond, List, [], ◌∷◌, ◌++◌, length, take, drop, None, Some, refl, sym, ◌∙◌, ap, ap₂, arith, length-append, append-nil, append_assoc, eq-eqb, ne_eqb}
 use Rattle.std.specs.List.{flat_map}
 use Rattle.std.proofs.lemmas.Grind.{flat_map-append}
@@ -21,7 +21,7 @@ use Rattle.sl_tmflow.proofs.lemmas.Delivery.AtStarts.{flat_map-pieces, at_rest, 
 
 -- ---- a packet start
 
--- its outcome where one frame more comes after the last one, so many frames after the start
+-- the outcome of a packet start with one more frame, `passed` frames after the start
 abbrev pub with_next : ℕ → TmView → TmView → Outcome → Outcome
 with_next passed last next (Completes packet n) = Completes packet n
 with_next passed last next (StillIncomplete octets) = after_step (step_of last octets next) passed (StillIncomplete (octets ++ packet_data next))
@@ -52,7 +52,7 @@ pub outcome_of-push : (view : TmView) (octets : List ℕ) (later : List TmView) 
     → outcome_of view octets (later ++ next ∷ []) ≡ with_next (length later + 1) (last_of view later) next (outcome_of view octets later)
 outcome_of-push view octets later next = front-push (front octets) view octets later next
 
--- ---- what is incomplete
+-- ---- the packet that is incomplete
 
 -- the octets after the next frame, if the packet goes on
 abbrev pub carried : Continuation → List ℕ → List (List ℕ)
@@ -85,11 +85,11 @@ frame_incomplete-push view later next =
     ∙ ap incomplete_octets (sym (outcome_of-push view (drop start (packet_data view)) later next)))
     (starts_of view.field)
 
--- after the first frame of a channel what is incomplete starts in it
+-- after the first frame of a channel, the incomplete packet starts in this frame
 pub incomplete_first : (next : TmView) → incomplete_of (next ∷ []) ≡ frame_incomplete next []
 incomplete_first next = append-nil (frame_incomplete next [])
 
--- and after each other frame it is what goes on, and what starts in that frame
+-- after each other frame, the incomplete packet is the one that goes on, or starts in this frame
 pub incomplete_next : (before : List TmView) (last next : TmView)
     → incomplete_of ((before ++ last ∷ []) ++ next ∷ []) ≡ flat_map (carried_into last next) (incomplete_of (before ++ last ∷ [])) ++ frame_incomplete next []
 incomplete_next [] last next =
@@ -126,7 +126,7 @@ ends_elsewhere : (number frame start : ℕ) (packet : List ℕ) (passed : ℕ) �
 ends_elsewhere number frame start packet passed other =
     ap (λ b. packets_delivered (cond b (delivery_with frame start (frame + passed) packet ∷ []) [])) (ne_eqb (frame + passed) number other)
 
--- ---- those that lie whole in the last frame
+-- ---- the packets that lie whole in the last frame
 
 pub at_last : (frame start : ℕ) (view : TmView) (octets : List ℕ) (f : Front)
     → packets_at frame (delivery_of frame start (outcome_of_front f view octets [])) ≡ whole_at f octets
@@ -164,7 +164,7 @@ at_last_field frame view Opaque = refl
 at_last_frame : (frame : ℕ) (view : TmView) → packets_at frame (deliveries_from frame (view ∷ [])) ≡ whole_packets view.field
 at_last_frame frame view = ap (packets_at frame) (append-nil (frame_deliveries frame view [])) ∙ at_last_field frame view view.field
 
--- ---- those that were incomplete before it
+-- ---- the packets that were incomplete before the last frame
 
 -- an incomplete packet that ends in the next frame
 abbrev pub ended_in : TmView → TmView → List ℕ → List (List ℕ)
@@ -176,7 +176,7 @@ step_ending number frame start (Ends packet) passed octets here = ends_there num
 step_ending number frame start Continues passed octets here = refl
 step_ending number frame start Breaks passed octets here = refl
 
--- a packet that ends earlier is none of them
+-- a packet that ended earlier doesn't end in the next frame
 ending_with_next : (number frame start : ℕ) (last next : TmView) (passed : ℕ) (o : Outcome)
     → frame + passed ≡ number → ((packet : List ℕ) (n : ℕ) → o ≡ Completes packet n → n + 1 ≤ passed)
     → packets_at number (delivery_of frame start (with_next passed last next o)) ≡ flat_map (ended_in last next) (incomplete_octets o)
@@ -227,11 +227,11 @@ ending_from number frame (view ∷ before) last next here =
     ∙ sym (append_assoc (flat_map ends (frame_incomplete view later)) (flat_map ends (incomplete_of later)) (whole_packets next.field))
     ∙ ap (λ l. l ++ whole_packets next.field) (sym (flat_map-append ends (frame_incomplete view later) (incomplete_of later)))
 
--- in the first frame of a channel those packets end that lie whole in it
+-- in the first frame of a channel, the packets that lie whole in it end
 pub ending_first : (next : TmView) → packets_ending [] next ≡ whole_packets next.field
 ending_first next = at_last_frame 0 next
 
--- and in each other frame those of the incomplete ones that end there, too
+-- in each other frame, the incomplete packet that ends there ends too
 pub ending_next : (before : List TmView) (last next : TmView)
     → packets_ending (before ++ last ∷ []) next ≡ flat_map (ended_in last next) (incomplete_of (before ++ last ∷ [])) ++ whole_packets next.field
 ending_next before last next = ending_from (length (before ++ last ∷ [])) 0 before last next (omega arith)

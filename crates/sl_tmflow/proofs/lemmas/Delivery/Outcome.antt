@@ -1,4 +1,4 @@
--- A packet start's outcome is that a packet is delivered, exactly where one is delivered from it.
+-- The outcome of a packet start is a delivery exactly where a packet is delivered from the start.
 use Rattle.std.proofs.Common.{◌≡◌, ◌≢◌, ◌⊎◌, ℕ, ◌+◌, ◌<◌, ◌≤◌, true, List, [], ◌∷◌, ◌++◌, length, take, drop, map, Option, inl, inr, refl, sym, ◌∙◌, ap, arith, length-append, append-nil, append_assoc}
 use Rattle.std.specs.List.{AllByRecursion, concat}
 use Rattle.std.proofs.lemmas.Bool.{cases_lt}
@@ -17,7 +17,7 @@ use Rattle.sl_tmflow.proofs.lemmas.Incomplete.Incomplete.{IsIncompleteAfter, rea
 
 -- ---- an incomplete packet that ends in the next frame
 
--- octets that begin a packet which isn't there whole are fewer than it has
+-- octets that begin a packet that isn't there whole are fewer than the packet has
 shorter_than_packet : (octets more packet rest : List ℕ) → IsPacket packet → octets ++ more ≡ packet ++ rest → front octets ≡ Incomplete → length octets < length packet
 shorter_than_packet octets more packet rest p same incomplete =
     elim (cases_lt (length octets) (length packet)) [
@@ -38,7 +38,7 @@ agreed_last octets next packet start run earlier first field x came same is =
     ∙ ap (λ l. agreeing_pointer (length packet) (length l) x.carried) (came ∙ ap (reassembly start) same)
     ∙ ap (agreeing_pointer (length packet) (length (reassembly start earlier))) carried
 
--- a frame's octets are among those that are reassembled
+-- the octets of a frame are among those that are reassembled
 reassembled_inside : (start : List ℕ) (earlier : List TmView) (next : TmView) (later : List TmView) (first : Option ℕ) (field : List ℕ) → next.field ≡ Packets first field
     → length (reassembly start earlier) + length field ≤ length (reassembly start (earlier ++ next ∷ later))
 reassembled_inside start earlier next later first field is =
@@ -49,7 +49,7 @@ reassembled_inside start earlier next later first field is =
     ∙ ap (λ n. length before + n) (length-append (packet_data next) (concat (map packet_data later))) in
     omega arith
 
--- the pointer in an earlier one
+-- the pointer in an earlier frame
 agreed_earlier : (packet start : List ℕ) (run earlier : List TmView) (next : TmView) (later : List TmView) (first : Option ℕ) (field : List ℕ)
     → length (reassembly start run) < length packet → AllByRecursion HasNoStart run → run ≡ earlier ++ next ∷ later → next.field ≡ Packets first field
     → first ≡ agreeing_pointer (length packet) (length (reassembly start earlier)) field
@@ -85,7 +85,7 @@ ends_delivered view start run last octets next packet o test x =
 
 -- ---- from the outcome to the relation
 
--- the packet is delivered at the end of some of these frames, the first ones, which are so many
+-- the packet is delivered at the end of the first `passed` of these frames
 pub record IsDeliveredWithin (view : TmView) (octets : List ℕ) (later : List TmView) (packet : List ℕ) (passed : ℕ) : Type 0 where
   pub run : List TmView
   pub after : List TmView
@@ -157,7 +157,7 @@ outcome_delivered view octets later packet n e = cases (front octets) refl e
 
 -- ---- from the relation to the outcome
 
--- one frame on
+-- the delivery seen from the next frame
 pub delivered_tail : (view : TmView) (octets : List ℕ) (next : TmView) (run : List TmView) (packet : List ℕ) → IsDeliveredBy view octets (next ∷ run) packet
     → IsDeliveredBy next (octets ++ packet_data next) run packet
 delivered_tail view octets next run packet d =
@@ -173,7 +173,7 @@ delivered_tail view octets next run packet d =
           ∙ ap (λ l. agreeing_pointer (length packet) (length l) field) (reassembly-cons octets next earlier);
     }
 
--- where it takes another frame, the packet is longer than what came before
+-- where a packet takes another frame, it is longer than the octets before
 pub longer_than_before : (view : TmView) (octets : List ℕ) (next : TmView) (run : List TmView) (packet : List ℕ) → IsDeliveredBy view octets (next ∷ run) packet
     → length octets < length packet
 longer_than_before view octets next run packet d =
@@ -188,7 +188,7 @@ longer_than_before view octets next run packet d =
           ))
     ]
 
--- then it isn't whole there
+-- where a packet takes another frame, it isn't whole before
 pub incomplete_before_more : (view : TmView) (octets : List ℕ) (next : TmView) (run : List TmView) (packet : List ℕ) → IsDeliveredBy view octets (next ∷ run) packet
     → front octets ≡ Incomplete
 incomplete_before_more view octets next run packet d =
@@ -219,7 +219,7 @@ delivered_ends view octets next packet d = cases next.field refl
     cases Idle is = absurd (no_more (ap data_of is))
     cases Opaque is = absurd (d.none_opaque.0 is)
 
--- and each other one goes on
+-- each other frame of a run continues the packet
 pub delivered_goes_on : (view : TmView) (octets : List ℕ) (next second : TmView) (run : List TmView) (packet : List ℕ) → IsDeliveredBy view octets (next ∷ second ∷ run) packet
     → GoesOnPast octets next.field
 delivered_goes_on view octets next second run packet d =

@@ -1,4 +1,4 @@
--- The packets that a channel delivers with one frame more: those before, and then those that end in that frame.
+-- The packets that a channel delivers with one more frame: those before, and then those that end in this frame.
 use Rattle.std.proofs.Common.{◌≡◌, ℕ, ◌+◌, ◌≤◌, ◌==◌, if◌then◌else◌, List, [], ◌∷◌, ◌++◌, length, drop, None, Some, inl, inr, refl, sym, ◌∙◌, ap, ap₂, arith, length-append, length-drop, append-nil, append_assoc}
 use Rattle.std.specs.List.{AllByRecursion, flat_map}
 use Rattle.std.proofs.lemmas.Bool.Decides.{eqb_tells}
@@ -44,7 +44,7 @@ at_packet view later packet more p =
     ap (λ f. completed (outcome_of_front f view (packet ++ more) later)) (packet_is_whole packet more p)
     ∙ ap (λ l. l ∷ []) (take_at packet more (length packet) refl)
 
--- they are those that lie whole in the data field, and that of what they leave
+-- the packets of a frame's starts: those that lie whole in the data field, and that of the octets after them
 from_pointer : (frame : ℕ) (view : TmView) (later : List TmView) (pointer : ℕ) (octets : List ℕ)
     → packets_delivered (field_deliveries frame view later (Packets (Some pointer) octets))
     ≡ packets_of (drop pointer octets) ++ at_rest (λ l. completed (outcome_of view l later)) (rest_of (drop pointer octets))
@@ -56,7 +56,7 @@ from_pointer frame view later pointer octets =
     ∙ at_starts at (λ packet. packet ∷ []) (at_packet view later) pointer octets
     ∙ ap (λ l. l ++ at_rest at (rest_of (drop pointer octets))) (flat_map_single (λ packet. packet) whole ∙ map-id whole)
 
--- ---- one frame more after a start
+-- ---- one more frame after a start
 
 step_more : (s : Continuation) (passed : ℕ) (octets : List ℕ) → completed (after_step s passed (StillIncomplete octets)) ≡ ended s ++ []
 step_more (Ends packet) passed octets = refl
@@ -78,7 +78,7 @@ rest_more view later next (octet ∷ rest) =
     ap completed (outcome_of-push view (octet ∷ rest) later next)
     ∙ outcome_more (length later + 1) (last_of view later) next (outcome_of view (octet ∷ rest) later)
 
--- of a frame those are delivered, too, that were incomplete and end in the next frame
+-- the packets of a frame that were incomplete and end in the next frame are delivered too
 frame_more : (frame : ℕ) (view : TmView) (later : List TmView) (next : TmView)
     → packets_delivered (frame_deliveries frame view (later ++ next ∷ []))
     ≡ packets_delivered (frame_deliveries frame view later) ++ flat_map (ended_in (last_of view later) next) (frame_incomplete view later)
@@ -108,7 +108,7 @@ at_end frame start view octets OtherVersion = refl
 at_end frame start view octets Incomplete = refl
 at_end frame start view octets (WholePacket len) = refl
 
--- what starts in the last frame and is delivered ends in it
+-- a packet that starts in the last frame and is delivered ends in it
 last_frame : (frame : ℕ) (view : TmView) → packets_delivered (frame_deliveries frame view []) ≡ packets_at frame (frame_deliveries frame view [])
 last_frame frame view =
     let octets = λ (start : ℕ). drop start (packet_data view) in
@@ -135,7 +135,7 @@ none_without_starts frame [] none = refl
 none_without_starts frame (view ∷ later) none =
     ap₂ (λ xs ys. xs ++ ys) (none_in_frame frame view later none.0) (none_without_starts (frame + 1) later none.1)
 
--- so either no packet of a frame is incomplete, or later frames deliver none: the order of the two doesn't matter
+-- Either no packet of a frame is incomplete, or later frames deliver none, so the order of the two doesn't matter.
 no_later : (frame : ℕ) (view : TmView) (later : List TmView) (ends : List ℕ → List (List ℕ))
     → flat_map ends (frame_incomplete view later) ++ packets_delivered (deliveries_from frame later)
     ≡ packets_delivered (deliveries_from frame later) ++ flat_map ends (frame_incomplete view later)
@@ -145,7 +145,7 @@ no_later frame view later ends =
       | inr one ↦ rw (none_without_starts frame later one.2) (append-nil (flat_map ends (frame_incomplete view later)))
     ]
 
--- ---- one frame more
+-- ---- one more frame
 
 between : {X : Type 0} (xs ys zs ws : List X) → ys ++ zs ≡ zs ++ ys → (xs ++ ys) ++ (zs ++ ws) ≡ (xs ++ zs) ++ (ys ++ ws)
 between xs ys zs ws same =
@@ -173,11 +173,11 @@ delivered_from number frame (view ∷ later) next here =
     (sym (frame_ending-push number frame view later next (omega arith)))
     ∙ ap (λ l. packets_delivered (now ++ rest) ++ l) (sym (packets_at-append number now' rest'))
 
--- the packets of a channel with one frame more are those before, and then those that end in that frame
+-- the packets of a channel with one more frame are those before, and then those that end in this frame
 pub delivered_push : PacketsEndOnce
 delivered_push channel next = delivered_from (length channel) 0 channel next (omega arith)
 
--- and those of each channel of frames are, where the frame is one of its own, and else those before
+-- the same for each channel of frames: the new packets come where the frame is the channel's own
 pub packets_of_channel_step : (vc : ℕ) (views : List TmView) (next : TmView)
     → packets_delivered (deliveries_of (channel_of vc (views ++ next ∷ [])))
     ≡ packets_delivered (deliveries_of (channel_of vc views)) ++ (if next.vc == vc then packets_ending (channel_of vc views) next else [])
@@ -187,7 +187,7 @@ packets_of_channel_step vc views next =
       | inr (test, other) ↦ rw (test, other_seen vc views next other) (sym (append-nil (packets_delivered (deliveries_of (channel_of vc views)))))
     ]
 
--- ---- how many they are
+-- ---- how many packets end
 
 whole_few : (field : DataField) → length (whole_packets field) ≤ length (data_of field)
 whole_few (Packets None octets) = omega arith
@@ -207,7 +207,7 @@ ends_few last next (octets ∷ held) =
     let s = step_of last octets next in
     omega (arith, step_few s, ends_few last next held, length-append (ended s) (flat_map (ended_in last next) held))
 
--- in a frame no more packets end than it has octets of packets, and one
+-- no more packets end in a frame than it has octets of packets, and one
 pub ended_few : (channel : List TmView) (next : TmView) → length (packets_ending channel next) ≤ length (packet_data next) + 1
 ended_few [] next = omega (arith, ap length (ending_first next), whole_few next.field)
 ended_few (view ∷ later) next =

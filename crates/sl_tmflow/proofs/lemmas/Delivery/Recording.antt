@@ -1,4 +1,4 @@
--- What a recording delivers.
+-- The packets that a recording delivers.
 use Rattle.std.proofs.Common.{ℕ, zero, suc, ◌+◌, List, [], ◌∷◌, map, refl}
 use Rattle.std.specs.List.{AllByRecursion, range_with_len}
 use Rattle.sl_packet.specs.Delivered.{IsDeliverable}

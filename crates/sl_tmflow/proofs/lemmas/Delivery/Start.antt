@@ -1,4 +1,5 @@
--- The packet starts of a data field: those that are listed, and no others.
+-- The list of the packet starts of a data field: each listed offset is a packet start, and each packet start is
+-- listed.
 use Rattle.std.proofs.Common.{◌≡◌, ℕ, ◌+◌, ◌-◌, ◌<◌, List, [], ◌∷◌, ◌++◌, length, drop, Option, None, Some, inl, inr, refl, sym, ◌∙◌, ap, subst, arith, length-append, length-drop, append_assoc}
 use Rattle.std.specs.Prelude.{⊤}
 use Rattle.std.specs.List.{AllByRecursion, concat}
@@ -11,9 +12,9 @@ use Rattle.sl_tmflow.specs.Among.{IsAmong}
 use Rattle.sl_tmflow.specs.PacketStart.{IsStart, packet_offsets, starts_from}
 use Rattle.sl_fields.proofs.ListLemmas.{concat-push, each-append}
 
--- ---- each that is listed is one
+-- ---- each listed offset is a packet start
 
--- the octets from where packets end that lie end to end from the pointer on
+-- the octets after packets that lie end to end from the pointer on
 pub drop_end : (field : List ℕ) (pointer start : ℕ) (before : List (List ℕ)) (after : List ℕ) → drop pointer field ≡ concat before ++ after
     → start ≡ pointer + length (concat before) → drop start field ≡ after
 drop_end field pointer start before after parts here =
@@ -64,7 +65,7 @@ each_is_start (Some pointer) field =
     offsets_are_starts field pointer pointer [] (packets_of (drop pointer field)) (rest_of (drop pointer field)) tt has.each has.end_to_end
     (omega arith)
 
--- ---- each one is listed
+-- ---- each packet start is listed
 
 among_offsets : (offset start : ℕ) (before packets : List (List ℕ)) (rest : List ℕ) → start ≡ offset + length (concat before)
     → 0 < length (concat packets ++ rest) → IsAmong start (packet_offsets offset (before ++ packets) rest)
@@ -90,7 +91,7 @@ pub is_among : (field : List ℕ) (first : Option ℕ) (start : ℕ) → IsStart
 is_among field first start s =
     subst (λ f. IsAmong start (starts_from f field)) (sym s.pointed) (among_starts field s.pointer start s.before s.packets s.end_to_end s.here s.inside)
 
--- ---- they rise
+-- ---- packet starts rise
 
 abbrev pub AreRising : List ℕ → Type 0
 AreRising [] = ⊤

@@ -1,4 +1,4 @@
--- What the next frame does to an incomplete packet: it ends there, or goes on, or never ends.
+-- What the next frame does to an incomplete packet: it ends the packet, continues it, or breaks it off.
 use Rattle.std.proofs.Common.{◌≡◌, ◌≢◌, ℕ, ◌+◌, ◌-◌, ◌<◌, ◌≤◌, nat_eq, Bool, true, false, if◌then◌else◌, List, [], ◌++◌, length, take, drop, Option, None, Some, is_some, refl, sym, ◌∙◌, ap, arith, append-nil, append_assoc, eqb-true, eq-eqb, le-ltb}
 use Rattle.std.specs.Option.{option_eq}
 use Rattle.std.proofs.lemmas.List.{take-append-drop, take-append-le, take_at, length-take-le}
@@ -13,7 +13,7 @@ use Rattle.sl_tmflow.specs.Delivery.{agreeing_pointer, Ends, Continues, Breaks, 
 
 -- ---- octets that begin a packet
 
--- a packet that lies at the front of octets, of which so many come first, lies in these or is longer
+-- a packet at the front of octets in two parts lies in the first part, unless it is longer than this part
 pub prefix_of_first : (octets more packet rest : List ℕ) → octets ++ more ≡ packet ++ rest → length packet ≤ length octets → IsPrefix packet octets
 prefix_of_first octets more packet rest same inside =
     let first : take (length packet) octets ≡ packet =
@@ -36,7 +36,7 @@ incomplete_before_end octets more packet rest p same short = cases (front octets
         let fits = whole.1 in
         absurd (omega arith)
 
--- where no packet is whole yet, none was before
+-- where no packet is whole, none was whole before
 pub incomplete_before : (octets more : List ℕ) → front (octets ++ more) ≡ Incomplete → front octets ≡ Incomplete
 incomplete_before octets more incomplete = cases (front octets) refl
   where
@@ -80,7 +80,7 @@ agreeing_none len before field covered =
 
 -- ---- the three steps
 
--- the packet ends in this data field, and its pointer says so
+-- the packet ends in this data field, and the frame's pointer says so
 pub record EndsIn (octets : List ℕ) (field : DataField) (packet : List ℕ) : Type 0 where
   pub first : Option ℕ
   pub carried : List ℕ
@@ -89,7 +89,7 @@ pub record EndsIn (octets : List ℕ) (field : DataField) (packet : List ℕ) : 
   pub ends : IsPrefix packet (octets ++ carried)
   pub agrees : first ≡ agreeing_pointer (length packet) (length octets) carried
 
--- the packet goes on past this data field, and no pointer says otherwise
+-- the packet goes on past this data field, and the pointer doesn't say otherwise
 pub record GoesOnPast (octets : List ℕ) (field : DataField) : Type 0 where
   pub is_read : field ≢ Opaque
   pub no_start : (first : Option ℕ) (carried : List ℕ) → field ≡ Packets first carried → first ≡ None
@@ -177,7 +177,7 @@ continues_field octets (Packets first carried) x =
 continues_field octets Idle x = refl
 continues_field octets Opaque x = absurd (x.is_read refl)
 
--- a step that isn't a break is one to a consecutive frame
+-- the next frame is consecutive where its step isn't a break
 pub step_ends : (view : TmView) (octets : List ℕ) (next : TmView) (packet : List ℕ) → step_of view octets next ≡ Ends packet
     → (is_consecutive view next ≡ true) × EndsIn octets next.field packet
 step_ends view octets next packet e = cases (is_consecutive view next) refl e

@@ -38,7 +38,7 @@ wide_room format is = let least = is.least in let last = fecf_len_le format.fecf
 pub short_room : (format : TmFormat) → IsFormat format → field_room_of format ≤ 2042
 short_room format is = let most = is.most in omega arith
 
--- the frames of a virtual channel are of it
+-- each frame of a virtual channel has this virtual channel
 each_of_channel : (room vc mc : ℕ) (packets : List (List ℕ)) (many number : ℕ) → AllByRecursion (λ view. view.vc ≡ vc) (views_from room vc mc packets number many)
 each_of_channel room vc mc packets zero number = tt
 each_of_channel room vc mc packets (suc many) number = (refl, each_of_channel room vc mc packets many (number + 1))
@@ -48,7 +48,7 @@ abbrev EachFrameIs : TmFormat → ℕ → (List ℕ → Type 0) → Type 0
 EachFrameIs format spacecraft P =
     (vc mc vcc : ℕ) (first : Option ℕ) (field : List ℕ) → FitFrame format spacecraft vc mc vcc first field → P (packet_frame format spacecraft vc mc vcc first field)
 
--- ---- the frames of packets that fill so many data fields
+-- ---- the frames of packets that fill a number of data fields
 
 module _ (format : TmFormat) (spacecraft vc mc : ℕ) (packets : List (List ℕ)) (count : ℕ) (is : IsFormat format) (fits : spacecraft ≤ 1023) (vc_fits : vc ≤ 7)
     (size : length (concat packets) ≡ count * field_room_of format) where
@@ -99,7 +99,7 @@ module _ (format : TmFormat) (spacecraft vc mc : ℕ) (packets : List (List ℕ)
 
 -- ---- the frames of a virtual channel
 
--- as they are read
+-- the frames of a virtual channel, as they are read
 abbrev channel_views : TmFormat → ℕ → ℕ → List (List ℕ) → List TmView
 channel_views format vc mc packets =
     let room = field_room_of format in
@@ -154,7 +154,7 @@ of_all : (vc : ℕ) (views : List TmView) → AllByRecursion (λ view. view.vc �
 of_all vc views same =
     filter_all (λ view. view.vc == vc) views (each-weaker (λ view. view.vc ≡ vc) (λ view. (view.vc == vc) ≡ true) (λ view same. eq-eqb view.vc vc same) views same)
 
--- those of a virtual channel, between those of others
+-- the frames of a virtual channel, between those of lower and of higher ones
 of_middle : (vc : ℕ) (before own after : List TmView) → AllByRecursion (λ view. view.vc < vc) before → AllByRecursion (λ view. view.vc ≡ vc) own
     → AllByRecursion (λ view. vc + 1 ≤ view.vc) after → channel_of vc (before ++ (own ++ after)) ≡ own
 of_middle vc before own after low same high =
@@ -177,7 +177,7 @@ module _ (format : TmFormat) (spacecraft : ℕ) (is : IsFormat format) (fits : s
       (channel_each format spacecraft vc mc packets is fits (omega (arith, inside)) each.0 P each_is)
       (form_each P each_is lists (vc + 1) (mc + length frames) (omega (arith, inside)) each.1)
 
-  -- the views of the first virtual channel, and of the others
+  -- the frames of the first virtual channel as they are read, and of the others
   form_parts : (packets : List (List ℕ)) (lists : List (List (List ℕ))) (vc mc : ℕ) → vc ≤ 7 → AllByRecursion IsDeliverable packets
       → form_views vc mc (packets ∷ lists)
       ≡ channel_views format vc mc packets ++ form_views (vc + 1) (mc + length (channel_frames format spacecraft vc mc packets)) lists
@@ -197,7 +197,7 @@ module _ (format : TmFormat) (spacecraft : ℕ) (is : IsFormat format) (fits : s
       (each-weaker (λ view. view.vc ≡ vc) (λ view. vc ≤ view.vc) (λ view same. omega arith) own (channel_of_own format vc mc packets))
       (each-weaker (λ view. vc + 1 ≤ view.vc) (λ view. vc ≤ view.vc) (λ view above. omega arith) (form_views (vc + 1) next lists) (form_above lists (vc + 1) next (omega (arith, inside)) each.1)))
 
-  -- the packets of each virtual channel from one on, where the frames of lower ones come first
+  -- the packets of each virtual channel from one on, after the frames of lower ones
   form_lists : (lists : List (List (List ℕ))) (vc mc : ℕ) (before : List TmView) → vc + length lists ≤ 8 → AllByRecursion (AllByRecursion IsDeliverable) lists
       → AllByRecursion (λ view. view.vc < vc) before
       → map (λ v. without_idle (packets_on (before ++ form_views vc mc lists) v)) (range_with_len vc (length lists)) ≡ lists

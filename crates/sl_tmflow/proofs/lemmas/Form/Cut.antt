@@ -1,4 +1,4 @@
--- Packets that lie end to end, divided into data fields: what of them a data field begins with, and what lies beyond it.
+-- Packets that lie end to end, divided into data fields: the front of a data field, and the octets beyond it.
 use Rattle.std.proofs.Common.{◌≡◌, ℕ, suc, ◌+◌, ◌-◌, ◌*◌, ◌<◌, ◌≤◌, nat_lt, if◌then◌else◌, List, [], ◌∷◌, ◌++◌, length, take, drop, Option, None, Some, sym, ◌∙◌, ap, arith, length-append, length-drop}
 use Rattle.std.specs.List.{AllByRecursion, concat}
 use Rattle.std.proofs.lemmas.List.{drop-drop, drop-append-le}
@@ -9,13 +9,13 @@ use Rattle.sl_tmflow.specs.NormalForm.{data_field_of, first_of}
 use Rattle.sl_tmflow.specs.PacketStart.{packet_offsets}
 use Rattle.sl_tmflow.proofs.lemmas.Form.FieldStart.{found_in, first_is, lies_elsewhere, skip_packet}
 
--- the first header pointer of a data field of so many octets, where the next packet starts at this offset
+-- the first header pointer of a data field of `room` octets, where the next packet starts at this offset
 abbrev pub pointer_at : ℕ → ℕ → Option ℕ
 pointer_at room start = if nat_lt start room then Some start else None
 
 module _ (room : ℕ) (packets : List (List ℕ)) where
-  -- from the data field of a number on there are so many data fields; in them come the octets of a packet that
-  -- started earlier, if one did, and then packets
+  -- From the data field of a number on there are `count` data fields. They have the octets of a packet that started
+  -- earlier, if one did, and then packets.
   pub record IsCut (number : ℕ) (before : List ℕ) (todo : List (List ℕ)) (count : ℕ) : Type 0 where
     pub found : (n : ℕ) → number ≤ n → found_in room n 0 packets ≡ found_in room n (number * room + length before) todo
     pub octets : drop (number * room) (concat packets) ≡ before ++ concat todo
@@ -41,7 +41,7 @@ module _ (room : ℕ) (packets : List (List ℕ)) where
       → data_field_of room number (concat packets) ≡ take room (before ++ concat todo)
   field_is number before todo count s = ap (take room) s.octets
 
-  -- where the next data field begins
+  -- the place of the next data field
   next_field : (number : ℕ) → number * room + room ≡ (number + 1) * room
   next_field number = let e = add-mul number 1 room in let one = one-mul room in omega arith
 
@@ -62,8 +62,8 @@ module _ (room : ℕ) (packets : List (List ℕ)) where
         each = s.each;
       }
 
-  -- so many octets of the data field of a number are left, from the front of these packets on, and so many data
-  -- fields come later
+  -- In the data field of a number, `gap` octets are left, from the front of these packets on, and `count` data fields
+  -- come later.
   pub record IsInside (number gap : ℕ) (todo : List (List ℕ)) (count : ℕ) : Type 0 where
     pub start : ℕ
     pub place : start + gap ≡ room
@@ -117,7 +117,7 @@ module _ (room : ℕ) (packets : List (List ℕ)) where
         each = s.each;
       }
 
-  -- and where a packet goes on in it
+  -- to the next data field, where a packet goes on in it
   pub past_begun : (number gap : ℕ) (packet : List ℕ) (todo : List (List ℕ)) (count : ℕ) → 0 < gap → gap ≤ length packet → IsInside number gap (packet ∷ todo) count
       → IsCut (number + 1) (drop gap packet) todo count
   past_begun number gap packet todo count some more s =

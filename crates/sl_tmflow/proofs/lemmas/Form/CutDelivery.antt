@@ -1,4 +1,4 @@
--- The frames into which packets are divided deliver these packets, in order, and no others.
+-- The frames that packets are divided into deliver these packets, in order, and no others.
 use Rattle.std.proofs.Common.{◌≡◌, ℕ, zero, suc, ◌+◌, ◌-◌, ◌*◌, ◌<◌, ◌≤◌, if◌then◌else◌, List, [], ◌∷◌, ◌++◌, length, take, drop, None, Some, inl, inr, refl, sym, ◌∙◌, ap, ap₂, subst, arith, length-append, length-drop, length-take-le, append-nil}
 use Rattle.std.specs.List.{AllByRecursion, concat, flat_map}
 use Rattle.std.proofs.lemmas.Bool.Decides.{leb_tells}
@@ -71,7 +71,7 @@ in_begun view later octets some incomplete =
     ap₂ (λ ps rest. ps ++ at_rest at rest) (packets_of-none octets none) (rest_of-none octets none)
     ∙ at_some_rest at octets some ∙ ap (λ f. delivered_from (outcome_of_front f view octets later)) incomplete
 
--- packets without octets are none
+-- a list of packets without octets is empty
 no_octets : (packets : List (List ℕ)) → AllByRecursion IsPacket packets → length (concat packets) ≡ 0 → packets ≡ []
 no_octets [] each none = refl
 no_octets (packet ∷ packets) each none = absurd (let least = packet_least packet each.0 in let long = length-append packet (concat packets) in omega arith)
@@ -85,11 +85,11 @@ module _ (room vc mc : ℕ) (packets : List (List ℕ)) where
   abbrev views : ℕ → ℕ → List TmView
   views = views_from room vc mc packets
 
-  -- the packets that the later data fields begin are delivered in order
+  -- the packets that begin in later data fields are delivered in order
   abbrev AreDeliveredLater : ℕ → ℕ → List (List ℕ) → Type 0
   AreDeliveredLater number count later = (before : List ℕ) (todo : List (List ℕ)) → IsCut room packets number before todo count → later ≡ todo
 
-  -- those that begin in what is left of a data field, and then those of the later ones
+  -- the packets that begin in the rest of a data field, and then those of the later ones, are delivered in order
   delivered_inside : (todo : List (List ℕ)) (number gap count : ℕ) (later : List (List ℕ)) → 0 < room → IsInside room packets number gap todo count
       → AreDeliveredLater (number + 1) count later
       → delivered_in (view number) (views (number + 1) count) (take gap (concat todo)) ++ later ≡ todo
@@ -160,7 +160,7 @@ module _ (room vc mc : ℕ) (packets : List (List ℕ)) where
             ∙ delivered_later count (number + 1) (frame + 1) (drop room before) todo some (past_covered room packets number before todo count covered s)
       ]
 
-  -- all of them
+  -- all packets are delivered
   pub all_delivered : (count : ℕ) → 0 < room → AllByRecursion IsPacket packets → length (concat packets) ≡ count * room
       → packets_delivered (deliveries_of (views 0 count)) ≡ packets
   all_delivered count some each size = delivered_later count 0 0 [] packets some (first_cut room packets count each size)

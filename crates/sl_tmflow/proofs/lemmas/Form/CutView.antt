@@ -21,7 +21,7 @@ delivered_from (Completes packet passed) = packet ∷ []
 delivered_from (StillIncomplete octets) = []
 delivered_from Undelivered = []
 
--- a packet that so many octets began, and that ends in a data field or at its end, agrees with the next start
+-- a packet with `before` octets so far, which ends in a data field or at its end, agrees with the next packet start
 pointer_agrees : (room len before more : ℕ) (field : List ℕ) → length field ≡ room → len ≡ before + more → more ≤ room
     → pointer_at room more ≡ agreeing_pointer len before field
 pointer_agrees room len before more field whole long ends =
@@ -39,7 +39,7 @@ pointer_agrees room len before more field whole long ends =
 pub next_count : (number : ℕ) → follows (number % 256) ((number + 1) % 256) ≡ true
 next_count number = let next : (number + 1) % 256 ≡ (number % 256 + 1) % 256 = omega arith in eq-eqb ((number + 1) % 256) ((number % 256 + 1) % 256) next
 
--- what a step that is no break makes of a packet
+-- the delivery after a step that isn't a break
 after_ends : (s : Continuation) (packet : List ℕ) (passed : ℕ) (rest : Outcome) → s ≡ Ends packet → delivered_from (after_step s passed rest) ≡ packet ∷ []
 after_ends s packet passed rest e = ap (λ c. delivered_from (after_step c passed rest)) e
 
@@ -47,7 +47,7 @@ after_continues : (s : Continuation) (passed : ℕ) (rest : Outcome) → s ≡ C
 after_continues s passed rest e = ap (λ c. delivered_from (after_step c passed rest)) e
 
 module _ (room vc mc : ℕ) (packets : List (List ℕ)) where
-  -- the view of the frame of a number, from 0, that carries packets
+  -- the view of the frame of a number, from 0
   abbrev pub view_at : ℕ → TmView
   view_at number = packet_view vc ((mc + number) % 256) (number % 256) (first_of room number (packet_offsets 0 packets [])) (data_field_of room number (concat packets))
 
@@ -98,7 +98,7 @@ module _ (room vc mc : ℕ) (packets : List (List ℕ)) where
             (omega (arith, length-append so_far all, length-append so_far more, ap length all_is, full, longer));
       }
 
-  -- a packet of which these octets came, and the others come in the data fields from a number on, is delivered
+  -- a packet is delivered where these octets of it came and the others come in the data fields from a number on
   pub put_together : (count number passed : ℕ) (view : TmView) (so_far more : List ℕ) (todo : List (List ℕ)) → 0 < room → follows view.vc_count (number % 256) ≡ true
       → IsPacket (so_far ++ more) → 0 < length more → IsCut room packets number more todo count
       → delivered_from (outcome_after passed view so_far (views_from number count)) ≡ (so_far ++ more) ∷ []

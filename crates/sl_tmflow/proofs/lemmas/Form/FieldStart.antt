@@ -1,4 +1,4 @@
--- Where packets start in the data fields into which they are divided.
+-- The packet starts in the data fields that packets are divided into.
 use Rattle.std.proofs.Common.{◌≡◌, ℕ, suc, ◌+◌, ◌-◌, ◌*◌, ◌/◌, ◌<◌, ◌≤◌, ◌==◌, nat_lt, true, false, List, [], ◌∷◌, length, Option, Some, None, refl, arith, inl, inr, if◌then◌else◌}
 use Rattle.std.specs.List.{concat, find}
 use Rattle.std.proofs.lemmas.Bool.Decides.{leb_tells, nat_tests}
@@ -8,7 +8,7 @@ use Rattle.std.proofs.Math.Nat.{suc-mul, le-div_iff_mul-le}
 use Rattle.sl_tmflow.specs.NormalForm.{lies_in, first_of}
 use Rattle.sl_tmflow.specs.PacketStart.{packet_offsets}
 
--- the first of these offsets that lies in the data field of a number
+-- the first packet start that lies in the data field of a number
 abbrev pub found_in : ℕ → ℕ → ℕ → List (List ℕ) → Option ℕ
 found_in room number offset packets = find (lies_in room number) (packet_offsets offset packets [])
 
@@ -20,7 +20,7 @@ pub lies_elsewhere : (room number other start : ℕ) → start < room → number
 lies_elsewhere room number other start inside less =
     let e = div-mul-add number room start inside in ne_eqb ((number * room + start) / room) other (λ h. absurd (omega arith))
 
--- offsets beyond a data field aren't in it
+-- an offset beyond a data field doesn't lie in it
 pub no_later : (room number offset : ℕ) (packets : List (List ℕ)) → 0 < room → number * room + room ≤ offset → found_in room number offset packets ≡ None
 no_later room number offset [] some beyond = refl
 no_later room number offset (packet ∷ packets) some beyond =

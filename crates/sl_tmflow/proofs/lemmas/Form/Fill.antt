@@ -15,7 +15,7 @@ use Rattle.sl_packet.proofs.PacketsLemmas.{packets_of-concat}
 use Rattle.sl_tmflow.specs.NormalForm.{fill_of, filling, with_filling, IsLeastFill}
 use Rattle.sl_fields.proofs.ListLemmas.{each-append, each-weaker, filter_all, filter_none}
 
--- the filling for a gap of fewer octets than the room
+-- the filling for a gap that is smaller than the room
 abbrev wide_enough : ℕ → ℕ → ℕ
 wide_enough room gap = if (gap == 0) || not (nat_lt gap 7) then gap else gap + room
 
@@ -26,14 +26,14 @@ as_it_is room gap (inr h) = grind (arith, nat_tests)
 one_room_more : (room gap : ℕ) → 0 < gap → gap < 7 → wide_enough room gap ≡ gap + room
 one_room_more room gap some narrow = grind (arith, nat_tests)
 
--- a whole number of rooms is no less than two, where it isn't none or one
+-- a multiple of the room that is neither 0 nor the room is two rooms at least
 at_least_two : (room k : ℕ) → 0 < k → (k ≡ 1 → ⊥) → room + room ≤ k * room
 at_least_two room zero some more = absurd (omega arith)
 at_least_two room (suc zero) some more = absurd (more refl)
 at_least_two room (suc (suc k)) some more =
     let e = add-mul (suc k) 1 room in let f = add-mul k 1 room in let one = one-mul room in omega arith
 
--- what is left of whole rooms after fewer of them
+-- the octets after whole rooms, in a multiple of the room, are whole rooms
 whole_rooms : (room q k s : ℕ) → q * room + s ≡ k * room → 0 < s → (d : ℕ) × (s ≡ d * room)
 whole_rooms room zero k s e some = (k, omega (arith, e, zero-mul room))
 whole_rooms room (suc q) zero s e some = let z = zero-mul room in absurd (omega arith)
@@ -49,7 +49,7 @@ at_least_one : (room k : ℕ) → 0 < k → room ≤ k * room
 at_least_one room zero some = absurd (omega arith)
 at_least_one room (suc k) some = let e = suc-mul k room in omega arith
 
--- so many rooms take what is left in one, and other octets
+-- a multiple of the room after the octets of a part of a room has at least the rest of this room
 past_one_room : (room left gap other d : ℕ) → 0 < left → gap + left ≡ room → left + other ≡ d * room → gap ≤ other
 past_one_room room left gap other zero some whole e = let z = zero-mul room in absurd (omega arith)
 past_one_room room left gap other (suc d) some whole e = let o = at_least_one room (suc d) (omega arith) in omega arith
@@ -62,7 +62,7 @@ past_two_rooms room left gap other (suc zero) some there narrow whole (inr wide)
 past_two_rooms room left gap other (suc (suc d)) some there narrow whole (inr wide) e =
     let o = at_least_two room (suc (suc d)) (omega arith) (λ h. absurd (omega arith)) in omega arith
 
--- where octets are left in the last room, filled up by the rest of it
+-- the least filling, where the last room is partly filled
 least_gap : (room len gap : ℕ) → 7 ≤ room → 0 < len % room → gap + len % room ≡ room → gap < room → (gap ≡ 0 → ⊥) → IsLeastFill room len (wide_enough room gap)
 least_gap room len gap roomy some whole inside there =
     let len_is : len / room * room + len % room ≡ len = div-add-mod' len room in
@@ -108,7 +108,7 @@ fill_is_least room len some =
 
 -- ---- packets, filled up
 
--- no octets want none
+-- no octets need no filling
 no_fill : (room : ℕ) → fill_of room 0 ≡ 0
 no_fill room =
     let all : room - 0 ≡ room = omega arith in
@@ -136,7 +136,7 @@ some_fill room len some there =
       | inr wide ↦ wide
     ]
 
--- the filling is an idle packet of as many octets as are wanted
+-- the filling is an idle packet of the needed length
 pub filling_is : (room len : ℕ) → 7 ≤ room → room ≤ 65536 → AllByRecursion IsPacket (filling room len) × (length (concat (filling room len)) ≡ fill_of room len)
 filling_is room len some short =
     elim (eqb_tells (fill_of room len) 0) [
@@ -168,7 +168,7 @@ filled_whole room packets some short =
     ap (λ n. n % room) (ap length (sym (filled_octets room packets)) ∙ length-append (concat packets) (concat (filling room len)) ∙ ap (λ n. len + n) (filling_is room len some short).1)
     ∙ (fill_is_least room len some).fills
 
--- and without the idle packet that fills them up they are as they were
+-- packets that an idle packet filled up are the same without it
 pub filled_without_idle : (room : ℕ) (packets : List (List ℕ)) → 7 ≤ room → room ≤ 65536 → AllByRecursion IsDeliverable packets → without_idle (with_filling room packets) ≡ packets
 filled_without_idle room packets some short each =
     let fill = filling room (length (concat packets)) in

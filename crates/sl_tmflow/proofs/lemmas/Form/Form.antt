@@ -25,7 +25,7 @@ count_next count n is = omega (arith, is)
 pub count_later : (count n k : ℕ) → count ≡ n % 256 → (count + k) % 256 ≡ (n + k) % 256
 count_later count n k is = omega (arith, is)
 
--- numbers in two parts
+-- a range of numbers in two parts
 pub two_ranges : (f : ℕ → List ℕ) (n from m : ℕ) → map f (range_with_len from (n + m)) ≡ map f (range_with_len from n) ++ map f (range_with_len (from + n) m)
 two_ranges f zero from m =
     let none : 0 + m ≡ m = omega arith in
@@ -52,7 +52,7 @@ module _ (format : TmFormat) (spacecraft vc before : ℕ) (packets : List (List 
   abbrev first_at : ℕ → Option ℕ
   first_at number = first_of room number (packet_offsets 0 packets [])
 
-  -- the octets after those of so many data fields have the next one at their front
+  -- the next data field is at the front of the octets after the data fields that were made
   field_is : (number : ℕ) (made octets more : List ℕ) → concat packets ≡ made ++ (octets ++ more) → length made ≡ number * room → room ≤ length octets
       → take room octets ≡ data_field_of room number (concat packets)
   field_is number made octets more parts size enough =
@@ -99,13 +99,13 @@ module _ (room : ℕ) (packets : List (List ℕ)) (count start : ℕ) (octets pa
   abbrev many : ℕ
   many = length all / room
 
-  -- beyond the data field the packet is passed over
+  -- the packet doesn't start in a later data field
   past : (number : ℕ) → count < number → start_in room number 0 packets ≡ start_in room number (count * room + length all) later
   past number above =
       let on : count * room + length octets + length packet ≡ count * room + length all = omega (arith, length-append octets packet) in
       p.after number above ∙ skip_packet room number (count * room + length octets) packet later (lies_elsewhere room count number (length octets) few above) ∙ ap (λ n. start_in room number n later) on
 
-  -- the octets of whole data fields, and those beyond them
+  -- the octets of whole data fields, and the octets beyond them
   whole : many * room + length (drop (many * room) all) ≡ length all
   whole = let parts = div-add-mod' (length all) room in omega (arith, parts, length-drop (many * room) all)
 

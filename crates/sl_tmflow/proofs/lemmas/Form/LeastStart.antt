@@ -7,7 +7,7 @@ use Rattle.sl_tmflow.specs.NormalForm.{lies_in, first_of, LiesIn, IsLeastStart, 
 use Rattle.sl_tmflow.specs.PacketStart.{packet_offsets}
 use Rattle.sl_tmflow.proofs.lemmas.Form.FieldStart.{lies_here}
 
--- an offset has the number of the data field in which it lies, and of no other
+-- an offset lies in the data field of its number, and in no other
 lies_there : (room number offset : ℕ) → 0 < room → lies_in room number offset ≡ true → LiesIn room number offset
 lies_there room number offset some test =
     let same : offset / room ≡ number = eqb-true (offset / room) number test in
@@ -22,13 +22,13 @@ tells room number offset lies =
     let back : number * room + (offset - number * room) ≡ offset = omega arith in
     ap (lies_in room number) (sym back) ∙ lies_here room number (offset - number * room) (omega arith)
 
--- packets that lie end to end start at no offset before the first one
+-- packets that lie end to end have no start before the first one
 none_before : (offset : ℕ) (packets : List (List ℕ)) (start : ℕ) → IsAmong start (packet_offsets offset packets []) → offset ≤ start
 none_before offset [] start among = absurd among
 none_before offset (packet ∷ packets) start (inl same) = omega arith
 none_before offset (packet ∷ packets) start (inr among) = omega (arith, none_before (offset + length packet) packets start among)
 
--- an offset before the others that doesn't lie in the data field changes nothing
+-- an offset in front that doesn't lie in the data field changes nothing
 one_more : (room number offset : ℕ) (offsets : List ℕ) (first : Option ℕ) → (LiesIn room number offset → ⊥)
     → IsLeastStart room number offsets first → IsLeastStart room number (offset ∷ offsets) first
 one_more room number offset offsets None outside least =
@@ -45,7 +45,7 @@ one_more room number offset offsets (Some first) outside least = (
   ],
 )
 
--- one offset before the others, of packets that lie end to end
+-- an offset in front, of packets that lie end to end
 with_first : (room number offset : ℕ) (packet : List ℕ) (packets : List (List ℕ)) → 0 < room → (b : Bool) → lies_in room number offset ≡ b
     → IsLeastStart room number (packet_offsets (offset + length packet) packets []) (first_of room number (packet_offsets (offset + length packet) packets []))
     → IsLeastStart room number (packet_offsets offset (packet ∷ packets) []) (first_of room number (packet_offsets offset (packet ∷ packets) []))

@@ -1,4 +1,5 @@
--- What is left of a normal form that is made piece by piece, from piece to piece and from channel to channel.
+-- The octets that are still to come of a normal form that is made piece by piece, from piece to piece and from
+-- channel to channel.
 use Rattle.std.proofs.Common.{◌≡◌, ℕ, suc, ◌+◌, ◌-◌, ◌*◌, ◌/◌, ◌%◌, ◌<◌, ◌≤◌, ◌==◌, false, if◌then◌else◌, List, [], ◌∷◌, ◌++◌, length, take, drop, map, Some, refl, sym, ◌∙◌, ap, ap₂, subst, arith, inl, inr, length-append, append_assoc, append-nil, add-one}
 use Rattle.std.specs.List.{concat, range_with_len, slice_index_or}
 use Rattle.std.proofs.lemmas.Bool.Decides.{eqb_tells, leb_tells}
@@ -72,7 +73,7 @@ left_next s left packet later taken roomy few here there most l =
 
 -- ---- from channel to channel
 
--- the frames from a channel on are its own and those of the channels after it
+-- the frames from a channel on are the channel's own and those of later channels
 from_channel : (format : TmFormat) (spacecraft : ℕ) (lists : List (List (List ℕ))) (v mc : ℕ)
     → concat (frames_from_channel format spacecraft v mc (drop v lists))
     ≡ concat (channel_frames format spacecraft v mc (slice_index_or lists v []))
@@ -98,7 +99,7 @@ from_channel format spacecraft lists v mc =
           all ∙ ap₂ (λ a b. a ++ b) (sym own) (sym others)
     ]
 
--- at the front of a channel its frames and those of the channels after it are left
+-- at the front of a channel, its frames and those of later channels are still to come
 pub left_at_front : (s : FormProgress) (before : ℕ) → 0 < field_room_of s.format → s.taken ≡ 0 → s.counter ≡ 0 → s.octets ≡ [] → s.start ≡ 0 → s.master ≡ before % 256
     → IsLeft s (concat (frames_from_channel s.format s.spacecraft s.vc before (drop s.vc (take 8 s.lists))))
 left_at_front s before roomy taken counter octets start master =
@@ -131,7 +132,7 @@ left_at_front s before roomy taken counter octets start master =
 
 -- ---- the packets of a channel, filled up
 
--- the filling depends on what is left of whole rooms alone
+-- the filling depends only on the octets beyond whole rooms
 same_filling : (room a b : ℕ) → a % room ≡ b % room → filling room a ≡ filling room b
 same_filling room a b same = rw (same) refl
 
@@ -147,11 +148,11 @@ few_filled s =
     let fill = filling (field_room_of s.format) (length (concat (channel_packets s))) in
     omega (arith, length-append (channel_packets s) fill, few_filling (field_room_of s.format) (length (concat (channel_packets s))))
 
--- the packets of a virtual channel, among all
+-- the packets of a virtual channel, among the lists of all
 pub channel_is : (s : FormProgress) → s.vc < 8 → channel_packets s ≡ slice_index_or s.lists s.vc []
 channel_is s inside = get_or-take 8 s.lists s.vc [] inside
 
--- where packets are left, the next one
+-- the next packet, where packets are left
 pub packet_here : (s : FormProgress) → s.taken < length (channel_packets s)
     → drop s.taken (filled_packets s) ≡ slice_index_or (channel_packets s) s.taken [] ∷ drop (s.taken + 1) (filled_packets s)
 packet_here s inside =
@@ -161,14 +162,14 @@ packet_here s inside =
     ∙ ap (λ n. slice_index_or packets s.taken [] ∷ (drop n packets ++ fill)) (sym (add-one s.taken))
     ∙ ap (λ l. slice_index_or packets s.taken [] ∷ l) (sym (drop-append-le (s.taken + 1) packets fill (omega (arith, inside))))
 
--- the octets of the channel, where no packet is left beyond these
+-- how many octets the filled-up packets of the channel have, where these packets are still to be taken
 octets_of_all : (s : FormProgress) (left : List ℕ) (later : List (List ℕ)) → drop s.taken (filled_packets s) ≡ later → (l : IsLeft s left)
     → length (concat (filled_packets s)) ≡ l.count * field_room_of s.format + length s.octets + length (concat later)
 octets_of_all s left later is l =
     let p = l.pending in
     omega (arith, ap length p.parts, length-append p.made (s.octets ++ concat (drop s.taken (filled_packets s))), length-append s.octets (concat (drop s.taken (filled_packets s))), p.size, ap (λ ps. length (concat ps)) is)
 
--- octets beyond whole data fields are left only before the filling
+-- where octets are left and no packets, the filling isn't taken yet
 last_taken : (s : FormProgress) (left : List ℕ) → 7 ≤ field_room_of s.format → field_room_of s.format ≤ 65536 → length s.octets < field_room_of s.format → 0 < length s.octets
     → length (channel_packets s) ≤ s.taken → IsLeft s left → s.taken ≡ length (channel_packets s)
 last_taken s left wide short few some beyond l =
@@ -187,7 +188,7 @@ last_taken s left wide short few some beyond l =
 one_packet : (room len : ℕ) → (fill_of room len == 0) ≡ false → filling room len ≡ concat (filling room len) ∷ []
 one_packet room len test = rw (test) (ap (λ q. q ∷ []) (sym (append-nil (idle_packet (fill_of room len)))))
 
--- where octets are left alone, the filling is next, and the last
+-- where octets are left and no packets, the filling is next, and is the last packet
 pub filling_here : (s : FormProgress) (left : List ℕ) → 7 ≤ field_room_of s.format → field_room_of s.format ≤ 65536 → length s.octets < field_room_of s.format → 0 < length s.octets
     → length (channel_packets s) ≤ s.taken → IsLeft s left → drop s.taken (filled_packets s) ≡ filling_of s ∷ []
 filling_here s left wide short few some beyond l =
@@ -214,7 +215,7 @@ after_filling s taken is = drop_all taken (filled_packets s) (omega (arith, few_
 
 -- ---- pieces
 
--- a packet's piece
+-- a packet adds its piece
 pub adds_packet : (s s' : FormProgress) (packet before after : List ℕ) → 0 < field_room_of s.format → length s.octets < field_room_of s.format → s.taken < length (channel_packets s)
     → slice_index_or (channel_packets s) s.taken [] ≡ packet → s' ≡ after_packet s packet (s.taken + 1) → after ≡ before ++ piece_of s packet → AddsPiece s before after s'
 adds_packet s s' packet before after roomy few inside is next added =
@@ -226,7 +227,7 @@ adds_packet s s' packet before after roomy few inside is next added =
           (left_next s octets packet later (s.taken + 1) roomy few (packet_here s inside ∙ ap (λ p. p ∷ later) is) refl (omega (arith, inside)) l);
     }
 
--- the piece of the packet that fills up
+-- the packet that fills up adds its piece
 pub adds_filling : (s s' : FormProgress) (taken : ℕ) (before after : List ℕ) → 7 ≤ field_room_of s.format → field_room_of s.format ≤ 65536 → length s.octets < field_room_of s.format → 0 < length s.octets
     → length (channel_packets s) ≤ s.taken → taken ≡ length (channel_packets s) + 1 → s' ≡ after_packet s (filling_of s) taken → after ≡ before ++ piece_of s (filling_of s) → AddsPiece s before after s'
 adds_filling s s' taken before after wide short few some beyond last next added =
@@ -237,7 +238,7 @@ adds_filling s s' taken before after wide short few some beyond last next added 
           (left_next s octets (filling_of s) [] taken (omega (arith, wide)) few (filling_here s octets wide short few some beyond l) (after_filling s taken last) (omega (arith, last)) l);
     }
 
--- the progress, where the octets that are kept are these
+-- the progress with these octets kept
 abbrev pub keeping : FormProgress → List ℕ → FormProgress
 keeping s octets =
     record {
@@ -258,7 +259,7 @@ passed_is s octets packet frames taken is many = rw (is, many) refl
 
 -- ---- the next channel
 
--- where no packet is left, and no octets, no frame is
+-- no frame is left where no packet and no octets are
 none_many : (s : FormProgress) (left : List ℕ) → 0 < field_room_of s.format → length (channel_packets s) ≤ s.taken → s.octets ≡ [] → (l : IsLeft s left) → l.many ≡ 0
 none_many s left roomy beyond nothing l =
     let room = field_room_of s.format in
@@ -293,7 +294,7 @@ left_next_channel s left roomy beyond nothing l =
     let is : left ≡ others l.count = l.left_is ∙ ap (λ n. concat (map frame (range_with_len l.count n)) ++ others (l.count + n)) none ∙ ap others count in
     subst (IsLeft (next_channel s)) (sym is) (left_at_front (next_channel s) (l.before + l.count) roomy refl refl nothing start l.master_is)
 
--- after the last channel nothing is left
+-- no octets are left after the last channel
 pub none_left_after : (s : FormProgress) → 8 ≤ s.vc → IsAllMade s
 none_left_after s beyond left l =
     let room = field_room_of s.format in
@@ -307,7 +308,7 @@ none_left_after s beyond left l =
     l.left_is ∙ ap (λ n. concat (map frame (range_with_len l.count n)) ++ others n (drop (s.vc + 1) (take 8 s.lists))) many
     ∙ ap (others 0) (drop_all (s.vc + 1) (take 8 s.lists) (omega (arith, few, beyond)))
 
--- where more is left, there are packets
+-- there are packets where more is left
 pub some_packets : (s : FormProgress) (left : List ℕ) → HasMore s → IsLeft s left → HasPackets s.lists
 some_packets s left m l =
     let inside = m.inside in
@@ -327,7 +328,7 @@ some_packets s left m l =
       ),
     )
 
--- where more is left, and no packet, octets are
+-- octets are left where more is left and no packet
 pub octets_left : (s : FormProgress) → HasMore s → length (channel_packets s) ≤ s.taken → 0 < length s.octets
 octets_left s m beyond =
     let inside = m.inside in
@@ -351,7 +352,7 @@ fewer_after s packet inside some =
     let here = ap packets_in (drop-cons (take 8 s.lists) s.vc [] inside) in
     omega (arith, here)
 
--- also where the packet fills up
+-- fewer pieces are left after the packet that fills up
 pub fewer_filled : (s : FormProgress) (left packet : List ℕ) (taken : ℕ) → 7 ≤ field_room_of s.format → field_room_of s.format ≤ 65536 → length s.octets < field_room_of s.format → 0 < length s.octets
     → length (channel_packets s) ≤ s.taken → s.vc < length (take 8 s.lists) → taken ≡ length (channel_packets s) + 1 → IsLeft s left → packets_left (after_packet s packet taken) < packets_left s
 fewer_filled s left packet taken wide short few some beyond inside is l =

@@ -55,7 +55,7 @@ next_field format heading first left field later roomy divided whole =
     ∙ ap (λ f. headed_frame format heading first f ++ field_frames format many (heading_after heading 1) None (drop (field_room_of format) left)) front
     ∙ ap (λ l. headed_frame format heading first field ++ field_frames format many (heading_after heading 1) None l) back
 
--- a frame has the octets of its format
+-- a frame has the length of its format
 pub frame_size : (format : TmFormat) (heading : Heading) (first : Option ℕ) (field : List ℕ) → 8 ≤ format.len → length field ≡ field_room_of format
     → length (headed_frame format heading first field) ≡ format.len
 frame_size format heading first field long whole =
@@ -84,7 +84,7 @@ pushes_next format heading end size first left field later form form' len len' r
       sizes = omega (arith, p.sizes, step, lengths, is, is', ap length added, length-append form frame, frame_size format heading first field long whole);
     }
 
--- no data field is left
+-- all frames are pushed where no data field is left
 pub all_pushed : (format : TmFormat) (heading : Heading) (end : List ℕ) (size : ℕ) (first : Option ℕ) (left form : List ℕ) (len : ℕ) → length left < field_room_of format
     → IsPushing format heading end size first left form len → (form ≡ end) × (len ≡ size)
 all_pushed format heading end size first left form len few p =

@@ -1,4 +1,4 @@
--- The steps by which a normal form is made, as its lemmas say them.
+-- The steps that make a normal form, as its lemmas state them.
 use Rattle.std.specs.Prelude.{ℕ, ◌+◌, ◌%◌, ◌==◌, if◌then◌else◌, List, ◌++◌, length, Some}
 use Rattle.std.specs.List.{concat}
 use Rattle.sl_tmframe.specs.PacketFrame.{field_room_of}
@@ -10,7 +10,7 @@ use Rattle.sl_tmflow.specs.declared.form.Heading.{Heading}
 abbrev pub heading_of : FormProgress → Heading
 heading_of s = record { spacecraft = s.spacecraft; vc = s.vc; master = s.master; counter = s.counter }
 
--- the idle packet that fills up what is left of a virtual channel, or nothing
+-- the idle packet that fills up the octets that are left of a virtual channel, or nothing
 abbrev pub filling_of : FormProgress → List ℕ
 filling_of s = concat (filling (field_room_of s.format) (length s.octets))
 
@@ -18,7 +18,7 @@ filling_of s = concat (filling (field_room_of s.format) (length s.octets))
 abbrev pub piece_of : FormProgress → List ℕ → List ℕ
 piece_of s packet = frames_of s.format (heading_of s) (Some s.start) (s.octets ++ packet)
 
--- after a packet, when so many were taken
+-- the progress after a packet, when `taken` packets were taken
 abbrev pub after_packet : FormProgress → List ℕ → ℕ → FormProgress
 after_packet s packet taken =
     record {

@@ -1,4 +1,5 @@
--- The incomplete packets that the next frame breaks off, as they are listed: each is broken off, each that is is there, and one at most.
+-- The list of the incomplete packets that the next frame breaks off: each listed packet is broken off, each
+-- broken-off packet is listed, and there is at most one.
 use Rattle.std.proofs.Common.{◌≡◌, ℕ, ◌+◌, ◌≤◌, List, [], ◌∷◌, ◌++◌, length, drop, Option, inl, inr, refl, sym, ◌∙◌, ap, ap₂, subst, arith, append_assoc, length-append}
 use Rattle.std.specs.List.{AllByRecursion, flat_map}
 use Rattle.std.proofs.lemmas.Grind.{flat_map-append}
@@ -20,15 +21,15 @@ use Rattle.sl_tmflow.proofs.lemmas.Delivery.OneMore.{with_next, outcome_of-push}
 use Rattle.sl_tmflow.proofs.lemmas.Delivery.Outcome.{delivered_outcome, delivered_step}
 use Rattle.sl_tmflow.proofs.lemmas.Delivery.Start.{each_is_start, is_among}
 
--- what becomes of a packet start of a frame
+-- the outcome of a packet start of a frame
 abbrev start_outcome : TmView → ℕ → List TmView → Outcome
 start_outcome view start later = outcome_of view (drop start (packet_data view)) later
 
--- its octets, where the next frame breaks it off
+-- the octets of a packet start's packet, where the next frame breaks the packet off
 abbrev broken_at : TmView → List TmView → TmView → ℕ → List (List ℕ)
 broken_at view later next start = broken_octets (start_outcome view start later) (start_outcome view start (later ++ next ∷ []))
 
--- one frame more after a channel whose frames these are
+-- one more frame after a channel with these frames
 one_frame_more : (channel before : List TmView) (view : TmView) (later : List TmView) (next : TmView) → channel ≡ before ++ view ∷ later
     → channel ++ next ∷ [] ≡ before ++ view ∷ (later ++ next ∷ [])
 one_frame_more channel before view later next all = ap (λ l. l ++ next ∷ []) all ∙ append_assoc before (view ∷ later) (next ∷ [])
@@ -55,7 +56,7 @@ delivered_there channel before view later d all here x =
           ∙ delivered_outcome x.view (drop d.start x.octets) x.run x.after d.packet x.delivered,
     )
 
--- ---- each that is listed is broken off
+-- ---- each listed packet is broken off
 
 start_broken : (channel before : List TmView) (view : TmView) (later : List TmView) (next : TmView) (first : Option ℕ) (field : List ℕ) (start : ℕ)
     → channel ≡ before ++ view ∷ later → view.field ≡ Packets first field → IsStart field first start
@@ -117,7 +118,7 @@ each_from channel before (view ∷ later) next all =
 pub each_listed_is_broken_off : EachListedIsBrokenOff
 each_listed_is_broken_off channel next = each_from channel [] channel next refl
 
--- ---- the outcome with one frame more
+-- ---- the outcome with one more frame
 
 -- the octets of an incomplete packet that the next frame breaks off
 abbrev pub lost : Continuation → List ℕ → List (List ℕ)
@@ -128,7 +129,7 @@ lost Breaks octets = octets ∷ []
 abbrev pub lost_in : TmView → TmView → List ℕ → List (List ℕ)
 lost_in last next octets = lost (step_of last octets next) octets
 
--- a packet that was incomplete is delivered with the next frame, if it is
+-- a packet that was incomplete ends in the next frame, if it is delivered then
 ends_next : (view : TmView) (start : ℕ) (later : List TmView) (next : TmView) (octets packet : List ℕ) (passed : ℕ)
     → start_outcome view start later ≡ StillIncomplete octets → start_outcome view start (later ++ next ∷ []) ≡ Completes packet passed → length later + 1 ≡ passed
 ends_next view start later next octets packet passed before after =
@@ -141,7 +142,7 @@ ends_next view start later next octets packet passed before after =
       | inr there ↦ absurd (let both : rest ≡ Completes packet passed = there.1 in cc)
     ]
 
--- ---- each that is broken off is listed
+-- ---- each broken-off packet is listed
 
 outcome_listed : (channel : List TmView) (next : TmView) (octets : List ℕ) (x : IsBrokenOff channel next octets) (o : Outcome)
     → start_outcome x.before.incomplete.view x.before.incomplete.offset (x.before.incomplete.run ++ next ∷ []) ≡ o → IsAmong octets (broken_octets (StillIncomplete octets) o)
@@ -197,7 +198,7 @@ each_broken_off_is_listed channel next octets x =
     let i = x.before.incomplete in
     subst (λ l. IsAmong octets (broken_off l next)) (sym i.in_order) (listed_from octets i.before i.view i.run next (broken_listed channel next octets x))
 
--- ---- what is broken off was incomplete
+-- ---- a broken-off packet was incomplete
 
 lost_step : (s : Continuation) (passed : ℕ) (octets more : List ℕ) → lost s octets ++ [] ≡ broken_octets (StillIncomplete octets) (after_step s passed (StillIncomplete more))
 lost_step (Ends packet) passed octets more = refl
@@ -218,7 +219,7 @@ frame_broken-push view later next =
     ∙ ap (broken_octets (start_outcome view start later)) (sym (outcome_of-push view (drop start (packet_data view)) later next)))
     (starts_of view.field)
 
--- of the packets that were incomplete, those that the next frame breaks off
+-- the broken-off packets among those that were incomplete
 pub broken_next : (before : List TmView) (last next : TmView)
     → broken_off (before ++ last ∷ []) next ≡ flat_map (lost_in last next) (incomplete_of (before ++ last ∷ []))
 broken_next [] last next =
@@ -248,7 +249,7 @@ one_is_broken_off (view ∷ later) next =
       | inr one ↦ omega (arith, ap length of_these, ap (λ l. length (flat_map gone l)) one.1, one_lost (step_of last one.0 next) one.0)
     ]
 
--- ---- they are short
+-- ---- broken-off packets are short
 
 short_among : (octets : List ℕ) (all : List (List ℕ)) → AllByRecursion IsShort all → IsAmong octets all → IsShort octets
 short_among octets [] each there = absurd there
@@ -261,7 +262,7 @@ broken_off_is_short channel next =
     (λ octets x. short_among octets (incomplete_of channel) (incomplete_is_short channel) (each_incomplete_is_listed channel octets x.before.incomplete))
     (broken_off channel next) (each_listed_is_broken_off channel next)
 
--- ---- how many octets they have
+-- ---- how many octets broken-off packets have
 
 pub broken_off_is_told : BrokenOffIsTold
 broken_off_is_told channel next octets x =

@@ -1,4 +1,5 @@
--- The incomplete packets of a channel, as they are listed: each is incomplete, and each that is is there.
+-- The list of the incomplete packets of a channel: each listed packet is incomplete, and each incomplete packet is
+-- listed.
 use Rattle.std.proofs.Common.{◌≡◌, ℕ, ◌≤◌, nat_lt, List, [], ◌∷◌, ◌++◌, length, drop, take, map, Option, inl, refl, sym, ◌∙◌, subst, arith, append_assoc, length-append, length-drop, ap}
 use Rattle.std.specs.List.{AllByRecursion, concat}
 use Rattle.std.proofs.lemmas.List.{take-append-drop}
@@ -24,12 +25,12 @@ use Rattle.std.proofs.lemmas.Bool.{both_ways}
 
 -- ---- octets that begin a packet
 
--- they are of version 0
+-- octets that begin a packet have version 0
 begun_version : (octets : List ℕ) → front octets ≡ Incomplete → 1 ≤ length octets → version_of octets ≡ 0
 begun_version octets incomplete some =
     let (more, packet) = incomplete_may_become_whole octets incomplete in sym (version_of-append octets more some) ∙ packet.version
 
--- octets of version 0 begin one where none is whole
+-- octets of version 0 begin a packet where no packet is whole
 begins : (octets : List ℕ) → version_of octets ≡ 0 → ((packet : List ℕ) → IsPacket packet → IsPrefix packet octets → ⊥) → front octets ≡ Incomplete
 begins octets version none = cases (front octets) refl
   where
@@ -41,9 +42,9 @@ begins octets version none = cases (front octets) refl
     cases (WholePacket len) e =
         absurd (none (take len octets) (whole_is_a_packet octets len e).0 (drop len octets, take-append-drop len octets))
 
--- ---- each that is listed is incomplete
+-- ---- each listed packet is incomplete
 
--- the packet of a start is incomplete where its outcome says so
+-- the packet of a start is incomplete where the start's outcome says so
 pub incomplete_at_start : (channel before : List TmView) (view : TmView) (later : List TmView) (first : Option ℕ) (field : List ℕ) (offset : ℕ) (so_far : List ℕ)
     → channel ≡ before ++ view ∷ later → view.field ≡ Packets first field → IsStart field first offset
     → outcome_of view (drop offset field) later ≡ StillIncomplete so_far → IsIncompleteAt channel (length before) offset so_far
@@ -105,7 +106,7 @@ each_from channel before (view ∷ later) all =
 pub each_listed_is_incomplete : EachListedIsIncomplete
 each_listed_is_incomplete channel = each_from channel [] channel refl
 
--- ---- each that is incomplete is listed
+-- ---- each incomplete packet is listed
 
 listed_from : (octets : List ℕ) (before : List TmView) (view : TmView) (later : List TmView) → IsAmong octets (frame_incomplete view later)
     → IsAmong octets (incomplete_of (before ++ view ∷ later))
@@ -113,7 +114,7 @@ listed_from octets [] view later there = among-left octets (frame_incomplete vie
 listed_from octets (other ∷ before) view later there =
     among-right octets (frame_incomplete other (before ++ view ∷ later)) (incomplete_of (before ++ view ∷ later)) (listed_from octets before view later there)
 
--- the outcome of its start says so
+-- the outcome of an incomplete packet's start says that it is incomplete
 pub incomplete_start_outcome : (channel : List TmView) (octets : List ℕ) (x : IsIncomplete channel octets) → outcome_of x.view (drop x.offset x.field) x.run ≡ StillIncomplete octets
 incomplete_start_outcome channel octets x =
     let after : IsIncompleteAfter x.view (drop x.offset x.field) x.run (last_of x.view x.run) octets = record {
@@ -140,7 +141,7 @@ pub each_incomplete_is_listed : EachIncompleteIsListed
 each_incomplete_is_listed channel octets x =
     subst (λ l. IsAmong octets (incomplete_of l)) (sym x.in_order) (listed_from octets x.before x.view x.run (listed_in_frame channel octets x))
 
--- ---- how many octets they have
+-- ---- how many octets incomplete packets have
 
 pub incomplete_is_counted : IncompleteIsCounted
 incomplete_is_counted channel octets x =

@@ -1,4 +1,4 @@
--- As many octets of a data field as tell what becomes of an incomplete packet.
+-- The octets of a data field that decide what happens to an incomplete packet.
 use Rattle.std.proofs.Common.{◌≡◌, ℕ, ◌+◌, ◌≤◌, ◌⊎◌, inl, inr, nat_eq, if◌then◌else◌, List, [], ◌++◌, length, take, drop, replicate, Option, refl, sym, ◌∙◌, ap, arith, append-nil, append_assoc, length-append}
 use Rattle.std.proofs.lemmas.List.{length-replicate, length-take-le, take-append-drop, take-append-le}
 use Rattle.std.specs.Option.{option_eq}
@@ -13,7 +13,7 @@ use Rattle.sl_tmflow.proofs.lemmas.Delivery.Step.{incomplete_before}
 
 -- ---- octets that begin with something
 
--- octets of another version stay so, whatever follows
+-- octets of another version stay so with more octets
 foreign_stays : (octets more : List ℕ) → front octets ≡ OtherVersion → front (octets ++ more) ≡ OtherVersion
 foreign_stays octets more e = cases (front (octets ++ more)) refl
   where
@@ -24,7 +24,7 @@ foreign_stays octets more e = cases (front (octets ++ more)) refl
         absurd (foreign_is_no_packet octets more (take len (octets ++ more)) (drop len (octets ++ more)) e
         (sym (take-append-drop len (octets ++ more))) (whole_is_a_packet (octets ++ more) len e').0)
 
--- and so does a whole packet
+-- octets with a whole packet stay so with more octets
 whole_stays : (octets more : List ℕ) (len : ℕ) → front octets ≡ WholePacket len → front (octets ++ more) ≡ WholePacket len
 whole_stays octets more len e =
     let whole = whole_is_a_packet octets len e in
@@ -32,13 +32,13 @@ whole_stays octets more len e =
     sym (append_assoc (take len octets) (drop len octets) more) ∙ ap (λ l. l ++ more) (take-append-drop len octets) in
     ap front (sym split) ∙ packet_is_whole (take len octets) (drop len octets ++ more) whole.0 ∙ ap WholePacket (length-take-le len octets whole.1)
 
--- of octets that end a packet only those of the packet matter
+-- of octets where a packet ends, only the packet's own matter
 packet_same : (first : Option ℕ) (before : ℕ) (field a b : List ℕ) (len : ℕ) → take len a ≡ take len b
     → front_step first before field a (WholePacket len) ≡ front_step first before field b (WholePacket len)
 packet_same first before field a b len same =
     ap (λ packet. if option_eq nat_eq first (agreeing_pointer len before field) then Ends packet else Breaks) same
 
--- so what they do to a packet is told
+-- octets that aren't incomplete decide the step, whatever follows
 told : (first : Option ℕ) (before : ℕ) (field octets more : List ℕ) → (front octets ≡ Incomplete → ⊥)
     → front_step first before field octets (front octets) ≡ front_step first before field (octets ++ more) (front (octets ++ more))
 told first before field octets more begun = cases (front octets) refl
@@ -53,7 +53,7 @@ told first before field octets more begun = cases (front octets) refl
 
 -- ---- octets of a data field
 
--- all of them are enough,
+-- all octets of the field are enough
 pub all_is_enough : (held field : List ℕ) → length held + length field ≤ 65542 → IsEnough held field field
 all_is_enough held field fits = record {
   step = λ first. refl;
@@ -61,7 +61,7 @@ all_is_enough held field fits = record {
   fits = fits;
 }
 
--- and so are some with which the packet isn't incomplete any more
+-- the first octets are enough where the packet isn't incomplete any more with them
 pub some_is_enough : (held field : List ℕ) (n : ℕ) → (front (held ++ take n field) ≡ Incomplete → ⊥) → length held + length (take n field) ≤ 65542
     → IsEnough held field (take n field)
 some_is_enough held field n begun fits = record {
@@ -72,18 +72,18 @@ some_is_enough held field n begun fits = record {
   fits = fits;
 }
 
--- none are, where it isn't incomplete before them
+-- no octet of the field is needed where the packet isn't incomplete before the field
 pub none_is_enough : (held field : List ℕ) → (front held ≡ Incomplete → ⊥) → length held ≤ 65542 → IsEnough held field []
 none_is_enough held field begun fits =
     some_is_enough held field 0 (λ incomplete. begun (ap front (sym (append-nil held)) ∙ incomplete)) (omega arith)
 
--- octets that want none aren't incomplete
+-- octets that need no more aren't incomplete
 pub none_is_wanted : ForeignIsForeign → WholeIsWhole → (held : List ℕ) → (need_of held ≡ Foreign) ⊎ ((len : ℕ) × (need_of held ≡ Whole len))
     → front held ≡ Incomplete → ⊥
 none_is_wanted foreign whole held (inl e) incomplete = let both : OtherVersion ≡ Incomplete = sym ((foreign held).0 e) ∙ incomplete in cc
 none_is_wanted foreign whole held (inr (len, e)) incomplete = let both : WholePacket len ≡ Incomplete = sym ((whole held len).0 e) ∙ incomplete in cc
 
--- a packet isn't incomplete any more with the octets that it wants
+-- a packet isn't incomplete any more with the octets that it needs
 pub wanted_complete : OctetsMakeAPacket → (held more : List ℕ) (n : ℕ) → need_of held ≡ Octets n → length more ≡ n → front (held ++ more) ≡ Incomplete → ⊥
 wanted_complete law held more n wants long incomplete =
     let packet = held ++ more in
@@ -91,7 +91,7 @@ wanted_complete law held more n wants long incomplete =
     sym incomplete ∙ ap front (sym (append-nil packet)) ∙ packet_is_whole packet [] (law held more n wants long) in
     cc
 
--- which with them is no longer than the longest
+-- a packet with the octets that it needs is no longer than the longest packet
 pub wanted_fits : OctetsMakeAPacket → (held : List ℕ) (n : ℕ) → need_of held ≡ Octets n → length held + n ≤ 65542
 wanted_fits law held n wants =
     let more : List ℕ = replicate n 0 in

@@ -1,4 +1,4 @@
--- Packet starts whose packet is incomplete after the frames that come later.
+-- Packet starts whose packet is incomplete after the later frames.
 use Rattle.std.proofs.Common.{◌≡◌, ◌≢◌, ℕ, ◌+◌, true, List, [], ◌∷◌, ◌++◌, map, refl, sym, ◌∙◌, ap, append-nil, append_assoc}
 use Rattle.std.specs.List.{AllByRecursion, concat}
 use Rattle.std.proofs.lemmas.List.{map-append}
@@ -13,13 +13,13 @@ use Rattle.sl_tmflow.proofs.lemmas.Delivery.Step.{GoesOnPast, step_continues, co
 
 -- ---- the relation
 
--- the last frame of a frame and a run after it
+-- the last frame of a run, or the frame before it where the run is empty
 abbrev pub last_of : TmView → List TmView → TmView
 last_of view [] = view
 last_of view (next ∷ later) = last_of next later
 
--- A packet that starts in a frame, with these octets of the frame's from its start on, is incomplete at the
--- end of a run of later frames: the first octets of it have come, but not all.
+-- A packet that starts in a frame is incomplete at the end of a run of later frames: its first octets have come, but
+-- not all. `octets` are those of its frame from its start on.
 pub record IsIncompleteAfter (view : TmView) (octets : List ℕ) (run : List TmView) (last : TmView) (so_far : List ℕ) : Type 0 where
   -- the frame that came last
   pub ended_by : last ≡ last_of view run
@@ -27,11 +27,11 @@ pub record IsIncompleteAfter (view : TmView) (octets : List ℕ) (run : List TmV
   pub came : so_far ≡ reassembly octets run
   -- no frame is missing
   pub consecutive : AreConsecutive view run
-  -- and each is read
+  -- no frame is opaque
   pub none_opaque : AllByRecursion (λ next. next.field ≢ Opaque) run
   -- no frame of packets points to a packet after this one
   pub no_start : AllByRecursion HasNoStart run
-  -- a packet may begin with the octets so far, but isn't there whole
+  -- the octets so far begin a packet that isn't there whole
   pub incomplete : front so_far ≡ Incomplete
 
 -- ---- reassembled octets
@@ -70,7 +70,7 @@ is_incomplete_at_start view octets incomplete =
       incomplete = incomplete;
     }
 
--- the next frame is consecutive, as the record of the run says it
+-- the next frame is consecutive to the last one of a run with one more frame
 pub consecutive_to_last : (view : TmView) (octets : List ℕ) (run : List TmView) (last : TmView) (so_far : List ℕ) (next : TmView)
     → IsIncompleteAfter view octets run last so_far → is_consecutive last next ≡ true → AreConsecutive view (run ++ next ∷ [])
 consecutive_to_last view octets run last so_far next o test =
@@ -89,14 +89,14 @@ is_incomplete_one_more view octets run last so_far next o test x =
       incomplete = x.incomplete;
     }
 
--- ---- what the outcome says of it
+-- ---- the outcome of an incomplete packet
 
 incomplete_step : (s : Continuation) (passed : ℕ) (rest : Outcome) (so_far : List ℕ) → after_step s passed rest ≡ StillIncomplete so_far → (s ≡ Continues) × (rest ≡ StillIncomplete so_far)
 incomplete_step (Ends packet) passed rest so_far e = absurd (cc)
 incomplete_step Continues passed rest so_far e = (refl, e)
 incomplete_step Breaks passed rest so_far e = absurd (cc)
 
--- a start whose outcome is that the packet is still incomplete is so after all of the later frames
+-- where the outcome is that the packet is still incomplete, the packet is incomplete after all later frames
 pub outcome_to_incomplete : (passed : ℕ) (first : TmView) (start : List ℕ) (run : List TmView) (view : TmView) (octets : List ℕ) (later : List TmView) (so_far : List ℕ)
     → IsIncompleteAfter first start run view octets → outcome_after passed view octets later ≡ StillIncomplete so_far
     → IsIncompleteAfter first start (run ++ later) (last_of view later) so_far
@@ -110,7 +110,7 @@ outcome_to_incomplete passed first start run view octets (next ∷ later) so_far
     rw (← append_assoc run (next ∷ []) later)
     (outcome_to_incomplete (passed + 1) first start (run ++ next ∷ []) next (octets ++ packet_data next) later so_far now rest)
 
--- and the other way round
+-- where the packet is incomplete after all later frames, the outcome is that it is still incomplete
 pub incomplete_to_outcome : (passed : ℕ) (view : TmView) (octets : List ℕ) (later : List TmView) (last : TmView) (so_far : List ℕ)
     → IsIncompleteAfter view octets later last so_far → outcome_after passed view octets later ≡ StillIncomplete so_far
 incomplete_to_outcome passed view octets [] last so_far o = ap StillIncomplete (sym (append-nil octets) ∙ sym o.came)
@@ -138,7 +138,8 @@ front_incomplete OtherVersion view octets later so_far e = absurd (cc)
 front_incomplete Incomplete view octets later so_far e = (refl, e)
 front_incomplete (WholePacket len) view octets later so_far e = absurd (cc)
 
--- a packet start has this outcome where its packet is incomplete after all later frames, and only there
+-- the outcome of a packet start is that its packet is incomplete, exactly where it is incomplete after all later
+-- frames
 pub outcome_incomplete : (view : TmView) (octets : List ℕ) (later : List TmView) (so_far : List ℕ) → outcome_of view octets later ≡ StillIncomplete so_far
     → IsIncompleteAfter view octets later (last_of view later) so_far
 outcome_incomplete view octets later so_far e =

@@ -30,7 +30,7 @@ incomplete_of_opaque view later is = ap (field_incomplete view later) is
 pub incomplete_without_pointer : (view : TmView) (later : List TmView) (octets : List ℕ) → view.field ≡ Packets None octets → frame_incomplete view later ≡ []
 incomplete_without_pointer view later octets is = ap (field_incomplete view later) is
 
--- a packet that is whole is not incomplete
+-- a whole packet is not incomplete
 none_at_packet : (view : TmView) (later : List TmView) (packet more : List ℕ) → IsPacket packet → incomplete_octets (outcome_of view (packet ++ more) later) ≡ []
 none_at_packet view later packet more p = ap (λ f. incomplete_octets (outcome_of_front f view (packet ++ more) later)) (packet_is_whole packet more p)
 
@@ -38,7 +38,7 @@ none_of_each : (packets : List (List ℕ)) → flat_map {A = List ℕ} (λ packe
 none_of_each [] = refl
 none_of_each (packet ∷ packets) = none_of_each packets
 
--- what may be incomplete is what packets leave
+-- only the octets after the packets may be incomplete
 pub incomplete_from_pointer : (view : TmView) (later : List TmView) (pointer : ℕ) (octets : List ℕ) → view.field ≡ Packets (Some pointer) octets
     → frame_incomplete view later ≡ at_rest (λ l. incomplete_octets (outcome_of view l later)) (rest_of (drop pointer octets))
 incomplete_from_pointer view later pointer octets is =
@@ -48,7 +48,7 @@ incomplete_from_pointer view later pointer octets is =
 
 -- ---- at most one
 
--- of the starts in one frame one at most is incomplete later, and then no packet starts later
+-- at most one start of a frame has a packet that is incomplete later, and then no packet starts later
 abbrev pub OneAtMost : List TmView → List (List ℕ) → Type 0
 OneAtMost later held = (held ≡ []) ⊎ ((octets : List ℕ) × (held ≡ octets ∷ []) × AllByRecursion HasNoStart later)
 
@@ -102,9 +102,9 @@ one_is_incomplete channel =
       | inr one ↦ omega (arith, ap length one.1)
     ]
 
--- ---- they are short
+-- ---- incomplete packets are short
 
--- some of a packet's octets, and not all
+-- the octets are some of a packet's, and not all
 abbrev IsBegun : List ℕ → Type 0
 IsBegun octets = (front octets ≡ Incomplete) × (1 ≤ length octets)
 
@@ -136,7 +136,7 @@ incomplete_test true fewer len e = absurd (cc)
 incomplete_test false true len e = refl
 incomplete_test false false len e = absurd (cc)
 
--- so it has fewer octets than its header states
+-- an incomplete packet has fewer octets than its header states
 pub fewer_than_stated : (octets : List ℕ) → front octets ≡ Incomplete → length octets < stated_packet_len octets
 fewer_than_stated octets e =
     ltb-true (length octets) (stated_packet_len octets) (incomplete_test (is_foreign octets) (nat_lt (length octets) (stated_packet_len octets)) (stated_packet_len octets) e)

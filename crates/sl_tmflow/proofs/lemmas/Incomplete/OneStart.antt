@@ -15,7 +15,7 @@ use Rattle.sl_tmflow.proofs.lemmas.Delivery.End.{longer_begins, not_last_is_whol
 use Rattle.sl_tmflow.proofs.lemmas.Incomplete.Incomplete.{outcome_incomplete}
 use Rattle.sl_tmflow.proofs.lemmas.Delivery.Step.{incomplete_before}
 
--- no packet starts in a frame after that of one that is incomplete
+-- no packet starts in a later frame than the one where an incomplete packet starts
 none_in_later_frame : (channel : List TmView) (octets others : List ℕ) (x : IsIncomplete channel octets) (y : IsIncomplete channel others)
     → length x.before < length y.before → ⊥
 none_in_later_frame channel octets others x y less =
@@ -36,7 +36,7 @@ same_frame channel octets others x y =
       ]
     ]
 
--- no packet starts after it in its own frame
+-- no packet starts after an incomplete packet in the same frame
 none_later_in_frame : (channel : List TmView) (octets : List ℕ) (x : IsIncomplete channel octets) (later : ℕ)
     → IsStart x.field x.first later → x.offset < later → ⊥
 none_later_in_frame channel octets x later s less =
@@ -45,7 +45,7 @@ none_later_in_frame channel octets x later s less =
     incomplete_before (drop x.offset x.field) (concat (map packet_data x.run)) (ap front (sym w.came) ∙ w.incomplete) in
     not_last_is_whole x.field x.first x.offset later x.start s less begun
 
--- so where both start in one frame, neither is before the other
+-- where two incomplete packets start in one frame, neither start is before the other
 not_before : (channel : List TmView) (octets others : List ℕ) (x : IsIncomplete channel octets) (y : IsIncomplete channel others)
     → x.view ≡ y.view → x.offset < y.offset → ⊥
 not_before channel octets others x y view less =

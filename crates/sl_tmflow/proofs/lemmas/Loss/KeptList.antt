@@ -1,4 +1,4 @@
--- The packets that the kept frames deliver are those of the whole channel of which all frames were kept.
+-- The packets that the kept frames deliver are those of the whole channel whose frames were all kept.
 use Rattle.std.proofs.Common.{◌≡◌, ℕ, zero, suc, ◌+◌, ◌-◌, ◌<◌, ◌≤◌, ◌==◌, Bool, true, false, if◌then◌else◌, List, [], ◌∷◌, inl, inr, refl, sym, ◌∙◌, ap, ap₂, subst, arith, eq-eqb}
 use Rattle.std.specs.List.{AllByRecursion, filter, list_all, list_any, range_with_len}
 use Rattle.std.proofs.lemmas.Bool.{and_from, and_parts, cases_eq, eqb-true, or_cases}
@@ -52,7 +52,7 @@ test_from_run numbers whole run =
 pub test_tells_run : TestTellsRun
 test_tells_run numbers whole = (run_from_test numbers whole, test_from_run numbers whole)
 
--- ---- what passes a test
+-- ---- the elements that pass a test
 
 module _ {X : Type 0} where
   among_kept : (b : Bool) (x y : X) (ys : List X) → IsAmong x ys → IsAmong x (if b then y ∷ ys else ys)
@@ -79,18 +79,18 @@ in_order-filter test (d ∷ deliveries) order =
 -- ---- the same packets
 
 module _ (numbers : List ℕ) (near : FewAreLost numbers) where
-  -- the same delivery is among these from the kept frames
+  -- the delivery is the same as one in this list from the kept frames
   abbrev IsKeptOf : List Delivery → Delivery → Type 0
   IsKeptOf deliveries whole = (d : Delivery) × IsAmong d deliveries × IsSameDelivery numbers d whole
 
-  -- it isn't the same as two that come one after the other
+  -- a delivery isn't the same as two different ones of the whole channel
   not_twice : (d whole other : Delivery) → IsSameDelivery numbers d whole → IsSameDelivery numbers d other → StartsBefore whole other → ⊥
   not_twice d whole other x y (inl less) =
       let back = apart numbers d.frame d.frame other.frame whole.frame near y.frame x.frame (omega arith) in
       omega arith
   not_twice d whole other x y (inr same) = omega (arith, same.1, x.start, y.start)
 
-  -- the first ones are the same,
+  -- the first deliveries of both lists are the same
   first_same : (d whole : Delivery) (deliveries all : List Delivery) → AllByRecursion (StartsBefore d) deliveries
       → AllByRecursion (StartsBefore whole) all → IsLeftOf numbers near (whole ∷ all) d → IsKeptOf (d ∷ deliveries) whole → IsSameDelivery numbers d whole
   first_same d whole deliveries all after whole_after (other, inl here, same) right = subst (IsSameDelivery numbers d) here same
@@ -100,7 +100,7 @@ module _ (numbers : List ℕ) (near : FewAreLost numbers) where
       absurd (not_both_ways other whole (same_order numbers d e other whole near same right (each_among (StartsBefore d) e deliveries after later))
       (each_among (StartsBefore whole) other all whole_after there))
 
-  -- and so are those after them
+  -- the later deliveries of both lists are the same
   kept_later : (d whole : Delivery) (deliveries : List Delivery) → IsSameDelivery numbers d whole
       → (other : Delivery) → StartsBefore whole other → IsKeptOf (d ∷ deliveries) other → IsKeptOf deliveries other
   kept_later d whole deliveries same other after (e, inl here, right) =

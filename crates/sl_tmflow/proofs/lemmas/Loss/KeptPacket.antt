@@ -15,7 +15,7 @@ each_among P x [] each there = absurd there
 each_among P x (y ∷ ys) each (inl here) = subst P (sym here) each.0
 each_among P x (y ∷ ys) each (inr there) = each_among P x ys each.1 there
 
--- the deliveries of the whole channel that are the same as those of the kept frames are in their order
+-- same deliveries of the whole channel are in the order of those from the kept frames
 pub same_order : (numbers : List ℕ) (d e whole other : Delivery) → FewAreLost numbers → IsSameDelivery numbers d whole → IsSameDelivery numbers e other
     → StartsBefore d e → StartsBefore whole other
 same_order numbers d e whole other near x y (inl less) =
@@ -33,11 +33,11 @@ not_both_ways d e (inr same) (inl more) = omega (arith, same.0)
 not_both_ways d e (inr same) (inr other) = omega (arith, same.1, other.1)
 
 module _ (numbers : List ℕ) (near : FewAreLost numbers) where
-  -- the same delivery is among these
+  -- the delivery is the same as one in this list of the whole channel
   abbrev pub IsLeftOf : List Delivery → Delivery → Type 0
   IsLeftOf all d = (whole : Delivery) × IsAmong whole all × IsSameDelivery numbers d whole
 
-  -- one that comes after one which isn't before the first of these is left of the others
+  -- a delivery that isn't before the first one of a list is among the others
   pub left_later : (d whole first : Delivery) (all : List Delivery) → IsSameDelivery numbers d whole → (StartsBefore whole first → ⊥)
       → (e : Delivery) → StartsBefore d e → IsLeftOf (first ∷ all) e → IsLeftOf all e
   left_later d whole first all same not_before e after (other, inl here, other_same) =

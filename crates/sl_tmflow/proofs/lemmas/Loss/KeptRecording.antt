@@ -1,4 +1,4 @@
--- What a recording of the frames delivers that were kept.
+-- The packets that a recording of the kept frames delivers.
 use Rattle.std.proofs.Common.{◌≡◌, ℕ, ◌+◌, ◌<◌, not, List, [], sym, ◌∙◌, ap, subst, arith}
 use Rattle.std.proofs.lemmas.List.FromFn.{get_or-map-range_with_len}
 use Rattle.sl_packet.specs.Packet.{is_idle_packet}

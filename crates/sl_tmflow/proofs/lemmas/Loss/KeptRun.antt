@@ -1,4 +1,4 @@
--- Numbers that rise, and the deliveries of which all frames were kept.
+-- Numbers that rise, and the deliveries whose frames were all kept.
 use Rattle.std.proofs.Common.{◌≡◌, ℕ, zero, suc, ◌+◌, ◌-◌, ◌<◌, ◌≤◌, List, [], ◌∷◌, length, inl, inr, refl, sym, ap, subst, arith, length-append}
 use Rattle.std.proofs.lemmas.Bool.{cases_lt}
 use Rattle.sl_tmflow.specs.Among.{IsAmong}
@@ -58,7 +58,7 @@ module _ {X : Type 0} where
         },
       )
 
--- numbers that rise are at least as far apart as they come one after another
+-- rising numbers are at least as far apart as their places
 pub apart : (numbers : List ℕ) (a b x y : ℕ) → FewAreLost numbers → HasNumber numbers a x → HasNumber numbers b y → a ≤ b → x + (b - a) ≤ y
 apart numbers a b x y near at other fewer =
     let rise : RiseFrom x at.after = near_from at.before x at.after (subst FewAreLost at.in_order near) in
@@ -68,7 +68,7 @@ apart numbers a b x y near at other fewer =
 
 -- ---- deliveries
 
--- as many numbers as there are between two
+-- all numbers between two are there, where there are as many
 pub runs_are_kept : RunsAreKept
 runs_are_kept numbers d whole near same number above below =
     elim (cases_lt d.ending d.frame) [
@@ -89,7 +89,7 @@ runs_are_kept numbers d whole near same number above below =
         let is : found ≡ number = omega (arith, same.none_lost) in
         subst (λ n. IsAmong n numbers) is (number_among numbers index found at)
 
--- the frames of a run, each of which was kept, one after another
+-- the frames of a run that were all kept, one after another
 run_numbers : (numbers : List ℕ) (first frame passed : ℕ) → FewAreLost numbers → HasNumber numbers first frame
     → ((number : ℕ) → frame ≤ number → number ≤ frame + passed → IsAmong number numbers) → HasNumber numbers (first + passed) (frame + passed)
 run_numbers numbers first frame zero near at all =

@@ -1,4 +1,4 @@
--- Loss is local: what is left of the deliveries of a channel.
+-- Loss is local: the deliveries of a channel that the kept frames still have.
 use Rattle.std.proofs.Common.{◌≡◌, ℕ, ◌+◌, ◌-◌, ◌<◌, ◌≤◌, List, [], ◌∷◌, ◌++◌, length, drop, inl, inr, refl, sym, ◌∙◌, ap, subst, arith, length-append, append_assoc}
 use Rattle.std.proofs.lemmas.Bool.{cases_lt}
 use Rattle.std.proofs.lemmas.List.{length_push}
@@ -11,7 +11,7 @@ use Rattle.sl_tmflow.proofs.lemmas.Places.{same_place}
 use Rattle.sl_tmflow.proofs.lemmas.Delivery.End.{longer_begins}
 use Rattle.sl_tmflow.proofs.lemmas.Loss.Loss.{at_least, frame_at, kept_at, near_from, no_gap_at, run_is_kept, run_of_whole}
 
--- a number among those from another one on is one among all
+-- a number among those from another one on is among all numbers
 number_later : (numbers earlier : List ℕ) (number : ℕ) (more : List ℕ) (place last : ℕ) → numbers ≡ earlier ++ number ∷ more
     → HasNumber (number ∷ more) place last → HasNumber numbers (length earlier + place) last
 number_later numbers earlier number more place last same at =
@@ -22,7 +22,7 @@ number_later numbers earlier number more place last same at =
       counted = omega (arith, at.counted, length-append earlier at.before);
     }
 
--- ---- each delivery from the frames that were kept
+-- ---- each delivery from the kept frames
 
 pub none_is_new : NoneIsNew
 none_is_new channel numbers kept d left x =
@@ -67,7 +67,7 @@ none_is_new channel numbers kept d left x =
       },
     )
 
--- ---- each delivery from the whole channel of which no frame was lost
+-- ---- each delivery from the whole channel that lost no frame
 
 -- a later number comes later
 not_before : (numbers : List ℕ) (a b x y : ℕ) → FewAreLost numbers → HasNumber numbers a x → HasNumber numbers b y → b < a → x ≤ y → ⊥
@@ -79,7 +79,7 @@ not_before numbers a b x y near at other less above =
     let low = at_least y other.after (y ∷ between) x at.after rise (ap (λ l. y ∷ l) rest) in
     absurd (omega arith)
 
--- and stands among those from the earlier one on
+-- a later number is among those from the earlier one on
 pub number_from : (numbers : List ℕ) (a b x y : ℕ) (at : HasNumber numbers a x) → HasNumber numbers b y → a ≤ b
     → HasNumber (x ∷ at.after) (b - a) y
 number_from numbers a b x y at other fewer =

@@ -1,5 +1,5 @@
--- Lost frames of a channel: the deliveries from the frames that were kept, and those from the whole channel whose
--- frames were all kept.
+-- Lost frames of a channel: the deliveries from the kept frames, and those from the whole channel whose frames were
+-- all kept.
 use Rattle.std.proofs.Common.{◌≡◌, ℕ, ◌+◌, ◌%◌, ◌<◌, ◌≤◌, true, List, [], ◌∷◌, ◌++◌, length, refl, sym, ◌∙◌, ap, subst, arith, length-append, append_assoc}
 use Rattle.std.proofs.lemmas.Bool.{eqb-true}
 use Rattle.std.proofs.lemmas.List.{length_push}
@@ -23,7 +23,7 @@ no_gap_at (first ∷ before) view later none = consecutive_at first before view 
 count_after : (view next : TmView) → is_consecutive view next ≡ true → next.vc_count ≡ (view.vc_count + 1) % 256
 count_after view next test = eqb-true next.vc_count ((view.vc_count + 1) % 256) test
 
--- frames that have no gap between them count up
+-- the counts of frames without a gap count up
 count_later : (view : TmView) (between : List TmView) (next : TmView) (later : List TmView) → AreConsecutive view (between ++ next ∷ later)
     → next.vc_count ≡ (view.vc_count + (length between + 1)) % 256
 count_later view [] next later each = count_after view next each.0
@@ -32,7 +32,7 @@ count_later view (second ∷ between) next later each =
     let rest = count_later second between next later each.1 in
     omega arith
 
--- so of those that are less than 257 apart only neighbours are consecutive
+-- of frames less than 257 apart, only neighbours are consecutive
 none_between : (view : TmView) (between : List TmView) (next : TmView) (later : List TmView) → AreConsecutive view (between ++ next ∷ later)
     → is_consecutive view next ≡ true → length between < 256 → length between ≡ 0
 none_between view between next later each test few =
@@ -50,7 +50,7 @@ pub near_from : (earlier : List ℕ) (number : ℕ) (more : List ℕ) → FewAre
 near_from [] number more near = near
 near_from (first ∷ earlier) number more near = rise_from first earlier number more near
 
--- each is as far above the first as it comes after it, at least
+-- each number is at least as far above the first one as its place
 pub at_least : (low : ℕ) (numbers before : List ℕ) (number : ℕ) (after : List ℕ) → RiseFrom low numbers → low ∷ numbers ≡ before ++ number ∷ after
     → low + length before ≤ number
 at_least low numbers [] number after rise same = let e = head_same low number numbers after same in omega arith
@@ -59,9 +59,9 @@ at_least low (next ∷ numbers) (other ∷ before) number after rise same =
     let above = at_least next numbers before number after rise.2 (tail_same low other (next ∷ numbers) (before ++ number ∷ after) same) in
     omega (arith, rise.0)
 
--- ---- frames that have numbers
+-- ---- frames with numbers
 
--- a frame among those that were kept, with its number
+-- a kept frame, with its number
 pub record IsKeptAt (channel : List TmView) (numbers : List ℕ) (before : List TmView) (view : TmView) (later : List TmView) : Type 0 where
   pub earlier : List ℕ
   pub number : ℕ
@@ -97,7 +97,7 @@ kept_at channel (number ∷ numbers) (first ∷ before) view later have =
       rest = k.rest;
     }
 
--- a number, with the frame that has it
+-- a number, with the frame of this number
 pub record IsFrameAt (channel : List TmView) (earlier : List ℕ) (number : ℕ) (more : List ℕ) (kept : List TmView) : Type 0 where
   pub before : List TmView
   pub view : TmView
@@ -135,7 +135,7 @@ frame_at channel (first ∷ earlier) number more (view ∷ kept) have =
 
 -- ---- runs
 
--- frames that come next in the whole channel, the last of them with this number
+-- a run of frames that follow in the whole channel, and whose last one has this number
 pub record IsRunOfWhole (number : ℕ) (numbers : List ℕ) (run later : List TmView) : Type 0 where
   pub more : List TmView
   pub in_order : later ≡ run ++ more
@@ -143,7 +143,7 @@ pub record IsRunOfWhole (number : ℕ) (numbers : List ℕ) (run later : List Tm
   pub is_last : last ≡ number + length run
   pub ending : HasNumber (number ∷ numbers) (length run) last
 
--- where a frame that was kept is consecutive to the one that was kept before it, it comes next in the whole channel
+-- a kept frame that is consecutive to the kept frame before it follows this frame in the whole channel
 next_of_whole : (channel before : List TmView) (view : TmView) (later : List TmView) (number other : ℕ) (next : TmView)
     → channel ≡ before ++ view ∷ later → number ≡ length before → AreConsecutive view later → number < other → other ≤ number + 256
     → HasNumber channel other next → is_consecutive view next ≡ true
@@ -198,7 +198,7 @@ run_of_whole channel before view later number (other ∷ numbers) (next ∷ run)
       };
     }
 
--- the frames of a run, of which the last was kept with as many before it, were all kept
+-- all frames of a run were kept, where the last one was kept with as many before it
 pub run_is_kept : (channel before : List TmView) (view : TmView) (run more : List TmView) (number last : ℕ) (numbers : List ℕ) (kept : List TmView)
     (earlier beyond : List ℕ) → channel ≡ before ++ view ∷ (run ++ more) → number ≡ length before → last ≡ number + length run
     → RiseFrom number numbers → HaveNumbers channel numbers kept → number ∷ numbers ≡ earlier ++ last ∷ beyond → length earlier ≡ length run

@@ -122,13 +122,13 @@ fn add(
         → AllByRecursion (AllByRecursion IsDeliverable) (lists_in lists.new) }
 {
     let packet = Vec::from_slice(alloc, packet)?;
-    reach(alloc, lists, channel)?;
+    grow_to(alloc, lists, channel)?;
     lists[channel].push(packet)?;
     Ok(())
 }
 
 // Adds empty lists, up to the list of a channel.
-fn reach(alloc: Global, lists: &mut Vec<Vec<Vec<u8>>>, channel: usize) -> Result<(), AllocError>
+fn grow_to(alloc: Global, lists: &mut Vec<Vec<Vec<u8>>>, channel: usize) -> Result<(), AllocError>
     ensures reached { OnOk result (channel < vec_len lists.new) }
     ensures grown { IsGrown (lists_in lists.old) (lists_in lists.new) }
     ensures no_further { length (lists_in lists.new)

@@ -5,7 +5,7 @@ use Rattle.std.specs.Prelude.{◌≡◌, ◌⊎◌, ℕ, ◌+◌, ◌<◌, ◌�
 use Rattle.std.specs.List.{filter}
 use Rattle.sl_packet.specs.Packets.{ArePacketsOf, rest_of}
 use Rattle.sl_tcframe.specs.TcFrame.{TcView}
-use Rattle.sl_tcflow.specs.Incomplete.{IsIncomplete, incomplete_of, passes}
+use Rattle.sl_tcflow.specs.Incomplete.{IsIncomplete, incomplete_of, exceeds_limit}
 use Rattle.sl_tcflow.specs.Receiving.{map_by, segment_by, verdict_on}
 use Rattle.sl_tcflow.specs.Reception.{segments_of}
 use Rattle.sl_tcflow.specs.ReceptionParameters.{ReceptionParameters, is_plain}
@@ -40,7 +40,7 @@ dropped_of list next = if begins next then octets_held list else None
 
 -- whether the incomplete series is given up because it is too long with the next segment
 abbrev pub long_of : List (List ℕ) → List ℕ → Bool
-long_of list next = continues next && passes (octets_held list) (length (segment_data next))
+long_of list next = continues next && exceeds_limit (octets_held list) (length (segment_data next))
 
 -- the octets of a series' service data unit that are left after its packets, where the unit isn't too long
 abbrev pub left_in : List (List ℕ) → List ℕ
@@ -158,7 +158,7 @@ WhatIsToldIsTail = (list : List (List ℕ)) (next : List ℕ) → 0 < tail_of li
 -- On a virtual channel without segment headers no series is ever incomplete, on any MAP.
 abbrev pub NoPlainSeriesIsIncomplete : Type 0
 NoPlainSeriesIsIncomplete =
-    (r : ReceptionParameters) (vc mid : ℕ) (views : List TcView) → is_plain r vc ≡ true → incomplete_of (segments_of r vc mid views) ≡ None
+    (r : ReceptionParameters) (vc map_id : ℕ) (views : List TcView) → is_plain r vc ≡ true → incomplete_of (segments_of r vc map_id views) ≡ None
 
 -- Only octets that are left can be reported on a unit without segment header: it is never out of sequence, and no
 -- series is dropped or too long.

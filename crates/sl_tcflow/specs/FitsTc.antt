@@ -9,7 +9,7 @@ use Rattle.sl_tcframe.specs.VcSet.{has_vc}
 -- fits in a data field. The list of virtual channel v and MAP m has the index 64 v + m.
 pub record FitsOn (format : TcFormat) (lists : List (List (List ℕ))) (vc : ℕ) : Type 0 where
   pub short : AllByRecursion (λ packet. length packet ≤ plain_room_of format) (slice_index_or lists (64 * vc) [])
-  pub others : (mid : ℕ) → 0 < mid → mid < 64 → slice_index_or lists (64 * vc + mid) [] ≡ []
+  pub others : (map_id : ℕ) → 0 < map_id → map_id < 64 → slice_index_or lists (64 * vc + map_id) [] ≡ []
 
 -- the lists fit on each virtual channel without segment headers
 abbrev pub FitsTc : TcFormat → List ℕ → List (List (List ℕ)) → Type 0

@@ -20,9 +20,9 @@ ns_after format plain channel ns packet = (ns + length (units_of_packet plain (s
 -- the octets of a virtual channel from a MAP on: those of packets of this MAP, with N(S) from `ns` on, and those of
 -- later MAPs
 abbrev pub maps_left : TcFormat → ℕ → Bool → ℕ → ℕ → ℕ → List (List ℕ) → List (List (List ℕ)) → List ℕ
-maps_left format spacecraft plain vc mid ns packets later =
+maps_left format spacecraft plain vc map_id ns packets later =
     concat (frames_of_units format spacecraft vc ns
-    (flat_map (units_of_packet plain (segment_room_of format) mid) packets ++ units_of_maps plain (segment_room_of format) (mid + 1) later))
+    (flat_map (units_of_packet plain (segment_room_of format) map_id) packets ++ units_of_maps plain (segment_room_of format) (map_id + 1) later))
 
 -- the octets of `n` virtual channels from `vc` on
 abbrev pub channels_left : TcFormat → ℕ → List ℕ → List ℕ → List (List (List ℕ)) → ℕ → ℕ → List ℕ

@@ -27,9 +27,9 @@ abbrev pub if_fits : List ℕ → Option (List ℕ)
 if_fits octets = if nat_le (length octets) 65542 then Some octets else None
 
 -- whether the incomplete series, if there is one, has too many octets with `more` octets
-abbrev pub passes : Option ℕ → ℕ → Bool
-passes None more = false
-passes (Some octets) more = nat_lt 65542 (octets + more)
+abbrev pub exceeds_limit : Option ℕ → ℕ → Bool
+exceeds_limit None more = false
+exceeds_limit (Some octets) more = nat_lt 65542 (octets + more)
 
 -- whether all segments are continuing ones
 abbrev pub are_continuing : List (List ℕ) → Bool

@@ -4,7 +4,7 @@
 use Rattle.std.specs.Prelude.{◌≡◌, ℕ, ◌==◌, ◌&&◌, Bool, false, if◌then◌else◌, is_none, option_map, List, [], ◌++◌, length, Option, None, Some}
 use Rattle.sl_cop.specs.declared.verdict.Verdict.TheVariants.{Accept}
 use Rattle.sl_packet.specs.Packets.{only_idle, packets_of, rest_of, without_idle}
-use Rattle.sl_tcflow.specs.Incomplete.{if_fits, passes}
+use Rattle.sl_tcflow.specs.Incomplete.{if_fits, exceeds_limit}
 use Rattle.sl_tcflow.specs.Series.{begins_by, continues_by, flags_of, segment_data}
 use Rattle.sl_tcflow.specs.StepReport.{StepReport}
 
@@ -77,7 +77,7 @@ dropped_with held flags = if begins_by flags then option_map length held else No
 
 -- whether the series is given up because it is too long with the next segment
 abbrev pub long_with : Option (List ℕ) → ℕ → List ℕ → Bool
-long_with held flags octets = continues_by flags && passes (option_map length held) (length octets)
+long_with held flags octets = continues_by flags && exceeds_limit (option_map length held) (length octets)
 
 -- ---- the report on the next segment
 
@@ -96,7 +96,7 @@ unit_report octets = record quiet_report {
 -- the report on octets that continue a series
 abbrev pub continued_report : Option (List ℕ) → List ℕ → StepReport
 continued_report held octets =
-    record quiet_report { stray = is_none held; long = passes (option_map length held) (length octets) }
+    record quiet_report { stray = is_none held; long = exceeds_limit (option_map length held) (length octets) }
 
 -- The report on the next segment, with these sequence flags and octets, without the packets that end with it.
 pub record IsReported (held : Option (List ℕ)) (flags : ℕ) (octets : List ℕ) (step : StepReport) : Type 0 where

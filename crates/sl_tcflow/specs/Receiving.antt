@@ -14,7 +14,7 @@ use Rattle.sl_tcflow.specs.Series.{header_at, segment_in}
 
 -- the channel of a virtual channel and a MAP
 abbrev pub channel_at : ℕ → ℕ → ℕ
-channel_at vc mid = 64 * vc + mid
+channel_at vc map_id = 64 * vc + map_id
 
 -- The series that are incomplete.
 pub record IncompleteSeries : Type 0 where
@@ -48,7 +48,7 @@ pub record HaveStepped (r : ReceptionParameters) (farms : List FarmView) (views 
 -- the series that are incomplete after these frames
 abbrev pub AreIncomplete : ReceptionParameters → List (Option (List ℕ)) → List TcView → Type 0
 AreIncomplete r incomplete views =
-    (vc mid : ℕ) → vc < 64 → mid < 64 → slice_index_or incomplete (channel_at vc mid) None ≡ incomplete_of (segments_of r vc mid views)
+    (vc map_id : ℕ) → vc < 64 → map_id < 64 → slice_index_or incomplete (channel_at vc map_id) None ≡ incomplete_of (segments_of r vc map_id views)
 
 -- These frames were processed, and no fault came. Other lists of frames may lead to the same state.
 pub record HasProcessed (r : ReceptionParameters) (state : ReceiverState) (views : List TcView) : Type 0 where
@@ -67,8 +67,8 @@ pub record HasFailedAfter (r : ReceptionParameters) (state : ReceiverState) (vie
   pub farms : HaveStepped r state.farms views
 
 -- a fault came
-abbrev pub HasFailed : ReceiverState → Type 0
-HasFailed state = state.has_failed ≡ true
+abbrev pub IsFailed : ReceiverState → Type 0
+IsFailed state = state.has_failed ≡ true
 
 -- the property holds for all parameters and lists of frames that may have been processed
 abbrev pub ForProcessed : ReceiverState → (ReceptionParameters → List TcView → Type 0) → Type 0

@@ -10,25 +10,25 @@ use Rattle.sl_tcflow.specs.Series.{SeriesAt, past, reassembled, segment_in, segm
 
 -- The packets of a service data unit: the longest list of packets at its front. A unit of more than 65,542 octets has
 -- none: mission profile.
-abbrev pub packets_in : List (List ℕ) → List (List ℕ)
-packets_in segments = if nat_le (length (reassembled segments)) 65542 then packets_of (reassembled segments) else []
+abbrev pub packets_of_series : List (List ℕ) → List (List ℕ)
+packets_of_series segments = if nat_le (length (reassembled segments)) 65542 then packets_of (reassembled segments) else []
 
 -- the packets of the series of a MAP, in order, idle ones included
-abbrev pub packets_on : List (List ℕ) → List (List ℕ)
-packets_on list = flat_map (λ (s : SeriesAt). packets_in s.segments) (series_of list)
+abbrev pub packets_of_segments : List (List ℕ) → List (List ℕ)
+packets_of_segments list = flat_map (λ (s : SeriesAt). packets_of_series s.segments) (series_of list)
 
 -- the packets of the series that ends with the next segment
 abbrev pub packets_ended : List (List ℕ) → List ℕ → List (List ℕ)
 packets_ended list next =
-    flat_map (λ (s : SeriesAt). packets_in s.segments) (filter (λ (s : SeriesAt). past s == length list + 1) (series_of (list ++ next ∷ [])))
+    flat_map (λ (s : SeriesAt). packets_of_series s.segments) (filter (λ (s : SeriesAt). past s == length list + 1) (series_of (list ++ next ∷ [])))
 
 -- the segments of a virtual channel and a MAP, among frames
 abbrev pub segments_of : ReceptionParameters → ℕ → ℕ → List TcView → List (List ℕ)
-segments_of r vc mid views =
-    segments_on mid (map (segment_in (is_plain r vc)) (accepted_units r.window (initial_vr r vc) (channel_of vc views)))
+segments_of r vc map_id views =
+    segments_on map_id (map (segment_in (is_plain r vc)) (accepted_units r.window (initial_vr r vc) (channel_of vc views)))
 
 -- ---- laws
 
 -- The packets of a list with one more segment are those before, and those of the series that ends with this segment.
 abbrev pub PacketsEndOnce : Type 0
-PacketsEndOnce = (list : List (List ℕ)) (next : List ℕ) → packets_on (list ++ next ∷ []) ≡ packets_on list ++ packets_ended list next
+PacketsEndOnce = (list : List (List ℕ)) (next : List ℕ) → packets_of_segments (list ++ next ∷ []) ≡ packets_of_segments list ++ packets_ended list next

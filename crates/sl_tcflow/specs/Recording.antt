@@ -7,7 +7,7 @@ use Rattle.sl_packet.specs.Packets.{without_idle}
 use Rattle.sl_tcframe.specs.TcDelimited.{tc_frames_of}
 use Rattle.sl_tcframe.specs.TcFrame.{TcFormat, TcView}
 use Rattle.sl_tcflow.specs.AcceptedUnit.{views_of}
-use Rattle.sl_tcflow.specs.Reception.{packets_on, segments_of}
+use Rattle.sl_tcflow.specs.Reception.{packets_of_segments, segments_of}
 use Rattle.sl_tcflow.specs.ReceptionParameters.{ReceptionParameters}
 
 -- the frames of a recording that aren't skipped
@@ -20,7 +20,7 @@ map_channels = range_with_len 0 channel_count
 
 -- the packets of a channel, idle ones included
 abbrev pub packets_in_channel : ReceptionParameters → List TcView → ℕ → List (List ℕ)
-packets_in_channel r views channel = packets_on (segments_of r (channel / 64) (channel % 64) views)
+packets_in_channel r views channel = packets_of_segments (segments_of r (channel / 64) (channel % 64) views)
 
 -- the packets of each channel, idle packets left out, under these parameters of reception: 4,096 lists
 abbrev pub tc_lists : TcFormat → ℕ → ReceptionParameters → List ℕ → List (List (List ℕ))

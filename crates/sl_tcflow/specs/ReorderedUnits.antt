@@ -11,7 +11,7 @@ use Rattle.sl_packet.specs.Packets.{without_idle}
 use Rattle.sl_tcframe.specs.TcFrame.{TcFormat, TcView, Ad, Bd, Unlock}
 use Rattle.sl_tcflow.specs.AcceptedUnit.{accepted_ad_units, accepted_units, channel_of, event_of, farm_after}
 use Rattle.sl_tcflow.specs.Receiving.{HaveStepped, channel_at, farm_at_start}
-use Rattle.sl_tcflow.specs.Reception.{packets_on, segments_of}
+use Rattle.sl_tcflow.specs.Reception.{packets_of_segments, segments_of}
 use Rattle.sl_tcflow.specs.ReceptionParameters.{ReceptionParameters, is_plain, initial_vr}
 use Rattle.sl_tcflow.specs.Recording.{recorded_views, tc_lists}
 use Rattle.sl_tcflow.specs.Series.{segment_in, segments_on}
@@ -48,12 +48,12 @@ recorded_channel format spacecraft vc recording = channel_of vc (recorded_views 
 
 -- the packets that a recording delivers on a virtual channel and MAP, idle packets left out
 abbrev pub recorded_packets : TcFormat → ℕ → ReceptionParameters → ℕ → ℕ → List ℕ → List (List ℕ)
-recorded_packets format spacecraft r vc mid recording =
-    slice_index_or (tc_lists format spacecraft r recording) (channel_at vc mid) []
+recorded_packets format spacecraft r vc map_id recording =
+    slice_index_or (tc_lists format spacecraft r recording) (channel_at vc map_id) []
 
 -- the segments of a MAP among the sent units
 abbrev pub segments_sent : ReceptionParameters → ℕ → ℕ → List (List ℕ) → List (List ℕ)
-segments_sent r vc mid sent = segments_on mid (map (segment_in (is_plain r vc)) sent)
+segments_sent r vc map_id sent = segments_on map_id (map (segment_in (is_plain r vc)) sent)
 
 -- The frames of a virtual channel are copies of what was sent, each less than 256 away from the frame that is
 -- expected at the copy's arrival, and among them frames of type BD and Unlock, but no Set V(R).
@@ -96,17 +96,17 @@ AdUnitsAreAll = (w vr : ℕ) (channel : List TcView) → HaveNoBd channel → ac
 -- The packets of each MAP are a prefix of those of the sent units, where no frame is of type BD.
 abbrev pub PacketsInOrder : Type 0
 PacketsInOrder =
-    (r : ReceptionParameters) (vc mid : ℕ) (sent : List (List ℕ)) (views : List TcView) (arrivals : List Arrival) → AreReordered r.window (initial_vr r vc) sent (channel_of vc views) arrivals
+    (r : ReceptionParameters) (vc map_id : ℕ) (sent : List (List ℕ)) (views : List TcView) (arrivals : List Arrival) → AreReordered r.window (initial_vr r vc) sent (channel_of vc views) arrivals
     → HaveNoBd (channel_of vc views)
-    → IsPrefix (packets_on (segments_of r vc mid views)) (packets_on (segments_sent r vc mid sent))
+    → IsPrefix (packets_of_segments (segments_of r vc map_id views)) (packets_of_segments (segments_sent r vc map_id sent))
 
 -- A recording delivers on a virtual channel and MAP a prefix of the packets of the sent units, idle packets left out,
 -- where no frame of the channel is of type BD. Nothing is said of the other virtual channels.
 abbrev pub RecordedPacketsInOrder : Type 0
 RecordedPacketsInOrder =
-    (format : TcFormat) (spacecraft : ℕ) (r : ReceptionParameters) (vc mid : ℕ) (sent : List (List ℕ)) (recording : List ℕ) (arrivals : List Arrival) → vc < 64 → mid < 64
+    (format : TcFormat) (spacecraft : ℕ) (r : ReceptionParameters) (vc map_id : ℕ) (sent : List (List ℕ)) (recording : List ℕ) (arrivals : List Arrival) → vc < 64 → map_id < 64
     → AreReordered r.window (initial_vr r vc) sent (recorded_channel format spacecraft vc recording) arrivals → HaveNoBd (recorded_channel format spacecraft vc recording)
-    → IsPrefix (recorded_packets format spacecraft r vc mid recording) (without_idle (packets_on (segments_sent r vc mid sent)))
+    → IsPrefix (recorded_packets format spacecraft r vc map_id recording) (without_idle (packets_of_segments (segments_sent r vc map_id sent)))
 
 -- Where each copy is in the window, the Lockout flag is never set.
 abbrev pub WindowNeverLocks : Type 0

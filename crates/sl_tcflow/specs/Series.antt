@@ -23,7 +23,7 @@ segment_in plain unit = if plain then whole_segment unit else unit
 
 -- the segments of a multiplexer access point (MAP), among those of a virtual channel, in order
 abbrev pub segments_on : ℕ → List (List ℕ) → List (List ℕ)
-segments_on mid segments = filter (λ segment. (header_at segment).map == mid) segments
+segments_on map_id segments = filter (λ segment. (header_at segment).map == map_id) segments
 
 -- the sequence flags of a segment: first 1, continuing 0, last 2, no segmentation 3
 abbrev pub flags_of : List ℕ → ℕ

@@ -1,6 +1,6 @@
 -- A `TcStep` stands for its report.
 use Rattle.sl_tcflow.specs.StepReport.{StepReport}
-use Rattle.sl_tcflow.specs.declared.step.TcStep.TheInside.{Inside}
+use Rattle.sl_tcflow.specs.declared.report.TcStep.TheInside.{Inside}
 
 abbrev pub report_of : Inside → StepReport
 report_of s = record {

@@ -28,18 +28,18 @@ flags_at count number =
 -- the segment of a number on a MAP: its header, which is the sequence flags and the MAP with their widths, and its
 -- octets
 abbrev pub segment_of : ℕ → ℕ → List ℕ → ℕ → List ℕ
-segment_of room mid packet number =
-    octets_of 1 ((2, flags_at (segment_count room packet) number) ∷ (6, mid) ∷ []) ++ piece_at room packet number
+segment_of room map_id packet number =
+    octets_of 1 ((2, flags_at (segment_count room packet) number) ∷ (6, map_id) ∷ []) ++ piece_at room packet number
 
 -- the units of a packet: its segments, or the packet itself on a virtual channel without segment headers
 abbrev pub units_of_packet : Bool → ℕ → ℕ → List ℕ → List (List ℕ)
-units_of_packet plain room mid packet =
-    if plain then packet ∷ [] else map (segment_of room mid packet) (range_with_len 0 (segment_count room packet))
+units_of_packet plain room map_id packet =
+    if plain then packet ∷ [] else map (segment_of room map_id packet) (range_with_len 0 (segment_count room packet))
 
--- the units of the packets of a virtual channel's MAPs, from `mid` on, one list for each MAP
+-- the units of the packets of a virtual channel's MAPs, from `map_id` on, one list for each MAP
 abbrev pub units_of_maps : Bool → ℕ → ℕ → List (List (List ℕ)) → List (List ℕ)
-units_of_maps plain room mid [] = []
-units_of_maps plain room mid (packets ∷ lists) = flat_map (units_of_packet plain room mid) packets ++ units_of_maps plain room (mid + 1) lists
+units_of_maps plain room map_id [] = []
+units_of_maps plain room map_id (packets ∷ lists) = flat_map (units_of_packet plain room map_id) packets ++ units_of_maps plain room (map_id + 1) lists
 
 -- frames of type AD of these units, with N(S) from `ns` on, modulo 256
 abbrev pub frames_of_units : TcFormat → ℕ → ℕ → ℕ → List (List ℕ) → List (List ℕ)
@@ -72,15 +72,15 @@ pub data AreSegments (room : ℕ) : List (List ℕ) → Type 0 where
   full : (octets : List ℕ) (later : List (List ℕ)) → length octets ≡ room → AreSegments room later → AreSegments room (octets ∷ later)
 
 -- A packet is divided into these segments.
-pub record IsDividedInto (room mid : ℕ) (packet : List ℕ) (segments : List (List ℕ)) : Type 0 where
+pub record IsDividedInto (room map_id : ℕ) (packet : List ℕ) (segments : List (List ℕ)) : Type 0 where
   pub filled : AreSegments room (map segment_data segments)
   pub end_to_end : reassembled segments ≡ packet
   pub series : IsSeries segments
-  pub on_map : AllByRecursion (λ segment. (header_at segment).map ≡ mid) segments
+  pub on_map : AllByRecursion (λ segment. (header_at segment).map ≡ map_id) segments
 
 -- ---- laws
 
 -- Each packet is divided into its segments.
 abbrev pub EachIsDivided : Type 0
 EachIsDivided =
-    (room mid : ℕ) (packet : List ℕ) → 0 < room → mid < 64 → 0 < length packet → IsDividedInto room mid packet (units_of_packet false room mid packet)
+    (room map_id : ℕ) (packet : List ℕ) → 0 < room → map_id < 64 → 0 < length packet → IsDividedInto room map_id packet (units_of_packet false room map_id packet)

@@ -46,13 +46,13 @@ pub(crate) fn push_packet(
 {
     let room = usize::from(shape.room());
     let vc = (heading.channel / 64) as u8;
-    let mid = (heading.channel % 64) as u8;
+    let map_id = (heading.channel % 64) as u8;
     let mut ns = heading.ns;
     let mut left = packet;
     while !left.is_empty() {
         let first = left.len() == packet.len();
         let (octets, later) = split_segment(left, room);
-        let header = SegmentHeader::of_segment(first, later.is_empty(), mid);
+        let header = SegmentHeader::of_segment(first, later.is_empty(), map_id);
         push_tc(form, shape, heading.spacecraft, vc, ns, header, octets)?;
         ns = ns.wrapping_add(1);
         left = later;

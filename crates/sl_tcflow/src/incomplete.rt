@@ -5,9 +5,9 @@ ghost use Rattle.sl_tcflow.specs.Incomplete.{if_fits};
 ghost use Rattle.sl_tcflow.specs.NextSegment.{IsReported, continued_report, extended, incomplete_with, packets_with, quiet_report};
 ghost use Rattle.sl_tcflow.specs.StepReport.{counts_of};
 
-use crate::hand::hand;
+use crate::hand_over::hand;
+use crate::report::{EMPTY_STEP, TcStep};
 use crate::segment::{CONTINUING, FIRST, LAST, Segment};
-use crate::step::{QUIET, TcStep};
 use sl_packet::{FlowFault, PacketSink, add_part, give_back};
 use std::alloc::Global;
 use std::marker::Model;
@@ -116,7 +116,10 @@ impl Incomplete {
         let dropped = self.give_up();
         self.is_begun = true;
         match add_part(&mut self.octets, octets) {
-            Ok(()) => Ok(TcStep { dropped, ..QUIET }),
+            Ok(()) => Ok(TcStep {
+                dropped,
+                ..EMPTY_STEP
+            }),
             Err(_) => Err(FlowFault::Memory),
         }
     }
@@ -133,18 +136,18 @@ impl Incomplete {
         if !self.is_begun {
             return Ok(TcStep {
                 stray: true,
-                ..QUIET
+                ..EMPTY_STEP
             });
         }
         if self.octets.len() + octets.len() > MOST_OCTETS {
             self.give_up();
             return Ok(TcStep {
                 long: true,
-                ..QUIET
+                ..EMPTY_STEP
             });
         }
         match add_part(&mut self.octets, octets) {
-            Ok(()) => Ok(QUIET),
+            Ok(()) => Ok(EMPTY_STEP),
             Err(_) => Err(FlowFault::Memory),
         }
     }

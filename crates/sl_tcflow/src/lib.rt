@@ -8,17 +8,17 @@
 mod fits;
 mod form;
 mod frames;
-mod hand;
+mod hand_over;
 mod incomplete;
 pub mod laws;
 mod receiver;
 mod reframe;
+mod report;
 mod segment;
 mod series_store;
-mod step;
 
 pub use fits::fits_tc;
 pub use form::{PIECE_ROOM, TcForm};
 pub use receiver::Receiver;
 pub use reframe::reframe_tc;
-pub use step::TcStep;
+pub use report::TcStep;

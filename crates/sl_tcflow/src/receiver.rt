@@ -9,15 +9,15 @@ ghost use Rattle.sl_tcframe.specs.TcFrame.{TcView, IsContent};
 ghost use Rattle.sl_tcflow.specs.AcceptedUnit.{event_of, unit_by};
 ghost use Rattle.sl_tcflow.specs.Anomaly.{IsReportedOf, dropped_by, held_of, long_by, stray_by, tail_by};
 ghost use Rattle.sl_tcflow.specs.Incomplete.{incomplete_of};
-ghost use Rattle.sl_tcflow.specs.Receiving.{ForProcessed, HasProcessed, HasFailed, HasFailedAfter, HaveStepped, ForIncomplete, IsIncompleteAround, AreIncomplete, map_of, ended_by, farm_of, unit_channel, verdict_on};
+ghost use Rattle.sl_tcflow.specs.Receiving.{ForProcessed, HasProcessed, IsFailed, HasFailedAfter, HaveStepped, ForIncomplete, IsIncompleteAround, AreIncomplete, map_of, ended_by, farm_of, unit_channel, verdict_on};
 ghost use Rattle.sl_tcflow.specs.Reception.{segments_of};
 ghost use Rattle.sl_tcflow.specs.ReceptionParameters.{ReceptionParameters};
 ghost use Rattle.sl_tcflow.specs.Series.{header_at, segment_in};
 ghost use Rattle.sl_tcflow.specs.StepReport.{counts_of};
 
+use crate::report::{EMPTY_STEP, TcStep};
 use crate::segment::segment_of;
 use crate::series_store::SeriesStore;
-use crate::step::{QUIET, TcStep};
 use sl_cop::{Farm, FarmEvent, Starts, Verdict, Window};
 use sl_fields::Clcw;
 use sl_packet::{FlowFault, PacketSink};
@@ -111,13 +111,13 @@ impl Receiver {
 
         // After a fault each call answers `Failed` and changes nothing. No call answers `Failed` before a
         // fault.
-        ensures failed { HasFailed self.old → result ≡ Err FlowFault.Failed }
+        ensures failed { IsFailed self.old → result ≡ Err FlowFault.Failed }
         ensures left { result ≡ Err FlowFault.Failed
-            → HasFailed self.old × (self.new ≡ self.old) × (sink.new ≡ sink.old) }
+            → IsFailed self.old × (self.new ≡ self.old) × (sink.new ≡ sink.old) }
 
         // At a fault some of the packets were accepted, from the first one on, and FARM-1 has taken the
         // frame, whichever frames were processed before. The sink failed exactly where the fault says so.
-        ensures stopped { IfErr result (λ flow. flow ≢ FlowFault.Failed → HasFailed self.new
+        ensures stopped { IfErr result (λ flow. flow ≢ FlowFault.Failed → IsFailed self.new
             × ForProcessed self.old (λ r views. HasFailedAfter r self.new (views ++ frame.now ∷ [])
             × IsStopped S.taking S.failing S.failures sink.old (unit_channel r frame.now)
             (without_idle (ended_by r views frame.now)) flow sink.new)) }
@@ -249,7 +249,10 @@ fn take<S: PacketSink>(
             Ok(step) => Ok(step),
             Err(flow) => Err(flow),
         },
-        None => Ok(TcStep { verdict, ..QUIET }),
+        None => Ok(TcStep {
+            verdict,
+            ..EMPTY_STEP
+        }),
     }
 }
 

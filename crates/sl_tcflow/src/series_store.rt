@@ -8,8 +8,8 @@ ghost use Rattle.sl_tcflow.specs.Receiving.{channel_at};
 ghost use Rattle.sl_tcflow.specs.StepReport.{counts_of};
 
 use crate::incomplete::Incomplete;
+use crate::report::TcStep;
 use crate::segment::{FIRST, Segment};
-use crate::step::TcStep;
 use sl_packet::{FlowFault, PacketSink};
 use std::alloc::{AllocError, Global};
 use std::marker::Model;
@@ -88,7 +88,7 @@ impl SeriesStore {
             segment.now.octets.now ≢ None)) }
     {
         let index = usize::from(segment.channel);
-        if segment.flags == FIRST && reach(self.alloc, &mut self.list, index).is_err() {
+        if segment.flags == FIRST && grow_to(self.alloc, &mut self.list, index).is_err() {
             return Err(FlowFault::Memory);
         }
         if index < self.list.len() {
@@ -100,7 +100,7 @@ impl SeriesStore {
 }
 
 // Extends the list up to this index. No series is incomplete at the new places.
-fn reach(alloc: Global, list: &mut Vec<Incomplete>, index: usize) -> Result<(), AllocError>
+fn grow_to(alloc: Global, list: &mut Vec<Incomplete>, index: usize) -> Result<(), AllocError>
     ensures reached { OnOk result (index < vec_len list.new) }
     ensures same { (other : ℕ) → at list.new.items other ≡ at list.old.items other }
 {

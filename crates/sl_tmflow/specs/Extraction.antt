@@ -7,7 +7,7 @@ use Rattle.sl_tmflow.specs.Channel.{channel_of, last_count}
 use Rattle.sl_tmflow.specs.ChannelState.{ChannelState, KeptChannel, no_channel}
 use Rattle.sl_tmflow.specs.Delivery.{packets_ending}
 use Rattle.sl_tmflow.specs.Incomplete.{incomplete_of}
-use Rattle.sl_tmflow.specs.Recording.{packets_on}
+use Rattle.sl_tmflow.specs.Recording.{packets_of_channel}
 
 -- the states of the virtual channels, and whether a fault came
 pub record ExtractorState : Type 0 where
@@ -42,8 +42,8 @@ abbrev pub HasNoMemory : ExtractorState → Type 0
 HasNoMemory state = AllByRecursion (λ (channel : KeptChannel). channel.room ≡ 0) state.channels
 
 -- a fault came
-abbrev pub HasFailed : ExtractorState → Type 0
-HasFailed state = state.has_failed ≡ true
+abbrev pub IsFailed : ExtractorState → Type 0
+IsFailed state = state.has_failed ≡ true
 
 -- the packets that end in the next frame, idle ones included
 abbrev pub ended_by : List TmView → TmView → List (List ℕ)
@@ -62,4 +62,4 @@ handed_over vc views (next ∷ later) =
 
 -- The packets that are handed over from the first frame on are those of the virtual channel, idle packets left out.
 abbrev pub DeliveredAreHandedOver : Type 0
-DeliveredAreHandedOver = (vc : ℕ) (views : List TmView) → handed_over vc [] views ≡ without_idle (packets_on views vc)
+DeliveredAreHandedOver = (vc : ℕ) (views : List TmView) → handed_over vc [] views ≡ without_idle (packets_of_channel views vc)

@@ -91,12 +91,12 @@ abbrev pub piece_room : ℕ
 piece_room = 90112
 
 -- memory is reserved for the octets that don't fill a data field
-abbrev pub HasRoom : FormState → Type 0
-HasRoom s = octets_room ≤ s.octets_room
+abbrev pub IsReserved : FormState → Type 0
+IsReserved s = octets_room ≤ s.octets_room
 
 -- memory isn't reserved for both: where it is for the octets, it isn't for the frames of a piece
 abbrev pub LacksRoom : FormState → Vec ℕ → Type 0
-LacksRoom s form = HasRoom s → vec_capacity form < vec_len form + piece_room
+LacksRoom s form = IsReserved s → vec_capacity form < vec_len form + piece_room
 
 -- the next piece was added, and the octets after it are still to come
 pub record AddsPiece (old : FormProgress) (before after : List ℕ) (new : FormProgress) : Type 0 where
@@ -121,13 +121,13 @@ abbrev pub IsOfPackets : FormProgress → Type 0
 IsOfPackets s = (octets : List ℕ) → IsLeft s octets → HasPackets s.lists
 
 -- how many packets the lists have, with one for each list that fills it up
-abbrev pub packets_in : List (List (List ℕ)) → ℕ
-packets_in [] = 0
-packets_in (packets ∷ lists) = (length packets + 1) + packets_in lists
+abbrev pub packet_count : List (List (List ℕ)) → ℕ
+packet_count [] = 0
+packet_count (packets ∷ lists) = (length packets + 1) + packet_count lists
 
 -- how many packets may still follow
 abbrev pub packets_left : FormProgress → ℕ
-packets_left s = packets_in (drop s.vc (take 8 s.lists)) - s.taken
+packets_left s = packet_count (drop s.vc (take 8 s.lists)) - s.taken
 
 -- fewer packets may follow than before
 abbrev pub HasFewer : FormProgress → FormProgress → Type 0

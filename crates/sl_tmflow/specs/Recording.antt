@@ -16,10 +16,10 @@ abbrev pub virtual_channels : List ℕ
 virtual_channels = range_with_len 0 8
 
 -- the packets of a virtual channel, idle ones included
-abbrev pub packets_on : List TmView → ℕ → List (List ℕ)
-packets_on views vc = packets_delivered (deliveries_of (channel_of vc views))
+abbrev pub packets_of_channel : List TmView → ℕ → List (List ℕ)
+packets_of_channel views vc = packets_delivered (deliveries_of (channel_of vc views))
 
 -- the packets of each virtual channel, idle packets left out: eight lists
 abbrev pub tm_lists : TmFormat → ℕ → List ℕ → List (List (List ℕ))
 tm_lists format spacecraft recording =
-    map (λ vc. without_idle (packets_on (recorded_views format spacecraft recording) vc)) virtual_channels
+    map (λ vc. without_idle (packets_of_channel (recorded_views format spacecraft recording) vc)) virtual_channels

@@ -1,6 +1,6 @@
 -- A `TmStep` stands for its report.
 use Rattle.sl_tmflow.specs.StepReport.{StepReport}
-use Rattle.sl_tmflow.specs.declared.step.TmStep.TheInside.{Inside}
+use Rattle.sl_tmflow.specs.declared.report.TmStep.TheInside.{Inside}
 
 abbrev pub report_of : Inside → StepReport
 report_of s = record { packets = s.packets; idle = s.idle; gap = s.gap; dropped = s.dropped; foreign = s.foreign }

@@ -11,9 +11,9 @@ ghost use Rattle.sl_tmflow.specs.Delivery.{ended, field_step};
 ghost use Rattle.sl_tmflow.specs.PacketStart.{whole_packets};
 ghost use Rattle.sl_tmflow.specs.StepReport.{counts_of};
 
-use crate::handing::{hand, hand_packet};
-use crate::progress::{Progress, add_field};
-use crate::step::{NOTHING, TmStep};
+use crate::hand_over::{hand, hand_packet};
+use crate::pointer::{Progress, add_field};
+use crate::report::{EMPTY_STEP, TmStep};
 use sl_packet::{FlowFault, Need, PacketSink, add_part, give_back, need};
 use sl_tmframe::{TmField, TmFrame};
 use std::alloc::Global;
@@ -127,7 +127,7 @@ impl Channel {
             TmField::Packets { first, octets } => {
                 self.join(first, octets, u16::from(frame.vc()), sink)
             }
-            TmField::Idle => Ok(NOTHING),
+            TmField::Idle => Ok(EMPTY_STEP),
             TmField::Opaque => Ok(self.break_off()),
         }
     }
@@ -144,7 +144,10 @@ impl Channel {
         if dropped > 0 {
             give_back(&mut self.held);
         }
-        TmStep { dropped, ..NOTHING }
+        TmStep {
+            dropped,
+            ..EMPTY_STEP
+        }
     }
 
     // Whether a frame with this count follows the last frame.
@@ -193,7 +196,7 @@ impl Channel {
                 self.held.clear();
                 outcome
             }
-            Progress::Continues => Ok(NOTHING),
+            Progress::Continues => Ok(EMPTY_STEP),
             Progress::Breaks => {
                 self.held.truncate(before);
                 Ok(self.break_off())
@@ -230,7 +233,7 @@ impl Channel {
                 first: Some(first),
                 octets,
             } => self.begin_at(&octets[usize::from(first)..], vc, sink),
-            _ => Ok(NOTHING),
+            _ => Ok(EMPTY_STEP),
         }
     }
 

@@ -6,11 +6,11 @@ ghost use Rattle.std.specs.List.{concat};
 ghost use Rattle.sl_tmflow.specs.Anomaly.{dropped_of, foreign_of, gap_of};
 ghost use Rattle.sl_tmflow.specs.Channel.{channel_of};
 ghost use Rattle.sl_tmflow.specs.Incomplete.{incomplete_of};
-ghost use Rattle.sl_tmflow.specs.Extraction.{ForProcessed, HasProcessed, HasFailed, HasNoMemory, IsIncompleteAround, ended_by};
+ghost use Rattle.sl_tmflow.specs.Extraction.{ForProcessed, HasProcessed, IsFailed, HasNoMemory, IsIncompleteAround, ended_by};
 ghost use Rattle.sl_packet.specs.Stopping.{CountsFault, IsStopped};
 
 use crate::channel::Channel;
-use crate::step::TmStep;
+use crate::report::TmStep;
 use sl_packet::{FlowFault, PacketSink};
 use sl_tmframe::TmFrame;
 use std::alloc::Global;
@@ -86,13 +86,13 @@ impl Extractor {
 
         // After a fault each call answers `Failed` and changes nothing. No call answers `Failed` before a
         // fault.
-        ensures failed { HasFailed self.old → result ≡ Err FlowFault.Failed }
+        ensures failed { IsFailed self.old → result ≡ Err FlowFault.Failed }
         ensures left { result ≡ Err FlowFault.Failed
-            → HasFailed self.old × (self.new ≡ self.old) × (sink.new ≡ sink.old) }
+            → IsFailed self.old × (self.new ≡ self.old) × (sink.new ≡ sink.old) }
 
         // At a fault some of the packets were accepted, from the first one on, whichever frames were
         // processed before. The sink failed exactly where the fault says so.
-        ensures stopped { IfErr result (λ flow. flow ≢ FlowFault.Failed → HasFailed self.new
+        ensures stopped { IfErr result (λ flow. flow ≢ FlowFault.Failed → IsFailed self.new
             × ForProcessed self.old (λ views.
             IsStopped S.taking S.failing S.failures sink.old frame.now.vc
             (without_idle (ended_by views frame.now)) flow sink.new)) }
@@ -123,7 +123,7 @@ impl Extractor {
         ensures value { ForProcessed self.now (λ views.
             result ≡ length (concat (incomplete_of (channel_of vc views)))) }
         ensures most { result ≤ 65541 }
-        ensures failed { HasFailed self.now → result ≡ 0 }
+        ensures failed { IsFailed self.now → result ≡ 0 }
     {
         if self.has_failed {
             return 0;

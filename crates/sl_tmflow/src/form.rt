@@ -5,7 +5,7 @@ ghost use Rattle.std.specs.Vec.{vec_len, vec_capacity};
 ghost use Rattle.sl_packet.specs.Delivered.{HasNone, IsDeliverable, list_at};
 ghost use Rattle.sl_tmframe.specs.PacketFrame.{field_room_of};
 ghost use Rattle.sl_tmflow.specs.Canonical.{AreDeliverable, IsFormat};
-ghost use Rattle.sl_tmflow.specs.FormLeft.{IsLeft, AddsPiece, IsAllMade, KeepsLeft, IsOfPackets, HasRoom, LacksRoom, HasMore, HasFewer, HasNoMore, form_of, piece_room, octets_room, heading_after, frames_of, frames_len, fields_in, beyond_fields, filled_up, passed};
+ghost use Rattle.sl_tmflow.specs.FormLeft.{IsLeft, AddsPiece, IsAllMade, KeepsLeft, IsOfPackets, IsReserved, LacksRoom, HasMore, HasFewer, HasNoMore, form_of, piece_room, octets_room, heading_after, frames_of, frames_len, fields_in, beyond_fields, filled_up, passed};
 ghost use Rattle.sl_tmflow.specs.NormalForm.{fill_of, filling};
 ghost use Rattle.sl_tmflow.specs.Recording.{tm_lists};
 
@@ -123,7 +123,7 @@ impl<'d> TmForm<'d> {
     /// and the same octets of the normal form are still to come.
     pub fn reserve(&mut self, form: &mut Vec<u8>) -> Result<(), AllocError>
         // Afterwards both have room for a piece.
-        ensures ready { OnOk result (HasRoom self.new) }
+        ensures ready { OnOk result (IsReserved self.new) }
         ensures room { OnOk result (vec_len form.new + piece_room ≤ vec_capacity form.new) }
 
         // Nothing is added, and no memory is given back. Where both had room, no memory is refused.

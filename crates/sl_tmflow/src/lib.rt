@@ -8,13 +8,13 @@
 mod channel;
 mod extractor;
 mod form;
-mod handing;
+mod hand_over;
 pub mod laws;
-mod progress;
+mod pointer;
 mod reframe;
-mod step;
+mod report;
 
 pub use extractor::Extractor;
 pub use form::TmForm;
 pub use reframe::reframe_tm;
-pub use step::TmStep;
+pub use report::TmStep;

@@ -5,7 +5,7 @@ use Rattle.sl_packet.specs.Delivered.{channel_count}
 use Rattle.sl_packet.specs.Packets.{without_idle}
 use Rattle.sl_tmflow.specs.Channel.{views_of}
 use Rattle.sl_tmflow.specs.Extraction.{ExtractorState, HasProcessed}
-use Rattle.sl_tmflow.specs.Recording.{packets_on}
+use Rattle.sl_tmflow.specs.Recording.{packets_of_channel}
 use Rattle.sl_link.specs.declared.tally.Tally.{Tally}
 use Rattle.sl_link.specs.Link.Managed.{Parameters, tm_format}
 use Rattle.sl_link.specs.Normalise.Tm.{tm_idle_in, tm_packets_in}
@@ -30,7 +30,7 @@ pub record HasKeptTm (p : Parameters) (frames : List (List ℕ)) (extractor : Ex
   pub delivered : HasDeliveredTm p frames extractor t
   pub no_anomalies : t.anomalies ≡ 0
   pub size : length lists ≡ channel_count
-  pub lists_are : (vc : ℕ) → vc < 8 → slice_index_or lists vc [] ≡ without_idle (packets_on (views_of (tm_format p) p.spacecraft frames) vc)
+  pub lists_are : (vc : ℕ) → vc < 8 → slice_index_or lists vc [] ≡ without_idle (packets_of_channel (views_of (tm_format p) p.spacecraft frames) vc)
   pub none_elsewhere : (channel : ℕ) → 8 ≤ channel → slice_index_or lists channel [] ≡ []
 
 -- memory may be refused at the last of these frames: a packet is incomplete around it, or they deliver one

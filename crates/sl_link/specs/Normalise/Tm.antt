@@ -6,7 +6,7 @@ use Rattle.sl_packet.specs.Packets.{without_idle, only_idle}
 use Rattle.sl_tmframe.specs.TmDelimited.{tm_frames_of}
 use Rattle.sl_tmflow.specs.Channel.{views_of}
 use Rattle.sl_tmflow.specs.NormalForm.{normal_form}
-use Rattle.sl_tmflow.specs.Recording.{packets_on, tm_lists, virtual_channels}
+use Rattle.sl_tmflow.specs.Recording.{packets_of_channel, tm_lists, virtual_channels}
 use Rattle.sl_link.specs.Deliver.Lists.{count_of}
 use Rattle.sl_link.specs.Link.Managed.{Parameters, tm_format}
 use Rattle.sl_link.specs.Verbs.Show.Tm.{tm_skipped_of}
@@ -27,10 +27,10 @@ tm_normal_form p recording = tm_form_of p (tm_packets p recording)
 
 -- how many packets frames deliver, and how many idle ones beside them
 abbrev pub tm_packets_in : Parameters → List (List ℕ) → ℕ
-tm_packets_in p frames = count_of (map (λ vc. without_idle (packets_on (views_of (tm_format p) p.spacecraft frames) vc)) virtual_channels)
+tm_packets_in p frames = count_of (map (λ vc. without_idle (packets_of_channel (views_of (tm_format p) p.spacecraft frames) vc)) virtual_channels)
 
 abbrev pub tm_idle_in : Parameters → List (List ℕ) → ℕ
-tm_idle_in p frames = count_of (map (λ vc. only_idle (packets_on (views_of (tm_format p) p.spacecraft frames) vc)) virtual_channels)
+tm_idle_in p frames = count_of (map (λ vc. only_idle (packets_of_channel (views_of (tm_format p) p.spacecraft frames) vc)) virtual_channels)
 
 -- what is counted in frames, and a remainder of this many octets
 abbrev pub tm_counted : Parameters → List (List ℕ) → ℕ → Counts

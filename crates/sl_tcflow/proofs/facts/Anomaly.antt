@@ -5,7 +5,7 @@ use Rattle.sl_tcframe.specs.TcDelimited.{tc_frames_of}
 use Rattle.sl_tcframe.specs.TcFrame.{TcFormat, TcView, Ad, Bd}
 use Rattle.sl_tcflow.specs.AcceptedUnit.{views_of}
 use Rattle.sl_tcflow.specs.Anomaly.{dropped_by, dropped_of, held_of, long_by, long_of, stray_by, stray_of, tail_by, tail_of}
-use Rattle.sl_tcflow.specs.Incomplete.{incomplete_of, passes}
+use Rattle.sl_tcflow.specs.Incomplete.{incomplete_of, exceeds_limit}
 use Rattle.sl_tcflow.specs.Reception.{segments_of}
 use Rattle.sl_tcflow.specs.ReceptionParameters.{ReceptionParameters}
 
@@ -67,9 +67,9 @@ are_dropped = record {
 }
 
 pub record AreTooLong : Type 0 where
-  pub beyond : passes (Some 65542) 1 ≡ true
-  pub not_by_none : passes (Some 65542) 0 ≡ false
-  pub not_up_to_it : passes (Some 65541) 1 ≡ false
+  pub beyond : exceeds_limit (Some 65542) 1 ≡ true
+  pub not_by_none : exceeds_limit (Some 65542) 0 ≡ false
+  pub not_up_to_it : exceeds_limit (Some 65541) 1 ≡ false
   pub not_without_a_series : long_of [] continuing ≡ false
   pub not_a_short_one : long_of (first ∷ []) last ≡ false
 

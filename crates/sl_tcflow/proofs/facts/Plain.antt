@@ -8,7 +8,7 @@ use Rattle.sl_tcframe.specs.TcFrame.{TcFormat, TcView}
 use Rattle.sl_tcflow.specs.AcceptedUnit.{accepted_units, channel_of, views_of}
 use Rattle.sl_tcflow.specs.Anomaly.{stray_of, tail_of}
 use Rattle.sl_tcflow.specs.Incomplete.{incomplete_of}
-use Rattle.sl_tcflow.specs.Reception.{packets_on, segments_of}
+use Rattle.sl_tcflow.specs.Reception.{packets_of_segments, segments_of}
 use Rattle.sl_tcflow.specs.ReceptionParameters.{ReceptionParameters, initial_vr}
 use Rattle.sl_tcflow.specs.Series.{header_at, segment_data, whole_segment}
 use Rattle.sl_tcflow.specs.TcNormalForm.{tc_normal_form_of}
@@ -25,7 +25,7 @@ without plain = record { window = 10; starts = replicate 64 0; plain = plain }
 
 -- the packets of a MAP
 abbrev packets : ReceptionParameters → ℕ → ℕ → List ℕ → List (List ℕ)
-packets r vc mid recording = packets_on (segments_of r vc mid (read recording))
+packets r vc map_id recording = packets_of_segments (segments_of r vc map_id (read recording))
 
 -- ---- without segment headers
 

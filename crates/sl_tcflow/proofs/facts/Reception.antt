@@ -6,7 +6,7 @@ use Rattle.sl_tcframe.specs.TcDelimited.{tc_frames_of}
 use Rattle.sl_tcframe.specs.TcFrame.{TcFormat, TcView, Ad, Bd, Unlock, SetVr}
 use Rattle.sl_tcflow.specs.AcceptedUnit.{views_of, channel_of, accepted_units}
 use Rattle.sl_tcflow.specs.Incomplete.{incomplete_of}
-use Rattle.sl_tcflow.specs.Reception.{packets_on, packets_ended, segments_of}
+use Rattle.sl_tcflow.specs.Reception.{packets_of_segments, packets_ended, segments_of}
 use Rattle.sl_tcflow.specs.ReceptionParameters.{ReceptionParameters}
 use Rattle.sl_tcflow.specs.Recording.{packets_in_channel, recorded_views}
 use Rattle.sl_tcflow.specs.Series.{series_of}
@@ -29,7 +29,7 @@ from_vr vr = record { window = 10; starts = replicate 64 vr; plain = [] }
 
 -- the packets of a MAP
 abbrev packets : ℕ → ℕ → ℕ → List ℕ → List (List ℕ)
-packets vr vc mid recording = packets_on (segments_of (from_vr vr) vc mid (read 16 recording))
+packets vr vc map_id recording = packets_of_segments (segments_of (from_vr vr) vc map_id (read 16 recording))
 
 -- the normal form of packets on the first channels
 abbrev form : ℕ → List (List (List ℕ)) → List ℕ
@@ -208,7 +208,7 @@ abbrev both : List ℕ
 both = 0x00 ∷ 0x01 ∷ 0x00 ∷ 0x13 ∷ 0x00 ∷ 0xC0 ∷ small ++ idle
 
 pub record AreBoth : Type 0 where
-  pub delivers : packets_on (segments_of (from_vr 0) 0 0 (read 24 both)) ≡ small ∷ idle ∷ []
+  pub delivers : packets_of_segments (segments_of (from_vr 0) 0 0 (read 24 both)) ≡ small ∷ idle ∷ []
   pub not_idle : without_idle (small ∷ idle ∷ []) ≡ small ∷ []
   pub normal : tc_normal_form_of (format 24) 1 (replicate 64 0) [] ((small ∷ []) ∷ []) ≡ 0x00 ∷ 0x01 ∷ 0x00 ∷ 0x0C ∷ 0x00 ∷ 0xC0 ∷ small
 
@@ -236,12 +236,12 @@ completing = 0xC0 ∷ 0x01 ∷ 0x00 ∷ 0x00 ∷ 0xEE ∷ []
 
 pub record AreAtLimits : Type 0 where
   -- segments without octets
-  pub empty_last : packets_on ((0x40 ∷ packet) ∷ (0x80 ∷ []) ∷ []) ≡ packet ∷ []
-  pub empty_whole : packets_on ((0xC0 ∷ []) ∷ []) ≡ []
+  pub empty_last : packets_of_segments ((0x40 ∷ packet) ∷ (0x80 ∷ []) ∷ []) ≡ packet ∷ []
+  pub empty_whole : packets_of_segments ((0xC0 ∷ []) ∷ []) ≡ []
   pub empty_first : incomplete_of ((0x40 ∷ []) ∷ []) ≡ Some []
   -- an unsegmented unit drops the incomplete series
-  pub whole_between : packets_on (first_of_2 ∷ (0xC2 ∷ packet) ∷ last_of_2 ∷ []) ≡ packet ∷ []
-  pub left_over : packets_on (with_rest ∷ completing ∷ []) ≡ packet ∷ []
+  pub whole_between : packets_of_segments (first_of_2 ∷ (0xC2 ∷ packet) ∷ last_of_2 ∷ []) ≡ packet ∷ []
+  pub left_over : packets_of_segments (with_rest ∷ completing ∷ []) ≡ packet ∷ []
   pub both_types : packets 0 0 0 of_both_types ≡ packet ∷ []
   pub last_channel : packets_in_channel (from_vr 255) (recorded_views (format 16) 1 at_last) 4095 ≡ packet ∷ []
   pub channel_before : packets_in_channel (from_vr 255) (recorded_views (format 16) 1 at_last) 4094 ≡ []

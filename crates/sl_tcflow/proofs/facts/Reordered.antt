@@ -11,7 +11,7 @@ use Rattle.sl_cop.proofs.ReorderedFacts.{far, far_are_near, of_each}
 use Rattle.sl_tcframe.specs.TcDelimited.{tc_frames_of}
 use Rattle.sl_tcframe.specs.TcFrame.{TcFormat, TcView, Ad, Bd, Unlock}
 use Rattle.sl_tcflow.specs.AcceptedUnit.{accepted_ad_units, accepted_units, channel_of, events_of, farm_after, views_of}
-use Rattle.sl_tcflow.specs.Reception.{packets_on, segments_of}
+use Rattle.sl_tcflow.specs.Reception.{packets_of_segments, segments_of}
 use Rattle.sl_tcflow.specs.ReceptionParameters.{ReceptionParameters}
 use Rattle.sl_tcflow.specs.ReorderedUnits.{AreReordered, AreReorderedInWindow, HaveNoBd, recorded_packets}
 use Rattle.sl_tcflow.specs.Series.{segments_on}
@@ -71,8 +71,8 @@ pub record IsReordered : Type 0 where
   pub all_units : accepted_units 10 0 (channel_of 0 views) ≡ unit 0xAA ∷ unit 0xBB ∷ []
   pub vr : (farm_after 10 0 (channel_of 0 views)).vr ≡ 2
   pub report : (clcw_of 0 (farm_after 10 0 (channel_of 0 views))).report ≡ 2
-  pub packets : packets_on (segments_of from_0 0 0 views) ≡ packet 0xAA ∷ packet 0xBB ∷ []
-  pub packets_sent : packets_on (segments_on 0 sent) ≡ packet 0xAA ∷ packet 0xBB ∷ packet 0xCC ∷ []
+  pub packets : packets_of_segments (segments_of from_0 0 0 views) ≡ packet 0xAA ∷ packet 0xBB ∷ []
+  pub packets_sent : packets_of_segments (segments_on 0 sent) ≡ packet 0xAA ∷ packet 0xBB ∷ packet 0xCC ∷ []
   pub recorded : recorded_packets format 1 from_0 0 0 recording ≡ packet 0xAA ∷ packet 0xBB ∷ []
 
 pub is_reordered : IsReordered
@@ -87,7 +87,7 @@ is_reordered = record {
   recorded = recorded_on format 1 from_0 0 0 recording (omega arith) (omega arith);
 }
 
--- ---- frames of all types, while V(R) passes 255
+-- ---- frames of all types, while V(R) exceeds_limit 255
 
 -- the sent unit of number `k`, and a copy of its frame
 abbrev numbered : ℕ → List ℕ
@@ -215,9 +215,9 @@ not_as_sent (more, same) = let octet : 0xBB ≡ 0xAA = ap (λ l. get_or (get_or 
 -- that they make isn't.
 pub record BdMatters : Type 0 where
   pub units : accepted_ad_units 10 0 (channel_of 0 between) ≡ divided
-  pub packets : packets_on (segments_of from_0 0 0 between) ≡ packet 0xBB ∷ []
-  pub packets_sent : packets_on (segments_on 0 divided) ≡ packet 0xAA ∷ []
-  pub no_prefix : IsPrefix (packets_on (segments_of from_0 0 0 between)) (packets_on (segments_on 0 divided)) → ⊥
+  pub packets : packets_of_segments (segments_of from_0 0 0 between) ≡ packet 0xBB ∷ []
+  pub packets_sent : packets_of_segments (segments_on 0 divided) ≡ packet 0xAA ∷ []
+  pub no_prefix : IsPrefix (packets_of_segments (segments_of from_0 0 0 between)) (packets_of_segments (segments_on 0 divided)) → ⊥
 
 pub bd_matters : BdMatters
 bd_matters = record {

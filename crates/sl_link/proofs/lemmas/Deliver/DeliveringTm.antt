@@ -6,7 +6,7 @@ use Rattle.sl_tmframe.specs.declared.tm_frame.TmSkip.{TmSkip}
 use Rattle.sl_tmframe.specs.TmFrame.{TmView}
 use Rattle.sl_tmflow.specs.Channel.{views_of}
 use Rattle.sl_tmflow.specs.Extraction.{ExtractorState, HasProcessed}
-use Rattle.sl_tmflow.specs.Recording.{packets_on, virtual_channels}
+use Rattle.sl_tmflow.specs.Recording.{packets_of_channel, virtual_channels}
 use Rattle.sl_link.specs.declared.tally.Tally.{Tally}
 use Rattle.sl_link.specs.Deliver.Tm.{as_read, ended_in, is_incomplete_around}
 use Rattle.sl_link.specs.Deliver.Lists.{count_of, with_frame}
@@ -33,9 +33,9 @@ delivered_more p frames frame e e' t t' d processed counted packets idle =
       processed = subst (HasProcessed e') (sym next) processed;
       counted = counted;
       packets = packets ∙ ap (λ n. n + length (without_idle (ended_in seen r))) d.packets
-          ∙ sym (counted_next _ seen r small) ∙ ap (λ l. count_of (map (λ vc. without_idle (packets_on l vc)) virtual_channels)) (sym next);
+          ∙ sym (counted_next _ seen r small) ∙ ap (λ l. count_of (map (λ vc. without_idle (packets_of_channel l vc)) virtual_channels)) (sym next);
       idle = idle ∙ ap (λ n. n + length (only_idle (ended_in seen r))) d.idle
-          ∙ sym (counted_next is_idle_packet seen r small) ∙ ap (λ l. count_of (map (λ vc. only_idle (packets_on l vc)) virtual_channels)) (sym next);
+          ∙ sym (counted_next is_idle_packet seen r small) ∙ ap (λ l. count_of (map (λ vc. only_idle (packets_of_channel l vc)) virtual_channels)) (sym next);
     }
 
 -- a packet is incomplete around it

@@ -14,7 +14,7 @@ use Rattle.sl_tmflow.specs.Extraction.{ended_by}
 use Rattle.sl_tmflow.proofs.lemmas.Delivery.Push.{packets_of_channel_step}
 use Rattle.sl_link.specs.Deliver.Tm.{ended_in, lists_after}
 use Rattle.sl_link.specs.Deliver.Lists.{count_of, with_frame}
-use Rattle.sl_tmflow.specs.Recording.{packets_on}
+use Rattle.sl_tmflow.specs.Recording.{packets_of_channel}
 use Rattle.sl_link.specs.Link.Totals.{Counts}
 use Rattle.sl_link.proofs.lemmas.Deliver.Lists.{views_step}
 use Rattle.sl_link.proofs.lemmas.Deliver.Handed.{vc_or_none}
@@ -23,7 +23,7 @@ use Rattle.sl_link.proofs.lemmas.Deliver.Handed.{vc_or_none}
 
 -- of the packets of a channel
 abbrev pub passing : (List ℕ → Bool) → List TmView → ℕ → List (List ℕ)
-passing test views vc = filter test (packets_on views vc)
+passing test views vc = filter test (packets_of_channel views vc)
 
 -- a frame adds those that end in it to its own channel,
 pub on_same : (test : List ℕ → Bool) (vc : ℕ) (views : List TmView) (view : TmView) → view.vc ≡ vc
@@ -32,9 +32,9 @@ on_same test vc views view same =
     elim (eqb_tells view.vc vc) [
       | inl (is, e) ↦
           let ends = packets_ending (channel_of vc views) view in
-          let step : packets_on (views ++ view ∷ []) vc ≡ packets_on views vc ++ ends =
-          packets_of_channel_step vc views view ∙ ap (λ (b : Bool). packets_on views vc ++ (if b then ends else [])) is in
-          ap (filter test) step ∙ filter-append test (packets_on views vc) ends
+          let step : packets_of_channel (views ++ view ∷ []) vc ≡ packets_of_channel views vc ++ ends =
+          packets_of_channel_step vc views view ∙ ap (λ (b : Bool). packets_of_channel views vc ++ (if b then ends else [])) is in
+          ap (filter test) step ∙ filter-append test (packets_of_channel views vc) ends
           ∙ ap (λ c. passing test views vc ++ filter test (packets_ending (channel_of c views) view)) (sym same)
       | inr (is, other) ↦ absurd (other same)
     ]
@@ -48,12 +48,12 @@ on_other test vc views view other =
       | inr (is, apart) ↦
           let ends = packets_ending (channel_of vc views) view in
           ap (filter test) (packets_of_channel_step vc views view
-          ∙ ap (λ (b : Bool). packets_on views vc ++ (if b then ends else [])) is ∙ append-nil (packets_on views vc))
+          ∙ ap (λ (b : Bool). packets_of_channel views vc ++ (if b then ends else [])) is ∙ append-nil (packets_of_channel views vc))
     ]
 
 pub list_step : (views : List TmView) (r : Result TmView TmSkip) (lists : List (List (List ℕ))) (vc : ℕ) → vc < length lists
-    → slice_index_or lists vc [] ≡ without_idle (packets_on views vc)
-    → slice_index_or (lists_after views r lists) vc [] ≡ without_idle (packets_on (with_frame views r) vc)
+    → slice_index_or lists vc [] ≡ without_idle (packets_of_channel views vc)
+    → slice_index_or (lists_after views r lists) vc [] ≡ without_idle (packets_of_channel (with_frame views r) vc)
 list_step views (Err reason) lists vc inside are = are
 list_step views (Ok view) lists vc inside are =
     let more = without_idle (ended_by views view) in

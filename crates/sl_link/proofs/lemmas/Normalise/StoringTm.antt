@@ -8,7 +8,7 @@ use Rattle.sl_packet.specs.Packets.{without_idle}
 use Rattle.sl_packet.proofs.DeliveredLemmas.{length-no_lists, list_at-no_lists}
 use Rattle.sl_tmflow.specs.Channel.{views_of}
 use Rattle.sl_tmflow.specs.Extraction.{ExtractorState, HasProcessed}
-use Rattle.sl_tmflow.specs.Recording.{packets_on, virtual_channels}
+use Rattle.sl_tmflow.specs.Recording.{packets_of_channel, virtual_channels}
 use Rattle.sl_link.specs.declared.tally.Tally.{Tally}
 use Rattle.sl_link.specs.Deliver.Tm.{as_read, lists_after, may_want_memory}
 use Rattle.sl_link.specs.Deliver.Lists.{count_of, with_frame}
@@ -52,7 +52,7 @@ kept_more p frames frame e e' t t' lists lists' k delivered none lists_by =
       size = ap length lists_by ∙ length-lists_after seen r lists ∙ k.size;
       lists_are = λ vc below. ap (λ l. slice_index_or l vc []) lists_by
           ∙ list_step seen r lists vc (omega (arith, k.size)) (k.lists_are vc below)
-          ∙ ap (λ l. without_idle (packets_on l vc)) (sym next);
+          ∙ ap (λ l. without_idle (packets_of_channel l vc)) (sym next);
       none_elsewhere = λ channel past. ap (λ l. slice_index_or l channel []) lists_by
           ∙ other_step seen r lists channel (omega (arith, small)) ∙ k.none_elsewhere channel past;
     }
@@ -67,17 +67,17 @@ may_want p before frame may =
       | inl incomplete ↦ inl (wants_memory p before frame incomplete)
       | inr some ↦
           let more = counted_next (λ packet. not (is_idle_packet packet)) seen r (small_vc (tm_format p) p.spacecraft frame) in
-          let next = ap (λ l. count_of (map (λ vc. without_idle (packets_on l vc)) virtual_channels)) (views_next (tm_format p) p.spacecraft before frame) in
+          let next = ap (λ l. count_of (map (λ vc. without_idle (packets_of_channel l vc)) virtual_channels)) (views_next (tm_format p) p.spacecraft before frame) in
           inr (omega (arith, some, more, next))
     ]
 
 module _ (p : Parameters) (frames : List (List ℕ)) (e : ExtractorState) (t : Tally) where
   -- the lists are those of the frames
   pub all_kept : (lists : List (List (List ℕ))) → HasKeptTm p frames e t lists
-      → take 8 lists ≡ map (λ vc. without_idle (packets_on (views_of (tm_format p) p.spacecraft frames) vc)) virtual_channels
+      → take 8 lists ≡ map (λ vc. without_idle (packets_of_channel (views_of (tm_format p) p.spacecraft frames) vc)) virtual_channels
   all_kept lists k =
       take_lists 8 lists (omega (arith, k.size))
-      ∙ map_range (λ vc. slice_index_or lists vc []) (λ vc. without_idle (packets_on (views_of (tm_format p) p.spacecraft frames) vc)) 0 8 (λ vc below. k.lists_are vc (omega arith))
+      ∙ map_range (λ vc. slice_index_or lists vc []) (λ vc. without_idle (packets_of_channel (views_of (tm_format p) p.spacecraft frames) vc)) 0 8 (λ vc below. k.lists_are vc (omega arith))
 
   -- and all is counted
   pub all_counted : (recording : List ℕ) (n : ℕ) (totals : Counts) → HasDeliveredTm p frames e t → n ≡ length recording → length (concat frames) ≤ length recording

@@ -22,18 +22,18 @@ use Rattle.sl_link.specs.declared.tally.Tally.{Tally}
 
 -- this is told of a virtual channel and a MAP, if it holds
 abbrev pub told_amiss : ℕ → List ℕ → ℕ → ℕ → Bool → List (List ℕ)
-told_amiss offset what vc mid holds = if holds then line_at offset (what ++ map_text vc mid) ∷ [] else []
+told_amiss offset what vc map_id holds = if holds then line_at offset (what ++ map_text vc map_id) ∷ [] else []
 
 -- the lines of a frame that is read, in their order, by what a receiver made of it, on a virtual channel without segment
 -- headers or with them
 abbrev pub view_amiss : Bool → ℕ → TcView → StepReport → List (List ℕ)
 view_amiss plain offset view step =
-    let mid : ℕ = map_of plain view.content in
+    let map_id : ℕ = map_of plain view.content in
     verdict_amiss offset view.vc step.verdict view.content
-    ++ told_amiss offset (codes " stray") view.vc mid step.stray
-    ++ dropped_amiss offset view.vc mid step.dropped
-    ++ told_amiss offset (codes " long") view.vc mid step.long
-    ++ tail_amiss offset view.vc mid step.tail
+    ++ told_amiss offset (codes " stray") view.vc map_id step.stray
+    ++ dropped_amiss offset view.vc map_id step.dropped
+    ++ told_amiss offset (codes " long") view.vc map_id step.long
+    ++ tail_amiss offset view.vc map_id step.tail
 
 -- FARM-1 discards no frame with this verdict
 abbrev pub passes : Verdict → Bool

@@ -26,7 +26,7 @@ use Rattle.sl_link.specs.Verbs.Listing.{Listing, counts_of, lines_from, text_of}
 
 -- a virtual channel and a MAP
 abbrev pub map_text : ℕ → ℕ → List ℕ
-map_text vc mid = codes " vc " ++ decimal vc ++ codes " map " ++ decimal mid
+map_text vc map_id = codes " vc " ++ decimal vc ++ codes " map " ++ decimal map_id
 
 -- a frame of type AD is discarded
 abbrev pub discarded_amiss : ℕ → ℕ → Verdict → Content → List (List ℕ)
@@ -46,31 +46,31 @@ verdict_amiss offset vc Command content = []
 
 -- a segment is out of sequence
 abbrev pub stray_amiss : ℕ → ℕ → ℕ → Bool → List (List ℕ)
-stray_amiss offset vc mid stray = if stray then line_at offset (codes " stray" ++ map_text vc mid) ∷ [] else []
+stray_amiss offset vc map_id stray = if stray then line_at offset (codes " stray" ++ map_text vc map_id) ∷ [] else []
 
 -- an incomplete series is dropped, by how many octets of it had come
 abbrev pub dropped_amiss : ℕ → ℕ → ℕ → Option ℕ → List (List ℕ)
-dropped_amiss offset vc mid None = []
-dropped_amiss offset vc mid (Some octets) = line_at offset (codes " dropped" ++ map_text vc mid ++ codes " octets " ++ decimal octets) ∷ []
+dropped_amiss offset vc map_id None = []
+dropped_amiss offset vc map_id (Some octets) = line_at offset (codes " dropped" ++ map_text vc map_id ++ codes " octets " ++ decimal octets) ∷ []
 
 -- a series is given up, too long
 abbrev pub long_amiss : ℕ → ℕ → ℕ → Bool → List (List ℕ)
-long_amiss offset vc mid long = if long then line_at offset (codes " long" ++ map_text vc mid) ∷ [] else []
+long_amiss offset vc map_id long = if long then line_at offset (codes " long" ++ map_text vc map_id) ∷ [] else []
 
 -- octets are left after the last packet of a service data unit
 abbrev pub tail_amiss : ℕ → ℕ → ℕ → ℕ → List (List ℕ)
-tail_amiss offset vc mid octets =
-    if octets == 0 then [] else line_at offset (codes " tail" ++ map_text vc mid ++ codes " octets " ++ decimal octets) ∷ []
+tail_amiss offset vc map_id octets =
+    if octets == 0 then [] else line_at offset (codes " tail" ++ map_text vc map_id ++ codes " octets " ++ decimal octets) ∷ []
 
 -- the lines of a frame at this offset, as it is read, that comes after these frames
 abbrev pub tc_amiss : ReceptionParameters → ℕ → List TcView → Result TcView TcSkip → List (List ℕ)
 tc_amiss r offset views (Ok view) =
-    let mid : ℕ = map_by r view in
+    let map_id : ℕ = map_by r view in
     verdict_amiss offset view.vc (verdict_on r views view) view.content
-    ++ stray_amiss offset view.vc mid (stray_by r views view)
-    ++ dropped_amiss offset view.vc mid (dropped_by r views view)
-    ++ long_amiss offset view.vc mid (long_by r views view)
-    ++ tail_amiss offset view.vc mid (tail_by r views view)
+    ++ stray_amiss offset view.vc map_id (stray_by r views view)
+    ++ dropped_amiss offset view.vc map_id (dropped_by r views view)
+    ++ long_amiss offset view.vc map_id (long_by r views view)
+    ++ tail_amiss offset view.vc map_id (tail_by r views view)
 tc_amiss r offset views (Err reason) = line_at offset (codes " skip " ++ tc_skip_word reason) ∷ []
 
 -- ---- a recording
@@ -82,8 +82,8 @@ tc_amiss_after p before frame =
 
 -- a series that is incomplete after the last frame, with the octets so far, if one is
 abbrev pub incomplete_amiss : ℕ → ℕ → ℕ → Option (List ℕ) → List (List ℕ)
-incomplete_amiss offset vc mid None = []
-incomplete_amiss offset vc mid (Some octets) = line_at offset (codes " open" ++ map_text vc mid ++ codes " octets " ++ decimal (length octets)) ∷ []
+incomplete_amiss offset vc map_id None = []
+incomplete_amiss offset vc map_id (Some octets) = line_at offset (codes " open" ++ map_text vc map_id ++ codes " octets " ++ decimal (length octets)) ∷ []
 
 -- that of a virtual channel and a MAP, by the number of their channel
 abbrev pub open_on : ReceptionParameters → ℕ → List TcView → ℕ → List (List ℕ)

@@ -17,7 +17,7 @@ use Rattle.sl_link.specs.Verbs.Listing.{Listing, text_of}
 
 -- a virtual channel and a MAP
 abbrev pub channel_text : ℕ → ℕ → List ℕ
-channel_text vc mid = codes "vc " ++ decimal vc ++ codes " map " ++ decimal mid
+channel_text vc map_id = codes "vc " ++ decimal vc ++ codes " map " ++ decimal map_id
 
 -- the lines of the packets of the series that the unit of a frame ends, as it is read, that comes after these frames
 abbrev pub tc_packet_lines : ReceptionParameters → List TcView → Result TcView TcSkip → List ℕ

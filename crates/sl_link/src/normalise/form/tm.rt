@@ -4,13 +4,13 @@ use crate::normalise::form::Form;
 use sl_tmflow::TmForm;
 
 impl<'d> Form for TmForm<'d> {
-    ghost use Rattle.sl_tmflow.specs.FormLeft.{HasPackets, HasRoom, IsLeft, packets_left};
+    ghost use Rattle.sl_tmflow.specs.FormLeft.{HasPackets, IsReserved, IsLeft, packets_left};
 
     ghost left = { λ form octets. IsLeft form.progress octets };
 
     ghost packets = { λ form. HasPackets form.progress.lists };
 
-    ghost ready = { λ form. HasRoom form };
+    ghost ready = { λ form. IsReserved form };
 
     ghost most = { λ form. packets_left form.progress };
 

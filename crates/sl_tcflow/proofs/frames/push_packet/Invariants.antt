@@ -6,7 +6,7 @@ use Rattle.sl_tcflow.proofs.frames.push_packet.Given as goal
 
 abbrev pub invariant-loop-left : goal.invariant-loop-left
 invariant-loop-left l =
-    IsDivided l.shape l.heading.spacecraft l.vc l.mid l.initial.form.items l.initial.ns (segment_room_of l.shape) l.packet l.left l.ns l.form.items
+    IsDivided l.shape l.heading.spacecraft l.vc l.map_id l.initial.form.items l.initial.ns (segment_room_of l.shape) l.packet l.left l.ns l.form.items
     × AreFew (vec_len l.initial.form) (length l.packet) (vec_len l.form) (length l.left) × (vec_capacity l.initial.form ≤ vec_capacity l.form)
 
 abbrev pub decreases-loop-left : goal.decreases-loop-left

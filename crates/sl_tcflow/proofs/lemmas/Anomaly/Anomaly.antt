@@ -6,7 +6,7 @@ use Rattle.std.proofs.lemmas.Bool.Decides.{eqb_tells}
 use Rattle.std.specs.Prelude.{is_none, option_map}
 use Rattle.sl_tcframe.specs.TcFrame.{TcView}
 use Rattle.sl_tcflow.specs.Anomaly.{begins, continues, octets_held, of_segment, of_accepted, StrayIsTold, WhatIsToldIsStray, DroppedIsTold, WhatIsToldIsDropped, LongIsTold, WhatIsToldIsLong}
-use Rattle.sl_tcflow.specs.Incomplete.{IsIncomplete, incomplete_of, passes}
+use Rattle.sl_tcflow.specs.Incomplete.{IsIncomplete, incomplete_of, exceeds_limit}
 use Rattle.sl_tcflow.specs.Placed.{at}
 use Rattle.sl_tcflow.specs.Receiving.{AreIncomplete, channel_at, map_by, segment_by}
 use Rattle.sl_tcflow.specs.Reception.{segments_of}
@@ -31,11 +31,11 @@ module _ (r : ReceptionParameters) (old : List (Option (List ℕ))) (views : Lis
       → map_by r next ≡ (header_at unit).map
       → of_accepted none told r views next ≡ from (at old (channel_at next.vc (header_at unit).map)) unit
   told_more none told from same are inside unit_is mid_is =
-      let mid = (header_at unit).map in
+      let map_id = (header_at unit).map in
       ap (of_segment none (told (segments_of r next.vc (map_by r next) views))) unit_is
       ∙ ap (λ n. told (segments_of r next.vc n views) unit) mid_is
-      ∙ same (segments_of r next.vc mid views) unit
-      ∙ ap (λ held. from held unit) (sym (are next.vc mid inside (map_fits unit)))
+      ∙ same (segments_of r next.vc map_id views) unit
+      ∙ ap (λ held. from held unit) (sym (are next.vc map_id inside (map_fits unit)))
 
   pub told_at : {X : Type 0} (none : X) (told : List (List ℕ) → List ℕ → X) (from : Option (List ℕ) → List ℕ → X)
       → ((list : List (List ℕ)) (segment : List ℕ) → told list segment ≡ from (incomplete_of list) segment)
@@ -112,18 +112,18 @@ what_is_told_is_dropped list next count e =
 
 pub long_is_told : LongIsTold
 long_is_told list next x =
-    ap (λ b. b && passes (octets_held list) (length (segment_data next))) (continues_is next x.goes_on)
-    ∙ ap (λ held. passes (option_map length held) (length (segment_data next))) (incomplete_is_told list x.octets x.incomplete)
+    ap (λ b. b && exceeds_limit (octets_held list) (length (segment_data next))) (continues_is next x.goes_on)
+    ∙ ap (λ held. exceeds_limit (option_map length held) (length (segment_data next))) (incomplete_is_told list x.octets x.incomplete)
     ∙ lt-ltb 65542 (length x.octets + length (segment_data next)) x.too_many
 
-some_passes : (list : List (List ℕ)) (held : Option (List ℕ)) (more : ℕ) → incomplete_of list ≡ held → passes (option_map length held) more ≡ true
+some_passes : (list : List (List ℕ)) (held : Option (List ℕ)) (more : ℕ) → incomplete_of list ≡ held → exceeds_limit (option_map length held) more ≡ true
     → (octets : List ℕ) × IsIncomplete list octets × (65542 < length octets + more)
 some_passes list None more e over = absurd (cc)
 some_passes list (Some octets) more e over = (octets, what_is_told_is_incomplete list octets e, ltb-true 65542 (length octets + more) over)
 
 pub what_is_told_is_long : WhatIsToldIsLong
 what_is_told_is_long list next e =
-    let (test, over) = and_parts (continues next) (passes (octets_held list) (length (segment_data next))) e in
+    let (test, over) = and_parts (continues next) (exceeds_limit (octets_held list) (length (segment_data next))) e in
     let (octets, x, too_many) = some_passes list (incomplete_of list) (length (segment_data next)) refl over in
     record {
       goes_on = one_of (flags_of next) 0 2 test;

@@ -12,7 +12,7 @@ use Rattle.sl_tcframe.proofs.DelimitedLemmas.{delimited_once}
 use Rattle.sl_tcflow.specs.AcceptedUnit.{accepted_units, views_of}
 use Rattle.sl_tcflow.specs.Canonical.{IsFormat, AreDeliverable, NormalFormIsFrames, NoFrameIsLong, NormalFormDelivers}
 use Rattle.sl_tcflow.specs.FitsTc.{FitsTc}
-use Rattle.sl_tcflow.specs.Reception.{packets_on, segments_of}
+use Rattle.sl_tcflow.specs.Reception.{packets_of_segments, segments_of}
 use Rattle.sl_tcflow.specs.ReceptionParameters.{ReceptionParameters, is_plain, initial_vr}
 use Rattle.sl_tcflow.specs.Recording.{map_channels, packets_in_channel, recorded_views}
 use Rattle.sl_tcflow.specs.Series.{segment_in, segments_on}
@@ -61,19 +61,19 @@ module _ (format : TcFormat) (spacecraft : ℕ) (r : ReceptionParameters) (lists
   abbrev form : List ℕ
   form = tc_normal_form_of format spacecraft r.starts r.plain lists
 
-  packets_at : (vc mid : ℕ) → vc < 64 → mid < 64
-      → packets_on (segments_of r vc mid (recorded_views format spacecraft form)) ≡ slice_index_or lists (64 * vc + mid) []
-  packets_at vc mid vc_fits mid_fits =
+  packets_at : (vc map_id : ℕ) → vc < 64 → map_id < 64
+      → packets_of_segments (segments_of r vc map_id (recorded_views format spacecraft form)) ≡ slice_index_or lists (64 * vc + map_id) []
+  packets_at vc map_id vc_fits mid_fits =
       let room = segment_room_of format in
       let units = units_of_maps (is_plain r vc) room 0 (lists_on lists vc) in
       let all : length lists ≡ 4096 = are.all in
       let left : 64 ≤ length (drop (64 * vc) lists) = omega (arith, length-drop (64 * vc) lists, all) in
       let small : initial_vr r vc < 256 = octets.each vc 0 (omega (arith, octets.count, vc_fits)) in
-      ap (λ views. packets_on (segments_of r vc mid views)) (views_are format spacecraft r.starts r.plain lists is known are fits)
-      ∙ ap (λ channel. packets_on (segments_on mid (map (segment_in (is_plain r vc)) (accepted_units r.window (initial_vr r vc) channel)))) (channel_back format spacecraft is known r.starts r.plain lists are fits vc vc_fits)
-      ∙ ap (λ accepted. packets_on (segments_on mid (map (segment_in (is_plain r vc)) accepted))) (all_accepted r.window vc (initial_vr r vc) (initial_vr r vc) units small (omega (arith, small)))
-      ∙ back_on format lists vc room (some_room format spacecraft is known) left (is_plain r vc) mid mid_fits (fits vc vc_fits) (some_lists 64 (64 * vc) lists are.each)
-      ∙ list_on lists vc mid mid_fits
+      ap (λ views. packets_of_segments (segments_of r vc map_id views)) (views_are format spacecraft r.starts r.plain lists is known are fits)
+      ∙ ap (λ channel. packets_of_segments (segments_on map_id (map (segment_in (is_plain r vc)) (accepted_units r.window (initial_vr r vc) channel)))) (channel_back format spacecraft is known r.starts r.plain lists are fits vc vc_fits)
+      ∙ ap (λ accepted. packets_of_segments (segments_on map_id (map (segment_in (is_plain r vc)) accepted))) (all_accepted r.window vc (initial_vr r vc) (initial_vr r vc) units small (omega (arith, small)))
+      ∙ back_on format lists vc room (some_room format spacecraft is known) left (is_plain r vc) map_id mid_fits (fits vc vc_fits) (some_lists 64 (64 * vc) lists are.each)
+      ∙ list_on lists vc map_id mid_fits
 
   list_back : (channel : ℕ) → channel < channel_count
       → slice_index_or lists channel [] ≡ without_idle (packets_in_channel r (recorded_views format spacecraft form) channel)

@@ -20,10 +20,10 @@ use Rattle.sl_tcflow.proofs.lemmas.Series.Part.{some_parts}
 use Rattle.sl_tcflow.proofs.lemmas.Form.Pushed.{frames_from_same, frames_from-append}
 
 -- the MAPs from one on are this one and those after it
-split_maps : (b : Bool) (room mid n : ℕ) (lists : List (List (List ℕ)))
-    → units_of_maps b room mid (take (suc n) lists) ≡ flat_map (units_of_packet b room mid) (slice_index_or lists 0 []) ++ units_of_maps b room (mid + 1) (take n (drop 1 lists))
-split_maps b room mid n [] = sym (ap (units_of_maps b room (mid + 1)) (take-nil n))
-split_maps b room mid n (packets ∷ lists) = refl
+split_maps : (b : Bool) (room map_id n : ℕ) (lists : List (List (List ℕ)))
+    → units_of_maps b room map_id (take (suc n) lists) ≡ flat_map (units_of_packet b room map_id) (slice_index_or lists 0 []) ++ units_of_maps b room (map_id + 1) (take n (drop 1 lists))
+split_maps b room map_id n [] = sym (ap (units_of_maps b room (map_id + 1)) (take-nil n))
+split_maps b room map_id n (packets ∷ lists) = refl
 
 module _ (format : TcFormat) (spacecraft : ℕ) (starts plain : List ℕ) (lists : List (List (List ℕ))) where
   abbrev room : ℕ
@@ -49,12 +49,12 @@ module _ (format : TcFormat) (spacecraft : ℕ) (starts plain : List ℕ) (lists
   on_channels = channels_left format spacecraft starts plain lists
 
   -- the octets to come, by virtual channel and MAP
-  left_is : (vc mid channel framed ns : ℕ) → mid < 64 → channel ≡ 64 * vc + mid
-      → left channel framed ns ≡ on_maps vc mid ns (drop framed (list channel)) (take (63 - mid) (drop (channel + 1) lists)) ++ on_channels (vc + 1) (63 - vc)
+  left_is : (vc map_id channel framed ns : ℕ) → map_id < 64 → channel ≡ 64 * vc + map_id
+      → left channel framed ns ≡ on_maps vc map_id ns (drop framed (list channel)) (take (63 - map_id) (drop (channel + 1) lists)) ++ on_channels (vc + 1) (63 - vc)
   unfolding form_left
-  left_is vc mid channel framed ns small is =
+  left_is vc map_id channel framed ns small is =
       let v : channel / 64 ≡ vc = omega (arith, is, small) in
-      let m : channel % 64 ≡ mid = omega (arith, is, small) in
+      let m : channel % 64 ≡ map_id = omega (arith, is, small) in
       ap₂ (λ a b. on_maps a b ns (drop framed (list channel)) (take (63 - b) (drop (channel + 1) lists)) ++ on_channels (a + 1) (63 - a)) v m
 
   -- the lists from a channel on are the channel's own and those after it
@@ -84,20 +84,20 @@ module _ (format : TcFormat) (spacecraft : ℕ) (starts plain : List ℕ) (lists
   -- ---- channels whose packets are all framed
 
   -- where a channel's packets are all framed, the octets to come are those from the next MAP on
-  to_next_map : (vc mid channel framed ns : ℕ) → mid < 63 → channel ≡ 64 * vc + mid → length (list channel) ≤ framed → left channel framed ns ≡ left (channel + 1) 0 ns
-  to_next_map vc mid channel framed ns small is all =
+  to_next_map : (vc map_id channel framed ns : ℕ) → map_id < 63 → channel ≡ 64 * vc + map_id → length (list channel) ≤ framed → left channel framed ns ≡ left (channel + 1) 0 ns
+  to_next_map vc map_id channel framed ns small is all =
       let b = no_headers vc in
       let rest = on_channels (vc + 1) (63 - vc) in
-      let one : 63 - mid ≡ suc (62 - mid) = omega (arith, small) in
-      let few : 62 - mid ≡ 63 - (mid + 1) = omega arith in
-      left_is vc mid channel framed ns (omega (arith, small)) is
-      ∙ ap (λ ps. on_maps vc mid ns ps (take (63 - mid) (drop (channel + 1) lists)) ++ rest) (drop_all framed (list channel) all)
+      let one : 63 - map_id ≡ suc (62 - map_id) = omega (arith, small) in
+      let few : 62 - map_id ≡ 63 - (map_id + 1) = omega arith in
+      left_is vc map_id channel framed ns (omega (arith, small)) is
+      ∙ ap (λ ps. on_maps vc map_id ns ps (take (63 - map_id) (drop (channel + 1) lists)) ++ rest) (drop_all framed (list channel) all)
       ∙ ap (λ l. concat (frames_of_units format spacecraft vc ns l) ++ rest)
-      (ap (λ n. units_of_maps b room (mid + 1) (take n (drop (channel + 1) lists))) one
-      ∙ split_maps b room (mid + 1) (62 - mid) (drop (channel + 1) lists)
-      ∙ ap₂ (λ ps ls. flat_map (units_of_packet b room (mid + 1)) ps ++ units_of_maps b room (mid + 1 + 1) (take (62 - mid) ls)) (first_list (channel + 1)) (later_lists (channel + 1))
-      ∙ ap (λ n. flat_map (units_of_packet b room (mid + 1)) (list (channel + 1)) ++ units_of_maps b room (mid + 1 + 1) (take n (drop (channel + 1 + 1) lists))) few)
-      ∙ sym (left_is vc (mid + 1) (channel + 1) 0 ns (omega (arith, small)) (omega (arith, is)))
+      (ap (λ n. units_of_maps b room (map_id + 1) (take n (drop (channel + 1) lists))) one
+      ∙ split_maps b room (map_id + 1) (62 - map_id) (drop (channel + 1) lists)
+      ∙ ap₂ (λ ps ls. flat_map (units_of_packet b room (map_id + 1)) ps ++ units_of_maps b room (map_id + 1 + 1) (take (62 - map_id) ls)) (first_list (channel + 1)) (later_lists (channel + 1))
+      ∙ ap (λ n. flat_map (units_of_packet b room (map_id + 1)) (list (channel + 1)) ++ units_of_maps b room (map_id + 1 + 1) (take n (drop (channel + 1 + 1) lists))) few)
+      ∙ sym (left_is vc (map_id + 1) (channel + 1) 0 ns (omega (arith, small)) (omega (arith, is)))
 
   -- where the last MAP's packets are all framed, the octets to come are those of the next virtual channels
   after_last_map : (vc channel framed ns : ℕ) → channel ≡ 64 * vc + 63 → length (list channel) ≤ framed → left channel framed ns ≡ on_channels (vc + 1) (63 - vc)
@@ -200,26 +200,26 @@ module _ (format : TcFormat) (spacecraft : ℕ) (starts plain : List ℕ) (lists
 
   -- ---- a packet
 
-  piece_made : (vc mid channel framed ns next : ℕ) (packet : List ℕ) → mid < 64 → channel ≡ 64 * vc + mid → framed < length (list channel)
-      → packet ≡ slice_index_or (list channel) framed [] → next ≡ (ns + length (units_of_packet (no_headers vc) room mid packet)) % 256
-      → left channel framed ns ≡ concat (frames_of_units format spacecraft vc ns (units_of_packet (no_headers vc) room mid packet)) ++ left channel (framed + 1) next
-  piece_made vc mid channel framed ns next packet small is inside here number_is =
+  piece_made : (vc map_id channel framed ns next : ℕ) (packet : List ℕ) → map_id < 64 → channel ≡ 64 * vc + map_id → framed < length (list channel)
+      → packet ≡ slice_index_or (list channel) framed [] → next ≡ (ns + length (units_of_packet (no_headers vc) room map_id packet)) % 256
+      → left channel framed ns ≡ concat (frames_of_units format spacecraft vc ns (units_of_packet (no_headers vc) room map_id packet)) ++ left channel (framed + 1) next
+  piece_made vc map_id channel framed ns next packet small is inside here number_is =
       let b = no_headers vc in
-      let units = units_of_packet b room mid packet in
-      let later = take (63 - mid) (drop (channel + 1) lists) in
+      let units = units_of_packet b room map_id packet in
+      let later = take (63 - map_id) (drop (channel + 1) lists) in
       let rest = on_channels (vc + 1) (63 - vc) in
       let packets = drop (framed + 1) (list channel) in
-      let more = flat_map (units_of_packet b room mid) packets ++ units_of_maps b room (mid + 1) later in
+      let more = flat_map (units_of_packet b room map_id) packets ++ units_of_maps b room (map_id + 1) later in
       let frames : ℕ → List (List ℕ) → List (List ℕ) = frames_of_units format spacecraft vc in
       let counted : (ns + length units) % 256 ≡ next % 256 = omega (arith, number_is) in
-      left_is vc mid channel framed ns small is
-      ∙ ap (λ ps. on_maps vc mid ns ps later ++ rest) (drop_more (list channel) framed [] inside ∙ ap (λ p. p ∷ packets) (sym here))
-      ∙ ap (λ l. concat (frames ns l) ++ rest) (append_assoc units (flat_map (units_of_packet b room mid) packets) (units_of_maps b room (mid + 1) later))
+      left_is vc map_id channel framed ns small is
+      ∙ ap (λ ps. on_maps vc map_id ns ps later ++ rest) (drop_more (list channel) framed [] inside ∙ ap (λ p. p ∷ packets) (sym here))
+      ∙ ap (λ l. concat (frames ns l) ++ rest) (append_assoc units (flat_map (units_of_packet b room map_id) packets) (units_of_maps b room (map_id + 1) later))
       ∙ ap (λ l. concat l ++ rest)
       (frames_from-append format spacecraft vc ns units more ∙ ap (λ l. frames ns units ++ l) (frames_from_same format spacecraft vc (ns + length units) next more counted))
       ∙ ap (λ l. l ++ rest) (concat-append (frames ns units) (frames next more))
       ∙ append_assoc (concat (frames ns units)) (concat (frames next more)) rest
-      ∙ ap (λ l. concat (frames ns units) ++ l) (sym (left_is vc mid channel (framed + 1) next small is))
+      ∙ ap (λ l. concat (frames ns units) ++ l) (sym (left_is vc map_id channel (framed + 1) next small is))
 
   pub piece_first : (b : Bool) (channel framed ns next : ℕ) (packet : List ℕ) → b ≡ no_headers (channel / 64) → framed < length (list channel)
       → packet ≡ slice_index_or (list channel) framed [] → next ≡ ns_after format b channel ns packet
@@ -244,11 +244,11 @@ module _ (format : TcFormat) (spacecraft : ℕ) where
       let later = concat (frames_of_units format spacecraft vc (ns + 1) units) in
       omega (arith, length-append frame later, frame_some vc (ns % 256) unit)
 
-  some_units : (b : Bool) (room mid : ℕ) (packet : List ℕ) → 0 < room → 0 < length packet → 0 < length (units_of_packet b room mid packet)
-  some_units true room mid packet wide long = omega arith
-  some_units false room mid packet wide long =
+  some_units : (b : Bool) (room map_id : ℕ) (packet : List ℕ) → 0 < room → 0 < length packet → 0 < length (units_of_packet b room map_id packet)
+  some_units true room map_id packet wide long = omega arith
+  some_units false room map_id packet wide long =
       let parts = some_parts room packet wide long in
-      let count = length-map-range_with_len (segment_of room mid packet) 0 (segment_count room packet) in
+      let count = length-map-range_with_len (segment_of room map_id packet) 0 (segment_count room packet) in
       omega (arith, parts, count)
 
   pub piece_some : (b : Bool) (channel ns : ℕ) (packet : List ℕ) → 0 < segment_room_of format → 0 < length packet → 0 < length (piece_of format spacecraft b channel ns packet)

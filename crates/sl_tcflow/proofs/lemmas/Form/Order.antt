@@ -42,21 +42,21 @@ module _ {X : Type 0} (f : X → ℕ) where
 
 -- ---- the MAPs of units
 
-on_one_map : (room mid : ℕ) (packets : List (List ℕ)) → mid < 64 → AllByRecursion (λ unit. (header_at unit).map ≡ mid) (map unit_made (flat_map (segments_of_packet room mid) packets))
-on_one_map room mid packets small =
-    let segments = flat_map (segments_of_packet room mid) packets in
-    each-map (λ unit. (header_at unit).map ≡ mid) unit_made segments
-    (each-weaker (IsSegment room (λ m. m ≡ mid)) (λ segment. (header_at (unit_made segment)).map ≡ mid)
-    (λ segment is. map_of_unit room (λ m. m ≡ mid) segment is ∙ is.on) segments (packets_parts room mid small packets))
+on_one_map : (room map_id : ℕ) (packets : List (List ℕ)) → map_id < 64 → AllByRecursion (λ unit. (header_at unit).map ≡ map_id) (map unit_made (flat_map (segments_of_packet room map_id) packets))
+on_one_map room map_id packets small =
+    let segments = flat_map (segments_of_packet room map_id) packets in
+    each-map (λ unit. (header_at unit).map ≡ map_id) unit_made segments
+    (each-weaker (IsSegment room (λ m. m ≡ map_id)) (λ segment. (header_at (unit_made segment)).map ≡ map_id)
+    (λ segment is. map_of_unit room (λ m. m ≡ map_id) segment is ∙ is.on) segments (packets_parts room map_id small packets))
 
-maps_rise : (room mid : ℕ) (lists : List (List (List ℕ))) → mid + length lists ≤ 64 → NeverFall mid (map (λ unit. (header_at unit).map) (units_of_maps false room mid lists))
-maps_rise room mid [] few = tt
-maps_rise room mid (packets ∷ lists) few =
-    let later = units_of_maps false room (mid + 1) lists in
-    subst (λ l. NeverFall mid (map (λ unit. (header_at unit).map) (l ++ later))) (sym (flat_units room mid packets))
-    (then_later (λ unit. (header_at unit).map) mid mid (map unit_made (flat_map (segments_of_packet room mid) packets)) later (omega arith)
-    (on_one_map room mid packets (omega arith))
-    (lower (mid + 1) mid (map (λ unit. (header_at unit).map) later) (omega arith) (maps_rise room (mid + 1) lists (omega arith))))
+maps_rise : (room map_id : ℕ) (lists : List (List (List ℕ))) → map_id + length lists ≤ 64 → NeverFall map_id (map (λ unit. (header_at unit).map) (units_of_maps false room map_id lists))
+maps_rise room map_id [] few = tt
+maps_rise room map_id (packets ∷ lists) few =
+    let later = units_of_maps false room (map_id + 1) lists in
+    subst (λ l. NeverFall map_id (map (λ unit. (header_at unit).map) (l ++ later))) (sym (flat_units room map_id packets))
+    (then_later (λ unit. (header_at unit).map) map_id map_id (map unit_made (flat_map (segments_of_packet room map_id) packets)) later (omega arith)
+    (on_one_map room map_id packets (omega arith))
+    (lower (map_id + 1) map_id (map (λ unit. (header_at unit).map) later) (omega arith) (maps_rise room (map_id + 1) lists (omega arith))))
 
 -- the units are those that the frames are read with
 maps_of_views : (b : Bool) (vc ns : ℕ) (units : List (List ℕ))

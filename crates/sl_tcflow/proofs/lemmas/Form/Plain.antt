@@ -8,7 +8,7 @@ use Rattle.sl_packet.specs.Packet.{IsPacket}
 use Rattle.sl_tcframe.specs.AdFrame.{plain_room_of}
 use Rattle.sl_tcframe.specs.TcFrame.{TcFormat}
 use Rattle.sl_tcflow.specs.FitsTc.{FitsOn}
-use Rattle.sl_tcflow.specs.Reception.{packets_on}
+use Rattle.sl_tcflow.specs.Reception.{packets_of_segments}
 use Rattle.sl_tcflow.specs.Series.{segment_in, segments_on, whole_segment}
 use Rattle.sl_tcflow.specs.TcNormalForm.{segment_count, piece_at, flags_at, units_of_maps}
 use Rattle.sl_fields.proofs.ListLemmas.{each-at}
@@ -21,19 +21,19 @@ abbrev own : List (List (List ℕ)) → ℕ → List (List (List ℕ))
 own lists vc = take 64 (drop (64 * vc) lists)
 
 -- the list of a MAP
-pub list_on : (lists : List (List (List ℕ))) (vc mid : ℕ) → mid < 64 → slice_index_or (own lists vc) mid [] ≡ slice_index_or lists (64 * vc + mid) []
-list_on lists vc mid fits = get_or-take 64 (drop (64 * vc) lists) mid [] fits ∙ get_or-drop (64 * vc) lists mid []
+pub list_on : (lists : List (List (List ℕ))) (vc map_id : ℕ) → map_id < 64 → slice_index_or (own lists vc) map_id [] ≡ slice_index_or lists (64 * vc + map_id) []
+list_on lists vc map_id fits = get_or-take 64 (drop (64 * vc) lists) map_id [] fits ∙ get_or-drop (64 * vc) lists map_id []
 
 pub first_on : (lists : List (List (List ℕ))) (vc : ℕ) → slice_index_or (own lists vc) 0 [] ≡ slice_index_or lists (64 * vc) []
 first_on lists vc = let same : 64 * vc + 0 ≡ 64 * vc = omega arith in list_on lists vc 0 (omega arith) ∙ ap (λ n. slice_index_or lists n []) same
 
 -- the lists of the other MAPs are empty where there are no segment headers
 pub others_empty : (format : TcFormat) (lists : List (List (List ℕ))) (vc : ℕ) → FitsOn format lists vc
-    → (mid : ℕ) → 0 < mid → slice_index_or (own lists vc) mid [] ≡ []
-others_empty format lists vc fits mid some =
-    elim (leb_tells 64 mid) [
-      | inl (test, past) ↦ get_or_past (own lists vc) mid [] (omega (arith, past, length-take 64 (drop (64 * vc) lists)))
-      | inr (test, inside) ↦ list_on lists vc mid (omega (arith, inside)) ∙ fits.others mid some (omega (arith, inside))
+    → (map_id : ℕ) → 0 < map_id → slice_index_or (own lists vc) map_id [] ≡ []
+others_empty format lists vc fits map_id some =
+    elim (leb_tells 64 map_id) [
+      | inl (test, past) ↦ get_or_past (own lists vc) map_id [] (omega (arith, past, length-take 64 (drop (64 * vc) lists)))
+      | inr (test, inside) ↦ list_on lists vc map_id (omega (arith, inside)) ∙ fits.others map_id some (omega (arith, inside))
     ]
 
 -- ---- whole segments
@@ -64,32 +64,32 @@ whole_parts (packet ∷ packets) each =
 
 module _ (format : TcFormat) (lists : List (List (List ℕ))) (vc room : ℕ) (some : 0 < room) (all : 64 ≤ length (drop (64 * vc) lists)) where
   abbrev packets : ℕ → List (List ℕ)
-  packets mid = slice_index_or (own lists vc) mid []
+  packets map_id = slice_index_or (own lists vc) map_id []
 
-  each_on : (mid : ℕ) → AllByRecursion (AllByRecursion IsPacket) (own lists vc) → AllByRecursion IsPacket (packets mid)
-  each_on mid each = each-at (AllByRecursion IsPacket) (own lists vc) mid [] tt each
+  each_on : (map_id : ℕ) → AllByRecursion (AllByRecursion IsPacket) (own lists vc) → AllByRecursion IsPacket (packets map_id)
+  each_on map_id each = each-at (AllByRecursion IsPacket) (own lists vc) map_id [] tt each
 
-  whole_back : (mid : ℕ) → mid < 64 → FitsOn format lists vc → AllByRecursion (AllByRecursion IsPacket) (own lists vc)
-      → packets_on (segments_on mid (map whole_segment (packets 0))) ≡ packets mid
+  whole_back : (map_id : ℕ) → map_id < 64 → FitsOn format lists vc → AllByRecursion (AllByRecursion IsPacket) (own lists vc)
+      → packets_of_segments (segments_on map_id (map whole_segment (packets 0))) ≡ packets map_id
   whole_back zero fits on each =
-      ap (λ l. packets_on (segments_on 0 l)) (whole_parts (packets 0) (each_on 0 each))
-      ∙ ap packets_on (on_all most 0 (flat_map (segments_of_packet most 0) (packets 0)) (packets_parts most 0 (omega arith) (packets 0)))
+      ap (λ l. packets_of_segments (segments_on 0 l)) (whole_parts (packets 0) (each_on 0 each))
+      ∙ ap packets_of_segments (on_all most 0 (flat_map (segments_of_packet most 0) (packets 0)) (packets_parts most 0 (omega arith) (packets 0)))
       ∙ packets_back most 0 0 (packets 0) (omega arith) (omega arith) (each_on 0 each)
-  whole_back (suc mid) fits on each =
-      ap (λ l. packets_on (segments_on (suc mid) l)) (whole_parts (packets 0) (each_on 0 each))
-      ∙ ap packets_on (on_none most (suc mid) (λ m. m ≡ 0) (λ m is e. absurd (omega (arith, is, e))) (flat_map (segments_of_packet most 0) (packets 0)) (packets_parts most 0 (omega arith) (packets 0)))
-      ∙ sym (others_empty format lists vc on (suc mid) (omega arith))
+  whole_back (suc map_id) fits on each =
+      ap (λ l. packets_of_segments (segments_on (suc map_id) l)) (whole_parts (packets 0) (each_on 0 each))
+      ∙ ap packets_of_segments (on_none most (suc map_id) (λ m. m ≡ 0) (λ m is e. absurd (omega (arith, is, e))) (flat_map (segments_of_packet most 0) (packets 0)) (packets_parts most 0 (omega arith) (packets 0)))
+      ∙ sym (others_empty format lists vc on (suc map_id) (omega arith))
 
-  pub back_on : (b : Bool) (mid : ℕ) → mid < 64 → (b ≡ true → FitsOn format lists vc) → AllByRecursion (AllByRecursion IsPacket) (own lists vc)
-      → packets_on (segments_on mid (map (segment_in b) (units_of_maps b room 0 (own lists vc)))) ≡ packets mid
-  back_on false mid fits on each =
+  pub back_on : (b : Bool) (map_id : ℕ) → map_id < 64 → (b ≡ true → FitsOn format lists vc) → AllByRecursion (AllByRecursion IsPacket) (own lists vc)
+      → packets_of_segments (segments_on map_id (map (segment_in b) (units_of_maps b room 0 (own lists vc)))) ≡ packets map_id
+  back_on false map_id fits on each =
       let size : length (own lists vc) ≡ 64 = length-take-le 64 (drop (64 * vc) lists) all in
-      ap (λ l. packets_on (segments_on mid l)) (map-id (units_of_maps false room 0 (own lists vc)) ∙ units_are_segments room 0 (own lists vc))
-      ∙ ap packets_on (parts_of_map room 0 mid mid (own lists vc) (omega arith) (omega (arith, size)) (omega (arith, size)))
-      ∙ packets_back room mid 0 (packets mid) some fits (each_on mid each)
-  back_on true mid fits on each =
-      ap (λ l. packets_on (segments_on mid (map whole_segment l))) (units_are_packets room 0 (own lists vc) (others_empty format lists vc (on refl)))
-      ∙ whole_back mid fits (on refl) each
+      ap (λ l. packets_of_segments (segments_on map_id l)) (map-id (units_of_maps false room 0 (own lists vc)) ∙ units_are_segments room 0 (own lists vc))
+      ∙ ap packets_of_segments (parts_of_map room 0 map_id map_id (own lists vc) (omega arith) (omega (arith, size)) (omega (arith, size)))
+      ∙ packets_back room map_id 0 (packets map_id) some fits (each_on map_id each)
+  back_on true map_id fits on each =
+      ap (λ l. packets_of_segments (segments_on map_id (map whole_segment l))) (units_are_packets room 0 (own lists vc) (others_empty format lists vc (on refl)))
+      ∙ whole_back map_id fits (on refl) each
 
 -- ---- whether lists of packets fit
 
@@ -99,7 +99,7 @@ module _ (format : TcFormat) (lists : List (List (List ℕ))) (vc channel : ℕ)
   fits_by short none =
       record {
         short = subst (λ n. AllByRecursion (λ packet. length packet ≤ plain_room_of format) (slice_index_or lists n [])) here short;
-        others = λ mid some inside. none (64 * vc + mid) (omega (arith, here, some)) (omega (arith, here, inside));
+        others = λ map_id some inside. none (64 * vc + map_id) (omega (arith, here, some)) (omega (arith, here, inside));
       }
 
   pub short_by : FitsOn format lists vc → AllByRecursion (λ packet. length packet ≤ plain_room_of format) (slice_index_or lists channel [])

@@ -87,9 +87,9 @@ is_last_one room packet number some there =
       | inr (test, high) ↦ let more = counts_more room packet (suc number) some (omega (arith, high)) in grind (arith, nat_tests)
     ]
 
-module _ (format : TcFormat) (spacecraft vc mid : ℕ) (base : List ℕ) (ns room : ℕ) (packet : List ℕ) where
+module _ (format : TcFormat) (spacecraft vc map_id : ℕ) (base : List ℕ) (ns room : ℕ) (packet : List ℕ) where
   abbrev unit_at : ℕ → List ℕ
-  unit_at = segment_of room mid packet
+  unit_at = segment_of room map_id packet
 
   -- the units of the first segments of the packet
   abbrev units_to : ℕ → List (List ℕ)
@@ -115,7 +115,7 @@ module _ (format : TcFormat) (spacecraft vc mid : ℕ) (base : List ℕ) (ns roo
   pub divided_next : (left octets later : List ℕ) (first last : Bool) (next next' : ℕ) (form form' : List ℕ) → 0 < room → 0 < length left → next < 256
       → octets ≡ take room left → later ≡ drop room left → first ≡ (length left == length packet) → last ≡ (length later == 0)
       → (s : IsDivided left next form)
-      → form' ≡ form ++ ad_frame format spacecraft vc next (segment_unit (record { flags = sequence_flags first last; map = mid }) octets)
+      → form' ≡ form ++ ad_frame format spacecraft vc next (segment_unit (record { flags = sequence_flags first last; map = map_id }) octets)
       → next' ≡ (next + 1) % 256
       → IsDivided later next' form'
   divided_next left octets later first last next next' form form' some there small taken dropped is_first is_last s added up =
@@ -127,7 +127,7 @@ module _ (format : TcFormat) (spacecraft vc mid : ℕ) (base : List ℕ) (ns roo
       let first_is : first ≡ (s.number == 0) = is_first ∙ ap (λ n. n == length packet) size ∙ is_first_one room (length packet) s.number some inside in
       let last_is : last ≡ (s.number + 1 == count) = is_last ∙ ap (λ n. n == 0) (rest ∙ ap (λ n. n - room) size) ∙ is_last_one room packet s.number some more in
       let flags : sequence_flags first last ≡ flags_at count s.number = rw (first_is, last_is) (sym (flags_are count s.number more)) in
-      let next_frame = ad_frame format spacecraft vc next (segment_unit (record { flags = sequence_flags first last; map = mid }) octets) in
+      let next_frame = ad_frame format spacecraft vc next (segment_unit (record { flags = sequence_flags first last; map = map_id }) octets) in
       let same : next_frame ≡ ad_frame format spacecraft vc (next % 256) (unit_at s.number) = same_frame next (next % 256) _ _ octets _ (omega arith) flags (taken ∙ ap (take room) s.left_is) in
       let one = suc-mul s.number room in
       record {
@@ -141,12 +141,12 @@ module _ (format : TcFormat) (spacecraft vc mid : ℕ) (base : List ℕ) (ns roo
       }
     where
       same_frame : (ns ns' flags flags' : ℕ) (octets octets' : List ℕ) → ns ≡ ns' → flags ≡ flags' → octets ≡ octets'
-          → ad_frame format spacecraft vc ns (segment_unit (record { flags = flags; map = mid }) octets) ≡ ad_frame format spacecraft vc ns' (segment_unit (record { flags = flags'; map = mid }) octets')
+          → ad_frame format spacecraft vc ns (segment_unit (record { flags = flags; map = map_id }) octets) ≡ ad_frame format spacecraft vc ns' (segment_unit (record { flags = flags'; map = map_id }) octets')
       same_frame ns ns' flags flags' octets octets' a b c = rw (a, b, c) refl
 
   -- all segments were added
   pub all_divided : (left : List ℕ) (next : ℕ) (form : List ℕ) → 0 < room → length left ≡ 0 → IsDivided left next form
-      → IsPushed format spacecraft vc base ns (units_of_packet false room mid packet) next form
+      → IsPushed format spacecraft vc base ns (units_of_packet false room map_id packet) next form
   all_divided left next form some none s =
       let size : length left ≡ length packet - s.number * room = ap length s.left_is ∙ length-drop (s.number * room) packet in
       let all : segment_count room packet ≤ s.number = counts_all room packet s.number some (omega (arith, size, none)) in

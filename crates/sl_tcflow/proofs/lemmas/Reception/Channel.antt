@@ -12,7 +12,7 @@ use Rattle.sl_tcflow.specs.Incomplete.{if_fits, incomplete_of}
 use Rattle.sl_tcflow.specs.NextSegment.{extended, incomplete_after, packets_after, packets_of_service_unit, service_unit_ended}
 use Rattle.sl_tcflow.specs.Receiving.{channel_at, ended_by, map_by, map_of, segment_by, unit_channel, verdict_on}
 use Rattle.sl_tcflow.specs.Recording.{packets_in_channel}
-use Rattle.sl_tcflow.specs.Reception.{packets_ended, packets_on, segments_of}
+use Rattle.sl_tcflow.specs.Reception.{packets_ended, packets_of_segments, segments_of}
 use Rattle.sl_tcflow.specs.ReceptionParameters.{ReceptionParameters, is_plain, initial_vr}
 use Rattle.sl_tcflow.specs.Series.{flags_of, header_at, segment_data, segment_in, segments_on}
 use Rattle.sl_tcflow.proofs.lemmas.Reception.Farm.{other_channel}
@@ -145,24 +145,24 @@ module _ (r : ReceptionParameters) (views : List TcView) (next : TcView) where
   abbrev own : List (List ℕ)
   own = segments_of r next.vc (map_by r next) views
 
-  on_none : (mid : ℕ) → mid ≢ map_by r next → segments_on mid units ≡ []
-  on_none mid other =
+  on_none : (map_id : ℕ) → map_id ≢ map_by r next → segments_on map_id units ≡ []
+  on_none map_id other =
       elim (none_or_accepted (is_plain r next.vc) (verdict_on r views next) next.content) [
-        | inl none ↦ ap (segments_on mid) none
+        | inl none ↦ ap (segments_on map_id) none
         | inr (unit, is, map_is, len) ↦
-            ap (segments_on mid) is ∙ ap (λ b. cond b (unit ∷ []) []) (ne_eqb (header_at unit).map mid (λ e. other (sym e ∙ sym map_is)))
+            ap (segments_on map_id) is ∙ ap (λ b. cond b (unit ∷ []) []) (ne_eqb (header_at unit).map map_id (λ e. other (sym e ∙ sym map_is)))
       ]
 
   -- a frame adds nothing to the segments of other channels than its own
-  segments_other : (vc mid : ℕ) → channel_at vc mid ≢ unit_channel r next → segments_of r vc mid after ≡ segments_of r vc mid views
-  segments_other vc mid other =
+  segments_other : (vc map_id : ℕ) → channel_at vc map_id ≢ unit_channel r next → segments_of r vc map_id after ≡ segments_of r vc map_id views
+  segments_other vc map_id other =
       elim (eqb_tells next.vc vc) [
         | inl (test, same) ↦
-            subst (λ n. segments_of r n mid after ≡ segments_of r n mid views) same
-            (segments_next r mid views next
-            ∙ ap (λ l. segments_of r next.vc mid views ++ l) (on_none mid (λ e. other (ap₂ channel_at (sym same) e)))
-            ∙ append-nil (segments_of r next.vc mid views))
-        | inr (test, apart) ↦ ap (λ l. segments_on mid (map (segment_in (is_plain r vc)) (accepted_units r.window (initial_vr r vc) l))) (other_channel vc views next apart)
+            subst (λ n. segments_of r n map_id after ≡ segments_of r n map_id views) same
+            (segments_next r map_id views next
+            ∙ ap (λ l. segments_of r next.vc map_id views ++ l) (on_none map_id (λ e. other (ap₂ channel_at (sym same) e)))
+            ∙ append-nil (segments_of r next.vc map_id views))
+        | inr (test, apart) ↦ ap (λ l. segments_on map_id (map (segment_in (is_plain r vc)) (accepted_units r.window (initial_vr r vc) l))) (other_channel vc views next apart)
       ]
 
   -- a frame without an accepted unit adds nothing to the segments of its own channel
@@ -178,13 +178,13 @@ module _ (r : ReceptionParameters) (views : List TcView) (next : TcView) where
   ended_of : (unit : List ℕ) → units ≡ unit ∷ [] → ended_by r views next ≡ packets_ended own unit
   ended_of unit is = ap (flat_map (packets_ended own)) is ∙ append-nil (packets_ended own unit)
 
-  own_packets : packets_on (segments_of r next.vc (map_by r next) after) ≡ packets_on own ++ ended_by r views next
+  own_packets : packets_of_segments (segments_of r next.vc (map_by r next) after) ≡ packets_of_segments own ++ ended_by r views next
   own_packets =
       elim (none_or_accepted (is_plain r next.vc) (verdict_on r views next) next.content) [
         | inl none ↦
-            ap packets_on (own_none none) ∙ sym (ap (λ l. packets_on own ++ l) (ended_none r views next none) ∙ append-nil (packets_on own))
+            ap packets_of_segments (own_none none) ∙ sym (ap (λ l. packets_of_segments own ++ l) (ended_none r views next none) ∙ append-nil (packets_of_segments own))
         | inr (unit, is, map_is, len) ↦
-            ap packets_on (own_next unit is map_is) ∙ packets_next own unit ∙ ap (λ l. packets_on own ++ l) (sym (ended_of unit is))
+            ap packets_of_segments (own_next unit is map_is) ∙ packets_next own unit ∙ ap (λ l. packets_of_segments own ++ l) (sym (ended_of unit is))
       ]
 
   own_held : length (ended_by r views next) + length (held_octets (incomplete_of (segments_of r next.vc (map_by r next) after)))
@@ -212,19 +212,19 @@ module _ (r : ReceptionParameters) (views : List TcView) (next : TcView) where
   pub packets_own : (channel : ℕ) → channel ≡ unit_channel r next
       → packets_in_channel r after channel ≡ packets_in_channel r views channel ++ ended_by r views next
   packets_own channel is =
-      let (vc, mid) = of_channel channel is in
-      ap₂ (λ v m. packets_on (segments_of r v m after)) vc mid ∙ own_packets
-      ∙ sym (ap₂ (λ v m. packets_on (segments_of r v m views) ++ ended_by r views next) vc mid)
+      let (vc, map_id) = of_channel channel is in
+      ap₂ (λ v m. packets_of_segments (segments_of r v m after)) vc map_id ∙ own_packets
+      ∙ sym (ap₂ (λ v m. packets_of_segments (segments_of r v m views) ++ ended_by r views next) vc map_id)
 
   pub packets_other : (channel : ℕ) → channel ≢ unit_channel r next → packets_in_channel r after channel ≡ packets_in_channel r views channel
-  packets_other channel other = ap packets_on (segments_other (channel / 64) (channel % 64) (λ e. other (sym (channel_is channel) ∙ e)))
+  packets_other channel other = ap packets_of_segments (segments_other (channel / 64) (channel % 64) (λ e. other (sym (channel_is channel) ∙ e)))
 
   pub held_own : (channel : ℕ) → channel ≡ unit_channel r next
       → length (ended_by r views next) + length (held_in r after channel) ≤ length (held_in r views channel) + unit_len next.content
   held_own channel is =
-      let (vc, mid) = of_channel channel is in
-      let now = ap₂ (λ v m. length (held_octets (incomplete_of (segments_of r v m after)))) vc mid in
-      let before = ap₂ (λ v m. length (held_octets (incomplete_of (segments_of r v m views)))) vc mid in
+      let (vc, map_id) = of_channel channel is in
+      let now = ap₂ (λ v m. length (held_octets (incomplete_of (segments_of r v m after)))) vc map_id in
+      let before = ap₂ (λ v m. length (held_octets (incomplete_of (segments_of r v m views)))) vc map_id in
       omega (arith, now, before, own_held)
 
   pub incomplete_other : (channel : ℕ) → channel ≢ unit_channel r next

@@ -20,7 +20,7 @@ use Rattle.sl_tcframe.specs.declared.tc_frame.TcSkip.TheVariants.{Long}
 use Rattle.sl_tcframe.proofs.ReadLemmas.{is_read}
 use Rattle.sl_tcflow.specs.AcceptedUnit.{accepted_units, channel_of, events_of, unit_of, views_of}
 use Rattle.sl_tcflow.specs.Canonical.{RecordedListsFit}
-use Rattle.sl_tcflow.specs.Reception.{packets_in, packets_on, segments_of}
+use Rattle.sl_tcflow.specs.Reception.{packets_of_series, packets_of_segments, segments_of}
 use Rattle.sl_tcflow.specs.ReceptionParameters.{ReceptionParameters, is_plain, initial_vr}
 use Rattle.sl_tcflow.specs.Recording.{recorded_views, tc_lists}
 use Rattle.sl_tcflow.specs.Series.{SeriesAt, reassembled, segment_in, segments_on, series_from, whole_segment}
@@ -93,17 +93,17 @@ units_within format spacecraft r vc frames =
     let views = views_of format spacecraft frames in
     let channel = channel_of vc views in
     accepted_within (plain_room_of format) (verdicts_of r.window (farm_start (initial_vr r vc)) (events_of channel)) channel
-    (each-filter (IsViewWithin (plain_room_of format)) (IsViewWithin (plain_room_of format)) (λ view. view.vc == vc) (λ view passes is. is) views (each_view format spacecraft frames))
+    (each-filter (IsViewWithin (plain_room_of format)) (IsViewWithin (plain_room_of format)) (λ view. view.vc == vc) (λ view exceeds_limit is. is) views (each_view format spacecraft frames))
 
 -- ---- whole segments
 
 -- whole segments are on no other MAP than 0
-no_segments : (mid : ℕ) (units : List (List ℕ)) → 0 < mid → segments_on mid (map whole_segment units) ≡ []
-no_segments mid [] other = refl
-no_segments mid (unit ∷ units) other =
-    ap (λ (h : SegmentFields). cond (h.map == mid) (whole_segment unit ∷ segments_on mid (map whole_segment units)) (segments_on mid (map whole_segment units))) (header_of_whole unit)
-    ∙ ap (λ b. cond b (whole_segment unit ∷ segments_on mid (map whole_segment units)) (segments_on mid (map whole_segment units))) (ne_eqb 0 mid (λ e. absurd (omega (arith, e, other))))
-    ∙ no_segments mid units other
+no_segments : (map_id : ℕ) (units : List (List ℕ)) → 0 < map_id → segments_on map_id (map whole_segment units) ≡ []
+no_segments map_id [] other = refl
+no_segments map_id (unit ∷ units) other =
+    ap (λ (h : SegmentFields). cond (h.map == map_id) (whole_segment unit ∷ segments_on map_id (map whole_segment units)) (segments_on map_id (map whole_segment units))) (header_of_whole unit)
+    ∙ ap (λ b. cond b (whole_segment unit ∷ segments_on map_id (map whole_segment units)) (segments_on map_id (map whole_segment units))) (ne_eqb 0 map_id (λ e. absurd (omega (arith, e, other))))
+    ∙ no_segments map_id units other
 
 -- whole segments are all on MAP 0
 all_segments : (units : List (List ℕ)) → segments_on 0 (map whole_segment units) ≡ map whole_segment units
@@ -134,17 +134,17 @@ packets_if most false octets few = tt
 
 -- no packet of whole segments has more octets than a unit may have
 packets_of_whole : (most n : ℕ) (units : List (List ℕ)) → AreWithin most units
-    → AreWithin most (flat_map (λ (s : SeriesAt). packets_in s.segments) (series_from n (map whole_segment units)))
+    → AreWithin most (flat_map (λ (s : SeriesAt). packets_of_series s.segments) (series_from n (map whole_segment units)))
 packets_of_whole most n [] each = tt
 packets_of_whole most n (unit ∷ units) each =
     let later = map whole_segment units in
-    let carried : List SeriesAt → List (List ℕ) = flat_map (λ (s : SeriesAt). packets_in s.segments) in
+    let carried : List SeriesAt → List (List ℕ) = flat_map (λ (s : SeriesAt). packets_of_series s.segments) in
     let one : reassembled (whole_segment unit ∷ []) ≡ unit = append-nil _ ∙ octets_of_unit (record { flags = 3; map = 0 }, unit) in
-    let first : AreWithin most (packets_in (whole_segment unit ∷ [])) =
+    let first : AreWithin most (packets_of_series (whole_segment unit ∷ [])) =
     packets_if most (nat_le (length (reassembled (whole_segment unit ∷ []))) 65542) (reassembled (whole_segment unit ∷ [])) (omega (arith, ap length one, each.0)) in
     subst (λ l. AreWithin most (carried (map (series_at n) l ++ series_from (n + 1) later)))
     (sym (begins_whole (whole_segment unit) later (ap (λ (h : SegmentFields). h.flags) (header_of_whole unit))))
-    (each-append (λ p. length p ≤ most) (packets_in (whole_segment unit ∷ [])) (carried (series_from (n + 1) later)) first (packets_of_whole most (n + 1) units each.1))
+    (each-append (λ p. length p ≤ most) (packets_of_series (whole_segment unit ∷ [])) (carried (series_from (n + 1) later)) first (packets_of_whole most (n + 1) units each.1))
 
 -- ---- recordings
 
@@ -153,13 +153,13 @@ module _ (format : TcFormat) (spacecraft : ℕ) (r : ReceptionParameters) (recor
   views = recorded_views format spacecraft recording
 
   plain_short : (b : Bool) (units : List (List ℕ)) → b ≡ true → AreWithin (plain_room_of format) units
-      → AreWithin (plain_room_of format) (packets_on (segments_on 0 (map (segment_in b) units)))
+      → AreWithin (plain_room_of format) (packets_of_segments (segments_on 0 (map (segment_in b) units)))
   plain_short false units is each = absurd (cc)
-  plain_short true units is each = subst (λ l. AreWithin (plain_room_of format) (packets_on l)) (sym (all_segments units)) (packets_of_whole (plain_room_of format) 0 units each)
+  plain_short true units is each = subst (λ l. AreWithin (plain_room_of format) (packets_of_segments l)) (sym (all_segments units)) (packets_of_whole (plain_room_of format) 0 units each)
 
-  plain_others : (b : Bool) (mid : ℕ) (units : List (List ℕ)) → b ≡ true → 0 < mid → packets_on (segments_on mid (map (segment_in b) units)) ≡ []
-  plain_others false mid units is other = absurd (cc)
-  plain_others true mid units is other = ap packets_on (no_segments mid units other)
+  plain_others : (b : Bool) (map_id : ℕ) (units : List (List ℕ)) → b ≡ true → 0 < map_id → packets_of_segments (segments_on map_id (map (segment_in b) units)) ≡ []
+  plain_others false map_id units is other = absurd (cc)
+  plain_others true map_id units is other = ap packets_of_segments (no_segments map_id units other)
 
 pub recorded_lists_fit : RecordedListsFit
 recorded_lists_fit format spacecraft r recording vc vc_fits plain =
@@ -170,9 +170,9 @@ recorded_lists_fit format spacecraft r recording vc vc_fits plain =
     record {
       short = subst (λ n. AreWithin (plain_room_of format) (slice_index_or (tc_lists format spacecraft r recording) n [])) same
           (subst (AreWithin (plain_room_of format)) (sym (recorded_on format spacecraft r vc 0 recording vc_fits (omega arith)))
-          (each-filter (λ p. length p ≤ plain_room_of format) (λ p. length p ≤ plain_room_of format) (λ packet. not (is_idle_packet packet)) (λ packet passes is. is) (packets_on (segments_of r vc 0 views))
+          (each-filter (λ p. length p ≤ plain_room_of format) (λ p. length p ≤ plain_room_of format) (λ packet. not (is_idle_packet packet)) (λ packet exceeds_limit is. is) (packets_of_segments (segments_of r vc 0 views))
           (plain_short format spacecraft r recording (is_plain r vc) units plain (units_within format spacecraft r vc frames))));
-      others = λ mid some mid_fits.
-          recorded_on format spacecraft r vc mid recording vc_fits mid_fits
-          ∙ ap without_idle (plain_others format spacecraft r recording (is_plain r vc) mid units plain some);
+      others = λ map_id some mid_fits.
+          recorded_on format spacecraft r vc map_id recording vc_fits mid_fits
+          ∙ ap without_idle (plain_others format spacecraft r recording (is_plain r vc) map_id units plain some);
     }

@@ -9,7 +9,7 @@ use Rattle.sl_packet.proofs.PacketsLemmas.{each_has_packets}
 use Rattle.sl_packet.proofs.WithoutIdleLemmas.{without_idle_due}
 use Rattle.sl_tcframe.specs.TcFrame.{TcView}
 use Rattle.sl_tcflow.specs.Canonical.{RecordedListsAreDeliverable}
-use Rattle.sl_tcflow.specs.Reception.{packets_in, segments_of}
+use Rattle.sl_tcflow.specs.Reception.{packets_of_series, segments_of}
 use Rattle.sl_tcflow.specs.ReceptionParameters.{ReceptionParameters}
 use Rattle.sl_tcflow.specs.Recording.{map_channels, packets_in_channel, recorded_views}
 use Rattle.sl_tcflow.specs.Series.{SeriesAt, reassembled, series_of}
@@ -20,14 +20,14 @@ packets_if : (fits : Bool) (octets : List ℕ) → AllByRecursion IsPacket (if f
 packets_if true octets = (each_has_packets octets).each
 packets_if false octets = tt
 
-in_series : (s : SeriesAt) → AllByRecursion IsPacket (packets_in s.segments)
+in_series : (s : SeriesAt) → AllByRecursion IsPacket (packets_of_series s.segments)
 in_series s = packets_if (nat_le (length (reassembled s.segments)) 65542) (reassembled s.segments)
 
 channel_due : (r : ReceptionParameters) (views : List TcView) (channel : ℕ) → AllByRecursion IsDeliverable (without_idle (packets_in_channel r views channel))
 channel_due r views channel =
     let list = series_of (segments_of r (channel / 64) (channel % 64) views) in
     without_idle_due (packets_in_channel r views channel)
-    (each-flat_map IsPacket (λ (s : SeriesAt). packets_in s.segments) list (each-every (λ (s : SeriesAt). AllByRecursion IsPacket (packets_in s.segments)) in_series list))
+    (each-flat_map IsPacket (λ (s : SeriesAt). packets_of_series s.segments) list (each-every (λ (s : SeriesAt). AllByRecursion IsPacket (packets_of_series s.segments)) in_series list))
 
 all_channels : (f : ℕ → List (List ℕ)) → length (map f map_channels) ≡ channel_count
 unfolding map_channels

@@ -20,7 +20,7 @@ use Rattle.sl_packet.specs.Packets.{without_idle}
 use Rattle.sl_tcframe.specs.TcFrame.{TcFormat, TcView, Content, Ad, Bd, Unlock, SetVr}
 use Rattle.sl_tcflow.specs.AcceptedUnit.{accepted_ad_units, ad_unit_of, channel_of, event_of, events_of, farm_after, unit_of}
 use Rattle.sl_tcflow.specs.Receiving.{channel_at}
-use Rattle.sl_tcflow.specs.Reception.{packets_ended, packets_on, segments_of}
+use Rattle.sl_tcflow.specs.Reception.{packets_ended, packets_of_segments, segments_of}
 use Rattle.sl_tcflow.specs.ReceptionParameters.{ReceptionParameters, is_plain, initial_vr}
 use Rattle.sl_tcflow.specs.Recording.{map_channels, packets_in_channel, recorded_views}
 use Rattle.sl_tcflow.specs.ReorderedUnits.{AdUnitsAreAll, AreArrivals, ExpectedUnitIsAccepted, HaveNoBd, IsArrival, PacketsInOrder, ReceiverCountsUnits, RecordedPacketsInOrder, UnitsInOrder, VrCountsUnits, WindowIsNear, WindowNeverLocks, accepted_ad_count, recorded_packets, unit_at, segments_sent}
@@ -199,52 +199,52 @@ receiver_counts_units r vc sent farms views arrivals below stepped reordered =
 -- ---- packets
 
 -- the packets of more segments begin with those of the first ones
-packets_go_on : (list more : List (List ℕ)) → IsPrefix (packets_on list) (packets_on (list ++ more))
-packets_go_on list [] = ([], append-nil (packets_on list) ∙ ap packets_on (sym (append-nil list)))
+packets_go_on : (list more : List (List ℕ)) → IsPrefix (packets_of_segments list) (packets_of_segments (list ++ more))
+packets_go_on list [] = ([], append-nil (packets_of_segments list) ∙ ap packets_of_segments (sym (append-nil list)))
 packets_go_on list (next ∷ more) =
     let later = packets_go_on (list ++ next ∷ []) more in (
       packets_ended list next ++ later.0,
-      sym (append_assoc (packets_on list) (packets_ended list next) later.0)
+      sym (append_assoc (packets_of_segments list) (packets_ended list next) later.0)
           ∙ ap (λ l. l ++ later.0) (sym (packets_next list next))
           ∙ later.1
-          ∙ ap packets_on (append_assoc list (next ∷ []) more),
+          ∙ ap packets_of_segments (append_assoc list (next ∷ []) more),
     )
 
 pub packets_in_order : PacketsInOrder
-packets_in_order r vc mid sent views arrivals reordered none =
+packets_in_order r vc map_id sent views arrivals reordered none =
     let channel = channel_of vc views in
     let units = accepted_ad_units r.window (initial_vr r vc) channel in
     let front = units_in_order r.window (initial_vr r vc) sent channel arrivals reordered in
     let segment = segment_in (is_plain r vc) in
-    let own : segments_on mid (map segment units) ≡ segments_of r vc mid views =
-    ap (λ l. segments_on mid (map segment l)) (ad_units_are_all r.window (initial_vr r vc) channel none) in
-    let all : segments_on mid (map segment units) ++ segments_on mid (map segment front.0) ≡ segments_sent r vc mid sent =
-    sym (filter-append (λ segment. (header_at segment).map == mid) (map segment units) (map segment front.0))
-    ∙ ap (segments_on mid) (sym (map-append segment units front.0) ∙ ap (map segment) front.1) in
-    let later = packets_go_on (segments_on mid (map segment units)) (segments_on mid (map segment front.0)) in
-    (later.0, ap (λ l. packets_on l ++ later.0) (sym own) ∙ later.1 ∙ ap packets_on all)
+    let own : segments_on map_id (map segment units) ≡ segments_of r vc map_id views =
+    ap (λ l. segments_on map_id (map segment l)) (ad_units_are_all r.window (initial_vr r vc) channel none) in
+    let all : segments_on map_id (map segment units) ++ segments_on map_id (map segment front.0) ≡ segments_sent r vc map_id sent =
+    sym (filter-append (λ segment. (header_at segment).map == map_id) (map segment units) (map segment front.0))
+    ∙ ap (segments_on map_id) (sym (map-append segment units front.0) ∙ ap (map segment) front.1) in
+    let later = packets_go_on (segments_on map_id (map segment units)) (segments_on map_id (map segment front.0)) in
+    (later.0, ap (λ l. packets_of_segments l ++ later.0) (sym own) ∙ later.1 ∙ ap packets_of_segments all)
 
 -- ---- recordings
 
 -- the list of a virtual channel and MAP
-pub recorded_on : (format : TcFormat) (spacecraft : ℕ) (r : ReceptionParameters) (vc mid : ℕ) (recording : List ℕ) → vc < 64 → mid < 64
-    → recorded_packets format spacecraft r vc mid recording ≡ without_idle (packets_on (segments_of r vc mid (recorded_views format spacecraft recording)))
+pub recorded_on : (format : TcFormat) (spacecraft : ℕ) (r : ReceptionParameters) (vc map_id : ℕ) (recording : List ℕ) → vc < 64 → map_id < 64
+    → recorded_packets format spacecraft r vc map_id recording ≡ without_idle (packets_of_segments (segments_of r vc map_id (recorded_views format spacecraft recording)))
 unfolding map_channels
-recorded_on format spacecraft r vc mid recording vc_fits mid_fits =
+recorded_on format spacecraft r vc map_id recording vc_fits mid_fits =
     let views : List TcView = recorded_views format spacecraft recording in
-    let below : channel_at vc mid < channel_count = omega arith in
-    let here : 0 + channel_at vc mid ≡ channel_at vc mid = omega arith in
-    let vc_is : channel_at vc mid / 64 ≡ vc = omega arith in
-    let mid_is : channel_at vc mid % 64 ≡ mid = omega arith in
-    get_or-map-range_with_len (λ channel. without_idle (packets_in_channel r views channel)) 0 channel_count (channel_at vc mid) (channel_at vc mid) [] below here
-    ∙ ap₂ (λ v m. without_idle (packets_on (segments_of r v m views))) vc_is mid_is
+    let below : channel_at vc map_id < channel_count = omega arith in
+    let here : 0 + channel_at vc map_id ≡ channel_at vc map_id = omega arith in
+    let vc_is : channel_at vc map_id / 64 ≡ vc = omega arith in
+    let mid_is : channel_at vc map_id % 64 ≡ map_id = omega arith in
+    get_or-map-range_with_len (λ channel. without_idle (packets_in_channel r views channel)) 0 channel_count (channel_at vc map_id) (channel_at vc map_id) [] below here
+    ∙ ap₂ (λ v m. without_idle (packets_of_segments (segments_of r v m views))) vc_is mid_is
 
 pub recorded_packets_in_order : RecordedPacketsInOrder
-recorded_packets_in_order format spacecraft r vc mid sent recording arrivals vc_fits mid_fits reordered none =
+recorded_packets_in_order format spacecraft r vc map_id sent recording arrivals vc_fits mid_fits reordered none =
     let views : List TcView = recorded_views format spacecraft recording in
-    let front = packets_in_order r vc mid sent views arrivals reordered none in (
+    let front = packets_in_order r vc map_id sent views arrivals reordered none in (
       without_idle front.0,
-      ap (λ l. l ++ without_idle front.0) (recorded_on format spacecraft r vc mid recording vc_fits mid_fits)
-          ∙ sym (filter-append (λ packet. not (is_idle_packet packet)) (packets_on (segments_of r vc mid views)) front.0)
+      ap (λ l. l ++ without_idle front.0) (recorded_on format spacecraft r vc map_id recording vc_fits mid_fits)
+          ∙ sym (filter-append (λ packet. not (is_idle_packet packet)) (packets_of_segments (segments_of r vc map_id views)) front.0)
           ∙ ap without_idle front.1,
     )

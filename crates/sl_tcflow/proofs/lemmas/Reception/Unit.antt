@@ -41,34 +41,34 @@ segment_on plain verdict carried r views next units headers is same by =
     ∙ ap (map (segment_in plain)) (unit_on verdict carried r views next units is same by)
 
 -- the MAP of the unit
-pub map_on : (plain : Bool) (carried : Content) (r : ReceptionParameters) (next : TcView) (mid : ℕ)
-    → plain ≡ is_plain r next.vc → carried ≡ next.content → map_of plain carried ≡ mid → map_by r next ≡ mid
-map_on plain carried r next mid headers same is = ap₂ (λ b c. map_of b c) (sym headers) (sym same) ∙ is
+pub map_on : (plain : Bool) (carried : Content) (r : ReceptionParameters) (next : TcView) (map_id : ℕ)
+    → plain ≡ is_plain r next.vc → carried ≡ next.content → map_of plain carried ≡ map_id → map_by r next ≡ map_id
+map_on plain carried r next map_id headers same is = ap₂ (λ b c. map_of b c) (sym headers) (sym same) ∙ is
 
 -- ---- the segments of a MAP
 
-pub segments_next : (r : ReceptionParameters) (mid : ℕ) (views : List TcView) (next : TcView)
-    → segments_of r next.vc mid (views ++ next ∷ []) ≡ segments_of r next.vc mid views ++ segments_on mid (segment_by r views next)
-segments_next r mid views next =
+pub segments_next : (r : ReceptionParameters) (map_id : ℕ) (views : List TcView) (next : TcView)
+    → segments_of r next.vc map_id (views ++ next ∷ []) ≡ segments_of r next.vc map_id views ++ segments_on map_id (segment_by r views next)
+segments_next r map_id views next =
     let channel = channel_of next.vc views in
     let segment = segment_in (is_plain r next.vc) in
     let units = accepted_units r.window (initial_vr r next.vc) channel in
-    ap (λ l. segments_on mid (map segment (accepted_units r.window (initial_vr r next.vc) l))) (same_channel next.vc views next refl)
-    ∙ ap (λ l. segments_on mid (map segment l)) (units_from r.window (initial_vr r next.vc) channel next)
-    ∙ ap (segments_on mid) (map-append segment units (unit_by (verdict_on r views next) next.content))
-    ∙ filter-append (λ segment. (header_at segment).map == mid) (map segment units) (segment_by r views next)
+    ap (λ l. segments_on map_id (map segment (accepted_units r.window (initial_vr r next.vc) l))) (same_channel next.vc views next refl)
+    ∙ ap (λ l. segments_on map_id (map segment l)) (units_from r.window (initial_vr r next.vc) channel next)
+    ∙ ap (segments_on map_id) (map-append segment units (unit_by (verdict_on r views next) next.content))
+    ∙ filter-append (λ segment. (header_at segment).map == map_id) (map segment units) (segment_by r views next)
 
-segments_other : (r : ReceptionParameters) (vc mid : ℕ) (views : List TcView) (next : TcView) → (next.vc ≡ vc → ⊥)
-    → segments_of r vc mid (views ++ next ∷ []) ≡ segments_of r vc mid views
-segments_other r vc mid views next other =
-    ap (λ l. segments_on mid (map (segment_in (is_plain r vc)) (accepted_units r.window (initial_vr r vc) l))) (other_channel vc views next other)
+segments_other : (r : ReceptionParameters) (vc map_id : ℕ) (views : List TcView) (next : TcView) → (next.vc ≡ vc → ⊥)
+    → segments_of r vc map_id (views ++ next ∷ []) ≡ segments_of r vc map_id views
+segments_other r vc map_id views next other =
+    ap (λ l. segments_on map_id (map (segment_in (is_plain r vc)) (accepted_units r.window (initial_vr r vc) l))) (other_channel vc views next other)
 
 -- the unit is among the segments of its own MAP alone
-on_map : (mid : ℕ) (unit : List ℕ) → (header_at unit).map ≡ mid → segments_on mid (unit ∷ []) ≡ unit ∷ []
-on_map mid unit same = ap (λ b. cond b (unit ∷ []) []) (eq-eqb (header_at unit).map mid same)
+on_map : (map_id : ℕ) (unit : List ℕ) → (header_at unit).map ≡ map_id → segments_on map_id (unit ∷ []) ≡ unit ∷ []
+on_map map_id unit same = ap (λ b. cond b (unit ∷ []) []) (eq-eqb (header_at unit).map map_id same)
 
-on_other_map : (mid : ℕ) (unit : List ℕ) → (header_at unit).map ≢ mid → segments_on mid (unit ∷ []) ≡ []
-on_other_map mid unit other = ap (λ b. cond b (unit ∷ []) []) (ne_eqb (header_at unit).map mid other)
+on_other_map : (map_id : ℕ) (unit : List ℕ) → (header_at unit).map ≢ map_id → segments_on map_id (unit ∷ []) ≡ []
+on_other_map map_id unit other = ap (λ b. cond b (unit ∷ []) []) (ne_eqb (header_at unit).map map_id other)
 
 pub map_fits : (unit : List ℕ) → (header_at unit).map < 64
 map_fits unit = omega arith
@@ -78,51 +78,51 @@ map_fits unit = omega arith
 -- without an accepted unit all series stay
 pub incomplete_same : (r : ReceptionParameters) (incomplete : List (Option (List ℕ))) (views : List TcView) (next : TcView) → AreIncomplete r incomplete views
     → segment_by r views next ≡ [] → AreIncomplete r incomplete (views ++ next ∷ [])
-incomplete_same r incomplete views next are none vc mid vc_fits mid_fits =
-    are vc mid vc_fits mid_fits ∙ ap incomplete_of (sym (elim (eqb_tells next.vc vc) [
+incomplete_same r incomplete views next are none vc map_id vc_fits mid_fits =
+    are vc map_id vc_fits mid_fits ∙ ap incomplete_of (sym (elim (eqb_tells next.vc vc) [
       | inl (test, same) ↦
-          subst (λ n. segments_of r n mid (views ++ next ∷ []) ≡ segments_of r n mid views) same
-          (segments_next r mid views next ∙ ap (λ l. segments_of r next.vc mid views ++ segments_on mid l) none
-          ∙ append-nil (segments_of r next.vc mid views))
-      | inr (test, other) ↦ segments_other r vc mid views next other
+          subst (λ n. segments_of r n map_id (views ++ next ∷ []) ≡ segments_of r n map_id views) same
+          (segments_next r map_id views next ∙ ap (λ l. segments_of r next.vc map_id views ++ segments_on map_id l) none
+          ∙ append-nil (segments_of r next.vc map_id views))
+      | inr (test, other) ↦ segments_other r vc map_id views next other
     ]))
 
-other_index : (index vc mid vc' mid' : ℕ) → index ≡ channel_at vc mid → mid < 64 → mid' < 64 → mid ≢ mid' → channel_at vc' mid' ≢ index
-other_index index vc mid vc' mid' is fits fits' other same = other (omega (arith, is, fits, fits', same))
+other_index : (index vc map_id vc' map_id' : ℕ) → index ≡ channel_at vc map_id → map_id < 64 → map_id' < 64 → map_id ≢ map_id' → channel_at vc' map_id' ≢ index
+other_index index vc map_id vc' map_id' is fits fits' other same = other (omega (arith, is, fits, fits', same))
 
-other_vc_index : (index vc mid vc' mid' : ℕ) → index ≡ channel_at vc mid → mid < 64 → mid' < 64 → vc ≢ vc' → channel_at vc' mid' ≢ index
-other_vc_index index vc mid vc' mid' is fits fits' other same = other (omega (arith, is, fits, fits', same))
+other_vc_index : (index vc map_id vc' map_id' : ℕ) → index ≡ channel_at vc map_id → map_id < 64 → map_id' < 64 → vc ≢ vc' → channel_at vc' map_id' ≢ index
+other_vc_index index vc map_id vc' map_id' is fits fits' other same = other (omega (arith, is, fits, fits', same))
 
 -- with an accepted unit, only the series at its index changes
 module _ (r : ReceptionParameters) (old : List (Option (List ℕ))) (views : List TcView) (next : TcView) (unit : List ℕ) (index : ℕ) where
   pub incomplete_more : (new : List (Option (List ℕ))) → AreIncomplete r old views → next.vc < 64 → segment_by r views next ≡ unit ∷ []
       → index ≡ channel_at next.vc (header_at unit).map → IsPlaced old index (incomplete_after (at old index) unit) new
       → AreIncomplete r new (views ++ next ∷ [])
-  incomplete_more new are inside unit_is here placed vc mid vc_fits mid_fits =
+  incomplete_more new are inside unit_is here placed vc map_id vc_fits mid_fits =
       elim (eqb_tells next.vc vc) [
         | inl (test, same) ↦
-            elim (eqb_tells (header_at unit).map mid) [
+            elim (eqb_tells (header_at unit).map map_id) [
               | inl (test', same') ↦
-                  let there : index ≡ channel_at vc mid = here ∙ ap (λ n. channel_at n (header_at unit).map) same ∙ ap (channel_at vc) same' in
-                  let segments : segments_of r vc mid (views ++ next ∷ []) ≡ segments_of r vc mid views ++ unit ∷ [] =
-                  subst (λ n. segments_of r n mid (views ++ next ∷ []) ≡ segments_of r n mid views ++ unit ∷ []) same
-                  (segments_next r mid views next ∙ ap (λ l. segments_of r next.vc mid views ++ segments_on mid l) unit_is
-                  ∙ ap (λ l. segments_of r next.vc mid views ++ l) (on_map mid unit same')) in
+                  let there : index ≡ channel_at vc map_id = here ∙ ap (λ n. channel_at n (header_at unit).map) same ∙ ap (channel_at vc) same' in
+                  let segments : segments_of r vc map_id (views ++ next ∷ []) ≡ segments_of r vc map_id views ++ unit ∷ [] =
+                  subst (λ n. segments_of r n map_id (views ++ next ∷ []) ≡ segments_of r n map_id views ++ unit ∷ []) same
+                  (segments_next r map_id views next ∙ ap (λ l. segments_of r next.vc map_id views ++ segments_on map_id l) unit_is
+                  ∙ ap (λ l. segments_of r next.vc map_id views ++ l) (on_map map_id unit same')) in
                   ap (at new) (sym there) ∙ placed.here
                   ∙ ap (λ n. incomplete_after (at old n) unit) there
-                  ∙ ap (λ held. incomplete_after held unit) (are vc mid vc_fits mid_fits)
-                  ∙ sym (incomplete_next (segments_of r vc mid views) unit) ∙ ap incomplete_of (sym segments)
+                  ∙ ap (λ held. incomplete_after held unit) (are vc map_id vc_fits mid_fits)
+                  ∙ sym (incomplete_next (segments_of r vc map_id views) unit) ∙ ap incomplete_of (sym segments)
               | inr (test', other) ↦
-                  let segments : segments_of r vc mid (views ++ next ∷ []) ≡ segments_of r vc mid views =
-                  subst (λ n. segments_of r n mid (views ++ next ∷ []) ≡ segments_of r n mid views) same
-                  (segments_next r mid views next ∙ ap (λ l. segments_of r next.vc mid views ++ segments_on mid l) unit_is
-                  ∙ ap (λ l. segments_of r next.vc mid views ++ l) (on_other_map mid unit other) ∙ append-nil (segments_of r next.vc mid views)) in
-                  placed.others (channel_at vc mid) (other_index index next.vc (header_at unit).map vc mid here (map_fits unit) mid_fits other)
-                  ∙ are vc mid vc_fits mid_fits ∙ ap incomplete_of (sym segments)
+                  let segments : segments_of r vc map_id (views ++ next ∷ []) ≡ segments_of r vc map_id views =
+                  subst (λ n. segments_of r n map_id (views ++ next ∷ []) ≡ segments_of r n map_id views) same
+                  (segments_next r map_id views next ∙ ap (λ l. segments_of r next.vc map_id views ++ segments_on map_id l) unit_is
+                  ∙ ap (λ l. segments_of r next.vc map_id views ++ l) (on_other_map map_id unit other) ∙ append-nil (segments_of r next.vc map_id views)) in
+                  placed.others (channel_at vc map_id) (other_index index next.vc (header_at unit).map vc map_id here (map_fits unit) mid_fits other)
+                  ∙ are vc map_id vc_fits mid_fits ∙ ap incomplete_of (sym segments)
             ]
         | inr (test, other) ↦
-            placed.others (channel_at vc mid) (other_vc_index index next.vc (header_at unit).map vc mid here (map_fits unit) mid_fits other)
-            ∙ are vc mid vc_fits mid_fits ∙ ap incomplete_of (sym (segments_other r vc mid views next other))
+            placed.others (channel_at vc map_id) (other_vc_index index next.vc (header_at unit).map vc map_id here (map_fits unit) mid_fits other)
+            ∙ are vc map_id vc_fits mid_fits ∙ ap incomplete_of (sym (segments_other r vc map_id views next other))
       ]
 
   -- ---- the packets that end
@@ -145,12 +145,12 @@ module _ (r : ReceptionParameters) (old : List (Option (List ℕ))) (views : Lis
       → map_by r next ≡ (header_at unit).map → index ≡ channel_at next.vc (header_at unit).map
       → (at old index ≢ None) ⊎ (incomplete_after (at old index) unit ≢ None) → IsIncompleteAround r views next
   around_more are inside unit_is mid_is here around =
-      let mid = map_by r next in
-      let list = segments_of r next.vc mid views in
+      let map_id = map_by r next in
+      let list = segments_of r next.vc map_id views in
       let before : at old index ≡ incomplete_of list =
-      ap (at old) (here ∙ ap (channel_at next.vc) (sym mid_is)) ∙ are next.vc mid inside (omega (arith, mid_is, map_fits unit)) in
-      let segments : segments_of r next.vc mid (views ++ next ∷ []) ≡ list ++ unit ∷ [] =
-      segments_next r mid views next ∙ ap (λ l. list ++ segments_on mid l) unit_is ∙ ap (λ l. list ++ l) (on_map mid unit (sym mid_is)) in (
+      ap (at old) (here ∙ ap (channel_at next.vc) (sym mid_is)) ∙ are next.vc map_id inside (omega (arith, mid_is, map_fits unit)) in
+      let segments : segments_of r next.vc map_id (views ++ next ∷ []) ≡ list ++ unit ∷ [] =
+      segments_next r map_id views next ∙ ap (λ l. list ++ segments_on map_id l) unit_is ∙ ap (λ l. list ++ l) (on_map map_id unit (sym mid_is)) in (
         λ e. let none : unit ∷ [] ≡ [] = sym unit_is ∙ e in cc,
         elim around [
           | inl some ↦ inl (λ e. some (before ∙ e))

@@ -10,9 +10,9 @@ use Rattle.sl_fields.proofs.ListLemmas.{each-every, each-map}
 use Rattle.sl_tcflow.proofs.lemmas.Series.Part.{parts_joined, covers, some_parts, units_are_series}
 use Rattle.sl_tcflow.proofs.lemmas.Series.Segment.{part_at, part_is, header_of_unit, octets_of_unit}
 
-only_octets : (room mid : ℕ) (packet : List ℕ) (numbers : List ℕ) → map segment_data (map (segment_of room mid packet) numbers) ≡ map (piece_at room packet) numbers
-only_octets room mid packet [] = refl
-only_octets room mid packet (number ∷ numbers) = ap₂ (λ a b. a ∷ b) (octets_of_unit (part_at room mid packet number)) (only_octets room mid packet numbers)
+only_octets : (room map_id : ℕ) (packet : List ℕ) (numbers : List ℕ) → map segment_data (map (segment_of room map_id packet) numbers) ≡ map (piece_at room packet) numbers
+only_octets room map_id packet [] = refl
+only_octets room map_id packet (number ∷ numbers) = ap₂ (λ a b. a ∷ b) (octets_of_unit (part_at room map_id packet number)) (only_octets room map_id packet numbers)
 
 -- each segment begins within the packet
 begins_within : (room : ℕ) (packet : List ℕ) (number : ℕ) → 0 < room → 0 < length packet → number < segment_count room packet → number * room < length packet
@@ -39,15 +39,15 @@ filled_from room packet from (suc (suc n)) some long more is =
     (filled_from room packet (from + 1) (suc n) some long (omega arith) (omega (arith, is)))
 
 pub each_is_divided : EachIsDivided
-each_is_divided room mid packet some small long =
+each_is_divided room map_id packet some small long =
     let count = segment_count room packet in
-    let octets = only_octets room mid packet (range_with_len 0 count) in
+    let octets = only_octets room map_id packet (range_with_len 0 count) in
     record {
       filled = subst (AreSegments room) (sym octets) (filled_from room packet 0 count some long (some_parts room packet some long) (omega arith));
       end_to_end = ap concat octets ∙ parts_joined room packet count ∙ take_all (count * room) packet (covers room packet some);
-      series = units_are_series room mid packet some small long;
+      series = units_are_series room map_id packet some small long;
       on_map =
-          each-map (λ segment. (header_at segment).map ≡ mid) (segment_of room mid packet) (range_with_len 0 count)
-          (each-every (λ n. (header_at (segment_of room mid packet n)).map ≡ mid)
-          (λ n. ap (λ (h : SegmentFields). h.map) (header_of_unit (part_at room mid packet n) (part_is room mid small packet n).header)) (range_with_len 0 count));
+          each-map (λ segment. (header_at segment).map ≡ map_id) (segment_of room map_id packet) (range_with_len 0 count)
+          (each-every (λ n. (header_at (segment_of room map_id packet n)).map ≡ map_id)
+          (λ n. ap (λ (h : SegmentFields). h.map) (header_of_unit (part_at room map_id packet n) (part_is room map_id small packet n).header)) (range_with_len 0 count));
     }

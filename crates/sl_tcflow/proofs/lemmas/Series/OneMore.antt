@@ -7,7 +7,7 @@ use Rattle.std.proofs.lemmas.List.{length_push}
 use Rattle.std.proofs.lemmas.List.Elements.{filter-append}
 use Rattle.sl_tcflow.specs.Incomplete.{if_fits, are_continuing, incomplete_of}
 use Rattle.sl_tcflow.specs.NextSegment.{extended, incomplete_after}
-use Rattle.sl_tcflow.specs.Reception.{packets_in, packets_on, packets_ended}
+use Rattle.sl_tcflow.specs.Reception.{packets_of_series, packets_of_segments, packets_ended}
 use Rattle.sl_tcflow.specs.Series.{flags_of, segment_data, SeriesAt, IsSeriesOf, past, completed, series_with, series_from, series_of, reassembled}
 use Rattle.sl_fields.proofs.ListLemmas.{each-weaker, filter_all, filter_none}
 use Rattle.sl_tcflow.proofs.lemmas.Series.Fit.{reassembled-push, extended_fits}
@@ -217,8 +217,8 @@ ending_is list next =
 
 -- ---- the packets
 
-pub packets_next : (list : List (List ℕ)) (next : List ℕ) → packets_on (list ++ next ∷ []) ≡ packets_on list ++ packets_ended list next
+pub packets_next : (list : List (List ℕ)) (next : List ℕ) → packets_of_segments (list ++ next ∷ []) ≡ packets_of_segments list ++ packets_ended list next
 packets_next list next =
-    let packets = λ (s : SeriesAt). packets_in s.segments in
+    let packets = λ (s : SeriesAt). packets_of_series s.segments in
     ap (flat_map packets) (series_next 0 list next) ∙ flat_map-append packets (series_of list) (series_ending 0 list next)
-    ∙ ap (λ l. packets_on list ++ flat_map packets l) (sym (ending_is list next))
+    ∙ ap (λ l. packets_of_segments list ++ flat_map packets l) (sym (ending_is list next))

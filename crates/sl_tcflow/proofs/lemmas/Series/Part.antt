@@ -10,7 +10,7 @@ use Rattle.sl_fields.specs.SegmentHeader.{SegmentFields}
 use Rattle.sl_packet.specs.Packet.{IsPacket}
 use Rattle.sl_packet.specs.Packets.{packets_of}
 use Rattle.sl_packet.proofs.PacketsLemmas.{packets_of-packet}
-use Rattle.sl_tcflow.specs.Reception.{packets_in}
+use Rattle.sl_tcflow.specs.Reception.{packets_of_series}
 use Rattle.sl_tcflow.specs.Series.{flags_of, IsSeries, whole, divided, SeriesAt, series_from, reassembled}
 use Rattle.sl_tcflow.specs.TcNormalForm.{segment_count, piece_at, flags_at, segment_of}
 use Rattle.sl_fields.proofs.ListLemmas.{each-append, each-weaker}
@@ -45,16 +45,16 @@ module _ (room : ℕ) (packet : List ℕ) where
   pub some_parts : 0 < room → 0 < length packet → 0 < segment_count room packet
   some_parts some long = let none = zero-mul room in counts_more room packet 0 some (omega (arith, none, long))
 
-octets_of_parts : (room mid : ℕ) (packet : List ℕ) (numbers : List ℕ)
-    → reassembled (map unit_made (map (part_at room mid packet) numbers)) ≡ concat (map (piece_at room packet) numbers)
-octets_of_parts room mid packet [] = refl
-octets_of_parts room mid packet (number ∷ numbers) =
-    ap₂ (λ a b. a ++ b) (octets_of_unit (part_at room mid packet number)) (octets_of_parts room mid packet numbers)
+octets_of_parts : (room map_id : ℕ) (packet : List ℕ) (numbers : List ℕ)
+    → reassembled (map unit_made (map (part_at room map_id packet) numbers)) ≡ concat (map (piece_at room packet) numbers)
+octets_of_parts room map_id packet [] = refl
+octets_of_parts room map_id packet (number ∷ numbers) =
+    ap₂ (λ a b. a ++ b) (octets_of_unit (part_at room map_id packet number)) (octets_of_parts room map_id packet numbers)
 
-pub reassembled_parts : (room mid : ℕ) (packet : List ℕ) → 0 < room → reassembled (map unit_made (segments_of_packet room mid packet)) ≡ packet
-reassembled_parts room mid packet some =
+pub reassembled_parts : (room map_id : ℕ) (packet : List ℕ) → 0 < room → reassembled (map unit_made (segments_of_packet room map_id packet)) ≡ packet
+reassembled_parts room map_id packet some =
     let count = segment_count room packet in
-    octets_of_parts room mid packet (range_with_len 0 count) ∙ parts_joined room packet count
+    octets_of_parts room map_id packet (range_with_len 0 count) ∙ parts_joined room packet count
     ∙ take_all (count * room) packet (covers room packet some)
 
 -- ---- the sequence flags of the segments
@@ -86,16 +86,16 @@ series_of_parts (suc (suc n)) unit flags some =
     (divided (unit 0) (unit (suc n)) middle (flags 0 ∙ first_of_many (suc (suc n)) (omega arith))
     (continuing (suc (suc n)) unit flags 1 n (omega arith) (omega arith)) (flags (suc n) ∙ last_of_many (suc (suc n)) (suc n) (omega arith) (omega arith)))
 
-pub units_are_series : (room mid : ℕ) (packet : List ℕ) → 0 < room → mid < 64 → 0 < length packet
-    → IsSeries (map (segment_of room mid packet) (range_with_len 0 (segment_count room packet)))
-units_are_series room mid packet some small long =
-    series_of_parts (segment_count room packet) (segment_of room mid packet)
-    (λ n. ap (λ (h : SegmentFields). h.flags) (header_of_unit (part_at room mid packet n) (part_is room mid small packet n).header))
+pub units_are_series : (room map_id : ℕ) (packet : List ℕ) → 0 < room → map_id < 64 → 0 < length packet
+    → IsSeries (map (segment_of room map_id packet) (range_with_len 0 (segment_count room packet)))
+units_are_series room map_id packet some small long =
+    series_of_parts (segment_count room packet) (segment_of room map_id packet)
+    (λ n. ap (λ (h : SegmentFields). h.flags) (header_of_unit (part_at room map_id packet n) (part_is room map_id small packet n).header))
     (some_parts room packet some long)
 
-pub parts_are_series : (room mid : ℕ) (packet : List ℕ) → 0 < room → mid < 64 → 0 < length packet → IsSeries (map unit_made (segments_of_packet room mid packet))
-parts_are_series room mid packet some small long =
-    subst IsSeries (sym (units_of_parts room mid packet (range_with_len 0 (segment_count room packet)))) (units_are_series room mid packet some small long)
+pub parts_are_series : (room map_id : ℕ) (packet : List ℕ) → 0 < room → map_id < 64 → 0 < length packet → IsSeries (map unit_made (segments_of_packet room map_id packet))
+parts_are_series room map_id packet some small long =
+    subst IsSeries (sym (units_of_parts room map_id packet (range_with_len 0 (segment_count room packet)))) (units_are_series room map_id packet some small long)
 
 -- ---- a series at the front of a list
 
@@ -119,22 +119,22 @@ series_first n k segments later here (divided first last middle begins goes_on e
 pub packet_size : (packet : List ℕ) → IsPacket packet → (0 < length packet) × (length packet ≤ 65542)
 packet_size packet is = let long = is.len in (omega (arith, long), omega (arith, long))
 
-packet_carried : (room mid : ℕ) (packet : List ℕ) → 0 < room → IsPacket packet → packets_in (map unit_made (segments_of_packet room mid packet)) ≡ packet ∷ []
-packet_carried room mid packet some is =
-    ap (λ octets. if nat_le (length octets) 65542 then packets_of octets else []) (reassembled_parts room mid packet some)
+packet_carried : (room map_id : ℕ) (packet : List ℕ) → 0 < room → IsPacket packet → packets_of_series (map unit_made (segments_of_packet room map_id packet)) ≡ packet ∷ []
+packet_carried room map_id packet some is =
+    ap (λ octets. if nat_le (length octets) 65542 then packets_of octets else []) (reassembled_parts room map_id packet some)
     ∙ ap (λ b. if b then packets_of packet else []) (le-leb (length packet) 65542 (packet_size packet is).1)
     ∙ ap packets_of (sym (append-nil packet)) ∙ packets_of-packet packet [] is
 
 -- the packets of the series of the packets' segments
-pub packets_back : (room mid n : ℕ) (packets : List (List ℕ)) → 0 < room → mid < 64 → AllByRecursion IsPacket packets
-    → flat_map (λ (s : SeriesAt). packets_in s.segments) (series_from n (map unit_made (flat_map (segments_of_packet room mid) packets))) ≡ packets
-packets_back room mid n [] some small each = refl
-packets_back room mid n (packet ∷ packets) some small each =
-    let carried : List SeriesAt → List (List ℕ) = flat_map (λ (s : SeriesAt). packets_in s.segments) in
-    let segments = map unit_made (segments_of_packet room mid packet) in
-    let later = map unit_made (flat_map (segments_of_packet room mid) packets) in
+pub packets_back : (room map_id n : ℕ) (packets : List (List ℕ)) → 0 < room → map_id < 64 → AllByRecursion IsPacket packets
+    → flat_map (λ (s : SeriesAt). packets_of_series s.segments) (series_from n (map unit_made (flat_map (segments_of_packet room map_id) packets))) ≡ packets
+packets_back room map_id n [] some small each = refl
+packets_back room map_id n (packet ∷ packets) some small each =
+    let carried : List SeriesAt → List (List ℕ) = flat_map (λ (s : SeriesAt). packets_of_series s.segments) in
+    let segments = map unit_made (segments_of_packet room map_id packet) in
+    let later = map unit_made (flat_map (segments_of_packet room map_id) packets) in
     let k = n + length segments in
-    ap (λ l. carried (series_from n l)) (map-append unit_made (segments_of_packet room mid packet) (flat_map (segments_of_packet room mid) packets))
-    ∙ ap carried (series_first n k segments later refl (parts_are_series room mid packet some small (packet_size packet each.0).0))
-    ∙ ap (λ l. l ++ carried (series_from k later)) (packet_carried room mid packet some each.0)
-    ∙ ap (λ l. packet ∷ l) (packets_back room mid k packets some small each.1)
+    ap (λ l. carried (series_from n l)) (map-append unit_made (segments_of_packet room map_id packet) (flat_map (segments_of_packet room map_id) packets))
+    ∙ ap carried (series_first n k segments later refl (parts_are_series room map_id packet some small (packet_size packet each.0).0))
+    ∙ ap (λ l. l ++ carried (series_from k later)) (packet_carried room map_id packet some each.0)
+    ∙ ap (λ l. packet ∷ l) (packets_back room map_id k packets some small each.1)

@@ -41,39 +41,39 @@ map_of_unit room On segment is = ap (λ (h : SegmentFields). h.map) (header_of_u
 
 -- ---- segments on their MAPs
 
-module _ (room mid : ℕ) where
+module _ (room map_id : ℕ) where
   -- the segments of a MAP stay when the MAP is selected
-  pub on_all : (segments : List (SegmentFields × List ℕ)) → AllByRecursion (IsSegment room (λ m. m ≡ mid)) segments
-      → segments_on mid (map unit_made segments) ≡ map unit_made segments
+  pub on_all : (segments : List (SegmentFields × List ℕ)) → AllByRecursion (IsSegment room (λ m. m ≡ map_id)) segments
+      → segments_on map_id (map unit_made segments) ≡ map unit_made segments
   on_all segments each =
-      filter_all (λ unit. (header_at unit).map == mid) (map unit_made segments)
-      (each-map (λ unit. ((header_at unit).map == mid) ≡ true) unit_made segments
-      (each-weaker (IsSegment room (λ m. m ≡ mid)) (λ segment. ((header_at (unit_made segment)).map == mid) ≡ true)
-      (λ segment is. eq-eqb (header_at (unit_made segment)).map mid (map_of_unit room (λ m. m ≡ mid) segment is ∙ is.on)) segments each))
+      filter_all (λ unit. (header_at unit).map == map_id) (map unit_made segments)
+      (each-map (λ unit. ((header_at unit).map == map_id) ≡ true) unit_made segments
+      (each-weaker (IsSegment room (λ m. m ≡ map_id)) (λ segment. ((header_at (unit_made segment)).map == map_id) ≡ true)
+      (λ segment is. eq-eqb (header_at (unit_made segment)).map map_id (map_of_unit room (λ m. m ≡ map_id) segment is ∙ is.on)) segments each))
 
   -- the segments of other MAPs go when the MAP is selected
-  pub on_none : (On : ℕ → Type 0) → ((m : ℕ) → On m → m ≢ mid) → (segments : List (SegmentFields × List ℕ)) → AllByRecursion (IsSegment room On) segments
-      → segments_on mid (map unit_made segments) ≡ []
+  pub on_none : (On : ℕ → Type 0) → ((m : ℕ) → On m → m ≢ map_id) → (segments : List (SegmentFields × List ℕ)) → AllByRecursion (IsSegment room On) segments
+      → segments_on map_id (map unit_made segments) ≡ []
   on_none On apart segments each =
-      filter_none (λ unit. (header_at unit).map == mid) (map unit_made segments)
-      (each-map (λ unit. ((header_at unit).map == mid) ≡ false) unit_made segments
-      (each-weaker (IsSegment room On) (λ segment. ((header_at (unit_made segment)).map == mid) ≡ false)
-      (λ segment is. ne_eqb (header_at (unit_made segment)).map mid (λ e. apart segment.0.map is.on (sym (map_of_unit room On segment is) ∙ e))) segments each))
+      filter_none (λ unit. (header_at unit).map == map_id) (map unit_made segments)
+      (each-map (λ unit. ((header_at unit).map == map_id) ≡ false) unit_made segments
+      (each-weaker (IsSegment room On) (λ segment. ((header_at (unit_made segment)).map == map_id) ≡ false)
+      (λ segment is. ne_eqb (header_at (unit_made segment)).map map_id (λ e. apart segment.0.map is.on (sym (map_of_unit room On segment is) ∙ e))) segments each))
 
 -- ---- the segments of packets
 
 flags_fit : (count number : ℕ) → flags_at count number < 4
 flags_fit count number = grind (arith, nat_tests)
 
-module _ (room mid : ℕ) where
+module _ (room map_id : ℕ) where
   abbrev pub part_at : List ℕ → ℕ → SegmentFields × List ℕ
-  part_at packet number = (record { flags = flags_at (segment_count room packet) number; map = mid }, piece_at room packet number)
+  part_at packet number = (record { flags = flags_at (segment_count room packet) number; map = map_id }, piece_at room packet number)
 
   -- the segments of a packet, as headers and octets
   abbrev pub segments_of_packet : List ℕ → List (SegmentFields × List ℕ)
   segments_of_packet packet = map (part_at packet) (range_with_len 0 (segment_count room packet))
 
-  pub part_is : mid < 64 → (packet : List ℕ) (number : ℕ) → IsSegment room (λ m. m ≡ mid) (part_at packet number)
+  pub part_is : map_id < 64 → (packet : List ℕ) (number : ℕ) → IsSegment room (λ m. m ≡ map_id) (part_at packet number)
   part_is small packet number =
       record {
         header = record { flags = flags_fit (segment_count room packet) number; map = small };
@@ -81,33 +81,33 @@ module _ (room mid : ℕ) where
         on = refl;
       }
 
-  pub packet_parts : mid < 64 → (packet : List ℕ) → AllByRecursion (IsSegment room (λ m. m ≡ mid)) (segments_of_packet packet)
+  pub packet_parts : map_id < 64 → (packet : List ℕ) → AllByRecursion (IsSegment room (λ m. m ≡ map_id)) (segments_of_packet packet)
   packet_parts small packet =
       let numbers = range_with_len 0 (segment_count room packet) in
-      each-map (IsSegment room (λ m. m ≡ mid)) (part_at packet) numbers (each-every (λ n. IsSegment room (λ m. m ≡ mid) (part_at packet n)) (part_is small packet) numbers)
+      each-map (IsSegment room (λ m. m ≡ map_id)) (part_at packet) numbers (each-every (λ n. IsSegment room (λ m. m ≡ map_id) (part_at packet n)) (part_is small packet) numbers)
 
-  pub packets_parts : mid < 64 → (packets : List (List ℕ)) → AllByRecursion (IsSegment room (λ m. m ≡ mid)) (flat_map segments_of_packet packets)
+  pub packets_parts : map_id < 64 → (packets : List (List ℕ)) → AllByRecursion (IsSegment room (λ m. m ≡ map_id)) (flat_map segments_of_packet packets)
   packets_parts small packets =
-      each-flat_map (IsSegment room (λ m. m ≡ mid)) segments_of_packet packets
-      (each-every (λ packet. AllByRecursion (IsSegment room (λ m. m ≡ mid)) (segments_of_packet packet)) (packet_parts small) packets)
+      each-flat_map (IsSegment room (λ m. m ≡ map_id)) segments_of_packet packets
+      (each-every (λ packet. AllByRecursion (IsSegment room (λ m. m ≡ map_id)) (segments_of_packet packet)) (packet_parts small) packets)
 
   -- the segments of a packet are its units
-  pub units_of_parts : (packet : List ℕ) (numbers : List ℕ) → map unit_made (map (part_at packet) numbers) ≡ map (segment_of room mid packet) numbers
+  pub units_of_parts : (packet : List ℕ) (numbers : List ℕ) → map unit_made (map (part_at packet) numbers) ≡ map (segment_of room map_id packet) numbers
   units_of_parts packet [] = refl
-  units_of_parts packet (number ∷ numbers) = ap (λ l. segment_of room mid packet number ∷ l) (units_of_parts packet numbers)
+  units_of_parts packet (number ∷ numbers) = ap (λ l. segment_of room map_id packet number ∷ l) (units_of_parts packet numbers)
 
 -- ---- the segments of a virtual channel's MAPs
 
 abbrev pub segments_of_maps : ℕ → ℕ → List (List (List ℕ)) → List (SegmentFields × List ℕ)
-segments_of_maps room mid [] = []
-segments_of_maps room mid (packets ∷ lists) = flat_map (segments_of_packet room mid) packets ++ segments_of_maps room (mid + 1) lists
+segments_of_maps room map_id [] = []
+segments_of_maps room map_id (packets ∷ lists) = flat_map (segments_of_packet room map_id) packets ++ segments_of_maps room (map_id + 1) lists
 
 -- the units of packets are their segments
-pub flat_units : (room mid : ℕ) (packets : List (List ℕ)) → flat_map (units_of_packet false room mid) packets ≡ map unit_made (flat_map (segments_of_packet room mid) packets)
-flat_units room mid [] = refl
-flat_units room mid (packet ∷ packets) =
-    ap₂ (λ a b. a ++ b) (sym (units_of_parts room mid packet (range_with_len 0 (segment_count room packet)))) (flat_units room mid packets)
-    ∙ sym (map-append unit_made (segments_of_packet room mid packet) (flat_map (segments_of_packet room mid) packets))
+pub flat_units : (room map_id : ℕ) (packets : List (List ℕ)) → flat_map (units_of_packet false room map_id) packets ≡ map unit_made (flat_map (segments_of_packet room map_id) packets)
+flat_units room map_id [] = refl
+flat_units room map_id (packet ∷ packets) =
+    ap₂ (λ a b. a ++ b) (sym (units_of_parts room map_id packet (range_with_len 0 (segment_count room packet)))) (flat_units room map_id packets)
+    ∙ sym (map-append unit_made (segments_of_packet room map_id packet) (flat_map (segments_of_packet room map_id) packets))
 
 pub units_are_segments : (room from : ℕ) (lists : List (List (List ℕ))) → units_of_maps false room from lists ≡ map unit_made (segments_of_maps room from lists)
 units_are_segments room from [] = refl
@@ -116,21 +116,21 @@ units_are_segments room from (packets ∷ lists) =
     ∙ sym (map-append unit_made (flat_map (segments_of_packet room from) packets) (segments_of_maps room (from + 1) lists))
 
 -- where there are no segment headers, the units of packets are the packets themselves
-flat_packets : (room mid : ℕ) (packets : List (List ℕ)) → flat_map (units_of_packet true room mid) packets ≡ packets
-flat_packets room mid [] = refl
-flat_packets room mid (packet ∷ packets) = ap (λ l. packet ∷ l) (flat_packets room mid packets)
+flat_packets : (room map_id : ℕ) (packets : List (List ℕ)) → flat_map (units_of_packet true room map_id) packets ≡ packets
+flat_packets room map_id [] = refl
+flat_packets room map_id (packet ∷ packets) = ap (λ l. packet ∷ l) (flat_packets room map_id packets)
 
-no_units : (room from : ℕ) (lists : List (List (List ℕ))) → ((mid : ℕ) → slice_index_or lists mid [] ≡ []) → units_of_maps true room from lists ≡ []
+no_units : (room from : ℕ) (lists : List (List (List ℕ))) → ((map_id : ℕ) → slice_index_or lists map_id [] ≡ []) → units_of_maps true room from lists ≡ []
 no_units room from [] none = refl
 no_units room from (packets ∷ lists) none =
     ap (λ ps. flat_map (units_of_packet true room from) ps ++ units_of_maps true room (from + 1) lists) (none 0)
-    ∙ no_units room (from + 1) lists (λ mid. none (suc mid))
+    ∙ no_units room (from + 1) lists (λ map_id. none (suc map_id))
 
-pub units_are_packets : (room from : ℕ) (lists : List (List (List ℕ))) → ((mid : ℕ) → 0 < mid → slice_index_or lists mid [] ≡ [])
+pub units_are_packets : (room from : ℕ) (lists : List (List (List ℕ))) → ((map_id : ℕ) → 0 < map_id → slice_index_or lists map_id [] ≡ [])
     → units_of_maps true room from lists ≡ slice_index_or lists 0 []
 units_are_packets room from [] none = refl
 units_are_packets room from (packets ∷ lists) none =
-    ap₂ (λ a b. a ++ b) (flat_packets room from packets) (no_units room (from + 1) lists (λ mid. none (suc mid) (omega arith)))
+    ap₂ (λ a b. a ++ b) (flat_packets room from packets) (no_units room (from + 1) lists (λ map_id. none (suc map_id) (omega arith)))
     ∙ append-nil packets
 
 weaker_on : (room : ℕ) (On On' : ℕ → Type 0) → ((m : ℕ) → On m → On' m) → (segments : List (SegmentFields × List ℕ)) → AllByRecursion (IsSegment room On) segments
@@ -149,25 +149,25 @@ maps_parts room from (packets ∷ lists) few =
     (maps_parts room (from + 1) lists (omega arith)))
 
 -- the segments of a MAP are those of its packets
-pub parts_of_map : (room from mid index : ℕ) (lists : List (List (List ℕ))) → mid ≡ from + index → index < length lists → from + length lists ≤ 64
-    → segments_on mid (map unit_made (segments_of_maps room from lists)) ≡ map unit_made (flat_map (segments_of_packet room mid) (slice_index_or lists index []))
-parts_of_map room from mid index [] here inside few = absurd (omega arith)
-parts_of_map room from mid zero (packets ∷ lists) here inside few =
+pub parts_of_map : (room from map_id index : ℕ) (lists : List (List (List ℕ))) → map_id ≡ from + index → index < length lists → from + length lists ≤ 64
+    → segments_on map_id (map unit_made (segments_of_maps room from lists)) ≡ map unit_made (flat_map (segments_of_packet room map_id) (slice_index_or lists index []))
+parts_of_map room from map_id index [] here inside few = absurd (omega arith)
+parts_of_map room from map_id zero (packets ∷ lists) here inside few =
     let segments = flat_map (segments_of_packet room from) packets in
     let later = segments_of_maps room (from + 1) lists in
-    let same : from ≡ mid = omega (arith, here) in
-    ap (segments_on mid) (map-append unit_made segments later)
-    ∙ filter-append (λ unit. (header_at unit).map == mid) (map unit_made segments) (map unit_made later)
-    ∙ ap (λ l. segments_on mid (map unit_made segments) ++ l)
-    (on_none room mid (λ m. from + 1 ≤ m) (λ m above e. omega (arith, above, e, same)) later (maps_parts room (from + 1) lists (omega arith)))
-    ∙ append-nil (segments_on mid (map unit_made segments))
-    ∙ ap (λ m. segments_on mid (map unit_made (flat_map (segments_of_packet room m) packets))) same
-    ∙ on_all room mid (flat_map (segments_of_packet room mid) packets) (packets_parts room mid (omega (arith, same)) packets)
-parts_of_map room from mid (suc index) (packets ∷ lists) here inside few =
+    let same : from ≡ map_id = omega (arith, here) in
+    ap (segments_on map_id) (map-append unit_made segments later)
+    ∙ filter-append (λ unit. (header_at unit).map == map_id) (map unit_made segments) (map unit_made later)
+    ∙ ap (λ l. segments_on map_id (map unit_made segments) ++ l)
+    (on_none room map_id (λ m. from + 1 ≤ m) (λ m above e. omega (arith, above, e, same)) later (maps_parts room (from + 1) lists (omega arith)))
+    ∙ append-nil (segments_on map_id (map unit_made segments))
+    ∙ ap (λ m. segments_on map_id (map unit_made (flat_map (segments_of_packet room m) packets))) same
+    ∙ on_all room map_id (flat_map (segments_of_packet room map_id) packets) (packets_parts room map_id (omega (arith, same)) packets)
+parts_of_map room from map_id (suc index) (packets ∷ lists) here inside few =
     let segments = flat_map (segments_of_packet room from) packets in
     let later = segments_of_maps room (from + 1) lists in
-    ap (segments_on mid) (map-append unit_made segments later)
-    ∙ filter-append (λ unit. (header_at unit).map == mid) (map unit_made segments) (map unit_made later)
-    ∙ ap (λ l. l ++ segments_on mid (map unit_made later))
-    (on_none room mid (λ m. m ≡ from) (λ m is e. omega (arith, is, e, here)) segments (packets_parts room from (omega arith) packets))
-    ∙ parts_of_map room (from + 1) mid index lists (omega (arith, here)) (omega arith) (omega arith)
+    ap (segments_on map_id) (map-append unit_made segments later)
+    ∙ filter-append (λ unit. (header_at unit).map == map_id) (map unit_made segments) (map unit_made later)
+    ∙ ap (λ l. l ++ segments_on map_id (map unit_made later))
+    (on_none room map_id (λ m. m ≡ from) (λ m is e. omega (arith, is, e, here)) segments (packets_parts room from (omega arith) packets))
+    ∙ parts_of_map room (from + 1) map_id index lists (omega (arith, here)) (omega arith) (omega arith)

@@ -6,7 +6,7 @@ use Rattle.std.specs.Prelude.{is_none, option_map}
 use Rattle.sl_fields.specs.SegmentHeader.{SegmentFields}
 use Rattle.sl_tcflow.specs.AcceptedUnit.{accepted_units, channel_of, unit_by}
 use Rattle.sl_tcflow.specs.Anomaly.{dropped_of, long_of, octets_held, of_segment, stray_of, NoPlainSeriesIsIncomplete, PlainUnitHasTailAlone}
-use Rattle.sl_tcflow.specs.Incomplete.{are_continuing, if_fits, incomplete_of, passes}
+use Rattle.sl_tcflow.specs.Incomplete.{are_continuing, if_fits, incomplete_of, exceeds_limit}
 use Rattle.sl_tcflow.specs.Receiving.{map_by, verdict_on}
 use Rattle.sl_tcflow.specs.Reception.{segments_of}
 use Rattle.sl_tcflow.specs.ReceptionParameters.{is_plain, initial_vr}
@@ -45,16 +45,16 @@ none_incomplete (segment ∷ later) each =
     ap (λ flags. if flags == 1 && are_continuing later then if_fits (reassembled (segment ∷ later)) else incomplete_of later) each.0
     ∙ none_incomplete later each.1
 
-none_on : (plain : Bool) (mid : ℕ) (units : List (List ℕ)) → plain ≡ true → incomplete_of (segments_on mid (map (segment_in plain) units)) ≡ None
-none_on false mid units is = absurd (cc)
-none_on true mid units is =
+none_on : (plain : Bool) (map_id : ℕ) (units : List (List ℕ)) → plain ≡ true → incomplete_of (segments_on map_id (map (segment_in plain) units)) ≡ None
+none_on false map_id units is = absurd (cc)
+none_on true map_id units is =
     let segments = map whole_segment units in
-    none_incomplete (segments_on mid segments)
-    (each-filter (λ segment. flags_of segment ≡ 3) (λ segment. flags_of segment ≡ 3) (λ segment. (header_at segment).map == mid) (λ segment passes is. is) segments (each_whole units))
+    none_incomplete (segments_on map_id segments)
+    (each-filter (λ segment. flags_of segment ≡ 3) (λ segment. flags_of segment ≡ 3) (λ segment. (header_at segment).map == map_id) (λ segment exceeds_limit is. is) segments (each_whole units))
 
 pub no_plain_series_is_incomplete : NoPlainSeriesIsIncomplete
-no_plain_series_is_incomplete r vc mid views plain =
-    none_on (is_plain r vc) mid (accepted_units r.window (initial_vr r vc) (channel_of vc views)) plain
+no_plain_series_is_incomplete r vc map_id views plain =
+    none_on (is_plain r vc) map_id (accepted_units r.window (initial_vr r vc) (channel_of vc views)) plain
 
 -- ---- octets that are left are the only anomaly
 
@@ -67,7 +67,7 @@ module _ (list : List (List ℕ)) (unit : List ℕ) where
       ap (λ flags. if begins_by flags then octets_held list else None) (flags_of_whole unit) ∙ ap (option_map length) none
 
   none_long : long_of list (whole_segment unit) ≡ false
-  none_long = ap (λ flags. continues_by flags && passes (octets_held list) (length (segment_data (whole_segment unit)))) (flags_of_whole unit)
+  none_long = ap (λ flags. continues_by flags && exceeds_limit (octets_held list) (length (segment_data (whole_segment unit)))) (flags_of_whole unit)
 
 -- the report on the frame's unit, if it is accepted
 told_of_whole : {X : Type 0} (none : X) (told : List ℕ → X) → ((unit : List ℕ) → told (whole_segment unit) ≡ none)

@@ -42,24 +42,24 @@ pub returns-in-Ok-clause-hands_over : goal.returns-in-Ok-clause-hands_over
 returns-in-Ok-clause-hands_over g c r views headers are is =
     let unit = c.in-Some.unit.now in
     let segment = segment_in c.args.plain unit in
-    let mid = map_on c.args.plain _ r c.args.frame.now (header_at segment).map headers c.content.ensures.value (c.in-Some.ensures.map c.args.plain) in
-    hands_same (unit_channel_is c.vc.result r segment c.args.frame.now c.vc.ensures.value mid)
+    let map_id = map_on c.args.plain _ r c.args.frame.now (header_at segment).map headers c.content.ensures.value (c.in-Some.ensures.map c.args.plain) in
+    hands_same (unit_channel_is c.vc.result r segment c.args.frame.now c.vc.ensures.value map_id)
     (sym (ended_more r c.args.series.now.list views c.args.frame.now segment (channel_at c.vc.result (header_at segment).map)
     are (omega (arith, c.vc.ensures.value, c.vc.ensures.fits))
     (segment_on c.args.plain c.args.verdict _ r views c.args.frame.now (unit ∷ []) headers is c.content.ensures.value c.in-Some.ensures.unit)
-    mid (ap (λ n. channel_at n (header_at segment).map) c.vc.ensures.value)))
+    map_id (ap (λ n. channel_at n (header_at segment).map) c.vc.ensures.value)))
     (rw (c.segment_of.ensures.channel, c.segment_of.ensures.flags, c.segment_of.ensures.octets) at c.in-Ok.ensures.hands_over)
 
 pub returns-in-Err-clause-hands_over : goal.returns-in-Err-clause-hands_over
 returns-in-Err-clause-hands_over g c r views headers are is =
     let unit = c.in-Some.unit.now in
     let segment = segment_in c.args.plain unit in
-    let mid = map_on c.args.plain _ r c.args.frame.now (header_at segment).map headers c.content.ensures.value (c.in-Some.ensures.map c.args.plain) in
-    hands_same (unit_channel_is c.vc.result r segment c.args.frame.now c.vc.ensures.value mid)
+    let map_id = map_on c.args.plain _ r c.args.frame.now (header_at segment).map headers c.content.ensures.value (c.in-Some.ensures.map c.args.plain) in
+    hands_same (unit_channel_is c.vc.result r segment c.args.frame.now c.vc.ensures.value map_id)
     (sym (ended_more r c.args.series.now.list views c.args.frame.now segment (channel_at c.vc.result (header_at segment).map)
     are (omega (arith, c.vc.ensures.value, c.vc.ensures.fits))
     (segment_on c.args.plain c.args.verdict _ r views c.args.frame.now (unit ∷ []) headers is c.content.ensures.value c.in-Some.ensures.unit)
-    mid (ap (λ n. channel_at n (header_at segment).map) c.vc.ensures.value)))
+    map_id (ap (λ n. channel_at n (header_at segment).map) c.vc.ensures.value)))
     (rw (c.segment_of.ensures.channel, c.segment_of.ensures.flags, c.segment_of.ensures.octets) at c.in-Err.ensures.hands_over)
 
 pub returns-in-Err-clause-memory : goal.returns-in-Err-clause-memory

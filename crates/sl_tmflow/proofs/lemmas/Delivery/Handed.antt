@@ -8,7 +8,7 @@ use Rattle.sl_tmflow.specs.Channel.{channel_of}
 use Rattle.sl_tmflow.specs.Delivery.{deliveries_of, packets_delivered, packets_ending}
 use Rattle.sl_tmflow.specs.Extraction.{DeliveredAreHandedOver, ended_by, handed_over}
 use Rattle.sl_tmflow.specs.Loss.{HandedOverAreKept, HandedOverAreSublist}
-use Rattle.sl_tmflow.specs.Recording.{packets_on}
+use Rattle.sl_tmflow.specs.Recording.{packets_of_channel}
 use Rattle.sl_tmflow.specs.Sublist.{IsSublist}
 use Rattle.sl_tmflow.proofs.lemmas.Delivery.Channel.{other_seen, same_seen}
 use Rattle.sl_tmflow.proofs.lemmas.Loss.KeptList.{packets_are_kept}
@@ -19,30 +19,30 @@ use Rattle.sl_packet.proofs.WithoutIdleLemmas.{without_idle-append}
 
 -- the packets that a frame adds to those of a virtual channel
 handed_step : (vc : ℕ) (views : List TmView) (next : TmView)
-    → without_idle (packets_on (views ++ next ∷ []) vc)
-    ≡ without_idle (packets_on views vc) ++ (if next.vc == vc then without_idle (ended_by views next) else [])
+    → without_idle (packets_of_channel (views ++ next ∷ []) vc)
+    ≡ without_idle (packets_of_channel views vc) ++ (if next.vc == vc then without_idle (ended_by views next) else [])
 handed_step vc views next =
     elim (eqb_tells next.vc vc) [
       | inl (test, same) ↦
-          let more : packets_on (views ++ next ∷ []) vc ≡ packets_on views vc ++ packets_ending (channel_of vc views) next =
+          let more : packets_of_channel (views ++ next ∷ []) vc ≡ packets_of_channel views vc ++ packets_ending (channel_of vc views) next =
           ap (λ c. packets_delivered (deliveries_of c)) (same_seen vc views next same) ∙ delivered_push (channel_of vc views) next in
           rw (test)
-          (ap without_idle more ∙ without_idle-append (packets_on views vc) (packets_ending (channel_of vc views) next)
-          ∙ ap (λ n. without_idle (packets_on views vc) ++ without_idle (packets_ending (channel_of n views) next)) (sym same))
+          (ap without_idle more ∙ without_idle-append (packets_of_channel views vc) (packets_ending (channel_of vc views) next)
+          ∙ ap (λ n. without_idle (packets_of_channel views vc) ++ without_idle (packets_ending (channel_of n views) next)) (sym same))
       | inr (test, other) ↦
           rw (test)
-          (ap (λ c. without_idle (packets_delivered (deliveries_of c))) (other_seen vc views next other) ∙ sym (append-nil (without_idle (packets_on views vc))))
+          (ap (λ c. without_idle (packets_delivered (deliveries_of c))) (other_seen vc views next other) ∙ sym (append-nil (without_idle (packets_of_channel views vc))))
     ]
 
 handed_after : (vc : ℕ) (views later : List TmView)
-    → without_idle (packets_on views vc) ++ handed_over vc views later ≡ without_idle (packets_on (views ++ later) vc)
+    → without_idle (packets_of_channel views vc) ++ handed_over vc views later ≡ without_idle (packets_of_channel (views ++ later) vc)
 handed_after vc views [] =
-    append-nil (without_idle (packets_on views vc)) ∙ ap (λ l. without_idle (packets_on l vc)) (sym (append-nil views))
+    append-nil (without_idle (packets_of_channel views vc)) ∙ ap (λ l. without_idle (packets_of_channel l vc)) (sym (append-nil views))
 handed_after vc views (next ∷ later) =
-    sym (append_assoc (without_idle (packets_on views vc)) (if next.vc == vc then without_idle (ended_by views next) else [])
+    sym (append_assoc (without_idle (packets_of_channel views vc)) (if next.vc == vc then without_idle (ended_by views next) else [])
     (handed_over vc (views ++ next ∷ []) later))
     ∙ ap (λ l. l ++ handed_over vc (views ++ next ∷ []) later) (sym (handed_step vc views next)) ∙ handed_after vc (views ++ next ∷ []) later
-    ∙ ap (λ l. without_idle (packets_on l vc)) (append_assoc views (next ∷ []) later)
+    ∙ ap (λ l. without_idle (packets_of_channel l vc)) (append_assoc views (next ∷ []) later)
 
 pub delivered_are_handed_over : DeliveredAreHandedOver
 delivered_are_handed_over vc views = handed_after vc [] views
@@ -55,5 +55,5 @@ pub handed_over_are_sublist : HandedOverAreSublist
 handed_over_are_sublist vc channel numbers views left =
     let whole : List (List ℕ) = packets_delivered (deliveries_of channel) in
     subst (λ l. IsSublist l (without_idle whole)) (sym (delivered_are_handed_over vc views))
-    (sublist_filter (λ packet. not (is_idle_packet packet)) (packets_on views vc) whole
+    (sublist_filter (λ packet. not (is_idle_packet packet)) (packets_of_channel views vc) whole
     (packets_are_sublist channel numbers (channel_of vc views) left))

@@ -9,18 +9,18 @@ use Rattle.sl_tmframe.specs.TmFrame.{TmView}
 use Rattle.sl_tmflow.specs.Canonical.{RecordedListsAreDeliverable}
 use Rattle.sl_tmflow.specs.Channel.{channel_of}
 use Rattle.sl_tmflow.specs.Delivery.{Delivery, IsDelivery, deliveries_of, packets_delivered}
-use Rattle.sl_tmflow.specs.Recording.{packets_on, recorded_views}
+use Rattle.sl_tmflow.specs.Recording.{packets_of_channel, recorded_views}
 use Rattle.sl_tmflow.proofs.lemmas.Delivery.Delivery.{each_is_delivery}
 
 are_packets : (channel : List TmView) (deliveries : List Delivery) → AllByRecursion (IsDelivery channel) deliveries → AllByRecursion IsPacket (packets_delivered deliveries)
 are_packets channel [] each = tt
 are_packets channel (d ∷ deliveries) each = (each.0.delivered.is_packet, are_packets channel deliveries each.1)
 
-each_due : (views : List TmView) (from n : ℕ) → AllByRecursion (AllByRecursion IsDeliverable) (map (λ vc. without_idle (packets_on views vc)) (range_with_len from n))
+each_due : (views : List TmView) (from n : ℕ) → AllByRecursion (AllByRecursion IsDeliverable) (map (λ vc. without_idle (packets_of_channel views vc)) (range_with_len from n))
 each_due views from zero = tt
 each_due views from (suc n) =
     let channel = channel_of from views in (
-      without_idle_due (packets_on views from) (are_packets channel (deliveries_of channel) (each_is_delivery channel)),
+      without_idle_due (packets_of_channel views from) (are_packets channel (deliveries_of channel) (each_is_delivery channel)),
       each_due views (from + 1) n,
     )
 

@@ -18,7 +18,7 @@ use Rattle.sl_tmflow.specs.Channel.{views_of, channel_of}
 use Rattle.sl_tmflow.specs.Delivery.{deliveries_of, packets_delivered}
 use Rattle.sl_tmflow.specs.NormalForm.{with_filling, filling, data_field_of, first_of, IsLeastStart, channel_frame, channel_frames, frames_from_channel, normal_form}
 use Rattle.sl_tmflow.specs.PacketStart.{packet_offsets}
-use Rattle.sl_tmflow.specs.Recording.{packets_on, virtual_channels}
+use Rattle.sl_tmflow.specs.Recording.{packets_of_channel, virtual_channels}
 use Rattle.sl_tmflow.proofs.lemmas.Form.CutDelivery.{all_delivered}
 use Rattle.sl_tmflow.proofs.lemmas.Form.CutView.{views_from}
 use Rattle.sl_fields.proofs.ListLemmas.{each-append, each-weaker, filter_all, filter_none}
@@ -84,9 +84,9 @@ module _ (format : TmFormat) (spacecraft vc mc : ℕ) (packets : List (List ℕ)
   frames_each : (P : List ℕ → Type 0) → EachFrameIs format spacecraft P → (many number : ℕ) → number + many ≤ count → AllByRecursion P (frames number many)
   frames_each P each zero number inside = tt
   frames_each P each (suc many) number inside = (
-      each vc ((mc + number) % 256) (number % 256) (first_of room number (packet_offsets 0 packets [])) (data_field_of room number (concat packets))
-      (frame_fits number (omega (arith, inside))),
-      frames_each P each many (number + 1) (omega (arith, inside)),
+    each vc ((mc + number) % 256) (number % 256) (first_of room number (packet_offsets 0 packets [])) (data_field_of room number (concat packets))
+        (frame_fits number (omega (arith, inside))),
+    frames_each P each many (number + 1) (omega (arith, inside)),
   )
 
   frames_back : (many number : ℕ) → number + many ≤ count → views_of format spacecraft (frames number many) ≡ views_from room vc mc packets number many
@@ -200,7 +200,7 @@ module _ (format : TmFormat) (spacecraft : ℕ) (is : IsFormat format) (fits : s
   -- the packets of each virtual channel from one on, after the frames of lower ones
   form_lists : (lists : List (List (List ℕ))) (vc mc : ℕ) (before : List TmView) → vc + length lists ≤ 8 → AllByRecursion (AllByRecursion IsDeliverable) lists
       → AllByRecursion (λ view. view.vc < vc) before
-      → map (λ v. without_idle (packets_on (before ++ form_views vc mc lists) v)) (range_with_len vc (length lists)) ≡ lists
+      → map (λ v. without_idle (packets_of_channel (before ++ form_views vc mc lists) v)) (range_with_len vc (length lists)) ≡ lists
   form_lists [] vc mc before inside each low = refl
   form_lists (packets ∷ lists) vc mc before inside each low =
       let own = channel_views format vc mc packets in
@@ -215,9 +215,9 @@ module _ (format : TmFormat) (spacecraft : ℕ) (is : IsFormat format) (fits : s
       each-append (λ view. view.vc < vc + 1) before own (each-weaker (λ view. view.vc < vc) (λ view. view.vc < vc + 1) (λ view below. omega arith) before low)
       (each-weaker (λ view. view.vc ≡ vc) (λ view. view.vc < vc + 1) (λ view is_it. omega arith) own same) in
       ap₂ (λ ps pss. ps ∷ pss)
-      (ap (λ l. without_idle (packets_on (before ++ l) vc)) parts ∙ ap (λ l. without_idle (packets_delivered (deliveries_of l))) here
+      (ap (λ l. without_idle (packets_of_channel (before ++ l) vc)) parts ∙ ap (λ l. without_idle (packets_delivered (deliveries_of l))) here
       ∙ channel_delivers format spacecraft vc mc packets is fits fit each.0)
-      (ap (λ l. map (λ v. without_idle (packets_on l v)) (range_with_len (vc + 1) (length lists))) (ap (λ l. before ++ l) parts ∙ sym (append_assoc before own rest))
+      (ap (λ l. map (λ v. without_idle (packets_of_channel l v)) (range_with_len (vc + 1) (length lists))) (ap (λ l. before ++ l) parts ∙ sym (append_assoc before own rest))
       ∙ form_lists lists (vc + 1) next (before ++ own) fit_rest each.1 passed)
 
 pub is_frames : NormalFormIsFrames
@@ -242,6 +242,6 @@ delivers format spacecraft lists is fits due =
     let frames = frames_from_channel format spacecraft 0 0 lists in
     let delimited : tm_frames_of format.len (normal_form format spacecraft lists) ≡ frames =
     only_frames format.len (normal_form format spacecraft lists) frames [] (let least = is.least in omega arith) (is_frames format spacecraft lists is fits due) in
-    ap (λ fs. map (λ vc. without_idle (packets_on (views_of format spacecraft fs) vc)) virtual_channels) delimited
-    ∙ ap (λ n. map (λ vc. without_idle (packets_on (views_of format spacecraft frames) vc)) (range_with_len 0 n)) (sym eight)
+    ap (λ fs. map (λ vc. without_idle (packets_of_channel (views_of format spacecraft fs) vc)) virtual_channels) delimited
+    ∙ ap (λ n. map (λ vc. without_idle (packets_of_channel (views_of format spacecraft frames) vc)) (range_with_len 0 n)) (sym eight)
     ∙ form_lists format spacecraft is fits lists 0 0 [] (omega arith) due.each tt

@@ -12,7 +12,7 @@ use Rattle.std.proofs.Math.Seq.{drop-append_seam, drop-cons}
 use Rattle.sl_packet.specs.IdlePacket.{idle_packet}
 use Rattle.sl_tmframe.specs.PacketFrame.{field_room_of}
 use Rattle.sl_tmframe.specs.TmFrame.{TmFormat}
-use Rattle.sl_tmflow.specs.FormLeft.{FormProgress, IsPending, IsLeft, IsAllMade, AddsPiece, start_in, fields_in, beyond_fields, channel_packets, filled_packets, passed, HasMore, HasPackets, packets_in, packets_left}
+use Rattle.sl_tmflow.specs.FormLeft.{FormProgress, IsPending, IsLeft, IsAllMade, AddsPiece, start_in, fields_in, beyond_fields, channel_packets, filled_packets, passed, HasMore, HasPackets, packet_count, packets_left}
 use Rattle.sl_tmflow.specs.NormalForm.{with_filling, filling, fill_of, channel_frame, channel_frames, frames_from_channel}
 use Rattle.sl_packet.specs.Packet.{IsPacket}
 use Rattle.sl_tmflow.proofs.lemmas.Incomplete.List.{stated_packet_len-most}
@@ -349,7 +349,7 @@ longest_packet packet is = let len = is.len in let most = stated_packet_len-most
 
 pub fewer_after : (s : FormProgress) (packet : List ℕ) → s.vc < length (take 8 s.lists) → s.taken ≤ length (channel_packets s) → packets_left (after_packet s packet (s.taken + 1)) < packets_left s
 fewer_after s packet inside some =
-    let here = ap packets_in (drop-cons (take 8 s.lists) s.vc [] inside) in
+    let here = ap packet_count (drop-cons (take 8 s.lists) s.vc [] inside) in
     omega (arith, here)
 
 -- fewer pieces are left after the packet that fills up
@@ -362,6 +362,6 @@ fewer_filled s left packet taken wide short few some beyond inside is l =
 
 pub no_more_after : (s : FormProgress) → s.vc < length (take 8 s.lists) → s.taken ≤ length (channel_packets s) + 1 → packets_left (next_channel s) ≤ packets_left s
 no_more_after s inside some =
-    let here = ap packets_in (drop-cons (take 8 s.lists) s.vc [] inside) in
-    let next = ap (λ n. packets_in (drop n (take 8 s.lists))) (add-one s.vc) in
+    let here = ap packet_count (drop-cons (take 8 s.lists) s.vc [] inside) in
+    let next = ap (λ n. packet_count (drop n (take 8 s.lists))) (add-one s.vc) in
     omega (arith, here, next)

@@ -18,7 +18,7 @@ use Rattle.sl_tmframe.specs.TmDelimited.{tm_frames_of}
 use Rattle.sl_tmframe.specs.TmFrame.{TmView}
 use Rattle.sl_tmflow.specs.Channel.{views_of}
 use Rattle.sl_tmflow.specs.Extraction as extracted
-use Rattle.sl_tmflow.specs.Recording.{packets_on, virtual_channels}
+use Rattle.sl_tmflow.specs.Recording.{packets_of_channel, virtual_channels}
 use Rattle.sl_link.specs.declared.verbs.packets.printer.ChannelKind.TheVariants.{VirtualChannel, Map}
 use Rattle.sl_link.specs.Deliver.Tm as tm_deliver
 use Rattle.sl_link.specs.Deliver.Tc as tc_deliver
@@ -44,7 +44,7 @@ abbrev tm_ended : List TmView → TmView → List (List ℕ)
 tm_ended views view = without_idle (extracted.ended_by views view)
 
 abbrev tm_on : List TmView → ℕ → List (List ℕ)
-tm_on views vc = without_idle (packets_on views vc)
+tm_on views vc = without_idle (packets_of_channel views vc)
 
 tm_delivered : AreDelivered tm_at tm_ended tm_on
 tm_delivered =

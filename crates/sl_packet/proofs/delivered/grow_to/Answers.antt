@@ -2,7 +2,7 @@ use Rattle.std.proofs.Common.{◌≤◌, arith, length}
 use Rattle.std.proofs.lemmas.List.{length-map}
 use Rattle.sl_packet.specs.KeptLists.{lists_in}
 use Rattle.sl_packet.proofs.KeptLemmas.{reached_more, none_added}
-use Rattle.sl_packet.proofs.delivered.reach.Goals as goal
+use Rattle.sl_packet.proofs.delivered.grow_to.Goals as goal
 
 pub loop-alloc-preserved : goal.loop-alloc-preserved
 loop-alloc-preserved c =

@@ -1,6 +1,6 @@
 use Rattle.std.proofs.Common.{arith}
 use Rattle.sl_packet.proofs.CountLemmas.{packets_within}
-use Rattle.sl_tmflow.proofs.handing.hand.Goals as goal
+use Rattle.sl_tmflow.proofs.hand_over.hand.Goals as goal
 
 pub overflow_cast-step : goal.overflow_cast-step
 overflow_cast-step g c = omega (arith, packets_within c.args.octets.now, c.in-Ok.ensures.packets, c.requires.short)

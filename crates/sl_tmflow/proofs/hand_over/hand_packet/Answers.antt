@@ -1,5 +1,5 @@
 use Rattle.std.proofs.Common.{◌∙◌, [], ◌∷◌, Bool, not, if◌then◌else◌, refl, sym, ap}
-use Rattle.sl_tmflow.proofs.handing.hand_packet.Goals as goal
+use Rattle.sl_tmflow.proofs.hand_over.hand_packet.Goals as goal
 
 -- the sink refuses the only packet
 pub returns-in-Err-clause-hands_over : goal.returns-in-Err-clause-hands_over

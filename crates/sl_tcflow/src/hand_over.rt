@@ -5,7 +5,7 @@ ghost use Rattle.sl_packet.specs.Stopping.{HandsOver};
 ghost use Rattle.sl_tcflow.specs.NextSegment.{unit_report};
 ghost use Rattle.sl_tcflow.specs.StepReport.{counts_of};
 
-use crate::step::{QUIET, TcStep};
+use crate::report::{EMPTY_STEP, TcStep};
 use sl_packet::{FlowFault, PacketSink, hand_over};
 
 /// Hands the sink the packets at the front of a service data unit.
@@ -23,7 +23,7 @@ pub fn hand<S: PacketSink>(sink: &mut S, channel: u16, octets: &[u8]) -> Result<
             packets: handed.packets as u32,
             idle: handed.idle as u32,
             tail: handed.remainder.len() as u32,
-            ..QUIET
+            ..EMPTY_STEP
         }),
         Err(fault) => Err(FlowFault::Sink(fault)),
     }

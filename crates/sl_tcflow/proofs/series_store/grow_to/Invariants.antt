@@ -1,7 +1,7 @@
 use Rattle.std.proofs.Common.{◌≡◌, ◌+◌, ◌-◌, ℕ}
 use Rattle.std.specs.Vec.{vec_len}
 use Rattle.sl_tcflow.specs.Placed.{at}
-use Rattle.sl_tcflow.proofs.series_store.reach.Given as goal
+use Rattle.sl_tcflow.proofs.series_store.grow_to.Given as goal
 
 abbrev pub invariant-loop-alloc : goal.invariant-loop-alloc
 invariant-loop-alloc l = (other : ℕ) → at l.list.items other ≡ at l.initial.list.items other

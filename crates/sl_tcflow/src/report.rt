@@ -18,7 +18,7 @@ pub struct TcStep {
 }
 
 /// The report on an accepted frame whose unit ends no service data unit and has no anomaly.
-pub(crate) const QUIET: TcStep = TcStep {
+pub(crate) const EMPTY_STEP: TcStep = TcStep {
     verdict: Verdict::Accept,
     packets: 0,
     idle: 0,

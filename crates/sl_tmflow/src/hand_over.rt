@@ -5,7 +5,7 @@ ghost use Rattle.sl_packet.specs.Packets.{packets_of, rest_of};
 ghost use Rattle.sl_packet.specs.Stopping.{HandsOver};
 ghost use Rattle.sl_tmflow.specs.StepReport.{counts_of};
 
-use crate::step::{NOTHING, TmStep};
+use crate::report::{EMPTY_STEP, TmStep};
 use sl_packet::{FlowFault, PacketSink, hand_over, is_idle};
 
 /// Hands the sink a packet, unless the packet is idle.
@@ -22,12 +22,15 @@ pub(crate) fn hand_packet<S: PacketSink>(
     ensures not_memory { IfErr result (λ flow. flow ≢ FlowFault.Memory) }
 {
     if is_idle(packet) {
-        return Ok(TmStep { idle: 1, ..NOTHING });
+        return Ok(TmStep {
+            idle: 1,
+            ..EMPTY_STEP
+        });
     }
     match sink.packet(vc, packet) {
         Ok(()) => Ok(TmStep {
             packets: 1,
-            ..NOTHING
+            ..EMPTY_STEP
         }),
         Err(fault) => Err(FlowFault::Sink(fault)),
     }
@@ -56,7 +59,7 @@ pub(crate) fn hand<'a, S: PacketSink>(
             let step = TmStep {
                 packets: handed.packets as u32,
                 idle: handed.idle as u32,
-                ..NOTHING
+                ..EMPTY_STEP
             };
             Ok((step, handed.remainder))
         }

@@ -52,7 +52,16 @@ Exit status:
   3  reading or writing failed, the recording is too long, or there was no memory
 ";
 
-/// Runs the program over its words, of which the first is its own name, and returns its exit status.
+/// Runs the program over its words, the first of them its own name, and returns its exit status, 0 to 3:
+///
+/// - 0: the recording was read and the output written, and a check met no anomaly; or help or the version was
+///   written;
+/// - 1: all was read and written, and a check met anomalies;
+/// - 2: the words or a managed parameter are refused, and nothing was read or written;
+/// - 3: reading or writing failed, the recording has more octets than the limit, or memory was refused.
+///
+/// `errors` gets the reason for status 2 or 3 in one line, or the lines in which the command line refuses the words,
+/// as far as it takes them. Its own failures change no status.
 pub fn run<R: Read, W: Write, E: Write>(
     alloc: Global,
     words: &[String],

@@ -1,5 +1,6 @@
 -- The managed parameters of a link, and which of them are refused.
-use Rattle.std.specs.Prelude.{ℕ, ◌%◌, ◌==◌, nat_lt, Bool, not, ◌||◌, if◌then◌else◌, List, Result, Ok, Err}
+use Rattle.std.specs.Prelude.{◌≡◌, ℕ, ◌%◌, ◌==◌, nat_lt, Bool, not, ◌||◌, if◌then◌else◌, List, Result, Ok, Err}
+use Rattle.sl_cop.specs.Starts.{AreStarts}
 use Rattle.sl_link.specs.declared.link.managed.ManagedFault.{ManagedFault}
 use Rattle.sl_link.specs.declared.link.managed.ManagedFault.TheVariants.{Spacecraft, TmLength, TcLength, Window, Limit}
 use Rattle.sl_fields.specs.Shape.{is_outside}
@@ -30,6 +31,11 @@ managed_of p =
     else if (p.window == 0) || not (p.window % 2 == 0) then Err Window
     else if p.max_octets == 0 then Err Limit
     else Ok p
+
+-- managed parameters that aren't refused, with an initial V(R) of one octet for each of the 64 virtual channels
+pub record AreAccepted (p : Parameters) : Type 0 where
+  pub allowed : managed_of p ≡ Ok p
+  pub starts : AreStarts p.starts
 
 -- the managed format of the TM frames
 abbrev pub tm_format : Parameters → TmFormat

@@ -1,6 +1,5 @@
--- A `Managed` is its parameters, none of which is refused.
-use Rattle.std.specs.Prelude.{◌≡◌, Ok}
-use Rattle.sl_link.specs.Link.Managed.{Parameters, managed_of, tc_format, tm_format}
+-- A `Managed` stands for its parameters. None of them is refused.
+use Rattle.sl_link.specs.Link.Managed.{AreAccepted, Parameters, tc_format, tm_format}
 use Rattle.sl_link.specs.declared.link.managed.Managed.TheInside.{Inside}
 
 abbrev pub parameters_of : Inside → Parameters
@@ -18,7 +17,7 @@ parameters_of m =
     }
 
 abbrev pub IsManaged : Inside → Type 0
-IsManaged m = managed_of (parameters_of m) ≡ Ok (parameters_of m)
+IsManaged m = AreAccepted (parameters_of m)
 
 abbrev pub inside_of : Parameters → Inside
 inside_of p =

@@ -1,14 +1,8 @@
 -- What normal forms tell of the packets of recordings, under one and the same managed parameters.
-use Rattle.std.specs.Prelude.{◌≡◌, ◌↔◌, ℕ, List, Ok}
-use Rattle.sl_cop.specs.Starts.{AreStarts}
-use Rattle.sl_link.specs.Link.Managed.{Parameters, managed_of}
+use Rattle.std.specs.Prelude.{◌≡◌, ◌↔◌, ℕ, List}
+use Rattle.sl_link.specs.Link.Managed.{AreAccepted, Parameters}
 use Rattle.sl_link.specs.Normalise.Tc.{tc_normal_form, tc_packets}
 use Rattle.sl_link.specs.Normalise.Tm.{tm_normal_form, tm_packets}
-
--- Managed parameters that aren't refused, with V(R), one octet, of each virtual channel
-pub record AreAccepted (p : Parameters) : Type 0 where
-  pub allowed : managed_of p ≡ Ok p
-  pub starts : AreStarts p.starts
 
 -- The normal form of a recording delivers the packets that the recording delivers. So two normal forms are equal
 -- octet for octet exactly where the recordings deliver the same packets, and a normal form is its own normal form.

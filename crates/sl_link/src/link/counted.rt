@@ -1,8 +1,9 @@
 //! A stream that counts its faults.
 use std::io::{self, Read, Write};
 
-/// A reader or a writer, and the number of its faults: the errors that it answered, and the writes that
-/// took none of one or more octets. The number stops at 2^64 - 1.
+/// A reader or a writer that counts its faults: each error that it answers, and each write that takes none of one or
+/// more octets. The count stops at 2^64 - 1. Every call is handed on to the stream, and its answer comes back
+/// unchanged; an interrupted call is an error like any other.
 #[derive(Drop)]
 pub struct Counted<T> {
     stream: T,
@@ -13,7 +14,7 @@ impl<T> Counted<T> {
     ghost use Rattle.std.specs.Prelude.{◌≡◌};
     ghost use Rattle.sl_link.specs.Link.Counted.{stream_of, faults_of};
 
-    /// The stream, with no faults yet.
+    /// The stream, with a count of 0.
     pub fn new(stream: T) -> Counted<T>
         ensures stream { stream_of result ≡ stream }
         ensures faults { faults_of result ≡ 0 }
@@ -21,7 +22,7 @@ impl<T> Counted<T> {
         Counted { stream, faults: 0 }
     }
 
-    /// How many faults there were.
+    /// The count of faults.
     pub fn faults(&self) -> u64
         ensures { result ≡ faults_of self.now }
     {
@@ -46,11 +47,12 @@ impl<R: Read> Read for Counted<R> {
 
     ghost remaining = { λ c. R.remaining (stream_of c) };
 
+    /// Reads from the stream. An error counts as a fault.
     fn read(&mut self, buf: &mut [u8]) -> io::Result<usize>
         ensures bound { ReadsAtMost result buf.new }
         ensures bytes { ReadConsumes (R.remaining (stream_of self.old))
             (R.remaining (stream_of self.new)) result buf.new }
-        // An error is one fault more, and nothing else is.
+        // An error counts as one fault, and nothing else does.
         ensures count { faults_of self.new ≡ (if is_err result then one_more (faults_of self.old)
             else faults_of self.old) }
     {
@@ -71,11 +73,12 @@ impl<W: Write> Write for Counted<W> {
 
     ghost contents = { λ c. W.contents (stream_of c) };
 
+    /// Writes to the stream. An error counts as a fault, and so does a write that takes none of one or more octets.
     fn write(&mut self, buf: &[u8]) -> io::Result<usize>
         ensures bound { WritesAtMost result buf.now }
         ensures bytes { WriteAppends (W.contents (stream_of self.old))
             (W.contents (stream_of self.new)) result buf.now }
-        // An error is one fault more, as is a write that took none of one or more octets.
+        // An error counts as one fault, and so does a write that takes none of one or more octets.
         ensures count { faults_of self.new ≡ (if is_write_fault result buf.now
             then one_more (faults_of self.old) else faults_of self.old) }
     {
@@ -90,9 +93,10 @@ impl<W: Write> Write for Counted<W> {
         outcome
     }
 
+    /// Flushes the stream. An error counts as a fault.
     fn flush(&mut self) -> io::Result<()>
         ensures bytes { Keeps (W.contents (stream_of self.old)) (W.contents (stream_of self.new)) }
-        // An error is one fault more, and nothing else is.
+        // An error counts as one fault, and nothing else does.
         ensures count { faults_of self.new ≡ (if is_err result then one_more (faults_of self.old)
             else faults_of self.old) }
     {

@@ -55,11 +55,20 @@ impl Model for Managed {
 }
 
 impl Managed {
-    ghost use Rattle.sl_link.specs.Link.Managed.{managed_of};
+    ghost use Rattle.sl_link.specs.Link.Managed.{AreAccepted, managed_of};
 
-    /// The parameters, or the first of them that is refused: `spacecraft` 0 to 1023, `tm_length` 32 to
-    /// 2048 octets, `tc_max` 16 to 1024 octets, `window` even and not 0, `max_octets` not 0. Each virtual channel of TC
-    /// frames begins with V(R) `vr`, and its frames have segment headers.
+    /// The parameters, or the first of them that is refused:
+    ///
+    /// - `spacecraft`, the spacecraft identifier, 0 to 1023;
+    /// - `tm_length`, the octets of each TM frame (CCSDS 132.0-B), 32 to 2048, and `tm_fecf`, whether the last two of
+    ///   them are a frame error control field;
+    /// - `tc_max`, the octets of the longest TC frame (CCSDS 232.0-B), 16 to 1024, and `tc_fecf`, whether the last two
+    ///   octets of each TC frame are a frame error control field;
+    /// - `window`, the width of FARM-1's sliding window (CCSDS 232.1-B), even, 2 to 254;
+    /// - `vr`, V(R) of each virtual channel of TC frames before its first frame, 0 to 255;
+    /// - `max_octets`, how many octets of a recording may be read, 1 or more.
+    ///
+    /// The frames of each virtual channel of TC frames have segment headers.
     pub fn new(
         spacecraft: u16,
         tm_length: u16,
@@ -111,14 +120,25 @@ impl Managed {
         })
     }
 
-    /// The same, but for the virtual channels of TC frames without segment headers: they are these.
+    /// The spacecraft identifier, 0 to 1023.
+    ///
+    /// Every `Managed` meets the premise of the [`laws`](crate::laws): none of its parameters is refused, and the
+    /// initial V(R) of each virtual channel is one octet.
+    pub fn spacecraft(&self) -> u16
+        ensures value { result ≡ self.now.spacecraft }
+        ensures accepted { AreAccepted self.now }
+    {
+        self.spacecraft
+    }
+
+    /// These parameters, with `plain` as the virtual channels of TC frames whose frames have no segment headers.
     pub fn with_plain(self, plain: VcSet) -> Managed
         ensures { result ≡ record self { plain = plain } }
     {
         Managed { plain, ..self }
     }
 
-    /// The same, but for V(R) of each virtual channel of TC frames before its first frame: it is that of `starts`.
+    /// These parameters, with the V(R) of `starts` for each virtual channel of TC frames before its first frame.
     pub fn with_starts(self, starts: Starts) -> Managed
         ensures { result ≡ record self { starts = starts } }
     {

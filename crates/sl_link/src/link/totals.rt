@@ -61,7 +61,7 @@ impl Totals {
         self.rest
     }
 
-    /// The delivered packets, idle ones left out. It is 0 where frames alone are listed.
+    /// The delivered packets, idle packets left out. The count is 0 where the engine lists frames alone.
     pub fn packets(&self) -> u64
         ensures value { result ≡ self.now.packets }
         ensures within { result ≤ self.now.octets }
@@ -69,7 +69,7 @@ impl Totals {
         self.packets
     }
 
-    /// The delivered idle packets. It is 0 where frames alone are listed.
+    /// The delivered idle packets. The count is 0 where the engine lists frames alone.
     pub fn idle(&self) -> u64
         ensures value { result ≡ self.now.idle }
         ensures within { result ≤ self.now.octets }
@@ -77,7 +77,7 @@ impl Totals {
         self.idle
     }
 
-    /// The anomalies that were reported. It is 0 but after a check.
+    /// The reported anomalies. The count is 0 except after a check.
     pub fn anomalies(&self) -> u64
         ensures value { result ≡ self.now.anomalies }
         ensures within { result ≤ self.now.octets }

@@ -13,7 +13,7 @@ read_recording-requires-clause-begun g c = (
   refl,
   subst (λ (q : Parameters). HasKeptTc q [] c.new.result c.new-2.result c.new-3.result.lists) (sym c.managed.view_is) (none_kept c.args.managed.now c.new.result c.new-2.result c.new-3.result.lists
       (none_delivered c.args.managed.now c.new.result c.new-2.result
-      (subst (λ (p : Parameters). HasProcessed (reception_of p) c.new.result []) c.managed.view_is c.new.ensures)
+      (subst (λ (p : Parameters). HasProcessed (reception_of p) c.new.result []) c.managed.view_is c.new.ensures.processed)
       (record { octets = c.new-2.ensures.octets; frames = c.new-2.ensures.frames; skipped = c.new-2.ensures.skipped })
       c.new-2.ensures.packets c.new-2.ensures.idle)
       c.new-2.ensures.anomalies c.new-3.ensures.lists),

@@ -9,7 +9,7 @@ use Rattle.sl_link.proofs.normalise.tm.deliver.Goals as goal
 pub read_recording-requires-clause-begun : goal.read_recording-requires-clause-begun
 read_recording-requires-clause-begun g c = (
   refl,
-  subst (λ (q : Parameters). HasKeptTm q [] c.new.result c.new-2.result c.new-3.result.lists) (sym c.managed.view_is) (none_kept c.args.managed.now c.new.result c.new-2.result c.new-3.result.lists c.new.ensures
+  subst (λ (q : Parameters). HasKeptTm q [] c.new.result c.new-2.result c.new-3.result.lists) (sym c.managed.view_is) (none_kept c.args.managed.now c.new.result c.new-2.result c.new-3.result.lists c.new.ensures.processed
       (record { octets = c.new-2.ensures.octets; frames = c.new-2.ensures.frames; skipped = c.new-2.ensures.skipped })
       c.new-2.ensures.packets c.new-2.ensures.idle c.new-2.ensures.anomalies c.new-3.ensures.lists),
 )

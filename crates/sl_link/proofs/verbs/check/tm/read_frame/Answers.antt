@@ -23,7 +23,7 @@ returns-clause-within c =
     let seen : as_read c.args.managed.now c.args.frame.now ≡ Ok c.in-Ok.view = search rules in
     let views = c.requires.working.0 in
     let processed = c.requires.working.1 in
-    let range = managed_length (parameters_of c.managed.inside) c.managed.invariant in
+    let range = managed_length (parameters_of c.managed.inside) c.managed.invariant.allowed in
     let long : 7 ≤ length c.args.frame.now = omega (arith, range.0, c.requires.one_frame, ap (λ (p : Parameters). p.tm_length) c.managed.view_is) in
     let all = counts_within (tm_format c.args.managed.now) c.args.managed.now.spacecraft c.args.frame.now views long in
     let tells = c.in_ok-report.ensures.counts views processed in
@@ -32,12 +32,12 @@ returns-clause-within c =
 
 pub returns-clause-few : goal.returns-clause-few
 returns-clause-few c =
-    let range = managed_length (parameters_of c.managed.inside) c.managed.invariant in
+    let range = managed_length (parameters_of c.managed.inside) c.managed.invariant.allowed in
     omega (arith, range.0, c.requires.one_frame, ap (λ (p : Parameters). p.tm_length) c.managed.view_is, c.in_ok-report.ensures.few)
 
 pub returns-in-Err-clause-few : goal.returns-in-Err-clause-few
 returns-in-Err-clause-few c =
-    let range = managed_length (parameters_of c.managed.inside) c.managed.invariant in
+    let range = managed_length (parameters_of c.managed.inside) c.managed.invariant.allowed in
     omega (arith, range.0, c.requires.one_frame, ap (λ (p : Parameters). p.tm_length) c.managed.view_is)
 
 pub returns-in_err-report-clause-memory : goal.returns-in_err-report-clause-memory

@@ -8,7 +8,7 @@ pub list-requires-clause-begun : goal.list-requires-clause-begun
 list-requires-clause-begun g c =
     record {
       delivered = none_delivered c.args.managed.now _ _
-          (subst (λ (p : Parameters). HasProcessed (reception_of p) c.new.result []) c.managed.view_is c.new.ensures)
+          (subst (λ (p : Parameters). HasProcessed (reception_of p) c.new.result []) c.managed.view_is c.new.ensures.processed)
           (record { octets = c.new-2.ensures.octets; frames = c.new-2.ensures.frames; skipped = c.new-2.ensures.skipped })
           c.new-2.ensures.packets c.new-2.ensures.idle;
       no_anomalies = c.new-2.ensures.anomalies;

@@ -12,7 +12,7 @@ pub numbers_never_fall : NumbersNeverFall
 numbers_never_fall =
     record {
       none = tt;
-      rising = (omega arith, omega arith, omega arith, tt);
+      rising = (omega arith, (omega arith, (omega arith, tt)));
       below_the_least = λ fall. let low = fall.0 in omega (arith, low);
       falling = λ fall. let low = fall.1.0 in omega (arith, low);
     }

@@ -4,6 +4,7 @@ ghost use Rattle.sl_link.specs.Normalise.Tm.{tm_normal_form, tm_packets};
 ghost use Rattle.sl_link.specs.Normalise.Tc.{tc_normal_form, tc_packets};
 
 use super::support::recordings::{TC_FRAME, TM_FRAME};
+use sl_link::laws::{tc_normal_forms_tell_packets, tm_normal_forms_tell_packets};
 use sl_link::{Counted, LinkFault, Managed, ManagedFault, normalise_tc, normalise_tm};
 use std::alloc::Global;
 use std::test::Fail;
@@ -21,6 +22,32 @@ fn have_same_tm_packets(
     let form = tm_form(alloc, managed, one)?;
     let other_form = tm_form(alloc, managed, other)?;
     Ok(form.as_slice() == other_form.as_slice())
+}
+
+// Whether two TM recordings deliver the same packets on each virtual channel, idle ones left out, by the law of normal forms alone,
+// under parameters that a caller lends.
+fn tell_tm_packets(
+    alloc: Global,
+    managed: &Managed,
+    one: &[u8],
+    other: &[u8],
+) -> Result<bool, LinkFault>
+    ensures { IfOk result (λ same. IsTrue same
+        ↔ (tm_packets managed.now one.now ≡ tm_packets managed.now other.now)) }
+{
+    let form = written_tm_form(alloc, managed, one)?;
+    let other_form = written_tm_form(alloc, managed, other)?;
+    // For the proof alone: the parameters meet the premise of the law, and the law.
+    let _ = managed.spacecraft();
+    tm_normal_forms_tell_packets();
+    Ok(form.as_slice() == other_form.as_slice())
+}
+
+// The normal form of a TM recording, and nothing else of it.
+fn written_tm_form(alloc: Global, managed: &Managed, recording: &[u8]) -> Result<Vec<u8>, LinkFault>
+    ensures { IfOk result (λ form. form.items ≡ tm_normal_form managed.now recording.now) }
+{
+    tm_form(alloc, managed, recording)
 }
 
 // Whether a TM recording normalised twice is that normalised once: it is.
@@ -58,6 +85,32 @@ fn have_same_tc_packets(
     let form = tc_form(alloc, managed, one)?;
     let other_form = tc_form(alloc, managed, other)?;
     Ok(form.as_slice() == other_form.as_slice())
+}
+
+// Whether two TC recordings deliver the same packets on each virtual channel and MAP, idle ones left out, by the law of normal forms alone,
+// under parameters that a caller lends.
+fn tell_tc_packets(
+    alloc: Global,
+    managed: &Managed,
+    one: &[u8],
+    other: &[u8],
+) -> Result<bool, LinkFault>
+    ensures { IfOk result (λ same. IsTrue same
+        ↔ (tc_packets managed.now one.now ≡ tc_packets managed.now other.now)) }
+{
+    let form = written_tc_form(alloc, managed, one)?;
+    let other_form = written_tc_form(alloc, managed, other)?;
+    // For the proof alone: the parameters meet the premise of the law, and the law.
+    let _ = managed.spacecraft();
+    tc_normal_forms_tell_packets();
+    Ok(form.as_slice() == other_form.as_slice())
+}
+
+// The normal form of a TC recording, and nothing else of it.
+fn written_tc_form(alloc: Global, managed: &Managed, recording: &[u8]) -> Result<Vec<u8>, LinkFault>
+    ensures { IfOk result (λ form. form.items ≡ tc_normal_form managed.now recording.now) }
+{
+    tc_form(alloc, managed, recording)
 }
 
 // Whether a TC recording normalised twice is that normalised once: it is.
@@ -105,7 +158,7 @@ fn link() -> Result<Managed, ManagedFault> {
     Managed::new(1, 32, false, 16, false, 10, 0, 100)
 }
 
-// What the four say, without their contracts.
+// What these say, without their contracts.
 fn same_tm(alloc: Global, managed: &Managed, other: &[u8]) -> Result<bool, LinkFault> {
     have_same_tm_packets(alloc, managed, &TM_FRAME, other)
 }
@@ -122,6 +175,14 @@ fn own_tc(alloc: Global, managed: &Managed) -> Result<bool, LinkFault> {
     is_tc_form_its_own(alloc, managed, &TC_BYPASSING)
 }
 
+fn told_tm(alloc: Global, managed: &Managed, other: &[u8]) -> Result<bool, LinkFault> {
+    tell_tm_packets(alloc, managed, &TM_FRAME, other)
+}
+
+fn told_tc(alloc: Global, managed: &Managed, other: &[u8]) -> Result<bool, LinkFault> {
+    tell_tc_packets(alloc, managed, &TC_FRAME, other)
+}
+
 #[test]
 fn callers_tell_packets_by_normal_forms(rt: HostRuntime) -> Result<(), Fail> {
     let alloc = rt.alloc();
@@ -132,5 +193,10 @@ fn callers_tell_packets_by_normal_forms(rt: HostRuntime) -> Result<(), Fail> {
     assert_eq!(rt; same_tc(alloc, &managed, &TC_BYPASSING), Ok(true));
     assert_eq!(rt; same_tc(alloc, &managed, &TC_OTHER), Ok(false));
     assert_eq!(rt; own_tc(alloc, &managed), Ok(true));
+    assert_eq!(rt; told_tm(alloc, &managed, &TM_FILLED), Ok(true));
+    assert_eq!(rt; told_tm(alloc, &managed, &TM_OTHER), Ok(false));
+    assert_eq!(rt; told_tc(alloc, &managed, &TC_BYPASSING), Ok(true));
+    assert_eq!(rt; told_tc(alloc, &managed, &TC_OTHER), Ok(false));
+    assert_eq!(rt; managed.spacecraft(), 1);
     Ok(())
 }

@@ -75,6 +75,15 @@ refuses() {
   [[ $(cat "$log/errors") == $line ]] || complain "$*: it said '$(cat "$log/errors")' and not '$line'"
 }
 
+# goes_away COMMAND..: whoever reads its output has gone; it ends with status 2, says nothing and leaves nothing behind
+goes_away() {
+  run python3 -c 'import os, subprocess, sys
+reader, writer = os.pipe()
+os.close(reader)
+sys.exit(subprocess.run(sys.argv[1:], stdout=writer, check=False).returncode)' "$@"
+  expect "$*: the reader goes away" "2 " "$status $(cat "$log/errors")"
+}
+
 # refuses_options COMMAND..: a tool, with all its words but options: what it makes of wrong options, of a program that isn't
 # there, of a standard output that is full, and its help. The first recording is also on the standard input, as a path.
 refuses_options() {
@@ -84,9 +93,16 @@ refuses_options() {
   refuses "$called: sllink: *--scid*" "${words[@]}" < /dev/null
   refuses "$called: sllink: *--spare*" "${words[@]}" --scid 1 --spare < /dev/null
   refuses "$called: sllink: *--scid*" "${words[@]}" --scid 1 --scid 1 < /dev/null
-  refuses "$called: sllink: *65536*" "${words[@]}" --scid 65536 < /dev/null
-  refuses "$called: sllink: managed: tm length" "${words[@]}" --scid 1 --tm-length 31 < /dev/null
-  refuses "$called: *sllink: too long" "${words[@]}" --scid 1 --limit 100 < <(echo $first)
+  refuses "$called: sllink: *--tm-lenght*" "${words[@]}" --scid 1 --tm-lenght 32 < /dev/null
+  local option
+  for option in --scid=0x2A7 --scid=1024 --scid=70000; do
+    refuses "$called: sllink: *; --scid takes a decimal number from 0 to 1023" "${words[@]}" $option < /dev/null
+  done
+  for option in --tm-length=31 --tm-length=70000 --tc-length=15 --window=3 --vr=256 --vr-of=5:57,0:3 --vr-of=5=57 \
+    --plain=5-7 --limit=1G --limit=0; do
+    refuses "$called: sllink: *; ${option%%=*} takes *" "${words[@]}" --scid 1 $option < /dev/null
+  done
+  refuses "$called: *sllink: too long; *--limit" "${words[@]}" --scid 1 --limit 100 < <(echo $first)
   SLLINK=$room/none refuses "$called: $room/none: *" "${words[@]}" --scid 1 < /dev/null
   SLLINK=$room refuses "$called: $room: *" "${words[@]}" --scid 1 < /dev/null
   refuses "$called: *$called tm|tc *" "${tool[@]}" < /dev/null
@@ -96,6 +112,8 @@ refuses_options() {
   runs=$((runs + 1))
   "${words[@]}" "${tm[@]}" < <(echo $first) > /dev/full 2> "$log/errors"
   expect "$called, full device" "2 1" "$? $(wc -l < "$log/errors")"
+  goes_away "${words[@]}" "${tm[@]}" < <(echo $first)
+  goes_away "${words[@]}" --help < /dev/null
 }
 
 # stops COMMAND..: a tool, with all its words but options, is told to stop while sllink runs: it ends with status 2 and

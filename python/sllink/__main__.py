@@ -3,17 +3,18 @@ comes next.
 
     python3 -m sllink tm|tc RECORDING --scid N [OPTION..]
 
-The options are those of sllink. Status: 0; 2 with one line on the standard error, where the recording can't be read or
-sllink refuses something or stops. The program is $SLLINK, else `sllink` on the PATH, else the one that is built in the
+The options are those of sllink. Status: 0; 1 with one line on the standard error where no packet is delivered, since an
+option may be wrong; 2 with one line where the recording can't be read or sllink refuses something or stops. The program is $SLLINK, else `sllink` on the PATH, else the one that is built in the
 repository.
 """
 
 from typing import List
 
 from . import counts, packets
-from .tool import Refused, run
+from .tool import Refused, about, complain, run, shown
 
-USAGE = "usage: python3 -m sllink tm|tc RECORDING --scid N [OPTION..]"
+NAME = "python3 -m sllink"
+USAGE = f"usage: {NAME} tm|tc RECORDING --scid N [OPTION..]"
 
 
 def main(words: List[str]) -> int:
@@ -22,10 +23,14 @@ def main(words: List[str]) -> int:
         return 0
     if len(words) < 2 or words[0] not in ("tm", "tc") or words[1].startswith("-"):
         raise Refused(USAGE)
-    for count in counts(packets(words[0], words[1], words[2:])):
+    with about(words[1]):
+        found = counts(packets(words[0], words[1], words[2:]))
+    for count in found:
         print(count)
-    return 0
+    if not found:
+        complain(NAME, f"{shown(words[1])}: delivers no packet; are the options right? sllink-identify says what it is")
+    return 0 if found else 1
 
 
 if __name__ == "__main__":
-    run("python3 -m sllink", main)
+    run(NAME, main)

@@ -1,6 +1,7 @@
 """The program as a child: where it is, what it is given, and what it says."""
 
 import os
+import re
 import shutil
 import subprocess
 import threading
@@ -12,6 +13,21 @@ HERE = os.path.dirname(os.path.realpath(__file__))
 BUILT = os.path.normpath(os.path.join(HERE, "../../crates/sllink/out/sllink"))
 INSTALLED = os.path.normpath(os.path.join(HERE, "../../../../bin/sllink"))
 MOST_SAID = 65536                                            # octets that are kept of what the program says
+BLOCK = 1 << 20                                              # octets of lines that are read together
+
+# What the options of the program take, and the names that it has for their values.
+TAKEN = {
+    "--scid": "a decimal number from 0 to 1023",
+    "--tm-length": "a decimal number from 32 to 2048",
+    "--tc-length": "a decimal number from 16 to 1024",
+    "--window": "an even decimal number from 2 to 254",
+    "--vr": "a decimal number from 0 to 255",
+    "--vr-of": "rising virtual channels, each with its V(R), as in 0:12,5:57",
+    "--plain": "rising virtual channels, as in 5,6",
+    "--limit": "a decimal number of octets, 1 or more",
+}
+MANAGED = {"spacecraft": "--scid", "tm length": "--tm-length", "tc length": "--tc-length", "window": "--window",
+           "limit": "--limit", "plain": "--plain", "start": "--vr-of"}
 
 Recording = Union[str, bytes, "os.PathLike[str]", "os.PathLike[bytes]", int, BinaryIO]
 Program = Optional[Union[str, "os.PathLike[str]"]]
@@ -39,6 +55,15 @@ def find_program(program: Program = None) -> str:
     if program is not None:
         return os.fspath(program)
     return os.environ.get("SLLINK") or shutil.which("sllink") or (INSTALLED if os.path.exists(INSTALLED) else BUILT)
+
+
+def explained(reason: str) -> str:
+    """What the program says, and after it what the option takes that it refuses."""
+    if reason == "too long":
+        return f"{reason}; the recording has more octets than --limit"
+    found = re.match(r"managed: (?P<value>.+)|invalid value .* for '(?P<option>--[a-z-]+)", reason)
+    option = found and (found["option"] or MANAGED.get(found["value"]))
+    return f"{reason}; {option} takes {TAKEN[option]}" if option in TAKEN else reason
 
 
 class Child:
@@ -110,12 +135,12 @@ class Child:
         if self._fault is not None:
             raise self._fault
         if status not in (0, 1):
-            said = self._said.decode(errors="backslashreplace").split("\n\n")[0]
-            reason = " ".join(said.split())
+            first, *rest = (" ".join(part.split()) for part in self._said.decode(errors="backslashreplace").split("\n\n"))
+            reason = "; ".join([first, *(part for part in rest if part.startswith("tip: "))])
             for before in ("error: ", "sllink: "):
                 if reason.startswith(before):
                     reason = reason[len(before):]
-            raise SllinkError(status, f"sllink: {reason or 'status ' + str(status)}")
+            raise SllinkError(status, f"sllink: {explained(reason) or 'status ' + str(status)}")
 
     def stop(self) -> None:
         """Ends the program where it is."""
@@ -138,5 +163,21 @@ def lines(verb: str, kind: str, recording: Recording, options: Words, *,
             if line.endswith(b"\n"):                         # else it is cut off, and the status tells why
                 yield line[:-1].decode("ascii")
         child.end()
+    finally:
+        child.stop()
+
+
+def blocks(verb: str, kind: str, recording: Recording, options: Words) -> Generator[bytes, None, None]:
+    """The lines of a listing, with their line feeds, many of them together."""
+    child = Child(verb, kind, recording, options)
+    try:
+        rest = b""
+        for octets in iter(lambda: child.output.read(BLOCK), b""):
+            end = octets.rfind(b"\n") + 1
+            if end:
+                yield rest + octets[:end]
+                rest = b""
+            rest += octets[end:]
+        child.end()                                          # a rest is cut off, and the status tells why
     finally:
         child.stop()

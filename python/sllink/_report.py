@@ -1,16 +1,14 @@
 """A page of a pass: of one recording, or of two and what each of them lacks."""
 
-import contextlib
 import hashlib
-from typing import Dict, Iterator, List, Sequence, Tuple
+from typing import Dict, List, Sequence, Tuple
 
 from ._page import Table, facts, figure, folded, heading, listing, page, paragraph, verdict
 from ._picture import Picture
-from ._program import SllinkError
 from ._survey import MOST_LINES, MOST_LOCKOUTS, Survey
 from ._tally import MOST_RUNS, Difference, Key, Missing, Tally
 from ._verdict import number_of, questions, said, said_of_two
-from .tool import Refused, shown
+from .tool import about, shown
 
 MEANINGS = {
     "skip fecf": "frame skipped: its frame error control field is wrong",
@@ -49,17 +47,6 @@ class Recording:
         self.digest = digest_of(path)
         self.survey.require_unchanged()
         self.name = self.survey.name
-
-
-@contextlib.contextmanager
-def about(path: str) -> Iterator[None]:
-    """Puts the name of the recording before what the program says, but where it refuses options."""
-    try:
-        yield
-    except SllinkError as error:
-        if error.status in (2, 127):
-            raise
-        raise Refused(f"{shown(path)}: {error.text}") from None
 
 
 def digest_of(path: str) -> str:

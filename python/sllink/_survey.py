@@ -6,10 +6,11 @@ short one.
 
 import collections
 import os
+import re
 from collections import defaultdict
-from typing import Counter, Dict, List, NamedTuple, Optional, Sequence, Set, Tuple
+from typing import Counter, Dict, Iterator, List, NamedTuple, Optional, Sequence, Tuple
 
-from ._program import lines
+from ._program import blocks
 from .tool import Refused, require_file, shown
 
 BINS = 480                                                # stretches of a recording, in which frames are counted
@@ -21,6 +22,18 @@ ABOUT = 3                                                 # lines that are kept 
 NOT_READ = 64                                             # the row of skipped frames
 FLAGS = {"Lockout flag": 1 << 13, "Retransmit flag": 1 << 11}   # of the CLCW
 FLAGGED = sum(FLAGS.values())
+CELLED = {"opaque", "early", "late", "outside", "refused"}   # words of `check` that are seen in the cells
+
+# A line of `check`: its word, and the reason or the channel. OFFSET skip REASON | OFFSET WORD vc V .. | OFFSET rest N
+CHECKED = re.compile(rb"\d+ (\w+ (?:vc )?\w+)[^\n]*\n")
+GAP = re.compile(rb" gap (vc \d+) expected (\d+) found (\d+)\n")
+REST = re.compile(rb"(\d+) rest (\d+)\n")
+# OFFSET frame vc V mc M vcc C CLASS [POINTER] [clcw DIGITS ..]
+SHOWN_TM = re.compile(rb" frame vc (\d) mc \d+ vcc \d+ (\w+)")
+CLCW = re.compile(rb" frame vc (\d)[^\n]* clcw (\w+) ")
+SHOWN_TC = re.compile(rb" frame ([^\n]*)\n")
+OFFSET_TC = re.compile(rb"(\d+) frame [^\n]*\n")
+MOST_KNOWN = 1 << 15                                      # lines of `show tc` that are kept without their offsets
 
 
 class Cell(NamedTuple):
@@ -33,12 +46,63 @@ class Cell(NamedTuple):
     line: str
 
 
+def cell_of(kind: str, line: str) -> Cell:
+    """A line of `show` as a cell."""
+    words = line.split(" ", 9)
+    start, what = int(words[0]), words[1]
+    if what != "frame":
+        return Cell(NOT_READ, what, words[2], start, line)
+    if kind == "tm":
+        return Cell(int(words[3]), words[8], words[7], start, line)
+    it, content = Command.of(line.partition(" frame ")[2]), words[4]
+    return Cell(it.row, it.what, f"{content} {it.number}" if content in ("ad", "setvr") else content, start, line)
+
+
+class Command(NamedTuple):
+    """A TC frame, without its offset: its channel, what FARM-1 makes of it (`bypass` for an accepted one of type BD),
+    its N(S) or V(R), the CLCW after it, and the flags in that."""
+
+    row: int
+    what: str
+    number: str
+    digits: str
+    flags: int
+
+    @staticmethod
+    def of(line: str) -> "Command":
+        """What follows the offset in a line: frame vc V CONTENT [NUMBER] .. VERDICT clcw DIGITS"""
+        words = line.split()
+        what = "bypass" if words[2] == "bd" and words[-3] == "accept" else words[-3]
+        return Command(int(words[1]), what, words[3], words[-1], int(words[-1], 16) & FLAGGED)
+
+
+class Commands(Dict[bytes, int]):
+    """TC frames by their lines without offsets, of which the same ones come often. Each has a number, which is its place
+    in `known`."""
+
+    def __init__(self) -> None:
+        super().__init__()
+        self.known: List[Command] = []
+
+    def __missing__(self, line: bytes) -> int:
+        self[line] = number = len(self.known)
+        self.known.append(Command.of(line.decode()))
+        return number
+
+    def numbers(self, piece: bytes) -> List[int]:
+        """The frames in lines of `show tc`. Numbers of frames before them are no longer right."""
+        if len(self.known) > MOST_KNOWN:
+            self.clear()
+            self.known = []
+        return list(map(self.__getitem__, SHOWN_TC.findall(piece)))
+
+
 class Mark:
     """Anomalies of one kind in one stretch of a channel: how many, the frames lost in them, the first lines."""
 
     __slots__ = ("offset", "number", "lost", "lines")
 
-    def __init__(self, offset: int) -> None:
+    def __init__(self, offset: int = 0) -> None:
         self.offset, self.number, self.lost = offset, 0, 0
         self.lines: List[str] = []
 
@@ -51,11 +115,11 @@ class Gaps:
     def __init__(self) -> None:
         self.number = self.lost = self.of_255 = 0
 
-    def add(self, lost: int) -> None:
-        """One more gap."""
-        self.number += 1
-        self.lost += lost
-        self.of_255 += lost == 255
+    def add(self, lost: int, times: int) -> None:
+        """Gaps of one size."""
+        self.number += times
+        self.lost += lost * times
+        self.of_255 += (lost == 255) * times
 
 
 class Lockout:
@@ -78,11 +142,10 @@ class Reports:
         self.number, self.first, self.last = 0, word, word
         self.flags: Dict[int, int] = defaultdict(int)     # by the flags that are set
 
-    def add(self, word: int) -> None:
-        """One more CLCW."""
-        self.number += 1
-        self.last = word
-        self.flags[word & 0xF800] += 1
+    def add(self, word: int, times: int) -> None:
+        """CLCWs that are the same."""
+        self.number += times
+        self.flags[word & 0xF800] += times
 
     def having(self, flag: str) -> int:
         """How many have this flag set."""
@@ -115,7 +178,8 @@ class Survey:
         self.reports: Dict[Tuple[int, int], Reports] = {}
         self._begun: Dict[Tuple[int, str], int] = {}
         self._locked: Dict[int, Lockout] = {}
-        self._flagged: Set[int] = set()                   # the channels of which a flag is set
+        self._flags: Dict[int, int] = defaultdict(int)    # those of FARM-1 that are set, by channel
+        self._commands = Commands()
         self._show()
         self.require_unchanged()
 
@@ -140,113 +204,127 @@ class Survey:
         """The stretch in which an offset lies, where the recording is divided into this number."""
         return min(offset * stretches // max(self.size, 1), stretches - 1)
 
+    def _divided(self, block: bytes, stretches: int) -> Iterator[Tuple[int, bytes]]:
+        """The lines of a block by the stretch in which their offsets lie. Offsets don't fall."""
+        start, size = 0, max(self.size, 1)                # a recording that grows may be empty at first
+        while start < len(block):
+            stretch = self.place(offset_at(block, start), stretches)
+            end = len(block)
+            if stretch < stretches - 1:
+                end = line_from(block, start, -(-(stretch + 1) * size // stretches))
+            yield stretch, block[start:end]
+            start = end
+
     def _check(self) -> None:
-        for line in lines("check", self.kind, self.recording, self.options):
-            words = line.split(" ", 8)
-            if words[0] == "frames":
-                self.frames, self.skipped, self.packets, self.idle = map(int, words[1:8:2])
-                continue
+        for block in blocks("check", self.kind, self.recording, self.options):
+            last = block.rfind(b"\n", 0, -1) + 1
+            if block.startswith(b"frames ", last):
+                self.frames, self.skipped, self.packets, self.idle = map(int, block[last:].split()[1:8:2])
+                block = block[:last]
             if len(self.first_lines) < MOST_LINES:
-                self.first_lines.append(line)
-            self._anomaly(words, line)
+                self.first_lines += block.decode().splitlines()[:MOST_LINES - len(self.first_lines)]
+            for spot, piece in self._divided(block, SPOTS):
+                self._anomalies(spot, piece)
 
-    def _anomaly(self, words: List[str], line: str) -> None:
-        what = words[1]
-        self.anomalies[what] += 1
-        if what == "skip":
-            self.reasons[words[2]] += 1
-        elif what == "rest":
-            self.rest = int(words[0]), int(words[2])
-        elif what not in ("opaque", "early", "late", "outside", "refused"):    # these are seen in the cells
-            self._mark(what, int(words[0]), int(words[3]), words, line)
-
-    def _mark(self, what: str, offset: int, row: int, words: List[str], line: str) -> None:
-        marks, spot = self.marks[row, what], self.place(offset, SPOTS)
-        mark = marks.get(spot) or marks.setdefault(spot, Mark(offset))
-        mark.number += 1
-        if len(mark.lines) < ABOUT:
-            mark.lines.append(line)
-        if what == "gap":
-            lost = (int(words[7]) - int(words[5])) % 256
-            mark.lost += lost
-            self.gaps[row].add(lost)
+    def _anomalies(self, spot: int, piece: bytes) -> None:
+        """Adds lines of `check` that lie in one stretch."""
+        found = CHECKED.findall(piece)
+        wanted: Dict[bytes, Mark] = {}
+        for key, times in collections.Counter(found).items():
+            what, *_, of = key.decode().split()
+            self.anomalies[what] += times
+            if what == "skip":
+                self.reasons[of] += times
+            elif what == "rest":
+                offset, octets = REST.findall(piece)[-1]
+                self.rest = int(offset), int(octets)
+            elif what not in CELLED:
+                mark = self.marks[int(of), what].setdefault(spot, Mark())
+                mark.number += times
+                if len(mark.lines) < ABOUT:
+                    wanted[key] = mark
+        if wanted:
+            keep_lines(wanted, found, piece)
+        gaps = GAP.findall(piece) if b" gap " in piece else []
+        for (channel, expected, count), times in collections.Counter(gaps).items():
+            row, lost = int(channel[3:]), (int(count) - int(expected)) % 256
+            self.marks[row, "gap"][spot].lost += lost * times
+            self.gaps[row].add(lost, times)
 
     def _show(self) -> None:
-        if self.kind == "tm":
-            self._show_tm()
-        else:
-            self._show_tc()
+        add = self._add_tm if self.kind == "tm" else self._add_tc
+        for block in blocks("show", self.kind, self.recording, self.options):
+            if self.is_short():
+                self.cells += [cell_of(self.kind, line) for line in block.decode().splitlines()]
+            for stretch, piece in self._divided(block, BINS):
+                skipped = piece.count(b" skip ")
+                if skipped:
+                    self.bins[NOT_READ, "skip"][stretch] += skipped
+                add(stretch, piece)
         for (row, flag), start in self._begun.items():
             self._bar(row, flag, start, self.size)
 
-    def _show_tm(self) -> None:
-        short = self.is_short()
-        for line in lines("show", self.kind, self.recording, self.options):
-            words = line.split(" ", 12)
-            if words[1] != "frame":
-                self._unread(words, line)
-                continue
-            # OFFSET frame vc V mc M vcc C CLASS [POINTER] [clcw DIGITS ..]
-            row, what = int(words[3]), words[8]
-            self._count(row, what, int(words[0]))
-            if " clcw " in line:
-                self._report(row, words[10 + (what == "first")])
-            if short:
-                self.cells.append(Cell(row, what, words[7], int(words[0]), line))
+    def _add_tm(self, stretch: int, piece: bytes) -> None:
+        """Adds lines of `show tm` that lie in one stretch."""
+        for (row, what), times in collections.Counter(SHOWN_TM.findall(piece)).items():
+            self.bins[int(row), what.decode()][stretch] += times
+        words = CLCW.findall(piece) if b" clcw " in piece else []
+        for (row, digits), times in collections.Counter(words).items():
+            word = int(digits, 16)
+            key = int(row), word >> 18 & 63
+            (self.reports.get(key) or self.reports.setdefault(key, Reports(word))).add(word, times)
+        last: Dict[Tuple[int, int], int] = {}
+        for row, digits in dict.fromkeys(reversed(words)):
+            word = int(digits, 16)
+            last.setdefault((int(row), word >> 18 & 63), word)
+        for key, word in last.items():
+            self.reports[key].last = word
 
-    def _show_tc(self) -> None:
-        short = self.is_short()
-        for line in lines("show", self.kind, self.recording, self.options):
-            words = line.split(" ")
-            if words[1] != "frame":
-                self._unread(words, line)
-                continue
-            # OFFSET frame vc V CONTENT.. VERDICT clcw DIGITS
-            row, content, verdict, word = int(words[3]), words[4], words[-3], words[-1]
-            what = "bypass" if verdict == "accept" and content == "bd" else verdict
-            self._count(row, what, int(words[0]))
-            if word[4] != "0" or word[5] > "7" or row in self._flagged:
-                self._flags(int(words[0]), row, verdict, words[5], int(word, 16))
-            self.farms[row] = word
-            if short:
-                text = f"{content} {words[5]}" if content in ("ad", "setvr") else content
-                self.cells.append(Cell(row, what, text, int(words[0]), line))
-
-    def _unread(self, words: List[str], line: str) -> None:
-        """A skipped frame, or what is left after the last one."""
-        if words[1] == "skip":
-            self._count(NOT_READ, "skip", int(words[0]))
-        if self.is_short():
-            self.cells.append(Cell(NOT_READ, words[1], words[2], int(words[0]), line))
-
-    def _count(self, row: int, what: str, start: int) -> None:
-        place = start * BINS // (self.size or 1)
-        self.bins[row, what][place if place < BINS else BINS - 1] += 1
-
-    def _report(self, row: int, digits: str) -> None:
-        word = int(digits, 16)
-        key = row, word >> 18 & 63
-        reports = self.reports.get(key) or self.reports.setdefault(key, Reports(word))
-        reports.add(word)
-
-    def _flags(self, start: int, row: int, verdict: str, number: str, word: int) -> None:
-        if word & FLAGGED:
-            self._flagged.add(row)
+    def _add_tc(self, stretch: int, piece: bytes) -> None:
+        """Adds lines of `show tc` that lie in one stretch."""
+        numbers, known = self._commands.numbers(piece), self._commands.known
+        changes = False                                   # of flags, and lockouts
+        refused: List[Tuple[int, int]] = []
+        for number, times in collections.Counter(numbers).items():
+            it = known[number]
+            self.bins[it.row, it.what][stretch] += times
+            changes = changes or it.flags != self._flags[it.row] or it.what == "outside"
+            if it.what == "refused":
+                refused.append((it.row, times))
+        last = {known[number].row: known[number].digits for number in reversed(dict.fromkeys(reversed(numbers)))}
+        self.farms.update(last)
+        if changes:
+            self._follow([known[number] for number in numbers], piece)
         else:
-            self._flagged.discard(row)
+            for row, times in refused:
+                self._locked[row].refused += times
+
+    def _follow(self, commands: Sequence[Command], piece: bytes) -> None:
+        """Follows the flags of FARM-1, frame by frame."""
+        now = self._flags
+        for it, start in zip(commands, OFFSET_TC.findall(piece)):
+            if it.what == "outside":
+                self._lockout(it.row, int(start), it.number)
+            elif it.what == "refused":
+                self._locked[it.row].refused += 1
+            if it.flags != now[it.row]:
+                self._change(it.row, int(start), now[it.row], it.flags)
+                now[it.row] = it.flags
+
+    def _lockout(self, row: int, start: int, number: str) -> None:
+        self._locked[row] = Lockout(row, start, number)
+        self.lockouts_of[row] += 1
+        if len(self.lockouts) < MOST_LOCKOUTS:
+            self.lockouts.append(self._locked[row])
+
+    def _change(self, row: int, start: int, before: int, flags: int) -> None:
+        """Flags of a channel are set, or set no longer."""
         for flag, bit in FLAGS.items():
-            if word & bit:
-                self._begun.setdefault((row, flag), start)
-            elif (row, flag) in self._begun:
+            if flags & ~before & bit:
+                self._begun[row, flag] = start
+            elif before & ~flags & bit:
                 self._bar(row, flag, self._begun.pop((row, flag)), start)
-        if verdict == "outside":
-            self._locked[row] = Lockout(row, start, number)
-            self.lockouts_of[row] += 1
-            if len(self.lockouts) < MOST_LOCKOUTS:
-                self.lockouts.append(self._locked[row])
-        elif verdict == "refused":
-            self._locked[row].refused += 1
-        elif row in self._locked and not word & FLAGS["Lockout flag"]:
+        if before & ~flags & FLAGS["Lockout flag"]:
             self._locked.pop(row).end = start
 
     def _bar(self, row: int, flag: str, start: int, end: int) -> None:
@@ -261,3 +339,34 @@ def state_of(recording: str) -> Tuple[int, int]:
     """The size of a recording, and when it changed."""
     state = os.stat(recording)
     return state.st_size, state.st_mtime_ns
+
+
+def offset_at(block: bytes, start: int) -> int:
+    """The offset with which a line begins."""
+    return int(block[start:block.index(b" ", start)])
+
+
+def line_from(block: bytes, low: int, offset: int) -> int:
+    """Where the first line stands, from a line on, that has this offset or a greater one."""
+    high = len(block)
+    while low < high:
+        middle = block.rfind(b"\n", low, (low + high) // 2) + 1 or low
+        if offset_at(block, middle) < offset:
+            low = block.index(b"\n", middle) + 1
+        else:
+            high = middle
+    return low
+
+
+def keep_lines(wanted: Dict[bytes, Mark], found: Sequence[bytes], piece: bytes) -> None:
+    """Keeps the first lines of marks. `found` has the word and the channel of each line."""
+    for key, line in zip(found, piece.split(b"\n")):
+        if key in wanted:
+            mark = wanted[key]
+            if not mark.lines:
+                mark.offset = offset_at(line, 0)
+            mark.lines.append(line.decode())
+            if len(mark.lines) == ABOUT:
+                del wanted[key]
+                if not wanted:
+                    break

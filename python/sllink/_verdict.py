@@ -4,6 +4,7 @@ from typing import Any, List, Sequence
 
 from ._survey import Survey
 from ._tally import Difference, Tally
+from .tool import identified
 
 
 def number_of(number: int, what: str) -> str:
@@ -94,7 +95,10 @@ def questions(survey: Survey, tally: Tally) -> List[str]:
             asked.append(DISCARDED)
     if read and not tally.counts and not asked:
         asked.append("No packet is delivered. Are the options right?")
-    return [f"{it} {IDENTIFY}" if it == asked[-1] else it for it in asked]
+    if asked:
+        found = identified(survey.recording)
+        asked[-1] += f" sllink-identify says: {found}." if found else f" {IDENTIFY}"
+    return asked
 
 
 SKIPPED = {

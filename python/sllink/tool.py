@@ -3,13 +3,16 @@
 A tool's `main(words)` returns its status. It raises Refused with the reason where it can't do what is asked.
 """
 
+import contextlib
 import errno
 import io
 import os
+import shlex
 import signal
 import stat
+import subprocess
 import sys
-from typing import Any, Callable, List, NoReturn, Optional, Union
+from typing import Any, Callable, Iterator, List, NoReturn, Optional, Union
 
 from ._program import SllinkError
 
@@ -56,6 +59,48 @@ def help_of(text: Optional[str]) -> int:
     """Prints the help of a tool, which is its docstring; the status is 0."""
     print((text or "").strip())
     return 0
+
+
+@contextlib.contextmanager
+def about(recording: str) -> Iterator[None]:
+    """Says of which recording the program says something, but where it refuses options."""
+    try:
+        yield
+    except SllinkError as error:
+        if error.status in (2, 127):
+            raise
+        raise Refused(f"{shown(recording)}: {error.text}") from None
+
+
+def identified(recording: str) -> str:
+    """What the sllink-identify that lies beside this tool says of a recording, in some words; nothing where it can't
+    be asked."""
+    beside = os.path.join(os.path.dirname(os.path.realpath(sys.argv[0])), "sllink-identify")
+    try:
+        asked = subprocess.run([beside, "--", recording], stdin=subprocess.DEVNULL, stdout=subprocess.PIPE,
+                               stderr=subprocess.DEVNULL, check=False)
+    except OSError:
+        return ""
+    lines = os.fsdecode(asked.stdout).splitlines()
+    if asked.returncode not in (0, 1) or len(lines) < 2:
+        return ""
+    what, last = lines[0][len(shown(recording)) + 2:], lines[-1]
+    if last.startswith("sllink check "):
+        what += f", read with {last[13:].partition(' < ')[0]}"
+    telling = ("frames shift:", "the first frame isn't", "secondary header ", "virtual channel access ", "can't say: ")
+    return "; ".join([what, *(line for line in lines[1:] if line.startswith(telling))])
+
+
+def own_options(name: str, text: str) -> List[str]:
+    """The words of the options that an option of a tool has for one recording."""
+    try:
+        words = shlex.split(text)
+    except ValueError as error:
+        raise Refused(f"{name}: {error}") from None
+    asked = next((word for word in words if word in ("-h", "--help", "-V", "--version")), None)
+    if asked:
+        raise Refused(f"{name}: {asked} is no option for a recording")
+    return words
 
 
 def write(octets: bytes) -> None:

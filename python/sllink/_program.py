@@ -62,7 +62,7 @@ def explained(reason: str) -> str:
     if reason == "too long":
         return f"{reason}; the recording has more octets than --limit"
     found = re.match(r"managed: (?P<value>.+)|invalid value .* for '(?P<option>--[a-z-]+)", reason)
-    option = found and (found["option"] or MANAGED.get(found["value"]))
+    option = (found["option"] or MANAGED.get(found["value"], "")) if found else ""
     return f"{reason}; {option} takes {TAKEN[option]}" if option in TAKEN else reason
 
 

@@ -1,6 +1,7 @@
 //! FARM-1 on one virtual channel.
 ghost use Rattle.std.specs.Prelude.{◌≡◌, ◌≤◌, SomeIff};
-ghost use Rattle.sl_cop.specs.Farm.{FarmState, IsWidth, area_of, counted, farm_start, farm_step, verdict_in};
+ghost use Rattle.sl_cop.specs.Farm.{FarmState, IsWidth, area_of, counted, farm_start, farm_step};
+ghost use Rattle.sl_cop.specs.Farm.{verdict_in};
 ghost use Rattle.sl_cop.specs.FarmClcw.{clcw_of};
 
 use crate::farm_event::FarmEvent;
@@ -9,11 +10,11 @@ use crate::window::Window;
 use sl_fields::Clcw;
 use std::marker::Model;
 
-/// The frame acceptance and reporting mechanism (FARM-1) of CCSDS 232.1-B on one virtual channel, with
-/// buffers that are always free: the sliding window, and the state.
+/// The frame acceptance and reporting mechanism (FARM-1) of CCSDS 232.1-B on one virtual channel,
+/// with buffers that are always free: the sliding window, and the state.
 ///
-/// The state consists of the receiver frame sequence number V(R), the Lockout flag, the Retransmit flag and
-/// the FARM-B counter.
+/// The state consists of the receiver frame sequence number V(R), the Lockout flag, the Retransmit
+/// flag and the FARM-B counter.
 #[derive(Clone, Copy, Debug, PartialEq, Eq)]
 pub struct Farm {
     window: Window,
@@ -40,8 +41,8 @@ impl Model for Farm {
 impl Farm {
     ghost use Rattle.sl_cop.specs.Farm.{FarmView};
 
-    /// FARM-1 before its first frame: the open state, V(R) `vr`, 0 to 255, Retransmit flag 0 and FARM-B
-    /// counter 0. This first state is this project's choice.
+    /// FARM-1 before its first frame: the open state, V(R) `vr`, 0 to 255, Retransmit flag 0 and
+    /// FARM-B counter 0. This first state is this project's choice.
     pub fn new(window: Window, vr: u8) -> Farm
         ensures { let view : FarmView = record { window = window; state = farm_start vr } in
             result ≡ view }
@@ -56,8 +57,8 @@ impl Farm {
     }
 
     /// FARM-1 in a stored state, with the values that [`window`](Farm::window), [`vr`](Farm::vr),
-    /// [`lockout`](Farm::lockout), [`retransmit`](Farm::retransmit) and [`farm_b`](Farm::farm_b) read before.
-    /// `None` exactly where the FARM-B counter is over 3.
+    /// [`lockout`](Farm::lockout), [`retransmit`](Farm::retransmit) and [`farm_b`](Farm::farm_b)
+    /// read before. `None` exactly where the FARM-B counter is over 3.
     pub fn restore(
         window: Window,
         vr: u8,
@@ -85,15 +86,16 @@ impl Farm {
         })
     }
 
-    /// Takes the next frame of the virtual channel, as one case of the table of FARM-1 (CCSDS 232.1-B), and
-    /// answers the verdict on the frame. [`Verdict`] says what each verdict does to the state; the window
-    /// stays.
+    /// Takes the next frame of the virtual channel, as one case of the table of FARM-1 (CCSDS
+    /// 232.1-B), and answers the verdict on the frame. [`Verdict`] says what each verdict does to
+    /// the state; the window stays.
     ///
     /// - A frame of type BD increments the FARM-B counter, in either state.
-    /// - Unlock increments the FARM-B counter and resets the Retransmit and Lockout flags, in either state.
+    /// - Unlock increments the FARM-B counter and resets the Retransmit and Lockout flags, in
+    ///   either state.
     /// - Set V(R) increments the FARM-B counter. In the open state it also sets V(R) and resets the
-    ///   Retransmit flag. In the lockout state it changes nothing else; the increment in this state is this
-    ///   project's choice.
+    ///   Retransmit flag. In the lockout state it changes nothing else; the increment in this state
+    ///   is this project's choice.
     pub fn step(&mut self, event: FarmEvent) -> Verdict
         ensures verdict { result ≡ (farm_step self.old.window self.old.state event).0 }
         ensures state { self.new.state ≡ (farm_step self.old.window self.old.state event).1 }
@@ -118,8 +120,8 @@ impl Farm {
         }
     }
 
-    /// The receiver frame sequence number V(R), 0 to 255: the N(S) of the frame of type AD that is expected
-    /// next.
+    /// The receiver frame sequence number V(R), 0 to 255: the N(S) of the frame of type AD that is
+    /// expected next.
     pub fn vr(&self) -> u8
         ensures { result ≡ self.now.state.vr }
     {
@@ -133,15 +135,16 @@ impl Farm {
         self.lockout
     }
 
-    /// The Retransmit flag. The verdict [`Early`](Verdict::Early) sets it. An accepted frame of type AD,
-    /// Unlock, and Set V(R) in the open state reset it.
+    /// The Retransmit flag. The verdict [`Early`](Verdict::Early) sets it. An accepted frame of
+    /// type AD, Unlock, and Set V(R) in the open state reset it.
     pub fn retransmit(&self) -> bool
         ensures { result ≡ self.now.state.retransmit }
     {
         self.retransmit
     }
 
-    /// The FARM-B counter, 0 to 3. Each frame of type BD and each control command increments it, modulo 4.
+    /// The FARM-B counter, 0 to 3. Each frame of type BD and each control command increments it,
+    /// modulo 4.
     pub fn farm_b(&self) -> u8
         ensures value { result ≡ self.now.state.farm_b }
         ensures most { result ≤ 3 }
@@ -158,8 +161,8 @@ impl Farm {
         self.window
     }
 
-    /// The Communications Link Control Word (CCSDS 232.0-B) that reports the state, for the virtual channel
-    /// `vc`, 0 to 63. Its report value is V(R).
+    /// The Communications Link Control Word (CCSDS 232.0-B) that reports the state, for the virtual
+    /// channel `vc`, 0 to 63. Its report value is V(R).
     pub fn clcw(&self, vc: u8) -> Clcw
         requires { vc ≤ 63 }
         ensures { result ≡ clcw_of vc self.now.state }
@@ -212,8 +215,8 @@ impl Farm {
     }
 }
 
-// The verdict on a frame of type AD in the open state. Its N(S) is ahead of V(R) by `ahead`, modulo 256, and
-// each area of the window has a verdict.
+// The verdict on a frame of type AD in the open state. Its N(S) is ahead of V(R) by `ahead`, modulo
+// 256, and each area of the window has a verdict.
 fn open_verdict(window: Window, ahead: u8) -> Verdict
     ensures { result ≡ verdict_in (area_of window ahead) }
 {

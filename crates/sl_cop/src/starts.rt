@@ -1,12 +1,14 @@
 //! The V(R) with which FARM-1 of each virtual channel begins.
-ghost use Rattle.std.specs.Prelude.{◌≡◌, ◌≤◌, ℕ, List, IfSome, Some, replicate, slice_index_or, slice_set};
-ghost use Rattle.sl_cop.specs.Starts.{AreNamed, AreStarts, IsItem, Item, Lists, item_text, starts_over};
+ghost use Rattle.std.specs.Prelude.{◌≡◌, ◌≤◌, ℕ, List, IfSome, Some, replicate, slice_index_or};
+ghost use Rattle.std.specs.Prelude.{slice_set};
+ghost use Rattle.sl_cop.specs.Starts.{AreNamed, AreStarts, IsItem, Item, Lists, item_text};
+ghost use Rattle.sl_cop.specs.Starts.{starts_over};
 
 use sl_fields::read_decimal;
 use std::marker::Model;
 
-/// The initial V(R) of FARM-1, the receiver frame sequence number of CCSDS 232.1-B, for each of the 64
-/// virtual channels of TC frames: a list of 64 numbers, 0 to 255, by virtual channel identifier.
+/// The initial V(R) of FARM-1, the receiver frame sequence number of CCSDS 232.1-B, for each of the
+/// 64 virtual channels of TC frames: a list of 64 numbers, 0 to 255, by virtual channel identifier.
 ///
 /// A separate managed value for each virtual channel is this project's choice.
 #[derive(Clone, Copy, Debug, PartialEq, Eq)]
@@ -37,8 +39,8 @@ impl Starts {
         Starts { vrs: [vr; 64] }
     }
 
-    /// The same values with the initial V(R) `vr`, 0 to 255, for the virtual channel `vc`, 0 to 63. The other
-    /// virtual channels keep their values.
+    /// The same values with the initial V(R) `vr`, 0 to 255, for the virtual channel `vc`, 0 to 63.
+    /// The other virtual channels keep their values.
     pub fn with(&self, vc: u8, vr: u8) -> Starts
         requires { vc ≤ 63 }
         ensures value { result ≡ slice_set self.now vc vr }
@@ -58,11 +60,12 @@ impl Starts {
         self.vrs[usize::from(vc)]
     }
 
-    /// The same values with those that the text names. The other virtual channels keep their values.
+    /// The same values with those that the text names. The other virtual channels keep their
+    /// values.
     ///
-    /// The text is one or more items `v:x`, joined by single commas: a virtual channel `v`, 0 to 63, and its
-    /// V(R) `x`, 0 to 255, both in decimal without leading zeros. The virtual channels rise strictly. `None`
-    /// for any other text, also for the empty one.
+    /// The text is one or more items `v:x`, joined by single commas: a virtual channel `v`, 0 to
+    /// 63, and its V(R) `x`, 0 to 255, both in decimal without leading zeros. The virtual channels
+    /// rise strictly. `None` for any other text, also for the empty one.
     pub fn read(&self, text: &str) -> Option<Starts>
         ensures listed { IfSome result (λ starts. AreNamed 0 text.now self.now starts) }
         ensures every { (items : List Item) → Lists 0 text.now items → result
@@ -93,7 +96,8 @@ fn read_from(starts: &Starts, text: &str, least: u8) -> Option<Starts>
     }
 }
 
-// Reads an item: a virtual channel, `least` to 63, and its V(R), both in decimal with a colon between them.
+// Reads an item: a virtual channel, `least` to 63, and its V(R), both in decimal with a colon
+// between them.
 fn read_item(text: &str, least: u8) -> Option<(u8, u8)>
     ensures item { IfSome result (λ p. let item : Item = record { vc = p.0; vr = p.1 } in
         IsItem least item × (text.now ≡ item_text item)) }

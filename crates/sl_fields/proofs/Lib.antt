@@ -12,6 +12,8 @@ pub mod HeaderFacts
 pub mod HeaderLayout
 pub mod JoinedLemmas
 pub mod ListLemmas
+pub mod NeverFallFacts
+pub mod NeverFallLemmas
 pub mod Octets
 pub mod PacketHeaderLemmas
 pub mod Packing

@@ -5,6 +5,7 @@ pub mod FecfField
 pub mod FecfRegister
 pub mod FecfWords
 pub mod Field
+pub mod NeverFall
 pub mod PacketHeader
 pub mod PacketHeaderModel
 pub mod Remainder

@@ -22,7 +22,8 @@ pub fn flag(number: u64, below: u32) -> bool
     field(number, below, 1) == 1
 }
 
-/// The number in which the fields, each a width and a value, stand one after another, the first one highest.
+/// The number in which the fields, each a width and a value, stand one after another, the first one
+/// highest.
 #[inline(always)]
 pub fn pack(fields: &[(u32, u64)]) -> u64
     requires fit { FitWidths fields.now }

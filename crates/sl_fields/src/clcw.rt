@@ -41,8 +41,8 @@ impl Model for Clcw {
 }
 
 impl Clcw {
-    /// The word with these fields. `None` exactly where a field is out of the range of its bits: `word` 0 or
-    /// 1; `version`, `cop`, `spare` and `farm_b` 0 to 3; `status` 0 to 7; `vc` 0 to 63.
+    /// The word with these fields. `None` exactly where a field is out of the range of its bits:
+    /// `word` 0 or 1; `version`, `cop`, `spare` and `farm_b` 0 to 3; `status` 0 to 7; `vc` 0 to 63.
     pub fn new(
         word: u8,
         version: u8,
@@ -98,9 +98,9 @@ impl Clcw {
         })
     }
 
-    /// The word that reports the state of FARM-1 on the virtual channel `vc`, 0 to 63: control word type 0,
-    /// CLCW version 0, status 0, COP-1 in effect, spare bits 0, and the flags No RF Available, No Bit Lock
-    /// and Wait 0.
+    /// The word that reports the state of FARM-1 on the virtual channel `vc`, 0 to 63: control word
+    /// type 0, CLCW version 0, status 0, COP-1 in effect, spare bits 0, and the flags No RF
+    /// Available, No Bit Lock and Wait 0.
     ///
     /// `farm_b` is the FARM-B counter, 0 to 3, and `report` is V(R).
     pub fn of_farm(vc: u8, lockout: bool, retransmit: bool, farm_b: u8, report: u8) -> Clcw

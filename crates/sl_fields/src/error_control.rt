@@ -12,12 +12,12 @@ use crate::slices::SLICES;
 use crate::words::WORDS;
 use byteorder::{BigEndian, ByteOrder};
 
-/// The frame error control field of CCSDS 132.0-B and 232.0-B for these octets, which come before the field
-/// in their frame.
+/// The frame error control field of CCSDS 132.0-B and 232.0-B for these octets, which come before
+/// the field in their frame.
 ///
-/// The field is the remainder by the generator x^16 + x^12 + x^5 + 1, with the register preset to all ones.
-/// Each octet is taken from its most significant bit on, and the remainder isn't inverted. For no octets the
-/// field is 0xFFFF.
+/// The field is the remainder by the generator x^16 + x^12 + x^5 + 1, with the register preset to
+/// all ones. Each octet is taken from its most significant bit on, and the remainder isn't
+/// inverted. For no octets the field is 0xFFFF.
 #[inline(never)]
 pub fn fecf(octets: &[u8]) -> u16
     ensures { result ≡ fecf_of octets.now }
@@ -30,9 +30,9 @@ pub fn fecf(octets: &[u8]) -> u16
     number(after_octets(after_slices(preset, slices), rest))
 }
 
-/// Whether the octets end with their frame error control field (CCSDS 132.0-B and 232.0-B): the last two
-/// octets, the most significant first, are the field of the octets before them. False for fewer than three
-/// octets.
+/// Whether the octets end with their frame error control field (CCSDS 132.0-B and 232.0-B): the
+/// last two octets, the most significant first, are the field of the octets before them. False for
+/// fewer than three octets.
 pub fn fecf_good(octets: &[u8]) -> bool
     ensures { result ≡ fecf_is_good octets.now }
 {
@@ -43,8 +43,8 @@ pub fn fecf_good(octets: &[u8]) -> bool
     BigEndian::read_u16(field) == fecf(covered)
 }
 
-/// The frame error control field of these octets as two octets, the most significant first. The two octets
-/// stand after these octets in a frame.
+/// The frame error control field of these octets as two octets, the most significant first. The two
+/// octets stand after these octets in a frame.
 pub fn fecf_field(octets: &[u8]) -> [u8; 2]
     ensures { result ≡ fecf_octets octets.now }
 {
@@ -53,8 +53,8 @@ pub fn fecf_field(octets: &[u8]) -> [u8; 2]
     field
 }
 
-/// Leaves out the frame error control field, where frames have one (`has_fecf`). `octets` is a frame, or a
-/// frame from some offset on, and has two octets or more in this case.
+/// Leaves out the frame error control field, where frames have one (`has_fecf`). `octets` is a
+/// frame, or a frame from some offset on, and has two octets or more in this case.
 #[inline(always)]
 pub fn without_fecf(has_fecf: bool, octets: &[u8]) -> &[u8]
     requires { fecf_len has_fecf ≤ length octets.now }
@@ -101,8 +101,8 @@ fn after_octets(register: Register, octets: &[u8]) -> Register
     after
 }
 
-// The register after one more octet. The register is moved up by one octet, and the word of its first octet
-// plus the message's octet is added.
+// The register after one more octet. The register is moved up by one octet, and the word of its
+// first octet plus the message's octet is added.
 #[inline(always)]
 fn after_octet(register: Register, octet: u8) -> Register
     ensures { TakesIn register (octet ∷ []) result }
@@ -125,8 +125,8 @@ fn after_slices(register: Register, slices: &[[u8; 16]]) -> Register
     after
 }
 
-// The register after sixteen more octets: the sum of the words of all sixteen, with the register added to the
-// first two octets.
+// The register after sixteen more octets: the sum of the words of all sixteen, with the register
+// added to the first two octets.
 #[inline(always)]
 fn after_slice(register: Register, slice: &[u8; 16]) -> Register
     ensures { TakesIn register slice.now result }
@@ -136,8 +136,8 @@ fn after_slice(register: Register, slice: &[u8; 16]) -> Register
     halves(first ^ second ^ later_words(slice))
 }
 
-// The sum of the words that don't depend on the register: this sum can be computed before the register is
-// known.
+// The sum of the words that don't depend on the register: this sum can be computed before the
+// register is known.
 #[inline(always)]
 fn later_words(slice: &[u8; 16]) -> u16
     ensures { result ≡ words_sum (drop 2 slice.now) }

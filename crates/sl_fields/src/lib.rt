@@ -1,6 +1,6 @@
-//! The headers of CCSDS telemetry and telecommand links and of space packets, each as its fields and as its
-//! octets. Beside them stand the frame error control field, and the reading of a number of one octet from
-//! text.
+//! The headers of CCSDS telemetry and telecommand links and of space packets, each as its fields
+//! and as its octets. Beside them stand the frame error control field, and the reading of a number
+//! of one octet from text.
 //!
 //! A header consists of its fields alone. Every bit belongs to a field, the spare bits too. So
 //! [`write`](TmHeader::write) gives back the same octets that [`read`](TmHeader::read) took.

@@ -1,7 +1,8 @@
 //! The primary header of a space packet.
 ghost use Rattle.std.specs.Prelude.{◌≡◌, ℕ, ◌^◌, ◌<◌, ◌≤◌, List, length, SomeIff};
 ghost use Rattle.sl_fields.specs.Field.{IsOctets};
-ghost use Rattle.sl_fields.specs.PacketHeader.{PacketFields, packet_header, telemetry_header, FitsPacketHeader, packet_octets};
+ghost use Rattle.sl_fields.specs.PacketHeader.{PacketFields, packet_header, telemetry_header};
+ghost use Rattle.sl_fields.specs.PacketHeader.{FitsPacketHeader, packet_octets};
 
 use crate::bits::{field, flag, pack};
 use byteorder::{BigEndian, ByteOrder};
@@ -34,9 +35,9 @@ impl Model for PacketHeader {
 }
 
 impl PacketHeader {
-    /// The header with these fields. `None` exactly where a field is out of the range of its bits: `version`
-    /// 0 to 7, `kind` 0 or 1, `apid` 0 to 2047, `flags` 0 to 3, `count` 0 to 16,383. Any `length` is in
-    /// range.
+    /// The header with these fields. `None` exactly where a field is out of the range of its bits:
+    /// `version` 0 to 7, `kind` 0 or 1, `apid` 0 to 2047, `flags` 0 to 3, `count` 0 to 16,383. Any
+    /// `length` is in range.
     pub fn new(
         version: u8,
         kind: u8,
@@ -71,9 +72,9 @@ impl PacketHeader {
         })
     }
 
-    /// The header of an unsegmented telemetry packet without a secondary header: version 0 and sequence flags
-    /// 3. `apid` is 0 to 2047 and `count` 0 to 16,383; `length` is the octets of the packet data field minus
-    /// 1.
+    /// The header of an unsegmented telemetry packet without a secondary header: version 0 and
+    /// sequence flags 3. `apid` is 0 to 2047 and `count` 0 to 16,383; `length` is the octets of the
+    /// packet data field minus 1.
     pub fn of_telemetry(apid: u16, count: u16, length: u16) -> PacketHeader
         requires apid { apid ≤ 2047 }
         requires count { count ≤ 16383 }
@@ -90,7 +91,8 @@ impl PacketHeader {
         }
     }
 
-    /// Reads the header from its six octets. All octets are a header; a space packet's has version 0.
+    /// Reads the header from its six octets. All octets are a header; a space packet's has
+    /// version 0.
     pub fn read(octets: &[u8; 6]) -> PacketHeader
         ensures { result ≡ packet_header octets.now }
     {

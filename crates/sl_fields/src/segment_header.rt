@@ -1,7 +1,8 @@
 //! The segment header of a TC transfer frame.
 ghost use Rattle.std.specs.Prelude.{◌≡◌, ℕ, ◌^◌, ◌<◌, ◌≤◌, List, length, SomeIff};
 ghost use Rattle.sl_fields.specs.Field.{IsOctets};
-ghost use Rattle.sl_fields.specs.SegmentHeader.{SegmentFields, segment_header, sequence_flags, FitsSegmentHeader, segment_octets};
+ghost use Rattle.sl_fields.specs.SegmentHeader.{SegmentFields, segment_header, sequence_flags};
+ghost use Rattle.sl_fields.specs.SegmentHeader.{FitsSegmentHeader, segment_octets};
 
 use crate::bits::{field, pack};
 use byteorder::{BigEndian, ByteOrder};
@@ -29,8 +30,8 @@ impl Model for SegmentHeader {
 }
 
 impl SegmentHeader {
-    /// The header with these fields. `None` exactly where a field is out of the range of its bits: `flags` 0
-    /// to 3, `map` 0 to 63.
+    /// The header with these fields. `None` exactly where a field is out of the range of its bits:
+    /// `flags` 0 to 3, `map` 0 to 63.
     pub fn new(flags: u8, map: u8) -> Option<SegmentHeader>
         ensures { let fields : SegmentFields = record {
           flags = flags;
@@ -44,9 +45,9 @@ impl SegmentHeader {
         Some(SegmentHeader { flags, map })
     }
 
-    /// The header of a segment on the MAP `map`, 0 to 63. `first` and `last` say whether the segment is the
-    /// first one and the last one of its service data unit. A segment that is both has sequence flags 3, no
-    /// segmentation.
+    /// The header of a segment on the MAP `map`, 0 to 63. `first` and `last` say whether the
+    /// segment is the first one and the last one of its service data unit. A segment that is both
+    /// has sequence flags 3, no segmentation.
     pub fn of_segment(first: bool, last: bool, map: u8) -> SegmentHeader
         requires { map ≤ 63 }
         ensures { let fields : SegmentFields = record {

@@ -1,9 +1,10 @@
-//! The words of the octets of a slice, from which the frame error control field is computed slice by slice.
+//! The words of the octets of a slice, from which the frame error control field is computed slice
+//! by slice.
 
-/// A table for each place in a slice, the last octet's first; each table has the word of octet `n` at index
-/// `n`. The word is the remainder, without preset, by the generator x^16 + x^12 + x^5 + 1 of the octet's
-/// bits, zeros in place of the later octets, and sixteen zeros. Each table is the table before it with eight
-/// more zeros.
+/// A table for each place in a slice, the last octet's first; each table has the word of octet `n`
+/// at index `n`. The word is the remainder, without preset, by the generator x^16 + x^12 + x^5 + 1
+/// of the octet's bits, zeros in place of the later octets, and sixteen zeros. Each table is the
+/// table before it with eight more zeros.
 pub(crate) static SLICES: [[u16; 256]; 16] = [
     [
         0x0000, 0x1021, 0x2042, 0x3063, 0x4084, 0x50A5, 0x60C6, 0x70E7, 0x8108, 0x9129, 0xA14A,

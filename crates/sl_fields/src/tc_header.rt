@@ -35,8 +35,8 @@ impl Model for TcHeader {
 }
 
 impl TcHeader {
-    /// The header with these fields. `None` exactly where a field is out of the range of its bits: `version`
-    /// and `spare` 0 to 3, `spacecraft` and `length` 0 to 1023, `vc` 0 to 63.
+    /// The header with these fields. `None` exactly where a field is out of the range of its bits:
+    /// `version` and `spare` 0 to 3, `spacecraft` and `length` 0 to 1023, `vc` 0 to 63.
     pub fn new(
         version: u8,
         bypass: bool,
@@ -74,10 +74,11 @@ impl TcHeader {
         })
     }
 
-    /// The header of a frame of type AD: version 0, bypass flag 0, control command flag 0 and spare bits 0.
+    /// The header of a frame of type AD: version 0, bypass flag 0, control command flag 0 and spare
+    /// bits 0.
     ///
-    /// `spacecraft` is 0 to 1023 and `vc` 0 to 63. `length` is the octets of the frame minus 1, 0 to 1023.
-    /// `ns` is the frame sequence number N(S).
+    /// `spacecraft` is 0 to 1023 and `vc` 0 to 63. `length` is the octets of the frame minus 1, 0
+    /// to 1023. `ns` is the frame sequence number N(S).
     pub fn of_ad(spacecraft: u16, vc: u8, length: u16, ns: u8) -> TcHeader
         requires spacecraft { spacecraft ≤ 1023 }
         requires vc { vc ≤ 63 }
@@ -96,7 +97,8 @@ impl TcHeader {
         }
     }
 
-    /// Reads the header from its five octets. All octets are a header; a TC transfer frame's has version 0.
+    /// Reads the header from its five octets. All octets are a header; a TC transfer frame's has
+    /// version 0.
     pub fn read(octets: &[u8; 5]) -> TcHeader
         ensures { result ≡ tc_header octets.now }
     {

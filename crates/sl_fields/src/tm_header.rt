@@ -1,7 +1,8 @@
 //! The primary header of a TM transfer frame.
 ghost use Rattle.std.specs.Prelude.{◌≡◌, ℕ, ◌^◌, ◌<◌, ◌≤◌, List, length, SomeIff};
 ghost use Rattle.sl_fields.specs.Field.{IsOctets};
-ghost use Rattle.sl_fields.specs.TmHeader.{TmFields, tm_header, FitsTmHeader, packets_header, tm_octets};
+ghost use Rattle.sl_fields.specs.TmHeader.{TmFields, tm_header, FitsTmHeader, packets_header};
+ghost use Rattle.sl_fields.specs.TmHeader.{tm_octets};
 
 use crate::bits::{field, flag, pack};
 use byteorder::{BigEndian, ByteOrder};
@@ -38,8 +39,8 @@ impl Model for TmHeader {
 }
 
 impl TmHeader {
-    /// The header with these fields. `None` exactly where a field is out of the range of its bits: `version`
-    /// 0 to 3, `spacecraft` 0 to 1023, `vc` 0 to 7, `segment` 0 to 3, `first` 0 to 2047.
+    /// The header with these fields. `None` exactly where a field is out of the range of its bits:
+    /// `version` 0 to 3, `spacecraft` 0 to 1023, `vc` 0 to 7, `segment` 0 to 3, `first` 0 to 2047.
     pub fn new(
         version: u8,
         spacecraft: u16,
@@ -86,12 +87,12 @@ impl TmHeader {
         })
     }
 
-    /// The header of a frame of packets: version 0, no operational control field, no secondary header,
-    /// synchronisation flag 0, packet order flag 0 and segment length identifier 3.
+    /// The header of a frame of packets: version 0, no operational control field, no secondary
+    /// header, synchronisation flag 0, packet order flag 0 and segment length identifier 3.
     ///
-    /// `spacecraft` is 0 to 1023 and `vc` 0 to 7; `mc` and `vcc` are the master and the virtual channel frame
-    /// count. `first` is the first header pointer, 0 to 2047: 2046 for an idle frame, 2047 where no packet
-    /// starts in the frame.
+    /// `spacecraft` is 0 to 1023 and `vc` 0 to 7; `mc` and `vcc` are the master and the virtual
+    /// channel frame count. `first` is the first header pointer, 0 to 2047: 2046 for an idle frame,
+    /// 2047 where no packet starts in the frame.
     pub fn of_packets(spacecraft: u16, vc: u8, mc: u8, vcc: u8, first: u16) -> TmHeader
         requires spacecraft { spacecraft ≤ 1023 }
         requires vc { vc ≤ 7 }
@@ -113,7 +114,8 @@ impl TmHeader {
         }
     }
 
-    /// Reads the header from its six octets. All octets are a header; a TM transfer frame's has version 0.
+    /// Reads the header from its six octets. All octets are a header; a TM transfer frame's has
+    /// version 0.
     pub fn read(octets: &[u8; 6]) -> TmHeader
         ensures { result ≡ tm_header octets.now }
     {
@@ -207,8 +209,8 @@ impl TmHeader {
         self.segment
     }
 
-    /// First header pointer, 0 to 2047: the offset in the data field at which the first packet starts, 2046
-    /// for only idle data, 2047 where no packet starts.
+    /// First header pointer, 0 to 2047: the offset in the data field at which the first packet
+    /// starts, 2046 for only idle data, 2047 where no packet starts.
     pub fn first(&self) -> u16
         ensures value { result ≡ self.now.first }
         ensures fits { result < 2 ^ 11 }

@@ -1,4 +1,4 @@
--- Delivered packets: a list for each channel, the count of refused packets, and the memory for lists.
+-- Delivered packets: a list for each channel, the count of refused packets, and for how many lists there is memory.
 use Rattle.std.specs.Prelude.{◌≡◌, ◌≢◌, ℕ, ◌<◌, ◌≤◌, List, [], ◌∷◌, ◌++◌, replicate, false}
 use Rattle.std.specs.List.{slice_index_or, slice_set}
 use Rattle.sl_packet.specs.Packet.{IsPacket, is_idle_packet}
@@ -11,8 +11,8 @@ pub record PacketLists : Type 0 where
   -- a list of packets for each channel
   pub lists : List (List (List ℕ))
   pub failures : ℕ
-  -- the lists that memory was taken for
-  pub room : ℕ
+  -- for how many lists there is memory
+  pub capacity : ℕ
 
 -- the packets of a channel
 abbrev pub list_at : PacketLists → ℕ → List (List ℕ)

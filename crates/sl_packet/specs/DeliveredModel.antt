@@ -1,4 +1,5 @@
--- A `Delivered` stands for its lists. The lists beyond the last one that is kept are empty.
+-- A `Delivered` stands for its lists, the count of refused packets, and for how many lists it has memory. The lists
+-- beyond the last one that is kept are empty.
 use Rattle.std.specs.Prelude.{ℕ, ◌≤◌, List, length}
 use Rattle.std.specs.List.{AllByRecursion}
 use Rattle.std.specs.Vec.{vec_capacity}
@@ -10,7 +11,7 @@ abbrev pub kept_lists : Inside → List (List (List ℕ))
 kept_lists d = lists_in d.lists
 
 abbrev pub packet_lists_of : Inside → PacketLists
-packet_lists_of d = record { lists = with_empty_lists (kept_lists d); failures = d.failures; room = vec_capacity d.lists }
+packet_lists_of d = record { lists = with_empty_lists (kept_lists d); failures = d.failures; capacity = vec_capacity d.lists }
 
 pub record IsDelivered (d : Inside) : Type 0 where
   pub fit : length (kept_lists d) ≤ channel_count

@@ -1,19 +1,21 @@
 //! Delivered packets that are kept.
-ghost use Rattle.std.specs.Prelude.{◌≡◌, ◌≤◌, ◌<◌, ◌+◌, max, [], map, length, IfSome, IfNone, IsTrue, ◌↔◌, OnOk, OnErr};
+ghost use Rattle.std.specs.Prelude.{◌≡◌, ◌≤◌, ◌<◌, ◌+◌, max, [], map, length, IfSome, IfNone};
+ghost use Rattle.std.specs.Prelude.{IsTrue, ◌↔◌, OnOk, OnErr};
 ghost use Rattle.std.specs.List.{AllByRecursion};
 ghost use Rattle.std.specs.Vec.{vec_items, vec_len};
-ghost use Rattle.sl_packet.specs.Delivered.{AddsPacket, list_at, with_packet, no_lists, HasNone, IsLeast, IsDeliverable, FitsTm, channel_count};
+ghost use Rattle.sl_packet.specs.Delivered.{AddsPacket, list_at, with_packet, no_lists, HasNone};
+ghost use Rattle.sl_packet.specs.Delivered.{IsLeast, IsDeliverable, FitsTm, channel_count};
 ghost use Rattle.sl_packet.specs.KeptLists.{lists_in, with_empty_lists, IsGrown};
 
 use crate::sink::{PacketSink, SinkFault};
 use std::alloc::{AllocError, Global};
 use std::marker::Model;
 
-/// The delivered space packets (CCSDS 133.0-B) of each channel from 0 to 4095, in the order of their
-/// delivery. None of them is idle.
+/// The delivered space packets (CCSDS 133.0-B) of each channel from 0 to 4095, in the order of
+/// their delivery. None of them is idle.
 ///
-/// As a [`PacketSink`] the store adds a packet to the end of the channel's list. The store refuses a packet
-/// only with [`Memory`](SinkFault::Memory), and then all lists stay as they were.
+/// As a [`PacketSink`] the store adds a packet to the end of the channel's list. The store refuses
+/// a packet only with [`Memory`](SinkFault::Memory), and then all lists stay as they were.
 #[derive(Debug, Drop)]
 pub struct Delivered {
     alloc: Global,
@@ -34,11 +36,12 @@ impl Model for Delivered {
 }
 
 impl Delivered {
-    /// A store without a packet on any channel. It takes memory only as packets come.
+    /// A store without a packet on any channel. It holds no memory yet; later it asks for memory
+    /// only for a packet that it is handed.
     pub fn new(alloc: Global) -> Delivered
         ensures lists { result.lists ≡ no_lists }
         ensures failures { result.failures ≡ 0 }
-        ensures memory { result.room ≡ 0 }
+        ensures memory { result.capacity ≡ 0 }
     {
         Delivered {
             alloc,
@@ -47,7 +50,8 @@ impl Delivered {
         }
     }
 
-    /// The packets of a channel, in the order of their delivery. The list is empty for a channel above 4095.
+    /// The packets of a channel, in the order of their delivery. The list is empty for a channel
+    /// above 4095.
     pub fn list(&self, channel: u16) -> &[Vec<u8>]
         ensures packets { map vec_items result.now ≡ list_at self.now channel }
         ensures none_above { 4095 < channel → list_at self.now channel ≡ [] }
@@ -61,8 +65,8 @@ impl Delivered {
         }
     }
 
-    /// The least channel with packets, from `channel` to 4095. `None` exactly where none of these channels
-    /// has packets.
+    /// The least channel with packets, from `channel` to 4095. `None` exactly where none of these
+    /// channels has packets.
     pub fn at_or_above(&self, channel: u16) -> Option<u16>
         ensures some { IfSome result (λ least. IsLeast self.now channel least) }
         ensures none { IfNone result (HasNone self.now channel channel_count) }
@@ -75,8 +79,8 @@ impl Delivered {
         None
     }
 
-    /// Whether no channel from 8 to 4095 has packets. Each packet is then on a virtual channel of TM frames,
-    /// 0 to 7.
+    /// Whether no channel from 8 to 4095 has packets. Each packet is then on a virtual channel of
+    /// TM frames, 0 to 7.
     pub fn fits_tm(&self) -> bool
         ensures { IsTrue result ↔ FitsTm self.now }
     {

@@ -12,8 +12,8 @@ use std::alloc::AllocError;
 /// The APID of idle packets.
 const IDLE: u16 = 2047;
 
-/// Whether the octets begin like an idle packet (CCSDS 133.0-B): there are two octets or more, and their APID
-/// is 2047. No other field is looked at.
+/// Whether the octets begin like an idle packet (CCSDS 133.0-B): there are two octets or more, and
+/// their APID is 2047. No other field is looked at.
 pub fn is_idle(octets: &[u8]) -> bool
     ensures { result ≡ is_idle_packet octets.now }
 {
@@ -23,10 +23,12 @@ pub fn is_idle(octets: &[u8]) -> bool
     }
 }
 
-/// Adds an idle packet of `len` octets, 7 to 65,542. The packet is telemetry, unsegmented and without a
-/// secondary header, and has count 0 and zeros as its data. These values are this project's choice.
+/// Adds an idle packet of `len` octets, 7 to 65,542. The packet is telemetry, unsegmented and
+/// without a secondary header, and has count 0 and zeros as its data. These values are this
+/// project's choice.
 ///
-/// Memory is refused only where the capacity of `out` has no room for the packet. `out` is then as it was.
+/// Memory is refused only where the capacity of `out` has no room for the packet. `out` is then as
+/// it was.
 pub fn push_idle(out: &mut Vec<u8>, len: u32) -> Result<(), AllocError>
     requires least { 7 ≤ len }
     requires most { len ≤ 65542 }

@@ -1,9 +1,12 @@
 //! The laws on this crate's definitions. Each function is empty; its clauses are the laws.
-ghost use Rattle.sl_packet.specs.Front.{WholeIsAPacket, APacketIsWhole, ForeignIsNoPacket, IncompleteMayBecomeWhole};
+ghost use Rattle.sl_packet.specs.Front.{WholeIsAPacket, APacketIsWhole, ForeignIsNoPacket};
+ghost use Rattle.sl_packet.specs.Front.{IncompleteMayBecomeWhole};
 ghost use Rattle.sl_packet.specs.IdlePacket.{IdlePacketsAreIdle};
-ghost use Rattle.sl_packet.specs.Packet.{PacketsArePrefixFree, OnePacketIsPrefix, HeaderFieldsStandFirst};
+ghost use Rattle.sl_packet.specs.Packet.{PacketsArePrefixFree, OnePacketIsPrefix};
+ghost use Rattle.sl_packet.specs.Packet.{HeaderFieldsStandFirst};
 ghost use Rattle.sl_packet.specs.Packets.{EachHasPackets, HasPacketsOnce, OthersArePrefixes};
-ghost use Rattle.sl_packet.specs.Partial.{ForeignIsForeign, WholeIsWhole, HeaderHasSixOctets, OctetsMakeAPacket};
+ghost use Rattle.sl_packet.specs.Partial.{ForeignIsForeign, WholeIsWhole, HeaderHasSixOctets};
+ghost use Rattle.sl_packet.specs.Partial.{OctetsMakeAPacket};
 
 /// No packet is a proper prefix of another, so at most one packet is a prefix of given octets.
 pub fn packets_are_prefix_free()
@@ -11,15 +14,15 @@ pub fn packets_are_prefix_free()
     ensures one { OnePacketIsPrefix }
 {}
 
-/// The version and the APID are fields of the primary header, although they are read from the first two
-/// octets alone.
+/// The version and the APID are fields of the primary header, although they are read from the first
+/// two octets alone.
 pub fn header_fields_stand_first()
     ensures { HeaderFieldsStandFirst }
 {}
 
-/// The front of octets decides which packet they begin with. With a whole front the octets begin with a
-/// packet, and only then. With a foreign front no packet begins here, whatever follows. With an incomplete
-/// front some further octets make a packet.
+/// The front of octets decides which packet they begin with. With a whole front the octets begin
+/// with a packet, and only then. With a foreign front no packet begins here, whatever follows. With
+/// an incomplete front some further octets make a packet.
 pub fn fronts_tell_packets()
     ensures whole { WholeIsAPacket }
     ensures only_whole { APacketIsWhole }
@@ -27,8 +30,8 @@ pub fn fronts_tell_packets()
     ensures incomplete { IncompleteMayBecomeWhole }
 {}
 
-/// The need of octets agrees with their front: the need is foreign or whole exactly where the front is. The
-/// wanted octets complete the header, or complete the packet whatever their values are.
+/// The need of octets agrees with their front: the need is foreign or whole exactly where the front
+/// is. The wanted octets complete the header, or complete the packet whatever their values are.
 pub fn needs_tell_packets()
     ensures foreign { ForeignIsForeign }
     ensures whole { WholeIsWhole }
@@ -36,14 +39,15 @@ pub fn needs_tell_packets()
     ensures octets { OctetsMakeAPacket }
 {}
 
-/// Octets begin with packets end to end, up to the first offset at which no packet begins, in one way.
+/// Octets begin with packets end to end, up to the first offset at which no packet begins, in one
+/// way.
 pub fn octets_have_packets()
     ensures each { EachHasPackets }
     ensures once { HasPacketsOnce }
 {}
 
-/// The list of the packets at the front is the longest. Every list of packets that are end to end a prefix of
-/// the octets is a prefix of this list.
+/// The list of the packets at the front is the longest. Every list of packets that are end to end a
+/// prefix of the octets is a prefix of this list.
 pub fn front_packets_are_longest()
     ensures { OthersArePrefixes }
 {}

@@ -1,8 +1,9 @@
-//! Space packets of CCSDS 133.0-B: how packets are found at the front of octets, how they are handed to a
-//! sink, and how they are kept.
+//! Space packets of CCSDS 133.0-B: how packets are found at the front of octets, how they are
+//! handed to a sink, and how they are kept.
 //!
-//! The version and the length alone decide what a packet is; what a packet carries isn't looked at. No packet
-//! is a proper prefix of another packet ([`laws`]), so octets begin with at most one packet.
+//! The version and the length alone decide what a packet is; what a packet carries isn't looked at.
+//! No packet is a proper prefix of another packet ([`laws`]), so octets begin with at most one
+//! packet.
 #![tactic(auto)]
 
 mod delivered;

@@ -6,8 +6,8 @@ ghost use Rattle.sl_packet.specs.Partial.{need_of};
 use crate::partial::Need;
 use sl_fields::PacketHeader;
 
-/// The space packet (CCSDS 133.0-B) that is a prefix of the octets: version 0 and 7 to 65,542 octets, as its
-/// header states. `None` exactly where no packet is a prefix.
+/// The space packet (CCSDS 133.0-B) that is a prefix of the octets: version 0 and 7 to 65,542
+/// octets, as its header states. `None` exactly where no packet is a prefix.
 pub fn first_packet<'a>(octets: &'a [u8]) -> Option<&'a [u8]>
     ensures { option_map (λ packet. packet.now) result ≡ first_packet_of octets.now }
 {
@@ -18,10 +18,10 @@ pub fn first_packet<'a>(octets: &'a [u8]) -> Option<&'a [u8]>
     octets.get(..7 + usize::from(header.length()))
 }
 
-/// What the octets lack to begin with a whole space packet (CCSDS 133.0-B). `Foreign` exactly where the first
-/// octet has another version than 0. Otherwise `Header` with the number of octets that a header of six octets
-/// lacks, `Octets` with the number of octets that the header states and that aren't there, or `Whole` with
-/// the length of the packet.
+/// What the octets lack to begin with a whole space packet (CCSDS 133.0-B). `Foreign` exactly where
+/// the first octet has another version than 0. Otherwise `Header` with the number of octets that a
+/// header of six octets lacks, `Octets` with the number of octets that the header states and that
+/// aren't there, or `Whole` with the length of the packet.
 pub fn need(octets: &[u8]) -> Need
     ensures { result ≡ need_of octets.now }
 {

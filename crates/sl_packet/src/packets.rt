@@ -6,8 +6,8 @@ ghost use Rattle.sl_packet.specs.Packets.{packets_of, GivesPacket};
 use crate::packet::first_packet;
 use std::marker::Model;
 
-/// An iterator over the space packets (CCSDS 133.0-B) that lie end to end at the front of octets, in order,
-/// idle packets included. It ends at the first offset at which no whole packet begins.
+/// An iterator over the space packets (CCSDS 133.0-B) that lie end to end at the front of octets,
+/// in order, idle packets included. It ends at the first offset at which no whole packet begins.
 #[derive(Debug, Drop)]
 pub struct Packets<'a> {
     rest: &'a [u8],
@@ -31,8 +31,8 @@ impl<'a> Packets<'a> {
         Packets { rest: octets }
     }
 
-    /// The octets after the packets that were yielded so far. Once the iterator has ended, no packet begins
-    /// with these octets.
+    /// The octets after the packets that were yielded so far. Once the iterator has ended, no
+    /// packet begins with these octets.
     pub fn rest(&self) -> &'a [u8]
         ensures { result.now ≡ self.now }
     {

@@ -7,11 +7,12 @@ use std::alloc::AllocError;
 /// The octets of the longest packet, and of the longest service data unit.
 const MOST_OCTETS: usize = 65542;
 
-/// Adds a part to the octets so far. With the part they have 65,542 octets at most, the length of the longest
-/// packet.
+/// Adds a part to the octets so far. With the part they have 65,542 octets at most, the length of
+/// the longest packet.
 ///
-/// Memory is refused only where the capacity has no room for the part, and then nothing is added. By reading,
-/// the capacity becomes twice what it was, or what is needed where this is more, and 65,542 at most.
+/// Memory is refused only where the capacity has no room for the part, and then nothing is added.
+/// By reading, the capacity becomes twice what it was, or what is needed where this is more, and
+/// 65,542 at most.
 #[inline(always)]
 pub fn add_part(octets: &mut Vec<u8>, part: &[u8]) -> Result<(), AllocError>
     requires { vec_len octets.old + length part.now ≤ 65542 }

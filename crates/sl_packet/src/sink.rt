@@ -1,5 +1,6 @@
 //! The destination of delivered packets.
-ghost use Rattle.std.specs.Prelude.{◌≡◌, ◌≤◌, ◌<◌, ℕ, List, length, false, OnOk, OnErr, IfOk, IfErr};
+ghost use Rattle.std.specs.Prelude.{◌≡◌, ◌≤◌, ◌<◌, ℕ, List, length, false, OnOk, OnErr, IfOk};
+ghost use Rattle.std.specs.Prelude.{IfErr};
 ghost use Rattle.sl_packet.specs.Packet.{IsPacket, is_idle_packet};
 ghost use Rattle.sl_packet.specs.Packets.{packets_of, rest_of, without_idle, only_idle};
 ghost use Rattle.sl_packet.specs.Sink.{TakesAll, StopsTaking, one_more};
@@ -23,8 +24,8 @@ pub enum SinkFault {
 }
 
 /// A destination of delivered space packets (CCSDS 133.0-B), each on a channel from 0 to 4095. An
-/// implementation states what accepting a packet does to it (`taking`), what refusing does (`failing`), and
-/// its count of refused packets (`failures`).
+/// implementation states what accepting a packet does to it (`taking`), what refusing does
+/// (`failing`), and its count of refused packets (`failures`).
 pub trait PacketSink {
     ghost use Rattle.sl_packet.specs.declared.sink.SinkFault.{SinkFault};
 
@@ -37,12 +38,12 @@ pub trait PacketSink {
     /// The count of refused packets, which stops at 2^64 - 1.
     ghost failures: { Self → ℕ };
 
-    /// Hands over one packet on the channel `channel`, 0 to 4095. `p` is a whole packet, 7 to 65,542 octets,
-    /// and isn't idle.
+    /// Hands over one packet on the channel `channel`, 0 to 4095. `p` is a whole packet, 7 to
+    /// 65,542 octets, and isn't idle.
     ///
-    /// On `Ok` the sink has accepted the packet, as its `taking` states, and its count of refused packets
-    /// stays. On an error the sink has refused the packet with this fault, as its `failing` states, and its
-    /// count has risen by one, unless it was 2^64 - 1.
+    /// On `Ok` the sink has accepted the packet, as its `taking` states, and its count of refused
+    /// packets stays. On an error the sink has refused the packet with this fault, as its `failing`
+    /// states, and its count has risen by one, unless it was 2^64 - 1.
     fn packet(&mut self, channel: u16, p: &[u8]) -> Result<(), SinkFault>
         requires packet { IsPacket p.now }
         requires not_idle { is_idle_packet p.now ≡ false }
@@ -67,12 +68,13 @@ pub struct HandedOver<'a> {
     pub remainder: &'a [u8],
 }
 
-/// Hands a sink the packets that lie end to end at the front of the octets, in order and without idle
-/// packets, on the channel `channel`, 0 to 4095.
+/// Hands a sink the packets that lie end to end at the front of the octets, in order and without
+/// idle packets, on the channel `channel`, 0 to 4095.
 ///
-/// On `Ok` the sink has accepted all of them, and its count of refused packets stays. On an error the sink
-/// has accepted the packets before the refused one and refused this one with this fault, and no later packet
-/// was handed over. The sink's count of refused packets has then risen by one, unless it was 2^64 - 1.
+/// On `Ok` the sink has accepted all of them, and its count of refused packets stays. On an error
+/// the sink has accepted the packets before the refused one and refused this one with this fault,
+/// and no later packet was handed over. The sink's count of refused packets has then risen by one,
+/// unless it was 2^64 - 1.
 pub fn hand_over<'a, S: PacketSink>(
     sink: &mut S,
     channel: u16,
@@ -91,8 +93,8 @@ pub fn hand_over<'a, S: PacketSink>(
         handed.idle ≡ length (only_idle (packets_of octets.now))) }
     ensures remainder { IfOk result (λ handed. handed.remainder.now ≡ rest_of octets.now) }
 
-    // An error means that the sink accepts the packets before one that it refuses, and the refused packet is
-    // counted.
+    // An error means that the sink accepts the packets before one that it refuses, and the refused
+    // packet is counted.
     ensures refused { IfErr result (λ fault. StopsTaking S.taking S.failing
         sink.old channel (without_idle (packets_of octets.now)) fault sink.new) }
     ensures counted { OnErr result (S.failures sink.new ≡ one_more (S.failures sink.old)) }

@@ -1,10 +1,10 @@
 -- The normal form of packets is a recording that delivers these packets and no others.
-use Rattle.std.specs.Prelude.{◌≡◌, ℕ, ◌≤◌, List, [], length}
+use Rattle.std.specs.Prelude.{◌≡◌, ℕ, ◌≤◌, List, [], length, Ok}
 use Rattle.std.specs.List.{AllByRecursion}
 use Rattle.sl_cop.specs.Starts.{AreStarts}
 use Rattle.sl_packet.specs.Delivered.{IsDeliverable, channel_count}
 use Rattle.sl_tcframe.specs.TcDelimited.{IsTcDelimited}
-use Rattle.sl_tcframe.specs.TcFrame.{TcFormat}
+use Rattle.sl_tcframe.specs.TcFrame.{TcFormat, TcView, tc_frame}
 use Rattle.sl_tcflow.specs.FitsTc.{FitsTc}
 use Rattle.sl_tcflow.specs.ReceptionParameters.{ReceptionParameters}
 use Rattle.sl_tcflow.specs.Recording.{tc_lists}
@@ -19,6 +19,17 @@ pub record IsFormat (format : TcFormat) : Type 0 where
 pub record AreDeliverable (lists : List (List (List ℕ))) : Type 0 where
   pub all : length lists ≡ channel_count
   pub each : AllByRecursion (AllByRecursion IsDeliverable) lists
+
+-- a format, a spacecraft, and 4,096 lists of packets that frames of the format can carry
+pub record CanBeWritten (format : TcFormat) (spacecraft : ℕ) (plain : List ℕ) (lists : List (List (List ℕ))) : Type 0 where
+  pub is_format : IsFormat format
+  pub spacecraft_fits : spacecraft ≤ 1023
+  pub deliverable : AreDeliverable lists
+  pub fit : FitsTc format plain lists
+
+-- a frame is read, and not skipped
+abbrev pub IsNotSkipped : TcFormat → ℕ → List ℕ → Type 0
+IsNotSkipped format spacecraft frame = (view : TcView) × (tc_frame format spacecraft frame ≡ Ok view)
 
 -- ---- laws
 
@@ -46,6 +57,12 @@ NoFrameIsLong =
     (format : TcFormat) (spacecraft : ℕ) (starts plain : List ℕ) (lists : List (List (List ℕ))) → IsFormat format → spacecraft ≤ 1023
     → AreDeliverable lists → FitsTc format plain lists
     → AllByRecursion (λ frame. length frame ≤ format.max) (tc_frames_form format spacecraft starts plain lists)
+
+-- No frame of the normal form is skipped.
+abbrev pub NoFrameIsSkipped : Type 0
+NoFrameIsSkipped =
+    (format : TcFormat) (spacecraft : ℕ) (starts plain : List ℕ) (lists : List (List (List ℕ))) → CanBeWritten format spacecraft plain lists
+    → AllByRecursion (IsNotSkipped format spacecraft) (tc_frames_form format spacecraft starts plain lists)
 
 -- Read as a recording, with the same initial V(R), the same virtual channels without segment headers and any window,
 -- the normal form delivers exactly the packets that it was made from.

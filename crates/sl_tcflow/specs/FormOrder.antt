@@ -1,51 +1,47 @@
--- The frames of a normal form of TC frames, read as a recording: none is skipped, and they come in a fixed order. The
--- order is this project's mission profile.
-use Rattle.std.specs.Prelude.{◌≡◌, ⊤, ℕ, ◌+◌, ◌%◌, ◌<◌, ◌≤◌, List, [], ◌∷◌, ◌++◌, length, map, Ok}
-use Rattle.std.specs.List.{AllByRecursion, slice_index_or}
-use Rattle.sl_tcframe.specs.TcFrame.{TcFormat, TcView, Ad, tc_frame}
+-- The frames of a normal form of TC frames, read as a recording: they come in a fixed order, and each packet is carried
+-- by a series of its own. The order, and that frames are full, is this project's mission profile.
+use Rattle.std.specs.Prelude.{◌≡◌, ℕ, ◌+◌, ◌*◌, ◌%◌, ◌<◌, Bool, if◌then◌else◌, List, [], ◌∷◌, ◌++◌, length, map, flat_map}
+use Rattle.std.specs.List.{slice_index_or}
+use Rattle.sl_fields.specs.NeverFall.{NeverFall}
+use Rattle.sl_tcframe.specs.AdFrame.{plain_room_of, segment_room_of}
+use Rattle.sl_tcframe.specs.TcFrame.{TcFormat, TcView, Ad}
 use Rattle.sl_tcframe.specs.VcSet.{has_vc}
-use Rattle.sl_tcflow.specs.AcceptedUnit.{channel_of}
-use Rattle.sl_tcflow.specs.Canonical.{AreDeliverable, IsFormat}
-use Rattle.sl_tcflow.specs.FitsTc.{FitsTc}
+use Rattle.sl_tcflow.specs.AcceptedUnit.{channel_of, unit_of}
+use Rattle.sl_tcflow.specs.Canonical.{CanBeWritten}
 use Rattle.sl_tcflow.specs.Receiving.{map_of}
 use Rattle.sl_tcflow.specs.Recording.{recorded_views}
-use Rattle.sl_tcflow.specs.TcNormalForm.{tc_frames_form, tc_normal_form_of}
-
--- the premise of the laws: a format, a spacecraft, and lists of packets that frames of the format can carry
-pub record CanBeWritten (format : TcFormat) (spacecraft : ℕ) (plain : List ℕ) (lists : List (List (List ℕ))) : Type 0 where
-  pub is_format : IsFormat format
-  pub known : spacecraft ≤ 1023
-  pub deliverable : AreDeliverable lists
-  pub fit : FitsTc format plain lists
-
--- the frame is read, and so it isn't skipped
-abbrev pub IsRead : TcFormat → ℕ → List ℕ → Type 0
-IsRead format spacecraft frame = (view : TcView) × (tc_frame format spacecraft frame ≡ Ok view)
+use Rattle.sl_tcflow.specs.Series.{segment_in, segments_on}
+use Rattle.sl_tcflow.specs.TcNormalForm.{IsDividedInto, tc_normal_form_of}
 
 -- the frames of the normal form, as they are read
 abbrev pub form_views : TcFormat → ℕ → List ℕ → List ℕ → List (List (List ℕ)) → List TcView
 form_views format spacecraft starts plain lists = recorded_views format spacecraft (tc_normal_form_of format spacecraft starts plain lists)
 
--- The numbers never fall, and the first isn't below `least`.
-abbrev pub NeverFall : ℕ → List ℕ → Type 0
-NeverFall least [] = ⊤
-NeverFall least (number ∷ numbers) = (least ≤ number) × NeverFall number numbers
+-- the segments of a MAP in frames of a virtual channel without segment headers (`plain`) or with them, whether FARM-1
+-- accepts the frames or not
+abbrev pub segments_in : Bool → ℕ → List TcView → List (List ℕ)
+segments_in plain map_id channel = segments_on map_id (map (segment_in plain) (flat_map (λ (view : TcView). unit_of view.content) channel))
+
+-- how many octets of a packet a frame has at most
+abbrev pub room_in : Bool → TcFormat → ℕ
+room_in plain format = if plain then plain_room_of format else segment_room_of format
+
+-- The segments carry the packets, one after another: each packet is divided into a series of its own.
+pub data CarryPackets (room map_id : ℕ) : List (List ℕ) → List (List ℕ) → Type 0 where
+  none : CarryPackets room map_id [] []
+  more : (packet : List ℕ) (own packets later : List (List ℕ)) → IsDividedInto room map_id packet own → CarryPackets room map_id packets later
+      → CarryPackets room map_id (packet ∷ packets) (own ++ later)
 
 -- ---- laws
 
--- Each frame of the normal form is read.
-abbrev pub NoFrameIsSkipped : Type 0
-NoFrameIsSkipped =
-    (format : TcFormat) (spacecraft : ℕ) (starts plain : List ℕ) (lists : List (List (List ℕ))) → CanBeWritten format spacecraft plain lists
-    → AllByRecursion (IsRead format spacecraft) (tc_frames_form format spacecraft starts plain lists)
-
--- The virtual channels of its frames never fall.
+-- The virtual channels of the frames never fall.
 abbrev pub ChannelsNeverFall : Type 0
 ChannelsNeverFall =
     (format : TcFormat) (spacecraft : ℕ) (starts plain : List ℕ) (lists : List (List (List ℕ))) → CanBeWritten format spacecraft plain lists
     → NeverFall 0 (map (λ (view : TcView). view.vc) (form_views format spacecraft starts plain lists))
 
--- The MAPs of a virtual channel never fall.
+-- The MAPs of a virtual channel never fall. Where it has no segment headers, all frames are on MAP 0, by the definition
+-- of `segment_in`. There are no virtual channels above 63.
 abbrev pub MapsNeverFall : Type 0
 MapsNeverFall =
     (format : TcFormat) (spacecraft : ℕ) (starts plain : List ℕ) (lists : List (List (List ℕ))) → CanBeWritten format spacecraft plain lists
@@ -60,3 +56,12 @@ NsCounts =
     → (vc : ℕ) → vc < 64 → (before later : List TcView) (view : TcView)
     → channel_of vc (form_views format spacecraft starts plain lists) ≡ before ++ view ∷ later
     → (unit : List ℕ) × (view.content ≡ Ad ((slice_index_or starts vc 0 + length before) % 256) unit)
+
+-- The frames of a virtual channel and a MAP carry the packets that the normal form was made from: each packet is one
+-- series, of full segments but the last. The list of virtual channel v and MAP m has the index 64 v + m.
+abbrev pub EachPacketIsOneSeries : Type 0
+EachPacketIsOneSeries =
+    (format : TcFormat) (spacecraft : ℕ) (starts plain : List ℕ) (lists : List (List (List ℕ))) → CanBeWritten format spacecraft plain lists
+    → (vc map_id : ℕ) → vc < 64 → map_id < 64
+    → CarryPackets (room_in (has_vc plain vc) format) map_id (slice_index_or lists (64 * vc + map_id) [])
+    (segments_in (has_vc plain vc) map_id (channel_of vc (form_views format spacecraft starts plain lists)))

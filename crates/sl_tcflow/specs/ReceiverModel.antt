@@ -18,7 +18,7 @@ pub record IsKept (s : incomplete.Inside) : Type 0 where
   pub memory : s.is_begun ≡ false → vec_capacity s.octets ≤ 4096
 
 abbrev pub series_in : store.Inside → IncompleteSeries
-series_in s = record { list = s.list.items; room = vec_capacity s.list }
+series_in s = record { list = s.list.items; capacity = vec_capacity s.list }
 
 abbrev pub receiver_state : receiver.Inside → ReceiverState
 receiver_state r = record { farms = r.farms; plain = r.plain; series = r.series; has_failed = r.has_failed }

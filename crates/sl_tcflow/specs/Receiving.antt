@@ -16,13 +16,13 @@ use Rattle.sl_tcflow.specs.Series.{header_at, segment_in}
 abbrev pub channel_at : ℕ → ℕ → ℕ
 channel_at vc map_id = 64 * vc + map_id
 
--- The series that are incomplete.
+-- The series that are incomplete, and the memory for them.
 pub record IncompleteSeries : Type 0 where
-  -- the octets so far of the incomplete series of each channel, if there is one, and none past the last channel that
-  -- is kept
+  -- For each channel the octets so far of its incomplete series, if there is one. The list reaches up to the greatest
+  -- channel on which a series has begun.
   pub list : List (Option (List ℕ))
-  -- the channels that memory was taken for
-  pub room : ℕ
+  -- for how many channels there is memory
+  pub capacity : ℕ
 
 -- The state: FARM-1 of each virtual channel; the virtual channels without segment headers; the series that are
 -- incomplete; and whether a fault came.

@@ -6,10 +6,10 @@ ghost use Rattle.sl_tcflow.specs.FitsTc.{FitsOn, FitsTc};
 use sl_packet::Delivered;
 use sl_tcframe::{TcShape, VcSet};
 
-/// Whether frames of this format (CCSDS 232.0-B) can carry the packets, those of virtual channel `v` and MAP
-/// `m` on channel `64 * v + m`. On the virtual channels of `plain`, whose frames have no segment headers,
-/// packets are on MAP 0 alone, and each has at most [`TcShape::plain_room`] octets. Other virtual channels
-/// can carry all packets. The call takes no memory.
+/// Whether frames of this format (CCSDS 232.0-B) can carry the packets, those of virtual channel
+/// `v` and MAP `m` on channel `64 * v + m`. On the virtual channels of `plain`, whose frames have
+/// no segment headers, packets are on MAP 0 alone, and each has at most [`TcShape::plain_room`]
+/// octets. Other virtual channels can carry all packets. The call takes no memory.
 pub fn fits_tc(shape: &TcShape, plain: &VcSet, delivered: &Delivered) -> bool
     ensures { IsTrue result ↔ FitsTc shape.now plain.now delivered.now.lists }
 {

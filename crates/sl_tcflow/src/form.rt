@@ -1,5 +1,7 @@
 //! The normal form of delivered packets, piece by piece.
-ghost use Rattle.std.specs.Prelude.{◌≡◌, ◌≢◌, ℕ, ◌+◌, ◌^◌, ◌<◌, ◌≤◌, ◌++◌, true, List, [], length, vec_len, IsTrue, IsFalse, IfSome, IfNone, IfOk, IsOk, OnOk, OnErr};
+ghost use Rattle.std.specs.Prelude.{◌≡◌, ◌≢◌, ℕ, ◌+◌, ◌^◌, ◌<◌, ◌≤◌, ◌++◌, true, List, [], length};
+ghost use Rattle.std.specs.Prelude.{vec_len, IsTrue, IsFalse, IfSome, IfNone, IfOk, IsOk, OnOk};
+ghost use Rattle.std.specs.Prelude.{OnErr};
 ghost use Rattle.std.specs.List.{slice_index_or};
 ghost use Rattle.std.specs.Vec.{vec_capacity};
 ghost use Rattle.sl_packet.specs.Delivered.{IsDeliverable, channel_count, list_at};
@@ -19,18 +21,19 @@ use sl_tcframe::{TcShape, VcSet, push_tc_plain};
 use std::alloc::AllocError;
 use std::marker::Model;
 
-/// Room for any piece: a packet has 65,542 octets at most. Each of its frames adds 8 octets of its own at
-/// most, and each but the last carries 8 octets of the packet at least.
+/// Room for any piece: a packet has 65,542 octets at most. Each of its frames adds 8 octets of its
+/// own at most, and each but the last carries 8 octets of the packet at least.
 pub const PIECE_ROOM: usize = 131_091;
 
 // The number after that of the last channel.
 const CHANNELS: u16 = 4096;
 
-/// The normal form of delivered packets, made piece by piece: frames of CCSDS 232.0-B of type AD in this
-/// project's own order (docs/normal-form.md). Clauses see the form as the octets that are still to come.
+/// The normal form of delivered packets, made piece by piece: frames of CCSDS 232.0-B of type AD in
+/// this project's own order (docs/normal-form.md). Clauses see the form as the octets that are
+/// still to come.
 ///
-/// A piece is the next octets of the form, 1 to [`PIECE_ROOM`]. By reading, it is the frames of the next
-/// packet.
+/// A piece is the next octets of the form, 1 to [`PIECE_ROOM`]. By reading, it is the frames of the
+/// next packet.
 #[derive(Drop)]
 pub struct TcForm<'d> {
     shape: TcShape,
@@ -41,8 +44,8 @@ pub struct TcForm<'d> {
     place: Place,
 }
 
-// The place of the next packet: its channel, which is 4096 after the last packet; the number of packets of
-// this channel that come before it; and the N(S) of its first frame.
+// The place of the next packet: its channel, which is 4096 after the last packet; the number of
+// packets of this channel that come before it; and the N(S) of its first frame.
 #[derive(Clone, Copy)]
 struct Place {
     channel: u16,
@@ -67,7 +70,8 @@ impl<'d> TcForm<'d> {
     /// `64 * v + m`. All of the form is still to come. The call takes no memory.
     ///
     /// - `spacecraft` is 0 to 1023.
-    /// - `starts` has V(R) of each virtual channel before its first frame, which is the N(S) of that frame.
+    /// - `starts` has V(R) of each virtual channel before its first frame, which is the N(S) of
+    ///   that frame.
     /// - `plain` has the virtual channels whose frames have no segment headers.
     /// - `delivered` has packets that frames can carry, as [`fits_tc`](crate::fits_tc) tests.
     pub fn new(
@@ -80,8 +84,8 @@ impl<'d> TcForm<'d> {
         requires spacecraft { spacecraft ≤ 1023 }
         requires fits { FitsTc shape plain delivered.now.lists }
         ensures all { result ≡ tc_normal_form_of shape spacecraft starts plain delivered.now.lists }
-        // Read as a recording with these starts and these channels, the form delivers the packets again, for
-        // every window.
+        // Read as a recording with these starts and these channels, the form delivers the packets
+        // again, for every window.
         ensures delivers { (w : ℕ) →
             tc_lists shape spacecraft (record { window = w; starts = starts; plain = plain }) result
             ≡ delivered.now.lists }
@@ -105,21 +109,21 @@ impl<'d> TcForm<'d> {
         }
     }
 
-    /// Adds the next piece to the end of `form`, and answers whether there was one. A piece has 1 to
-    /// [`PIECE_ROOM`] octets. `false` means that the whole normal form was made.
+    /// Adds the next piece to the end of `form`, and answers whether there was one. A piece has 1
+    /// to [`PIECE_ROOM`] octets. `false` means that the whole normal form was made.
     ///
-    /// Memory is refused only where a piece is left and the capacity of `form` has no room for [`PIECE_ROOM`]
-    /// octets more. The piece is then still to come, and `form` is as it was.
+    /// Memory is refused only where a piece is left and the capacity of `form` has no room for
+    /// [`PIECE_ROOM`] octets more. The piece is then still to come, and `form` is as it was.
     pub fn next(&mut self, form: &mut Vec<u8>) -> Result<bool, AllocError>
-        // The piece is the front of the octets that were still to come, and the octets after it are still to
-        // come. Without a piece the whole normal form was made.
+        // The piece is the front of the octets that were still to come, and the octets after it are
+        // still to come. Without a piece the whole normal form was made.
         ensures piece { IfOk result (λ some. IsTrue some
             → AddsPiece self.old form.old.items self.new form.new.items) }
         ensures end { IfOk result (λ some. IsFalse some
             → (self.old ≡ []) × (self.new ≡ []) × (form.new.items ≡ form.old.items)) }
 
-        // Where memory is refused, a piece is still to come, the same octets are still to come, and nothing
-        // was added.
+        // Where memory is refused, a piece is still to come, the same octets are still to come, and
+        // nothing was added.
         ensures pieces { OnErr result (self.old ≢ []) }
         ensures unchanged { OnErr result
             ((self.new ≡ self.old) × (form.new.items ≡ form.old.items)) }
@@ -171,8 +175,8 @@ fn packet_at(delivered: &Delivered, place: Place) -> Option<&[u8]>
     Some(packet.as_slice())
 }
 
-// Adds the frames of a packet, on a virtual channel without segment headers (`plain`) or with them. Answers
-// the N(S) of the next frame.
+// Adds the frames of a packet, on a virtual channel without segment headers (`plain`) or with them.
+// Answers the N(S) of the next frame.
 fn push_piece(
     form: &mut Vec<u8>,
     shape: &TcShape,
@@ -213,8 +217,8 @@ fn push_piece(
     }
 }
 
-// The place of the first packet from a place on. N(S) goes on within a virtual channel, and begins with V(R)
-// of `starts` on the next one.
+// The place of the first packet from a place on. N(S) goes on within a virtual channel, and begins
+// with V(R) of `starts` on the next one.
 fn next_place(delivered: &Delivered, starts: &Starts, from: Place) -> Place
     requires channel { from.channel < channel_count }
     ensures left { (format : TcFormat) (spacecraft : ℕ) (plain : List ℕ)

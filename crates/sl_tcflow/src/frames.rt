@@ -1,5 +1,6 @@
 //! The frames of a packet in the normal form.
-ghost use Rattle.std.specs.Prelude.{◌≡◌, ◌+◌, ◌*◌, ◌<◌, ◌≤◌, ◌++◌, false, length, take, drop, vec_len, IfOk, OnOk, OnErr};
+ghost use Rattle.std.specs.Prelude.{◌≡◌, ◌+◌, ◌*◌, ◌<◌, ◌≤◌, ◌++◌, false, length, take, drop};
+ghost use Rattle.std.specs.Prelude.{vec_len, IfOk, OnOk, OnErr};
 ghost use Rattle.std.specs.Vec.{vec_capacity};
 ghost use Rattle.sl_packet.specs.Delivered.{channel_count};
 ghost use Rattle.sl_tcframe.specs.AdFrame.{segment_room_of};
@@ -28,8 +29,8 @@ pub(crate) fn push_packet(
 ) -> Result<u8, AllocError>
     requires spacecraft { heading.spacecraft ≤ 1023 }
     requires channel { heading.channel < channel_count }
-    // The frames are those of the packet on a virtual channel with segment headers, and N(S) rises by one for
-    // each.
+    // The frames are those of the packet on a virtual channel with segment headers, and N(S) rises
+    // by one for each.
     ensures frames { OnOk result (form.new.items ≡ form.old.items
         ++ piece_of shape.now heading.spacecraft false heading.channel heading.ns packet.now) }
     ensures next { IfOk result (λ next. next
@@ -37,8 +38,8 @@ pub(crate) fn push_packet(
     ensures room { 0 < segment_room_of shape.now }
     ensures most { OnOk result (vec_len form.new ≤ vec_len form.old + 2 * length packet.now + 7) }
 
-    // Memory is refused only where there is no room for the frames. Some of the frames may have been added
-    // then.
+    // Memory is refused only where there is no room for the frames. Some of the frames may have
+    // been added then.
     ensures kept { OnErr result (take (vec_len form.old) form.new.items ≡ form.old.items) }
     ensures capacity { vec_capacity form.old ≤ vec_capacity form.new }
     ensures full { OnErr result

@@ -1,8 +1,10 @@
 //! The series of segments that is incomplete on a MAP.
-ghost use Rattle.std.specs.Prelude.{◌≡◌, ◌≢◌, ◌⊎◌, ◌≤◌, length, None, option_map, OnOk, OnErr, IfOk, IfErr, IfSome};
+ghost use Rattle.std.specs.Prelude.{◌≡◌, ◌≢◌, ◌⊎◌, ◌≤◌, length, None, option_map, OnOk, OnErr};
+ghost use Rattle.std.specs.Prelude.{IfOk, IfErr, IfSome};
 ghost use Rattle.sl_packet.specs.Stopping.{HandsOver};
 ghost use Rattle.sl_tcflow.specs.Incomplete.{if_fits};
-ghost use Rattle.sl_tcflow.specs.NextSegment.{IsReported, continued_report, extended, incomplete_with, packets_with, quiet_report};
+ghost use Rattle.sl_tcflow.specs.NextSegment.{IsReported, continued_report, extended};
+ghost use Rattle.sl_tcflow.specs.NextSegment.{incomplete_with, packets_with, quiet_report};
 ghost use Rattle.sl_tcflow.specs.StepReport.{counts_of};
 
 use crate::hand_over::hand;
@@ -60,8 +62,8 @@ impl Incomplete {
         Some(self.octets.len() as u32)
     }
 
-    /// Takes the next segment, hands the sink the packets that end with the segment, and reports these
-    /// packets and the anomalies.
+    /// Takes the next segment, hands the sink the packets that end with the segment, and reports
+    /// these packets and the anomalies.
     #[inline(always)]
     pub fn take<S: PacketSink>(
         &mut self,
@@ -193,8 +195,8 @@ impl Incomplete {
         self.octets.clear();
     }
 
-    // Gives up the incomplete series, if there is one, and gives its memory back. Answers how many octets the
-    // series had.
+    // Gives up the incomplete series, if there is one, and gives its memory back. Answers how many
+    // octets the series had.
     #[inline(always)]
     fn give_up(&mut self) -> Option<u32>
         ensures none { self.new ≡ None }

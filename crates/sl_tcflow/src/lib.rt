@@ -1,8 +1,8 @@
-//! Packets in TC transfer frames of CCSDS 232.0-B: how packets are delivered from the units that FARM-1
-//! accepts on a virtual channel, and the normal form of delivered packets.
+//! Packets in TC transfer frames of CCSDS 232.0-B: how packets are delivered from the units that
+//! FARM-1 accepts on a virtual channel, and the normal form of delivered packets.
 //!
-//! A service data unit is a series of segments on a multiplexer access point (MAP) ([`laws`]). The normal
-//! form is this project's own.
+//! A service data unit is a series of segments on a multiplexer access point (MAP) ([`laws`]). The
+//! normal form is this project's own.
 #![tactic(auto)]
 
 mod fits;

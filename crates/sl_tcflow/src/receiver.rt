@@ -1,5 +1,6 @@
 //! Packets from the frames that FARM-1 accepts.
-ghost use Rattle.std.specs.Prelude.{◌≡◌, ◌≢◌, ◌≤◌, ◌<◌, ◌++◌, ◌∷◌, [], ℕ, Bool, List, length, is_some, OnOk, IfOk, IfErr, IfSome, IfNone, Err};
+ghost use Rattle.std.specs.Prelude.{◌≡◌, ◌≢◌, ◌≤◌, ◌<◌, ◌++◌, ◌∷◌, [], ℕ, Bool, List, length};
+ghost use Rattle.std.specs.Prelude.{is_some, OnOk, IfOk, IfErr, IfSome, IfNone, Err};
 ghost use Rattle.sl_cop.specs.FarmClcw.{clcw_of};
 ghost use Rattle.sl_packet.specs.Packets.{only_idle, without_idle};
 ghost use Rattle.sl_packet.specs.Sink.{TakesAll};
@@ -7,9 +8,13 @@ ghost use Rattle.sl_packet.specs.Stopping.{CountsFault, HandsOver, IsStopped};
 ghost use Rattle.sl_tcframe.specs.TcContent.{content};
 ghost use Rattle.sl_tcframe.specs.TcFrame.{TcView, IsContent};
 ghost use Rattle.sl_tcflow.specs.AcceptedUnit.{event_of, unit_by};
-ghost use Rattle.sl_tcflow.specs.Anomaly.{IsReportedOf, dropped_by, held_of, long_by, stray_by, tail_by};
+ghost use Rattle.sl_tcflow.specs.Anomaly.{IsReportedOf, dropped_by, held_of, long_by, stray_by};
+ghost use Rattle.sl_tcflow.specs.Anomaly.{tail_by};
 ghost use Rattle.sl_tcflow.specs.Incomplete.{incomplete_of};
-ghost use Rattle.sl_tcflow.specs.Receiving.{ForProcessed, HasProcessed, IsFailed, HasFailedAfter, HaveStepped, ForIncomplete, IsIncompleteAround, AreIncomplete, map_of, ended_by, farm_of, unit_channel, verdict_on};
+ghost use Rattle.sl_tcflow.specs.Receiving.{ForProcessed, HasProcessed, IsFailed, HasFailedAfter};
+ghost use Rattle.sl_tcflow.specs.Receiving.{HaveStepped, ForIncomplete, IsIncompleteAround};
+ghost use Rattle.sl_tcflow.specs.Receiving.{AreIncomplete, map_of, ended_by, farm_of, unit_channel};
+ghost use Rattle.sl_tcflow.specs.Receiving.{verdict_on};
 ghost use Rattle.sl_tcflow.specs.Reception.{segments_of};
 ghost use Rattle.sl_tcflow.specs.ReceptionParameters.{ReceptionParameters};
 ghost use Rattle.sl_tcflow.specs.Series.{header_at, segment_in};
@@ -25,9 +30,9 @@ use sl_tcframe::{TcContent, TcFrame, VcSet};
 use std::alloc::Global;
 use std::marker::Model;
 
-/// Delivers the packets of the virtual channels and MAPs of CCSDS 232.0-B from the frames that FARM-1 (CCSDS
-/// 232.1-B) accepts. The frames are given one after another. AD and BD units of a MAP make one list, in the
-/// order of their acceptance; this is this project's choice.
+/// Delivers the packets of the virtual channels and MAPs of CCSDS 232.0-B from the frames that
+/// FARM-1 (CCSDS 232.1-B) accepts. The frames are given one after another. AD and BD units of a MAP
+/// make one list, in the order of their acceptance; this is this project's choice.
 #[derive(Drop)]
 pub struct Receiver {
     farms: [Farm; 64],
@@ -47,13 +52,14 @@ impl Model for Receiver {
 }
 
 impl Receiver {
-    /// A receiver that was given no frame yet. FARM-1 of each virtual channel is open, with this window and
-    /// the channel's own V(R) of `starts`. The frames of the virtual channels of `plain` have no segment
-    /// headers. The receiver takes memory only as segments come.
+    /// A receiver that was given no frame yet. FARM-1 of each virtual channel is open, with this
+    /// window and the channel's own V(R) of `starts`. The frames of the virtual channels of `plain`
+    /// have no segment headers. The receiver holds no memory yet; later it asks for memory only for
+    /// a series that is incomplete.
     pub fn new(alloc: Global, window: Window, starts: &Starts, plain: VcSet) -> Receiver
         ensures processed { HasProcessed
             (record { window = window; starts = starts.now; plain = plain }) result [] }
-        ensures memory { result.series.room ≡ 0 }
+        ensures memory { result.series.capacity ≡ 0 }
     {
         Receiver {
             farms: farms_at_start(window, starts),
@@ -63,18 +69,18 @@ impl Receiver {
         }
     }
 
-    /// Takes the next frame: steps FARM-1 of the frame's virtual channel, and takes the frame's unit if it is
-    /// accepted. Hands the sink the packets of the service data unit that ends with the unit, in order and
-    /// without idle packets. Their channel is 64 times the virtual channel plus the MAP, 0 to 4095. Answers
-    /// what the frame brought.
+    /// Takes the next frame: steps FARM-1 of the frame's virtual channel, and takes the frame's
+    /// unit if it is accepted. Hands the sink the packets of the service data unit that ends with
+    /// the unit, in order and without idle packets. Their channel is 64 times the virtual channel
+    /// plus the MAP, 0 to 4095. Answers what the frame brought.
     ///
-    /// - `Memory`: memory was refused. Memory is asked for only where the unit is accepted and a series is
-    ///   incomplete on its MAP, before the frame or after it. The sink has accepted some of the packets, from
-    ///   the first one on, and refused none.
-    /// - `Sink`: the sink refused a packet. It has accepted the packets before this one, and none after it.
-    ///   Its count of refused packets has risen by one, unless it was 2^64 - 1.
-    /// - `Failed`: an earlier call answered `Memory` or `Sink`. Every call after these two answers `Failed`,
-    ///   hands over nothing and changes nothing; no other call answers it.
+    /// - `Memory`: memory was refused. Memory is asked for only where the unit is accepted and a
+    ///   series is incomplete on its MAP, before the frame or after it. The sink has accepted some
+    ///   of the packets, from the first one on, and refused none.
+    /// - `Sink`: the sink refused a packet. It has accepted the packets before this one, and none
+    ///   after it. Its count of refused packets has risen by one, unless it was 2^64 - 1.
+    /// - `Failed`: an earlier call answered `Memory` or `Sink`. Every call after these two answers
+    ///   `Failed`, hands over nothing and changes nothing; no other call answers it.
     ///
     /// At `Memory` and `Sink` FARM-1 has taken the frame.
     pub fn frame<S: PacketSink>(
@@ -82,14 +88,15 @@ impl Receiver {
         frame: &TcFrame,
         sink: &mut S,
     ) -> Result<TcStep, FlowFault>
-        // Whichever frames were processed before, these and the new frame are processed now, and FARM-1 gave
-        // the verdict.
+        // Whichever frames were processed before, these and the new frame are processed now, and
+        // FARM-1 gave the verdict.
         ensures processed { OnOk result (ForProcessed self.old (λ r views.
             HasProcessed r self.new (views ++ frame.now ∷ []))) }
         ensures verdict { IfOk result (λ step. ForProcessed self.old (λ r views.
             step.verdict ≡ verdict_on r views frame.now)) }
 
-        // The packets that end with the frame's unit were accepted and counted, and the sink refused none.
+        // The packets that end with the frame's unit were accepted and counted, and the sink
+        // refused none.
         ensures accepted { OnOk result (ForProcessed self.old (λ r views.
             TakesAll S.taking sink.old (unit_channel r frame.now)
             (without_idle (ended_by r views frame.now)) sink.new)) }
@@ -109,22 +116,23 @@ impl Receiver {
         ensures tail { IfOk result (λ step. ForProcessed self.old (λ r views.
             step.tail ≡ tail_by r views frame.now)) }
 
-        // After a fault each call answers `Failed` and changes nothing. No call answers `Failed` before a
-        // fault.
+        // After a fault each call answers `Failed` and changes nothing. No call answers `Failed`
+        // before a fault.
         ensures failed { IsFailed self.old → result ≡ Err FlowFault.Failed }
         ensures left { result ≡ Err FlowFault.Failed
             → IsFailed self.old × (self.new ≡ self.old) × (sink.new ≡ sink.old) }
 
-        // At a fault some of the packets were accepted, from the first one on, and FARM-1 has taken the
-        // frame, whichever frames were processed before. The sink failed exactly where the fault says so.
+        // At a fault some of the packets were accepted, from the first one on, and FARM-1 has taken
+        // the frame, whichever frames were processed before. The sink failed exactly where the
+        // fault says so.
         ensures stopped { IfErr result (λ flow. flow ≢ FlowFault.Failed → IsFailed self.new
             × ForProcessed self.old (λ r views. HasFailedAfter r self.new (views ++ frame.now ∷ [])
             × IsStopped S.taking S.failing S.failures sink.old (unit_channel r frame.now)
             (without_idle (ended_by r views frame.now)) flow sink.new)) }
         ensures counted { IfErr result (λ flow. CountsFault S.failures sink.old flow sink.new) }
 
-        // Memory is asked for only where the frame's unit is accepted and a series is incomplete on its MAP,
-        // before the frame or after it.
+        // Memory is asked for only where the frame's unit is accepted and a series is incomplete on
+        // its MAP, before the frame or after it.
         ensures memory { IfErr result (λ flow. flow ≡ FlowFault.Memory →
             ForProcessed self.old (λ r views. IsIncompleteAround r views frame.now)) }
     {
@@ -143,9 +151,9 @@ impl Receiver {
         Ok(reported)
     }
 
-    /// The Communications Link Control Word (CCSDS 232.0-B) of the virtual channel `vc`, 0 to 63: it reports
-    /// the state of FARM-1 after all frames so far. After a fault the last of these is the frame at which the
-    /// fault came, and the word stays so.
+    /// The Communications Link Control Word (CCSDS 232.0-B) of the virtual channel `vc`, 0 to 63:
+    /// it reports the state of FARM-1 after all frames so far. After a fault the last of these is
+    /// the frame at which the fault came, and the word stays so.
     pub fn clcw(&self, vc: u8) -> Clcw
         requires { vc ≤ 63 }
         ensures processed { ForProcessed self.now (λ r views.
@@ -157,9 +165,9 @@ impl Receiver {
         self.farms[usize::from(vc)].clcw(vc)
     }
 
-    /// The number of octets so far of the series that is incomplete on the virtual channel `vc` and the MAP
-    /// `map`, each 0 to 63: at most 65,542, and 0 where no series is incomplete. An incomplete series may
-    /// have 0 octets too. After a fault only the bound holds.
+    /// The number of octets so far of the series that is incomplete on the virtual channel `vc` and
+    /// the MAP `map`, each 0 to 63: at most 65,542, and 0 where no series is incomplete. An
+    /// incomplete series may have 0 octets too. After a fault only the bound holds.
     pub fn held(&self, vc: u8, map: u8) -> u32
         requires vc { vc ≤ 63 }
         requires map { map ≤ 63 }
@@ -170,8 +178,8 @@ impl Receiver {
         self.series.held(vc, map).unwrap_or(0)
     }
 
-    /// Whether a series is incomplete on the virtual channel `vc` and the MAP `map`, each 0 to 63. The series
-    /// may have no octets so far. After a fault the answer means nothing.
+    /// Whether a series is incomplete on the virtual channel `vc` and the MAP `map`, each 0 to 63.
+    /// The series may have no octets so far. After a fault the answer means nothing.
     pub fn is_open(&self, vc: u8, map: u8) -> bool
         requires vc { vc ≤ 63 }
         requires map { map ≤ 63 }
@@ -216,8 +224,8 @@ fn event_in(carried: &TcContent) -> FarmEvent
     }
 }
 
-// Takes the unit of a frame, if the frame carries one and this verdict accepts it, on a virtual channel
-// without segment headers (`plain`) or with them.
+// Takes the unit of a frame, if the frame carries one and this verdict accepts it, on a virtual
+// channel without segment headers (`plain`) or with them.
 fn take<S: PacketSink>(
     series: &mut SeriesStore,
     plain: bool,
@@ -225,8 +233,8 @@ fn take<S: PacketSink>(
     frame: &TcFrame,
     sink: &mut S,
 ) -> Result<TcStep, FlowFault>
-    // The clauses hold for all frames that may have come before and led to these series. The unit continues,
-    // ends or begins its series, its packets are handed over, and the step reports them.
+    // The clauses hold for all frames that may have come before and led to these series. The unit
+    // continues, ends or begins its series, its packets are handed over, and the step reports them.
     ensures series { OnOk result (ForIncomplete plain series.old.list verdict frame.now
         (λ r views. AreIncomplete r series.new.list (views ++ frame.now ∷ []))) }
     ensures hands_over { ForIncomplete plain series.old.list verdict frame.now

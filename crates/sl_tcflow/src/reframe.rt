@@ -11,18 +11,20 @@ use sl_packet::Delivered;
 use sl_tcframe::{TcShape, VcSet};
 use std::alloc::{AllocError, Global};
 
-/// The normal form of the packets that were delivered, those of virtual channel `v` and MAP `m` on channel
-/// `64 * v + m`: frames of CCSDS 232.0-B of type AD and of this format, end to end, and none where there are
-/// no packets. The form is this project's own (docs/normal-form.md).
+/// The normal form of the packets that were delivered, those of virtual channel `v` and MAP `m` on
+/// channel `64 * v + m`: frames of CCSDS 232.0-B of type AD and of this format, end to end, and
+/// none where there are no packets. The form is this project's own (docs/normal-form.md).
 ///
 /// - `spacecraft` is 0 to 1023.
-/// - `starts` has V(R) of each virtual channel before its first frame, which is the N(S) of that frame.
-/// - `plain` has the virtual channels whose frames have no segment headers; there each frame carries one
-///   packet.
+/// - `starts` has V(R) of each virtual channel before its first frame, which is the N(S) of that
+///   frame.
+/// - `plain` has the virtual channels whose frames have no segment headers; there each frame
+///   carries one packet.
 /// - `delivered` has packets that frames can carry, as [`fits_tc`](crate::fits_tc) tests.
 ///
-/// Read as a recording, with these starts and these channels, the form delivers exactly these packets again,
-/// for every window of FARM-1. The only refusal is want of memory, and only where there are packets.
+/// Read as a recording, with these starts and these channels, the form delivers exactly these
+/// packets again, for every window of FARM-1. The only refusal is want of memory, and only where
+/// there are packets.
 pub fn reframe_tc(
     alloc: Global,
     shape: &TcShape,

@@ -4,8 +4,9 @@ ghost use Rattle.std.specs.Prelude.{◌≡◌};
 use sl_cop::Verdict;
 use std::marker::Model;
 
-/// The report of a [`Receiver`](crate::Receiver) on one frame. Where the frame's unit isn't accepted, or the
-/// frame carries none, only the verdict says something: all else is false, `None` or 0.
+/// The report of a [`Receiver`](crate::Receiver) on one frame. Where the frame's unit isn't
+/// accepted, or the frame carries none, only the verdict says something: all else is false, `None`
+/// or 0.
 #[derive(Clone, Copy, Debug, PartialEq, Eq)]
 pub struct TcStep {
     pub(crate) verdict: Verdict,
@@ -48,7 +49,8 @@ impl TcStep {
         self.verdict
     }
 
-    /// The number of packets of the service data unit that ends with the frame's unit, idle packets left out.
+    /// The number of packets of the service data unit that ends with the frame's unit, idle packets
+    /// left out.
     pub fn packets(&self) -> u32
         ensures { result ≡ self.now.packets }
     {
@@ -62,33 +64,33 @@ impl TcStep {
         self.idle
     }
 
-    /// Whether the frame's unit is out of sequence: it is a continuing or last segment, and no series is
-    /// incomplete.
+    /// Whether the frame's unit is out of sequence: it is a continuing or last segment, and no
+    /// series is incomplete.
     pub fn stray(&self) -> bool
         ensures { result ≡ self.now.stray }
     {
         self.stray
     }
 
-    /// The octets of the series that was incomplete, 0 to 65,542, where the frame's unit begins another one.
-    /// `None` where no series was incomplete, or where the unit doesn't begin one.
+    /// The octets of the series that was incomplete, 0 to 65,542, where the frame's unit begins
+    /// another one. `None` where no series was incomplete, or where the unit doesn't begin one.
     pub fn dropped(&self) -> Option<u32>
         ensures { result ≡ self.now.dropped }
     {
         self.dropped
     }
 
-    /// Whether the series that was incomplete is given up, because it has more than 65,542 octets together
-    /// with the frame's unit. This bound is this project's choice.
+    /// Whether the series that was incomplete is given up, because it has more than 65,542 octets
+    /// together with the frame's unit. This bound is this project's choice.
     pub fn long(&self) -> bool
         ensures { result ≡ self.now.long }
     {
         self.long
     }
 
-    /// The octets that are left after the last whole packet of the service data unit that ends with the
-    /// frame's unit: all of its octets where it has no packet. 0 where no octets are left, and where no
-    /// service data unit ends. A series that is given up ends none.
+    /// The octets that are left after the last whole packet of the service data unit that ends with
+    /// the frame's unit: all of its octets where it has no packet. 0 where no octets are left, and
+    /// where no service data unit ends. A series that is given up ends none.
     pub fn tail(&self) -> u32
         ensures { result ≡ self.now.tail }
     {

@@ -5,8 +5,8 @@ ghost use Rattle.sl_tcflow.specs.Series.{flags_of, header_at, segment_data, segm
 
 use sl_fields::{SegmentHeader, front};
 
-/// The sequence flags of segments (CCSDS 232.0-B): of a continuing, a first and a last one, and of one with
-/// no segmentation.
+/// The sequence flags of segments (CCSDS 232.0-B): of a continuing, a first and a last one, and of
+/// one with no segmentation.
 pub const CONTINUING: u8 = 0;
 
 pub const FIRST: u8 = 1;
@@ -15,9 +15,9 @@ pub const LAST: u8 = 2;
 
 pub const WHOLE: u8 = 3;
 
-/// A segment: the sequence flags of its segment header, the channel of its packets, and the octets after the
-/// header. The channel is 64 times the virtual channel plus the header's MAP. A segment on a virtual channel
-/// without segment headers has no segmentation and is on MAP 0.
+/// A segment: the sequence flags of its segment header, the channel of its packets, and the octets
+/// after the header. The channel is 64 times the virtual channel plus the header's MAP. A segment
+/// on a virtual channel without segment headers has no segmentation and is on MAP 0.
 #[derive(Clone, Copy)]
 pub struct Segment<'a> {
     pub flags: u8,

@@ -1,5 +1,6 @@
 //! The series that are incomplete on the MAPs of all virtual channels.
-ghost use Rattle.std.specs.Prelude.{◌≡◌, ◌≢◌, ◌⊎◌, ◌≤◌, ◌<◌, [], None, option_map, ℕ, length, OnOk, IfOk, IfErr, IfSome};
+ghost use Rattle.std.specs.Prelude.{◌≡◌, ◌≢◌, ◌⊎◌, ◌≤◌, ◌<◌, [], None, option_map, ℕ, length, OnOk};
+ghost use Rattle.std.specs.Prelude.{IfOk, IfErr, IfSome};
 ghost use Rattle.std.specs.Vec.{vec_len};
 ghost use Rattle.sl_packet.specs.Stopping.{HandsOver};
 ghost use Rattle.sl_tcflow.specs.NextSegment.{IsReported, incomplete_with, packets_with};
@@ -33,10 +34,11 @@ impl Model for SeriesStore {
 }
 
 impl SeriesStore {
-    /// No series is incomplete. The store takes memory only as series begin.
+    /// No series is incomplete. The store holds no memory yet; later it asks for memory only for a
+    /// series that is incomplete.
     pub fn new(alloc: Global) -> SeriesStore
         ensures none { result.list ≡ [] }
-        ensures memory { result.room ≡ 0 }
+        ensures memory { result.capacity ≡ 0 }
     {
         SeriesStore {
             alloc,
@@ -44,7 +46,8 @@ impl SeriesStore {
         }
     }
 
-    /// The number of octets so far of the incomplete series on a virtual channel and a MAP, if there is one.
+    /// The number of octets so far of the incomplete series on a virtual channel and a MAP, if
+    /// there is one.
     pub fn held(&self, vc: u8, map: u8) -> Option<u32>
         requires vc { vc ≤ 63 }
         requires map { map ≤ 63 }

@@ -7,7 +7,7 @@ use Rattle.std.proofs.lemmas.List.Elements.{All-drop, All-get_or, All-take}
 use Rattle.sl_fields.specs.Field.{IsOctets}
 use Rattle.sl_tcframe.specs.TcDelimited.{IsTcDelimited, front_len, tc_frames_of, tc_remainder_of}
 use Rattle.sl_tcframe.specs.TcFrame.{TcFormat, is_cut, stated_frame_len}
-use Rattle.sl_tcframe.specs.TcFraming.{BeginsWith, FrameFront, Incomplete, BelowLeast, WholeFrame, IsRest, len_by_four, front_of, TcFraming, YieldsFrame, YieldsNone, YieldsFrames, ended, yielded, paused, after_call, at_start, taken_at, AnyChunksAreTaken, ChunksAreDelimited, FrontsAreFrames, NoneFollowsBelowLeast}
+use Rattle.sl_tcframe.specs.TcFraming.{BeginsWith, FrameFront, Incomplete, BelowLeast, WholeFrame, IsRest, len_by_four, front_of, TcFraming, YieldsFrame, YieldsNone, YieldsFrames, ended, yielded, paused, after_call, at_start, AnyChunksAreTaken, ChunksAreDelimited, FrontsAreFrames, NoneFollowsBelowLeast}
 use Rattle.sl_tcframe.proofs.DelimitedLemmas.{IsFront, cases_front, cut_front, each_is_delimited, front_is, front_is_cut, front_some, frames_of-frame, frames_of-none, remainder_of-frame, remainder_of-none}
 use Rattle.sl_tcframe.proofs.FramingLemmas.{FrontIs, below_stays, fits_rest, four_state_it, front_below_least, front_tells, front_whole, len_by_four-append, rest_fits}
 use Rattle.sl_tcframe.proofs.PartLemmas.{facts_cut}
@@ -108,10 +108,6 @@ below_again format octets below =
     let same : len_by_four octets ≡ len_by_four (take 4 octets) =
     ap len_by_four (sym (take-append-drop 4 octets)) ∙ len_by_four-append (take 4 octets) (drop 4 octets) (omega (arith, four)) in
     front_below_least format (take 4 octets) (omega (arith, four)) (omega (arith, facts.1, same))
-
-rest_after : (format : TcFormat) (octets : List ℕ) → IsRest format octets → IsRest format (taken_at (front_of format octets) octets)
-rest_after format octets (inl more) = rw more (inl more)
-rest_after format octets (inr below) = rw below.0 (inr (below_again format octets below.0, below_taken format octets below.0))
 
 pub pause_rest : (f : TcFraming) (chunk left : List ℕ) → YieldsNone f chunk left → IsRest f.format (after_call f chunk None).rest
 pause_rest f chunk left p =

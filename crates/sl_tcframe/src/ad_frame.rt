@@ -2,23 +2,25 @@
 ghost use Rattle.std.specs.Prelude.{◌≡◌, ◌+◌, ◌<◌, ◌≤◌, ◌++◌, length, vec_len, OnOk, OnErr};
 ghost use Rattle.std.specs.Vec.{vec_capacity};
 ghost use Rattle.sl_fields.specs.Field.{octets_of};
-ghost use Rattle.sl_tcframe.specs.AdFrame.{ad_fields, ad_frame, ad_len, plain_room_of, segment_room_of, segment_unit};
+ghost use Rattle.sl_tcframe.specs.AdFrame.{ad_fields, ad_frame, ad_len, plain_room_of};
+ghost use Rattle.sl_tcframe.specs.AdFrame.{segment_room_of, segment_unit};
 
 use crate::tc_shape::TcShape;
 use sl_fields::{SegmentHeader, TcHeader, fecf_field};
 use std::alloc::AllocError;
 
-/// Adds a TC transfer frame (CCSDS 232.0-B) of type AD to `out`. The frame's data field is the segment header
-/// `header` and then `octets`.
+/// Adds a TC transfer frame (CCSDS 232.0-B) of type AD to `out`. The frame's data field is the
+/// segment header `header` and then `octets`.
 ///
 /// - `spacecraft` is 0 to 1023 and `vc` 0 to 63.
 /// - `ns` is the frame sequence number N(S), 0 to 255.
 /// - `octets` has 0 to [`TcShape::room`] octets.
 ///
-/// The frame has version 0, bypass flag 0, control command flag 0 and spare bits 0, and its error control
-/// field where the format has one.
+/// The frame has version 0, bypass flag 0, control command flag 0 and spare bits 0, and its error
+/// control field where the format has one.
 ///
-/// Memory is refused only where the capacity of `out` has no room for the frame. `out` is then as it was.
+/// Memory is refused only where the capacity of `out` has no room for the frame. `out` is then as
+/// it was.
 pub fn push_tc(
     out: &mut Vec<u8>,
     shape: &TcShape,
@@ -46,10 +48,10 @@ pub fn push_tc(
     push_unit(out, shape, spacecraft, vc, ns, &header.write(), octets)
 }
 
-/// Adds a TC transfer frame (CCSDS 232.0-B) of type AD without a segment header to `out`, for a virtual
-/// channel that has no segment headers by management. The frame's data field is `octets`, 1 to
-/// [`TcShape::plain_room`] octets. `spacecraft` is 0 to 1023 and `vc` 0 to 63; `ns` is the frame sequence
-/// number N(S), 0 to 255.
+/// Adds a TC transfer frame (CCSDS 232.0-B) of type AD without a segment header to `out`, for a
+/// virtual channel that has no segment headers by management. The frame's data field is `octets`, 1
+/// to [`TcShape::plain_room`] octets. `spacecraft` is 0 to 1023 and `vc` 0 to 63; `ns` is the frame
+/// sequence number N(S), 0 to 255.
 ///
 /// The other parts of the frame, and what stands after a refusal, are as for [`push_tc`].
 pub fn push_tc_plain(
@@ -79,7 +81,8 @@ pub fn push_tc_plain(
     push_unit(out, shape, spacecraft, vc, ns, &[], octets)
 }
 
-// Adds a frame of type AD. Its data field is `segment`, a segment header or nothing, and then `octets`.
+// Adds a frame of type AD. Its data field is `segment`, a segment header or nothing, and then
+// `octets`.
 fn push_unit<const N: usize>(
     out: &mut Vec<u8>,
     shape: &TcShape,

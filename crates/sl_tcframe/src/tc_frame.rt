@@ -1,6 +1,7 @@
 //! The TC transfer frame, as it is read.
 ghost use Rattle.std.specs.Prelude.{◌≡◌, ◌-◌, ◌<◌, ◌≤◌, true, length, drop, option_map, IfSome};
-ghost use Rattle.sl_tcframe.specs.TcFrame.{tc_header_of, command_of, content_of, early_reason, is_cut, tc_parts_of, IsContent};
+ghost use Rattle.sl_tcframe.specs.TcFrame.{tc_header_of, command_of, content_of, early_reason};
+ghost use Rattle.sl_tcframe.specs.TcFrame.{is_cut, tc_parts_of, IsContent};
 ghost use Rattle.sl_tcframe.specs.TcContent.{content};
 
 use crate::tc_shape::TcShape;
@@ -27,20 +28,20 @@ pub enum TcSkip {
 }
 
 /// The content of a TC transfer frame (CCSDS 232.0-B).
-#[derive(Clone, Copy, Debug)]
+#[derive(Clone, Copy, Debug, PartialEq, Eq)]
 pub enum TcContent<'a> {
     /// The unit of a frame of type AD, which the acceptance checks of FARM-1 apply to.
     Ad {
         /// Frame sequence number N(S), 0 to 255.
         ns: u8,
-        /// The data field, 1 to 1019 octets: a segment header and the octets of the segment, or only these
-        /// octets where the virtual channel has no segment headers.
+        /// The data field, 1 to 1019 octets: a segment header and the octets of the segment, or
+        /// only these octets where the virtual channel has no segment headers.
         unit: &'a [u8],
     },
     /// The unit of a frame of type BD, which bypasses the acceptance checks.
     Bd {
-        /// The data field, 1 to 1019 octets: a segment header and the octets of the segment, or only these
-        /// octets where the virtual channel has no segment headers.
+        /// The data field, 1 to 1019 octets: a segment header and the octets of the segment, or
+        /// only these octets where the virtual channel has no segment headers.
         unit: &'a [u8],
     },
     /// The control command Unlock, in a frame of type BC.
@@ -71,11 +72,12 @@ impl<'a> Model for TcFrame<'a> {
 impl<'a> TcFrame<'a> {
     ghost use Rattle.sl_tcframe.specs.TcFrame.{tc_frame};
 
-    /// Reads a frame of this format and spacecraft, or answers why the frame is skipped. `octets` are one
-    /// frame by their frame length field, as [`TcShape::is_cut`] tests. The unit is borrowed from `octets`.
+    /// Reads a frame of this format and spacecraft, or answers why the frame is skipped. `octets`
+    /// are one frame by their frame length field, as [`TcShape::is_cut`] tests. The unit is
+    /// borrowed from `octets`.
     ///
-    /// The spare bits of the header, and N(S) of types BD and BC, are not looked at, by this project's
-    /// choice.
+    /// The spare bits of the header, and N(S) of types BD and BC, are not looked at, by this
+    /// project's choice.
     #[inline(always)]
     pub fn read(shape: &TcShape, spacecraft: u16, octets: &'a [u8]) -> Result<TcFrame<'a>, TcSkip>
         requires cut { is_cut shape.now octets.now ≡ true }

@@ -1,17 +1,19 @@
 //! TC frames from a recording that comes in chunks.
-ghost use Rattle.std.specs.Prelude.{◌≡◌, ◌↔◌, IsTrue, ◌-◌, ◌≤◌, ◌<◌, ◌++◌, nat_lt, true, false, length, take, drop, Some, None, IfSome, IfNone, if◌then◌else◌};
+ghost use Rattle.std.specs.Prelude.{◌≡◌, ◌↔◌, IsTrue, ◌-◌, ◌≤◌, ◌<◌, ◌++◌, nat_lt, true, false};
+ghost use Rattle.std.specs.Prelude.{length, take, drop, Some, None, IfSome, IfNone, if◌then◌else◌};
 ghost use Rattle.std.specs.Borrow.{sem};
 ghost use Rattle.std.specs.Io.BufRead.{Rests};
 ghost use Rattle.sl_tcframe.specs.TcFrame.{is_cut, stated_frame_len};
-ghost use Rattle.sl_tcframe.specs.TcFraming.{BeginsWithFrame, BelowLeast, IsRest, TakesUpToFrame, front_of, len_by_four};
+ghost use Rattle.sl_tcframe.specs.TcFraming.{BeginsWithFrame, BelowLeast, IsRest, TakesUpToFrame};
+ghost use Rattle.sl_tcframe.specs.TcFraming.{front_of, len_by_four};
 
 use crate::tc_shape::TcShape;
 use arrayvec::ArrayVec;
 use sl_fields::TcHeader;
 use std::marker::Model;
 
-/// Takes the octets of a recording in chunks, and returns each TC transfer frame (CCSDS 232.0-B) that the
-/// octets complete. The framer keeps one frame at most, 1024 octets, and takes no memory.
+/// Takes the octets of a recording in chunks, and returns each TC transfer frame (CCSDS 232.0-B)
+/// that the octets complete. The framer keeps one frame at most, 1024 octets, and takes no memory.
 #[derive(Drop)]
 pub struct TcFramer {
     shape: TcShape,
@@ -30,7 +32,8 @@ impl Model for TcFramer {
 }
 
 impl TcFramer {
-    ghost use Rattle.sl_tcframe.specs.TcFraming.{Answers, IsStuck, HasTaken, StaysStuck, YieldsFrame, YieldsNone, at_start};
+    ghost use Rattle.sl_tcframe.specs.TcFraming.{Answers, IsStuck, HasTaken, StaysStuck};
+    ghost use Rattle.sl_tcframe.specs.TcFraming.{YieldsFrame, YieldsNone, at_start};
     ghost use Rattle.sl_tcframe.specs.contracts.tc_framer.TcFramer.{the_row};
 
     /// A framer for frames of this format that has taken no octet yet.
@@ -44,8 +47,8 @@ impl TcFramer {
         }
     }
 
-    /// The octets that were taken after the last frame: fewer than a frame needs, or exactly four octets that
-    /// state a length below [`TcShape::least`].
+    /// The octets that were taken after the last frame: fewer than a frame needs, or exactly four
+    /// octets that state a length below [`TcShape::least`].
     pub fn rest(&self) -> &[u8]
         ensures octets { result.now ≡ self.now.rest }
         ensures part { IsRest self.now.format result.now }
@@ -56,8 +59,9 @@ impl TcFramer {
         self.taken.as_slice()
     }
 
-    /// Whether the octets in [`rest`](TcFramer::rest) state a length below [`TcShape::least`]. The framer
-    /// then takes no more octets and returns no more frames. This end of a recording is the project's choice.
+    /// Whether the octets in [`rest`](TcFramer::rest) state a length below [`TcShape::least`]. The
+    /// framer then takes no more octets and returns no more frames. This end of a recording is the
+    /// project's choice.
     pub fn stuck(&self) -> bool
         ensures { IsTrue result ↔ IsStuck self.now }
     {
@@ -67,17 +71,17 @@ impl TcFramer {
         }
     }
 
-    /// Takes octets from the front of the chunk `piece`, and returns the frame that they complete together
-    /// with the octets that were taken before. `piece` is left with the octets after the frame. A frame is
-    /// returned also where it is longer than [`TcShape::max`].
+    /// Takes octets from the front of the chunk `piece`, and returns the frame that they complete
+    /// together with the octets that were taken before. `piece` is left with the octets after the
+    /// frame. A frame is returned also where it is longer than [`TcShape::max`].
     ///
-    /// `None` comes where the chunk is used up before a frame is complete, and where four octets state a
-    /// length below [`TcShape::least`]. After these four octets the framer takes none, in this call and in
-    /// every later one.
+    /// `None` comes where the chunk is used up before a frame is complete, and where four octets
+    /// state a length below [`TcShape::least`]. After these four octets the framer takes none, in
+    /// this call and in every later one.
     pub fn next(&mut self, piece: &mut &[u8]) -> Option<&[u8]>
         ensures* taken { sem 𝓛 (Rests the_row self.entry (HasTaken self.old piece.old.now result)) }
-        // A frame has the octets that were taken after the last frame, and then octets from the front of the
-        // chunk.
+        // A frame has the octets that were taken after the last frame, and then octets from the
+        // front of the chunk.
         ensures frame { IfSome result (λ frame.
             YieldsFrame self.old piece.old.now frame.now piece.new.now) }
         ensures cut { IfSome result (λ frame. is_cut self.old.format frame.now ≡ true) }
@@ -98,8 +102,9 @@ impl TcFramer {
 
     /// As [`next`](TcFramer::next), with the same clauses, for a chunk that outlives the frame.
     ///
-    /// By reading, a frame that lies whole in the chunk is returned as a slice of the chunk, and only a frame
-    /// that lies in several chunks is copied. No clause says where the octets of a frame lie.
+    /// By reading, a frame that lies whole in the chunk is returned as a slice of the chunk, and
+    /// only a frame that lies in several chunks is copied. No clause says where the octets of a
+    /// frame lie.
     #[inline]
     pub fn next_from<'a, 'p: 'a>(&'a mut self, piece: &mut &'p [u8]) -> Option<&'a [u8]>
         ensures* taken { sem 𝓛 (Rests the_row self.entry (HasTaken self.old piece.old.now result)) }
@@ -146,7 +151,8 @@ fn split_frame<'p>(shape: &TcShape, octets: &'p [u8]) -> Option<(&'p [u8], &'p [
     Some(octets.split_at(len))
 }
 
-// Takes octets from the front of the chunk until a frame is whole. Answers whether a frame is whole.
+// Takes octets from the front of the chunk until a frame is whole. Answers whether a frame is
+// whole.
 fn complete(shape: &TcShape, taken: &mut ArrayVec<u8, 1024>, chunk: &mut &[u8]) -> bool
     requires { IsRest shape.now taken.old.items }
     ensures taken { TakesUpToFrame shape.now

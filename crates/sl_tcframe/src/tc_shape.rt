@@ -6,8 +6,8 @@ ghost use Rattle.sl_tcframe.specs.TcFrame.{is_cut, least_of};
 use sl_fields::{ShapeFault, TcHeader};
 use std::marker::Model;
 
-/// The managed format of a physical channel's TC transfer frames (CCSDS 232.0-B): the greatest length of a
-/// frame, and whether each frame ends with a frame error control field.
+/// The managed format of a physical channel's TC transfer frames (CCSDS 232.0-B): the greatest
+/// length of a frame, and whether each frame ends with a frame error control field.
 #[derive(Clone, Copy, Debug, PartialEq, Eq)]
 pub struct TcShape {
     pub(crate) max: u16,
@@ -32,9 +32,9 @@ impl TcShape {
     ghost use Rattle.sl_tcframe.specs.TcFrame.{TcFormat};
     ghost use Rattle.sl_tcframe.specs.TcShape.{tc_shape};
 
-    /// The format with this greatest length, 16 to 1024 octets, and a frame error control field where `fecf`
-    /// is set. Any other greatest length is refused with `TcLength`. CCSDS 232.0-B has 1024; the bound of 16
-    /// is this project's choice.
+    /// The format with this greatest length, 16 to 1024 octets, and a frame error control field
+    /// where `fecf` is set. Any other greatest length is refused with `TcLength`. CCSDS 232.0-B has
+    /// 1024; the bound of 16 is this project's choice.
     pub fn new(max: u16, fecf: bool) -> Result<TcShape, ShapeFault>
         ensures { let format : TcFormat = record { max = max; fecf = fecf } in
             result ≡ tc_shape format }
@@ -82,8 +82,8 @@ impl TcShape {
         }
     }
 
-    /// The octets of a data field at most: 9 to 1019. A frame without a segment header carries this many
-    /// octets at most.
+    /// The octets of a data field at most: 9 to 1019. A frame without a segment header carries this
+    /// many octets at most.
     pub fn plain_room(&self) -> u16
         ensures value { result ≡ plain_room_of self.now }
         ensures least { 9 ≤ result }
@@ -93,8 +93,8 @@ impl TcShape {
     }
 
     /// Whether the octets are one frame by their frame length field: they are at least
-    /// [`least`](TcShape::least) octets, and exactly as many as the field states. They may be more than
-    /// [`max`](TcShape::max).
+    /// [`least`](TcShape::least) octets, and exactly as many as the field states. They may be more
+    /// than [`max`](TcShape::max).
     pub fn is_cut(&self, octets: &[u8]) -> bool
         ensures { result ≡ is_cut self.now octets.now }
     {

@@ -60,9 +60,9 @@ impl VcSet {
         self.flags[usize::from(vc)]
     }
 
-    /// Reads the set that the text lists: one or more virtual channels, 0 to 63, in decimal without leading
-    /// zeros, which rise strictly and are joined by single commas. `None` for any other text, also for the
-    /// empty one.
+    /// Reads the set that the text lists: one or more virtual channels, 0 to 63, in decimal without
+    /// leading zeros, which rise strictly and are joined by single commas. `None` for any other
+    /// text, also for the empty one.
     pub fn read(text: &str) -> Option<VcSet>
         ensures listed { IfSome result (λ vcs. Lists 0 text.now vcs) }
         ensures every { (vcs : List ℕ) → Lists 0 text.now vcs → result ≡ Some vcs }

@@ -3,3 +3,4 @@ pub mod Anomaly
 pub mod Incomplete
 pub mod Loss
 pub mod LossEdge
+pub mod Order

@@ -18,8 +18,8 @@ pub record AreDeliverable (lists : List (List (List ℕ))) : Type 0 where
   pub each : AllByRecursion (AllByRecursion IsDeliverable) lists
 
 -- a frame is read, and not skipped
-abbrev pub IsRead : TmFormat → ℕ → List ℕ → Type 0
-IsRead format spacecraft frame = (view : TmView) × (tm_frame format spacecraft frame ≡ Ok view)
+abbrev pub IsNotSkipped : TmFormat → ℕ → List ℕ → Type 0
+IsNotSkipped format spacecraft frame = (view : TmView) × (tm_frame format spacecraft frame ≡ Ok view)
 
 -- ---- laws
 
@@ -33,11 +33,11 @@ NormalFormIsFrames =
     (format : TmFormat) (spacecraft : ℕ) (lists : List (List (List ℕ))) → IsFormat format → spacecraft ≤ 1023 → AreDeliverable lists
     → IsTmDelimited format.len (normal_form format spacecraft lists) (frames_from_channel format spacecraft 0 0 lists) []
 
--- each of them is read, so none is skipped,
+-- No frame of the normal form is skipped.
 abbrev pub NoFrameIsSkipped : Type 0
 NoFrameIsSkipped =
     (format : TmFormat) (spacecraft : ℕ) (lists : List (List (List ℕ))) → IsFormat format → spacecraft ≤ 1023 → AreDeliverable lists
-    → AllByRecursion (IsRead format spacecraft) (frames_from_channel format spacecraft 0 0 lists)
+    → AllByRecursion (IsNotSkipped format spacecraft) (frames_from_channel format spacecraft 0 0 lists)
 
 -- Read as a recording, the normal form delivers exactly the packets that it was made from.
 abbrev pub NormalFormDelivers : Type 0

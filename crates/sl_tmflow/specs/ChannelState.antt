@@ -18,13 +18,14 @@ pub record ChannelState : Type 0 where
 abbrev pub no_frame : ChannelState
 no_frame = record { count = None; held = [] }
 
--- a state, and the octets that memory was taken for
+-- a state, and for how many octets there is memory
 pub record KeptChannel : Type 0 where
   pub state : ChannelState
-  pub room : ℕ
+  pub capacity : ℕ
 
-abbrev pub no_channel : KeptChannel
-no_channel = record { state = no_frame; room = 0 }
+-- a virtual channel before its first frame, without memory
+abbrev pub new_channel : KeptChannel
+new_channel = record { state = no_frame; capacity = 0 }
 
 -- what the next frame does to the octets that are held
 abbrev pub held_step : Option ℕ → List ℕ → TmView → Continuation

@@ -1,15 +1,15 @@
 -- The state of an extractor after frames of virtual channels, CCSDS 132.0-B, were given to it.
-use Rattle.std.specs.Prelude.{◌≡◌, ◌≢◌, ◌⊎◌, ℕ, ◌<◌, ◌==◌, Bool, true, false, if◌then◌else◌, List, [], ◌∷◌, ◌++◌}
+use Rattle.std.specs.Prelude.{◌≡◌, ◌≢◌, ◌⊎◌, ℕ, ◌<◌, ◌==◌, Bool, true, false, if◌then◌else◌, List, [], ◌∷◌, ◌++◌, length}
 use Rattle.std.specs.List.{AllByRecursion, slice_index_or}
 use Rattle.sl_packet.specs.Packets.{without_idle}
 use Rattle.sl_tmframe.specs.TmFrame.{TmView}
 use Rattle.sl_tmflow.specs.Channel.{channel_of, last_count}
-use Rattle.sl_tmflow.specs.ChannelState.{ChannelState, KeptChannel, no_channel}
+use Rattle.sl_tmflow.specs.ChannelState.{ChannelState, KeptChannel, new_channel}
 use Rattle.sl_tmflow.specs.Delivery.{packets_ending}
 use Rattle.sl_tmflow.specs.Incomplete.{incomplete_of}
 use Rattle.sl_tmflow.specs.Recording.{packets_of_channel}
 
--- the states of the virtual channels, and whether a fault came
+-- the state of each virtual channel and its memory, and whether a fault came
 pub record ExtractorState : Type 0 where
   pub channels : List KeptChannel
   pub has_failed : Bool
@@ -27,7 +27,7 @@ pub record HasSeen (state : ChannelState) (channel : List TmView) : Type 0 where
 -- These frames were processed, and no fault came. Other lists of frames may lead to the same state.
 pub record HasProcessed (state : ExtractorState) (views : List TmView) : Type 0 where
   pub working : state.has_failed ≡ false
-  pub each : (vc : ℕ) → vc < 8 → HasSeen (slice_index_or state.channels vc no_channel).state (channel_of vc views)
+  pub each : (vc : ℕ) → vc < 8 → HasSeen (slice_index_or state.channels vc new_channel).state (channel_of vc views)
 
 -- some frames were processed, and no fault came
 abbrev pub IsWorking : ExtractorState → Type 0
@@ -37,9 +37,10 @@ IsWorking state = (views : List TmView) × HasProcessed state views
 abbrev pub ForProcessed : ExtractorState → (List TmView → Type 0) → Type 0
 ForProcessed state holds = (views : List TmView) → HasProcessed state views → holds views
 
--- no memory was taken for packets
-abbrev pub HasNoMemory : ExtractorState → Type 0
-HasNoMemory state = AllByRecursion (λ (channel : KeptChannel). channel.room ≡ 0) state.channels
+-- there are eight virtual channels, and no memory on any of them
+pub record HasNoMemory (state : ExtractorState) : Type 0 where
+  pub eight : length state.channels ≡ 8
+  pub none : AllByRecursion (λ (channel : KeptChannel). channel.capacity ≡ 0) state.channels
 
 -- a fault came
 abbrev pub IsFailed : ExtractorState → Type 0

@@ -1,4 +1,5 @@
--- An `Extractor` stands for the states of its virtual channels, and for whether a fault came.
+-- A `Channel` stands for the state of a virtual channel, and for how many octets it has memory. An `Extractor` stands
+-- for its eight channels, and for whether a fault came.
 use Rattle.std.specs.Prelude.{◌≤◌, length}
 use Rattle.std.specs.Vec.{vec_capacity}
 use Rattle.sl_tmflow.specs.ChannelState.{KeptChannel}
@@ -7,7 +8,7 @@ use Rattle.sl_tmflow.specs.declared.channel.Channel.TheInside as channel
 use Rattle.sl_tmflow.specs.declared.extractor.Extractor.TheInside as extractor
 
 abbrev pub kept_channel : channel.Inside → KeptChannel
-kept_channel c = record { state = record { count = c.count; held = c.held.items }; room = vec_capacity c.held }
+kept_channel c = record { state = record { count = c.count; held = c.held.items }; capacity = vec_capacity c.held }
 
 -- fewer octets are held than the longest packet has
 abbrev pub HoldsNoPacket : channel.Inside → Type 0

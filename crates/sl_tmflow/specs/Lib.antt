@@ -7,6 +7,7 @@ pub mod Delivery
 pub mod Extraction
 pub mod ExtractorModel
 pub mod FormLeft
+pub mod FormOrder
 pub mod Incomplete
 pub mod Loss
 pub mod NormalForm

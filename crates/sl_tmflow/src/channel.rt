@@ -6,7 +6,9 @@ ghost use Rattle.sl_packet.specs.Stopping.{HandsOver};
 ghost use Rattle.sl_tmframe.specs.TmField.{data_field};
 ghost use Rattle.sl_tmframe.specs.TmFrame.{IsInField, Packets};
 ghost use Rattle.sl_tmflow.specs.Anomaly.{gap_after};
-ghost use Rattle.sl_tmflow.specs.ChannelState.{foreign_in, held_after, incomplete_in, is_after, kept_octets, kept_of, lost_by, lost_of, no_channel, packets_after, state_after, step_in};
+ghost use Rattle.sl_tmflow.specs.ChannelState.{foreign_in, held_after, incomplete_in, is_after};
+ghost use Rattle.sl_tmflow.specs.ChannelState.{kept_octets, kept_of, lost_by, lost_of, new_channel};
+ghost use Rattle.sl_tmflow.specs.ChannelState.{packets_after, state_after, step_in};
 ghost use Rattle.sl_tmflow.specs.Delivery.{ended, field_step};
 ghost use Rattle.sl_tmflow.specs.PacketStart.{whole_packets};
 ghost use Rattle.sl_tmflow.specs.StepReport.{counts_of};
@@ -43,7 +45,7 @@ impl Model for Channel {
 impl Channel {
     /// A virtual channel that had no frame yet.
     pub fn new(alloc: Global) -> Channel
-        ensures { result ≡ no_channel }
+        ensures { result ≡ new_channel }
     {
         Channel {
             count: None,
@@ -176,8 +178,8 @@ impl Channel {
             ≡ kept_of (field_step self.old.state.held (Packets first octets.now))
             (self.old.state.held ++ octets.now)) }
 
-        // Where the packet ends, the sink is handed it. Where the packet is broken off, its octets before the
-        // field are counted.
+        // Where the packet ends, the sink is handed it. Where the packet is broken off, its octets
+        // before the field are counted.
         ensures hands_over { HandsOver S.taking S.failing S.failures counts_of
             sink.old vc (ended (field_step self.old.state.held (Packets first octets.now)))
             result sink.new }
@@ -204,8 +206,8 @@ impl Channel {
         }
     }
 
-    // Takes the packets that start in a data field: those that lie whole in the field, and the one that is
-    // incomplete.
+    // Takes the packets that start in a data field: those that lie whole in the field, and the one
+    // that is incomplete.
     fn begin<S: PacketSink>(
         &mut self,
         field: &TmField,
@@ -214,8 +216,8 @@ impl Channel {
     ) -> Result<TmStep, FlowFault>
         requires vc { vc ≤ 7 }
         requires inside { IsInField (data_field field.now) }
-        // A packet that is incomplete at the end of the field is kept, and memory is asked for only for this
-        // packet.
+        // A packet that is incomplete at the end of the field is kept, and memory is asked for only
+        // for this packet.
         ensures count { self.new.state.count ≡ self.old.state.count }
         ensures held { OnOk result
             (self.new.state.held ≡ held_after (data_field field.now) self.old.state.held) }
@@ -246,8 +248,8 @@ impl Channel {
     ) -> Result<TmStep, FlowFault>
         requires vc { vc ≤ 7 }
         requires short { length octets.now ≤ 2042 }
-        // A packet that is incomplete at the end of the octets is kept, and memory is asked for only for this
-        // packet.
+        // A packet that is incomplete at the end of the octets is kept, and memory is asked for
+        // only for this packet.
         ensures count { self.new.state.count ≡ self.old.state.count }
         ensures held { OnOk result (self.new.state.held
             ≡ incomplete_in (front (rest_of octets.now)) (rest_of octets.now)) }

@@ -6,7 +6,8 @@ ghost use Rattle.std.specs.List.{concat};
 ghost use Rattle.sl_tmflow.specs.Anomaly.{dropped_of, foreign_of, gap_of};
 ghost use Rattle.sl_tmflow.specs.Channel.{channel_of};
 ghost use Rattle.sl_tmflow.specs.Incomplete.{incomplete_of};
-ghost use Rattle.sl_tmflow.specs.Extraction.{ForProcessed, HasProcessed, IsFailed, HasNoMemory, IsIncompleteAround, ended_by};
+ghost use Rattle.sl_tmflow.specs.Extraction.{ForProcessed, HasProcessed, IsFailed, HasNoMemory};
+ghost use Rattle.sl_tmflow.specs.Extraction.{IsIncompleteAround, ended_by};
 ghost use Rattle.sl_packet.specs.Stopping.{CountsFault, IsStopped};
 
 use crate::channel::Channel;
@@ -16,8 +17,8 @@ use sl_tmframe::TmFrame;
 use std::alloc::Global;
 use std::marker::Model;
 
-/// Delivers the packets of the virtual channels of CCSDS 132.0-B from their frames, which are given one after
-/// another. The frames may be of any formats and spacecraft.
+/// Delivers the packets of the virtual channels of CCSDS 132.0-B from their frames, which are given
+/// one after another. The frames may be of any formats and spacecraft.
 #[derive(Drop)]
 pub struct Extractor {
     channels: [Channel; 8],
@@ -35,7 +36,8 @@ impl Model for Extractor {
 }
 
 impl Extractor {
-    /// An extractor that was given no frame yet. It takes memory only as packets come.
+    /// An extractor that was given no frame yet. It holds no memory yet; later it asks for memory
+    /// only for a packet that is incomplete.
     pub fn new(alloc: Global) -> Extractor
         ensures processed { HasProcessed result [] }
         ensures memory { HasNoMemory result }
@@ -46,17 +48,17 @@ impl Extractor {
         }
     }
 
-    /// Takes the next frame: hands the sink the packets that end in the frame, and answers what the frame
-    /// brought. The packets are handed over in the order of their starts, without idle packets, on the
-    /// channel of the frame's virtual channel, 0 to 7.
+    /// Takes the next frame: hands the sink the packets that end in the frame, and answers what the
+    /// frame brought. The packets are handed over in the order of their starts, without idle
+    /// packets, on the channel of the frame's virtual channel, 0 to 7.
     ///
-    /// - `Memory`: memory was refused. Memory is asked for only where a packet is incomplete on the frame's
-    ///   virtual channel, before the frame or after it. The sink has accepted some of the packets, from the
-    ///   first one on, and refused none.
-    /// - `Sink`: the sink refused a packet. It has accepted the packets before this one, and none after it.
-    ///   Its count of refused packets has risen by one, unless it was 2^64 - 1.
-    /// - `Failed`: an earlier call answered `Memory` or `Sink`. Every call after these two answers `Failed`,
-    ///   hands over nothing and changes nothing; no other call answers it.
+    /// - `Memory`: memory was refused. Memory is asked for only where a packet is incomplete on the
+    ///   frame's virtual channel, before the frame or after it. The sink has accepted some of the
+    ///   packets, from the first one on, and refused none.
+    /// - `Sink`: the sink refused a packet. It has accepted the packets before this one, and none
+    ///   after it. Its count of refused packets has risen by one, unless it was 2^64 - 1.
+    /// - `Failed`: an earlier call answered `Memory` or `Sink`. Every call after these two answers
+    ///   `Failed`, hands over nothing and changes nothing; no other call answers it.
     pub fn frame<S: PacketSink>(
         &mut self,
         frame: &TmFrame,
@@ -76,30 +78,30 @@ impl Extractor {
             step.idle ≡ length (only_idle (ended_by views frame.now)))) }
         ensures kept { OnOk result (S.failures sink.new ≡ S.failures sink.old) }
 
-        // The anomalies: a count that doesn't follow the last one, an incomplete packet that the frame breaks
-        // off, and octets of another packet version at a packet start.
+        // The anomalies: a count that doesn't follow the last one, an incomplete packet that the
+        // frame breaks off, and octets of another packet version at a packet start.
         ensures gap { IfOk result (λ step. ForProcessed self.old (λ views.
             step.gap ≡ gap_of (channel_of frame.now.vc views) frame.now)) }
         ensures dropped { IfOk result (λ step. ForProcessed self.old (λ views.
             step.dropped ≡ dropped_of (channel_of frame.now.vc views) frame.now)) }
         ensures foreign { IfOk result (λ step. step.foreign ≡ foreign_of frame.now.field) }
 
-        // After a fault each call answers `Failed` and changes nothing. No call answers `Failed` before a
-        // fault.
+        // After a fault each call answers `Failed` and changes nothing. No call answers `Failed`
+        // before a fault.
         ensures failed { IsFailed self.old → result ≡ Err FlowFault.Failed }
         ensures left { result ≡ Err FlowFault.Failed
             → IsFailed self.old × (self.new ≡ self.old) × (sink.new ≡ sink.old) }
 
-        // At a fault some of the packets were accepted, from the first one on, whichever frames were
-        // processed before. The sink failed exactly where the fault says so.
+        // At a fault some of the packets were accepted, from the first one on, whichever frames
+        // were processed before. The sink failed exactly where the fault says so.
         ensures stopped { IfErr result (λ flow. flow ≢ FlowFault.Failed → IsFailed self.new
             × ForProcessed self.old (λ views.
             IsStopped S.taking S.failing S.failures sink.old frame.now.vc
             (without_idle (ended_by views frame.now)) flow sink.new)) }
         ensures counted { IfErr result (λ flow. CountsFault S.failures sink.old flow sink.new) }
 
-        // Memory is asked for only where a packet is incomplete on the frame's virtual channel, before the
-        // frame or after it.
+        // Memory is asked for only where a packet is incomplete on the frame's virtual channel,
+        // before the frame or after it.
         ensures memory { IfErr result (λ flow. flow ≡ FlowFault.Memory →
             ForProcessed self.old (λ views. IsIncompleteAround views frame.now)) }
     {
@@ -116,8 +118,8 @@ impl Extractor {
         Ok(step)
     }
 
-    /// The octets so far of the packet that is incomplete after the last frame of the virtual channel `vc`, 0
-    /// to 7: at most 65,541, 0 where no packet is incomplete, and 0 after a fault.
+    /// The octets so far of the packet that is incomplete after the last frame of the virtual
+    /// channel `vc`, 0 to 7: at most 65,541, 0 where no packet is incomplete, and 0 after a fault.
     pub fn held(&self, vc: u8) -> u32
         requires { vc ≤ 7 }
         ensures value { ForProcessed self.now (λ views.

@@ -1,11 +1,16 @@
 //! The normal form of delivered packets, piece by piece.
-ghost use Rattle.std.specs.Prelude.{ℕ, List, [], ◌≡◌, ◌≢◌, ◌+◌, ◌*◌, ◌%◌, ◌<◌, ◌≤◌, ◌++◌, None, Some, length, take, false, IfOk, OnOk, OnErr, IfSome, IsTrue};
+ghost use Rattle.std.specs.Prelude.{ℕ, List, [], ◌≡◌, ◌≢◌, ◌+◌, ◌*◌, ◌%◌, ◌<◌, ◌≤◌, ◌++◌, None};
+ghost use Rattle.std.specs.Prelude.{Some, length, take, false, IfOk, OnOk, OnErr, IfSome, IsTrue};
 ghost use Rattle.std.specs.List.{AllByRecursion, concat, slice_index_or};
 ghost use Rattle.std.specs.Vec.{vec_len, vec_capacity};
 ghost use Rattle.sl_packet.specs.Delivered.{HasNone, IsDeliverable, list_at};
 ghost use Rattle.sl_tmframe.specs.PacketFrame.{field_room_of};
 ghost use Rattle.sl_tmflow.specs.Canonical.{AreDeliverable, IsFormat};
-ghost use Rattle.sl_tmflow.specs.FormLeft.{IsLeft, AddsPiece, IsAllMade, KeepsLeft, IsOfPackets, IsReserved, LacksRoom, HasMore, HasFewer, HasNoMore, form_of, piece_room, octets_room, heading_after, frames_of, frames_len, fields_in, beyond_fields, filled_up, passed};
+ghost use Rattle.sl_tmflow.specs.FormLeft.{IsLeft, AddsPiece, IsAllMade, KeepsLeft, IsOfPackets};
+ghost use Rattle.sl_tmflow.specs.FormLeft.{IsReserved, LacksRoom, HasMore, HasFewer, HasNoMore};
+ghost use Rattle.sl_tmflow.specs.FormLeft.{form_of, piece_room, octets_room, heading_after};
+ghost use Rattle.sl_tmflow.specs.FormLeft.{frames_of, frames_len, fields_in, beyond_fields};
+ghost use Rattle.sl_tmflow.specs.FormLeft.{filled_up, passed};
 ghost use Rattle.sl_tmflow.specs.NormalForm.{fill_of, filling};
 ghost use Rattle.sl_tmflow.specs.Recording.{tm_lists};
 
@@ -14,33 +19,36 @@ use sl_tmframe::{TmShape, push_tm};
 use std::alloc::{AllocError, Global};
 use std::marker::Model;
 
-/// Room for any piece. The longest piece is 2731 frames of 32 octets with an error control field, 87,392
-/// octets. A packet of 65,542 octets completes them, with the octets that were left before it.
+/// Room for any piece. The longest piece is 2731 frames of 32 octets with an error control field,
+/// 87,392 octets. A packet of 65,542 octets completes them, with the octets that were left before
+/// it.
 const PIECE: usize = 90_112;
 
-/// Room for a data field that isn't full, 2041 octets at most, and the idle packet that fills it up.
+/// Room for a data field that isn't full, 2041 octets at most, and the idle packet that fills it
+/// up.
 const OCTETS: usize = 4096;
 
-/// The normal form of delivered packets, made piece by piece: frames of CCSDS 132.0-B in this project's own
-/// order (docs/normal-form.md).
+/// The normal form of delivered packets, made piece by piece: frames of CCSDS 132.0-B in this
+/// project's own order (docs/normal-form.md).
 ///
-/// A piece is the next octets of the form. By reading, a piece is the frames that the next packet of a
-/// virtual channel completes, perhaps none. Where an idle packet fills the virtual channel up, the frames
-/// that it completes are a piece too. Octets of a packet that don't fill a data field are kept for the next
-/// piece: 2041 octets at most.
+/// A piece is the next octets of the form. By reading, a piece is the frames that the next packet
+/// of a virtual channel completes, perhaps none. Where an idle packet fills the virtual channel up,
+/// the frames that it completes are a piece too. Octets of a packet that don't fill a data field
+/// are kept for the next piece: 2041 octets at most.
 #[derive(Drop)]
 pub struct TmForm<'d> {
     shape: TmShape,
     delivered: &'d Delivered,
-    // The header of the next frame. Its virtual channel is that of the next packet, and 8 where no packet is
-    // left.
+    // The header of the next frame. Its virtual channel is that of the next packet, and 8 where no
+    // packet is left.
     heading: Heading,
-    // The number of packets of this virtual channel that were taken, the one that fills it up included.
+    // The number of packets of this virtual channel that were taken, the one that fills it up
+    // included.
     taken: usize,
     // The octets of the taken packets that don't fill a data field yet.
     octets: Vec<u8>,
-    // The offset in that data field at which its first packet starts. Where no packet starts in it yet, the
-    // next packet starts there.
+    // The offset in that data field at which its first packet starts. Where no packet starts in it
+    // yet, the next packet starts there.
     start: u16,
 }
 
@@ -81,8 +89,8 @@ impl<'d> Model for TmForm<'d> {
 }
 
 impl<'d> TmForm<'d> {
-    /// The form of the packets on channels 0 to 7 of `delivered`, which are the virtual channels. All of the
-    /// form is still to come. `spacecraft` is 0 to 1023. The call takes no memory.
+    /// The form of the packets on channels 0 to 7 of `delivered`, which are the virtual channels.
+    /// All of the form is still to come. `spacecraft` is 0 to 1023. The call takes no memory.
     pub fn new(
         alloc: Global,
         shape: &TmShape,
@@ -97,7 +105,8 @@ impl<'d> TmForm<'d> {
             (form_of shape.now spacecraft delivered.now.lists) ≡ take 8 delivered.now.lists }
         ensures memory { result.octets_room ≡ 0 }
     {
-        // For the proof alone, at no cost: the properties of every format and every store of packets.
+        // For the proof alone, at no cost: the properties of every format and every store of
+        // packets.
         has_format(shape);
         has_packets(delivered);
         TmForm {
@@ -115,12 +124,12 @@ impl<'d> TmForm<'d> {
         }
     }
 
-    /// Reserves memory for the next piece: 4096 octets in the form itself, and 90,112 octets in `form` beyond
-    /// its length. Afterwards [`next`](TmForm::next) is refused no memory, as long as `form` has room for
-    /// 90,112 octets more at each call.
+    /// Reserves memory for the next piece: 4096 octets in the form itself, and 90,112 octets in
+    /// `form` beyond its length. Afterwards [`next`](TmForm::next) is refused no memory, as long as
+    /// `form` has room for 90,112 octets more at each call.
     ///
-    /// Memory is refused only where one of the two rooms was missing. Nothing is added to `form` either way,
-    /// and the same octets of the normal form are still to come.
+    /// Memory is refused only where one of the two rooms was missing. Nothing is added to `form`
+    /// either way, and the same octets of the normal form are still to come.
     pub fn reserve(&mut self, form: &mut Vec<u8>) -> Result<(), AllocError>
         // Afterwards both have room for a piece.
         ensures ready { OnOk result (IsReserved self.new) }
@@ -137,28 +146,29 @@ impl<'d> TmForm<'d> {
         form.reserve(PIECE)
     }
 
-    /// Adds the next piece to the end of `form`, and answers whether there was one. `false` means that the
-    /// whole normal form was made. A piece may have no octets, but the number of pieces is finite.
+    /// Adds the next piece to the end of `form`, and answers whether there was one. `false` means
+    /// that the whole normal form was made. A piece may have no octets, but the number of pieces is
+    /// finite.
     ///
-    /// Memory is refused only where there are packets, and only where it wasn't reserved. The piece is then
-    /// still to come, and `form` is as it was.
+    /// Memory is refused only where there are packets, and only where it wasn't reserved. The piece
+    /// is then still to come, and `form` is as it was.
     pub fn next(&mut self, form: &mut Vec<u8>) -> Result<bool, AllocError>
-        // The piece is the front of the octets that were still to come, and the octets after it are still to
-        // come. Without a piece the whole normal form was made.
+        // The piece is the front of the octets that were still to come, and the octets after it are
+        // still to come. Without a piece the whole normal form was made.
         ensures piece { OnOk result
             (AddsPiece self.old.progress form.old.items form.new.items self.new.progress) }
         ensures all { IfOk result (λ more. more ≡ false → IsAllMade self.old.progress) }
         ensures none { IfOk result (λ more. more ≡ false → form.new.items ≡ form.old.items) }
 
-        // Each piece takes a packet or fills a virtual channel up, so there is a last piece. Pieces come only
-        // where there are packets.
+        // Each piece takes a packet or fills a virtual channel up, so there is a last piece. Pieces
+        // come only where there are packets.
         ensures fewer { IfOk result (λ more. IsTrue more
             → HasFewer self.old.progress self.new.progress) }
         ensures some { IfOk result (λ more. IsTrue more → IsOfPackets self.old.progress) }
         ensures lists { self.new.progress.lists ≡ self.old.progress.lists }
 
-        // Where memory is refused, which doesn't happen where it was reserved, the same octets are still to
-        // come, and nothing was added.
+        // Where memory is refused, which doesn't happen where it was reserved, the same octets are
+        // still to come, and nothing was added.
         ensures full { OnErr result (LacksRoom self.old form.old) }
         ensures left { OnErr result (KeepsLeft self.old.progress self.new.progress) }
         ensures unchanged { OnErr result (form.new.items ≡ form.old.items) }
@@ -176,8 +186,8 @@ impl<'d> TmForm<'d> {
         Ok(true)
     }
 
-    // Goes past virtual channels whose packets are all made, and answers whether another virtual channel is
-    // left.
+    // Goes past virtual channels whose packets are all made, and answers whether another virtual
+    // channel is left.
     fn go_on(&mut self) -> bool
         ensures more { IsTrue result → HasMore self.new.progress }
         ensures left { KeepsLeft self.old.progress self.new.progress }
@@ -201,7 +211,8 @@ impl<'d> TmForm<'d> {
     // Takes the next packet, or fills the virtual channel up.
     fn add_next(&mut self, form: &mut Vec<u8>) -> Result<(), AllocError>
         requires more { HasMore self.old.progress }
-        // A piece of the octets that are still to come is added, and fewer packets are still to come.
+        // A piece of the octets that are still to come is added, and fewer packets are still to
+        // come.
         ensures piece { OnOk result
             (AddsPiece self.old.progress form.old.items form.new.items self.new.progress) }
         ensures fewer { OnOk result (HasFewer self.old.progress self.new.progress) }
@@ -240,8 +251,8 @@ impl<'d> TmForm<'d> {
     }
 }
 
-// Adds the frames that the kept octets and then a packet fill. Keeps the octets beyond these frames, and
-// answers the number of frames. A packet starts in the first frame, and in no other.
+// Adds the frames that the kept octets and then a packet fill. Keeps the octets beyond these
+// frames, and answers the number of frames. A packet starts in the first frame, and in no other.
 fn add(
     form: &mut Vec<u8>,
     octets: &mut Vec<u8>,
@@ -285,8 +296,8 @@ fn add(
     Ok(rest.len() / room + 1)
 }
 
-// Adds the frames that the kept octets fill once an idle packet has filled them up. Keeps no octets, and
-// answers the number of frames. A packet starts in the first frame, and in no other.
+// Adds the frames that the kept octets fill once an idle packet has filled them up. Keeps no
+// octets, and answers the number of frames. A packet starts in the first frame, and in no other.
 fn fill(
     form: &mut Vec<u8>,
     octets: &mut Vec<u8>,
@@ -339,8 +350,8 @@ fn fill_up(octets: &mut Vec<u8>, room: usize) -> Result<(), AllocError>
     push_idle(octets, fill as u32)
 }
 
-// The length of the shortest idle packet that fills up `len` octets to a multiple of the room; 0 where none
-// is needed.
+// The length of the shortest idle packet that fills up `len` octets to a multiple of the room; 0
+// where none is needed.
 fn fill_len(room: usize, len: usize) -> usize
     requires least { 24 ≤ room }
     requires most { room ≤ 2042 }
@@ -354,8 +365,8 @@ fn fill_len(room: usize, len: usize) -> usize
     missing + room
 }
 
-// Adds a frame for each data field at the front of the octets. The first frame has this first header pointer,
-// and no packet starts in the other frames.
+// Adds a frame for each data field at the front of the octets. The first frame has this first
+// header pointer, and no packet starts in the other frames.
 fn push_fields(
     form: &mut Vec<u8>,
     shape: &TmShape,
@@ -397,7 +408,8 @@ fn push_fields(
     Ok(())
 }
 
-// The format of a `TmShape` is one that frames may have. The length is read for the proof alone, and dropped.
+// The format of a `TmShape` is one that frames may have. The length is read for the proof alone,
+// and dropped.
 #[inline(always)]
 fn has_format(shape: &TmShape)
     ensures { IsFormat shape.now }

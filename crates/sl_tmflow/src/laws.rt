@@ -1,16 +1,24 @@
 //! The laws on this crate's definitions. Each function is empty; its clauses are the laws.
-ghost use Rattle.sl_tmflow.specs.Anomaly.{EachGapIsTold, EachToldIsAGap, EachListedIsBrokenOff, EachBrokenOffIsListed, OneIsBrokenOff, BrokenOffIsShort};
+ghost use Rattle.sl_tmflow.specs.Anomaly.{EachGapIsTold, EachToldIsAGap, EachListedIsBrokenOff};
+ghost use Rattle.sl_tmflow.specs.Anomaly.{EachBrokenOffIsListed, OneIsBrokenOff, BrokenOffIsShort};
 ghost use Rattle.sl_tmflow.specs.Anomaly.{BrokenOffIsTold, WhatIsToldIsBrokenOff};
 ghost use Rattle.sl_tmflow.specs.Anomaly.{EachForeignStartIsTold, EachToldIsAForeignStart};
-ghost use Rattle.sl_tmflow.specs.Canonical.{NoFrameIsSkipped, NormalFormIsFrames, NormalFormDelivers, RecordedListsAreDeliverable};
+ghost use Rattle.sl_tmflow.specs.Canonical.{NoFrameIsSkipped, NormalFormIsFrames};
+ghost use Rattle.sl_tmflow.specs.Canonical.{NormalFormDelivers, RecordedListsAreDeliverable};
 ghost use Rattle.sl_tmflow.specs.Delivery.{EachIsDelivery, EachIsListed, DeliveriesAreInOrder};
-ghost use Rattle.sl_tmflow.specs.Delivery.{PacketsEndOnce, EndsAreInOrder, EachEndsByTheNextStart, NoneOverlap};
+ghost use Rattle.sl_tmflow.specs.Delivery.{PacketsEndOnce, EndsAreInOrder, EachEndsByTheNextStart};
+ghost use Rattle.sl_tmflow.specs.Delivery.{NoneOverlap};
 ghost use Rattle.sl_tmflow.specs.Extraction.{DeliveredAreHandedOver};
-ghost use Rattle.sl_tmflow.specs.Incomplete.{EachListedIsIncomplete, EachIncompleteIsListed, OneStartIsIncomplete, OneIsIncomplete, IncompleteIsShort};
+ghost use Rattle.sl_tmflow.specs.FormOrder.{ChannelsNeverFall, EachCarriesPackets, McCounts};
+ghost use Rattle.sl_tmflow.specs.FormOrder.{PacketsLieEndToEnd, VcCounts};
+ghost use Rattle.sl_tmflow.specs.Incomplete.{EachListedIsIncomplete, EachIncompleteIsListed};
+ghost use Rattle.sl_tmflow.specs.Incomplete.{OneStartIsIncomplete, OneIsIncomplete};
+ghost use Rattle.sl_tmflow.specs.Incomplete.{IncompleteIsShort};
 ghost use Rattle.sl_tmflow.specs.Incomplete.{IncompleteIsCounted, WhatIsCountedIsIncomplete};
 ghost use Rattle.sl_tmflow.specs.Loss.{NoneIsNew, EachIsLeft, RunsAreKept, KeptRunsAreLeft};
 ghost use Rattle.sl_tmflow.specs.Loss.{TestTellsRun, PacketsAreKept, PacketsAreSublist};
-ghost use Rattle.sl_tmflow.specs.Loss.{HandedOverAreKept, HandedOverAreSublist, RecordedAreKept, RecordedAreSublist};
+ghost use Rattle.sl_tmflow.specs.Loss.{HandedOverAreKept, HandedOverAreSublist, RecordedAreKept};
+ghost use Rattle.sl_tmflow.specs.Loss.{RecordedAreSublist};
 ghost use Rattle.sl_tmflow.specs.NormalForm.{EachFillIsLeast, EachPointerIsLeast};
 ghost use Rattle.sl_tmflow.specs.PacketStart.{EachIsStart, EachStartIsListed};
 
@@ -20,29 +28,30 @@ pub fn tm_packet_starts_are_listed()
     ensures all { EachStartIsListed }
 {}
 
-/// The listed deliveries of a virtual channel are deliveries, every delivery is listed, and the list is in
-/// order of frame and packet start.
+/// The listed deliveries of a virtual channel are deliveries, every delivery is listed, and the
+/// list is in order of frame and packet start.
 pub fn tm_deliveries_are_listed()
     ensures each { EachIsDelivery }
     ensures all { EachIsListed }
     ensures in_order { DeliveriesAreInOrder }
 {}
 
-/// The packets of a virtual channel with one frame more are the packets before, and then those that end in
-/// this frame.
+/// The packets of a virtual channel with one frame more are the packets before, and then those that
+/// end in this frame.
 pub fn tm_packets_end_once()
     ensures { PacketsEndOnce }
 {}
 
-/// The packets that an [`Extractor`](crate::Extractor) hands over for a virtual channel are those that the
-/// channel delivers, idle packets left out. The frames are given one after another, and each call answers Ok.
+/// The packets that a new [`Extractor`](crate::Extractor) hands over for a virtual channel are
+/// those that the channel delivers, idle packets left out. The frames are given one after another,
+/// and each call answers Ok.
 pub fn tm_packets_are_handed_over()
     ensures { DeliveredAreHandedOver }
 {}
 
-/// Packets in the order of their starts are also in the order of their ends: each packet has ended by the
-/// frame in which the next one starts, and no two packets share an octet. At most one packet is incomplete
-/// after a frame, with 1 to 65,541 octets so far.
+/// Packets in the order of their starts are also in the order of their ends: each packet has ended
+/// by the frame in which the next one starts, and no two packets share an octet. At most one packet
+/// is incomplete after a frame, with 1 to 65,541 octets so far.
 pub fn tm_packets_end_in_order()
     ensures in_order { EndsAreInOrder }
     ensures by_the_next { EachEndsByTheNextStart }
@@ -51,9 +60,10 @@ pub fn tm_packets_end_in_order()
     ensures short { IncompleteIsShort }
 {}
 
-/// The listed packets that are incomplete after the last frame of a virtual channel are incomplete, and every
-/// incomplete packet is listed. At most one packet start has an incomplete packet. The octets in the list are
-/// as many as this packet has so far, and none where no packet is incomplete.
+/// The listed packets that are incomplete after the last frame of a virtual channel are incomplete,
+/// and every incomplete packet is listed. At most one packet start has an incomplete packet. The
+/// octets in the list are as many as this packet has so far, and none where no packet is
+/// incomplete.
 pub fn tm_incomplete_packets_are_listed()
     ensures each { EachListedIsIncomplete }
     ensures all { EachIncompleteIsListed }
@@ -62,16 +72,17 @@ pub fn tm_incomplete_packets_are_listed()
     ensures is_counted { WhatIsCountedIsIncomplete }
 {}
 
-/// A gap is reported exactly where the virtual channel frame count isn't the expected one, which follows the
-/// count of the channel's last frame. The report has the expected count.
+/// A gap is reported exactly where the virtual channel frame count isn't the expected one, which
+/// follows the count of the channel's last frame. The report has the expected count.
 pub fn tm_gaps_are_told()
     ensures each { EachGapIsTold }
     ensures only { EachToldIsAGap }
 {}
 
-/// The listed packets that the next frame of a virtual channel breaks off are broken off, and every packet
-/// that it breaks off is listed. At most one packet is broken off, with 1 to 65,541 octets so far. The octets
-/// that are reported as dropped are as many as this packet has, and none where no packet is broken off.
+/// The listed packets that the next frame of a virtual channel breaks off are broken off, and every
+/// packet that it breaks off is listed. At most one packet is broken off, with 1 to 65,541 octets
+/// so far. The octets that are reported as dropped are as many as this packet has, and none where
+/// no packet is broken off.
 pub fn tm_broken_packets_are_listed()
     ensures each { EachListedIsBrokenOff }
     ensures all { EachBrokenOffIsListed }
@@ -81,20 +92,20 @@ pub fn tm_broken_packets_are_listed()
     ensures is_told { WhatIsToldIsBrokenOff }
 {}
 
-/// Octets of another packet version than 0 at a packet start are reported exactly where a data field has
-/// them.
+/// Octets of another packet version than 0 at a packet start are reported exactly where a data
+/// field has them.
 pub fn tm_foreign_starts_are_told()
     ensures each { EachForeignStartIsTold }
     ensures only { EachToldIsAForeignStart }
 {}
 
-/// The loss of frames is local. Some frames of a virtual channel whose frame counts have no gap are kept, and
-/// fewer than 256 in a row are lost between two kept frames. The kept frames then deliver exactly the packets
-/// whose frames were all kept.
+/// The loss of frames is local. Some frames of a virtual channel whose frame counts have no gap are
+/// kept, and fewer than 256 in a row are lost between two kept frames. The kept frames then deliver
+/// exactly the packets whose frames were all kept.
 ///
-/// Each delivery from the kept frames is one from the whole channel: the same packet from the same start in
-/// the same frame, to the same frame, and none of its frames was lost. Each delivery from the whole channel
-/// that lost no frame is one from the kept frames.
+/// Each delivery from the kept frames is one from the whole channel: the same packet from the same
+/// start in the same frame, to the same frame, and none of its frames was lost. Each delivery from
+/// the whole channel that lost no frame is one from the kept frames.
 pub fn tm_loss_is_local()
     ensures none_new { NoneIsNew }
     ensures each_left { EachIsLeft }
@@ -102,14 +113,14 @@ pub fn tm_loss_is_local()
     ensures kept_left { KeptRunsAreLeft }
 {}
 
-/// Under the conditions of `tm_loss_is_local`, the packets that the kept frames deliver are the packets of
-/// the whole channel whose frames were all kept, in their order. So a station that lost frames delivers on a
-/// virtual channel a sublist of what all frames deliver there.
+/// Under the conditions of `tm_loss_is_local`, the packets that the kept frames deliver are the
+/// packets of the whole channel whose frames were all kept, in their order. So a station that lost
+/// frames delivers on a virtual channel a sublist of what all frames deliver there.
 ///
-/// The same holds of the packets that an [`Extractor`](crate::Extractor) hands over, given the kept frames
-/// one after another, where each call answers Ok. It also holds of a recording that has the kept frames of
-/// the virtual channel, whatever it has on the others: there it delivers a sublist of what the recording of
-/// all frames delivers. Idle packets are left out on both sides.
+/// The same holds of the packets that an [`Extractor`](crate::Extractor) hands over, given the kept
+/// frames one after another, where each call answers Ok. It also holds of a recording that has the
+/// kept frames of the virtual channel, whatever it has on the others: there it delivers a sublist
+/// of what the recording of all frames delivers. Idle packets are left out on both sides.
 pub fn tm_lost_frames_leave_a_sublist()
     ensures run { TestTellsRun }
     ensures exactly { PacketsAreKept }
@@ -120,8 +131,8 @@ pub fn tm_lost_frames_leave_a_sublist()
     ensures recording { RecordedAreSublist }
 {}
 
-/// Packets are filled up by the least number of octets that is 0 or that an idle packet can have. The pointer
-/// of a data field is the least packet start in the field.
+/// Packets are filled up by the least number of octets that is 0 or that an idle packet can have.
+/// The pointer of a data field is the least packet start in the field.
 pub fn normal_forms_are_filled_least()
     ensures fill { EachFillIsLeast }
     ensures pointer { EachPointerIsLeast }
@@ -132,10 +143,24 @@ pub fn tm_recordings_deliver_packets()
     ensures { RecordedListsAreDeliverable }
 {}
 
-/// The normal form of packets is frames end to end, and none of them is skipped. Read as a recording, it delivers
-/// exactly the packets that it was made from, on each virtual channel.
+/// The normal form of packets is frames end to end, and none of them is skipped. Read as a
+/// recording, it delivers exactly the packets that it was made from, on each virtual channel, idle
+/// packets left out.
 pub fn normal_form_delivers_its_packets()
     ensures frames { NormalFormIsFrames }
     ensures read { NoFrameIsSkipped }
     ensures packets { NormalFormDelivers }
+{}
+
+/// The frames of the normal form of packets, read as a recording. Each frame is of packets, and has
+/// no operational control field. The virtual channels never fall. The master channel frame count of
+/// a frame is the number of frames before it, and its virtual channel frame count the number of
+/// frames of its channel before it, both modulo 256. The data fields of a virtual channel are, end
+/// to end, its packets end to end, filled up by an idle packet where one is needed.
+pub fn normal_form_is_in_order()
+    ensures fields { EachCarriesPackets }
+    ensures channels { ChannelsNeverFall }
+    ensures mc { McCounts }
+    ensures vc { VcCounts }
+    ensures packets { PacketsLieEndToEnd }
 {}

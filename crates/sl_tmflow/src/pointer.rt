@@ -20,8 +20,8 @@ pub(crate) enum Progress {
     Breaks,
 }
 
-/// Adds the first octets of a data field to an incomplete packet, as many as the packet needs, and answers
-/// what the frame with this field and this pointer does to the packet.
+/// Adds the first octets of a data field to an incomplete packet, as many as the packet needs, and
+/// answers what the frame with this field and this pointer does to the packet.
 #[inline(always)]
 pub(crate) fn add_field(
     held: &mut Vec<u8>,
@@ -36,7 +36,8 @@ pub(crate) fn add_field(
     ensures inside { IfOk result (λ progress.
         (len : ℕ) → progress ≡ Progress.Ends len → len ≤ length held.new.items) }
 
-    // The whole field was added where the packet goes on, and the octets before it are as they were.
+    // The whole field was added where the packet goes on, and the octets before it are as they
+    // were.
     ensures all { IfOk result (λ progress.
         progress ≡ Progress.Continues → held.new.items ≡ held.old.items ++ field.now) }
     ensures most { IfOk result (λ progress.
@@ -51,8 +52,8 @@ pub(crate) fn add_field(
     Ok(progress_in(held.as_slice(), before, field, first))
 }
 
-// The first octets of a data field, as many as the incomplete packet needs. These are all octets of the field
-// where the packet needs more, or where its length isn't known yet.
+// The first octets of a data field, as many as the incomplete packet needs. These are all octets of
+// the field where the packet needs more, or where its length isn't known yet.
 fn wanted<'a>(held: &[u8], field: &'a [u8]) -> &'a [u8]
     requires held { length held.now ≤ 65541 }
     requires short { length field.now ≤ 2042 }
@@ -67,8 +68,9 @@ fn wanted<'a>(held: &[u8], field: &'a [u8]) -> &'a [u8]
     }
 }
 
-// Whether the incomplete packet ends, continues or breaks in this frame: `octets` are all of its octets so
-// far, the first `before` of them from earlier frames, and `first` is the frame's pointer.
+// Whether the incomplete packet ends, continues or breaks in this frame: `octets` are all of its
+// octets so far, the first `before` of them from earlier frames, and `first` is the frame's
+// pointer.
 fn progress_in(octets: &[u8], before: usize, field: &[u8], first: Option<u16>) -> Progress
     requires { before + length field.now < 2 ^ 64 }
     ensures step { progress_step result octets.now
@@ -91,7 +93,8 @@ fn progress_in(octets: &[u8], before: usize, field: &[u8], first: Option<u16>) -
     }
 }
 
-// The pointer that agrees with a packet of `len` octets, where `before` of them came before the data field.
+// The pointer that agrees with a packet of `len` octets, where `before` of them came before the
+// data field.
 fn agreeing_pointer(len: usize, before: usize, field: &[u8]) -> Option<usize>
     requires { before + length field.now < 2 ^ 64 }
     ensures { result ≡ agreeing_pointer len before field.now }

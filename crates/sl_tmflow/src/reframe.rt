@@ -9,14 +9,16 @@ use sl_packet::Delivered;
 use sl_tmframe::TmShape;
 use std::alloc::{AllocError, Global};
 
-/// The normal form of the packets that were delivered on channels 0 to 7, which are the virtual channels:
-/// frames of CCSDS 132.0-B of this format, end to end, and none where there are no packets. The form is this
-/// project's own (docs/normal-form.md).
+/// The normal form of the packets that were delivered on channels 0 to 7, which are the virtual
+/// channels: frames of CCSDS 132.0-B of this format, end to end, and none where there are no
+/// packets. The form is this project's own (docs/normal-form.md).
 ///
-/// Read as a recording of this format, for this spacecraft, the form delivers exactly these packets again.
+/// Read as a recording of this format, for this spacecraft, the form delivers exactly these packets
+/// again.
 ///
-/// `spacecraft` is 0 to 1023, and the channels from 8 on have no packets, which [`Delivered::fits_tm`] tests.
-/// The only refusal is want of memory, and only where there are packets.
+/// `spacecraft` is 0 to 1023, and the channels from 8 on have no packets, which
+/// [`Delivered::fits_tm`] tests. The only refusal is want of memory, and only where there are
+/// packets.
 pub fn reframe_tm(
     alloc: Global,
     shape: &TmShape,

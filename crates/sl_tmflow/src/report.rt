@@ -49,18 +49,19 @@ impl TmStep {
         self.idle
     }
 
-    /// The virtual channel frame count that was expected, 0 to 255, where the frame has another one. Expected
-    /// is the count of the frame before it on its virtual channel plus 1, modulo 256. `None` where the frame
-    /// has the expected count, and for the first frame of a virtual channel, since no frame comes before it.
+    /// The virtual channel frame count that was expected, 0 to 255, where the frame has another
+    /// one. Expected is the count of the frame before it on its virtual channel plus 1, modulo 256.
+    /// `None` where the frame has the expected count, and for the first frame of a virtual channel,
+    /// since no frame comes before it.
     pub fn gap(&self) -> Option<u8>
         ensures { result ≡ self.now.gap }
     {
         self.gap
     }
 
-    /// The octets so far of a packet that the frame breaks off: 1 to 65,541, none of them the frame's own,
-    /// and 0 where the frame breaks off no packet. A frame breaks off a packet that was incomplete before it
-    /// where the packet neither ends in the frame nor goes on past it.
+    /// The octets so far of a packet that the frame breaks off: 1 to 65,541, none of them the
+    /// frame's own, and 0 where the frame breaks off no packet. A frame breaks off a packet that
+    /// was incomplete before it where the packet neither ends in the frame nor goes on past it.
     pub fn dropped(&self) -> u32
         ensures { result ≡ self.now.dropped }
     {

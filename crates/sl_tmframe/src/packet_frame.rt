@@ -16,13 +16,15 @@ const NONE_STARTS: u16 = 2047;
 /// - `spacecraft` is 0 to 1023 and `vc` 0 to 7.
 /// - `mc` and `vcc` are the master and the virtual channel frame count, 0 to 255.
 /// - `octets` is the data field: exactly [`TmShape::room`] octets.
-/// - `first` is the offset in the data field at which the first packet starts, below the room, or `None`
-///   where no packet starts in the data field.
+/// - `first` is the offset in the data field at which the first packet starts, below the room, or
+///   `None` where no packet starts in the data field.
 ///
-/// The frame has version 0, no operational control field, no secondary header, synchronisation flag 0, packet
-/// order flag 0 and segment length identifier 3, and its error control field where the format has one.
+/// The frame has version 0, no operational control field, no secondary header, synchronisation flag
+/// 0, packet order flag 0 and segment length identifier 3, and its error control field where the
+/// format has one.
 ///
-/// Memory is refused only where the capacity of `out` has no room for the frame. `out` is then as it was.
+/// Memory is refused only where the capacity of `out` has no room for the frame. `out` is then as
+/// it was.
 pub fn push_tm(
     out: &mut Vec<u8>,
     shape: &TmShape,

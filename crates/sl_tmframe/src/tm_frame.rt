@@ -1,5 +1,6 @@
 //! The TM transfer frame, as it is read.
-ghost use Rattle.std.specs.Prelude.{◌≡◌, ◌-◌, ◌<◌, ◌≤◌, length, take, drop, if◌then◌else◌, Some, None};
+ghost use Rattle.std.specs.Prelude.{◌≡◌, ◌-◌, ◌<◌, ◌≤◌, length, take, drop, if◌then◌else◌, Some};
+ghost use Rattle.std.specs.Prelude.{None};
 ghost use Rattle.sl_tmframe.specs.TmFrame.{tm_header_of, class_of, skip_reason, IsInField};
 ghost use Rattle.sl_tmframe.specs.TmField.{data_field};
 
@@ -19,27 +20,27 @@ pub enum TmSkip {
 }
 
 /// The content of a TM transfer frame (CCSDS 132.0-B).
-#[derive(Clone, Copy, Debug)]
+#[derive(Clone, Copy, Debug, PartialEq, Eq)]
 pub enum TmField<'a> {
-    /// Octets of packets. The secondary header flag and the synchronisation flag are 0, and the first header
-    /// pointer is 2047 or an offset in the data field.
+    /// Octets of packets. The secondary header flag and the synchronisation flag are 0, and the
+    /// first header pointer is 2047 or an offset in the data field.
     Packets {
-        /// The offset in the data field at which the first packet starts, or `None` where no packet starts in
-        /// it (pointer 2047).
+        /// The offset in the data field at which the first packet starts, or `None` where no packet
+        /// starts in it (pointer 2047).
         first: Option<u16>,
         /// The data field, at most 2042 octets.
         octets: &'a [u8],
     },
     /// Only idle data: both flags are 0, and the first header pointer is 2046.
     Idle,
-    /// A data field that isn't read: the secondary header flag or the synchronisation flag is 1, or the first
-    /// header pointer is an offset at or past the end of the data field. The class of opaque frames is this
-    /// project's choice.
+    /// A data field that isn't read: the secondary header flag or the synchronisation flag is 1, or
+    /// the first header pointer is an offset at or past the end of the data field. The class of
+    /// opaque frames is this project's choice.
     Opaque,
 }
 
-/// A TM transfer frame of CCSDS 132.0-B that wasn't skipped: its virtual channel, its frame counts, its
-/// operational control field and the content of its data field.
+/// A TM transfer frame of CCSDS 132.0-B that wasn't skipped: its virtual channel, its frame counts,
+/// its operational control field and the content of its data field.
 #[derive(Debug, Drop)]
 pub struct TmFrame<'a> {
     header: TmHeader,
@@ -62,11 +63,11 @@ impl<'a> Model for TmFrame<'a> {
 impl<'a> TmFrame<'a> {
     ghost use Rattle.sl_tmframe.specs.TmFrame.{tm_frame};
 
-    /// Reads a frame of this format and spacecraft, or answers why the frame is skipped. `octets` has exactly
-    /// [`TmShape::len`] octets. The data field is borrowed from `octets`.
+    /// Reads a frame of this format and spacecraft, or answers why the frame is skipped. `octets`
+    /// has exactly [`TmShape::len`] octets. The data field is borrowed from `octets`.
     ///
-    /// The packet order flag, the segment length identifier and the master channel frame count are not
-    /// checked, by this project's choice.
+    /// The packet order flag, the segment length identifier and the master channel frame count are
+    /// not checked, by this project's choice.
     #[inline(always)]
     pub fn read(shape: &TmShape, spacecraft: u16, octets: &'a [u8]) -> Result<TmFrame<'a>, TmSkip>
         requires whole { length octets.now ≡ shape.now.len }
@@ -107,15 +108,16 @@ impl<'a> TmFrame<'a> {
         self.header.vcc()
     }
 
-    /// The four octets of the operational control field, or `None` where the frame has no such field. Frames
-    /// with only idle data and opaque frames may have one too.
+    /// The four octets of the operational control field, or `None` where the frame has no such
+    /// field. Frames with only idle data and opaque frames may have one too.
     pub fn control(&self) -> Option<[u8; 4]>
         ensures { result ≡ self.now.control }
     {
         self.control
     }
 
-    /// The content of the frame. A first packet start lies in the data field, which has at most 2042 octets.
+    /// The content of the frame. A first packet start lies in the data field, which has at most
+    /// 2042 octets.
     pub fn field(&self) -> TmField<'a>
         ensures value { data_field result ≡ self.now.field }
         ensures inside { IsInField (data_field result) }

@@ -7,15 +7,15 @@ use crate::tm_shape::TmShape;
 use arrayvec::ArrayVec;
 use std::marker::Model;
 
-/// Takes the octets of a recording in chunks, and returns each TM transfer frame (CCSDS 132.0-B) that the
-/// octets complete. The framer keeps one frame at most, and takes no memory.
+/// Takes the octets of a recording in chunks, and returns each TM transfer frame (CCSDS 132.0-B)
+/// that the octets complete. The framer keeps one frame at most, and takes no memory.
 #[derive(Drop)]
 pub struct TmFramer {
     len: u16,
     // The number of octets that were taken after the last frame.
     held: usize,
-    // The octets that were taken after the last frame lie in front. The array is full from the start and is
-    // overwritten, so it needn't be blanked between frames.
+    // The octets that were taken after the last frame lie in front. The array is full from the
+    // start and is overwritten, so it needn't be blanked between frames.
     taken: ArrayVec<u8, 2048>,
 }
 
@@ -30,7 +30,8 @@ impl Model for TmFramer {
 }
 
 impl TmFramer {
-    ghost use Rattle.sl_tmframe.specs.TmFraming.{Answers, HasTaken, UsesUpChunk, YieldsFrame, at_start};
+    ghost use Rattle.sl_tmframe.specs.TmFraming.{Answers, HasTaken, UsesUpChunk, YieldsFrame};
+    ghost use Rattle.sl_tmframe.specs.TmFraming.{at_start};
     ghost use Rattle.sl_tmframe.specs.contracts.tm_framer.TmFramer.{the_row};
 
     /// A framer for frames of this format that has taken no octet yet.
@@ -44,8 +45,8 @@ impl TmFramer {
         }
     }
 
-    /// The octets that were taken after the last frame, fewer than a frame has. At the end of a recording
-    /// they are its remainder.
+    /// The octets that were taken after the last frame, fewer than a frame has. At the end of a
+    /// recording they are its remainder.
     pub fn rest(&self) -> &[u8]
         ensures octets { result.now ≡ self.now.rest }
         ensures short { length result.now < self.now.len }
@@ -53,15 +54,16 @@ impl TmFramer {
         &self.taken.as_slice()[..self.held]
     }
 
-    /// Takes octets from the front of the chunk `piece`, and returns the frame that they complete together
-    /// with the octets that were taken before. `piece` is left with the octets after the frame.
+    /// Takes octets from the front of the chunk `piece`, and returns the frame that they complete
+    /// together with the octets that were taken before. `piece` is left with the octets after the
+    /// frame.
     ///
-    /// `None` comes exactly where the chunk is used up before a frame is complete; then all octets of the
-    /// chunk are taken.
+    /// `None` comes exactly where the chunk is used up before a frame is complete; then all octets
+    /// of the chunk are taken.
     pub fn next(&mut self, piece: &mut &[u8]) -> Option<&[u8]>
         ensures* taken { sem 𝓛 (Rests the_row self.entry (HasTaken self.old piece.old.now result)) }
-        // A frame has the octets that were taken after the last frame, and then octets from the front of the
-        // chunk.
+        // A frame has the octets that were taken after the last frame, and then octets from the
+        // front of the chunk.
         ensures frame { IfSome result (λ frame.
             YieldsFrame self.old piece.old.now frame.now piece.new.now) }
         // Without a frame the chunk was used up first.
@@ -83,8 +85,9 @@ impl TmFramer {
 
     /// As [`next`](TmFramer::next), with the same clauses, for a chunk that outlives the frame.
     ///
-    /// By reading, a frame that lies whole in the chunk is returned as a slice of the chunk, and only a frame
-    /// that lies in several chunks is copied. No clause says where the octets of a frame lie.
+    /// By reading, a frame that lies whole in the chunk is returned as a slice of the chunk, and
+    /// only a frame that lies in several chunks is copied. No clause says where the octets of a
+    /// frame lie.
     #[inline]
     pub fn next_from<'a, 'p: 'a>(&'a mut self, piece: &mut &'p [u8]) -> Option<&'a [u8]>
         ensures* taken { sem 𝓛 (Rests the_row self.entry (HasTaken self.old piece.old.now result)) }

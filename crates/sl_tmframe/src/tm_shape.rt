@@ -5,8 +5,8 @@ ghost use Rattle.sl_tmframe.specs.PacketFrame.{field_room_of};
 use sl_fields::ShapeFault;
 use std::marker::Model;
 
-/// The managed format of a physical channel's TM transfer frames (CCSDS 132.0-B): the length of all frames,
-/// and whether each frame ends with a frame error control field.
+/// The managed format of a physical channel's TM transfer frames (CCSDS 132.0-B): the length of all
+/// frames, and whether each frame ends with a frame error control field.
 #[derive(Clone, Copy, Debug, PartialEq, Eq)]
 pub struct TmShape {
     pub(crate) len: u16,
@@ -31,8 +31,8 @@ impl TmShape {
     ghost use Rattle.sl_tmframe.specs.TmFrame.{TmFormat};
     ghost use Rattle.sl_tmframe.specs.TmShape.{tm_shape};
 
-    /// The format with this length, 32 to 2048 octets, and a frame error control field where `fecf` is set.
-    /// Any other length is refused with `TmLength`. These bounds are this project's choice.
+    /// The format with this length, 32 to 2048 octets, and a frame error control field where `fecf`
+    /// is set. Any other length is refused with `TmLength`. These bounds are this project's choice.
     pub fn new(len: u16, fecf: bool) -> Result<TmShape, ShapeFault>
         ensures { let format : TmFormat = record { len = len; fecf = fecf } in
             result ≡ tm_shape format }

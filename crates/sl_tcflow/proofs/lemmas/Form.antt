@@ -1,4 +1,5 @@
 pub mod Canonical
+pub mod Carried
 pub mod Form
 pub mod Left
 pub mod Order

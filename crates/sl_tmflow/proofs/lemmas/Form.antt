@@ -7,5 +7,6 @@ pub mod Fill
 pub mod Form
 pub mod LeastStart
 pub mod Left
+pub mod Order
 pub mod Push
 pub mod Steps

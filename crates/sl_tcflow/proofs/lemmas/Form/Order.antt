@@ -1,43 +1,36 @@
 -- The order of the frames of the normal form.
 use Rattle.std.proofs.Common.{◌≡◌, ℕ, zero, suc, ◌+◌, ◌*◌, ◌%◌, ◌<◌, ◌≤◌, Bool, true, false, List, [], ◌∷◌, ◌++◌, length, take, drop, map, flat_map, refl, sym, ◌∙◌, ap, subst, arith, length-take}
 use Rattle.std.specs.List.{AllByRecursion, range_with_len, slice_index_or}
-use Rattle.sl_tcframe.specs.AdFrame.{ad_frame, segment_room_of}
+use Rattle.sl_tcframe.specs.AdFrame.{segment_room_of}
 use Rattle.sl_tcframe.specs.TcFrame.{TcFormat, TcView, Ad}
 use Rattle.sl_tcframe.specs.VcSet.{has_vc}
 use Rattle.sl_tcframe.proofs.AdFrameLemmas.{ad_frame_back}
 use Rattle.sl_tcflow.specs.AcceptedUnit.{channel_of}
-use Rattle.sl_tcflow.specs.FormOrder.{CanBeWritten, IsRead, form_views, NeverFall, NoFrameIsSkipped, ChannelsNeverFall, MapsNeverFall, NsCounts}
+use Rattle.sl_tcflow.specs.Canonical.{CanBeWritten, IsNotSkipped, NoFrameIsSkipped}
+use Rattle.sl_tcflow.specs.FormOrder.{form_views, ChannelsNeverFall, MapsNeverFall, NsCounts}
 use Rattle.sl_tcflow.specs.Receiving.{map_of}
 use Rattle.sl_tcflow.specs.Series.{header_at}
 use Rattle.sl_tcflow.specs.TcNormalForm.{units_of_maps}
+use Rattle.sl_fields.specs.NeverFall.{NeverFall}
 use Rattle.sl_fields.proofs.ListLemmas.{each-map, each-weaker}
+use Rattle.sl_fields.proofs.NeverFallLemmas.{lower, then_later}
 use Rattle.sl_tcflow.proofs.lemmas.Form.Canonical.{views_are}
 use Rattle.sl_tcflow.proofs.lemmas.Form.Form.{channel_back, each_on, on_channel, units_on, views_by, views_from}
 use Rattle.sl_tcflow.proofs.lemmas.Series.Segment.{IsSegment, flat_units, map_of_unit, packets_parts, segments_of_packet, unit_made}
 
 pub no_frame_is_skipped : NoFrameIsSkipped
 no_frame_is_skipped format spacecraft starts plain lists can =
-    each_on format spacecraft can.is_format can.known starts plain lists can.deliverable can.fit (IsRead format spacecraft)
+    each_on format spacecraft can.is_format can.spacecraft_fits starts plain lists can.deliverable can.fit (IsNotSkipped format spacecraft)
     (λ vc ns unit fit. (record { vc = vc; content = Ad ns unit }, ad_frame_back format spacecraft vc ns unit fit))
 
 -- ---- numbers that never fall
 
-lower : (least other : ℕ) (numbers : List ℕ) → other ≤ least → NeverFall least numbers → NeverFall other numbers
-lower least other [] low fall = tt
-lower least other (number ∷ numbers) low fall = (let first = fall.0 in omega arith, fall.1)
-
--- those of one number, and then others that are no less
 module _ {X : Type 0} (f : X → ℕ) where
-  then_later : (m least : ℕ) (xs ys : List X) → least ≤ m → AllByRecursion (λ x. f x ≡ m) xs → NeverFall m (map f ys) → NeverFall least (map f (xs ++ ys))
-  then_later m least [] ys low same later = lower m least (map f ys) low later
-  then_later m least (x ∷ xs) ys low same later =
-      let is = same.0 in (omega arith, then_later m (f x) xs ys (omega arith) same.1 later)
-
   by_range : (of : ℕ → List X) → ((i : ℕ) → AllByRecursion (λ x. f x ≡ i) (of i)) → (from n : ℕ) → NeverFall from (map f (flat_map of (range_with_len from n)))
   by_range of each from zero = tt
   by_range of each from (suc n) =
       let later = by_range of each (from + 1) n in
-      then_later from from (of from) (flat_map of (range_with_len (from + 1) n)) (omega arith) (each from)
+      then_later f from from (of from) (flat_map of (range_with_len (from + 1) n)) (omega arith) (each from)
       (lower (from + 1) from (map f (flat_map of (range_with_len (from + 1) n))) (omega arith) later)
 
 -- ---- the MAPs of units
@@ -92,23 +85,23 @@ ns_of vc ns (unit ∷ units) (other ∷ before) later view is =
 -- ---- all
 
 module _ (format : TcFormat) (spacecraft : ℕ) (starts plain : List ℕ) (lists : List (List (List ℕ))) (can : CanBeWritten format spacecraft plain lists) where
-  abbrev units : ℕ → List (List ℕ)
-  units vc = units_on format spacecraft can.is_format can.known starts plain lists can.deliverable can.fit vc
+  abbrev pub units : ℕ → List (List ℕ)
+  units vc = units_on format spacecraft can.is_format can.spacecraft_fits starts plain lists can.deliverable can.fit vc
 
 pub channels_never_fall : ChannelsNeverFall
 channels_never_fall format spacecraft starts plain lists can =
     subst (λ views. NeverFall 0 (map (λ (view : TcView). view.vc) views))
-    (sym (views_are format spacecraft starts plain lists can.is_format can.known can.deliverable can.fit
-    ∙ views_by format spacecraft can.is_format can.known starts plain lists can.deliverable can.fit 0 64 (omega arith)))
+    (sym (views_are format spacecraft starts plain lists can.is_format can.spacecraft_fits can.deliverable can.fit
+    ∙ views_by format spacecraft can.is_format can.spacecraft_fits starts plain lists can.deliverable can.fit 0 64 (omega arith)))
     (by_range (λ (view : TcView). view.vc) (λ vc. views_from vc (slice_index_or starts vc 0) (units format spacecraft starts plain lists can vc))
     (λ vc. on_channel vc (slice_index_or starts vc 0) (units format spacecraft starts plain lists can vc)) 0 64)
 
 module _ (format : TcFormat) (spacecraft : ℕ) (starts plain : List ℕ) (lists : List (List (List ℕ))) (can : CanBeWritten format spacecraft plain lists) (vc : ℕ) (inside : vc < 64) where
   -- the frames of a virtual channel, as they are read
-  own_views : channel_of vc (form_views format spacecraft starts plain lists) ≡ views_from vc (slice_index_or starts vc 0) (units format spacecraft starts plain lists can vc)
+  pub own_views : channel_of vc (form_views format spacecraft starts plain lists) ≡ views_from vc (slice_index_or starts vc 0) (units format spacecraft starts plain lists can vc)
   own_views =
-      ap (channel_of vc) (views_are format spacecraft starts plain lists can.is_format can.known can.deliverable can.fit)
-      ∙ channel_back format spacecraft can.is_format can.known starts plain lists can.deliverable can.fit vc inside
+      ap (channel_of vc) (views_are format spacecraft starts plain lists can.is_format can.spacecraft_fits can.deliverable can.fit)
+      ∙ channel_back format spacecraft can.is_format can.spacecraft_fits starts plain lists can.deliverable can.fit vc inside
 
 pub maps_never_fall : MapsNeverFall
 maps_never_fall format spacecraft starts plain lists can vc inside =

@@ -13,7 +13,7 @@ use Rattle.sl_packet.specs.declared.sink.SinkFault.{SinkFault}
 use Rattle.sl_packet.proofs.StoppingLemmas.{hands_same}
 use Rattle.sl_tmframe.specs.TmFrame.{TmView, DataField, Packets, Idle, Opaque}
 use Rattle.sl_tmflow.specs.Channel.{channel_of, follows, last_count, packet_data}
-use Rattle.sl_tmflow.specs.ChannelState.{ChannelState, KeptChannel, no_channel, held_step, kept_of, kept_octets, incomplete_in, held_after, state_after, packets_after}
+use Rattle.sl_tmflow.specs.ChannelState.{ChannelState, KeptChannel, new_channel, held_step, kept_of, kept_octets, incomplete_in, held_after, state_after, packets_after}
 use Rattle.sl_tmflow.specs.Delivery.{Continuation, Ends, Continues, Breaks, agreeing_pointer, ended, field_step, front_step, outcome_of, outcome_of_front, packets_ending, step_of}
 use Rattle.sl_tmflow.specs.Incomplete.{frame_incomplete, incomplete_octets}
 use Rattle.sl_tmflow.specs.Extraction.{ExtractorState, HasSeen, HasProcessed, ended_by, held_as}
@@ -181,18 +181,18 @@ other_seen vc views next other =
 
 -- the state of each channel, where one of them has one more frame
 pub each_seen : (states : List KeptChannel) (after : KeptChannel) (views : List TmView) (next : TmView) → next.vc < length states
-    → after.state ≡ state_after (slice_index_or states next.vc no_channel).state next
-    → (vc : ℕ) → HasSeen (slice_index_or states vc no_channel).state (channel_of vc views)
-    → HasSeen (slice_index_or (set states next.vc after) vc no_channel).state (channel_of vc (views ++ next ∷ []))
+    → after.state ≡ state_after (slice_index_or states next.vc new_channel).state next
+    → (vc : ℕ) → HasSeen (slice_index_or states vc new_channel).state (channel_of vc views)
+    → HasSeen (slice_index_or (set states next.vc after) vc new_channel).state (channel_of vc (views ++ next ∷ []))
 each_seen states after views next inside is vc s =
     elim (eqb_tells next.vc vc) [
       | inl (test, same) ↦
-          subst (λ c. HasSeen (slice_index_or (set states next.vc after) c no_channel).state (channel_of c (views ++ next ∷ []))) same
-          (rw (get_or-set_same states next.vc after no_channel inside, is, same_seen next.vc views next refl)
-          (seen_more (slice_index_or states next.vc no_channel).state (channel_of next.vc views) next
-          (subst (λ c. HasSeen (slice_index_or states c no_channel).state (channel_of c views)) (sym same) s)))
+          subst (λ c. HasSeen (slice_index_or (set states next.vc after) c new_channel).state (channel_of c (views ++ next ∷ []))) same
+          (rw (get_or-set_same states next.vc after new_channel inside, is, same_seen next.vc views next refl)
+          (seen_more (slice_index_or states next.vc new_channel).state (channel_of next.vc views) next
+          (subst (λ c. HasSeen (slice_index_or states c new_channel).state (channel_of c views)) (sym same) s)))
       | inr (test, other) ↦
-          rw (get_or-set_other states next.vc vc after no_channel (λ e. other (sym e)), other_seen vc views next other) s
+          rw (get_or-set_other states next.vc vc after new_channel (λ e. other (sym e)), other_seen vc views next other) s
     ]
 
 -- ---- all channels
@@ -202,10 +202,10 @@ pub seen_at : (old : ExtractorState) (views : List TmView) (states : List KeptCh
     → length states ≡ 8 → vc ≤ 7 → at ≡ vc → HasSeen (slice_index_or states at d).state (channel_of vc views)
 seen_at old views states at vc d p are eight fits same =
     let inside : vc < length states = omega arith in
-    let seen : HasSeen (slice_index_or states vc no_channel).state (channel_of vc views) =
-    subst (λ l. HasSeen (slice_index_or l vc no_channel).state (channel_of vc views)) (sym are) (p.each vc (omega arith)) in
+    let seen : HasSeen (slice_index_or states vc new_channel).state (channel_of vc views) =
+    subst (λ l. HasSeen (slice_index_or l vc new_channel).state (channel_of vc views)) (sym are) (p.each vc (omega arith)) in
     subst (λ i. HasSeen (slice_index_or states i d).state (channel_of vc views)) (sym same)
-    (subst (λ (s : KeptChannel). HasSeen s.state (channel_of vc views)) (get_or_default states vc no_channel d inside) seen)
+    (subst (λ (s : KeptChannel). HasSeen s.state (channel_of vc views)) (get_or_default states vc new_channel d inside) seen)
 
 module _ (old : ExtractorState) (views : List TmView) (next : TmView) (states : List KeptChannel) (at : ℕ) (d : KeptChannel) where
   pub ended_now : HasProcessed old views → states ≡ old.channels → length states ≡ 8 → next.vc ≤ 7 → at ≡ next.vc
@@ -225,13 +225,13 @@ module _ (old : ExtractorState) (views : List TmView) (next : TmView) (states : 
       → HasProcessed (record { channels = set states at after; has_failed = false }) (views ++ next ∷ [])
   processed_more after p are eight fits same by =
       let inside : next.vc < length states = omega arith in
-      let now : after.state ≡ state_after (slice_index_or states next.vc no_channel).state next =
+      let now : after.state ≡ state_after (slice_index_or states next.vc new_channel).state next =
       by ∙ ap (λ i. state_after (slice_index_or states i d).state next) same
-      ∙ ap (λ (s : KeptChannel). state_after s.state next) (get_or_default states next.vc d no_channel inside) in
+      ∙ ap (λ (s : KeptChannel). state_after s.state next) (get_or_default states next.vc d new_channel inside) in
       record {
         working = refl;
         each = λ vc below.
-            let seen : HasSeen (slice_index_or states vc no_channel).state (channel_of vc views) =
-            subst (λ l. HasSeen (slice_index_or l vc no_channel).state (channel_of vc views)) (sym are) (p.each vc below) in
+            let seen : HasSeen (slice_index_or states vc new_channel).state (channel_of vc views) =
+            subst (λ l. HasSeen (slice_index_or l vc new_channel).state (channel_of vc views)) (sym are) (p.each vc below) in
             rw (same) (each_seen states after views next inside now vc seen);
       }

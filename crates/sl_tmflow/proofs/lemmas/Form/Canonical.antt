@@ -9,16 +9,15 @@ use Rattle.sl_packet.specs.Delivered.{IsDeliverable}
 use Rattle.sl_packet.specs.Packet.{IsPacket}
 use Rattle.sl_packet.specs.Packets.{without_idle}
 use Rattle.sl_tmframe.specs.PacketFrame.{FitFrame, field_room_of, packet_frame, packet_view}
-use Rattle.sl_tmframe.specs.TmDelimited.{tm_frames_of}
 use Rattle.sl_tmframe.specs.TmFrame.{TmFormat, TmView, tm_frame}
 use Rattle.sl_tmframe.proofs.DelimitedLemmas.{only_frames}
 use Rattle.sl_tmframe.proofs.PacketFrameLemmas.{length-packet_frame, packet_frame_back}
-use Rattle.sl_tmflow.specs.Canonical.{IsFormat, IsRead, NoFrameIsSkipped, NormalFormIsFrames, NormalFormDelivers}
+use Rattle.sl_tmflow.specs.Canonical.{AreDeliverable, IsFormat, IsNotSkipped, NoFrameIsSkipped, NormalFormIsFrames, NormalFormDelivers}
 use Rattle.sl_tmflow.specs.Channel.{views_of, channel_of}
 use Rattle.sl_tmflow.specs.Delivery.{deliveries_of, packets_delivered}
 use Rattle.sl_tmflow.specs.NormalForm.{with_filling, filling, data_field_of, first_of, IsLeastStart, channel_frame, channel_frames, frames_from_channel, normal_form}
 use Rattle.sl_tmflow.specs.PacketStart.{packet_offsets}
-use Rattle.sl_tmflow.specs.Recording.{packets_of_channel, virtual_channels}
+use Rattle.sl_tmflow.specs.Recording.{packets_of_channel, recorded_views, virtual_channels}
 use Rattle.sl_tmflow.proofs.lemmas.Form.CutDelivery.{all_delivered}
 use Rattle.sl_tmflow.proofs.lemmas.Form.CutView.{views_from}
 use Rattle.sl_fields.proofs.ListLemmas.{each-append, each-weaker, filter_all, filter_none}
@@ -100,13 +99,13 @@ module _ (format : TmFormat) (spacecraft vc mc : ℕ) (packets : List (List ℕ)
 -- ---- the frames of a virtual channel
 
 -- the frames of a virtual channel, as they are read
-abbrev channel_views : TmFormat → ℕ → ℕ → List (List ℕ) → List TmView
+abbrev pub channel_views : TmFormat → ℕ → ℕ → List (List ℕ) → List TmView
 channel_views format vc mc packets =
     let room = field_room_of format in
     let filled = with_filling room packets in
     views_from room vc mc filled 0 (length (concat filled) / room)
 
-channel_of_own : (format : TmFormat) (vc mc : ℕ) (packets : List (List ℕ)) → AllByRecursion (λ view. view.vc ≡ vc) (channel_views format vc mc packets)
+pub channel_of_own : (format : TmFormat) (vc mc : ℕ) (packets : List (List ℕ)) → AllByRecursion (λ view. view.vc ≡ vc) (channel_views format vc mc packets)
 channel_of_own format vc mc packets =
     let filled = with_filling (field_room_of format) packets in
     each_of_channel (field_room_of format) vc mc filled (length (concat filled) / field_room_of format) 0
@@ -125,7 +124,7 @@ module _ (format : TmFormat) (spacecraft vc mc : ℕ) (packets : List (List ℕ)
       let fill = filling_is (field_room_of format) (length (concat packets)) (omega (arith, wide)) (omega (arith, short_room format is)) in
       each-append IsPacket packets (filling (field_room_of format) (length (concat packets))) (due_packets packets each) fill.0
 
-  filled_size : length (concat filled) ≡ frame_count * field_room_of format
+  pub filled_size : length (concat filled) ≡ frame_count * field_room_of format
   filled_size =
       let wide = wide_room format is in
       let parts = div-add-mod' (length (concat filled)) (field_room_of format) in
@@ -155,7 +154,7 @@ of_all vc views same =
     filter_all (λ view. view.vc == vc) views (each-weaker (λ view. view.vc ≡ vc) (λ view. (view.vc == vc) ≡ true) (λ view same. eq-eqb view.vc vc same) views same)
 
 -- the frames of a virtual channel, between those of lower and of higher ones
-of_middle : (vc : ℕ) (before own after : List TmView) → AllByRecursion (λ view. view.vc < vc) before → AllByRecursion (λ view. view.vc ≡ vc) own
+pub of_middle : (vc : ℕ) (before own after : List TmView) → AllByRecursion (λ view. view.vc < vc) before → AllByRecursion (λ view. view.vc ≡ vc) own
     → AllByRecursion (λ view. vc + 1 ≤ view.vc) after → channel_of vc (before ++ (own ++ after)) ≡ own
 of_middle vc before own after low same high =
     let is_of = λ (view : TmView). view.vc == vc in
@@ -165,7 +164,7 @@ of_middle vc before own after low same high =
     ∙ ap₂ (λ xs ys. xs ++ ys) (of_all vc own same) right ∙ append-nil own
 
 module _ (format : TmFormat) (spacecraft : ℕ) (is : IsFormat format) (fits : spacecraft ≤ 1023) where
-  abbrev form_views : ℕ → ℕ → List (List (List ℕ)) → List TmView
+  abbrev pub form_views : ℕ → ℕ → List (List (List ℕ)) → List TmView
   form_views vc mc lists = views_of format spacecraft (frames_from_channel format spacecraft vc mc lists)
 
   form_each : (P : List ℕ → Type 0) → EachFrameIs format spacecraft P → (lists : List (List (List ℕ))) (vc mc : ℕ) → vc + length lists ≤ 8
@@ -178,7 +177,7 @@ module _ (format : TmFormat) (spacecraft : ℕ) (is : IsFormat format) (fits : s
       (form_each P each_is lists (vc + 1) (mc + length frames) (omega (arith, inside)) each.1)
 
   -- the frames of the first virtual channel as they are read, and of the others
-  form_parts : (packets : List (List ℕ)) (lists : List (List (List ℕ))) (vc mc : ℕ) → vc ≤ 7 → AllByRecursion IsDeliverable packets
+  pub form_parts : (packets : List (List ℕ)) (lists : List (List (List ℕ))) (vc mc : ℕ) → vc ≤ 7 → AllByRecursion IsDeliverable packets
       → form_views vc mc (packets ∷ lists)
       ≡ channel_views format vc mc packets ++ form_views (vc + 1) (mc + length (channel_frames format spacecraft vc mc packets)) lists
   form_parts packets lists vc mc inside each =
@@ -186,7 +185,7 @@ module _ (format : TmFormat) (spacecraft : ℕ) (is : IsFormat format) (fits : s
       filter_map-append (λ frame. result_ok (tm_frame format spacecraft frame)) frames (frames_from_channel format spacecraft (vc + 1) (mc + length frames) lists)
       ∙ ap (λ views. views ++ form_views (vc + 1) (mc + length frames) lists) (channel_back format spacecraft vc mc packets is fits inside each)
 
-  form_above : (lists : List (List (List ℕ))) (vc mc : ℕ) → vc + length lists ≤ 8 → AllByRecursion (AllByRecursion IsDeliverable) lists
+  pub form_above : (lists : List (List (List ℕ))) (vc mc : ℕ) → vc + length lists ≤ 8 → AllByRecursion (AllByRecursion IsDeliverable) lists
       → AllByRecursion (λ view. vc ≤ view.vc) (form_views vc mc lists)
   form_above [] vc mc inside each = tt
   form_above (packets ∷ lists) vc mc inside each =
@@ -233,15 +232,21 @@ is_frames format spacecraft lists is fits due =
 pub none_is_skipped : NoFrameIsSkipped
 none_is_skipped format spacecraft lists is fits due =
     let eight = due.eight in
-    form_each format spacecraft is fits (IsRead format spacecraft)
+    form_each format spacecraft is fits (IsNotSkipped format spacecraft)
     (λ vc mc vcc first field fit. (packet_view vc mc vcc first field, packet_frame_back format spacecraft vc mc vcc first field fit)) lists 0 0 (omega arith) due.each
+
+-- the frames of the normal form are those that are read
+pub views_are : (format : TmFormat) (spacecraft : ℕ) (lists : List (List (List ℕ))) → IsFormat format → spacecraft ≤ 1023 → AreDeliverable lists
+    → recorded_views format spacecraft (normal_form format spacecraft lists) ≡ views_of format spacecraft (frames_from_channel format spacecraft 0 0 lists)
+views_are format spacecraft lists is fits due =
+    ap (views_of format spacecraft)
+    (only_frames format.len (normal_form format spacecraft lists) (frames_from_channel format spacecraft 0 0 lists) []
+    (let least = is.least in omega arith) (is_frames format spacecraft lists is fits due))
 
 pub delivers : NormalFormDelivers
 delivers format spacecraft lists is fits due =
     let eight = due.eight in
     let frames = frames_from_channel format spacecraft 0 0 lists in
-    let delimited : tm_frames_of format.len (normal_form format spacecraft lists) ≡ frames =
-    only_frames format.len (normal_form format spacecraft lists) frames [] (let least = is.least in omega arith) (is_frames format spacecraft lists is fits due) in
-    ap (λ fs. map (λ vc. without_idle (packets_of_channel (views_of format spacecraft fs) vc)) virtual_channels) delimited
+    ap (λ views. map (λ vc. without_idle (packets_of_channel views vc)) virtual_channels) (views_are format spacecraft lists is fits due)
     ∙ ap (λ n. map (λ vc. without_idle (packets_of_channel (views_of format spacecraft frames) vc)) (range_with_len 0 n)) (sym eight)
     ∙ form_lists format spacecraft is fits lists 0 0 [] (omega arith) due.each tt

@@ -9,11 +9,10 @@ use Rattle.std.proofs.lemmas.List.Elements.{filter-append}
 use Rattle.sl_packet.specs.Delivered.{IsDeliverable}
 use Rattle.sl_packet.specs.IdlePacket.{idle_packet}
 use Rattle.sl_packet.specs.Packet.{IsPacket, is_idle_packet}
-use Rattle.sl_packet.specs.Packets.{packets_of, without_idle}
+use Rattle.sl_packet.specs.Packets.{without_idle}
 use Rattle.sl_packet.proofs.IdlePacketLemmas.{idle_packet_is_a_packet, idle_packet_is_idle, length-idle_packet}
-use Rattle.sl_packet.proofs.PacketsLemmas.{packets_of-concat}
 use Rattle.sl_tmflow.specs.NormalForm.{fill_of, filling, with_filling, IsLeastFill}
-use Rattle.sl_fields.proofs.ListLemmas.{each-append, each-weaker, filter_all, filter_none}
+use Rattle.sl_fields.proofs.ListLemmas.{each-weaker, filter_all, filter_none}
 
 -- the filling for a gap that is smaller than the room
 abbrev wide_enough : ℕ → ℕ → ℕ
@@ -156,11 +155,6 @@ filling_is_idle room len some short =
 
 pub filled_octets : (room : ℕ) (packets : List (List ℕ)) → concat packets ++ concat (filling room (length (concat packets))) ≡ concat (with_filling room packets)
 filled_octets room packets = sym (concat-append packets (filling room (length (concat packets))))
-
-pub filled_packets : (room : ℕ) (packets : List (List ℕ)) → 7 ≤ room → room ≤ 65536 → AllByRecursion IsPacket packets → packets_of (concat (with_filling room packets)) ≡ with_filling room packets
-filled_packets room packets some short each =
-    let all = each-append IsPacket packets (filling room (length (concat packets))) each (filling_is room (length (concat packets)) some short).0 in
-    ap packets_of (sym (append-nil (concat (with_filling room packets)))) ∙ packets_of-concat (with_filling room packets) [] all ∙ append-nil (with_filling room packets)
 
 pub filled_whole : (room : ℕ) (packets : List (List ℕ)) → 7 ≤ room → room ≤ 65536 → length (concat (with_filling room packets)) % room ≡ 0
 filled_whole room packets some short =

@@ -53,14 +53,6 @@ told first before field octets more begun = cases (front octets) refl
 
 -- ---- octets of a data field
 
--- all octets of the field are enough
-pub all_is_enough : (held field : List ℕ) → length held + length field ≤ 65542 → IsEnough held field field
-all_is_enough held field fits = record {
-  step = λ first. refl;
-  all = λ incomplete. refl;
-  fits = fits;
-}
-
 -- the first octets are enough where the packet isn't incomplete any more with them
 pub some_is_enough : (held field : List ℕ) (n : ℕ) → (front (held ++ take n field) ≡ Incomplete → ⊥) → length held + length (take n field) ≤ 65542
     → IsEnough held field (take n field)

@@ -1,9 +1,10 @@
-pub mod Deliver
 pub mod Io
+pub mod Kind
 pub mod Link
 pub mod Normalise
 pub mod Pass
 pub mod Program
+pub mod Same
 pub mod Tally
 pub mod Verbs
 pub use Rattle.sl_cop.specs.Farm

@@ -28,14 +28,16 @@ abbrev pub WaitsFor : {F : Type 0} → (F → Parameters → List ℕ → Type 0
 WaitsFor waits framer holds = (p : Parameters) (rest : List ℕ) → waits framer p rest → holds p rest
 
 -- after a call no octets came after the frame that it answers, and without one all of the chunk did
-abbrev pub WaitsAfter : {F : Type 0} → (F → Parameters → List ℕ → Type 0) → F → Parameters → List ℕ → List ℕ → Option (Bor (List ℕ)) → Type 0
+abbrev pub WaitsAfter : {F : Type 0} → (F → Parameters → List ℕ → Type 0) → F → Parameters → List ℕ → List ℕ
+    → Option (Bor (List ℕ)) → Type 0
 WaitsAfter waits new p rest chunk None = waits new p (rest ++ chunk)
 WaitsAfter waits new p rest chunk (Some frame) = waits new p []
 
 -- ---- sinks of frames
 
 -- a sink that has taken some frames may take this one
-pub record MayTake {S : Type 0} (took : S → S → List (List ℕ) → Type 0) (is_frame : S → List ℕ → Type 0) (now : S) (frame : List ℕ) : Type 0 where
+pub record MayTake {S : Type 0} (took : S → S → List (List ℕ) → Type 0) (is_frame : S → List ℕ → Type 0) (now : S)
+    (frame : List ℕ) : Type 0 where
   pub start : S
   pub before : List (List ℕ)
   pub taken : took start now before
@@ -44,10 +46,12 @@ pub record MayTake {S : Type 0} (took : S → S → List (List ℕ) → Type 0) 
 
 -- it has taken one frame more, whatever it has taken before
 abbrev pub TakesFrame : {S : Type 0} → (S → S → List (List ℕ) → Type 0) → S → List ℕ → S → Type 0
-TakesFrame {S} took old frame new = (start : S) (before : List (List ℕ)) → took start old before → took start new (before ++ frame ∷ [])
+TakesFrame {S} took old frame new = (start : S) (before : List (List ℕ)) → took start old before
+    → took start new (before ++ frame ∷ [])
 
 -- it stopped at this one
-abbrev pub StopsAtFrame : {S : Type 0} → (S → S → List (List ℕ) → Type 0) → (S → S → List (List ℕ) → LinkFault → Type 0) → S → List ℕ → S → LinkFault → Type 0
+abbrev pub StopsAtFrame : {S : Type 0} → (S → S → List (List ℕ) → Type 0) → (S → S → List (List ℕ) → LinkFault → Type 0)
+    → S → List ℕ → S → LinkFault → Type 0
 StopsAtFrame {S} took stopped old frame new fault =
     (start : S) (before : List (List ℕ)) → took start old before → stopped start new (before ++ frame ∷ []) fault
 
@@ -55,13 +59,16 @@ StopsAtFrame {S} took stopped old frame new fault =
 abbrev pub Pauses : {S : Type 0} → (S → S → List (List ℕ) → Type 0) → S → S → Type 0
 Pauses {S} took old new = (start : S) (before : List (List ℕ)) → took start old before → took start new before
 
-abbrev pub StopsPausing : {S : Type 0} → (S → S → List (List ℕ) → Type 0) → (S → S → List (List ℕ) → LinkFault → Type 0) → S → S → LinkFault → Type 0
-StopsPausing {S} took stopped old new fault = (start : S) (before : List (List ℕ)) → took start old before → stopped start new before fault
+abbrev pub StopsPausing : {S : Type 0} → (S → S → List (List ℕ) → Type 0) → (S → S → List (List ℕ) → LinkFault → Type 0)
+    → S → S → LinkFault → Type 0
+StopsPausing {S} took stopped old new fault = (start : S) (before : List (List ℕ)) → took start old before
+    → stopped start new before fault
 
 -- ---- a whole recording
 
 -- all was read, n octets and no more than the limit, and its frames were taken
-pub record PassesOver {R : Type 0} (remaining : R → Option (List ℕ)) (reader reader' : Counted R) (frames_of : List ℕ → List (List ℕ)) (taken : List (List ℕ) → Type 0) (limit n : ℕ) : Type 0 where
+pub record PassesOver {R : Type 0} (remaining : R → Option (List ℕ)) (reader reader' : Counted R)
+    (frames_of : List ℕ → List (List ℕ)) (taken : List (List ℕ) → Type 0) (limit n : ℕ) : Type 0 where
   pub octets : List ℕ
   pub within : length octets ≤ limit
   pub read : Reads remaining reader reader' octets
@@ -74,34 +81,41 @@ pub record PassesOver {R : Type 0} (remaining : R → Option (List ℕ)) (reader
 -- the cause of a fault of reading is there
 abbrev pub IsReadersFault : {R : Type 0} → Counted R → Counted R → ℕ → ℕ → List ℕ → LinkFault → Type 0
 IsReadersFault old new limit buffer octets Read = HasFailed old new × (length octets ≤ limit)
-IsReadersFault old new limit buffer octets TooLong = (faults_of new ≡ faults_of old) × (limit < length octets) × (length octets ≤ limit + buffer)
+IsReadersFault old new limit buffer octets TooLong =
+    (faults_of new ≡ faults_of old) × (limit < length octets) × (length octets ≤ limit + buffer)
 IsReadersFault old new limit buffer octets Memory = ⊥
 IsReadersFault old new limit buffer octets Write = ⊥
 
 -- the reader stopped after these frames were taken
-pub record StopsAtReader {R : Type 0} (reader reader' : Counted R) (limit buffer : ℕ) (octets : List ℕ) (fault : LinkFault) (taken : Type 0) : Type 0 where
+pub record StopsAtReader {R : Type 0} (reader reader' : Counted R) (limit buffer : ℕ) (octets : List ℕ)
+    (fault : LinkFault) (taken : Type 0) : Type 0 where
   pub done : taken
   pub cause : IsReadersFault reader reader' limit buffer octets fault
 
 -- the sink stopped at these frames
-pub record StopsAtSink {R : Type 0} (reader reader' : Counted R) (limit : ℕ) (octets : List ℕ) (stopped : Type 0) : Type 0 where
+pub record StopsAtSink {R : Type 0} (reader reader' : Counted R) (limit : ℕ) (octets : List ℕ)
+    (stopped : Type 0) : Type 0 where
   pub at : stopped
   pub no_fault : faults_of reader' ≡ faults_of reader
   pub within : length octets ≤ limit
 
 -- octets were read, and then a fault came: the first frames were taken, or the sink stopped at the last of them
-pub record StopsPassing {R : Type 0} (remaining : R → Option (List ℕ)) (reader reader' : Counted R) (frames_of : List ℕ → List (List ℕ)) (taken : List (List ℕ) → Type 0) (stopped : List (List ℕ) → LinkFault → Type 0) (limit buffer : ℕ) (fault : LinkFault) : Type 0 where
+pub record StopsPassing {R : Type 0} (remaining : R → Option (List ℕ)) (reader reader' : Counted R)
+    (frames_of : List ℕ → List (List ℕ)) (taken : List (List ℕ) → Type 0) (stopped : List (List ℕ) → LinkFault → Type 0)
+    (limit buffer : ℕ) (fault : LinkFault) : Type 0 where
   pub octets : List ℕ
   pub read : Reads remaining reader reader' octets
   pub first : List (List ℕ)
   pub later : List (List ℕ)
   pub in_order : frames_of octets ≡ first ++ later
-  pub cause : StopsAtReader reader reader' limit buffer octets fault (taken first) ⊎ StopsAtSink reader reader' limit octets (stopped first fault)
+  pub cause : StopsAtReader reader reader' limit buffer octets fault (taken first)
+      ⊎ StopsAtSink reader reader' limit octets (stopped first fault)
 
 -- ---- the frames of one chunk, after octets that waited
 
 -- these frames were taken, and these octets wait now
-pub record TakesChunk {F S : Type 0} (is_frame : List ℕ → Type 0) (waits : F → List ℕ → Type 0) (frames_of : List ℕ → List (List ℕ)) (took : S → S → List (List ℕ) → Type 0)
+pub record TakesChunk {F S : Type 0} (is_frame : List ℕ → Type 0) (waits : F → List ℕ → Type 0)
+    (frames_of : List ℕ → List (List ℕ)) (took : S → S → List (List ℕ) → Type 0)
     (framer' : F) (start sink' : S) (before : List (List ℕ)) (octets : List ℕ) : Type 0 where
   pub frames : List (List ℕ)
   pub rest : List ℕ
@@ -112,7 +126,9 @@ pub record TakesChunk {F S : Type 0} (is_frame : List ℕ → Type 0) (waits : F
   pub taken : took start sink' (before ++ frames)
 
 -- the sink stopped at one of them
-pub record StopsInChunk {S : Type 0} (frames_of : List ℕ → List (List ℕ)) (stopped : S → S → List (List ℕ) → LinkFault → Type 0) (start sink' : S) (before : List (List ℕ)) (octets : List ℕ) (fault : LinkFault) : Type 0 where
+pub record StopsInChunk {S : Type 0} (frames_of : List ℕ → List (List ℕ))
+    (stopped : S → S → List (List ℕ) → LinkFault → Type 0) (start sink' : S) (before : List (List ℕ)) (octets : List ℕ)
+    (fault : LinkFault) : Type 0 where
   pub frames : List (List ℕ)
   pub later : List (List ℕ)
   pub in_order : frames_of octets ≡ frames ++ later

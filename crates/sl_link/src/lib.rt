@@ -3,11 +3,13 @@
 #![tactic(auto)]
 
 mod io;
+mod kind;
 pub mod laws;
 mod link;
 mod normalise;
 mod pass;
 mod program;
+mod same;
 mod tally;
 mod verbs;
 
@@ -17,4 +19,5 @@ pub use link::managed::{Managed, ManagedFault};
 pub use link::totals::Totals;
 pub use normalise::{normalise_tc, normalise_tm};
 pub use program::run;
+pub use same::{same_packets_tc, same_packets_tm};
 pub use verbs::{check_tc, check_tm, packets_tc, packets_tm, show_tc, show_tm};

@@ -1,7 +1,331 @@
 //! The normal form of a recording.
-mod form;
-mod tc;
-mod tm;
+ghost use Rattle.std.specs.Prelude.{◌≡◌, ◌≢◌, ◌<◌, ◌++◌, ◌∷◌, [], ℕ, List, IfOk, IfErr, OnOk};
+ghost use Rattle.sl_packet.specs.Delivered.{AddsPacket};
+ghost use Rattle.sl_tcframe.specs.TcDelimited.{tc_frames_of};
+ghost use Rattle.sl_tmframe.specs.TmDelimited.{tm_frames_of};
+ghost use Rattle.sl_link.specs.Kind.Delivery.{AreKept, Delivers, MayWantMemory, counted, packets_in, packets_of};
+ghost use Rattle.sl_link.specs.Kind.Tc.{MayWantMemoryTc, tc_counts};
+ghost use Rattle.sl_link.specs.Kind.Tm.{MayWantMemoryTm, tm_counts};
+ghost use Rattle.sl_link.specs.Link.Managed.{tc_format};
+ghost use Rattle.sl_link.specs.Normalise.Form.{StopsForm};
+ghost use Rattle.sl_link.specs.Normalise.Store.{IsRefused, KeepsAll, form_text};
+ghost use Rattle.sl_link.specs.Normalise.Tc.{tc_normal_form, tc_packets};
+ghost use Rattle.sl_link.specs.Normalise.Tm.{tm_normal_form, tm_packets};
+ghost use Rattle.sl_link.specs.Tally.{listing_counts};
+ghost use Rattle.sl_link.specs.Io.Streams.{IsRead, KeepsPackets, Stops, StopsReadingAll};
+ghost use Rattle.sl_link.specs.Io.Streams.{Translates, TranslatesAndCounts, WritesText};
+ghost use Rattle.sl_link.specs.Verbs.Listing.{WantedMemory};
+ghost use Rattle.sl_link.specs.Pass.{chunk_size};
 
-pub use tc::normalise_tc;
-pub use tm::normalise_tm;
+mod form;
+
+use crate::kind::Delivery;
+use crate::link::counted::Counted;
+use crate::link::fault::{LinkFault, of_flow};
+use crate::link::managed::Managed;
+use crate::link::totals::Totals;
+use crate::normalise::form::write_form;
+use crate::pass::{CHUNK_SIZE, FrameSink, Framer, read_recording};
+use crate::tally::{FrameReport, Tally};
+use sl_packet::Delivered;
+use sl_tcflow::{Receiver, TcForm};
+use sl_tcframe::TcFramer;
+use sl_tmflow::{Extractor, TmForm};
+use sl_tmframe::TmFramer;
+use std::alloc::Global;
+use std::io::{Read, Write};
+
+/// Reads a recording of TM transfer frames to its end, and then writes the normal form of the packets that its
+/// frames deliver (docs/normal-form.md). It keeps these packets, one frame at most, and the packet that is incomplete
+/// on each virtual channel.
+///
+/// The fault is `Read` where the reader had one, `TooLong` where more octets came than the managed limit, and
+/// `Memory` where memory was refused, which is wanted only where a packet is incomplete on the virtual channel of a
+/// frame, before the frame or after it, or was delivered; nothing is written then. Or it is `Write`, where the writer
+/// had one; it then has a prefix of the normal form.
+pub fn normalise_tm<R: Read, W: Write>(
+    alloc: Global,
+    managed: &Managed,
+    reader: &mut Counted<R>,
+    writer: &mut Counted<W>,
+) -> Result<Totals, LinkFault>
+    // All is read, and the normal form of it is written and nothing else.
+    ensures normal_form { OnOk result (Translates R.remaining W.contents reader.old reader.new
+        writer.old writer.new (tm_normal_form managed.now) managed.now.max_octets) }
+    // The totals are those of what was read.
+    ensures totals { IfOk result (TranslatesAndCounts R.remaining W.contents reader.old reader.new
+        writer.old writer.new (tm_normal_form managed.now) (tm_counts managed.now)
+        managed.now.max_octets) }
+    // The normal form delivers the packets of the recording.
+    ensures packets { OnOk result (KeepsPackets R.remaining W.contents reader.old reader.new
+        writer.old writer.new (tm_packets managed.now)) }
+    // After a fault its cause is there, and a prefix of the normal form of what was read is written.
+    ensures fault { IfErr result (Stops R.remaining W.contents reader.old reader.new
+        writer.old writer.new (tm_normal_form managed.now) managed.now.max_octets chunk_size) }
+    // Only where the writer failed is anything written, and all is read then.
+    ensures all_read { IfErr result (λ fault. fault ≡ LinkFault.Write
+        → IsRead R.remaining reader.new) }
+    ensures nothing { IfErr result (λ fault. fault ≢ LinkFault.Write → writer.new ≡ writer.old) }
+    // Memory is refused only where a packet is incomplete around a frame, or was delivered.
+    ensures memory { IfErr result (λ fault. fault ≡ LinkFault.Memory
+        → WantedMemory R.remaining reader.old reader.new (tm_frames_of managed.now.tm_length)
+        (MayWantMemoryTm managed.now)) }
+{
+    let mut framer = TmFramer::new(&managed.tm);
+    let extractor = Extractor::new(alloc);
+    normalise(alloc, managed, &mut framer, extractor, reader, writer)
+}
+
+/// Reads a recording of TC transfer frames to its end, and then writes the normal form of the packets that its
+/// frames deliver, on each virtual channel and MAP (docs/normal-form.md). It keeps these packets, one frame at most,
+/// and the series that is incomplete on each MAP.
+///
+/// The fault is `Read` where the reader had one, `TooLong` where more octets came than the managed limit, and
+/// `Memory` where memory was refused, which is wanted only where a frame's unit is accepted and a series is incomplete
+/// on its MAP, before the frame or after it, or where a packet was delivered; nothing is written then. Or it is
+/// `Write`, where the writer had one; it then has a prefix of the normal form.
+pub fn normalise_tc<R: Read, W: Write>(
+    alloc: Global,
+    managed: &Managed,
+    reader: &mut Counted<R>,
+    writer: &mut Counted<W>,
+) -> Result<Totals, LinkFault>
+    // All is read, and the normal form of it is written and nothing else.
+    ensures normal_form { OnOk result (Translates R.remaining W.contents reader.old reader.new
+        writer.old writer.new (tc_normal_form managed.now) managed.now.max_octets) }
+    // The totals are those of what was read.
+    ensures totals { IfOk result (TranslatesAndCounts R.remaining W.contents reader.old reader.new
+        writer.old writer.new (tc_normal_form managed.now) (tc_counts managed.now)
+        managed.now.max_octets) }
+    // The normal form delivers the packets of the recording.
+    ensures packets { OnOk result (KeepsPackets R.remaining W.contents reader.old reader.new
+        writer.old writer.new (tc_packets managed.now)) }
+    // After a fault its cause is there, and a prefix of the normal form of what was read is written.
+    ensures fault { IfErr result (Stops R.remaining W.contents reader.old reader.new
+        writer.old writer.new (tc_normal_form managed.now) managed.now.max_octets chunk_size) }
+    // Only where the writer failed is anything written, and all is read then.
+    ensures all_read { IfErr result (λ fault. fault ≡ LinkFault.Write
+        → IsRead R.remaining reader.new) }
+    ensures nothing { IfErr result (λ fault. fault ≢ LinkFault.Write → writer.new ≡ writer.old) }
+    // Memory is refused only where a series is incomplete around a frame, or a packet was delivered.
+    ensures memory { IfErr result (λ fault. fault ≡ LinkFault.Memory
+        → WantedMemory R.remaining reader.old reader.new (tc_frames_of (tc_format managed.now))
+        (MayWantMemoryTc managed.now)) }
+{
+    let mut framer = TcFramer::new(&managed.tc);
+    let receiver = Receiver::new(alloc, managed.window, &managed.starts, managed.plain);
+    normalise(alloc, managed, &mut framer, receiver, reader, writer)
+}
+
+/// The normal form of the packets of a kind of frames.
+trait Formed: Delivery {
+    ghost use Rattle.sl_link.specs.Link.Managed.{Parameters};
+
+    /// The normal form of lists of packets, one for each channel.
+    ghost form_of: { Parameters → List (List (List ℕ)) → List ℕ };
+
+    /// Writes the normal form of the delivered packets of a recording.
+    fn write<W: Write>(
+        alloc: Global,
+        managed: &Managed,
+        delivered: &Delivered,
+        writer: &mut Counted<W>,
+    ) -> Result<(), LinkFault>
+        requires { (recording : List ℕ) × AreKept (Self.kind managed.now)
+            ((Self.kind managed.now).frames_of recording) delivered.now.lists }
+        ensures written { OnOk result ((recording : List ℕ)
+            → AreKept (Self.kind managed.now) ((Self.kind managed.now).frames_of recording)
+            delivered.now.lists → WritesText W.contents writer.old writer.new
+            (form_text (Self.kind managed.now) (form_of managed.now) recording)) }
+        // The normal form delivers these packets again.
+        ensures delivers { (recording : List ℕ)
+            → AreKept (Self.kind managed.now) ((Self.kind managed.now).frames_of recording)
+            delivered.now.lists → packets_of (Self.kind managed.now)
+            (form_text (Self.kind managed.now) (form_of managed.now) recording)
+            ≡ packets_of (Self.kind managed.now) recording }
+        ensures fault { IfErr result (λ fault. (recording : List ℕ)
+            → AreKept (Self.kind managed.now) ((Self.kind managed.now).frames_of recording)
+            delivered.now.lists → StopsForm W.contents writer.old writer.new
+            (form_text (Self.kind managed.now) (form_of managed.now) recording)
+            (0 < packets_in (Self.kind managed.now) ((Self.kind managed.now).frames_of recording))
+            fault) };
+}
+
+impl Formed for Extractor {
+    ghost use Rattle.sl_link.specs.Normalise.Tm.{tm_form_of};
+
+    ghost form_of = { tm_form_of };
+
+    fn write<W: Write>(
+        alloc: Global,
+        managed: &Managed,
+        delivered: &Delivered,
+        writer: &mut Counted<W>,
+    ) -> Result<(), LinkFault> {
+        let mut form = TmForm::new(alloc, &managed.tm, managed.spacecraft, delivered);
+        write_form(alloc, &mut form, writer)
+    }
+}
+
+impl Formed for Receiver {
+    ghost use Rattle.sl_link.specs.Normalise.Tc.{tc_form_of};
+
+    ghost form_of = { tc_form_of };
+
+    fn write<W: Write>(
+        alloc: Global,
+        managed: &Managed,
+        delivered: &Delivered,
+        writer: &mut Counted<W>,
+    ) -> Result<(), LinkFault> {
+        let mut form = TcForm::new(
+            managed.tc,
+            managed.spacecraft,
+            managed.starts,
+            managed.plain,
+            delivered,
+        );
+        write_form(alloc, &mut form, writer)
+    }
+}
+
+// Reads a recording to its end, and then writes the normal form of the packets that its frames deliver.
+fn normalise<D: Formed, F: Framer, R: Read, W: Write>(
+    alloc: Global,
+    managed: &Managed,
+    framer: &mut F,
+    delivery: D,
+    reader: &mut Counted<R>,
+    writer: &mut Counted<W>,
+) -> Result<Totals, LinkFault>
+    requires none { F.waits framer.old managed.now [] }
+    requires same { (frame : List ℕ) → F.is_frame managed.now frame → D.is_frame managed.now frame }
+    requires frames { (recording : List ℕ) → F.frames_of managed.now recording
+        ≡ (D.kind managed.now).frames_of recording }
+    requires begun { D.has_processed delivery managed.now [] }
+    ensures normal_form { OnOk result (Translates R.remaining W.contents reader.old reader.new
+        writer.old writer.new (form_text (D.kind managed.now) (D.form_of managed.now))
+        managed.now.max_octets) }
+    ensures totals { IfOk result (TranslatesAndCounts R.remaining W.contents reader.old reader.new
+        writer.old writer.new (form_text (D.kind managed.now) (D.form_of managed.now))
+        (listing_counts (counted (D.kind managed.now)) (D.kind managed.now).frames_of)
+        managed.now.max_octets) }
+    ensures packets { OnOk result (KeepsPackets R.remaining W.contents reader.old reader.new
+        writer.old writer.new (packets_of (D.kind managed.now))) }
+    ensures fault { IfErr result (Stops R.remaining W.contents reader.old reader.new
+        writer.old writer.new (form_text (D.kind managed.now) (D.form_of managed.now))
+        managed.now.max_octets chunk_size) }
+    ensures all_read { IfErr result (λ fault. fault ≡ LinkFault.Write
+        → IsRead R.remaining reader.new) }
+    ensures nothing { IfErr result (λ fault. fault ≢ LinkFault.Write → writer.new ≡ writer.old) }
+    ensures memory { IfErr result (λ fault. fault ≡ LinkFault.Memory
+        → WantedMemory R.remaining reader.old reader.new (D.kind managed.now).frames_of
+        (MayWantMemory (D.kind managed.now) (D.wants_memory managed.now))) }
+{
+    let (delivered, totals) = deliver(alloc, managed, framer, delivery, reader)?;
+    D::write(alloc, managed, &delivered, writer)?;
+    Ok(totals)
+}
+
+/// Reads a recording to its end, and keeps the packets that its frames deliver.
+pub fn deliver<D: Delivery, F: Framer, R: Read>(
+    alloc: Global,
+    managed: &Managed,
+    framer: &mut F,
+    delivery: D,
+    reader: &mut Counted<R>,
+) -> Result<(Delivered, Totals), LinkFault>
+    requires none { F.waits framer.old managed.now [] }
+    requires same { (frame : List ℕ) → F.is_frame managed.now frame → D.is_frame managed.now frame }
+    requires frames { (recording : List ℕ) → F.frames_of managed.now recording
+        ≡ (D.kind managed.now).frames_of recording }
+    requires begun { D.has_processed delivery managed.now [] }
+    ensures all { IfOk result (λ kept. KeepsAll R.remaining reader.old reader.new
+        (D.kind managed.now) managed.now.max_octets kept.0.lists kept.1) }
+    ensures fault { IfErr result (StopsReadingAll R.remaining reader.old reader.new
+        managed.now.max_octets chunk_size) }
+    ensures memory { IfErr result (λ fault. fault ≡ LinkFault.Memory
+        → WantedMemory R.remaining reader.old reader.new (D.kind managed.now).frames_of
+        (MayWantMemory (D.kind managed.now) (D.wants_memory managed.now))) }
+{
+    let mut buffer = [0; CHUNK_SIZE];
+    let mut store = Store {
+        managed: *managed,
+        delivery,
+        so_far: Tally::new(),
+        delivered: Delivered::new(alloc),
+    };
+    let octets = read_recording(managed, framer, &mut store, reader, &mut buffer)?;
+    let Store {
+        so_far,
+        delivered,
+        ..
+    } = store;
+    Ok((delivered, so_far.totals(octets - so_far.octets, 0)))
+}
+
+// Keeps the packets that frames deliver.
+#[derive(Drop)]
+struct Store<D: Delivery> {
+    managed: Managed,
+    delivery: D,
+    so_far: Tally,
+    delivered: Delivered,
+}
+
+impl<D: Delivery> FrameSink for Store<D> {
+    ghost use Rattle.std.specs.Prelude.{◌≡◌};
+    ghost use Rattle.sl_link.specs.Kind.Delivery.{AreKept, HasHandedOver, MayWantMemory};
+    ghost use Rattle.sl_link.specs.Normalise.Store.{IsRefused};
+
+    ghost is_frame = { λ store frame. D.is_frame store.managed frame };
+
+    ghost took = { λ start now frames. (now.managed ≡ start.managed)
+        × HasHandedOver (D.kind start.managed) (D.has_processed now.delivery start.managed) frames
+        now.so_far × AreKept (D.kind start.managed) frames now.delivered.lists };
+
+    ghost stopped = { λ start now frames fault. IsRefused
+        (MayWantMemory (D.kind start.managed) (D.wants_memory start.managed) frames) fault };
+
+    fn frame(&mut self, frame: &[u8]) -> Result<(), LinkFault> {
+        let report = keep_frame(
+            &mut self.delivery,
+            &self.managed,
+            frame,
+            &mut self.delivered,
+        )?;
+        self.so_far.add(frame.len() as u64, report);
+        Ok(())
+    }
+
+    fn pause(&mut self) -> Result<(), LinkFault> {
+        Ok(())
+    }
+}
+
+// Keeps the packets that end in a frame, unless it is skipped.
+fn keep_frame<D: Delivery>(
+    delivery: &mut D,
+    managed: &Managed,
+    frame: &[u8],
+    delivered: &mut Delivered,
+) -> Result<FrameReport, LinkFault>
+    requires { (before : List (List ℕ)) × D.has_processed delivery.old managed.now before
+        × D.is_frame managed.now frame.now }
+    ensures processed { OnOk result ((before : List (List ℕ))
+        → D.has_processed delivery.old managed.now before
+        → D.has_processed delivery.new managed.now (before ++ frame.now ∷ [])) }
+    ensures delivers { IfOk result (λ report. (before : List (List ℕ))
+        → D.has_processed delivery.old managed.now before
+        → Delivers AddsPacket (D.kind managed.now) before frame.now delivered.old report
+        delivered.new) }
+    ensures fault { IfErr result (λ fault. (before : List (List ℕ))
+        → D.has_processed delivery.old managed.now before
+        → IsRefused (MayWantMemory (D.kind managed.now) (D.wants_memory managed.now)
+        (before ++ frame.now ∷ [])) fault) }
+{
+    match delivery.deliver(managed, frame, delivered) {
+        Ok(report) => Ok(report),
+        Err(fault) => Err(of_flow(fault)),
+    }
+}

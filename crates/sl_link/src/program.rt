@@ -2,11 +2,12 @@
 ghost use Rattle.std.specs.Prelude.{◌≡◌, ◌≢◌, ◌≤◌, ◌⊎◌, map, string_bytes, OnOk, IfOk, IfErr};
 ghost use Rattle.std.specs.Io.KnownBytes.{Keeps};
 ghost use Rattle.clap.specs.Words.{kind_of};
-ghost use Rattle.sl_link.specs.Program.Answer.{EndsAsHelp, WithAnswer, WithText};
+ghost use Rattle.sl_link.specs.Program.Answer.{EndsAsHelp, MayLackMemory, WithAnswer, WithText};
 ghost use Rattle.sl_link.specs.Program.CommandLine.{AreRefused};
 ghost use Rattle.sl_link.specs.Link.Counted.{stream_of, faults_of, HasFailed};
 ghost use Rattle.sl_link.specs.Io.Streams.{StopsWriting, WritesText};
-ghost use Rattle.sl_link.specs.Program.Run.{AsksForRefusedParameter, HasMetAnomalies, HasStopped, HasSucceeded, HasWritten, IsStoppedBy, WithAsked};
+ghost use Rattle.sl_link.specs.Program.Run.{AsksForRefusedParameter, HasMetAnomalies, HasStopped, HasSucceeded};
+ghost use Rattle.sl_link.specs.Program.Run.{HasWritten, IsStoppedBy, WithAsked};
 ghost use Rattle.sl_link.specs.Program.Status.{status};
 
 pub mod command_line;
@@ -58,7 +59,8 @@ Exit status:
 ///   written;
 /// - 1: all was read and written, and a check met anomalies;
 /// - 2: the words or a managed parameter are refused, and nothing was read or written;
-/// - 3: reading or writing failed, the recording has more octets than the limit, or memory was refused.
+/// - 3: reading or writing failed, the recording has more octets than the limit, or memory was refused, which may
+///   happen with any words.
 ///
 /// `errors` gets the reason for status 2 or 3 in one line, or the lines in which the command line refuses the words,
 /// as far as it takes them. Its own failures change no status.
@@ -84,8 +86,9 @@ pub fn run<R: Read, W: Write, E: Write>(
     ensures refused { result ≡ 2 → (reader.new ≡ reader.old) × (writer.new ≡ writer.old)
         × (AreRefused (map string_bytes words.now) ⊎ WithAsked (map string_bytes words.now)
         AsksForRefusedParameter) }
-    // After a fault its cause is there, with what the words ask for; or nothing was read, and nothing
-    // written unless they ask for help or the version and the writer failed.
+    // After a fault its cause is there, with what the words ask for. Or nothing was read, and nothing was
+    // written unless the words ask for help or the version and the writer failed: no clause can say that
+    // memory was refused, so any words may end like this.
     ensures stopped { result ≡ 3 → ((reader.new ≡ reader.old) × ((writer.new ≡ writer.old)
         ⊎ WithAnswer (map string_bytes words.now)
         (λ text. StopsWriting W.contents writer.old writer.new text LinkFault.Write)))
@@ -220,7 +223,10 @@ fn report_refusal<W: Write, E: Write>(
         × (kind_of refusal.now ≢ ErrorKind.DisplayHelp)
         × (kind_of refusal.now ≢ ErrorKind.DisplayVersion)
         × (kind_of refusal.now ≢ ErrorKind.OutOfMemory) }
-    ensures stopped { result ≡ 3 → (writer.new ≡ writer.old) ⊎ WithText (kind_of refusal.now)
+    // Want of memory or a failed write is a fault. Refused words and a failed error output are none.
+    ensures stopped { result ≡ 3
+        → ((writer.new ≡ writer.old) × MayLackMemory (kind_of refusal.now))
+        ⊎ WithText (kind_of refusal.now)
         (λ text. StopsWriting W.contents writer.old writer.new text LinkFault.Write) }
 {
     match refusal.kind() {

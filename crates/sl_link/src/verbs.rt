@@ -2,7 +2,8 @@
 ghost use Rattle.std.specs.Prelude.{◌≡◌, ◌+◌, ◌-◌, ◌^◌, ◌<◌, ◌≤◌, ◌++◌, ◌∷◌, [], ℕ, List, length, IfOk, IfErr, OnOk};
 ghost use Rattle.std.specs.List.{concat};
 ghost use Rattle.sl_link.specs.Io.Streams.{AddsText, Translates, TranslatesAndCounts, Stops};
-ghost use Rattle.sl_link.specs.Verbs.Listing.{lines_from, counts_of, text_of, StopsListingFrames, WantedMemory, ListsFrames};
+ghost use Rattle.sl_link.specs.Verbs.Listing.{lines_from, counts_of, text_of};
+ghost use Rattle.sl_link.specs.Verbs.Listing.{StopsListingFrames, WantedMemory, ListsFrames};
 ghost use Rattle.sl_link.specs.Pass.{PassesOver, StopsPassing};
 
 mod check;

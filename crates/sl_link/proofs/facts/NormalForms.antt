@@ -4,7 +4,8 @@ use Rattle.std.proofs.Common.{◌≡◌, ℕ, true, false, List, [], ◌∷◌, 
 use Rattle.sl_fields.specs.Fecf.{fecf_of, register_of}
 use Rattle.sl_packet.specs.IdlePacket.{idle_packet}
 use Rattle.sl_link.specs.Link.Managed.{Parameters}
-use Rattle.sl_link.specs.Normalise.Tm.{tm_form_of, tm_normal_form, tm_counts}
+use Rattle.sl_link.specs.Kind.Tm.{tm_counts}
+use Rattle.sl_link.specs.Normalise.Tm.{tm_form_of, tm_normal_form}
 use Rattle.sl_link.specs.Link.Totals.{Counts}
 
 abbrev pub link : Parameters

@@ -3,6 +3,4 @@ pub mod FormTc
 pub mod FormTm
 pub mod Separation
 pub mod Storing
-pub mod StoringTc
-pub mod StoringTm
 pub mod Whole

@@ -6,5 +6,4 @@ pub mod Request
 pub mod Rows
 pub mod Run
 pub mod SameWalk
-pub mod Verb
 pub mod Walk

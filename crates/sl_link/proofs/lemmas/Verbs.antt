@@ -1,6 +1,5 @@
 pub mod Check
 pub mod Lister
 pub mod Packets
-pub mod Shared
 pub mod Show
 pub mod Whole

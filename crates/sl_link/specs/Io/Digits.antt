@@ -6,7 +6,7 @@ pub record AreDigits (number : ℕ) (places : List ℕ) : Type 0 where
   pub digits : take (slice_index places 3) places ≡ decimal number
   pub few : slice_index places 3 ≤ 3
 
--- the places begin with the digits of the number, which are so many
+-- the places begin with the digits of the number, and this is how many digits it has
 pub record AreLeading (number : ℕ) (places : List ℕ) (many : ℕ) : Type 0 where
   pub digits : take many places ≡ decimal number
   pub few : many ≤ 16

@@ -32,7 +32,8 @@ module _ {W : Type 0} (contents : W → Option (List ℕ)) where
 -- ---- a buffer, and a text
 
 -- n octets came to the front of the buffer, none only where the input ended
-pub record ReadsSome {R : Type 0} (remaining : R → Option (List ℕ)) (old new : Counted R) (buffer : List ℕ) (limit n : ℕ) : Type 0 where
+pub record ReadsSome {R : Type 0} (remaining : R → Option (List ℕ)) (old new : Counted R) (buffer : List ℕ)
+    (limit n : ℕ) : Type 0 where
   pub inside : n ≤ length buffer
   pub allowed : n ≤ limit
   pub read : Reads remaining old new (take n buffer)
@@ -47,14 +48,16 @@ IsReadFault old new limit octets Memory = ⊥
 IsReadFault old new limit octets Write = ⊥
 
 -- octets came into the buffer, and then a fault
-pub record StopsReading {R : Type 0} (remaining : R → Option (List ℕ)) (old new : Counted R) (buffer : List ℕ) (limit : ℕ) (fault : LinkFault) : Type 0 where
+pub record StopsReading {R : Type 0} (remaining : R → Option (List ℕ)) (old new : Counted R) (buffer : List ℕ)
+    (limit : ℕ) (fault : LinkFault) : Type 0 where
   pub octets : List ℕ
   pub inside : length octets ≤ length buffer
   pub read : Reads remaining old new octets
   pub cause : IsReadFault old new limit octets fault
 
 -- all octets were read, no more than the limit
-pub record ReadsAll {R : Type 0} (remaining : R → Option (List ℕ)) (old new : Counted R) (limit : ℕ) (octets : List ℕ) : Type 0 where
+pub record ReadsAll {R : Type 0} (remaining : R → Option (List ℕ)) (old new : Counted R) (limit : ℕ)
+    (octets : List ℕ) : Type 0 where
   pub within : length octets ≤ limit
   pub read : Reads remaining old new octets
   pub to_end : IsRead remaining new
@@ -69,7 +72,8 @@ IsReadingAllFault old new limit buffer octets Memory = (faults_of new ≡ faults
 IsReadingAllFault old new limit buffer octets Write = ⊥
 
 -- octets were read, and then a fault came
-pub record StopsReadingAll {R : Type 0} (remaining : R → Option (List ℕ)) (old new : Counted R) (limit buffer : ℕ) (fault : LinkFault) : Type 0 where
+pub record StopsReadingAll {R : Type 0} (remaining : R → Option (List ℕ)) (old new : Counted R) (limit buffer : ℕ)
+    (fault : LinkFault) : Type 0 where
   pub octets : List ℕ
   pub read : Reads remaining old new octets
   pub cause : IsReadingAllFault old new limit buffer octets fault
@@ -80,14 +84,16 @@ pub record WritesText {W : Type 0} (contents : W → Option (List ℕ)) (old new
   pub no_fault : faults_of new ≡ faults_of old
 
 -- a text is added to what isn't written yet, some of which may be written for it
-pub record AddsText {W : Type 0} (contents : W → Option (List ℕ)) (old new : Counted W) (pending pending' text : List ℕ) : Type 0 where
+pub record AddsText {W : Type 0} (contents : W → Option (List ℕ)) (old new : Counted W)
+    (pending pending' text : List ℕ) : Type 0 where
   pub written : List ℕ
   pub parts : pending ++ text ≡ written ++ pending'
   pub writes : Writes contents old new written
   pub no_fault : faults_of new ≡ faults_of old
 
 -- a prefix of the text was written, and then the writer failed
-pub record StopsWriting {W : Type 0} (contents : W → Option (List ℕ)) (old new : Counted W) (text : List ℕ) (fault : LinkFault) : Type 0 where
+pub record StopsWriting {W : Type 0} (contents : W → Option (List ℕ)) (old new : Counted W) (text : List ℕ)
+    (fault : LinkFault) : Type 0 where
   pub front : WritesPrefix contents old new text
   pub is_write : fault ≡ Write
   pub cause : HasFailed old new
@@ -100,7 +106,8 @@ IsListingFault old new Memory = faults_of new ≡ faults_of old
 IsListingFault old new Write = HasFailed old new
 
 -- a prefix of the text was written, and then memory was refused or the writer failed
-pub record StopsListing {W : Type 0} (contents : W → Option (List ℕ)) (old new : Counted W) (text : List ℕ) (fault : LinkFault) : Type 0 where
+pub record StopsListing {W : Type 0} (contents : W → Option (List ℕ)) (old new : Counted W) (text : List ℕ)
+    (fault : LinkFault) : Type 0 where
   pub front : WritesPrefix contents old new text
   pub cause : IsListingFault old new fault
 
@@ -109,7 +116,8 @@ pub record StopsListing {W : Type 0} (contents : W → Option (List ℕ)) (old n
 module _ {R W : Type 0} (remaining : R → Option (List ℕ)) (contents : W → Option (List ℕ)) where
   -- All was read, no more than the limit, the text of it was written and nothing else, and the number of faults of
   -- neither stream rose.
-  pub record Translates (reader reader' : Counted R) (writer writer' : Counted W) (text : List ℕ → List ℕ) (limit : ℕ) : Type 0 where
+  pub record Translates (reader reader' : Counted R) (writer writer' : Counted W) (text : List ℕ → List ℕ)
+      (limit : ℕ) : Type 0 where
     pub octets : List ℕ
     pub within : length octets ≤ limit
     pub read : Reads remaining reader reader' octets
@@ -119,13 +127,15 @@ module _ {R W : Type 0} (remaining : R → Option (List ℕ)) (contents : W → 
     pub writer_kept : faults_of writer' ≡ faults_of writer
 
   -- And the totals are the counts of the same octets, which streams that don't tell theirs leave open.
-  pub record TranslatesAndCounts (reader reader' : Counted R) (writer writer' : Counted W) (text : List ℕ → List ℕ) (counts : List ℕ → Counts) (limit : ℕ) (totals : Counts) : Type 0 where
+  pub record TranslatesAndCounts (reader reader' : Counted R) (writer writer' : Counted W) (text : List ℕ → List ℕ)
+      (counts : List ℕ → Counts) (limit : ℕ) (totals : Counts) : Type 0 where
     pub translated : Translates reader reader' writer writer' text limit
     pub counted : totals ≡ counts translated.octets
 
   -- What was written delivers, read as a recording, the packets that what was read delivers. `packets` gives those of a
   -- recording.
-  pub record KeepsPackets (reader reader' : Counted R) (writer writer' : Counted W) (packets : List ℕ → List (List (List ℕ))) : Type 0 where
+  pub record KeepsPackets (reader reader' : Counted R) (writer writer' : Counted W)
+      (packets : List ℕ → List (List (List ℕ))) : Type 0 where
     pub recording : List ℕ
     pub read : Reads remaining reader reader' recording
     pub form : List ℕ
@@ -147,7 +157,8 @@ module _ {R W : Type 0} (remaining : R → Option (List ℕ)) (contents : W → 
       HasFailed writer writer' × (faults_of reader' ≡ faults_of reader) × (length octets ≤ limit)
 
   -- Octets were read and a prefix of their text was written, and then a fault came, whose cause is there.
-  pub record Stops (reader reader' : Counted R) (writer writer' : Counted W) (text : List ℕ → List ℕ) (limit buffer : ℕ) (fault : LinkFault) : Type 0 where
+  pub record Stops (reader reader' : Counted R) (writer writer' : Counted W) (text : List ℕ → List ℕ) (limit buffer : ℕ)
+      (fault : LinkFault) : Type 0 where
     pub octets : List ℕ
     pub read : Reads remaining reader reader' octets
     pub written : WritesPrefix contents writer writer' (text octets)

@@ -25,9 +25,10 @@ module _ {F : Type 0} (left : F → List ℕ → Type 0) where
   abbrev pub IsFewer : (F → ℕ) → F → F → Type 0
   IsFewer most old new = (octets : List ℕ) → left old octets → most new < most old
 
--- the cause of a fault of writing a normal form, or of making it: where memory was refused there are packets, and nothing
--- was written
-abbrev pub StopsForm : {W : Type 0} → (W → Option (List ℕ)) → Counted W → Counted W → List ℕ → Type 0 → LinkFault → Type 0
+-- the cause of a fault of writing a normal form, or of making it: where memory was refused there are packets, and
+-- nothing was written
+abbrev pub StopsForm : {W : Type 0} → (W → Option (List ℕ)) → Counted W → Counted W → List ℕ → Type 0 → LinkFault
+    → Type 0
 StopsForm contents old new text packets Read = ⊥
 StopsForm contents old new text packets TooLong = ⊥
 StopsForm contents old new text packets Memory = (new ≡ old) × packets

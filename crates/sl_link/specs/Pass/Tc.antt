@@ -26,8 +26,11 @@ pub record TcWaits (f : TcFraming) (p : Parameters) (rest : List ℕ) : Type 0 w
   pub rest_is : rest ≡ f.rest ++ more
   pub later : (more ≡ []) ⊎ IsStuck f
 
+-- ---- two proofs, which the `Framer` of TC frames hands to its callers
+
 -- a frame at the front is the first one
-pub tc_front_is_first : (p : Parameters) (frame more : List ℕ) → is_tc_frame p frame → tc_frames p (frame ++ more) ≡ frame ∷ tc_frames p more
+pub tc_front_is_first : (p : Parameters) (frame more : List ℕ) → is_tc_frame p frame
+    → tc_frames p (frame ++ more) ≡ frame ∷ tc_frames p more
 tc_front_is_first p frame more h = frames_of-frame (tc_format p) frame more h
 
 -- no octets have no frame

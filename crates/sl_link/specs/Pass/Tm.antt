@@ -21,8 +21,11 @@ pub record TmWaits (f : TmFraming) (p : Parameters) (rest : List ℕ) : Type 0 w
   pub rest_is : f.rest ≡ rest
   pub short : length rest < p.tm_length
 
+-- ---- two proofs, which the `Framer` of TM frames hands to its callers
+
 -- a frame at the front is the first one
-pub tm_front_is_first : (p : Parameters) (frame more : List ℕ) → is_tm_frame p frame → tm_frames p (frame ++ more) ≡ frame ∷ tm_frames p more
+pub tm_front_is_first : (p : Parameters) (frame more : List ℕ) → is_tm_frame p frame
+    → tm_frames p (frame ++ more) ≡ frame ∷ tm_frames p more
 tm_front_is_first p frame more h = frames_of-first p.tm_length frame more h.0 h.1
 
 -- no octets have no frame

@@ -2,7 +2,7 @@
 use Rattle.std.specs.Prelude.{◌≡◌, ◌⊎◌, List, ◌++◌, codes}
 use Rattle.clap.specs.Walk.{Text}
 use Rattle.clap.specs.declared.error.kind.ErrorKind.{ErrorKind}
-use Rattle.clap.specs.declared.error.kind.ErrorKind.TheVariants.{DisplayHelp, DisplayVersion}
+use Rattle.clap.specs.declared.error.kind.ErrorKind.TheVariants.{DisplayHelp, DisplayVersion, OutOfMemory}
 use Rattle.sl_link.specs.Program.CommandLine.{AskForHelp, AskForVersion}
 
 -- the name and the version
@@ -37,3 +37,7 @@ pub record WithText (kind : ErrorKind) (Done : Text → Type 0) : Type 0 where
   pub text : Text
   pub answers : ((kind ≡ DisplayHelp) × EndsAsHelp text) ⊎ ((kind ≡ DisplayVersion) × (text ≡ version_line))
   pub done : Done text
+
+-- there was no memory for the words, or there may be none for the text of help
+abbrev pub MayLackMemory : ErrorKind → Type 0
+MayLackMemory kind = (kind ≡ OutOfMemory) ⊎ (kind ≡ DisplayHelp)

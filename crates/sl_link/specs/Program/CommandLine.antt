@@ -1,5 +1,6 @@
 -- The command line of `sllink`: its arguments, what it refuses, and what its words ask for.
-use Rattle.std.specs.Prelude.{◌≡◌, ◌≢◌, ◌&&◌, ◌^◌, ℕ, Bool, true, false, List, [], ◌∷◌, Option, Some, None, Result, Ok, Err}
+use Rattle.std.specs.Prelude.{◌≡◌, ◌≢◌, ◌&&◌, ◌^◌, ℕ, Bool, true, false, List}
+use Rattle.std.specs.Prelude.{[], ◌∷◌, Option, Some, None, Result, Ok, Err}
 use Rattle.std.specs.Prelude.{codes, fold, nat_lt, option_and_then, if◌then◌else◌, pos, replicate}
 use Rattle.std.specs.Borrow.{Bor}
 use Rattle.std.specs.Option.{option_map_or}
@@ -24,7 +25,9 @@ use Rattle.sl_link.specs.declared.program.command_line.Asked.{Asked}
 use Rattle.sl_link.specs.declared.program.command_line.RefusedParameter.{RefusedParameter}
 use Rattle.sl_link.specs.declared.program.command_line.RefusedParameter.TheVariants as refused
 use Rattle.sl_link.specs.declared.program.command_line.Engine.{Engine}
-use Rattle.sl_link.specs.declared.program.command_line.Engine.TheVariants.{ShowTm, ShowTc, CheckTm, CheckTc, PacketsTm, PacketsTc, NormaliseTm, NormaliseTc}
+use Rattle.sl_link.specs.declared.program.command_line.Engine.TheVariants.{ShowTm, ShowTc, CheckTm}
+use Rattle.sl_link.specs.declared.program.command_line.Engine.TheVariants.{CheckTc, PacketsTm, PacketsTc}
+use Rattle.sl_link.specs.declared.program.command_line.Engine.TheVariants.{NormaliseTm, NormaliseTc}
 use Rattle.sl_link.specs.declared.program.command_line.Options.{Options}
 use Rattle.sl_link.specs.declared.program.command_line.Request.{Request}
 
@@ -197,13 +200,15 @@ request_in met = option_and_then (λ p. request_with p.0 p.1) met
 
 -- ---- the virtual channels of TC frames
 
--- those without segment headers, by the text of an option: none where it is left out, and no set where the text lists none
+-- those without segment headers, by the text of an option: none where it is left out, and no set where the text lists
+-- none
 abbrev pub IsPlain : Option Text → Option (List ℕ) → Type 0
 IsPlain None plain = plain ≡ Some []
 IsPlain (Some text) (Some plain) = vc_set.Lists 0 text plain
 IsPlain (Some text) None = (plain : List ℕ) → vc_set.Lists 0 text plain → ⊥
 
--- their starts, by the text of an option: this V(R) for all that it doesn't name, and no starts where the text lists none
+-- their starts, by the text of an option: this V(R) for all that it doesn't name, and no starts where the text lists
+-- none
 abbrev pub AreFrom : ℕ → Option Text → Option (List ℕ) → Type 0
 AreFrom vr None starts = starts ≡ Some (replicate 64 vr)
 AreFrom vr (Some text) (Some starts) = AreNamed 0 text (replicate 64 vr) starts
@@ -266,14 +271,15 @@ parameters_asked o =
       max_octets = o.max_octets;
     }
 
--- the same with the virtual channels that the options name, or what is refused: a parameter of theirs, and then the text
--- of those without segment headers, and of the starts
+-- the same with the virtual channels that the options name, or what is refused: a parameter of theirs, and then the
+-- text of those without segment headers, and of the starts
 abbrev pub with_vcs : Parameters → Option (List ℕ) → Option (List ℕ) → Result Parameters RefusedParameter
 with_vcs p None starts = Err refused.Plain
 with_vcs p (Some plain) None = Err refused.Start
 with_vcs p (Some plain) (Some starts) = Ok (record p { starts = starts; plain = plain })
 
-abbrev pub managed_with : Result Parameters ManagedFault → Option (List ℕ) → Option (List ℕ) → Result Parameters RefusedParameter
+abbrev pub managed_with : Result Parameters ManagedFault → Option (List ℕ) → Option (List ℕ)
+    → Result Parameters RefusedParameter
 managed_with (Err fault) plain starts = Err (refused.Managed fault)
 managed_with (Ok p) plain starts = with_vcs p plain starts
 

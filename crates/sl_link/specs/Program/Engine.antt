@@ -1,12 +1,16 @@
 -- What an engine writes for a recording, what it counts in it, and how it reads it.
 use Rattle.std.specs.Prelude.{ℕ, Bool, true, false, List}
 use Rattle.sl_link.specs.declared.program.command_line.Engine.{Engine}
-use Rattle.sl_link.specs.declared.program.command_line.Engine.TheVariants.{ShowTm, ShowTc, CheckTm, CheckTc, PacketsTm, PacketsTc, NormaliseTm, NormaliseTc}
+use Rattle.sl_link.specs.declared.program.command_line.Engine.TheVariants.{ShowTm, ShowTc, CheckTm}
+use Rattle.sl_link.specs.declared.program.command_line.Engine.TheVariants.{CheckTc, PacketsTm, PacketsTc}
+use Rattle.sl_link.specs.declared.program.command_line.Engine.TheVariants.{NormaliseTm, NormaliseTc}
 use Rattle.sl_link.specs.Verbs.Check.Tc.{check_tc_text, check_tc_counts}
 use Rattle.sl_link.specs.Verbs.Check.Tm.{check_tm_text, check_tm_counts}
 use Rattle.sl_link.specs.Link.Managed.{Parameters}
-use Rattle.sl_link.specs.Normalise.Tc.{tc_normal_form, tc_counts}
-use Rattle.sl_link.specs.Normalise.Tm.{tm_normal_form, tm_counts}
+use Rattle.sl_link.specs.Kind.Tc.{tc_counts}
+use Rattle.sl_link.specs.Kind.Tm.{tm_counts}
+use Rattle.sl_link.specs.Normalise.Tc.{tc_normal_form}
+use Rattle.sl_link.specs.Normalise.Tm.{tm_normal_form}
 use Rattle.sl_link.specs.Verbs.Packets.Tc.{packets_tc_text}
 use Rattle.sl_link.specs.Verbs.Packets.Tm.{packets_tm_text}
 use Rattle.sl_link.specs.Verbs.Show.Tc.{show_tc_text, show_tc_counts}

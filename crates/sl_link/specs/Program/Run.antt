@@ -16,18 +16,22 @@ module _ {R W : Type 0} (remaining : R → Option (List ℕ)) (contents : W → 
   -- the engine's text of a recording was written, and the totals are its counts of it
   abbrev pub HasWritten : Counted R → Counted R → Counted W → Counted W → Asked → Parameters → Counts → Type 0
   HasWritten reader reader' writer writer' asked managed =
-      TranslatesAndCounts remaining contents reader reader' writer writer' (text_of asked.request.engine managed) (counts_of asked.request.engine managed) managed.max_octets
+      TranslatesAndCounts remaining contents reader reader' writer writer' (text_of asked.request.engine managed)
+      (counts_of asked.request.engine managed) managed.max_octets
 
   -- A fault stopped the engine, or the flush after it. A listing of frames needs no memory. Of a normal form
   -- anything is written only where the writer failed, and all is read then.
-  pub record IsStoppedBy (reader reader' : Counted R) (writer writer' : Counted W) (asked : Asked) (managed : Parameters) (fault : LinkFault) : Type 0 where
-    pub cause : Stops remaining contents reader reader' writer writer' (text_of asked.request.engine managed) managed.max_octets chunk_size fault
+  pub record IsStoppedBy (reader reader' : Counted R) (writer writer' : Counted W) (asked : Asked)
+      (managed : Parameters) (fault : LinkFault) : Type 0 where
+    pub cause : Stops remaining contents reader reader' writer writer'
+        (text_of asked.request.engine managed) managed.max_octets chunk_size fault
     pub not_memory : lists_frames asked.request.engine ≡ true → fault ≢ Memory
     pub all_read : writes_normal_form asked.request.engine ≡ true → fault ≡ Write → IsRead remaining reader'
     pub nothing : writes_normal_form asked.request.engine ≡ true → fault ≢ Write → writer' ≡ writer
 
   -- no managed parameter that is asked for is refused, and the engine's text of a recording was written
-  pub record HasEnded (reader reader' : Counted R) (writer writer' : Counted W) (asked : Asked) (totals : Counts) : Type 0 where
+  pub record HasEnded (reader reader' : Counted R) (writer writer' : Counted W) (asked : Asked)
+      (totals : Counts) : Type 0 where
     pub managed : Parameters
     pub allowed : managed_asked asked ≡ Ok managed
     pub written : HasWritten reader reader' writer writer' asked managed totals

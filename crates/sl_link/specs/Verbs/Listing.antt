@@ -1,16 +1,16 @@
 -- A listing that is written frame by frame: the lines of each frame by the frames before it, and those after the last.
-use Rattle.std.specs.Prelude.{◌≡◌, ℕ, ◌-◌, List, [], ◌∷◌, ◌++◌, length, Option}
-use Rattle.std.specs.List.{concat}
+use Rattle.std.specs.Prelude.{◌≡◌, ℕ, List, [], ◌∷◌, ◌++◌, Option}
 use Rattle.sl_link.specs.declared.link.counted.Counted.{Counted}
 use Rattle.sl_link.specs.declared.link.fault.LinkFault.{LinkFault}
 use Rattle.sl_link.specs.declared.link.fault.LinkFault.TheVariants.{Memory}
 use Rattle.sl_link.specs.Io.Streams.{AddsText, Reads, StopsListing}
 use Rattle.sl_link.specs.Link.Totals.{Counts}
+use Rattle.sl_link.specs.Tally.{listing_counts, rest_after}
 
 -- ---- listings
 
--- A listing: the lines of a frame that comes after others, those after all frames, with the octets of the remainder, and
--- what is counted then.
+-- A listing: the lines of a frame that comes after others, those after all frames, with the octets of the remainder,
+-- and what is counted then.
 pub record Listing : Type 0 where
   pub line : List (List ℕ) → List ℕ → List ℕ
   pub last : List (List ℕ) → ℕ → List ℕ
@@ -21,17 +21,11 @@ abbrev pub lines_from : {X : Type 0} → (List (List ℕ) → List ℕ → List 
 lines_from line before [] = []
 lines_from line before (frame ∷ frames) = line before frame ++ lines_from line (before ++ frame ∷ []) frames
 
--- the octets after the frames
-abbrev pub rest_after : List (List ℕ) → List ℕ → ℕ
-rest_after frames recording = length recording - length (concat frames)
-
 -- the text of a recording with these frames
-abbrev pub listing : (List (List ℕ) → List ℕ → List ℕ) → (List (List ℕ) → ℕ → List ℕ) → (List ℕ → List (List ℕ)) → List ℕ → List ℕ
-listing line last frames_of recording = lines_from line [] (frames_of recording) ++ last (frames_of recording) (rest_after (frames_of recording) recording)
-
--- what is counted
-abbrev pub listing_counts : (List (List ℕ) → ℕ → Counts) → (List ℕ → List (List ℕ)) → List ℕ → Counts
-listing_counts counts frames_of recording = counts (frames_of recording) (rest_after (frames_of recording) recording)
+abbrev pub listing : (List (List ℕ) → List ℕ → List ℕ) → (List (List ℕ) → ℕ → List ℕ) → (List ℕ → List (List ℕ))
+    → List ℕ → List ℕ
+listing line last frames_of recording = lines_from line [] (frames_of recording)
+    ++ last (frames_of recording) (rest_after (frames_of recording) recording)
 
 -- the text of a recording, and its counts
 abbrev pub text_of : (List ℕ → List (List ℕ)) → Listing → List ℕ → List ℕ
@@ -42,18 +36,22 @@ counts_of frames_of l = listing_counts l.counts frames_of
 
 -- ---- while it is written
 
--- these lines are added, or a fault left a prefix of them
-pub record StopsListingFrames {W : Type 0} (contents : W → Option (List ℕ)) (old new : Counted W) (text : List ℕ) (wants_memory : Type 0) (fault : LinkFault) : Type 0 where
+-- a prefix of these lines was written before a fault, and memory was refused only where it was wanted
+pub record StopsListingFrames {W : Type 0} (contents : W → Option (List ℕ)) (old new : Counted W) (text : List ℕ)
+    (wants_memory : Type 0) (fault : LinkFault) : Type 0 where
   pub front : StopsListing contents old new text fault
   pub memory : fault ≡ Memory → wants_memory
 
 -- these frames are listed, and their lines added
-pub record ListsFrames {W : Type 0} (contents : W → Option (List ℕ)) (has_listed : List (List ℕ) → Type 0) (line : List (List ℕ) → List ℕ → List ℕ) (old new : Counted W) (pending : List ℕ) (frames : List (List ℕ)) : Type 0 where
+pub record ListsFrames {W : Type 0} (contents : W → Option (List ℕ)) (has_listed : List (List ℕ) → Type 0)
+    (line : List (List ℕ) → List ℕ → List ℕ) (old new : Counted W) (pending : List ℕ)
+    (frames : List (List ℕ)) : Type 0 where
   pub listed : has_listed frames
   pub lines : AddsText contents old new [] pending (lines_from line [] frames)
 
 -- memory may be refused at some frame of what was read
-pub record WantedMemory {R : Type 0} (remaining : R → Option (List ℕ)) (old new : Counted R) (frames_of : List ℕ → List (List ℕ)) (wants_memory : List (List ℕ) → Type 0) : Type 0 where
+pub record WantedMemory {R : Type 0} (remaining : R → Option (List ℕ)) (old new : Counted R)
+    (frames_of : List ℕ → List (List ℕ)) (wants_memory : List (List ℕ) → Type 0) : Type 0 where
   pub octets : List ℕ
   pub read : Reads remaining old new octets
   pub first : List (List ℕ)

@@ -2,5 +2,6 @@
 pub mod ChannelName
 pub mod Line
 pub mod Listed
+pub mod Printed
 pub mod Tc
 pub mod Tm

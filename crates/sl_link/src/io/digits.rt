@@ -62,8 +62,9 @@ impl Decimals {
         [first, second]
     }
 
-    /// The leading digits of a long number, given as the number that they are, where they were those of the number before:
-    /// places that begin with them, and how many they are. They mostly were, since offsets rise little by little.
+    /// The leading digits of a long number, given as the number that they are, where they were those of the number
+    /// before: places that begin with them, and how many they are. They mostly were, since offsets rise little by
+    /// little.
     #[inline(always)]
     pub fn leading(&self, number: u64) -> Option<([u8; 16], usize)>
         ensures digits { IfSome result (λ leading. take leading.1 leading.0 ≡ decimal number) }

@@ -35,7 +35,7 @@ pub fn flush<W: Write>(writer: &mut Counted<W>, lines: &mut Lines) -> Result<(),
     Ok(())
 }
 
-/// Adds the line of a remainder of so many octets at this offset.
+/// Adds the line of a remainder at this offset, with its number of octets.
 pub fn rest_line(lines: &mut Lines, offset: u64, octets: u64)
     requires { HasRoom lines.old }
     ensures text { lines.new ≡ lines.old ++ line_at offset (codes " rest " ++ decimal octets) }

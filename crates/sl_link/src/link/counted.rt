@@ -2,8 +2,8 @@
 use std::io::{self, Read, Write};
 
 /// A reader or a writer that counts its faults: each error that it answers, and each write that takes none of one or
-/// more octets. The count stops at 2^64 - 1. Every call is handed on to the stream, and its answer comes back
-/// unchanged; an interrupted call is an error like any other.
+/// more octets. The count stops at 2^64 - 1. An interrupted call is an error like any other. By reading, every call is
+/// handed on to the stream, and its answer comes back unchanged.
 #[derive(Drop)]
 pub struct Counted<T> {
     stream: T,

@@ -20,7 +20,8 @@ const FORM_SIZE: usize = 0x40000;
 
 /// A normal form that is made piece by piece.
 pub trait Form {
-    ghost use Rattle.std.specs.Prelude.{◌≡◌, ◌+◌, ◌≤◌, ◌<◌, ℕ, List, IfErr, IfOk, OnOk, OnErr, IsTrue, IsFalse, vec_len};
+    ghost use Rattle.std.specs.Prelude.{◌≡◌, ◌+◌, ◌≤◌, ◌<◌, ℕ, List, IfErr};
+    ghost use Rattle.std.specs.Prelude.{IfOk, OnOk, OnErr, IsTrue, IsFalse, vec_len};
     ghost use Rattle.std.specs.Vec.{vec_capacity};
     ghost use Rattle.sl_link.specs.Normalise.Form.{AddsPiece, IsAllMade, IsFewer, KeepsLeft, piece_size};
     ghost use Rattle.sl_link.specs.declared.link.fault.LinkFault.{LinkFault};
@@ -34,7 +35,7 @@ pub trait Form {
     /// It has the memory that it wants for itself.
     ghost ready: { Self → Type 0 };
 
-    /// So many pieces follow at most.
+    /// At most this number of pieces follows.
     ghost most: { Self → ℕ };
 
     /// Adds the next piece to a text, and tells whether there was one.

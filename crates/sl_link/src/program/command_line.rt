@@ -4,10 +4,13 @@ ghost use Rattle.clap.specs.Words.{app_of, found_of, kind_of, rows_of, rule_of, 
 ghost use Rattle.clap.specs.Walk.{first_of};
 ghost use Rattle.clap.specs.declared.builder.Command.TheViews.{out-Command as fields_of};
 ghost use Rattle.sl_link.specs.Link.Managed.{managed_of};
-ghost use Rattle.sl_link.specs.Program.CommandLine.{AreFrom, AskFor, HasVcs, IsPlain, IsRefusal, IsSllink, managed_asked, parameters_asked};
-ghost use Rattle.sl_link.specs.Program.CommandLine.{flag_rule, link_options, needed_number, number_or, number_rule, text_rule};
+ghost use Rattle.sl_link.specs.Program.CommandLine.{AreFrom, AskFor, HasVcs, IsPlain};
+ghost use Rattle.sl_link.specs.Program.CommandLine.{IsRefusal, IsSllink, managed_asked, parameters_asked};
+ghost use Rattle.sl_link.specs.Program.CommandLine.{flag_rule, link_options, needed_number};
+ghost use Rattle.sl_link.specs.Program.CommandLine.{number_or, number_rule, text_rule};
 ghost use Rattle.sl_link.specs.Program.CommandLine.{verb_app, with_link_options};
-ghost use Rattle.sl_link.specs.Program.CommandLine.{engine_named, is_set, number_in, options_in, request_in, request_with};
+ghost use Rattle.sl_link.specs.Program.CommandLine.{engine_named, is_set, number_in};
+ghost use Rattle.sl_link.specs.Program.CommandLine.{options_in, request_in, request_with};
 
 use crate::link::managed::{Managed, ManagedFault};
 use clap::builder::ValueParser;
@@ -283,14 +286,12 @@ fn asked_of(matches: &ArgMatches<'_>) -> Option<Asked>
         ≡ request_in (subcommand_rows_of matches.now) }
     ensures channels { IfSome result (HasVcs (subcommand_rows_of matches.now)) }
 {
-    let request = request_of(matches)?;
-    let (_, found) = matches.subcommand()?;
-    let plain = plain_of(found);
-    let starts = starts_of(found, request.options.vr);
+    let (verb, found) = matches.subcommand()?;
+    let request = request_with(verb, found)?;
     Some(Asked {
         request,
-        plain,
-        starts,
+        plain: plain_of(found),
+        starts: starts_of(found, request.options.vr),
     })
 }
 
@@ -315,14 +316,7 @@ fn starts_of(matches: &ArgMatches<'_>, vr: u8) -> Option<Starts>
     }
 }
 
-// Without the virtual channels that they name.
-fn request_of(matches: &ArgMatches<'_>) -> Option<Request>
-    ensures { result ≡ request_in (subcommand_rows_of matches.now) }
-{
-    let (verb, matches) = matches.subcommand()?;
-    request_with(verb, matches)
-}
-
+// Without the virtual channels that the options name.
 fn request_with(verb: &str, matches: &ArgMatches<'_>) -> Option<Request>
     ensures { result ≡ request_with verb.now (rows_of (found_of matches.now)) }
 {

@@ -7,7 +7,7 @@ use Rattle.sl_link.specs.declared.link.fault.LinkFault.{LinkFault}
 use Rattle.sl_link.specs.declared.link.fault.LinkFault.TheVariants.{Read, TooLong, Memory, Write}
 use Rattle.sl_link.specs.Link.Counted.{stream_of, faults_of}
 use Rattle.sl_link.specs.Io.Streams.{AddsText, IsListingFault, StopsListing, StopsWriting, WritesText}
-use Rattle.sl_link.proofs.lemmas.Verbs.Shared.{HasFailed-since, split_front}
+use Rattle.sl_link.proofs.lemmas.Io.Faults.{HasFailed-since, split_front}
 
 module _ {W : Type 0} (contents : W → Option (List ℕ)) where
   pub AddsText-trans : (old mid new : Counted W) (pending pending' pending'' text more : List ℕ)

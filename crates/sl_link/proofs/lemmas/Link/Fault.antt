@@ -26,18 +26,18 @@ memory_alone taking failures packets old new channel flow.Failed ne stopped = ab
 module _ (failing : PacketLists → ℕ → List ℕ → SinkFault → PacketLists → Type 0) (failures : PacketLists → ℕ) where
   -- it refuses packets for want of memory alone
   pub memory_refused : ((old : PacketLists) (channel : ℕ) (packet : List ℕ) (fault : SinkFault) (new : PacketLists) → failing old channel packet fault new → fault ≡ sink.Memory)
-      → (packets : List (List ℕ)) (old new : PacketLists) (channel : ℕ) (fault : FlowFault) → fault ≢ flow.Failed
+      → (packets : List (List ℕ)) (old new : PacketLists) (channel : ℕ) (fault : FlowFault)
       → IsStopped AddsPacket failing failures old channel packets fault new → flow_fault fault ≡ Memory
-  memory_refused only packets old new channel flow.Memory ne stopped = refl
-  memory_refused only packets old new channel (flow.Sink fault) ne stopped =
+  memory_refused only packets old new channel flow.Memory stopped = refl
+  memory_refused only packets old new channel (flow.Sink fault) stopped =
       ap sink_fault (only stopped.0.before channel stopped.0.refused fault new stopped.0.fails)
-  memory_refused only packets old new channel flow.Failed ne stopped = absurd (ne refl)
+  memory_refused only packets old new channel flow.Failed stopped = absurd stopped
 
   -- where memory was wanted for something else, or there was a packet
-  pub wanted_or_some : {X : Type 0} (packets : List (List ℕ)) (old new : PacketLists) (channel : ℕ) (fault : FlowFault) → fault ≢ flow.Failed
+  pub wanted_or_some : {X : Type 0} (packets : List (List ℕ)) (old new : PacketLists) (channel : ℕ) (fault : FlowFault)
       → IsStopped AddsPacket failing failures old channel packets fault new → (fault ≡ flow.Memory → X) → X ⊎ (0 < length packets)
-  wanted_or_some packets old new channel flow.Memory ne stopped wants = inl (wants refl)
-  wanted_or_some packets old new channel (flow.Sink fault) ne stopped wants =
+  wanted_or_some packets old new channel flow.Memory stopped wants = inl (wants refl)
+  wanted_or_some packets old new channel (flow.Sink fault) stopped wants =
       let s = stopped.0 in
       inr (omega (arith, ap length s.in_order, length-append s.accepted (s.refused ∷ s.later)))
-  wanted_or_some packets old new channel flow.Failed ne stopped wants = absurd (ne refl)
+  wanted_or_some packets old new channel flow.Failed stopped wants = absurd stopped

@@ -1,12 +1,8 @@
 -- The normal form of delivered packets under the managed parameters.
-use Rattle.std.proofs.Common.{◌≡◌, ◌≢◌, ℕ, ◌<◌, List, [], length, sym, ◌∙◌, ap}
-use Rattle.sl_packet.specs.Delivered.{PacketLists, channel_count}
+use Rattle.std.proofs.Common.{◌≡◌, ℕ, List, sym, ◌∙◌, ap}
 use Rattle.sl_tcflow.specs.Recording.{tc_lists}
 use Rattle.sl_tcflow.specs.TcNormalForm.{tc_normal_form_of}
-use Rattle.sl_tcflow.proofs.lemmas.Form.Left.{none_at_all}
-use Rattle.sl_link.specs.Deliver.Lists.{count_of}
 use Rattle.sl_link.specs.Link.Managed.{Parameters, tc_format}
-use Rattle.sl_link.proofs.lemmas.Normalise.StoringTc.{some_kept}
 use Rattle.sl_link.specs.Normalise.Tc.{tc_form_of, tc_packets}
 
 pub form_is : (p q : Parameters) (lists : List (List (List ℕ))) (form : List ℕ) → form ≡ tc_normal_form_of (tc_format q) q.spacecraft q.starts q.plain lists → q ≡ p
@@ -17,8 +13,3 @@ form_is p q lists form is same = is ∙ ap (λ (r : Parameters). tc_form_of r li
 pub form_delivers : (p q : Parameters) (lists : List (List (List ℕ))) (form : List ℕ) → ((w : ℕ) → tc_lists (tc_format q) q.spacecraft (record { window = w; starts = q.starts; plain = q.plain }) form ≡ lists) → q ≡ p
     → tc_packets p form ≡ lists
 form_delivers p q lists form delivers same = ap (λ (r : Parameters). tc_packets r form) (sym same) ∙ delivers q.window
-
--- where the form of packets has octets
-pub some_framed : (d : PacketLists) (q : Parameters) (form : List ℕ) → form ≡ tc_normal_form_of (tc_format q) q.spacecraft q.starts q.plain d.lists → length d.lists ≡ channel_count
-    → form ≢ [] → 0 < count_of d.lists
-some_framed d q form is size some = some_kept d (λ none. some (is ∙ none_at_all (tc_format q) q.spacecraft q.starts q.plain d.lists size none)) size

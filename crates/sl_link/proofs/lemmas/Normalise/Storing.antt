@@ -1,11 +1,9 @@
 -- A recording that is read to its end, and kept of it what its frames deliver.
-use Rattle.std.proofs.Common.{◌≡◌, ℕ, zero, suc, ◌+◌, ◌<◌, ◌≤◌, List, [], ◌∷◌, length, map, Option, refl, sym, subst, arith, ap, append-nil, inl, inr, ◌∙◌}
-use Rattle.std.specs.List.{range_with_len}
-use Rattle.std.proofs.lemmas.Bool.Decides.{eqb_tells}
+use Rattle.std.proofs.Common.{◌≡◌, ℕ, List, [], Option, sym, subst, append-nil, inl, inr, ◌∙◌}
 use Rattle.sl_link.specs.declared.link.counted.Counted.{Counted}
 use Rattle.sl_link.specs.declared.link.fault.LinkFault.{LinkFault}
 use Rattle.sl_link.specs.declared.link.fault.LinkFault.TheVariants.{Read, TooLong, Memory, Write}
-use Rattle.sl_link.specs.Deliver.Lists.{IsRefused, count_of}
+use Rattle.sl_link.specs.Normalise.Store.{IsRefused}
 use Rattle.sl_link.specs.Pass.{IsReadersFault, PassesOver, StopsPassing}
 use Rattle.sl_link.specs.Io.Streams.{IsReadingAllFault, ReadsAll, Reads, StopsReadingAll}
 use Rattle.sl_link.specs.Verbs.Listing.{WantedMemory}
@@ -30,11 +28,11 @@ module _ {R : Type 0} (remaining : R → Option (List ℕ)) (reader reader' : Co
   no_readers_memory : (octets : List ℕ) (fault : LinkFault) → fault ≡ Memory → IsReadersFault reader reader' limit room octets fault → ⊥
   no_readers_memory octets fault e c = subst (IsReadersFault reader reader' limit room octets) e c
 
-  pub wants_keeping : (fault : LinkFault) → StopsPassing remaining reader reader' frames_of taken stopped limit room fault → fault ≡ Memory
-      → WantedMemory remaining reader reader' frames_of wants
-  wants_keeping fault s e = elim s.cause [
+  pub wants_keeping : (of : List ℕ → List (List ℕ)) → ((recording : List ℕ) → frames_of recording ≡ of recording) → (fault : LinkFault)
+      → StopsPassing remaining reader reader' frames_of taken stopped limit room fault → fault ≡ Memory → WantedMemory remaining reader reader' of wants
+  wants_keeping of same fault s e = elim s.cause [
     | inl at ↦ absurd (no_readers_memory s.octets fault e at.cause)
-    | inr at ↦ record { octets = s.octets; read = s.read; first = s.first; later = s.later; in_order = s.in_order; wanted = at.at.1 }
+    | inr at ↦ record { octets = s.octets; read = s.read; first = s.first; later = s.later; in_order = sym (same s.octets) ∙ s.in_order; wanted = at.at.1 }
   ]
 
   pub reads_all : (n : ℕ) (s : PassesOver remaining reader reader' frames_of taken limit n) → ReadsAll remaining reader reader' limit s.octets
@@ -45,16 +43,3 @@ pub wanted_at_end : {R : Type 0} (remaining : R → Option (List ℕ)) (reader r
     → Reads remaining reader reader' octets → wants (frames_of octets) → WantedMemory remaining reader reader' frames_of wants
 wanted_at_end remaining reader reader' frames_of wants octets read wanted =
     record { octets = octets; read = read; first = frames_of octets; later = []; in_order = sym (append-nil (frames_of octets)); wanted = wanted }
-
--- lists that have no items are empty
-pub none_of : {X : Type 0} (f : ℕ → List X) (from n : ℕ) → count_of (map f (range_with_len from n)) ≡ 0 → (i : ℕ) → from ≤ i → i < from + n → f i ≡ []
-none_of f from zero none i above below = absurd (omega (arith, above, below))
-none_of f from (suc n) none i above below =
-    elim (eqb_tells i from) [
-      | inl (is, same) ↦ ap f same ∙ no_length (f from) (omega (arith, none))
-      | inr (is, other) ↦ none_of f (from + 1) n (omega (arith, none)) i (omega (arith, above, other)) (omega (arith, below))
-    ]
-  where
-    no_length : {Y : Type 0} (xs : List Y) → length xs ≡ 0 → xs ≡ []
-    no_length [] e = refl
-    no_length (x ∷ xs) e = absurd (omega (arith, e))

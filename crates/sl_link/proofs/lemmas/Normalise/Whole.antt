@@ -8,7 +8,7 @@ use Rattle.sl_link.specs.Link.Counted.{stream_of}
 use Rattle.sl_link.specs.Io.Streams.{KeepsPackets, ReadsAll, StopsReadingAll, IsReadingAllFault, IsCaused, WritesPrefix, WritesText, StopsWriting, Translates, TranslatesAndCounts, Stops}
 use Rattle.sl_link.specs.Link.Totals.{Counts}
 use Rattle.sl_link.specs.Normalise.Form.{StopsForm}
-use Rattle.sl_link.proofs.lemmas.Verbs.Shared.{caused_writing}
+use Rattle.sl_link.proofs.lemmas.Io.Faults.{caused_writing}
 
 module _ {R W : Type 0} (remaining : R → Option (List ℕ)) (contents : W → Option (List ℕ)) (reader reader' : Counted R) (text : List ℕ → List ℕ) (limit buffer : ℕ) where
   caused : (writer : Counted W) (octets : List ℕ) (fault : LinkFault) → IsReadingAllFault reader reader' limit buffer octets fault → IsCaused remaining contents reader reader' writer writer limit buffer octets fault

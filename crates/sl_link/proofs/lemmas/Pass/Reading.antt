@@ -10,10 +10,10 @@ use Rattle.sl_link.specs.Link.Counted.{stream_of, faults_of}
 use Rattle.sl_link.specs.Io.Streams.{Reads, IsRead, StopsReading, IsReadFault}
 use Rattle.sl_link.specs.Pass.{TakesChunk, StopsInChunk, PassesOver, StopsPassing, IsReadersFault}
 use Rattle.std.proofs.lemmas.List.Folds.{concat-append}
-use Rattle.sl_link.proofs.lemmas.Verbs.Shared.{HasFailed-since}
+use Rattle.sl_link.proofs.lemmas.Io.Faults.{HasFailed-since}
 
 module _ {R F S : Type 0} (remaining : R → Option (List ℕ)) (is_frame : List ℕ → Type 0) (waits : F → List ℕ → Type 0) (frames_of : List ℕ → List (List ℕ)) (took : S → S → List (List ℕ) → Type 0) (reader : Counted R) (start : S) (limit : ℕ) where
-  -- so many octets were read, and their frames were taken
+  -- this number of octets was read, and their frames were taken
   pub record IsPassing (mid : Counted R) (framer : F) (sink : S) (n : ℕ) : Type 0 where
     pub octets : List ℕ
     pub read : Reads remaining reader mid octets

@@ -1,16 +1,20 @@
 -- A run: the flush after an engine, and what the exit status says.
-use Rattle.std.proofs.Common.{◌≡◌, ◌≢◌, ℕ, zero, suc, Bool, true, false, List, [], Option, Result, Ok, Err, IfOk, IfErr, refl, sym, ap, ◌∙◌, append-nil, rules}
-use Rattle.std.specs.Prelude.{◌==◌, if◌then◌else◌}
+use Rattle.std.proofs.Common.{◌≡◌, ◌≢◌, ℕ, zero, suc, Bool, true, false, List, [], Option, Result, Ok, Err, IfOk, IfErr, inl, inr, refl, subst, sym, ap, ◌∙◌, append-nil, rules}
+use Rattle.std.specs.Prelude.{◌==◌, ◌⊎◌, if◌then◌else◌}
 use Rattle.std.specs.Io.KnownBytes.{Keeps}
 use Rattle.std.proofs.KnownBytes.{Appends-kept}
 use Rattle.std.proofs.Math.Dec.{eqb-suc-zero}
+use Rattle.clap.specs.Walk.{Text}
+use Rattle.clap.specs.declared.error.kind.ErrorKind.{ErrorKind}
+use Rattle.clap.specs.declared.error.kind.ErrorKind.TheVariants.{DisplayHelp, DisplayVersion, OutOfMemory}
 use Rattle.sl_link.specs.declared.link.counted.Counted.{Counted}
 use Rattle.sl_link.specs.declared.link.fault.LinkFault.{LinkFault}
 use Rattle.sl_link.specs.declared.link.fault.LinkFault.TheVariants.{Memory, Write}
 use Rattle.sl_link.specs.declared.program.command_line.Engine.{Engine}
 use Rattle.sl_link.specs.declared.program.command_line.Engine.TheVariants.{ShowTm, ShowTc, CheckTm, CheckTc, PacketsTm, PacketsTc, NormaliseTm, NormaliseTc}
 use Rattle.sl_link.specs.declared.program.command_line.Asked.{Asked}
-use Rattle.sl_link.specs.Program.CommandLine.{managed_asked}
+use Rattle.sl_link.specs.Program.Answer.{EndsAsHelp, WithAnswer, WithText, version_line}
+use Rattle.sl_link.specs.Program.CommandLine.{AskForHelp, AskForVersion, IsRefusal, managed_asked}
 use Rattle.sl_link.specs.Link.Counted.{stream_of, faults_of, HasFailed}
 use Rattle.sl_link.specs.Pass.{chunk_size}
 use Rattle.sl_link.specs.Program.Engine.{text_of, counts_of, is_check}
@@ -18,7 +22,7 @@ use Rattle.sl_link.specs.Link.Managed.{Parameters}
 use Rattle.sl_link.specs.Program.Run.{HasMetAnomalies, HasStopped, HasSucceeded, HasWritten, IsStoppedBy}
 use Rattle.sl_link.specs.Program.Status.{status}
 use Rattle.sl_link.specs.Link.Totals.{Counts}
-use Rattle.sl_link.proofs.lemmas.Verbs.Shared.{caused_writing}
+use Rattle.sl_link.proofs.lemmas.Io.Faults.{caused_writing}
 
 no_fault_status : (b : Bool) → ◌≢◌ {A = ℕ} (if b then 0 else 1) 3
 no_fault_status true = search rules
@@ -120,3 +124,14 @@ module _ {R W : Type 0} (remaining : R → Option (List ℕ)) (contents : W → 
       → HasStopped remaining contents reader reader' writer writer' asked
   has_stopped reader reader' writer writer' asked managed (Ok counts) is_fault allowed stopped = absurd (no_fault_status _ is_fault)
   has_stopped reader reader' writer writer' asked managed (Err fault) is_fault allowed stopped = record { managed = managed; allowed = allowed; fault = fault; stopped = stopped }
+
+-- a refusal that asks for help or the version comes of words that do
+pub with_answer : (kind : ErrorKind) (words : List Text) (Done : Text → Type 0) → (kind ≡ OutOfMemory) ⊎ IsRefusal kind words → WithText kind Done → WithAnswer words Done
+with_answer kind words Done refused t = record { text = t.text; answers = go refused t.answers; done = t.done }
+  where
+    go : (kind ≡ OutOfMemory) ⊎ IsRefusal kind words → ((kind ≡ DisplayHelp) × EndsAsHelp t.text) ⊎ ((kind ≡ DisplayVersion) × (t.text ≡ version_line))
+        → (AskForHelp words × EndsAsHelp t.text) ⊎ (AskForVersion words × (t.text ≡ version_line))
+    go (inl memory) (inl help) = absurd (cc)
+    go (inl memory) (inr version) = absurd (cc)
+    go (inr is) (inl help) = inl (subst (λ (k : ErrorKind). IsRefusal k words) help.0 is, help.1)
+    go (inr is) (inr version) = inr (subst (λ (k : ErrorKind). IsRefusal k words) version.0 is, version.1)

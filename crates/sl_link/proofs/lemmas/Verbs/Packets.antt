@@ -2,4 +2,3 @@ pub mod Channels
 pub mod Listed
 pub mod Octets
 pub mod Printer
-pub mod PrinterTc

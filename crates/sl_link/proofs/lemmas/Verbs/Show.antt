@@ -1,4 +1,3 @@
-pub mod CountedTc
 pub mod Farms
 pub mod Tc
 pub mod Tm

@@ -8,7 +8,8 @@ use Rattle.sl_link.specs.Link.Counted.{faults_of}
 use Rattle.sl_link.specs.Io.Streams.{AddsText, WritesText, StopsWriting, Translates, TranslatesAndCounts, Stops, IsCaused, IsListingFault, WritesPrefix}
 use Rattle.sl_link.specs.Pass.{PassesOver, StopsPassing, IsReadersFault}
 use Rattle.sl_link.specs.Link.Totals.{Counts}
-use Rattle.sl_link.specs.Verbs.Listing.{lines_from, listing, listing_counts, rest_after, StopsListingFrames, WantedMemory, ListsFrames}
+use Rattle.sl_link.specs.Tally.{listing_counts, rest_after}
+use Rattle.sl_link.specs.Verbs.Listing.{lines_from, listing, StopsListingFrames, WantedMemory, ListsFrames}
 use Rattle.sl_link.proofs.lemmas.Io.Adding.{AddsText-trans, all_written, stops_later, stops_waiting, stops_at_writer}
 use Rattle.sl_link.proofs.lemmas.Verbs.Lister.{lines_from-append}
 

@@ -16,7 +16,8 @@ packets_text counts = codes " packets " ++ decimal counts.packets ++ codes " idl
 
 -- the line of the totals, which comes last
 abbrev pub totals_line : Counts → List ℕ
-totals_line counts = frames_text counts ++ packets_text counts ++ codes " anomalies " ++ decimal counts.anomalies ++ codes "\n"
+totals_line counts = frames_text counts ++ packets_text counts ++ codes " anomalies " ++ decimal counts.anomalies
+    ++ codes "\n"
 
 -- the counts, with this number of anomalies
 abbrev pub with_anomalies : Counts → ℕ → Counts

@@ -1,5 +1,6 @@
 -- What is amiss in a TC recording, as `check tc` lists it: a line for each, and then the totals.
-use Rattle.std.specs.Prelude.{ℕ, ◌+◌, ◌/◌, ◌%◌, ◌==◌, Bool, if◌then◌else◌, List, [], ◌∷◌, ◌++◌, length, flat_map, codes, decimal, Option, None, Some, Result, Ok, Err}
+use Rattle.std.specs.Prelude.{ℕ, ◌+◌, ◌/◌, ◌%◌, ◌==◌, Bool, if◌then◌else◌, List, [], ◌∷◌, ◌++◌}
+use Rattle.std.specs.Prelude.{length, flat_map, codes, decimal, Option, None, Some, Result, Ok, Err}
 use Rattle.std.specs.List.{concat}
 use Rattle.sl_cop.specs.declared.verdict.Verdict.{Verdict}
 use Rattle.sl_cop.specs.declared.verdict.Verdict.TheVariants.{Accept, Early, Late, Outside, Refused, Command}
@@ -14,10 +15,9 @@ use Rattle.sl_tcflow.specs.Reception.{segments_of}
 use Rattle.sl_tcflow.specs.ReceptionParameters.{ReceptionParameters}
 use Rattle.sl_tcflow.specs.Recording.{map_channels}
 use Rattle.sl_link.specs.Verbs.Check.Lines.{remainder_amiss, totals_line, with_anomalies}
-use Rattle.sl_link.specs.Deliver.Tc.{as_read}
+use Rattle.sl_link.specs.Kind.Tc.{as_read, tc_counted}
 use Rattle.sl_link.specs.Io.Line.{line_at}
 use Rattle.sl_link.specs.Link.Managed.{Parameters, reception_of, tc_format}
-use Rattle.sl_link.specs.Normalise.Tc.{tc_counted}
 use Rattle.sl_link.specs.Verbs.Show.Tc.{tc_skip_word, verdict_word}
 use Rattle.sl_link.specs.Link.Totals.{Counts}
 use Rattle.sl_link.specs.Verbs.Listing.{Listing, counts_of, lines_from, text_of}
@@ -51,7 +51,8 @@ stray_amiss offset vc map_id stray = if stray then line_at offset (codes " stray
 -- an incomplete series is dropped, by how many octets of it had come
 abbrev pub dropped_amiss : ℕ → ℕ → ℕ → Option ℕ → List (List ℕ)
 dropped_amiss offset vc map_id None = []
-dropped_amiss offset vc map_id (Some octets) = line_at offset (codes " dropped" ++ map_text vc map_id ++ codes " octets " ++ decimal octets) ∷ []
+dropped_amiss offset vc map_id (Some octets) =
+    line_at offset (codes " dropped" ++ map_text vc map_id ++ codes " octets " ++ decimal octets) ∷ []
 
 -- a series is given up, too long
 abbrev pub long_amiss : ℕ → ℕ → ℕ → Bool → List (List ℕ)
@@ -60,7 +61,8 @@ long_amiss offset vc map_id long = if long then line_at offset (codes " long" ++
 -- octets are left after the last packet of a service data unit
 abbrev pub tail_amiss : ℕ → ℕ → ℕ → ℕ → List (List ℕ)
 tail_amiss offset vc map_id octets =
-    if octets == 0 then [] else line_at offset (codes " tail" ++ map_text vc map_id ++ codes " octets " ++ decimal octets) ∷ []
+    if octets == 0 then []
+    else line_at offset (codes " tail" ++ map_text vc map_id ++ codes " octets " ++ decimal octets) ∷ []
 
 -- the lines of a frame at this offset, as it is read, that comes after these frames
 abbrev pub tc_amiss : ReceptionParameters → ℕ → List TcView → Result TcView TcSkip → List (List ℕ)
@@ -83,12 +85,14 @@ tc_amiss_after p before frame =
 -- a series that is incomplete after the last frame, with the octets so far, if one is
 abbrev pub incomplete_amiss : ℕ → ℕ → ℕ → Option (List ℕ) → List (List ℕ)
 incomplete_amiss offset vc map_id None = []
-incomplete_amiss offset vc map_id (Some octets) = line_at offset (codes " open" ++ map_text vc map_id ++ codes " octets " ++ decimal (length octets)) ∷ []
+incomplete_amiss offset vc map_id (Some octets) =
+    line_at offset (codes " open" ++ map_text vc map_id ++ codes " octets " ++ decimal (length octets)) ∷ []
 
 -- that of a virtual channel and a MAP, by the number of their channel
 abbrev pub open_on : ReceptionParameters → ℕ → List TcView → ℕ → List (List ℕ)
 open_on r offset views channel =
-    incomplete_amiss offset (channel / 64) (channel % 64) (incomplete_of (segments_of r (channel / 64) (channel % 64) views))
+    incomplete_amiss offset (channel / 64) (channel % 64)
+    (incomplete_of (segments_of r (channel / 64) (channel % 64) views))
 
 -- those of all virtual channels and MAPs, at the end of the recording
 abbrev pub tc_incomplete : ReceptionParameters → ℕ → List TcView → List (List ℕ)
@@ -103,7 +107,8 @@ tc_end_amiss p frames rest =
 -- what is counted: each line is one of what is amiss
 abbrev pub check_tc_counted : Parameters → List (List ℕ) → ℕ → Counts
 check_tc_counted p frames rest =
-    with_anomalies (tc_counted p frames rest) (length (lines_from (tc_amiss_after p) [] frames) + length (tc_end_amiss p frames rest))
+    with_anomalies (tc_counted p frames rest)
+    (length (lines_from (tc_amiss_after p) [] frames) + length (tc_end_amiss p frames rest))
 
 -- the listing: the lines of each frame, those after the last one, and the totals
 abbrev pub check_tc_listing : Parameters → Listing

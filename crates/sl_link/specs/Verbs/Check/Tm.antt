@@ -1,5 +1,6 @@
 -- What is amiss in a TM recording, as `check tm` lists it: a line for each, and then the totals.
-use Rattle.std.specs.Prelude.{ℕ, Bool, ◌+◌, ◌==◌, if◌then◌else◌, List, [], ◌∷◌, ◌++◌, length, map, flat_map, codes, decimal, Option, None, Some, Result, Ok, Err}
+use Rattle.std.specs.Prelude.{ℕ, Bool, ◌+◌, ◌==◌, if◌then◌else◌, List, [], ◌∷◌, ◌++◌, length}
+use Rattle.std.specs.Prelude.{map, flat_map, codes, decimal, Option, None, Some, Result, Ok, Err}
 use Rattle.std.specs.List.{concat}
 use Rattle.sl_tmframe.specs.declared.tm_frame.TmSkip.{TmSkip}
 use Rattle.sl_tmframe.specs.TmDelimited.{tm_frames_of}
@@ -9,10 +10,9 @@ use Rattle.sl_tmflow.specs.Channel.{channel_of, views_of}
 use Rattle.sl_tmflow.specs.Incomplete.{incomplete_of}
 use Rattle.sl_tmflow.specs.Recording.{virtual_channels}
 use Rattle.sl_link.specs.Verbs.Check.Lines.{remainder_amiss, totals_line, with_anomalies}
-use Rattle.sl_link.specs.Deliver.Tm.{as_read}
+use Rattle.sl_link.specs.Kind.Tm.{as_read, tm_counted}
 use Rattle.sl_link.specs.Io.Line.{line_at}
 use Rattle.sl_link.specs.Link.Managed.{Parameters, tm_format}
-use Rattle.sl_link.specs.Normalise.Tm.{tm_counted}
 use Rattle.sl_link.specs.Verbs.Show.Tm.{tm_skip_word}
 use Rattle.sl_link.specs.Link.Totals.{Counts}
 use Rattle.sl_link.specs.Verbs.Listing.{Listing, counts_of, lines_from, text_of}
@@ -22,7 +22,8 @@ use Rattle.sl_link.specs.Verbs.Listing.{Listing, counts_of, lines_from, text_of}
 -- another virtual channel frame count was expected
 abbrev pub gap_text : TmView → ℕ → List ℕ
 gap_text view expected =
-    codes " gap vc " ++ decimal view.vc ++ codes " expected " ++ decimal expected ++ codes " found " ++ decimal view.vc_count
+    codes " gap vc " ++ decimal view.vc ++ codes " expected " ++ decimal expected ++ codes " found "
+    ++ decimal view.vc_count
 
 abbrev pub gap_amiss : ℕ → TmView → Option ℕ → List (List ℕ)
 gap_amiss offset view None = []
@@ -31,7 +32,8 @@ gap_amiss offset view (Some expected) = line_at offset (gap_text view expected) 
 -- an incomplete packet is broken off, by how many octets of it had come
 abbrev pub dropped_amiss : ℕ → ℕ → ℕ → List (List ℕ)
 dropped_amiss offset vc octets =
-    if octets == 0 then [] else line_at offset (codes " dropped vc " ++ decimal vc ++ codes " octets " ++ decimal octets) ∷ []
+    if octets == 0 then []
+    else line_at offset (codes " dropped vc " ++ decimal vc ++ codes " octets " ++ decimal octets) ∷ []
 
 -- the frame is opaque
 abbrev pub opaque_amiss : ℕ → ℕ → DataField → List (List ℕ)
@@ -52,19 +54,23 @@ view_amiss offset view gap dropped is_foreign =
 -- the lines of a frame at this offset, as it is read, that comes after these frames
 abbrev pub tm_amiss : ℕ → List TmView → Result TmView TmSkip → List (List ℕ)
 tm_amiss offset views (Ok view) =
-    view_amiss offset view (gap_of (channel_of view.vc views) view) (dropped_of (channel_of view.vc views) view) (foreign_of view.field)
+    view_amiss offset view (gap_of (channel_of view.vc views) view) (dropped_of (channel_of view.vc views) view)
+    (foreign_of view.field)
 tm_amiss offset views (Err reason) = line_at offset (codes " skip " ++ tm_skip_word reason) ∷ []
 
 -- ---- a recording
 
 -- those of a frame that comes after these
 abbrev pub tm_amiss_after : Parameters → List (List ℕ) → List ℕ → List (List ℕ)
-tm_amiss_after p before frame = tm_amiss (length (concat before)) (views_of (tm_format p) p.spacecraft before) (as_read p frame)
+tm_amiss_after p before frame =
+    tm_amiss (length (concat before)) (views_of (tm_format p) p.spacecraft before) (as_read p frame)
 
 -- the packets that are incomplete after the last frame of their virtual channels, at the end of the recording
 abbrev pub tm_incomplete : ℕ → List TmView → List (List ℕ)
 tm_incomplete offset views =
-    flat_map (λ vc. map (λ octets. line_at offset (codes " open vc " ++ decimal vc ++ codes " octets " ++ decimal (length octets))) (incomplete_of (channel_of vc views)))
+    flat_map (λ vc. map (λ octets. line_at offset
+    (codes " open vc " ++ decimal vc ++ codes " octets " ++ decimal (length octets)))
+    (incomplete_of (channel_of vc views)))
     virtual_channels
 
 -- the lines after frames, by how many octets the remainder has
@@ -76,7 +82,8 @@ tm_end_amiss p frames rest =
 -- what is counted: each line is one of what is amiss
 abbrev pub check_tm_counted : Parameters → List (List ℕ) → ℕ → Counts
 check_tm_counted p frames rest =
-    with_anomalies (tm_counted p frames rest) (length (lines_from (tm_amiss_after p) [] frames) + length (tm_end_amiss p frames rest))
+    with_anomalies (tm_counted p frames rest)
+    (length (lines_from (tm_amiss_after p) [] frames) + length (tm_end_amiss p frames rest))
 
 -- the listing: the lines of each frame, those after the last one, and the totals
 abbrev pub check_tm_listing : Parameters → Listing

@@ -7,7 +7,8 @@ use Rattle.sl_fields.specs.PacketHeader.{PacketFields, packet_header}
 
 -- the flags and the count
 abbrev pub numbers_text : PacketFields → List ℕ
-numbers_text h = codes " secondary " ++ decimal (bit_of h.secondary) ++ codes " flags " ++ decimal h.flags ++ codes " count " ++ decimal h.count
+numbers_text h = codes " secondary " ++ decimal (bit_of h.secondary) ++ codes " flags " ++ decimal h.flags
+    ++ codes " count " ++ decimal h.count
 
 abbrev pub header_text : PacketFields → List ℕ
 header_text h = codes " apid " ++ decimal h.apid ++ codes " type " ++ decimal h.kind ++ numbers_text h

@@ -1,17 +1,16 @@
--- The packets of a TC recording, as `packets tc` lists them: by the accepted units that end the series they are of, idle
--- ones left out.
-use Rattle.std.specs.Prelude.{◌≡◌, ℕ, List, [], ◌∷◌, ◌++◌, map, codes, decimal, Result, Ok, Err}
+-- The packets of a TC recording, as `packets tc` lists them: by the accepted units that end the series they are of,
+-- idle ones left out.
+use Rattle.std.specs.Prelude.{ℕ, List, [], ◌++◌, map, codes, decimal, Result, Ok, Err}
 use Rattle.std.specs.List.{concat}
 use Rattle.sl_packet.specs.Packets.{without_idle}
 use Rattle.sl_tcframe.specs.declared.tc_frame.TcSkip.{TcSkip}
 use Rattle.sl_tcframe.specs.TcDelimited.{tc_frames_of}
 use Rattle.sl_tcframe.specs.TcFrame.{TcView}
 use Rattle.sl_tcflow.specs.AcceptedUnit.{views_of}
-use Rattle.sl_tcflow.specs.Receiving.{IsIncompleteAround, ended_by, map_by}
+use Rattle.sl_tcflow.specs.Receiving.{ended_by, map_by}
 use Rattle.sl_tcflow.specs.ReceptionParameters.{ReceptionParameters}
-use Rattle.sl_link.specs.Deliver.Tc.{as_read}
+use Rattle.sl_link.specs.Kind.Tc.{as_read, tc_counted}
 use Rattle.sl_link.specs.Link.Managed.{Parameters, reception_of, tc_format}
-use Rattle.sl_link.specs.Normalise.Tc.{tc_counted}
 use Rattle.sl_link.specs.Verbs.Packets.Line.{packet_line}
 use Rattle.sl_link.specs.Verbs.Listing.{Listing, text_of}
 
@@ -25,11 +24,15 @@ tc_packet_lines r views (Ok view) =
     concat (map (packet_line (channel_text view.vc (map_by r view))) (without_idle (ended_by r views view)))
 tc_packet_lines r views (Err reason) = []
 
+abbrev pub packets_tc_lines : Parameters → List (List ℕ) → List ℕ → List ℕ
+packets_tc_lines p before frame =
+    tc_packet_lines (reception_of p) (views_of (tc_format p) p.spacecraft before) (as_read p frame)
+
 -- the listing: the lines of the packets that end with each frame's unit
 abbrev pub packets_tc_listing : Parameters → Listing
 packets_tc_listing p =
     record {
-      line = λ before frame. tc_packet_lines (reception_of p) (views_of (tc_format p) p.spacecraft before) (as_read p frame);
+      line = packets_tc_lines p;
       last = λ frames rest. [];
       counts = tc_counted p;
     }
@@ -37,12 +40,3 @@ packets_tc_listing p =
 -- the text of a recording
 abbrev pub packets_tc_text : Parameters → List ℕ → List ℕ
 packets_tc_text p = text_of (tc_frames_of (tc_format p)) (packets_tc_listing p)
-
--- a series is incomplete around the last of these frames, on the MAP of its unit, which is accepted
-pub record WantsMemoryTc (p : Parameters) (frames : List (List ℕ)) : Type 0 where
-  pub before : List (List ℕ)
-  pub frame : List ℕ
-  pub in_order : frames ≡ before ++ frame ∷ []
-  pub view : TcView
-  pub is_read : as_read p frame ≡ Ok view
-  pub incomplete : IsIncompleteAround (reception_of p) (views_of (tc_format p) p.spacecraft before) view

@@ -1,15 +1,14 @@
 -- The packets of a TM recording, as `packets tm` lists them: by the frames in which they end, idle ones left out.
-use Rattle.std.specs.Prelude.{◌≡◌, ℕ, List, [], ◌∷◌, ◌++◌, map, codes, decimal, Result, Ok, Err}
+use Rattle.std.specs.Prelude.{ℕ, List, [], ◌++◌, map, codes, decimal, Result, Ok, Err}
 use Rattle.std.specs.List.{concat}
 use Rattle.sl_packet.specs.Packets.{without_idle}
 use Rattle.sl_tmframe.specs.declared.tm_frame.TmSkip.{TmSkip}
 use Rattle.sl_tmframe.specs.TmDelimited.{tm_frames_of}
 use Rattle.sl_tmframe.specs.TmFrame.{TmView}
 use Rattle.sl_tmflow.specs.Channel.{views_of}
-use Rattle.sl_tmflow.specs.Extraction.{IsIncompleteAround, ended_by}
-use Rattle.sl_link.specs.Deliver.Tm.{as_read}
+use Rattle.sl_tmflow.specs.Extraction.{ended_by}
+use Rattle.sl_link.specs.Kind.Tm.{as_read, tm_counted}
 use Rattle.sl_link.specs.Link.Managed.{Parameters, tm_format}
-use Rattle.sl_link.specs.Normalise.Tm.{tm_counted}
 use Rattle.sl_link.specs.Verbs.Packets.Line.{packet_line}
 use Rattle.sl_link.specs.Verbs.Listing.{Listing, text_of}
 
@@ -22,11 +21,14 @@ abbrev pub tm_packet_lines : List TmView → Result TmView TmSkip → List ℕ
 tm_packet_lines views (Ok view) = concat (map (packet_line (channel_text view.vc)) (without_idle (ended_by views view)))
 tm_packet_lines views (Err reason) = []
 
+abbrev pub packets_tm_lines : Parameters → List (List ℕ) → List ℕ → List ℕ
+packets_tm_lines p before frame = tm_packet_lines (views_of (tm_format p) p.spacecraft before) (as_read p frame)
+
 -- the listing: the lines of the packets that end in each frame
 abbrev pub packets_tm_listing : Parameters → Listing
 packets_tm_listing p =
     record {
-      line = λ before frame. tm_packet_lines (views_of (tm_format p) p.spacecraft before) (as_read p frame);
+      line = packets_tm_lines p;
       last = λ frames rest. [];
       counts = tm_counted p;
     }
@@ -34,12 +36,3 @@ packets_tm_listing p =
 -- the text of a recording
 abbrev pub packets_tm_text : Parameters → List ℕ → List ℕ
 packets_tm_text p = text_of (tm_frames_of p.tm_length) (packets_tm_listing p)
-
--- a packet is incomplete around the last of these frames, on its virtual channel
-pub record WantsMemoryTm (p : Parameters) (frames : List (List ℕ)) : Type 0 where
-  pub before : List (List ℕ)
-  pub frame : List ℕ
-  pub in_order : frames ≡ before ++ frame ∷ []
-  pub view : TmView
-  pub is_read : as_read p frame ≡ Ok view
-  pub incomplete : IsIncompleteAround (views_of (tm_format p) p.spacecraft before) view

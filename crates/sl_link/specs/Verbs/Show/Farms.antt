@@ -27,7 +27,10 @@ farm_states farms vc = (farm_at farms vc).state
 -- the FARM-1s after an event on a virtual channel
 abbrev pub farms_with : List FarmView → ℕ → FarmEvent → List FarmView
 farms_with farms vc event =
-    slice_set farms vc (record { window = (farm_at farms vc).window; state = (farm_step (farm_at farms vc).window (farm_at farms vc).state event).1 })
+    slice_set farms vc (record {
+      window = (farm_at farms vc).window;
+      state = (farm_step (farm_at farms vc).window (farm_at farms vc).state event).1;
+    })
 
 -- and after a frame
 abbrev pub farms_after : List FarmView → Result TcView TcSkip → List FarmView

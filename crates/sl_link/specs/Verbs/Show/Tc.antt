@@ -1,5 +1,6 @@
 -- The listing of a TC recording's frames, a line for each, and then its remainder.
-use Rattle.std.specs.Prelude.{ℕ, ◌+◌, ◌-◌, ◌==◌, Bool, if◌then◌else◌, List, [], ◌∷◌, ◌++◌, length, codes, decimal, Result, Ok, Err, is_err}
+use Rattle.std.specs.Prelude.{ℕ, ◌+◌, ◌-◌, ◌==◌, Bool, if◌then◌else◌, List, [], ◌∷◌}
+use Rattle.std.specs.Prelude.{◌++◌, length, codes, decimal, Result, Ok, Err, is_err}
 use Rattle.std.specs.List.{concat}
 use Rattle.hex.specs.Hex.{encode_lower}
 use Rattle.sl_cop.specs.declared.verdict.Verdict.{Verdict}
@@ -19,6 +20,7 @@ use Rattle.sl_tcflow.specs.Series.{header_at}
 use Rattle.sl_link.specs.Io.Line.{line_at, remainder_line}
 use Rattle.sl_link.specs.Link.Managed.{Parameters, reception_of, tc_format}
 use Rattle.sl_link.specs.Link.Totals.{Counts}
+use Rattle.sl_link.specs.Tally.{counts_with, skipped_in}
 use Rattle.sl_link.specs.Verbs.Listing.{Listing, counts_of, text_of}
 
 -- why a frame is skipped
@@ -88,26 +90,17 @@ farm_view p before vc = farm_of (reception_of p) vc (views_of (tc_format p) p.sp
 -- the line of a frame that comes after these frames
 abbrev pub tc_line : Parameters → List (List ℕ) → List ℕ → List ℕ
 tc_line p before frame =
-    line_at (length (concat before)) (tc_frame_text p.plain (farm_view p before) (tc_frame (tc_format p) p.spacecraft frame))
+    line_at (length (concat before)) (tc_frame_text p.plain (farm_view p before)
+    (tc_frame (tc_format p) p.spacecraft frame))
 
 -- how many frames are skipped
 abbrev pub tc_skipped_of : Parameters → List (List ℕ) → ℕ
-tc_skipped_of p [] = 0
-tc_skipped_of p (frame ∷ frames) =
-    (if is_err (tc_frame (tc_format p) p.spacecraft frame) then 1 else 0) + tc_skipped_of p frames
+tc_skipped_of p = skipped_in (λ frame. is_err (tc_frame (tc_format p) p.spacecraft frame))
 
 -- what is counted in frames, and a remainder of this many octets
 abbrev pub show_tc_counted : Parameters → List (List ℕ) → ℕ → Counts
 show_tc_counted p frames rest =
-    record {
-      octets = length (concat frames) + rest;
-      frames = length frames;
-      skipped = tc_skipped_of p frames;
-      rest = rest;
-      packets = 0;
-      idle = 0;
-      anomalies = 0;
-    }
+    counts_with (length (concat frames) + rest) (length frames) (tc_skipped_of p frames) rest 0 0 0
 
 -- the listing: a line for each frame, and one for a remainder
 abbrev pub show_tc_listing : Parameters → Listing

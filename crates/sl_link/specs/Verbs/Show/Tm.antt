@@ -1,5 +1,6 @@
 -- The listing of a TM recording's frames, a line for each, and then its remainder.
-use Rattle.std.specs.Prelude.{ℕ, ◌+◌, if◌then◌else◌, List, [], ◌∷◌, ◌++◌, length, codes, decimal, Option, None, Some, Result, Ok, Err, is_err}
+use Rattle.std.specs.Prelude.{ℕ, ◌+◌, if◌then◌else◌, List, [], ◌∷◌, ◌++◌, length, codes}
+use Rattle.std.specs.Prelude.{decimal, Option, None, Some, Result, Ok, Err, is_err}
 use Rattle.std.specs.List.{concat}
 use Rattle.hex.specs.Hex.{encode_lower}
 use Rattle.sl_fields.specs.Field.{flag, bit_of}
@@ -11,6 +12,7 @@ use Rattle.sl_tmframe.specs.TmDelimited.{tm_frames_of}
 use Rattle.sl_link.specs.Io.Line.{line_at, remainder_line}
 use Rattle.sl_link.specs.Link.Managed.{Parameters, tm_format}
 use Rattle.sl_link.specs.Link.Totals.{Counts}
+use Rattle.sl_link.specs.Tally.{counts_with, skipped_in}
 use Rattle.sl_link.specs.Verbs.Listing.{Listing, counts_of, text_of}
 
 -- why a frame is skipped
@@ -66,28 +68,19 @@ tm_frame_text (Err reason) = codes " skip " ++ tm_skip_word reason
 
 -- how many frames are skipped
 abbrev pub tm_skipped_of : TmFormat → ℕ → List (List ℕ) → ℕ
-tm_skipped_of format spacecraft [] = 0
-tm_skipped_of format spacecraft (frame ∷ frames) =
-    (if is_err (tm_frame format spacecraft frame) then 1 else 0) + tm_skipped_of format spacecraft frames
+tm_skipped_of format spacecraft = skipped_in (λ frame. is_err (tm_frame format spacecraft frame))
 
 -- what is counted in frames, and a remainder of this many octets
 abbrev pub show_tm_counted : Parameters → List (List ℕ) → ℕ → Counts
-show_tm_counted p frames rest =
-    record {
-      octets = length (concat frames) + rest;
-      frames = length frames;
-      skipped = tm_skipped_of (tm_format p) p.spacecraft frames;
-      rest = rest;
-      packets = 0;
-      idle = 0;
-      anomalies = 0;
-    }
+show_tm_counted p frames rest = counts_with (length (concat frames) + rest) (length frames)
+    (tm_skipped_of (tm_format p) p.spacecraft frames) rest 0 0 0
 
 -- the listing: a line for each frame at its offset, and one for a remainder
 abbrev pub show_tm_listing : Parameters → Listing
 show_tm_listing p =
     record {
-      line = λ before frame. line_at (length (concat before)) (tm_frame_text (tm_frame (tm_format p) p.spacecraft frame));
+      line = λ before frame. line_at (length (concat before))
+          (tm_frame_text (tm_frame (tm_format p) p.spacecraft frame));
       last = λ frames rest. remainder_line (length (concat frames)) rest;
       counts = show_tm_counted p;
     }

@@ -26,8 +26,8 @@ pub fn skip_line(lines: &mut Lines, offset: u64, reason: TcSkip)
     lines.push(b"\n");
 }
 
-/// Adds the lines of what is amiss with a frame that is read, on a virtual channel without segment headers or with them, and
-/// answers how many they are.
+/// Adds the lines of what is amiss with a frame that is read, on a virtual channel without segment headers or with
+/// them, and answers how many they are.
 #[inline(always)]
 pub fn amiss_lines(
     lines: &mut Lines,
@@ -192,7 +192,7 @@ fn dropped_lines(lines: &mut Lines, offset: u64, vc: u8, map: u8, octets: Option
     }
 }
 
-// So many octets are left after the last packet of a service data unit.
+// Adds the line of the octets that are left after the last packet of a service data unit, if there are some.
 fn tail_lines(lines: &mut Lines, offset: u64, vc: u8, map: u8, octets: u32) -> u64
     requires { HasRoomFor 68 lines.old }
     ensures text { lines.new ≡ lines.old ++ concat (tail_amiss offset vc map octets) }

@@ -2,7 +2,8 @@
 ghost use Rattle.std.specs.Prelude.{◌≡◌, ◌+◌, ◌≤◌, ◌++◌, length, codes, decimal};
 ghost use Rattle.std.specs.List.{concat};
 ghost use Rattle.sl_tmframe.specs.TmField.{data_field};
-ghost use Rattle.sl_link.specs.Verbs.Check.Tm.{gap_text, gap_amiss, dropped_amiss, opaque_amiss, foreign_amiss, view_amiss};
+ghost use Rattle.sl_link.specs.Verbs.Check.Tm.{gap_text, gap_amiss, dropped_amiss};
+ghost use Rattle.sl_link.specs.Verbs.Check.Tm.{opaque_amiss, foreign_amiss, view_amiss};
 ghost use Rattle.sl_link.specs.Verbs.Check.CheckingTm.{held_amiss};
 ghost use Rattle.sl_link.specs.Io.Line.{line_at};
 ghost use Rattle.sl_link.specs.Verbs.Show.Tm.{tm_skip_word};

@@ -7,11 +7,11 @@ ghost use Rattle.sl_tcframe.specs.VcSet.{has_vc};
 ghost use Rattle.sl_tcflow.specs.Receiving.{ForProcessed, HasProcessed, IsIncompleteAround, IsWorking};
 ghost use Rattle.sl_link.specs.Verbs.Check.Tc.{check_tc_counts, check_tc_text, open_on, tc_amiss, tc_incomplete};
 ghost use Rattle.sl_link.specs.Verbs.Check.CheckingTc.{IncompleteFitTc, TellsFrameTc, end_amiss, end_counts};
-ghost use Rattle.sl_link.specs.Deliver.Tc.{as_read, is_incomplete_around};
-ghost use Rattle.sl_link.specs.Deliver.Lists.{with_frame};
+ghost use Rattle.sl_link.specs.Kind.Tc.{WantsMemoryTc, as_read, is_incomplete_around};
+ghost use Rattle.sl_link.specs.Kind.Delivery.{with_frame};
 ghost use Rattle.sl_link.specs.Link.Managed.{tc_format};
-ghost use Rattle.sl_link.specs.Verbs.Packets.Tc.{WantsMemoryTc};
-ghost use Rattle.sl_link.specs.Io.Streams.{AddsText, Stops, StopsListing, StopsWriting, Translates, TranslatesAndCounts};
+ghost use Rattle.sl_link.specs.Io.Streams.{AddsText, Stops, StopsListing};
+ghost use Rattle.sl_link.specs.Io.Streams.{StopsWriting, Translates, TranslatesAndCounts};
 ghost use Rattle.sl_link.specs.Verbs.Listing.{WantedMemory};
 ghost use Rattle.sl_link.specs.Pass.{chunk_size};
 ghost use Rattle.sl_link.specs.Io.Room.{HasRoom};
@@ -81,7 +81,7 @@ struct CheckTc {
 impl Verb for CheckTc {
     ghost use Rattle.sl_link.specs.Verbs.Check.Tc.{check_tc_listing};
     ghost use Rattle.sl_link.specs.Verbs.Check.CheckingTc.{HasCheckedTc};
-    ghost use Rattle.sl_link.specs.Verbs.Packets.Tc.{WantsMemoryTc};
+    ghost use Rattle.sl_link.specs.Kind.Tc.{WantsMemoryTc};
     ghost use Rattle.sl_link.specs.Pass.Tc.{is_tc_frame};
 
     ghost is_frame = { is_tc_frame };

@@ -5,9 +5,8 @@ ghost use Rattle.sl_tmframe.specs.TmDelimited.{tm_frames_of};
 ghost use Rattle.sl_tmflow.specs.Extraction.{ForProcessed, HasProcessed, IsIncompleteAround, IsWorking};
 ghost use Rattle.sl_link.specs.Verbs.Check.CheckingTm.{IncompleteFitTm, TellsFrameTm, end_amiss, end_counts};
 ghost use Rattle.sl_link.specs.Verbs.Check.Tm.{check_tm_counts, check_tm_text, tm_amiss, tm_incomplete};
-ghost use Rattle.sl_link.specs.Deliver.Tm.{as_read, is_incomplete_around};
-ghost use Rattle.sl_link.specs.Deliver.Lists.{with_frame};
-ghost use Rattle.sl_link.specs.Verbs.Packets.Tm.{WantsMemoryTm};
+ghost use Rattle.sl_link.specs.Kind.Tm.{WantsMemoryTm, as_read, is_incomplete_around};
+ghost use Rattle.sl_link.specs.Kind.Delivery.{with_frame};
 ghost use Rattle.sl_link.specs.Io.Streams.{AddsText, Stops, StopsListing, Translates, TranslatesAndCounts};
 ghost use Rattle.sl_link.specs.Verbs.Listing.{WantedMemory};
 ghost use Rattle.sl_link.specs.Pass.{chunk_size};
@@ -35,8 +34,8 @@ use std::io::{Read, Write};
 /// virtual channel.
 ///
 /// The fault is `Read` where the reader had one, `TooLong` where more octets came than the managed limit, `Memory`
-/// where memory was refused, which is wanted only where a packet is incomplete on the virtual channel of a frame, before
-/// the frame or after it, and `Write` where the writer had one.
+/// where memory was refused, which is wanted only where a packet is incomplete on the virtual channel of a frame,
+/// before the frame or after it, and `Write` where the writer had one.
 pub fn check_tm<R: Read, W: Write>(
     alloc: Global,
     managed: &Managed,
@@ -77,7 +76,7 @@ struct CheckTm {
 impl Verb for CheckTm {
     ghost use Rattle.sl_link.specs.Verbs.Check.CheckingTm.{HasCheckedTm};
     ghost use Rattle.sl_link.specs.Verbs.Check.Tm.{check_tm_listing};
-    ghost use Rattle.sl_link.specs.Verbs.Packets.Tm.{WantsMemoryTm};
+    ghost use Rattle.sl_link.specs.Kind.Tm.{WantsMemoryTm};
     ghost use Rattle.sl_link.specs.Pass.Tm.{is_tm_frame};
 
     ghost is_frame = { is_tm_frame };
@@ -133,7 +132,6 @@ fn check_frame<W: Write>(
         (concat (tm_amiss offset views (as_read managed.now frame.now))))) }
     ensures counts { IfOk result (λ report. ForProcessed extractor.old
         (λ views. TellsFrameTm offset views (as_read managed.now frame.now) report)) }
-    ensures within { IfOk result (λ report. report.packets + report.idle ≤ length frame.now) }
     ensures few { IfOk result (λ report. report.anomalies + 28 ≤ length frame.now) }
     ensures fault { IfErr result (StopsListing W.contents writer.old writer.new lines.old) }
     ensures memory { IfErr result (λ fault. fault ≡ LinkFault.Memory → ForProcessed extractor.old
@@ -162,7 +160,6 @@ fn read_frame(
         ++ concat (tm_amiss offset views (as_read managed.now frame.now)))) }
     ensures counts { IfOk result (λ report. ForProcessed extractor.old
         (λ views. TellsFrameTm offset views (as_read managed.now frame.now) report)) }
-    ensures within { IfOk result (λ report. report.packets + report.idle ≤ length frame.now) }
     ensures few { IfOk result (λ report. report.anomalies + 28 ≤ length frame.now) }
     ensures fault { IfErr result (λ fault. fault ≡ LinkFault.Memory) }
     ensures memory { IfErr result (λ fault. ForProcessed extractor.old

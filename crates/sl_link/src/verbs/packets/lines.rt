@@ -10,7 +10,7 @@ use crate::io::room::make_room;
 use crate::link::counted::Counted;
 use crate::link::fault::LinkFault;
 use crate::verbs::show::lines_tm::push_flag;
-use sl_fields::PacketHeader;
+use sl_fields::{PacketHeader, front};
 use std::io::Write;
 
 /// Adds what the line of a packet says of it after its channel, whose text is among the lines already.
@@ -39,11 +39,8 @@ fn push_fields(lines: &mut Lines, packet: &[u8])
     requires room { HasRoomFor 196 lines.old }
     ensures { lines.new ≡ lines.old ++ fields_text packet.now }
 {
-    let header = match packet.first_chunk::<6>() {
-        Some(octets) => PacketHeader::read(octets),
-        None => unreachable!(),
-    };
-    push_header(lines, &header);
+    let (header, _) = front::<6>(packet);
+    push_header(lines, &PacketHeader::read(header));
     push_size(lines, packet.len() as u64);
 }
 

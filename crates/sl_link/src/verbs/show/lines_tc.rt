@@ -6,18 +6,19 @@ ghost use Rattle.sl_cop.specs.Farm.{farm_step};
 ghost use Rattle.sl_tcflow.specs.AcceptedUnit.{event_of};
 ghost use Rattle.sl_tcflow.specs.Series.{header_at};
 ghost use Rattle.sl_link.specs.Io.Line.{line_at};
-ghost use Rattle.sl_link.specs.Verbs.Show.Tc.{tc_skip_word, flags_word, unit_text, content_text, verdict_word, step_text, tc_view_text, tc_frame_text};
+ghost use Rattle.sl_link.specs.Verbs.Show.Tc.{tc_skip_word, flags_word, unit_text, content_text};
+ghost use Rattle.sl_link.specs.Verbs.Show.Tc.{verdict_word, step_text, tc_view_text, tc_frame_text};
 ghost use Rattle.sl_link.specs.Verbs.Show.Farms.{farm_at, farm_states, farms_after, farms_with};
 ghost use Rattle.sl_link.specs.Io.Room.{HasRoom, HasRoomFor};
 
 use crate::io::lines::Lines;
 use crate::verbs::show::farms::Farms;
 use sl_cop::{FarmEvent, Verdict};
-use sl_fields::SegmentHeader;
+use sl_fields::{SegmentHeader, front};
 use sl_tcframe::{TcContent, TcFrame, TcSkip, VcSet};
 
-/// Adds the line of a frame at this offset, which FARM-1 of its virtual channel takes unless it is skipped. The frames of
-/// the virtual channels of `plain` have no segment headers.
+/// Adds the line of a frame at this offset, which FARM-1 of its virtual channel takes unless it is skipped. The frames
+/// of the virtual channels of `plain` have no segment headers.
 pub fn tc_frame_line(
     lines: &mut Lines,
     offset: u64,
@@ -175,10 +176,8 @@ pub fn split_unit(unit: &[u8]) -> (SegmentHeader, &[u8])
     ensures header { result.0 ≡ header_at unit.now }
     ensures octets { length result.1.now ≡ length unit.now - 1 }
 {
-    match unit.split_first_chunk::<1>() {
-        Some((header, octets)) => (SegmentHeader::read(header), octets),
-        None => unreachable!(),
-    }
+    let (header, octets) = front::<1>(unit);
+    (SegmentHeader::read(header), octets)
 }
 
 fn push_flags(lines: &mut Lines, flags: u8)

@@ -11,14 +11,14 @@ use Rattle.sl_link.specs.declared.link.fault.LinkFault.TheVariants.{Memory}
 use Rattle.sl_link.specs.Verbs.Check.Lines.{remainder_amiss}
 use Rattle.sl_link.specs.Verbs.Check.Tc.{check_tc_counted, tc_amiss, tc_amiss_after, tc_end_amiss, tc_incomplete}
 use Rattle.sl_link.specs.Verbs.Check.CheckingTc.{HasCheckedTc, IncompleteFitTc, end_amiss, end_counts}
-use Rattle.sl_link.specs.Deliver.Tc.{as_read}
-use Rattle.sl_link.specs.Deliver.DeliveringTc.{HasDeliveredTc}
+use Rattle.sl_link.specs.Kind.Tc.{HasProcessedTc, as_read, tc_kind}
+use Rattle.sl_link.specs.Kind.Delivery.{HasDelivered}
 use Rattle.sl_link.specs.Link.Managed.{Parameters, reception_of, tc_format}
 use Rattle.sl_link.specs.Io.Streams.{AddsText, StopsListing, StopsWriting}
 use Rattle.sl_link.specs.Verbs.Listing.{StopsListingFrames, lines_from}
 use Rattle.sl_link.proofs.lemmas.Io.Adding.{AddsText-trans, stops_at_writer, stops_later, stops_waiting, writer_stops_waiting}
 use Rattle.sl_link.proofs.lemmas.Verbs.Check.Lines.{joined}
-use Rattle.sl_link.proofs.lemmas.Deliver.Tm.{same_counts}
+use Rattle.sl_link.proofs.lemmas.Tally.{same_counts}
 use Rattle.sl_link.proofs.lemmas.Verbs.Whole.{write_isnt_memory}
 use Rattle.sl_link.proofs.lemmas.Verbs.Lister.{lines_from-last}
 use Rattle.sl_link.proofs.lemmas.Io.Streams.{AddsText-more, AddsText-nil}
@@ -26,7 +26,7 @@ use Rattle.sl_link.proofs.lemmas.Verbs.Check.FewTc.{few_open}
 
 -- one frame more
 pub checked_more : (p : Parameters) (frames : List (List ℕ)) (frame : List ℕ) (r r' : ReceiverState) (t t' : Tally) → HasCheckedTc p frames r t
-    → HasDeliveredTc p (frames ++ frame ∷ []) r' t'
+    → HasDelivered (tc_kind p) (HasProcessedTc p r') (frames ++ frame ∷ []) t'
     → t'.anomalies ≡ t.anomalies + length (tc_amiss_after p frames frame)
     → HasCheckedTc p (frames ++ frame ∷ []) r' t'
 checked_more p frames frame r r' t t' h delivered more =
@@ -57,7 +57,7 @@ module _ (p : Parameters) (frames : List (List ℕ)) (r : ReceiverState) (t : Ta
   has_room = record {
     reception = reception_of p;
     views = views_of (tc_format p) p.spacecraft frames;
-    processed = h.delivered.processed;
+    processed = h.delivered.processed.processed;
     room = omega (arith, t.anomalies_fit, h.delivered.counted.frames, few_open p octets frames);
   }
 

@@ -8,18 +8,18 @@ use Rattle.sl_link.specs.declared.tally.Tally.{Tally}
 use Rattle.sl_link.specs.Verbs.Check.Lines.{remainder_amiss}
 use Rattle.sl_link.specs.Verbs.Check.CheckingTm.{HasCheckedTm, IncompleteFitTm, end_amiss, end_counts}
 use Rattle.sl_link.specs.Verbs.Check.Tm.{check_tm_counted, tm_amiss, tm_amiss_after, tm_end_amiss, tm_incomplete}
-use Rattle.sl_link.specs.Deliver.Tm.{as_read}
-use Rattle.sl_link.specs.Deliver.DeliveringTm.{HasDeliveredTm}
+use Rattle.sl_link.specs.Kind.Tm.{HasProcessedTm, as_read, tm_kind}
+use Rattle.sl_link.specs.Kind.Delivery.{HasDelivered}
 use Rattle.sl_link.specs.Link.Managed.{Parameters, tm_format}
 use Rattle.sl_link.specs.Io.Streams.{AddsText, WritesText}
 use Rattle.sl_link.specs.Verbs.Listing.{lines_from}
-use Rattle.sl_link.proofs.lemmas.Deliver.Tm.{same_counts}
+use Rattle.sl_link.proofs.lemmas.Tally.{same_counts}
 use Rattle.sl_link.proofs.lemmas.Verbs.Check.IncompleteTm.{few_incomplete}
 use Rattle.sl_link.proofs.lemmas.Verbs.Lister.{lines_from-last}
 
 -- one frame more
 pub checked_more : (p : Parameters) (frames : List (List ℕ)) (frame : List ℕ) (e e' : ExtractorState) (t t' : Tally) → HasCheckedTm p frames e t
-    → HasDeliveredTm p (frames ++ frame ∷ []) e' t'
+    → HasDelivered (tm_kind p) (HasProcessedTm p e') (frames ++ frame ∷ []) t'
     → t'.anomalies ≡ t.anomalies + length (tm_amiss_after p frames frame)
     → t'.anomalies + 28 * t'.frames ≤ t'.octets
     → HasCheckedTm p (frames ++ frame ∷ []) e' t'
@@ -58,7 +58,7 @@ module _ (p : Parameters) (frames : List (List ℕ)) (e : ExtractorState) (t : T
   few_by (frame ∷ fs) is = omega (arith, h.room, h.delivered.counted.frames, ap length is, few_incomplete octets 8 (views_of (tm_format p) p.spacecraft frames))
 
   pub has_room : IncompleteFitTm e octets t
-  has_room = record { views = views_of (tm_format p) p.spacecraft frames; processed = h.delivered.processed; room = few_by frames refl }
+  has_room = record { views = views_of (tm_format p) p.spacecraft frames; processed = h.delivered.processed.processed; room = few_by frames refl }
 
   pub end_is : end_amiss octets t (views_of (tm_format p) p.spacecraft frames) ≡ tm_end_amiss p frames rest
   end_is =

@@ -17,11 +17,12 @@ use Rattle.sl_tcflow.specs.ReceptionParameters.{ReceptionParameters, is_plain}
 use Rattle.sl_tcflow.specs.Series.{segment_in}
 use Rattle.sl_tcflow.proofs.lemmas.Reception.Channel.{incomplete_other}
 use Rattle.sl_link.specs.Verbs.Check.Tc.{discarded_amiss, dropped_amiss, incomplete_amiss, long_amiss, open_on, stray_amiss, tail_amiss, tc_amiss, tc_incomplete, verdict_amiss}
-use Rattle.sl_link.specs.Deliver.Tc.{as_read}
-use Rattle.sl_link.specs.Deliver.Lists.{count_of, with_frame}
+use Rattle.sl_link.specs.Kind.Tc.{as_read, channel_of}
+use Rattle.sl_link.specs.Kind.Delivery.{count_of, with_frame}
 use Rattle.sl_link.specs.Link.Managed.{Parameters, reception_of, tc_format}
-use Rattle.sl_link.proofs.lemmas.Deliver.Lists.{items_change, no_items}
-use Rattle.sl_link.proofs.lemmas.Deliver.Tc.{IsOfChannel, of_channel, views_next}
+use Rattle.sl_packet.specs.Delivered.{channel_count}
+use Rattle.sl_link.proofs.lemmas.Kind.Channels.{items_change, no_items}
+use Rattle.sl_link.proofs.lemmas.Kind.Tc.{channels_are, small_channel, views_next}
 
 -- ---- the lines of a frame are few
 
@@ -110,17 +111,17 @@ one_open offset vc mid (Some octets) = omega arith
 
 module _ (r : ReceptionParameters) (offset : ℕ) where
   open_none : length (tc_incomplete r offset []) ≡ 0
-  open_none = flat_count (open_on r offset []) map_channels ∙ no_items (open_on r offset []) (λ channel. refl)
+  open_none = flat_count (open_on r offset []) map_channels ∙ no_items channel_count map_channels (channels_are channel_count refl) (open_on r offset []) (λ channel. refl)
 
   -- a frame opens at most one more
-  open_next : (views : List TcView) (read : Result TcView TcSkip) → IsOfChannel r read
+  open_next : (views : List TcView) (read : Result TcView TcSkip) → channel_of r read < channel_count
       → length (tc_incomplete r offset (with_frame views read)) ≤ length (tc_incomplete r offset views) + 1
   open_next views (Err reason) range = omega arith
   open_next views (Ok view) range =
       let at = unit_channel r view in
       let old = open_on r offset views in
       let new = open_on r offset (views ++ view ∷ []) in
-      let change = items_change old new at range (λ i inside other. ap (λ held. length (incomplete_amiss offset (i / 64) (i % 64) held)) (incomplete_other r views view i other)) in
+      let change = items_change channel_count map_channels (channels_are channel_count refl) old new at range (λ i other. ap (λ held. length (incomplete_amiss offset (i / 64) (i % 64) held)) (incomplete_other r views view i other)) in
       let one : length (new at) ≤ 1 = one_open offset (at / 64) (at % 64) (incomplete_of (segments_of r (at / 64) (at % 64) (views ++ view ∷ []))) in
       omega (arith, change, one, flat_count old map_channels, flat_count new map_channels)
 
@@ -133,7 +134,7 @@ module _ (p : Parameters) (offset : ℕ) where
   few_next frames frame few =
       let seen = views_of (tc_format p) p.spacecraft frames in
       let next = ap (λ views. length (tc_incomplete (reception_of p) offset views)) (views_next (tc_format p) p.spacecraft frames frame) in
-      omega (arith, few, next, open_next (reception_of p) offset seen (as_read p frame) (of_channel (reception_of p) p frame), length-append frames (frame ∷ []))
+      omega (arith, few, next, open_next (reception_of p) offset seen (as_read p frame) (small_channel p frame), length-append frames (frame ∷ []))
 
   few_from : (before frames : List (List ℕ)) → AreFew before → AreFew (before ++ frames)
   few_from before [] few = subst AreFew (sym (append-nil before)) few

@@ -13,7 +13,7 @@ use Rattle.sl_link.specs.declared.link.fault.LinkFault.{LinkFault}
 use Rattle.sl_link.specs.Verbs.Check.Tc.{open_on, tc_incomplete}
 use Rattle.sl_link.specs.Io.Streams.{AddsText, StopsWriting}
 use Rattle.sl_link.proofs.lemmas.Io.Adding.{AddsText-trans, writer_stops_waiting}
-use Rattle.sl_link.proofs.lemmas.Deliver.Lists.{channels_are}
+use Rattle.sl_link.proofs.lemmas.Kind.Tc.{channels_are}
 use Rattle.sl_link.proofs.lemmas.Io.Streams.{AddsText-more, AddsText-nil}
 
 -- ---- channel by channel
@@ -43,7 +43,7 @@ module _ (r : ReceptionParameters) (offset : ℕ) (views : List TcView) where
   one_more channel = split_at channel 1 ∙ ap (λ l. open_from r offset views 0 channel ++ l) (append-nil (open_on r offset views channel))
 
   all_open : (n : ℕ) → n ≡ channel_count → open_from r offset views 0 n ≡ tc_incomplete r offset views
-  all_open n all = ap (flat_map (open_on r offset views)) (channels_are n all)
+  all_open n all = ap (flat_map (open_on r offset views)) (sym (channels_are n all))
 
 -- ---- while they are added
 

@@ -1,5 +1,5 @@
 -- What a sink that prints packets has written and added.
-use Rattle.std.proofs.Common.{◌≡◌, ◌≢◌, ℕ, List, [], ◌∷◌, ◌++◌, map, Option, refl, sym, ◌∙◌, ap, subst}
+use Rattle.std.proofs.Common.{◌≡◌, ℕ, List, [], ◌∷◌, ◌++◌, map, Option, refl, sym, ◌∙◌, ap, subst}
 use Rattle.std.proofs.lemmas.List.{map-append}
 use Rattle.std.proofs.lemmas.List.Folds.{concat-append}
 use Rattle.std.specs.List.{concat}
@@ -16,13 +16,10 @@ use Rattle.sl_link.specs.declared.verbs.packets.printer.Printer.{Printer}
 use Rattle.sl_link.specs.Link.Fault.{flow_fault, sink_fault}
 use Rattle.sl_link.specs.Verbs.Packets.ChannelName.{channel_name}
 use Rattle.sl_link.specs.Verbs.Packets.Line.{packet_line}
+use Rattle.sl_link.specs.Verbs.Packets.Printed.{lines_on}
 use Rattle.sl_link.specs.Io.Streams.{AddsText, StopsListing, StopsWriting}
 use Rattle.sl_link.proofs.lemmas.Io.Adding.{AddsText-trans, stops_at_memory, stops_at_writer, stops_later, stops_waiting}
 use Rattle.sl_link.proofs.lemmas.Io.Streams.{AddsText-nil}
-
--- the lines of packets on a channel
-abbrev pub lines_on : ChannelKind → ℕ → List (List ℕ) → List ℕ
-lines_on kind channel packets = concat (map (packet_line (channel_name kind channel)) packets)
 
 lines_append : (kind : ChannelKind) (channel : ℕ) (xs ys : List (List ℕ)) → lines_on kind channel (xs ++ ys) ≡ lines_on kind channel xs ++ lines_on kind channel ys
 lines_append kind channel xs ys =
@@ -101,17 +98,17 @@ module _ {W : Type 0} (contents : W → Option (List ℕ)) where
         (sym (lines_append old.kind channel s.accepted (s.refused ∷ s.later)) ∙ ap (lines_on old.kind channel) (sym s.in_order) ∙ text_is)))
 
     -- one or the other
-    pub stops_printing : (failures : Printer W → ℕ) (fault : FlowFault) → fault ≢ flow.Failed → IsStopped Prints FailsToPrint failures old channel packets fault new
+    pub stops_printing : (failures : Printer W → ℕ) (fault : FlowFault) → IsStopped Prints FailsToPrint failures old channel packets fault new
         → (text : List ℕ) → lines_on old.kind channel packets ≡ text → StopsListing contents old.writer.now writer (old.lines.now ++ text) (flow_fault fault)
-    stops_printing failures flow.Memory ne stopped text text_is = some_printed stopped.0 text text_is
-    stops_printing failures (flow.Sink fault) ne stopped text text_is =
+    stops_printing failures flow.Memory stopped text text_is = some_printed stopped.0 text text_is
+    stops_printing failures (flow.Sink fault) stopped text text_is =
         subst (λ f. StopsListing contents old.writer.now writer (old.lines.now ++ text) (sink_fault f)) (sym stopped.0.fails.0) (stopped_printing fault stopped.0 text text_is)
-    stops_printing failures flow.Failed ne stopped text text_is = absurd (ne refl)
+    stops_printing failures flow.Failed stopped text text_is = absurd stopped
 
   -- where memory was refused, the printer refused none
-  pub memory_stops : (failures : Printer W → ℕ) (packets : List (List ℕ)) (old new : Printer W) (channel : ℕ) (fault : FlowFault) → fault ≢ flow.Failed
+  pub memory_stops : (failures : Printer W → ℕ) (packets : List (List ℕ)) (old new : Printer W) (channel : ℕ) (fault : FlowFault)
       → IsStopped Prints FailsToPrint failures old channel packets fault new → flow_fault fault ≡ Memory → fault ≡ flow.Memory
-  memory_stops failures packets old new channel flow.Memory ne stopped is = refl
-  memory_stops failures packets old new channel (flow.Sink fault) ne stopped is =
+  memory_stops failures packets old new channel flow.Memory stopped is = refl
+  memory_stops failures packets old new channel (flow.Sink fault) stopped is =
       absurd (let both : Write ≡ Memory = ap sink_fault (sym stopped.0.fails.0) ∙ is in cc)
-  memory_stops failures packets old new channel flow.Failed ne stopped is = absurd (ne refl)
+  memory_stops failures packets old new channel flow.Failed stopped is = absurd stopped

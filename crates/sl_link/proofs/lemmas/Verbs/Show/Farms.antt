@@ -13,11 +13,11 @@ use Rattle.sl_tcframe.specs.VcSet.{has_vc}
 use Rattle.sl_tcflow.specs.AcceptedUnit.{event_of, views_of}
 use Rattle.sl_tcflow.specs.Receiving.{HaveStepped, farm_at_start}
 use Rattle.sl_tcflow.proofs.lemmas.Reception.Farm.{stepped_more, stepped_none}
-use Rattle.sl_link.specs.Deliver.Lists.{with_frame}
+use Rattle.sl_link.specs.Kind.Delivery.{with_frame}
 use Rattle.sl_link.specs.Link.Managed.{Parameters, reception_of, tc_format}
 use Rattle.sl_link.specs.Verbs.Show.Tc.{farm_view, tc_view_text, tc_frame_text}
 use Rattle.sl_link.specs.Verbs.Show.Farms.{no_farm, farm_at, farm_from, farms_after, HasFarms}
-use Rattle.sl_link.proofs.lemmas.Deliver.Lists.{views_step}
+use Rattle.sl_link.proofs.lemmas.Kind.Delivery.{views_step}
 
 -- a frame that is read is one of 64 virtual channels
 abbrev IsChannel : Result TcView TcSkip → Type 0

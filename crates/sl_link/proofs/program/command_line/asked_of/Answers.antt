@@ -4,4 +4,4 @@ use Rattle.sl_link.proofs.program.command_line.asked_of.Goals as goal
 
 pub returns-clause-channels : goal.returns-clause-channels
 returns-clause-channels c =
-    has_vcs _ (rows_of (found_of c.in_ok-found.found.now)) _ c.in_ok-found.ensures.rows c.plain_of-plain.ensures c.starts_of-starts.ensures
+    has_vcs _ (rows_of (found_of c.in_ok-verb.found.now)) _ c.in_ok-verb.ensures.rows c.plain_of.ensures c.starts_of.ensures

@@ -1,18 +1,20 @@
 use Rattle.std.proofs.Common.{rules, map, string_bytes}
-use Rattle.sl_link.proofs.lemmas.Program.Parse.{error_kept, error_refused, gives_none, words_ask}
+use Rattle.clap.proofs.TakesLemmas.{passed_up}
+use Rattle.sl_link.proofs.lemmas.Program.Parse.{error_refused, gives_none, words_ask}
 use Rattle.sl_link.proofs.program.command_line.parse.Goals as goal
 
 pub returns-in_err-matches-clause-refused : goal.returns-in_err-matches-clause-refused
 returns-in_err-matches-clause-refused c =
-    let refused = error_refused (map string_bytes c.args.words.now) c.in_ok-command.command c.in_ok-command.ensures c.try_get_matches_from_mut.result c.in_err-matches.field-0.0 (search rules) c.try_get_matches_from_mut.ensures.kinds in
-    error_kept _ c.from_residual-in_err-matches.result c.in_err-matches.field-0.0 refused c.from_residual-in_err-matches.ensures.1
+    let refused = error_refused (map string_bytes c.args.words.now) c.in_ok-command.command c.in_ok-command.ensures c.try_get_matches_from_mut.result c.try_get_matches_from_mut.ensures.kinds
+    c.in_err-matches.field-0.0 (search rules) in
+    passed_up c.from_residual-in_err-matches.result c.in_err-matches.field-0.0 _ c.from_residual-in_err-matches.ensures.1 refused
 
 pub unreachable-requires : goal.unreachable-requires
 unreachable-requires c =
-    gives_none (map string_bytes c.args.words.now) c.in_ok-command.command c.in_ok-command.ensures c.in_ok-matches.matches c.try_get_matches_from_mut.result (search rules)
-    c.try_get_matches_from_mut.ensures.kinds c.in_ok-matches.ensures.ok.2 c.in-None.ensures.request
+    gives_none (map string_bytes c.args.words.now) c.in_ok-command.command c.in_ok-command.ensures c.try_get_matches_from_mut.result c.try_get_matches_from_mut.ensures.kinds
+    c.in_ok-matches.matches (search rules) c.in_ok-matches.ensures.ok.2 c.in-None.ensures.request
 
 pub returns-clause-asked : goal.returns-clause-asked
 returns-clause-asked c =
-    words_ask (map string_bytes c.args.words.now) c.in_ok-command.command c.in_ok-command.ensures c.in_ok-matches.matches c.try_get_matches_from_mut.result (search rules)
-    c.try_get_matches_from_mut.ensures.kinds c.in_ok-matches.ensures.ok.2 c.in-Some.asked c.in-Some.ensures.request c.in-Some.ensures.channels
+    words_ask (map string_bytes c.args.words.now) c.in_ok-command.command c.in_ok-command.ensures c.try_get_matches_from_mut.result c.try_get_matches_from_mut.ensures.kinds
+    c.in_ok-matches.matches (search rules) c.in_ok-matches.ensures.ok.2 c.in-Some.asked c.in-Some.ensures.request c.in-Some.ensures.channels

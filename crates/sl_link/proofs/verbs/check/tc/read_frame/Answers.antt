@@ -1,6 +1,6 @@
 use Rattle.std.proofs.Common.{rules, ◌≡◌, Ok}
 use Rattle.std.proofs.lemmas.Result.{err_from_is_err_and}
-use Rattle.sl_link.specs.Deliver.Tc.{as_read}
+use Rattle.sl_link.specs.Kind.Tc.{as_read}
 use Rattle.sl_link.proofs.verbs.check.tc.read_frame.Goals as goal
 
 pub returns-clause-processed : goal.returns-clause-processed

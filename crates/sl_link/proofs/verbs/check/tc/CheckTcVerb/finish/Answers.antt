@@ -21,18 +21,18 @@ returns-in_err-totals-clause-fault g c =
     rw (out.1, out.2) (λ frames h.
     let inside : length (concat frames) ≤ c.args.octets = omega (arith, h.delivered.counted.octets, c.requires.1.delivered.counted.octets, c.requires.2) in
     stops_among g.W.Write.contents c.args.writer.now c.make_room.new.writer c.check_end.new.writer c.args.lines.now c.make_room.new.lines
-    c.in_ok-make_room.ensures.kept _ _ _ _ (ap concat (end_is _ frames _ _ h c.args.octets inside)) (c.in_err-totals.ensures.fault _ _ h.delivered.processed))
+    c.in_ok-make_room.ensures.kept _ _ _ _ (ap concat (end_is _ frames _ _ h c.args.octets inside)) (c.in_err-totals.ensures.fault _ _ h.delivered.processed.processed))
 
 pub returns-clause-lines : goal.returns-clause-lines
 returns-clause-lines g c = λ frames h.
     let inside : length (concat frames) ≤ c.args.octets = omega (arith, h.delivered.counted.octets, c.requires.1.delivered.counted.octets, c.requires.2) in
     subst (λ l. AddsText g.W.Write.contents c.args.writer.now c.check_end.new.writer c.args.lines.now c.push_totals.new.lines l)
     (ap₂ (λ a b. concat a ++ totals_line b) (end_is _ frames _ _ h c.args.octets inside)
-    (c.in_ok-totals.ensures.counts _ _ h.delivered.processed ∙ all_counted _ frames _ _ h c.args.octets inside))
+    (c.in_ok-totals.ensures.counts _ _ h.delivered.processed.processed ∙ all_counted _ frames _ _ h c.args.octets inside))
     (more_added g.W.Write.contents c.args.writer.now c.make_room.new.writer c.check_end.new.writer c.args.lines.now c.make_room.new.lines
-    c.in_ok-make_room.ensures.kept _ c.check_end.new.lines c.push_totals.new.lines _ (c.in_ok-totals.ensures.lines _ _ h.delivered.processed) c.push_totals.ensures)
+    c.in_ok-make_room.ensures.kept _ c.check_end.new.lines c.push_totals.new.lines _ (c.in_ok-totals.ensures.lines _ _ h.delivered.processed.processed) c.push_totals.ensures)
 
 pub returns-clause-counts : goal.returns-clause-counts
 returns-clause-counts g c = λ frames h.
     let inside : length (concat frames) ≤ c.args.octets = omega (arith, h.delivered.counted.octets, c.requires.1.delivered.counted.octets, c.requires.2) in
-    c.in_ok-totals.ensures.counts _ _ h.delivered.processed ∙ all_counted _ frames _ _ h c.args.octets inside
+    c.in_ok-totals.ensures.counts _ _ h.delivered.processed.processed ∙ all_counted _ frames _ _ h c.args.octets inside

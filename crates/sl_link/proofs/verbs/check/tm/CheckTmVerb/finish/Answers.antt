@@ -19,10 +19,10 @@ returns-clause-lines g c = λ frames h.
     let inside : length (concat frames) ≤ c.args.octets = omega (arith, h.delivered.counted.octets, c.requires.1.delivered.counted.octets, c.requires.2) in
     flushed_and g.W.Write.contents c.args.writer.now c.flush.new.writer c.args.lines.now _ _ c.in_ok-flush.ensures.written
     (c.push_totals.ensures ∙ ap₂ (λ a b. a ++ totals_line b)
-    (c.check_end-totals.ensures.lines _ h.delivered.processed ∙ ap concat (end_is _ frames _ _ h c.args.octets inside))
-    (c.check_end-totals.ensures.counts _ h.delivered.processed ∙ all_counted _ frames _ _ h c.args.octets inside))
+    (c.check_end-totals.ensures.lines _ h.delivered.processed.processed ∙ ap concat (end_is _ frames _ _ h c.args.octets inside))
+    (c.check_end-totals.ensures.counts _ h.delivered.processed.processed ∙ all_counted _ frames _ _ h c.args.octets inside))
 
 pub returns-clause-counts : goal.returns-clause-counts
 returns-clause-counts g c = λ frames h.
     let inside : length (concat frames) ≤ c.args.octets = omega (arith, h.delivered.counted.octets, c.requires.1.delivered.counted.octets, c.requires.2) in
-    c.check_end-totals.ensures.counts _ h.delivered.processed ∙ all_counted _ frames _ _ h c.args.octets inside
+    c.check_end-totals.ensures.counts _ h.delivered.processed.processed ∙ all_counted _ frames _ _ h c.args.octets inside

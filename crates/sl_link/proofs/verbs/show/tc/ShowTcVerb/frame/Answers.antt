@@ -1,4 +1,4 @@
-use Rattle.std.proofs.Common.{◌+◌, ◌∙◌, ap, Bool, ℕ, if◌then◌else◌, subst}
+use Rattle.std.proofs.Common.{subst}
 use Rattle.std.proofs.lemmas.Result.{err_from_is_err_and}
 use Rattle.sl_link.specs.Io.Streams.{AddsText}
 use Rattle.sl_link.proofs.lemmas.Verbs.Show.Tc.{line_is, listed_more}
@@ -12,9 +12,9 @@ returns-in_err-is_skipped-clause-fault g c =
 
 pub returns-clause-has_listed : goal.returns-clause-has_listed
 returns-clause-has_listed g c = λ before listed.
-    listed_more c.args.managed.now before c.args.frame.now _ _ _ _ listed c.add.ensures.octets c.add.ensures.frames
+    listed_more c.args.managed.now before c.args.frame.now _ _ _ _ _ listed c.add.ensures.octets c.add.ensures.frames
     c.add.ensures.packets c.add.ensures.idle c.add.ensures.anomalies
-    (c.add.ensures.skipped ∙ ap (λ (b : Bool). c.args.self.now.so_far.skipped + (if◌then◌else◌ {A = ℕ} b 1 0)) c.in_ok-is_skipped.ensures.skipped) c.in_ok-is_skipped.ensures.farms
+    c.add.ensures.skipped c.in_ok-is_skipped.ensures.skipped c.in_ok-is_skipped.ensures.farms
 
 pub returns-clause-lines : goal.returns-clause-lines
 returns-clause-lines g c = λ before listed.

@@ -1,6 +1,6 @@
-use Rattle.std.proofs.Common.{◌+◌, ◌∙◌, ap, Bool, ℕ, if◌then◌else◌}
 use Rattle.std.proofs.lemmas.Result.{err_from_is_err_and}
-use Rattle.sl_link.proofs.lemmas.Verbs.Show.Tm.{counted_alone, counted_more, stops_before}
+use Rattle.sl_link.proofs.lemmas.Tally.{counted_alone, counted_more}
+use Rattle.sl_link.proofs.lemmas.Verbs.Show.Tm.{stops_before}
 use Rattle.sl_link.proofs.verbs.show.tm.ShowTmVerb.frame.Goals as goal
 
 pub returns-in_err-is_skipped-clause-fault : goal.returns-in_err-is_skipped-clause-fault
@@ -11,6 +11,5 @@ returns-in_err-is_skipped-clause-fault g c =
 pub returns-clause-has_listed : goal.returns-clause-has_listed
 returns-clause-has_listed g c = λ before listed.
     counted_alone _ before _ _ _ listed
-    (counted_more c.args.managed.now before c.args.frame.now _ _ listed.counted c.add.ensures.octets c.add.ensures.frames
-    (c.add.ensures.skipped ∙ ap (λ (b : Bool). c.args.self.now.so_far.skipped + (if◌then◌else◌ {A = ℕ} b 1 0)) c.in_ok-is_skipped.ensures.skipped))
+    (counted_more _ before c.args.frame.now _ _ _ listed.counted c.add.ensures.octets c.add.ensures.frames c.add.ensures.skipped c.in_ok-is_skipped.ensures.skipped)
     c.add.ensures.packets c.add.ensures.idle c.add.ensures.anomalies

@@ -1,0 +1,230 @@
+-- Frames of a kind that are processed one after another, whichever kind it is: what they deliver, and how much.
+use Rattle.std.proofs.Common.{◌≡◌, ◌≢◌, ℕ, ◌+◌, ◌-◌, ◌<◌, ◌≤◌, Bool, not, if◌then◌else◌, List, [], ◌∷◌, ◌++◌, length, map, take, inl, inr, refl, sym, ◌∙◌, ap, subst, arith, append_assoc, append-nil, length-append, Result, Ok, Err}
+use Rattle.std.specs.List.{concat, cons_option, filter, slice_index_or, slice_set}
+use Rattle.std.specs.Result.{result_ok}
+use Rattle.std.proofs.lemmas.Bool.Decides.{eqb_tells, leb_tells}
+use Rattle.std.proofs.lemmas.List.{length-set, set-get_or, set-set, get_or-set_same, get_or-set_other}
+use Rattle.std.proofs.lemmas.List.Elements.{filter-append}
+use Rattle.sl_fields.proofs.ListLemmas.{concat-push}
+use Rattle.sl_packet.specs.declared.flow_fault.FlowFault.{FlowFault}
+use Rattle.sl_packet.specs.declared.flow_fault.FlowFault.TheVariants.{Memory}
+use Rattle.sl_packet.specs.declared.sink.SinkFault.{SinkFault}
+use Rattle.sl_packet.specs.Delivered.{AddsPacket, PacketLists, channel_count, no_lists}
+use Rattle.sl_packet.specs.Packet.{is_idle_packet}
+use Rattle.sl_packet.specs.Packets.{only_idle, without_idle}
+use Rattle.sl_packet.specs.Sink.{TakesAll}
+use Rattle.sl_packet.specs.Stopping.{IsStopped}
+use Rattle.sl_packet.proofs.DeliveredLemmas.{length-no_lists, list_at-no_lists, list_at-with_packet}
+use Rattle.sl_link.specs.declared.tally.FrameReport.{FrameReport}
+use Rattle.sl_link.specs.declared.tally.Tally.{Tally}
+use Rattle.sl_link.specs.Kind.Delivery.{AreDelivered, AreKept, Brings, Delivers, StopsDelivering, HasDelivered, HasHandedOver, IsReport, IsWithin, Kind, count_of, counted, idle_in, lists_in, packets_in, with_frame, with_packets}
+use Rattle.sl_link.specs.Tally.{counts_with, skipped_in}
+use Rattle.sl_link.proofs.lemmas.Tally.{counted_more, totals_are}
+use Rattle.sl_link.proofs.lemmas.Kind.Channels.{items_change, map_range, no_items, none_of, take_lists}
+
+-- ---- frames that are read
+
+pub views_step : {View Skip : Type 0} (views : List View) (r : Result View Skip) → views ++ cons_option (result_ok r) [] ≡ with_frame views r
+views_step views (Ok view) = refl
+views_step views (Err reason) = append-nil views
+
+-- ---- what is counted
+
+module _ (k : Kind) (laws : AreDelivered k) where
+  -- the packets of a channel that pass a test
+  abbrev passing : (List ℕ → Bool) → List (List ℕ) → ℕ → List (List ℕ)
+  passing test frames channel = filter test (k.packets frames channel)
+
+  count_more : (test : List ℕ → Bool) (frames : List (List ℕ)) (frame : List ℕ)
+      → count_of (map (passing test (frames ++ frame ∷ [])) k.channels) ≡ count_of (map (passing test frames) k.channels) + length (filter test (k.ended frames frame))
+  count_more test frames frame =
+      let at = k.channel frame in
+      let old = passing test frames in
+      let new = passing test (frames ++ frame ∷ []) in
+      let change = items_change k.limit k.channels laws.all old new at (laws.inside frame) (λ i other. ap (λ l. length (filter test l)) (laws.other frames frame i (λ e. other (sym e)))) in
+      let here : length (new at) ≡ length (old at) + length (filter test (k.ended frames frame)) =
+      ap (λ l. length (filter test l)) (laws.own frames frame)
+      ∙ ap length (filter-append test (k.packets frames at) (k.ended frames frame)) ∙ length-append (old at) (filter test (k.ended frames frame)) in
+      omega (arith, change, here)
+
+  pub packets_more : (frames : List (List ℕ)) (frame : List ℕ) → packets_in k (frames ++ frame ∷ []) ≡ packets_in k frames + length (without_idle (k.ended frames frame))
+  packets_more = count_more (λ packet. not (is_idle_packet packet))
+
+  pub idle_more : (frames : List (List ℕ)) (frame : List ℕ) → idle_in k (frames ++ frame ∷ []) ≡ idle_in k frames + length (only_idle (k.ended frames frame))
+  idle_more = count_more is_idle_packet
+
+  pub no_packets : packets_in k [] ≡ 0
+  no_packets = no_items k.limit k.channels laws.all (λ channel. without_idle (k.packets [] channel)) (λ channel. ap without_idle (laws.none channel))
+
+  pub no_idle : idle_in k [] ≡ 0
+  no_idle = no_items k.limit k.channels laws.all (λ channel. only_idle (k.packets [] channel)) (λ channel. ap only_idle (laws.none channel))
+
+  -- none yet
+  pub none_within : IsWithin k []
+  none_within = record { delivered = laws; within = omega (arith, no_packets, no_idle) }
+
+  pub none_delivered : (processed : List (List ℕ) → Type 0) (t : Tally) → processed [] → t.octets ≡ 0 → t.frames ≡ 0 → t.skipped ≡ 0 → t.packets ≡ 0 → t.idle ≡ 0
+      → HasDelivered k processed [] t
+  none_delivered processed t had octets frames skipped packets idle =
+      record {
+        processed = had;
+        counted = record { octets = octets; frames = frames; skipped = skipped };
+        packets = packets ∙ sym no_packets;
+        idle = idle ∙ sym no_idle;
+      }
+
+  -- ---- one frame more
+
+  module _ (processed processed' : List (List ℕ) → Type 0) (before : List (List ℕ)) (frame : List ℕ) (t t' : Tally) (report : FrameReport)
+      (d : HasDelivered k processed before t) (r : IsReport k before frame report) where
+    pub delivered_more : processed' (before ++ frame ∷ []) → t'.octets ≡ t.octets + length frame → t'.frames ≡ t.frames + 1
+        → t'.skipped ≡ t.skipped + (if report.is_skipped then 1 else 0) → t'.packets ≡ t.packets + report.packets → t'.idle ≡ t.idle + report.idle
+        → HasDelivered k processed' (before ++ frame ∷ []) t'
+    delivered_more next octets frames skipped packets idle =
+        record {
+          processed = next;
+          counted = counted_more k.is_skipped before frame t t' report.is_skipped d.counted octets frames skipped r.skipped;
+          packets = omega (arith, packets, d.packets, r.packets, packets_more before frame);
+          idle = omega (arith, idle, d.idle, r.idle, idle_more before frame);
+        }
+
+    -- what is counted after it fits
+    pub fits_more : IsWithin k (before ++ frame ∷ []) → t.packets + report.packets + (t.idle + report.idle) ≤ t.octets + length frame
+    fits_more w =
+        let within = w.within in
+        omega (
+          arith,
+          within,
+          d.packets,
+          d.idle,
+          d.counted.octets,
+          r.packets,
+          r.idle,
+          packets_more before frame,
+          idle_more before frame,
+          ap length (concat-push before frame),
+          length-append (concat before) frame,
+        )
+
+module _ (k : Kind) (laws : AreDelivered k) (processed processed' : List (List ℕ) → Type 0) where
+  pub none_handed : (t : Tally) → processed [] → t.octets ≡ 0 → t.frames ≡ 0 → t.skipped ≡ 0 → t.packets ≡ 0 → t.idle ≡ 0 → t.anomalies ≡ 0 → HasHandedOver k processed [] t
+  none_handed t had octets frames skipped packets idle anomalies =
+      record { delivered = none_delivered k laws processed t had octets frames skipped packets idle; no_anomalies = anomalies }
+
+  pub handed_more : (before : List (List ℕ)) (frame : List ℕ) (t t' : Tally) (report : FrameReport) → HasHandedOver k processed before t → Brings k before frame report
+      → processed' (before ++ frame ∷ []) → t'.octets ≡ t.octets + length frame → t'.frames ≡ t.frames + 1 → t'.skipped ≡ t.skipped + (if report.is_skipped then 1 else 0)
+      → t'.packets ≡ t.packets + report.packets → t'.idle ≡ t.idle + report.idle → t'.anomalies ≡ t.anomalies + report.anomalies
+      → HasHandedOver k processed' (before ++ frame ∷ []) t'
+  handed_more before frame t t' report h b next octets frames skipped packets idle anomalies =
+      record {
+        delivered = delivered_more k laws processed processed' before frame t t' report h.delivered b.reported next octets frames skipped packets idle;
+        no_anomalies = omega (arith, anomalies, h.no_anomalies, b.no_anomalies);
+      }
+
+-- what a frame brings, by its channel and the packets that end in it
+pub delivers_as : {S : Type 0} (taking : S → ℕ → List ℕ → S → Type 0) (k : Kind) (before : List (List ℕ)) (frame : List ℕ) (old new : S) (report : FrameReport)
+    (channel : ℕ) (ended : List (List ℕ)) (skips : Bool) → k.channel frame ≡ channel → k.ended before frame ≡ ended → k.is_skipped frame ≡ skips → 0 < length frame
+    → TakesAll taking old channel (without_idle ended) new → report.is_skipped ≡ skips → report.packets ≡ length (without_idle ended) → report.idle ≡ length (only_idle ended)
+    → report.anomalies ≡ 0 → Delivers taking k before frame old report new
+delivers_as taking k before frame old new report channel ended skips at ends skipping some accepted skipped packets idle none =
+    record {
+      accepted = subst (λ c. TakesAll taking old c (without_idle (k.ended before frame)) new) (sym at) (subst (λ e. TakesAll taking old channel (without_idle e) new) (sym ends) accepted);
+      brings = record {
+        some = some;
+        reported = record {
+          skipped = skipped ∙ sym skipping;
+          packets = packets ∙ ap (λ e. length (without_idle e)) (sym ends);
+          idle = idle ∙ ap (λ e. length (only_idle e)) (sym ends);
+        };
+        no_anomalies = none;
+      };
+    }
+
+-- and where that stops
+pub stops_as : {S : Type 0} (taking : S → ℕ → List ℕ → S → Type 0) (failing : S → ℕ → List ℕ → SinkFault → S → Type 0) (failures : S → ℕ) (k : Kind) (wants_memory : List (List ℕ) → Type 0)
+    (before : List (List ℕ)) (frame : List ℕ) (old new : S) (fault : FlowFault) (channel : ℕ) (ended : List (List ℕ)) → k.channel frame ≡ channel → k.ended before frame ≡ ended
+    → IsStopped taking failing failures old channel (without_idle ended) fault new → (fault ≡ Memory → wants_memory (before ++ frame ∷ []))
+    → StopsDelivering taking failing failures k wants_memory before frame old fault new
+stops_as taking failing failures k wants_memory before frame old new fault channel ended at ends stopped wants =
+    record {
+      stopped = subst (λ c. IsStopped taking failing failures old c (without_idle (k.ended before frame)) fault new) (sym at)
+          (subst (λ e. IsStopped taking failing failures old channel (without_idle e) fault new) (sym ends) stopped);
+      wanted = wants;
+    }
+
+-- the totals of frames that were processed, and of a remainder
+pub handed_totals : (k : Kind) (processed : List (List ℕ) → Type 0) (frames : List (List ℕ)) (t : Tally) → HasHandedOver k processed frames t → (octets : ℕ) → length (concat frames) ≤ octets
+    → counts_with (t.octets + (octets - t.octets)) t.frames t.skipped (octets - t.octets) t.packets t.idle (t.anomalies + 0) ≡ counted k frames (octets - length (concat frames))
+handed_totals k processed frames t h octets inside =
+    let d = h.delivered in
+    totals_are (skipped_in k.is_skipped) frames t d.counted octets (packets_in k frames) (idle_in k frames) 0 inside d.packets d.idle (ap (λ n. n + 0) h.no_anomalies)
+
+-- ---- packets that are kept
+
+-- packets that were accepted in turn were added in turn
+takes_all : (packets : List (List ℕ)) (old new : PacketLists) (channel : ℕ) → channel < length old.lists
+    → TakesAll AddsPacket old channel packets new → new.lists ≡ with_packets old.lists channel packets
+takes_all [] old new channel inside same =
+    ap (λ (d : PacketLists). d.lists) same
+    ∙ sym (ap (slice_set old.lists channel) (append-nil (slice_index_or old.lists channel [])) ∙ set-get_or old.lists channel [])
+takes_all (packet ∷ packets) old new channel inside t =
+    let mid = t.0 in
+    let before = slice_index_or old.lists channel [] in
+    let one = before ++ packet ∷ [] in
+    let longer : channel < length mid.lists = omega (arith, ap length t.1, length-set old.lists channel one) in
+    takes_all packets mid new channel longer t.2
+    ∙ ap (λ l. slice_set mid.lists channel (l ++ packets)) (ap (λ l. slice_index_or l channel []) t.1 ∙ list_at-with_packet old.lists channel packet inside)
+    ∙ ap (λ l. slice_set l channel (one ++ packets)) t.1
+    ∙ set-set old.lists channel one (one ++ packets) ∙ ap (slice_set old.lists channel) (append_assoc before (packet ∷ []) packets)
+
+module _ (k : Kind) (laws : AreDelivered k) where
+  pub none_kept : (lists : List (List (List ℕ))) → lists ≡ no_lists → AreKept k [] lists
+  none_kept lists none =
+      record {
+        size = ap length none ∙ length-no_lists;
+        each = λ channel below. ap (λ l. slice_index_or {A = List (List ℕ)} l channel []) none ∙ list_at-no_lists channel ∙ sym (ap without_idle (laws.none channel));
+        none_past = λ channel past. ap (λ l. slice_index_or {A = List (List ℕ)} l channel []) none ∙ list_at-no_lists channel;
+      }
+
+  -- one frame more
+  pub kept_more : (frames : List (List ℕ)) (frame : List ℕ) (old new : PacketLists) → AreKept k frames old.lists
+      → TakesAll AddsPacket old (k.channel frame) (without_idle (k.ended frames frame)) new → AreKept k (frames ++ frame ∷ []) new.lists
+  kept_more frames frame old new kept taken =
+      let at = k.channel frame in
+      let more = without_idle (k.ended frames frame) in
+      let own = slice_index_or old.lists at [] ++ more in
+      let inside : at < length old.lists = omega (arith, laws.inside frame, laws.few, kept.size) in
+      let added : new.lists ≡ slice_set old.lists at own = takes_all more old new at inside taken in
+      let other : (channel : ℕ) → channel ≢ at → slice_index_or new.lists channel [] ≡ slice_index_or old.lists channel [] =
+      λ channel apart. ap (λ l. slice_index_or l channel []) added ∙ get_or-set_other old.lists at channel own [] apart in
+      record {
+        size = ap length added ∙ length-set old.lists at own ∙ kept.size;
+        each = λ channel below.
+            elim (eqb_tells channel at) [
+              | inl (is, e) ↦
+                  ap (λ l. slice_index_or l channel []) added ∙ ap (λ c. slice_index_or (slice_set old.lists at own) c []) e ∙ get_or-set_same old.lists at own [] inside
+                  ∙ ap (λ l. l ++ more) (kept.each at (laws.inside frame))
+                  ∙ sym (ap (λ c. without_idle (k.packets (frames ++ frame ∷ []) c)) e ∙ ap without_idle (laws.own frames frame)
+                  ∙ filter-append (λ packet. not (is_idle_packet packet)) (k.packets frames at) (k.ended frames frame))
+              | inr (is, apart) ↦ other channel apart ∙ kept.each channel below ∙ ap without_idle (sym (laws.other frames frame channel (λ e. apart (sym e))))
+            ];
+        none_past = λ channel past. other channel (λ e. absurd (omega (arith, past, e, laws.inside frame))) ∙ kept.none_past channel past;
+      }
+
+  module _ (frames : List (List ℕ)) (lists : List (List (List ℕ))) (kept : AreKept k frames lists) where
+    -- the lists of the channels are those of the frames,
+    pub all_kept : take k.limit lists ≡ lists_in k frames
+    all_kept =
+        take_lists k.limit lists (omega (arith, kept.size, laws.few))
+        ∙ map_range (λ channel. slice_index_or lists channel []) (λ channel. without_idle (k.packets frames channel)) 0 k.limit (λ channel below. kept.each channel (omega (arith, below)))
+        ∙ ap (map (λ channel. without_idle (k.packets frames channel))) (sym laws.all)
+
+    -- and where some channel's is not empty, they deliver a packet
+    pub some_kept : (((channel : ℕ) → channel < k.limit → slice_index_or lists channel [] ≡ []) → ⊥) → 0 < packets_in k frames
+    some_kept some =
+        elim (leb_tells 1 (packets_in k frames)) [
+          | inl (is, more) ↦ more
+          | inr (is, few) ↦
+              let none : packets_in k frames ≡ 0 = omega (arith, few) in
+              absurd (some (λ channel below. kept.each channel below ∙ none_of k.limit k.channels laws.all (λ c. without_idle (k.packets frames c)) none channel below))
+        ]

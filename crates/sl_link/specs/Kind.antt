@@ -1,0 +1,4 @@
+-- The two kinds of frames, and what frames of a kind deliver.
+pub mod Delivery
+pub mod Tc
+pub mod Tm

@@ -1,0 +1,141 @@
+-- What frames of a kind deliver, one after another: the packets that end in each frame, each on a channel. TM and TC
+-- frames deliver in one way.
+use Rattle.std.specs.Prelude.{◌≡◌, ◌≢◌, ℕ, ◌+◌, ◌<◌, ◌≤◌, ◌⊎◌, Bool}
+use Rattle.std.specs.Prelude.{List, [], ◌∷◌, ◌++◌, length, map, Result, Ok, Err}
+use Rattle.std.specs.List.{concat, range_with_len, slice_index_or, slice_set}
+use Rattle.sl_packet.specs.declared.flow_fault.FlowFault.{FlowFault}
+use Rattle.sl_packet.specs.declared.flow_fault.FlowFault.TheVariants.{Memory}
+use Rattle.sl_packet.specs.declared.sink.SinkFault.{SinkFault}
+use Rattle.sl_packet.specs.Delivered.{channel_count}
+use Rattle.sl_packet.specs.Packets.{only_idle, without_idle}
+use Rattle.sl_packet.specs.Sink.{TakesAll}
+use Rattle.sl_packet.specs.Stopping.{IsStopped}
+use Rattle.sl_link.specs.declared.tally.FrameReport.{FrameReport}
+use Rattle.sl_link.specs.declared.tally.Tally.{Tally}
+use Rattle.sl_link.specs.Link.Totals.{Counts}
+use Rattle.sl_link.specs.Tally.{HasCounted, counts_with, skipped_in}
+
+-- A kind of frames, under managed parameters.
+pub record Kind : Type 0 where
+  -- the frames of a recording
+  pub frames_of : List ℕ → List (List ℕ)
+  -- a frame is skipped
+  pub is_skipped : List ℕ → Bool
+  -- the numbers of the channels, and how many there are
+  pub channels : List ℕ
+  pub limit : ℕ
+  -- the channel of the packets that end in a frame
+  pub channel : List ℕ → ℕ
+  -- the packets that end in a frame that comes after others, idle ones included
+  pub ended : List (List ℕ) → List ℕ → List (List ℕ)
+  -- the packets that frames deliver on a channel, idle ones included
+  pub packets : List (List ℕ) → ℕ → List (List ℕ)
+
+-- the frames that were read, and then the next one, unless it is skipped
+abbrev pub with_frame : {View Skip : Type 0} → List View → Result View Skip → List View
+with_frame views (Ok view) = views ++ view ∷ []
+with_frame views (Err reason) = views
+
+-- ---- what is counted
+
+-- the items of all lists
+abbrev pub count_of : {X : Type 0} → List (List X) → ℕ
+count_of [] = 0
+count_of (items ∷ lists) = length items + count_of lists
+
+-- the packets that frames deliver on each channel, idle packets left out
+abbrev pub lists_in : Kind → List (List ℕ) → List (List (List ℕ))
+lists_in k frames = map (λ channel. without_idle (k.packets frames channel)) k.channels
+
+-- the packets that a recording delivers on each channel, idle packets left out
+abbrev pub packets_of : Kind → List ℕ → List (List (List ℕ))
+packets_of k recording = lists_in k (k.frames_of recording)
+
+-- the number of packets that frames deliver, idle packets left out
+abbrev pub packets_in : Kind → List (List ℕ) → ℕ
+packets_in k frames = count_of (lists_in k frames)
+
+-- the number of idle packets that frames deliver
+abbrev pub idle_in : Kind → List (List ℕ) → ℕ
+idle_in k frames = count_of (map (λ channel. only_idle (k.packets frames channel)) k.channels)
+
+-- the counts of frames and of a remainder of `rest` octets
+abbrev pub counted : Kind → List (List ℕ) → ℕ → Counts
+counted k frames rest =
+    counts_with (length (concat frames) + rest) (length frames) (skipped_in k.is_skipped frames) rest
+    (packets_in k frames) (idle_in k frames) 0
+
+-- ---- what holds of a kind
+
+-- A frame adds the packets that end in it to those of its channel, and none to another's.
+pub record AreDelivered (k : Kind) : Type 0 where
+  pub none : (channel : ℕ) → k.packets [] channel ≡ []
+  pub own : (frames : List (List ℕ)) (frame : List ℕ) → k.packets (frames ++ frame ∷ []) (k.channel frame)
+      ≡ k.packets frames (k.channel frame) ++ k.ended frames frame
+  pub other : (frames : List (List ℕ)) (frame : List ℕ) (channel : ℕ) → k.channel frame ≢ channel
+      → k.packets (frames ++ frame ∷ []) channel ≡ k.packets frames channel
+  pub inside : (frame : List ℕ) → k.channel frame < k.limit
+  pub few : k.limit ≤ channel_count
+  pub all : k.channels ≡ range_with_len 0 k.limit
+
+-- ---- while frames are processed. Contracts of private functions alone cite what follows.
+
+-- The kind has these facts, and the frames deliver at most as many packets, idle packets included, as they have octets.
+pub record IsWithin (k : Kind) (frames : List (List ℕ)) : Type 0 where
+  pub delivered : AreDelivered k
+  pub within : packets_in k frames + idle_in k frames ≤ length (concat frames)
+
+-- the report on a frame that comes after these frames
+pub record IsReport (k : Kind) (before : List (List ℕ)) (frame : List ℕ) (report : FrameReport) : Type 0 where
+  pub skipped : report.is_skipped ≡ k.is_skipped frame
+  pub packets : report.packets ≡ length (without_idle (k.ended before frame))
+  pub idle : report.idle ≡ length (only_idle (k.ended before frame))
+
+-- the report on a frame of one octet or more in which no anomalies were looked for
+pub record Brings (k : Kind) (before : List (List ℕ)) (frame : List ℕ) (report : FrameReport) : Type 0 where
+  pub some : 0 < length frame
+  pub reported : IsReport k before frame report
+  pub no_anomalies : report.anomalies ≡ 0
+
+-- the packets of a frame were handed over, idle packets left out
+pub record Delivers {S : Type 0} (taking : S → ℕ → List ℕ → S → Type 0) (k : Kind) (before : List (List ℕ))
+    (frame : List ℕ) (old : S) (report : FrameReport) (new : S) : Type 0 where
+  pub accepted : TakesAll taking old (k.channel frame) (without_idle (k.ended before frame)) new
+  pub brings : Brings k before frame report
+
+-- handing over the packets of a frame stopped at a fault, and memory was refused only where it may be
+pub record StopsDelivering {S : Type 0} (taking : S → ℕ → List ℕ → S → Type 0)
+    (failing : S → ℕ → List ℕ → SinkFault → S → Type 0) (failures : S → ℕ) (k : Kind)
+    (wants_memory : List (List ℕ) → Type 0) (before : List (List ℕ)) (frame : List ℕ)
+    (old : S) (fault : FlowFault) (new : S) : Type 0 where
+  pub stopped : IsStopped taking failing failures old (k.channel frame) (without_idle (k.ended before frame)) fault new
+  pub wanted : fault ≡ Memory → wants_memory (before ++ frame ∷ [])
+
+-- these frames were processed and counted
+pub record HasDelivered (k : Kind) (had : List (List ℕ) → Type 0) (frames : List (List ℕ)) (t : Tally) : Type 0 where
+  pub processed : had frames
+  pub counted : HasCounted (skipped_in k.is_skipped) frames t
+  pub packets : t.packets ≡ packets_in k frames
+  pub idle : t.idle ≡ idle_in k frames
+
+-- these frames were processed and counted, and no anomalies were looked for
+pub record HasHandedOver (k : Kind) (had : List (List ℕ) → Type 0) (frames : List (List ℕ)) (t : Tally) : Type 0 where
+  pub delivered : HasDelivered k had frames t
+  pub no_anomalies : t.anomalies ≡ 0
+
+-- ---- packets that are kept
+
+-- the lists with packets added to that of a channel
+abbrev pub with_packets : List (List (List ℕ)) → ℕ → List (List ℕ) → List (List (List ℕ))
+with_packets lists channel packets = slice_set lists channel (slice_index_or lists channel [] ++ packets)
+
+-- each list has the packets of its channel, idle packets left out, and the lists past the last channel have none
+pub record AreKept (k : Kind) (frames : List (List ℕ)) (lists : List (List (List ℕ))) : Type 0 where
+  pub size : length lists ≡ channel_count
+  pub each : (channel : ℕ) → channel < k.limit
+      → slice_index_or lists channel [] ≡ without_idle (k.packets frames channel)
+  pub none_past : (channel : ℕ) → k.limit ≤ channel → slice_index_or lists channel [] ≡ []
+
+-- memory may be refused at the last of these frames: for what is incomplete around it, or since they deliver a packet
+abbrev pub MayWantMemory : Kind → (List (List ℕ) → Type 0) → List (List ℕ) → Type 0
+MayWantMemory k wants_memory frames = wants_memory frames ⊎ (0 < packets_in k frames)

@@ -1,0 +1,82 @@
+-- TC frames as a kind: their packets are on virtual channels and MAPs.
+use Rattle.std.specs.Prelude.{◌≡◌, ◌≤◌, ℕ, ◌+◌, List, [], ◌∷◌, ◌++◌, length, map, Result, Ok, Err, is_err}
+use Rattle.std.specs.List.{concat}
+use Rattle.sl_packet.specs.Delivered.{channel_count}
+use Rattle.sl_tcframe.specs.declared.tc_frame.TcSkip.{TcSkip}
+use Rattle.sl_tcframe.specs.TcDelimited.{tc_frames_of}
+use Rattle.sl_tcframe.specs.TcFrame.{TcView, tc_frame}
+use Rattle.sl_tcflow.specs.AcceptedUnit.{views_of}
+use Rattle.sl_tcflow.specs.Receiving.{HasProcessed, IsIncompleteAround, ReceiverState, ended_by, unit_channel}
+use Rattle.sl_tcflow.specs.ReceptionParameters.{ReceptionParameters}
+use Rattle.sl_tcflow.specs.Recording.{map_channels, packets_in_channel}
+use Rattle.sl_tcflow.proofs.lemmas.Reception.Channel.{held_in}
+use Rattle.sl_link.specs.Kind.Delivery.{IsWithin, Kind, MayWantMemory, count_of, counted, idle_in, packets_in}
+use Rattle.sl_link.specs.Link.Managed.{Parameters, reception_of, tc_format}
+use Rattle.sl_link.specs.Link.Totals.{Counts}
+use Rattle.sl_link.specs.Tally.{listing_counts}
+
+-- a frame of a recording, as it is read
+abbrev pub as_read : Parameters → List ℕ → Result TcView TcSkip
+as_read p frame = tc_frame (tc_format p) p.spacecraft frame
+
+-- the packets that end with the next frame's unit, idle ones included
+abbrev pub ended_in : ReceptionParameters → List TcView → Result TcView TcSkip → List (List ℕ)
+ended_in r views (Ok view) = ended_by r views view
+ended_in r views (Err reason) = []
+
+-- its unit is accepted, and a series is incomplete around it on its MAP
+abbrev pub is_incomplete_around : ReceptionParameters → List TcView → Result TcView TcSkip → Type 0
+is_incomplete_around r views (Ok view) = IsIncompleteAround r views view
+is_incomplete_around r views (Err reason) = ⊥
+
+-- the channel of the unit of a frame that is read
+abbrev pub channel_of : ReceptionParameters → Result TcView TcSkip → ℕ
+channel_of r (Ok view) = unit_channel r view
+channel_of r (Err reason) = 0
+
+abbrev pub tc_kind : Parameters → Kind
+tc_kind p =
+    record {
+      frames_of = tc_frames_of (tc_format p);
+      is_skipped = λ frame. is_err (as_read p frame);
+      channels = map_channels;
+      limit = channel_count;
+      channel = λ frame. channel_of (reception_of p) (as_read p frame);
+      ended = λ before frame. ended_in (reception_of p) (views_of (tc_format p) p.spacecraft before) (as_read p frame);
+      packets = λ frames channel.
+          packets_in_channel (reception_of p) (views_of (tc_format p) p.spacecraft frames) channel;
+    }
+
+-- what is counted in frames, and a remainder of this many octets
+abbrev pub tc_counted : Parameters → List (List ℕ) → ℕ → Counts
+tc_counted p = counted (tc_kind p)
+
+-- and in a recording
+abbrev pub tc_counts : Parameters → List ℕ → Counts
+tc_counts p = listing_counts (tc_counted p) (tc_frames_of (tc_format p))
+
+-- a series is incomplete around the last of these frames, on the MAP of its unit, which is accepted
+pub record WantsMemoryTc (p : Parameters) (frames : List (List ℕ)) : Type 0 where
+  pub before : List (List ℕ)
+  pub frame : List ℕ
+  pub in_order : frames ≡ before ++ frame ∷ []
+  pub view : TcView
+  pub is_read : as_read p frame ≡ Ok view
+  pub incomplete : IsIncompleteAround (reception_of p) (views_of (tc_format p) p.spacecraft before) view
+
+-- or these frames deliver a packet
+abbrev pub MayWantMemoryTc : Parameters → List (List ℕ) → Type 0
+MayWantMemoryTc p = MayWantMemory (tc_kind p) (WantsMemoryTc p)
+
+-- ---- a receiver. Contracts of private functions alone cite this.
+
+-- the octets of the series that are incomplete after frames
+abbrev pub held_after : Parameters → List (List ℕ) → ℕ
+held_after p frames =
+    count_of (map (held_in (reception_of p) (views_of (tc_format p) p.spacecraft frames)) map_channels)
+
+-- It has processed these frames. The packets that they deliver and the octets that it holds are no more than theirs.
+pub record HasProcessedTc (p : Parameters) (state : ReceiverState) (frames : List (List ℕ)) : Type 0 where
+  pub processed : HasProcessed (reception_of p) state (views_of (tc_format p) p.spacecraft frames)
+  pub within : IsWithin (tc_kind p) frames
+  pub held : packets_in (tc_kind p) frames + idle_in (tc_kind p) frames + held_after p frames ≤ length (concat frames)

@@ -1,0 +1,69 @@
+-- TM frames as a kind: their packets are on virtual channels.
+use Rattle.std.specs.Prelude.{◌≡◌, ℕ, List, [], ◌∷◌, ◌++◌, Result, Ok, Err, is_err}
+use Rattle.sl_tmframe.specs.declared.tm_frame.TmSkip.{TmSkip}
+use Rattle.sl_tmframe.specs.TmDelimited.{tm_frames_of}
+use Rattle.sl_tmframe.specs.TmFrame.{TmView, tm_frame}
+use Rattle.sl_tmflow.specs.Channel.{views_of}
+use Rattle.sl_tmflow.specs.Extraction.{ExtractorState, HasProcessed, IsIncompleteAround, ended_by}
+use Rattle.sl_tmflow.specs.Recording.{packets_of_channel, virtual_channels}
+use Rattle.sl_link.specs.Kind.Delivery.{IsWithin, Kind, MayWantMemory, counted}
+use Rattle.sl_link.specs.Link.Managed.{Parameters, tm_format}
+use Rattle.sl_link.specs.Link.Totals.{Counts}
+use Rattle.sl_link.specs.Tally.{listing_counts}
+
+-- a frame of a recording, as it is read
+abbrev pub as_read : Parameters → List ℕ → Result TmView TmSkip
+as_read p frame = tm_frame (tm_format p) p.spacecraft frame
+
+-- the packets that end in the next frame, idle ones included
+abbrev pub ended_in : List TmView → Result TmView TmSkip → List (List ℕ)
+ended_in views (Ok view) = ended_by views view
+ended_in views (Err reason) = []
+
+-- a packet is incomplete around the next frame, on its virtual channel
+abbrev pub is_incomplete_around : List TmView → Result TmView TmSkip → Type 0
+is_incomplete_around views (Ok view) = IsIncompleteAround views view
+is_incomplete_around views (Err reason) = ⊥
+
+-- the virtual channel of a frame that is read
+abbrev pub vc_of : Result TmView TmSkip → ℕ
+vc_of (Ok view) = view.vc
+vc_of (Err reason) = 0
+
+abbrev pub tm_kind : Parameters → Kind
+tm_kind p =
+    record {
+      frames_of = tm_frames_of p.tm_length;
+      is_skipped = λ frame. is_err (as_read p frame);
+      channels = virtual_channels;
+      limit = 8;
+      channel = λ frame. vc_of (as_read p frame);
+      ended = λ before frame. ended_in (views_of (tm_format p) p.spacecraft before) (as_read p frame);
+      packets = λ frames vc. packets_of_channel (views_of (tm_format p) p.spacecraft frames) vc;
+    }
+
+-- what is counted in frames, and a remainder of this many octets
+abbrev pub tm_counted : Parameters → List (List ℕ) → ℕ → Counts
+tm_counted p = counted (tm_kind p)
+
+-- and in a recording
+abbrev pub tm_counts : Parameters → List ℕ → Counts
+tm_counts p = listing_counts (tm_counted p) (tm_frames_of p.tm_length)
+
+-- a packet is incomplete around the last of these frames, on its virtual channel
+pub record WantsMemoryTm (p : Parameters) (frames : List (List ℕ)) : Type 0 where
+  pub before : List (List ℕ)
+  pub frame : List ℕ
+  pub in_order : frames ≡ before ++ frame ∷ []
+  pub view : TmView
+  pub is_read : as_read p frame ≡ Ok view
+  pub incomplete : IsIncompleteAround (views_of (tm_format p) p.spacecraft before) view
+
+-- or these frames deliver a packet
+abbrev pub MayWantMemoryTm : Parameters → List (List ℕ) → Type 0
+MayWantMemoryTm p = MayWantMemory (tm_kind p) (WantsMemoryTm p)
+
+-- An extractor has processed these frames. Contracts of private functions alone cite this.
+pub record HasProcessedTm (p : Parameters) (state : ExtractorState) (frames : List (List ℕ)) : Type 0 where
+  pub processed : HasProcessed state (views_of (tm_format p) p.spacecraft frames)
+  pub within : IsWithin (tm_kind p) frames

@@ -3,15 +3,35 @@ mod delivered;
 
 ghost use Rattle.std.specs.Prelude.{◌≤◌};
 
+use crate::support::packets::longest;
 use crate::support::recordings::{LEAST, TELEMETRY};
+use crate::support::rows::{Stop, holds, is_text, passes};
 use sl_packet::{
     FlowFault, Need, Packets, SinkFault, add_part, first_packet, give_back, is_idle, need,
     push_idle,
 };
 use std::alloc::{AllocError, Global};
-use std::test::Fail;
 
-// The first packet, an idle packet with ten octets of data, the least telecommand, and three octets more.
+// An idle packet with ten octets of data.
+const IDLE: [u8; 16] = [
+    0x07, 0xFF, 0xC0, 0x00, 0x00, 0x09, 0, 0, 0, 0, 0, 0, 0, 0, 0, 0,
+];
+
+// The idle packet, the least telecommand and three octets more, and these without the idle packet.
+const BEHIND: [u8; 26] = [
+    0x07, 0xFF, 0xC0, 0x00, 0x00, 0x09, 0, 0, 0, 0, 0, 0, 0, 0, 0, 0, //
+    0x10, 0x02, 0xC0, 0x01, 0x00, 0x00, 0xEE, //
+    0x00, 0x03, 0xC0,
+];
+
+const AFTER_IDLE: [u8; 10] = [
+    0x10, 0x02, 0xC0, 0x01, 0x00, 0x00, 0xEE, //
+    0x00, 0x03, 0xC0,
+];
+
+const REST: [u8; 3] = [0x00, 0x03, 0xC0];
+
+// `TELEMETRY` before them.
 const OCTETS: [u8; 36] = [
     0x00, 0x01, 0xC0, 0x00, 0x00, 0x03, 0xAA, 0xBB, 0xCC, 0xDD, //
     0x07, 0xFF, 0xC0, 0x00, 0x00, 0x09, 0, 0, 0, 0, 0, 0, 0, 0, 0, 0, //
@@ -21,6 +41,63 @@ const OCTETS: [u8; 36] = [
 
 // Octets of packet version 1.
 const VERSION_ONE: [u8; 7] = [0x20, 0x01, 0xC0, 0x00, 0x00, 0x00, 0xAA];
+
+// `TELEMETRY` without its last octet.
+const SHORT: [u8; 9] = [0x00, 0x01, 0xC0, 0x00, 0x00, 0x03, 0xAA, 0xBB, 0xCC];
+
+// Octets, and the packet at their front.
+const FIRST: [(&[u8], Option<&[u8]>); 6] = [
+    (&TELEMETRY, Some(&TELEMETRY)),
+    (&OCTETS, Some(&TELEMETRY)),
+    (&BEHIND, Some(&IDLE)),
+    (&SHORT, None),
+    (&VERSION_ONE, None),
+    (&[], None),
+];
+
+// Octets, and what is wanted for a packet.
+const NEEDS: [(&[u8], Need); 10] = [
+    (&[], Need::Header(6)),
+    (&[0x00], Need::Header(5)),
+    (&[0x00, 0x03, 0xC0], Need::Header(3)),
+    (&[0x20], Need::Foreign),
+    (&VERSION_ONE, Need::Foreign),
+    (&[0x00, 0x01, 0xC0, 0x00, 0x00, 0x03], Need::Octets(4)),
+    (&[0x00, 0x01, 0xC0, 0x00, 0x00, 0x03, 0xAA], Need::Octets(3)),
+    (&TELEMETRY, Need::Whole(10)),
+    (&OCTETS, Need::Whole(10)),
+    (&[0x00, 0x01, 0xC0, 0x00, 0xFF, 0xFF], Need::Octets(65536)),
+];
+
+// Octets, their packets end to end, and what is left after each packet and then.
+const SERIES: [(&[u8], &[(&[u8], &[u8])], &[u8]); 2] = [
+    (&BEHIND, &[(&IDLE, &AFTER_IDLE), (&LEAST, &REST)], &REST),
+    // There are none of another version.
+    (&VERSION_ONE, &[], &VERSION_ONE),
+];
+
+// Octets, and whether a packet of them is idle.
+const IDLENESS: [(&[u8], bool); 6] = [
+    (&[0x07, 0xFF], true),
+    (&[0x07], false),
+    (&[0x07, 0xFF, 0x00, 0x07, 0x00, 0x00, 0x01], true),
+    (&[0x1F, 0xFF, 0xC0, 0x00], true),
+    (&[0x07, 0xFE, 0xC0, 0x00], false),
+    (&TELEMETRY, false),
+];
+
+// Faults and their texts.
+const SINK_FAULTS: [(SinkFault, &str); 3] = [
+    (SinkFault::Memory, "memory"),
+    (SinkFault::Device, "device"),
+    (SinkFault::Refused, "refused"),
+];
+
+const FLOW_FAULTS: [(FlowFault, &str); 3] = [
+    (FlowFault::Memory, "memory"),
+    (FlowFault::Sink(SinkFault::Refused), "sink: refused"),
+    (FlowFault::Failed, "failed"),
+];
 
 fn first(octets: &[u8]) -> Option<&[u8]> {
     first_packet(octets)
@@ -34,154 +111,130 @@ fn has_idle_apid(octets: &[u8]) -> bool {
     is_idle(octets)
 }
 
-fn add_idle(octets: &mut Vec<u8>, len: u32) -> Result<(), AllocError>
-    requires least { 7 ≤ len }
-    requires most { len ≤ 65542 }
-{
-    push_idle(octets, len)
-}
-
-fn packets_of(octets: &[u8]) -> Packets<'_> {
-    Packets::new(octets)
-}
-
-// The next packet, if there is one, and what is left then.
-fn next<'a>(packets: &mut Packets<'a>) -> (Option<&'a [u8]>, &'a [u8]) {
-    let packet = packets.next();
-    (packet, packets.rest())
-}
-
-// All packets.
-fn given<'a>(alloc: Global, octets: &'a [u8]) -> Result<Vec<&'a [u8]>, AllocError> {
-    let mut given = Vec::new(alloc);
-    for packet in Packets::new(octets) {
-        given.push(packet)?;
-    }
-    Ok(given)
-}
-
 #[test]
 fn packets_at_the_front_of_known_octets(rt: HostRuntime) {
-    for (octets, packet) in [
-        (&TELEMETRY[..], Some(&TELEMETRY[..])),
-        (&OCTETS[..], Some(&TELEMETRY[..])),
-        (&OCTETS[10..], Some(&OCTETS[10..26])),
-        (&TELEMETRY[..9], None),
-        (&VERSION_ONE[..], None),
-        (&[], None),
-    ] {
-        assert_eq!(rt; first(octets), packet, "at {octets:?}");
+    for (octets, packet) in &FIRST {
+        holds(&rt, octets, first(octets) == *packet);
     }
 }
 
 #[test]
 fn octets_that_are_wanted_for_a_packet(rt: HostRuntime) {
-    for (octets, wanted) in [
-        (&[][..], Need::Header(6)),
-        (&[0x00][..], Need::Header(5)),
-        (&[0x00, 0x03, 0xC0][..], Need::Header(3)),
-        (&[0x20][..], Need::Foreign),
-        (&VERSION_ONE[..], Need::Foreign),
-        (&TELEMETRY[..6], Need::Octets(4)),
-        (&TELEMETRY[..7], Need::Octets(3)),
-        (&TELEMETRY[..], Need::Whole(10)),
-        (&OCTETS[..], Need::Whole(10)),
-        (
-            &[0x00, 0x01, 0xC0, 0x00, 0xFF, 0xFF][..],
-            Need::Octets(65536),
-        ),
-    ] {
-        assert_eq!(rt; need_of(octets), wanted, "at {octets:?}");
+    for (octets, wanted) in &NEEDS {
+        holds(&rt, octets, need_of(octets) == *wanted);
     }
-}
-
-#[test]
-fn packets_lie_end_to_end(rt: HostRuntime) -> Result<(), Fail> {
-    let all = given(rt.alloc(), &OCTETS[10..])?;
-    assert_eq!(rt; all.as_slice(), &[&OCTETS[10..26], &LEAST[..]][..]);
-    let mut packets = packets_of(&OCTETS[10..]);
-    assert_eq!(rt; packets.rest(), &OCTETS[10..]);
-    for (packet, rest) in [
-        (Some(&OCTETS[10..26]), &OCTETS[26..]),
-        (Some(&LEAST[..]), &OCTETS[33..]),
-        (None, &[0x00, 0x03, 0xC0][..]),
-    ] {
-        assert_eq!(rt; next(&mut packets), (packet, rest));
-    }
-    // There are none of another version.
-    assert!(rt; given(rt.alloc(), &VERSION_ONE)?.is_empty());
-    assert_eq!(rt;
-        next(&mut packets_of(&VERSION_ONE)),
-        (None, &VERSION_ONE[..])
-    );
-    Ok(())
 }
 
 #[test]
 fn the_apid_alone_makes_a_packet_idle(rt: HostRuntime) {
-    for (octets, idle) in [
-        (&[0x07, 0xFF][..], true),
-        (&[0x07][..], false),
-        (&[0x07, 0xFF, 0x00, 0x07, 0x00, 0x00, 0x01][..], true),
-        (&[0x1F, 0xFF, 0xC0, 0x00][..], true),
-        (&[0x07, 0xFE, 0xC0, 0x00][..], false),
-        (&TELEMETRY[..], false),
-    ] {
-        assert_eq!(rt; has_idle_apid(octets), idle, "at {octets:?}");
+    for (octets, idle) in &IDLENESS {
+        holds(&rt, octets, has_idle_apid(octets) == *idle);
     }
 }
 
+// Whether this is the next packet, or none, and this is left then.
+fn is_next(packets: &mut Packets, packet: Option<&[u8]>, rest: &[u8]) -> bool {
+    packets.next() == packet && packets.rest() == rest
+}
+
+// Whether these are the packets one after another.
+fn are_next(octets: &[u8], wanted: &[(&[u8], &[u8])], rest: &[u8]) -> bool {
+    let mut packets = Packets::new(octets);
+    if packets.rest() != octets {
+        return false;
+    }
+    for (packet, rest) in wanted {
+        if !is_next(&mut packets, Some(packet), rest) {
+            return false;
+        }
+    }
+    is_next(&mut packets, None, rest)
+}
+
+// Whether a loop gives the same.
+fn are_given(octets: &[u8], wanted: &[(&[u8], &[u8])]) -> bool {
+    let mut wanted = wanted;
+    for packet in Packets::new(octets) {
+        match wanted {
+            [(next, _), behind @ ..] if packet == *next => wanted = behind,
+            _ => return false,
+        }
+    }
+    wanted.is_empty()
+}
+
 #[test]
-fn idle_packets_are_added_after_what_is_there(rt: HostRuntime) -> Result<(), Fail> {
-    let mut octets = vec![in rt.alloc(); 0xEE]?;
-    add_idle(&mut octets, 7)?;
-    assert_eq!(rt;
-        octets.as_slice(),
-        &[0xEE, 0x07, 0xFF, 0xC0, 0x00, 0x00, 0x00, 0x00][..]
-    );
-    let mut longest = Vec::new(rt.alloc());
-    add_idle(&mut longest, 65542)?;
-    assert_eq!(rt; longest.len(), 65542);
-    assert_eq!(rt;
-        longest.get(..6),
-        Some(&[0x07, 0xFF, 0xC0, 0x00, 0xFF, 0xFF][..])
-    );
-    assert_eq!(rt; first(&longest), Some(&longest[..]));
+fn packets_lie_end_to_end(rt: HostRuntime) {
+    for (octets, packets, rest) in &SERIES {
+        holds(&rt, octets, are_next(octets, packets, rest));
+        holds(&rt, octets, are_given(octets, packets));
+    }
+}
+
+// Octets, and an idle packet after them.
+fn with_idle(alloc: Global, octets: &[u8], len: u32) -> Result<Vec<u8>, AllocError>
+    requires least { 7 ≤ len }
+    requires most { len ≤ 65542 }
+{
+    let mut all = Vec::from_slice(alloc, octets)?;
+    push_idle(&mut all, len)?;
+    Ok(all)
+}
+
+fn is_least_added(alloc: Global) -> Result<bool, Stop> {
+    let octets = with_idle(alloc, &[0xEE], 7)?;
+    Ok(octets.as_slice() == &[0xEE, 0x07, 0xFF, 0xC0, 0x00, 0x00, 0x00, 0x00][..])
+}
+
+fn is_longest_added(alloc: Global) -> Result<bool, Stop> {
+    let octets = with_idle(alloc, &[], 65542)?;
+    let is_begun = octets.starts_with(&[0x07, 0xFF, 0xC0, 0x00, 0xFF, 0xFF]);
+    Ok(octets.len() == 65542 && is_begun && first(&octets) == Some(octets.as_slice()))
+}
+
+#[test]
+fn idle_packets_are_added_after_what_is_there(rt: HostRuntime) {
+    passes(&rt, &7, is_least_added(rt.alloc()));
+    passes(&rt, &65542, is_longest_added(rt.alloc()));
+}
+
+// Adds parts of 1,019 octets.
+fn add_parts(octets: &mut Vec<u8>, all: &[u8]) -> Result<(), Stop> {
+    for part in all.chunks(1019) {
+        add(octets, part)?;
+    }
     Ok(())
+}
+
+fn add(octets: &mut Vec<u8>, part: &[u8]) -> Result<(), Stop> {
+    if octets.len().saturating_add(part.len()) > 65542 {
+        return Err(Stop::Absent);
+    }
+    Ok(add_part(octets, part)?)
+}
+
+// Whether parts of a longest packet are joined in as much memory as these want, and the memory is given back.
+fn is_memory_enough(alloc: Global) -> Result<bool, Stop> {
+    let longest = longest(alloc)?;
+    let mut octets = Vec::new(alloc);
+    add_parts(&mut octets, &longest)?;
+    let is_joined = octets.as_slice() == longest.as_slice() && octets.capacity() == 65542;
+    give_back(&mut octets);
+    Ok(is_joined && octets.is_empty() && octets.capacity() == 0)
 }
 
 // That a vector with room isn't moved to more memory, no clause says.
 #[test]
-fn memory_for_parts_ends_with_the_longest_packet(rt: HostRuntime) -> Result<(), Fail> {
-    let mut longest = Vec::new(rt.alloc());
-    longest.resize(65542, 0x33)?;
-    let mut octets = Vec::new(rt.alloc());
-    for part in longest.chunks(1019) {
-        assert!(rt; octets.len() + part.len() <= 65542);
-        add_part(&mut octets, part)?;
-    }
-    assert_eq!(rt; octets.as_slice(), longest.as_slice());
-    assert_eq!(rt; octets.capacity(), 65542);
-    give_back(&mut octets);
-    assert_eq!(rt; (octets.len(), octets.capacity()), (0, 0));
-    Ok(())
+fn memory_for_parts_ends_with_the_longest_packet(rt: HostRuntime) {
+    passes(&rt, &65542, is_memory_enough(rt.alloc()));
 }
 
 #[test]
-fn faults_have_texts(rt: HostRuntime) -> Result<(), Fail> {
-    for (fault, text) in [
-        (SinkFault::Memory, "memory"),
-        (SinkFault::Device, "device"),
-        (SinkFault::Refused, "refused"),
-    ] {
-        assert_eq!(rt; format!(in rt.alloc(); "{fault}")?.as_str(), text);
+fn faults_have_texts(rt: HostRuntime) {
+    for (fault, text) in &SINK_FAULTS {
+        passes(&rt, text, is_text(rt.alloc(), fault, text));
     }
-    for (fault, text) in [
-        (FlowFault::Memory, "memory"),
-        (FlowFault::Sink(SinkFault::Refused), "sink: refused"),
-        (FlowFault::Failed, "failed"),
-    ] {
-        assert_eq!(rt; format!(in rt.alloc(); "{fault}")?.as_str(), text);
+    for (fault, text) in &FLOW_FAULTS {
+        passes(&rt, text, is_text(rt.alloc(), fault, text));
     }
-    Ok(())
 }

@@ -3,6 +3,7 @@
 pub mod cop;
 pub mod packets;
 pub mod recordings;
+pub mod rows;
 pub mod sinks;
 pub mod tc;
 pub mod tm;

@@ -4,12 +4,22 @@ mod fault;
 mod form;
 
 use crate::support::packets::{has, none};
-use crate::support::recordings::TM_FRAME;
+use crate::support::recordings::{TELEMETRY, TM_FRAME};
+use crate::support::rows::{Stop, passes};
 use crate::support::sinks::Counts;
-use crate::support::tm::{anomalies, counts, ended, extractor, form_of, held, step_of};
-use std::test::Fail;
+use crate::support::tm::{ended, extractor, held, is_form, step_of};
+use sl_packet::{Delivered, PacketSink};
+use sl_tmflow::Extractor;
+use std::alloc::Global;
 
-// Spacecraft 1, virtual channel 0, counts 0: a packet of 23 octets, and the first three of a packet of ten.
+// A packet of 23 octets.
+const OF_23: [u8; 23] = [
+    0x00, 0x02, 0xC0, 0x05, 0x00, 0x10, //
+    0x11, 0x11, 0x11, 0x11, 0x11, 0x11, 0x11, 0x11, 0x11, 0x11, 0x11, 0x11, 0x11, 0x11, 0x11, 0x11,
+    0x11,
+];
+
+// Spacecraft 1, virtual channel 0, counts 0: that packet, and the first three of a packet of ten.
 const BEGUN: [u8; 32] = [
     0x00, 0x10, 0x00, 0x00, 0x18, 0x00, //
     0x00, 0x02, 0xC0, 0x05, 0x00, 0x10, //
@@ -25,7 +35,7 @@ const IDLE: [u8; 32] = [
     0x55, 0x55, 0x55, 0x55, 0x55, 0x55, 0x55, 0x55, 0x55, 0x55,
 ];
 
-// Counts 2, first header pointer 7: the other octets of that packet, one of ten octets and an idle packet.
+// Counts 2, first header pointer 7: the other octets of that packet, `TELEMETRY` and an idle packet.
 const ENDED: [u8; 32] = [
     0x00, 0x10, 0x02, 0x02, 0x18, 0x07, //
     0x00, 0x00, 0x03, 0x01, 0x02, 0x03, 0x04, //
@@ -45,7 +55,19 @@ const FOREIGN: [u8; 32] = [
 // The packet of two frames.
 const SPLIT: [u8; 10] = [0x00, 0x03, 0xC0, 0x00, 0x00, 0x03, 0x01, 0x02, 0x03, 0x04];
 
-// The normal form of the two others.
+// The normal form of all three, and that of the two others.
+const THROUGH: [u8; 64] = [
+    0x00, 0x10, 0x00, 0x00, 0x18, 0x00, //
+    0x00, 0x02, 0xC0, 0x05, 0x00, 0x10, //
+    0x11, 0x11, 0x11, 0x11, 0x11, 0x11, 0x11, 0x11, 0x11, 0x11, 0x11, 0x11, 0x11, 0x11, 0x11, 0x11,
+    0x11, //
+    0x00, 0x03, 0xC0, //
+    0x00, 0x10, 0x01, 0x01, 0x18, 0x07, //
+    0x00, 0x00, 0x03, 0x01, 0x02, 0x03, 0x04, //
+    0x00, 0x01, 0xC0, 0x00, 0x00, 0x03, 0xAA, 0xBB, 0xCC, 0xDD, //
+    0x07, 0xFF, 0xC0, 0x00, 0x00, 0x02, 0x00, 0x00, 0x00,
+];
+
 const NORMAL_FORM: [u8; 64] = [
     0x00, 0x10, 0x00, 0x00, 0x18, 0x00, //
     0x00, 0x02, 0xC0, 0x05, 0x00, 0x10, //
@@ -57,72 +79,103 @@ const NORMAL_FORM: [u8; 64] = [
     0x07, 0xFF, 0xC0, 0x00, 0x00, 0x0C, 0, 0, 0, 0, 0, 0, 0, 0, 0, 0, 0, 0, 0,
 ];
 
-#[test]
-fn a_packet_goes_on_past_an_idle_frame(rt: HostRuntime) -> Result<(), Fail> {
-    let mut extractor = extractor(rt.alloc());
-    let mut delivered = none(rt.alloc());
-    for (frame, wanted) in [(&BEGUN, (1, 0)), (&IDLE, (0, 0)), (&ENDED, (2, 1))] {
-        assert_eq!(rt; ended(&mut extractor, frame, &mut delivered)?, wanted);
-    }
-    assert!(rt; has(&delivered, 0, &[&BEGUN[6..29], &SPLIT, &ENDED[13..23]]));
-    assert!(rt; has(&delivered, 1, &[]));
-    Ok(())
-}
+// A frame, and how many packets and idle ones end in it.
+type Frame<'a> = (&'a [u8; 32], (u32, u32));
 
-#[test]
-fn a_missing_frame_breaks_a_packet(rt: HostRuntime) -> Result<(), Fail> {
-    let mut extractor = extractor(rt.alloc());
-    let mut delivered = none(rt.alloc());
-    for (frame, wanted) in [(&BEGUN, (1, 0)), (&ENDED, (1, 1))] {
-        assert_eq!(rt; ended(&mut extractor, frame, &mut delivered)?, wanted);
-    }
-    assert!(rt; has(&delivered, 0, &[&BEGUN[6..29], &ENDED[13..23]]));
-    let form = form_of(rt.alloc(), &delivered)?;
-    assert_eq!(rt; form.as_slice(), &NORMAL_FORM[..]);
-    Ok(())
-}
+// Frames, the packets of virtual channel 0 that they bring, and the normal form of these.
+const BROUGHT: [(&str, &[Frame], &[&[u8]], &[u8]); 3] = [
+    (
+        "a packet that goes on past an idle frame",
+        &[(&BEGUN, (1, 0)), (&IDLE, (0, 0)), (&ENDED, (2, 1))],
+        &[&OF_23, &SPLIT, &TELEMETRY],
+        &THROUGH,
+    ),
+    (
+        "a missing frame that breaks a packet",
+        &[(&BEGUN, (1, 0)), (&ENDED, (1, 1))],
+        &[&OF_23, &TELEMETRY],
+        &NORMAL_FORM,
+    ),
+    (
+        "a packet of one frame",
+        &[(&TM_FRAME, (1, 1))],
+        &[&TELEMETRY],
+        &TM_FRAME,
+    ),
+];
 
 // A frame; the count expected where there is a gap, the octets that are dropped, and whether a start is of another
 // version; the packets and the idle ones that end in the frame; and the octets that are held after it.
 type Row<'a> = (&'a [u8; 32], (Option<u8>, u32, bool), (u32, u32), u32);
 
+// One frame after another.
+const AMISS: [Row; 6] = [
+    (&FOREIGN, (None, 0, true), (1, 0), 0),
+    (&BEGUN, (None, 0, false), (1, 0), 3),
+    (&ENDED, (Some(1), 3, false), (1, 1), 0),
+    (&FOREIGN, (Some(3), 0, true), (1, 0), 0),
+    // After count 255 count 0 is expected. An idle packet isn't foreign.
+    (&FOREIGN, (Some(0), 0, true), (1, 0), 0),
+    (&TM_FRAME, (None, 0, false), (1, 1), 0),
+];
+
+// Whether as many packets, and idle ones, end in each of these frames.
+fn end<S: PacketSink>(
+    extractor: &mut Extractor,
+    sink: &mut S,
+    frames: &[Frame],
+) -> Result<bool, Stop> {
+    for (frame, wanted) in frames {
+        if ended(extractor, frame, sink)? != *wanted {
+            return Ok(false);
+        }
+    }
+    Ok(true)
+}
+
+// Whether frames bring these packets of virtual channel 0 alone, with this normal form.
+fn bring(alloc: Global, frames: &[Frame], packets: &[&[u8]], form: &[u8]) -> Result<bool, Stop> {
+    let mut extractor = extractor(alloc);
+    let mut delivered = none(alloc);
+    let is_ended = end(&mut extractor, &mut delivered, frames)?;
+    let are_packets = has(&delivered, 0, packets) && has(&delivered, 1, &[]);
+    Ok(is_ended && are_packets && is_form(alloc, &delivered, form)?)
+}
+
 #[test]
-fn what_is_amiss_in_a_frame_is_told(rt: HostRuntime) -> Result<(), Fail> {
+fn packets_of_frames_and_their_normal_form(rt: HostRuntime) {
+    for (name, frames, packets, form) in &BROUGHT {
+        passes(&rt, name, bring(rt.alloc(), frames, packets, form));
+    }
+}
+
+// Whether this is told of a frame.
+fn is_told(extractor: &mut Extractor, sink: &mut Delivered, row: &Row) -> Result<bool, Stop> {
+    let (frame, amiss, counts, octets) = row;
+    let step = step_of(extractor, frame, sink)?;
+    let is_amiss = (step.gap(), step.dropped(), step.foreign()) == *amiss;
+    let is_counted = (step.packets(), step.idle()) == *counts;
+    Ok(is_amiss && is_counted && held(extractor, 0) == *octets && held(extractor, 1) == 0)
+}
+
+#[test]
+fn what_is_amiss_in_a_frame_is_told(rt: HostRuntime) {
     let mut extractor = extractor(rt.alloc());
     let mut delivered = none(rt.alloc());
-    let rows: [Row; 6] = [
-        (&FOREIGN, (None, 0, true), (1, 0), 0),
-        (&BEGUN, (None, 0, false), (1, 0), 3),
-        (&ENDED, (Some(1), 3, false), (1, 1), 0),
-        (&FOREIGN, (Some(3), 0, true), (1, 0), 0),
-        // After count 255 count 0 is expected. An idle packet isn't foreign.
-        (&FOREIGN, (Some(0), 0, true), (1, 0), 0),
-        (&TM_FRAME, (None, 0, false), (1, 1), 0),
-    ];
-    for (frame, amiss, wanted, octets) in rows {
-        let step = step_of(&mut extractor, frame, &mut delivered)?;
-        assert_eq!(rt; anomalies(&step), amiss);
-        assert_eq!(rt; counts(&step), wanted);
-        assert_eq!(rt; (held(&extractor, 0), held(&extractor, 1)), (octets, 0));
+    for row in &AMISS {
+        passes(&rt, row, is_told(&mut extractor, &mut delivered, row));
     }
-    Ok(())
 }
 
-#[test]
-fn a_packet_of_one_frame(rt: HostRuntime) -> Result<(), Fail> {
-    let mut extractor = extractor(rt.alloc());
-    let mut extracted = none(rt.alloc());
-    assert_eq!(rt; ended(&mut extractor, &TM_FRAME, &mut extracted)?, (1, 1));
-    assert!(rt; has(&extracted, 0, &[&TM_FRAME[6..16]]));
-    Ok(())
-}
-
-// Packets that lie in their frame are handed over from there.
-#[test]
-fn packets_of_one_frame_take_no_memory(rt: HostRuntime) -> Result<(), Fail> {
-    let mut extractor = extractor(rt.alloc());
+// Whether a packet that lies in its frame is handed over from there.
+fn is_handed_over(alloc: Global) -> Result<bool, Stop> {
+    let mut extractor = extractor(alloc);
     let mut sink = Counts { packets: 0 };
-    assert_eq!(rt; ended(&mut extractor, &TM_FRAME, &mut sink)?, (1, 1));
-    assert_eq!(rt; sink.packets, 1);
-    Ok(())
+    let ended = ended(&mut extractor, &TM_FRAME, &mut sink)?;
+    Ok(ended == (1, 1) && sink.packets == 1)
+}
+
+#[test]
+fn packets_of_one_frame_take_no_memory(rt: HostRuntime) {
+    passes(&rt, &TM_FRAME, is_handed_over(rt.alloc()));
 }

@@ -13,6 +13,7 @@ mod normalise;
 mod normalise_tc;
 mod parts;
 mod program;
+mod same;
 mod show;
 mod show_tc;
 mod support;

@@ -1,11 +1,27 @@
 //! Packets that are handed over, and kept by channel.
 ghost use Rattle.std.specs.Prelude.{◌≡◌, ◌++◌};
 
-use super::OCTETS;
+use super::{OCTETS, REST};
 use crate::support::packets::{at_or_above, fits_tm, hand, has, none};
 use crate::support::recordings::{LEAST, TELEMETRY};
+use crate::support::rows::{Stop, holds, passes};
 use sl_packet::{Delivered, PacketSink, SinkFault, first_packet, is_idle};
-use std::test::Fail;
+use std::alloc::Global;
+use std::process::Abort;
+
+// Channels, and the least one from there on that has packets, where 3 and 4095 have.
+const AT_OR_ABOVE: [(u16, Option<u16>); 4] = [
+    (0, Some(3)),
+    (4, Some(4095)),
+    (4095, Some(4095)),
+    (4096, None),
+];
+
+// Channels, and their packets.
+const KEPT: [(u16, &[&[u8]]); 4] = [(3, &[&TELEMETRY]), (4095, &[&LEAST]), (0, &[]), (5000, &[])];
+
+// Channels, and whether they are virtual channels of telemetry.
+const CHANNELS: [(u16, bool); 4] = [(0, true), (7, true), (8, false), (4095, false)];
 
 // Hands over the packet at the front of the octets.
 fn keep(delivered: &mut Delivered, channel: u16, octets: &[u8]) -> Result<(), SinkFault> {
@@ -15,46 +31,56 @@ fn keep(delivered: &mut Delivered, channel: u16, octets: &[u8]) -> Result<(), Si
     }
 }
 
-#[test]
-fn delivered_packets_are_kept_by_channel(rt: HostRuntime) -> Result<(), Fail> {
-    let mut delivered = none(rt.alloc());
-    assert_eq!(rt; at_or_above(&delivered, 0), None);
-    assert_eq!(rt; keep(&mut delivered, 3, &TELEMETRY), Ok(()));
-    assert_eq!(rt; keep(&mut delivered, 4095, &LEAST), Ok(()));
-    assert!(rt; has(&delivered, 3, &[&TELEMETRY]));
-    assert!(rt; has(&delivered, 4095, &[&LEAST]));
-    assert!(rt; has(&delivered, 0, &[]));
-    assert!(rt; has(&delivered, 5000, &[]));
-    for (channel, least) in [
-        (0, Some(3)),
-        (4, Some(4095)),
-        (4095, Some(4095)),
-        (4096, None),
-    ] {
-        assert_eq!(rt; at_or_above(&delivered, channel), least, "at {channel}");
+fn kept(alloc: Global) -> Result<Delivered, SinkFault> {
+    let mut delivered = none(alloc);
+    keep(&mut delivered, 3, &TELEMETRY)?;
+    keep(&mut delivered, 4095, &LEAST)?;
+    Ok(delivered)
+}
+
+// Each channel has its packets, and is found. Without any packets there is none.
+fn are_kept(rt: &impl Abort, alloc: Global) -> Result<bool, Stop> {
+    let delivered = kept(alloc)?;
+    for (channel, packets) in &KEPT {
+        holds(rt, channel, has(&delivered, *channel, packets));
     }
-    Ok(())
+    for (channel, least) in &AT_OR_ABOVE {
+        holds(rt, channel, at_or_above(&delivered, *channel) == *least);
+    }
+    Ok(at_or_above(&none(alloc), 0).is_none())
 }
 
 #[test]
-fn only_channels_0_to_7_fit_telemetry(rt: HostRuntime) -> Result<(), Fail> {
-    for (channel, fits) in [(0, true), (7, true), (8, false), (4095, false)] {
-        let mut delivered = none(rt.alloc());
-        assert!(rt; fits_tm(&delivered));
-        keep(&mut delivered, channel, &TELEMETRY)?;
-        assert_eq!(rt; fits_tm(&delivered), fits, "at {channel}");
-    }
-    Ok(())
+fn delivered_packets_are_kept_by_channel(rt: HostRuntime) {
+    passes(&rt, &"no packets", are_kept(&rt, rt.alloc()));
+}
+
+// Whether no packets are of telemetry alone, and one of this channel is or isn't.
+fn fit(alloc: Global, channel: u16, wanted: bool) -> Result<bool, Stop> {
+    let mut delivered = none(alloc);
+    let before = fits_tm(&delivered);
+    keep(&mut delivered, channel, &TELEMETRY)?;
+    Ok(before && fits_tm(&delivered) == wanted)
 }
 
 #[test]
-fn idle_packets_are_not_handed_over(rt: HostRuntime) -> Result<(), Fail> {
-    let mut delivered = none(rt.alloc());
+fn only_channels_0_to_7_fit_telemetry(rt: HostRuntime) {
+    for (channel, fits) in &CHANNELS {
+        passes(&rt, channel, fit(rt.alloc(), *channel, *fits));
+    }
+}
+
+// Whether two packets are handed over, the idle one is not, and the other octets are left.
+fn is_handed_over(alloc: Global) -> Result<bool, Stop> {
+    let mut delivered = none(alloc);
     let handed = hand(&mut delivered, 5, &OCTETS)?;
-    assert_eq!(rt; (handed.packets, handed.idle), (2, 1));
-    assert_eq!(rt; handed.remainder, &[0x00, 0x03, 0xC0][..]);
-    assert!(rt; has(&delivered, 5, &[&TELEMETRY, &LEAST]));
-    Ok(())
+    let is_counted = handed.packets == 2 && handed.idle == 1 && handed.remainder == REST.as_slice();
+    Ok(is_counted && has(&delivered, 5, &[&TELEMETRY, &LEAST]))
+}
+
+#[test]
+fn idle_packets_are_not_handed_over(rt: HostRuntime) {
+    passes(&rt, &OCTETS, is_handed_over(rt.alloc()));
 }
 
 // A sink that takes one packet and refuses all others.
@@ -82,16 +108,20 @@ impl PacketSink for OnlyOne {
     }
 }
 
+// Whether a refused packet stops what is handed over, and the one before it is kept.
+fn stops(sink: &mut OnlyOne) -> bool {
+    hand(sink, 9, &OCTETS).err() == Some(SinkFault::Refused)
+        && sink.channel == 9
+        && sink.refused == 1
+        && sink.octets.as_slice() == &TELEMETRY[..]
+}
+
 #[test]
-fn a_refused_packet_stops_what_is_handed_over(rt: HostRuntime) -> Result<(), Fail> {
+fn a_refused_packet_stops_what_is_handed_over(rt: HostRuntime) {
     let mut sink = OnlyOne {
         channel: 0,
         octets: Vec::new(rt.alloc()),
         refused: 0,
     };
-    let fault = hand(&mut sink, 9, &OCTETS).err();
-    assert_eq!(rt; fault, Some(SinkFault::Refused));
-    assert_eq!(rt; (sink.channel, sink.refused), (9, 1));
-    assert_eq!(rt; sink.octets.as_slice(), &TELEMETRY[..]);
-    Ok(())
+    holds(&rt, &OCTETS, stops(&mut sink));
 }

@@ -23,8 +23,22 @@ pub const TM_FRAME: [u8; 32] = [
     0x07, 0xFF, 0xC0, 0x00, 0x00, 0x09, 0, 0, 0, 0, 0, 0, 0, 0, 0, 0,
 ];
 
+/// Its data field.
+pub const TM_FIELD: [u8; 26] = [
+    0x00, 0x01, 0xC0, 0x00, 0x00, 0x03, 0xAA, 0xBB, 0xCC, 0xDD, //
+    0x07, 0xFF, 0xC0, 0x00, 0x00, 0x09, 0, 0, 0, 0, 0, 0, 0, 0, 0, 0,
+];
+
 /// A TC frame of spacecraft 1, virtual channel 0, type AD and N(S) 0: an unsegmented unit on MAP 0 that is one packet.
 pub const TC_FRAME: [u8; 16] = [
     0x00, 0x01, 0x00, 0x0F, 0x00, 0xC0, //
     0x10, 0x01, 0xC0, 0x00, 0x00, 0x03, 0xAA, 0xBB, 0xCC, 0xDD,
 ];
+
+/// A TM frame of 32 octets with an error control field.
+pub fn protected(frame: &[u8; 32], fecf: &[u8; 2]) -> [u8; 34] {
+    let mut whole = [0; 34];
+    whole[..32].copy_from_slice(frame);
+    whole[32..].copy_from_slice(fecf);
+    whole
+}

@@ -3,27 +3,6 @@ ghost use Rattle.std.specs.Prelude.{◌≡◌, ⊤};
 
 use sl_packet::{PacketSink, SinkFault};
 
-/// Refuses each packet.
-#[derive(Drop)]
-pub struct Refuses {
-    pub refused: u64,
-}
-
-impl PacketSink for Refuses {
-    ghost use Rattle.sl_packet.specs.declared.sink.SinkFault.TheVariants.{Refused};
-
-    ghost taking = { λ old channel packet new. ⊥ };
-
-    ghost failing = { λ old channel packet fault new. fault ≡ Refused };
-
-    ghost failures = { λ sink. sink.refused };
-
-    fn packet(&mut self, _channel: u16, _p: &[u8]) -> Result<(), SinkFault> {
-        self.refused = self.refused.saturating_add(1);
-        Err(SinkFault::Refused)
-    }
-}
-
 /// Keeps only how many packets it was handed.
 #[derive(Drop)]
 pub struct Counts {

@@ -3,33 +3,29 @@ ghost use Rattle.std.specs.Prelude.{◌≤◌};
 
 use super::cop;
 use super::packets::delivered_of;
+use super::rows::Stop;
 use sl_cop::{Starts, Verdict};
-use sl_fields::ShapeFault;
 use sl_packet::{Delivered, FlowFault, PacketSink};
 use sl_tcflow::{Receiver, TcStep, fits_tc, reframe_tc};
 use sl_tcframe::{TcFrame, TcShape, TcSkip, VcSet};
 use std::alloc::Global;
-use std::test::Fail;
 
 /// Frames of at most this length, with error control or without.
-pub fn shape(max: u16, fecf: bool) -> Result<TcShape, ShapeFault> {
-    TcShape::new(max, fecf)
+pub fn shape(max: u16, fecf: bool) -> Result<TcShape, Stop> {
+    TcShape::new(max, fecf).or(Err(Stop::Absent))
 }
 
 /// What is read for spacecraft 1 of octets that have to be one frame.
-pub fn read<'a>(
-    shape: &TcShape,
-    octets: &'a [u8],
-) -> Result<Result<TcFrame<'a>, TcSkip>, &'static str> {
+pub fn read<'a>(shape: &TcShape, octets: &'a [u8]) -> Result<Result<TcFrame<'a>, TcSkip>, Stop> {
     if !shape.is_cut(octets) {
-        return Err("not one frame");
+        return Err(Stop::Absent);
     }
     Ok(TcFrame::read(shape, 1, octets))
 }
 
 /// The frame of spacecraft 1 that octets are.
-pub fn frame<'a>(shape: &TcShape, octets: &'a [u8]) -> Result<TcFrame<'a>, &'static str> {
-    read(shape, octets)?.or(Err("skipped"))
+pub fn frame<'a>(shape: &TcShape, octets: &'a [u8]) -> Result<TcFrame<'a>, Stop> {
+    read(shape, octets)?.or(Err(Stop::Absent))
 }
 
 /// No virtual channels.
@@ -44,35 +40,46 @@ pub fn with_channel(channels: &VcSet, vc: u8) -> VcSet
     channels.with(vc)
 }
 
+/// The set of these virtual channels.
+pub fn set_of(channels: &[u8]) -> VcSet {
+    let mut set = no_channels();
+    for vc in channels {
+        if *vc <= 63 {
+            set = with_channel(&set, *vc);
+        }
+    }
+    set
+}
+
 /// A receiver with a window of 10, the same V(R) on all virtual channels, and segment headers on each.
-pub fn receiver(alloc: Global, vr: u8) -> Result<Receiver, Fail> {
+pub fn receiver(alloc: Global, vr: u8) -> Result<Receiver, Stop> {
     receiver_with(alloc, &cop::all(vr), no_channels())
 }
 
 /// The same with these V(R), and without segment headers on these virtual channels.
-pub fn receiver_with(alloc: Global, starts: &Starts, plain: VcSet) -> Result<Receiver, Fail> {
-    let window = cop::window(10).ok_or("no window")?;
+pub fn receiver_with(alloc: Global, starts: &Starts, plain: VcSet) -> Result<Receiver, Stop> {
+    let window = cop::window(10).ok_or(Stop::Absent)?;
     Ok(Receiver::new(alloc, window, starts, plain))
 }
 
-/// What a receiver answers to a frame.
+/// What a receiver answers to a frame of spacecraft 1.
 pub fn take<S: PacketSink>(
     receiver: &mut Receiver,
-    frame: &TcFrame,
+    octets: &[u8],
     sink: &mut S,
-) -> Result<TcStep, FlowFault> {
-    receiver.frame(frame, sink)
+) -> Result<Result<TcStep, FlowFault>, Stop> {
+    let shape = shape(1024, false)?;
+    let frame = frame(&shape, octets)?;
+    Ok(receiver.frame(&frame, sink))
 }
 
-/// What a frame of spacecraft 1 brought.
+/// What such a frame brought.
 pub fn step_of<S: PacketSink>(
     receiver: &mut Receiver,
     octets: &[u8],
     sink: &mut S,
-) -> Result<TcStep, Fail> {
-    let shape = shape(1024, false)?;
-    let frame = frame(&shape, octets)?;
-    Ok(take(receiver, &frame, sink)?)
+) -> Result<TcStep, Stop> {
+    Ok(take(receiver, octets, sink)??)
 }
 
 /// The verdict on a frame, and the packets and the idle ones that end with its unit.
@@ -80,8 +87,8 @@ pub fn counts(step: &TcStep) -> (Verdict, u32, u32) {
     (step.verdict(), step.packets(), step.idle())
 }
 
-/// What is amiss with a unit: whether it is out of sequence, how many octets of an incomplete series are dropped, whether
-/// its series is too long, and how many octets are left after its packets.
+/// What is amiss with a unit: whether it is out of sequence, how many octets of an incomplete series are dropped,
+/// whether its series is too long, and how many octets are left after its packets.
 pub fn anomalies(step: &TcStep) -> (bool, Option<u32>, bool, u32) {
     (step.stray(), step.dropped(), step.long(), step.tail())
 }
@@ -91,7 +98,7 @@ pub fn received<S: PacketSink>(
     receiver: &mut Receiver,
     octets: &[u8],
     sink: &mut S,
-) -> Result<(Verdict, u32, u32), Fail> {
+) -> Result<(Verdict, u32, u32), Stop> {
     let step = step_of(receiver, octets, sink)?;
     Ok(counts(&step))
 }
@@ -101,7 +108,7 @@ pub fn amiss<S: PacketSink>(
     receiver: &mut Receiver,
     octets: &[u8],
     sink: &mut S,
-) -> Result<(bool, Option<u32>, bool, u32), Fail> {
+) -> Result<(bool, Option<u32>, bool, u32), Stop> {
     let step = step_of(receiver, octets, sink)?;
     Ok(anomalies(&step))
 }
@@ -121,33 +128,30 @@ pub fn held(receiver: &Receiver, vc: u8, map: u8) -> (u32, bool)
     (receiver.held(vc, map), receiver.is_open(vc, map))
 }
 
-/// Whether each packet fits its frames.
-pub fn fits(shape: &TcShape, plain: &VcSet, delivered: &Delivered) -> bool {
-    fits_tc(shape, plain, delivered)
-}
-
-/// The normal form of packets on their channels, of spacecraft 1, with the same V(R) on all virtual channels and segment
-/// headers on each.
+/// The normal form of packets on their channels, of spacecraft 1, with these V(R), and without segment headers on these
+/// virtual channels.
 pub fn form_of(
-    alloc: Global,
-    shape: &TcShape,
-    vr: u8,
-    packets: &[(u16, &[u8])],
-) -> Result<Vec<u8>, Fail> {
-    form_with(alloc, shape, &cop::all(vr), &no_channels(), packets)
-}
-
-/// The same with these V(R), and without segment headers on these virtual channels.
-pub fn form_with(
     alloc: Global,
     shape: &TcShape,
     starts: &Starts,
     plain: &VcSet,
     packets: &[(u16, &[u8])],
-) -> Result<Vec<u8>, Fail> {
+) -> Result<Vec<u8>, Stop> {
     let delivered = delivered_of(alloc, packets)?;
     if !fits_tc(shape, plain, &delivered) {
-        return Err(Fail::from("no such frames"));
+        return Err(Stop::Absent);
     }
     Ok(reframe_tc(alloc, shape, 1, starts, plain, &delivered)?)
+}
+
+/// Whether that of frames of at most this length, with error control or without, is this one.
+pub fn is_form(
+    alloc: Global,
+    (max, fecf): (u16, bool),
+    (starts, plain): (&Starts, &VcSet),
+    packets: &[(u16, &[u8])],
+    wanted: &[u8],
+) -> Result<bool, Stop> {
+    let form = form_of(alloc, &shape(max, fecf)?, starts, plain, packets)?;
+    Ok(form.as_slice() == wanted)
 }

@@ -1,10 +1,17 @@
 //! What is amiss with the units of frames of known octets, and what is held after them.
 use super::long_series::segments_received;
-use super::{DIVIDED, ON_TWO_MAPS};
+use super::{
+    AGAIN_ON_2, FIRST_OF_3, FIRST_ON_1, FIRST_ON_2, LAST_OF_3, LAST_ON_1, LAST_ON_2, MIDDLE_OF_3,
+    STRAY_ON_1,
+};
 use crate::support::packets::{has, longest, none};
-use crate::support::recordings::LEAST;
+use crate::support::recordings::{LEAST, LONGER};
+use crate::support::rows::{Stop, passes};
 use crate::support::tc::{amiss, held, receiver};
-use std::test::Fail;
+use sl_packet::Delivered;
+use sl_tcflow::Receiver;
+use std::alloc::Global;
+use std::process::Abort;
 
 // A first segment without octets.
 const EMPTY_FIRST: [u8; 6] = [0x00, 0x01, 0x00, 0x05, 0x00, 0x40];
@@ -18,68 +25,100 @@ const WITH_TAIL: [u8; 14] = [
 // A last segment of one octet, in a frame of type BD.
 const LAST_BYPASSING: [u8; 7] = [0x20, 0x01, 0x00, 0x06, 0x00, 0x80, 0x33];
 
-#[test]
-fn what_is_amiss_is_told(rt: HostRuntime) -> Result<(), Fail> {
-    let mut receiver = receiver(rt.alloc(), 0)?;
-    let mut delivered = none(rt.alloc());
-    let told = [
-        (true, None, false, 0),
-        (false, None, false, 0),
-        (false, None, false, 0),
-        (false, None, false, 0),
-        (false, Some(4), false, 0),
-        (false, None, false, 0),
-    ];
-    for (frame, told) in ON_TWO_MAPS.iter().zip(told) {
-        assert_eq!(rt; amiss(&mut receiver, frame, &mut delivered)?, told);
+// A frame; what is amiss with its unit; and a virtual channel, a MAP, and what is held there after it.
+type Frame<'a> = (
+    &'a [u8],
+    (bool, Option<u32>, bool, u32),
+    (u8, u8, (u32, bool)),
+);
+
+// The frame of that segment after the most octets that a series may have.
+const TOO_LONG: Frame = (&LAST_BYPASSING, (false, None, true, 0), (0, 0, (0, false)));
+
+// Frames one after another, and the packets of a channel then.
+const SERIES: [(&str, &[Frame], (u16, &[&[u8]])); 5] = [
+    (
+        "no frame, and a first segment without octets",
+        &[(&EMPTY_FIRST, (false, None, false, 0), (0, 0, (0, true)))],
+        (0, &[]),
+    ),
+    (
+        "no octets on another channel",
+        &[(&EMPTY_FIRST, (false, None, false, 0), (63, 63, (0, false)))],
+        (0, &[]),
+    ),
+    (
+        "series on two MAPs",
+        &[
+            (STRAY_ON_1, (true, None, false, 0), (0, 1, (0, false))),
+            (FIRST_ON_1, (false, None, false, 0), (0, 1, (5, true))),
+            (FIRST_ON_2, (false, None, false, 0), (0, 2, (4, true))),
+            (LAST_ON_1, (false, None, false, 0), (0, 1, (0, false))),
+            (AGAIN_ON_2, (false, Some(4), false, 0), (0, 2, (5, true))),
+            (LAST_ON_2, (false, None, false, 0), (0, 2, (0, false))),
+        ],
+        (2, &[&LEAST]),
+    ),
+    (
+        "a packet in three segments",
+        &[
+            (FIRST_OF_3, (false, None, false, 0), (5, 0, (10, true))),
+            (MIDDLE_OF_3, (false, None, false, 0), (5, 0, (20, true))),
+            (LAST_OF_3, (false, None, false, 0), (5, 0, (0, false))),
+        ],
+        (320, &[&LONGER]),
+    ),
+    (
+        "an octet that is left",
+        &[(&WITH_TAIL, (false, None, false, 1), (0, 0, (0, false)))],
+        (0, &[&LEAST]),
+    ),
+];
+
+// Whether that is so of a frame.
+fn is_told(receiver: &mut Receiver, delivered: &mut Delivered, row: &Frame) -> Result<bool, Stop> {
+    let (frame, told, (vc, map, octets)) = row;
+    if *vc > 63 || *map > 63 {
+        return Err(Stop::Absent);
     }
-    Ok(())
+    let amiss = amiss(receiver, frame, delivered)?;
+    Ok(amiss == *told && held(receiver, *vc, *map) == *octets)
 }
 
-#[test]
-fn a_series_may_have_no_octets(rt: HostRuntime) -> Result<(), Fail> {
-    let mut receiver = receiver(rt.alloc(), 0)?;
-    let mut delivered = none(rt.alloc());
-    assert_eq!(rt; held(&receiver, 0, 0), (0, false));
-    let told = amiss(&mut receiver, &EMPTY_FIRST, &mut delivered)?;
-    assert_eq!(rt; told, (false, None, false, 0));
-    assert_eq!(rt; held(&receiver, 0, 0), (0, true));
-    assert_eq!(rt; held(&receiver, 63, 63), (0, false));
-    Ok(())
-}
-
-#[test]
-fn octets_are_held(rt: HostRuntime) -> Result<(), Fail> {
-    let mut receiver = receiver(rt.alloc(), 0)?;
-    let mut delivered = none(rt.alloc());
-    for (frame, octets) in DIVIDED.iter().zip([10, 20, 0]) {
-        let told = amiss(&mut receiver, frame, &mut delivered)?;
-        assert_eq!(rt; told, (false, None, false, 0));
-        assert_eq!(rt; held(&receiver, 5, 0), (octets, octets != 0));
+// Whether nothing is held before the frames, and the packets are these after them.
+fn is_series(
+    rt: &impl Abort,
+    alloc: Global,
+    frames: &[Frame],
+    (channel, packets): (u16, &[&[u8]]),
+) -> Result<bool, Stop> {
+    let mut receiver = receiver(alloc, 0)?;
+    let mut delivered = none(alloc);
+    let is_empty = held(&receiver, 0, 0) == (0, false);
+    for row in frames {
+        passes(rt, row, is_told(&mut receiver, &mut delivered, row));
     }
-    Ok(())
+    Ok(is_empty && has(&delivered, channel, packets))
 }
 
 #[test]
-fn octets_are_left(rt: HostRuntime) -> Result<(), Fail> {
-    let mut receiver = receiver(rt.alloc(), 0)?;
-    let mut delivered = none(rt.alloc());
-    let told = amiss(&mut receiver, &WITH_TAIL, &mut delivered)?;
-    assert_eq!(rt; told, (false, None, false, 1));
-    assert!(rt; has(&delivered, 0, &[&LEAST]));
-    Ok(())
+fn what_is_amiss_is_told(rt: HostRuntime) {
+    for (name, frames, packets) in &SERIES {
+        passes(&rt, name, is_series(&rt, rt.alloc(), frames, *packets));
+    }
 }
 
-// A series of as many octets as one may have, and then a last segment of one octet more.
+// Whether a series of as many octets as one may have is too long with a last segment of one octet more.
+fn is_too_long(alloc: Global) -> Result<bool, Stop> {
+    let most = longest(alloc)?;
+    let mut receiver = receiver(alloc, 0)?;
+    let mut delivered = none(alloc);
+    segments_received(alloc, &mut receiver, &most, 0, &mut delivered)?;
+    let is_held = held(&receiver, 0, 0) == (65542, true);
+    Ok(is_held && is_told(&mut receiver, &mut delivered, &TOO_LONG)?)
+}
+
 #[test]
-fn a_series_is_too_long(rt: HostRuntime) -> Result<(), Fail> {
-    let most = longest(rt.alloc())?;
-    let mut receiver = receiver(rt.alloc(), 0)?;
-    let mut delivered = none(rt.alloc());
-    segments_received(rt.alloc(), &mut receiver, &most, 0, &mut delivered)?;
-    assert_eq!(rt; held(&receiver, 0, 0), (65542, true));
-    let told = amiss(&mut receiver, &LAST_BYPASSING, &mut delivered)?;
-    assert_eq!(rt; told, (false, None, true, 0));
-    assert_eq!(rt; held(&receiver, 0, 0), (0, false));
-    Ok(())
+fn a_series_is_too_long(rt: HostRuntime) {
+    passes(&rt, &TOO_LONG, is_too_long(rt.alloc()));
 }

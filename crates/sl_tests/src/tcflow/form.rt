@@ -2,12 +2,11 @@
 use crate::support::cop::all;
 use crate::support::packets::{delivered_of, longest};
 use crate::support::recordings::{COMMAND, LEAST};
-use crate::support::tc::{form_of, no_channels, shape};
+use crate::support::rows::{Stop, passes};
+use crate::support::tc::{is_form, no_channels, shape};
 use sl_packet::Delivered;
 use sl_tcflow::{PIECE_ROOM, TcForm, fits_tc};
-use sl_tcframe::TcShape;
-use std::alloc::AllocError;
-use std::test::Fail;
+use std::alloc::{AllocError, Global};
 
 // Packets on the first two MAPs of virtual channel 0, and on the first and the last virtual channel after it.
 const PACKETS: [(u16, &[u8]); 6] = [
@@ -22,47 +21,68 @@ const PACKETS: [(u16, &[u8]); 6] = [
 // Octets of the frames of each, of 16 octets at most.
 const LENS: [usize; 6] = [13, 16, 13, 16, 13, 16];
 
-// The form with segment headers on each virtual channel, and the same V(R).
-fn pieces_of<'d>(shape: &TcShape, vr: u8, delivered: &'d Delivered) -> Result<TcForm<'d>, Fail> {
+// The form in frames of at most 16 octets, with segment headers on each virtual channel, and the same V(R).
+fn pieces_of<'d>(fecf: bool, vr: u8, delivered: &'d Delivered) -> Result<TcForm<'d>, Stop> {
+    let shape = shape(16, fecf)?;
     let plain = no_channels();
-    if !fits_tc(shape, &plain, delivered) {
-        return Err(Fail::from("no such frames"));
+    if !fits_tc(&shape, &plain, delivered) {
+        return Err(Stop::Absent);
     }
-    Ok(TcForm::new(*shape, 1, all(vr), plain, delivered))
+    Ok(TcForm::new(shape, 1, all(vr), plain, delivered))
 }
 
-fn next(pieces: &mut TcForm, form: &mut Vec<u8>) -> Result<bool, AllocError> {
-    pieces.next(form)
+// Adds the next piece to the form: whether it has this number of octets.
+fn add_next(
+    alloc: Global,
+    pieces: &mut TcForm,
+    len: usize,
+    form: &mut Vec<u8>,
+) -> Result<bool, AllocError> {
+    let mut piece = Vec::with_capacity(alloc, PIECE_ROOM)?;
+    let is_there = pieces.next(&mut piece)?;
+    form.extend_from_slice(&piece)?;
+    Ok(is_there && piece.len() == len)
+}
+
+// Adds all pieces: whether they have these numbers of octets, and there are no more, however often one asks.
+fn add_pieces(
+    alloc: Global,
+    pieces: &mut TcForm,
+    lens: &[usize],
+    form: &mut Vec<u8>,
+) -> Result<bool, AllocError> {
+    for len in lens {
+        if !add_next(alloc, pieces, *len, form)? {
+            return Ok(false);
+        }
+    }
+    Ok(!pieces.next(form)? && !pieces.next(form)?)
+}
+
+fn are_form(alloc: Global) -> Result<bool, Stop> {
+    let delivered = delivered_of(alloc, &PACKETS)?;
+    let mut pieces = pieces_of(false, 254, &delivered)?;
+    let mut form = Vec::new(alloc);
+    let are_all = add_pieces(alloc, &mut pieces, &LENS, &mut form)?;
+    let channels = (&all(254), &no_channels());
+    Ok(are_all && is_form(alloc, (16, false), channels, &PACKETS, &form)?)
 }
 
 #[test]
-fn pieces_are_the_form(rt: HostRuntime) -> Result<(), Fail> {
-    let shape = shape(16, false)?;
-    let delivered = delivered_of(rt.alloc(), &PACKETS)?;
-    let mut pieces = pieces_of(&shape, 254, &delivered)?;
-    let mut form = Vec::new(rt.alloc());
-    for len in &LENS {
-        let mut piece = Vec::with_capacity(rt.alloc(), PIECE_ROOM)?;
-        assert!(rt; next(&mut pieces, &mut piece)?);
-        assert_eq!(rt; piece.len(), *len);
-        form.extend_from_slice(&piece)?;
-    }
-    assert!(rt; !next(&mut pieces, &mut form)?);
-    assert!(rt; !next(&mut pieces, &mut form)?);
-    let whole = form_of(rt.alloc(), &shape, 254, &PACKETS)?;
-    assert_eq!(rt; form.as_slice(), whole.as_slice());
-    Ok(())
+fn pieces_are_the_form(rt: HostRuntime) {
+    passes(&rt, &LENS, are_form(rt.alloc()));
+}
+
+fn is_longest_piece(alloc: Global, len: usize) -> Result<bool, Stop> {
+    let longest = longest(alloc)?;
+    let delivered = delivered_of(alloc, &[(0, &longest)])?;
+    let mut pieces = pieces_of(true, 0, &delivered)?;
+    let mut form = Vec::new(alloc);
+    Ok(add_pieces(alloc, &mut pieces, &[len], &mut form)?)
 }
 
 // A packet of 65,542 octets in frames that have room for 8 octets each: the longest piece that there is.
 #[test]
-fn the_longest_piece_has_room(rt: HostRuntime) -> Result<(), Fail> {
-    let longest = longest(rt.alloc())?;
-    let delivered = delivered_of(rt.alloc(), &[(0, &longest)])?;
-    let mut pieces = pieces_of(&shape(16, true)?, 0, &delivered)?;
-    let mut piece = Vec::with_capacity(rt.alloc(), PIECE_ROOM)?;
-    assert!(rt; next(&mut pieces, &mut piece)?);
-    assert_eq!(rt; piece.len(), 131_086);
-    assert!(rt; !next(&mut pieces, &mut piece)?);
-    Ok(())
+fn the_longest_piece_has_room(rt: HostRuntime) {
+    passes(&rt, &131_086, is_longest_piece(rt.alloc(), 131_086));
 }

@@ -1,5 +1,6 @@
 //! Series of segments up to the greatest service data unit and past it.
-use crate::support::packets::{at_or_above, has, longest, longest_and_more, none};
+use crate::support::packets::{at_or_above, has, longest_and_more, none};
+use crate::support::rows::{Stop, passes};
 use crate::support::tc::{held, received, receiver, shape};
 use sl_cop::Verdict;
 use sl_fields::SegmentHeader;
@@ -7,16 +8,76 @@ use sl_packet::Delivered;
 use sl_tcflow::Receiver;
 use sl_tcframe::push_tc;
 use std::alloc::Global;
-use std::test::Fail;
+use std::process::Abort;
+
+// A segment that comes later: the number of its frame, its flags and octets; the packets that end with it, and what is
+// held then.
+type Later<'a> = (usize, u8, &'a [u8], u32, (u32, bool));
+
+// The octets of a series in segments of ten, and the flags of its last segment: the packets that end with this segment,
+// and what is held then. Segments that come later. Whether the longest packet is delivered; if not, nothing is.
+type Series<'a> = (
+    &'a str,
+    usize,
+    u8,
+    (u32, (u32, bool)),
+    &'a [Later<'a>],
+    bool,
+);
+
+const SERIES: [Series; 4] = [
+    ("a longest packet", 65542, 2, (1, (0, false)), &[], true),
+    (
+        "one octet more, with which it is given up",
+        65543,
+        2,
+        (0, (0, false)),
+        &[],
+        false,
+    ),
+    (
+        "the most octets, and a last segment of none",
+        65542,
+        0,
+        (0, (65542, true)),
+        &[(6555, 2, &[], 1, (0, false))],
+        true,
+    ),
+    (
+        "the most octets, and a last segment of one",
+        65542,
+        0,
+        (0, (65542, true)),
+        &[(6555, 2, &[0x33], 0, (0, false))],
+        false,
+    ),
+];
+
+// Of 6,556 segments the last but one gives the series up, and the last one ends none. Its ten octets alone would be a
+// packet and three more.
+const ZEROS_LEN: usize = 65540;
+
+const ZEROS: Series = (
+    "zeros",
+    ZEROS_LEN,
+    0,
+    (0, (65540, true)),
+    &[
+        (6554, 0, &[0; 10], 0, (0, false)),
+        (6555, 2, &[0; 10], 0, (0, false)),
+    ],
+    false,
+);
 
 // A frame of type AD on virtual channel 0, of a segment of MAP 0 of at most ten octets.
-fn segment(alloc: Global, ns: u8, flags: u8, octets: &[u8]) -> Result<Vec<u8>, Fail> {
+fn segment(alloc: Global, ns: u8, flags: u8, octets: &[u8]) -> Result<Vec<u8>, Stop> {
     let shape = shape(16, false)?;
-    let header = SegmentHeader::new(flags, 0).ok_or("no header")?;
+    let header = SegmentHeader::new(flags, 0).ok_or(Stop::Absent)?;
     let mut frame = Vec::new(alloc);
-    if octets.len() <= usize::from(shape.room()) {
-        push_tc(&mut frame, &shape, 1, 0, ns, header, octets)?;
+    if octets.len() > usize::from(shape.room()) {
+        return Err(Stop::Absent);
     }
+    push_tc(&mut frame, &shape, 1, 0, ns, header, octets)?;
     Ok(frame)
 }
 
@@ -25,13 +86,10 @@ fn segment(alloc: Global, ns: u8, flags: u8, octets: &[u8]) -> Result<Vec<u8>, F
 fn segment_received(
     alloc: Global,
     receiver: &mut Receiver,
-    number: usize,
-    flags: u8,
-    octets: &[u8],
+    (number, flags, octets): (usize, u8, &[u8]),
     delivered: &mut Delivered,
-) -> Result<(Verdict, u32, u32), Fail> {
-    let ns = (number % 256) as u8;
-    let frame = segment(alloc, ns, flags, octets)?;
+) -> Result<(Verdict, u32, u32), Stop> {
+    let frame = segment(alloc, (number % 256) as u8, flags, octets)?;
     received(receiver, &frame, delivered)
 }
 
@@ -42,7 +100,7 @@ pub fn segments_received(
     octets: &[u8],
     flags_of_last: u8,
     delivered: &mut Delivered,
-) -> Result<(Verdict, u32, u32), Fail> {
+) -> Result<(Verdict, u32, u32), Stop> {
     let count = octets.len().div_ceil(10);
     let mut last = (Verdict::Late, 0, 0);
     for (number, octets) in octets.chunks(10).enumerate() {
@@ -51,72 +109,73 @@ pub fn segments_received(
             _ if number + 1 == count => flags_of_last,
             _ => 0,
         };
-        last = segment_received(alloc, receiver, number, flags, octets, delivered)?;
+        last = segment_received(alloc, receiver, (number, flags, octets), delivered)?;
     }
     Ok(last)
 }
 
-#[test]
-fn a_longest_packet_is_reassembled(rt: HostRuntime) -> Result<(), Fail> {
-    let alloc = rt.alloc();
-    let longest = longest(alloc)?;
-    let mut receiver = receiver(alloc, 0)?;
-    let mut delivered = none(alloc);
-    let last = segments_received(alloc, &mut receiver, &longest, 2, &mut delivered)?;
-    assert_eq!(rt; last, (Verdict::Accept, 1, 0));
-    assert!(rt; has(&delivered, 0, &[&longest]));
-    Ok(())
+// Whether that is so of a later segment.
+fn is_later(
+    alloc: Global,
+    receiver: &mut Receiver,
+    delivered: &mut Delivered,
+    later: &Later,
+) -> Result<bool, Stop> {
+    let (number, flags, octets, packets, wanted) = later;
+    let found = segment_received(alloc, receiver, (*number, *flags, octets), delivered)?;
+    Ok(found == (Verdict::Accept, *packets, 0) && held(receiver, 0, 0) == *wanted)
 }
 
-#[test]
-fn a_longer_series_is_given_up(rt: HostRuntime) -> Result<(), Fail> {
-    let alloc = rt.alloc();
-    let longer = longest_and_more(alloc, 65543)?;
-    let mut receiver = receiver(alloc, 0)?;
-    let mut delivered = none(alloc);
-    let last = segments_received(alloc, &mut receiver, &longer, 2, &mut delivered)?;
-    assert_eq!(rt; last, (Verdict::Accept, 0, 0));
-    assert_eq!(rt; at_or_above(&delivered, 0), None);
-    Ok(())
-}
-
-// Of 6,556 segments the last but one gives the series up, and the last one ends none. Its ten octets alone would be a
-// packet and three more.
-#[test]
-fn a_series_is_given_up_before_its_last_segment(rt: HostRuntime) -> Result<(), Fail> {
-    let alloc = rt.alloc();
-    let mut begun = Vec::new(alloc);
-    begun.resize(65540, 0x00)?;
-    let mut receiver = receiver(alloc, 0)?;
-    let mut delivered = none(alloc);
-    let last = segments_received(alloc, &mut receiver, &begun, 0, &mut delivered)?;
-    assert_eq!(rt; last, (Verdict::Accept, 0, 0));
-    assert_eq!(rt; held(&receiver, 0, 0), (65540, true));
-    for (number, flags) in [(6554, 0), (6555, 2)] {
-        let octets = [0x00; 10];
-        let found = segment_received(alloc, &mut receiver, number, flags, &octets, &mut delivered)?;
-        assert_eq!(rt; found, (Verdict::Accept, 0, 0));
-        assert_eq!(rt; held(&receiver, 0, 0), (0, false));
+// Whether the longest packet, which is at the front of octets, is delivered and nothing else, or nothing is.
+fn delivers(delivered: &Delivered, octets: &[u8], is_so: bool) -> bool {
+    match octets.get(..65542) {
+        Some(longest) if is_so => has(delivered, 0, &[longest]),
+        _ => !is_so && at_or_above(delivered, 0).is_none(),
     }
-    assert_eq!(rt; at_or_above(&delivered, 0), None);
-    Ok(())
 }
 
-// 65,542 octets without a last segment, and then one of no octets, or of one.
-#[test]
-fn a_last_segment_after_the_most_octets(rt: HostRuntime) -> Result<(), Fail> {
-    let alloc = rt.alloc();
-    let longest = longest(alloc)?;
-    let cases: [(&[u8], u32); 2] = [(&[], 1), (&[0x33], 0)];
-    for (octets, packets) in cases {
-        let mut receiver = receiver(alloc, 0)?;
-        let mut delivered = none(alloc);
-        let last = segments_received(alloc, &mut receiver, &longest, 0, &mut delivered)?;
-        assert_eq!(rt; last, (Verdict::Accept, 0, 0));
-        let found = segment_received(alloc, &mut receiver, 6555, 2, octets, &mut delivered)?;
-        assert_eq!(rt; found, (Verdict::Accept, packets, 0));
-        assert_eq!(rt; has(&delivered, 0, &[&longest]), packets == 1);
-        assert_eq!(rt; has(&delivered, 0, &[]), packets == 0);
+// Whether that is so of a series of these octets.
+fn is_as_wanted(
+    rt: &impl Abort,
+    alloc: Global,
+    octets: &[u8],
+    series: &Series,
+) -> Result<bool, Stop> {
+    let (_, _, flags, (packets, wanted), later, is_delivered) = series;
+    let mut receiver = receiver(alloc, 0)?;
+    let mut delivered = none(alloc);
+    let last = segments_received(alloc, &mut receiver, octets, *flags, &mut delivered)?;
+    let is_held = held(&receiver, 0, 0) == *wanted;
+    for row in *later {
+        passes(
+            rt,
+            &row.0,
+            is_later(alloc, &mut receiver, &mut delivered, row),
+        );
     }
-    Ok(())
+    let is_last = last == (Verdict::Accept, *packets, 0);
+    Ok(is_last && is_held && delivers(&delivered, octets, *is_delivered))
+}
+
+fn is_series(rt: &impl Abort, alloc: Global, series: &Series) -> Result<bool, Stop> {
+    let octets = longest_and_more(alloc, series.1)?;
+    is_as_wanted(rt, alloc, &octets, series)
+}
+
+#[test]
+fn long_series(rt: HostRuntime) {
+    for series in &SERIES {
+        passes(&rt, &series.0, is_series(&rt, rt.alloc(), series));
+    }
+}
+
+fn is_series_of_zeros(rt: &impl Abort, alloc: Global) -> Result<bool, Stop> {
+    let mut octets = Vec::new(alloc);
+    octets.resize(ZEROS_LEN, 0x00)?;
+    is_as_wanted(rt, alloc, &octets, &ZEROS)
+}
+
+#[test]
+fn a_series_is_given_up_before_its_last_segment(rt: HostRuntime) {
+    passes(&rt, &"zeros", is_series_of_zeros(&rt, rt.alloc()));
 }

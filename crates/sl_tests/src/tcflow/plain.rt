@@ -1,15 +1,16 @@
 //! Virtual channels without segment headers.
 use crate::support::cop::all;
-use crate::support::packets::{at_or_above, delivered_of, has, none};
+use crate::support::packets::{Packets, are_all, delivered_of, none};
 use crate::support::recordings::{COMMAND, LEAST};
+use crate::support::rows::{Stop, passes};
 use crate::support::tc::{
-    anomalies, clcw, counts, fits, form_with, held, no_channels, receiver_with, shape, step_of,
-    with_channel,
+    anomalies, clcw, counts, held, is_form, receiver_with, set_of, shape, step_of,
 };
 use sl_cop::Verdict;
-use sl_tcframe::VcSet;
+use sl_packet::Delivered;
+use sl_tcflow::{Receiver, fits_tc};
 use std::alloc::Global;
-use std::test::Fail;
+use std::process::Abort;
 
 // The frame of `COMMAND` on virtual channel 5 without a segment header, of type AD and of type BD.
 const WHOLE: [u8; 15] = [
@@ -22,16 +23,10 @@ const BYPASSING: [u8; 15] = [
     0x10, 0x01, 0xC0, 0x00, 0x00, 0x03, 0xAA, 0xBB, 0xCC, 0xDD,
 ];
 
-// Another packet of seven octets, and a frame on virtual channel 5 of `LEAST` and of it.
+// Another packet of seven octets.
 const SECOND: [u8; 7] = [0x10, 0x02, 0xC0, 0x02, 0x00, 0x00, 0xEF];
 
-const BOTH: [u8; 19] = [
-    0x00, 0x01, 0x14, 0x12, 0x00, //
-    0x10, 0x02, 0xC0, 0x01, 0x00, 0x00, 0xEE, //
-    0x10, 0x02, 0xC0, 0x02, 0x00, 0x00, 0xEF,
-];
-
-// Each in a frame of its own.
+// `LEAST` and that one, each in a frame of its own.
 const APART: [u8; 24] = [
     0x00, 0x01, 0x14, 0x0B, 0x00, //
     0x10, 0x02, 0xC0, 0x01, 0x00, 0x00, 0xEE, //
@@ -48,113 +43,151 @@ const OF_12: [u8; 12] = [
     0x10, 0x01, 0xC0, 0x00, 0x00, 0x05, 0x33, 0x33, 0x33, 0x33, 0x33, 0x33,
 ];
 
-// Virtual channel 5 alone.
-fn five() -> VcSet {
-    with_channel(&no_channels(), 5)
+// A frame of both and one octet more.
+const WITH_TAIL: [u8; 20] = [
+    0x00, 0x01, 0x14, 0x13, 0x00, //
+    0x10, 0x02, 0xC0, 0x01, 0x00, 0x00, 0xEE, //
+    0x10, 0x02, 0xC0, 0x02, 0x00, 0x00, 0xEF, //
+    0x00,
+];
+
+// A frame; the verdict on it, and the packets and the idle ones that end with its unit; and what is amiss with that.
+type Frame<'a> = (
+    &'a [u8],
+    (Verdict, u32, u32),
+    (bool, Option<u32>, bool, u32),
+);
+
+// Virtual channels without segment headers, frames, one after another, and all packets then.
+type Case<'a> = (
+    &'a str,
+    &'a [u8],
+    &'a [Frame<'a>],
+    &'a [Packets<'a>],
+    [u8; 4],
+);
+
+const CASES: [Case; 4] = [
+    (
+        "units without a segment header, which are whole",
+        &[5],
+        &[
+            (&WHOLE, (Verdict::Accept, 1, 0), (false, None, false, 0)),
+            (&BYPASSING, (Verdict::Accept, 1, 0), (false, None, false, 0)),
+        ],
+        &[(320, &[&COMMAND, &COMMAND])],
+        [0x01, 0x14, 0x02, 0x01],
+    ),
+    // With segment headers the first octet of the packet is one: a continuing segment on MAP 16.
+    (
+        "the same with segment headers, which is out of sequence",
+        &[],
+        &[(&WHOLE, (Verdict::Accept, 0, 0), (true, None, false, 0))],
+        &[],
+        [0x01, 0x14, 0x00, 0x01],
+    ),
+    (
+        "without segment headers on other virtual channels",
+        &[4, 6],
+        &[(&WHOLE, (Verdict::Accept, 0, 0), (true, None, false, 0))],
+        &[],
+        [0x01, 0x14, 0x00, 0x01],
+    ),
+    (
+        "an octet after the last packet of a unit",
+        &[5],
+        &[(&WITH_TAIL, (Verdict::Accept, 2, 0), (false, None, false, 1))],
+        &[(320, &[&LEAST, &SECOND])],
+        [0x01, 0x14, 0x00, 0x01],
+    ),
+];
+
+// Packets of virtual channel 5 without segment headers, and their frames of at most 24 octets.
+const FORMS: [(&[(u16, &[u8])], &[u8]); 2] = [
+    (&[(320, &LEAST), (320, &SECOND)], &APART),
+    (&[(320, &COMMAND)], &WHOLE),
+];
+
+// Greatest frame length and error control, virtual channels without segment headers, packets, and whether these fit.
+const FITS: [((u16, bool), &[u8], &[(u16, &[u8])], bool); 13] = [
+    ((16, false), &[5], &[(320, &OF_11), (384, &OF_12)], true),
+    ((16, false), &[5], &[(320, &OF_12)], false),
+    ((16, false), &[], &[(320, &OF_12)], true),
+    ((16, false), &[4, 5], &[(320, &OF_12)], false),
+    // Without segment headers there is MAP 0 alone.
+    ((16, false), &[5], &[(321, &OF_11)], false),
+    ((16, false), &[], &[(321, &OF_11)], true),
+    ((16, false), &[4, 5], &[(321, &OF_11)], false),
+    ((16, false), &[5], &[(383, &LEAST)], false),
+    ((16, false), &[], &[(383, &LEAST)], true),
+    ((16, false), &[4, 5], &[(383, &LEAST)], false),
+    // After one that fits.
+    ((16, false), &[5], &[(320, &OF_11), (320, &OF_12)], false),
+    // With error control there is room for 9 octets.
+    ((16, true), &[5], &[(320, &COMMAND)], false),
+    ((17, true), &[5], &[(320, &COMMAND)], true),
+];
+
+// Whether that is so of a frame.
+fn is_told(receiver: &mut Receiver, delivered: &mut Delivered, row: &Frame) -> Result<bool, Stop> {
+    let (frame, wanted, amiss) = row;
+    let step = step_of(receiver, frame, delivered)?;
+    Ok(counts(&step) == *wanted && anomalies(&step) == *amiss)
 }
 
-// Virtual channels 4 and 6.
-fn four_and_six() -> VcSet {
-    with_channel(&with_channel(&no_channels(), 4), 6)
+// Whether nothing is held on virtual channel 5, whose CLCW is this.
+fn holds_nothing(receiver: &Receiver, word: &[u8; 4]) -> bool {
+    for map in 0..64 {
+        if held(receiver, 5, map) != (0, false) {
+            return false;
+        }
+    }
+    clcw(receiver, 5) == *word
 }
 
-// Whether packets fit frames of at most this length, without segment headers on these virtual channels.
-fn have_frames(
+// Whether that is so of each frame of a case, and there is what there should be then.
+fn is_so(rt: &impl Abort, alloc: Global, case: &Case) -> Result<bool, Stop> {
+    let (_, plain, frames, packets, word) = case;
+    let mut receiver = receiver_with(alloc, &all(0), set_of(plain))?;
+    let mut delivered = none(alloc);
+    for row in *frames {
+        passes(rt, row, is_told(&mut receiver, &mut delivered, row));
+    }
+    Ok(are_all(&delivered, packets) && holds_nothing(&receiver, word))
+}
+
+#[test]
+fn units_without_segment_headers(rt: HostRuntime) {
+    for case in &CASES {
+        passes(&rt, &case.0, is_so(&rt, rt.alloc(), case));
+    }
+}
+
+// Whether packets fit frames of at most this length, without segment headers on these virtual channels, or don't.
+fn fit(
     alloc: Global,
     (max, fecf): (u16, bool),
-    plain: &VcSet,
+    plain: &[u8],
     packets: &[(u16, &[u8])],
-) -> Result<bool, Fail> {
-    Ok(fits(&shape(max, fecf)?, plain, &delivered_of(alloc, packets)?))
+    wanted: bool,
+) -> Result<bool, Stop> {
+    let shape = shape(max, fecf)?;
+    let delivered = delivered_of(alloc, packets)?;
+    Ok(fits_tc(&shape, &set_of(plain), &delivered) == wanted)
+}
+
+fn have(alloc: Global, packets: &[(u16, &[u8])], form: &[u8]) -> Result<bool, Stop> {
+    let channels = (&all(0), &set_of(&[5]));
+    is_form(alloc, (24, false), channels, packets, form)
 }
 
 #[test]
-fn a_unit_without_a_segment_header_is_whole(rt: HostRuntime) -> Result<(), Fail> {
-    let mut receiver = receiver_with(rt.alloc(), &all(0), five())?;
-    let mut delivered = none(rt.alloc());
-    for frame in [&WHOLE, &BYPASSING] {
-        let step = step_of(&mut receiver, frame, &mut delivered)?;
-        assert_eq!(rt; counts(&step), (Verdict::Accept, 1, 0));
-        assert_eq!(rt; anomalies(&step), (false, None, false, 0));
+fn packets_without_segment_headers_have_frames_of_their_own(rt: HostRuntime) {
+    for (packets, form) in &FORMS {
+        passes(&rt, packets, have(rt.alloc(), packets, form));
     }
-    assert!(rt; has(&delivered, 320, &[&COMMAND, &COMMAND]));
-    assert_eq!(rt; clcw(&receiver, 5), [0x01, 0x14, 0x02, 0x01]);
-    for map in 0..64 {
-        assert_eq!(rt; held(&receiver, 5, map), (0, false), "at {map}");
+    for (format, plain, packets, wanted) in &FITS {
+        let outcome = fit(rt.alloc(), *format, plain, packets, *wanted);
+        passes(&rt, &(plain, packets), outcome);
     }
-    Ok(())
-}
-
-// With segment headers the first octet of the packet is one: a continuing segment on MAP 16.
-#[test]
-fn the_same_frame_with_segment_headers_is_out_of_sequence(rt: HostRuntime) -> Result<(), Fail> {
-    for plain in [no_channels(), four_and_six()] {
-        let mut receiver = receiver_with(rt.alloc(), &all(0), plain)?;
-        let mut delivered = none(rt.alloc());
-        let step = step_of(&mut receiver, &WHOLE, &mut delivered)?;
-        assert_eq!(rt; counts(&step), (Verdict::Accept, 0, 0));
-        assert_eq!(rt; anomalies(&step), (true, None, false, 0));
-        assert_eq!(rt; at_or_above(&delivered, 0), None);
-    }
-    Ok(())
-}
-
-#[test]
-fn octets_after_the_last_packet_of_a_unit_are_left(rt: HostRuntime) -> Result<(), Fail> {
-    let mut receiver = receiver_with(rt.alloc(), &all(0), five())?;
-    let mut delivered = none(rt.alloc());
-    let mut frame = Vec::from_slice(rt.alloc(), &BOTH)?;
-    frame.push(0x00)?;
-    frame.as_mut_slice()[3] = 0x13;
-    let step = step_of(&mut receiver, &frame, &mut delivered)?;
-    assert_eq!(rt; counts(&step), (Verdict::Accept, 2, 0));
-    assert_eq!(rt; anomalies(&step), (false, None, false, 1));
-    assert!(rt; has(&delivered, 320, &[&LEAST, &SECOND]));
-    Ok(())
-}
-
-#[test]
-fn packets_without_segment_headers_have_frames_of_their_own(rt: HostRuntime) -> Result<(), Fail> {
-    let shape = shape(24, false)?;
-    let rows: [(&[(u16, &[u8])], &[u8]); 2] = [
-        (&[(320, &LEAST), (320, &SECOND)], &APART),
-        (&[(320, &COMMAND)], &WHOLE),
-    ];
-    for (packets, wanted) in rows {
-        let form = form_with(rt.alloc(), &shape, &all(0), &five(), packets)?;
-        assert_eq!(rt; form.as_slice(), wanted);
-    }
-    Ok(())
-}
-
-#[test]
-fn frames_of_16_octets_carry_11_of_a_packet(rt: HostRuntime) -> Result<(), Fail> {
-    let alloc = rt.alloc();
-    let five = five();
-    let four_and_five = with_channel(&five, 4);
-    let none = no_channels();
-    // Greatest frame length and error control, virtual channels without segment headers, packets, and whether these fit.
-    let rows: [((u16, bool), &VcSet, &[(u16, &[u8])], bool); 13] = [
-        ((16, false), &five, &[(320, &OF_11), (384, &OF_12)], true),
-        ((16, false), &five, &[(320, &OF_12)], false),
-        ((16, false), &none, &[(320, &OF_12)], true),
-        ((16, false), &four_and_five, &[(320, &OF_12)], false),
-        // Without segment headers there is MAP 0 alone.
-        ((16, false), &five, &[(321, &OF_11)], false),
-        ((16, false), &none, &[(321, &OF_11)], true),
-        ((16, false), &four_and_five, &[(321, &OF_11)], false),
-        ((16, false), &five, &[(383, &LEAST)], false),
-        ((16, false), &none, &[(383, &LEAST)], true),
-        ((16, false), &four_and_five, &[(383, &LEAST)], false),
-        // After one that fits.
-        ((16, false), &five, &[(320, &OF_11), (320, &OF_12)], false),
-        // With error control there is room for 9 octets.
-        ((16, true), &five, &[(320, &COMMAND)], false),
-        ((17, true), &five, &[(320, &COMMAND)], true),
-    ];
-    for (format, plain, packets, wanted) in rows {
-        let found = have_frames(alloc, format, plain, packets)?;
-        assert_eq!(rt; found, wanted, "at {packets:?}");
-    }
-    Ok(())
 }

@@ -1,8 +1,13 @@
 //! The normal form of known packets.
+use crate::support::cop::all;
 use crate::support::packets::{has, longest, none};
 use crate::support::recordings::{COMMAND, LEAST, LONGER, TC_FRAME};
-use crate::support::tc::{form_of, received, receiver, shape};
-use std::test::Fail;
+use crate::support::rows::{Stop, holds, passes};
+use crate::support::tc::{form_of, is_form, no_channels, received, receiver, shape};
+use sl_packet::Delivered;
+use sl_tcflow::Receiver;
+use std::alloc::Global;
+use std::process::Abort;
 
 // The frame of `COMMAND` with error control.
 const PROTECTED: [u8; 18] = [
@@ -66,61 +71,98 @@ const ON_THREE_CHANNELS: [u8; 68] = [
 // Greatest frame length and error control, initial V(R), packets on their channels, and their frames.
 type Row<'a> = ((u16, bool), u8, &'a [(u16, &'a [u8])], &'a [u8]);
 
+const FORMS: [Row; 8] = [
+    ((16, false), 0, &[], &[]),
+    // Packets of one segment.
+    ((16, false), 0, &[(0, &COMMAND)], &TC_FRAME),
+    ((16, false), 0, &[(2, &LEAST), (1, &COMMAND)], &ON_TWO_MAPS),
+    ((24, false), 0, &[(0, &LEAST)], &LEAST_WHOLE),
+    // A packet of three segments.
+    ((16, false), 255, &[(320, &LONGER)], &DIVIDED),
+    // Frames with error control.
+    ((18, true), 0, &[(0, &COMMAND)], &PROTECTED),
+    ((18, true), 0, &[(320, &LONGER)], &DIVIDED_PROTECTED),
+    // The N(S) goes on from MAP to MAP, and begins anew on each virtual channel.
+    (
+        (16, false),
+        254,
+        &[
+            (4095, &LEAST),
+            (1, &LEAST),
+            (64, &LEAST),
+            (0, &LEAST),
+            (1, &COMMAND),
+        ],
+        &ON_THREE_CHANNELS,
+    ),
+];
+
+// The last frame of a longest packet.
+const LAST_OF_LONGEST: [u8; 8] = [0x00, 0x01, 0x00, 0x07, 0x9A, 0x80, 0x33, 0x33];
+
+// Whether packets have this form.
+fn have(alloc: Global, row: &Row) -> Result<bool, Stop> {
+    let (format, vr, packets, wanted) = row;
+    let channels = (&all(*vr), &no_channels());
+    is_form(alloc, *format, channels, packets, wanted)
+}
+
 #[test]
-fn normal_forms_of_known_packets(rt: HostRuntime) -> Result<(), Fail> {
-    let rows: [Row; 8] = [
-        ((16, false), 0, &[], &[]),
-        // Packets of one segment.
-        ((16, false), 0, &[(0, &COMMAND)], &TC_FRAME),
-        ((16, false), 0, &[(2, &LEAST), (1, &COMMAND)], &ON_TWO_MAPS),
-        ((24, false), 0, &[(0, &LEAST)], &LEAST_WHOLE),
-        // A packet of three segments.
-        ((16, false), 255, &[(320, &LONGER)], &DIVIDED),
-        // Frames with error control.
-        ((18, true), 0, &[(0, &COMMAND)], &PROTECTED),
-        ((18, true), 0, &[(320, &LONGER)], &DIVIDED_PROTECTED),
-        // The N(S) goes on from MAP to MAP, and begins anew on each virtual channel.
-        (
-            (16, false),
-            254,
-            &[
-                (4095, &LEAST),
-                (1, &LEAST),
-                (64, &LEAST),
-                (0, &LEAST),
-                (1, &COMMAND),
-            ],
-            &ON_THREE_CHANNELS,
-        ),
-    ];
-    for ((max, fecf), vr, packets, wanted) in rows {
-        let form = form_of(rt.alloc(), &shape(max, fecf)?, vr, packets)?;
-        assert_eq!(rt; form.as_slice(), wanted, "at {packets:?}");
+fn normal_forms_of_known_packets(rt: HostRuntime) {
+    for row in &FORMS {
+        passes(&rt, row, have(rt.alloc(), row));
+    }
+}
+
+// Whether a frame has the header that is wanted of this number, and carries a segment: the first one has flags 1, and
+// all others but the last have flags 0.
+fn carries(frame: &[u8; 16], number: usize, segment: &[u8]) -> bool {
+    let flags = if number == 0 { 0x40 } else { 0x00 };
+    let header = [0x00, 0x01, 0x00, 0x0F, (number % 256) as u8, flags];
+    &frame[..6] == header.as_slice() && &frame[6..] == segment
+}
+
+// Frames carry a packet in segments of ten octets.
+fn carry(rt: &impl Abort, frames: &[[u8; 16]], packet: &[u8]) {
+    for (number, (frame, segment)) in frames.iter().zip(packet.chunks(10)).enumerate() {
+        holds(rt, &number, carries(frame, number, segment));
+    }
+}
+
+// Receives all frames of at most 16 octets.
+fn receive(receiver: &mut Receiver, form: &[u8], delivered: &mut Delivered) -> Result<(), Stop> {
+    for frame in form.chunks(16) {
+        received(receiver, frame, delivered)?;
     }
     Ok(())
 }
 
-// It has 6,555 segments, the first of flags 1, the last of flags 2, and all others of flags 0, and is received from
-// them.
-#[test]
-fn a_longest_packet_goes_through_its_frames(rt: HostRuntime) -> Result<(), Fail> {
-    let longest = longest(rt.alloc())?;
-    let form = form_of(rt.alloc(), &shape(16, false)?, 0, &[(0, &longest)])?;
-    assert_eq!(rt; form.len(), 104872);
+// Whether a packet is received from them.
+fn is_received(alloc: Global, form: &[u8], packet: &[u8]) -> Result<bool, Stop> {
+    let mut receiver = receiver(alloc, 0)?;
+    let mut again = none(alloc);
+    receive(&mut receiver, form, &mut again)?;
+    Ok(has(&again, 0, &[packet]))
+}
+
+fn form_of_longest(alloc: Global, longest: &[u8]) -> Result<Vec<u8>, Stop> {
+    let shape = shape(16, false)?;
+    form_of(alloc, &shape, &all(0), &no_channels(), &[(0, longest)])
+}
+
+fn longest_is_received(rt: &impl Abort, alloc: Global) -> Result<bool, Stop> {
+    let longest = longest(alloc)?;
+    let form = form_of_longest(alloc, &longest)?;
     let (frames, last) = form.as_chunks::<16>();
-    assert_eq!(rt; frames.len(), 6554);
-    assert_eq!(rt; last, &[0x00, 0x01, 0x00, 0x07, 0x9A, 0x80, 0x33, 0x33][..]);
-    for (number, (frame, segment)) in frames.iter().zip(longest.chunks(10)).enumerate() {
-        let flags = if number == 0 { 0x40 } else { 0x00 };
-        let header = [0x00, 0x01, 0x00, 0x0F, (number % 256) as u8, flags];
-        assert_eq!(rt; frame.get(..6), Some(&header[..]), "at {number}");
-        assert_eq!(rt; frame.get(6..), Some(segment), "at {number}");
-    }
-    let mut receiver = receiver(rt.alloc(), 0)?;
-    let mut again = none(rt.alloc());
-    for frame in form.chunks(16) {
-        received(&mut receiver, frame, &mut again)?;
-    }
-    assert!(rt; has(&again, 0, &[&longest]));
-    Ok(())
+    carry(rt, frames, &longest);
+    let is_whole = form.len() == 104872 && frames.len() == 6554;
+    let is_ended = last == LAST_OF_LONGEST.as_slice();
+    Ok(is_whole && is_ended && is_received(alloc, &form, &longest)?)
+}
+
+// A longest packet has 6,555 segments, the first of flags 1, the last of flags 2, and all others of flags 0, and is
+// received from them.
+#[test]
+fn a_longest_packet_goes_through_its_frames(rt: HostRuntime) {
+    passes(&rt, &"all frames", longest_is_received(&rt, rt.alloc()));
 }

@@ -1,19 +1,22 @@
 //! Sets of virtual channels, as they are made and read.
 ghost use Rattle.std.specs.Prelude.{◌≤◌};
 
-use crate::support::tc::{no_channels, with_channel};
+use crate::support::rows::holds;
+use crate::support::tc::set_of;
 use sl_tcframe::VcSet;
 
-// The set of these virtual channels.
-fn set_of(channels: &[u8]) -> VcSet {
-    let mut set = no_channels();
-    for vc in channels {
-        if *vc <= 63 {
-            set = with_channel(&set, *vc);
-        }
-    }
-    set
-}
+// Texts, and the sets that they name.
+const TEXTS: [(&str, &[u8]); 4] = [
+    ("5", &[5]),
+    ("0", &[0]),
+    ("0,63", &[63, 0]),
+    ("0,9,10,63", &[63, 0, 9, 10]),
+];
+
+const NO_TEXTS: [&str; 23] = [
+    "", ",", "5,", ",5", "5,,6", "05", "00", "5,5", "6,5", "64", "255", "256", "5,64", " 5", "5 ",
+    "5, 6", "+5", "-5", "5;6", "5.6", "x", "0x5", "٥",
+];
 
 fn has(set: &VcSet, vc: u8) -> bool
     requires { vc ≤ 63 }
@@ -21,45 +24,41 @@ fn has(set: &VcSet, vc: u8) -> bool
     set.has(vc)
 }
 
-fn are_same(one: &VcSet, other: &VcSet) -> bool {
-    one == other
+// Whether no set, that of 5 and that of 5 and 9 have a virtual channel or not, as they should.
+fn have(vc: u8) -> bool
+    requires { vc ≤ 63 }
+{
+    !has(&set_of(&[]), vc)
+        && has(&set_of(&[5]), vc) == (vc == 5)
+        && has(&set_of(&[5, 9]), vc) == (vc == 5 || vc == 9)
 }
 
-// Whether a text is this set.
+// Whether the sets of these virtual channels are the same.
+fn are_same(one: &[u8], other: &[u8]) -> bool {
+    set_of(one) == set_of(other)
+}
+
+#[test]
+fn virtual_channels_are_added(rt: HostRuntime) {
+    for vc in 0..64 {
+        holds(&rt, &vc, have(vc));
+    }
+    holds(&rt, &"5 again", are_same(&[5, 5], &[5]));
+    holds(&rt, &"5 and none", !are_same(&[5], &[]));
+    holds(&rt, &"either order", are_same(&[5, 9], &[9, 5]));
+}
+
+// Whether a text is a set, or none.
 fn reads_as(text: &str, wanted: Option<VcSet>) -> bool {
     VcSet::read(text) == wanted
 }
 
 #[test]
-fn virtual_channels_are_added(rt: HostRuntime) {
-    let none = set_of(&[]);
-    let one = set_of(&[5]);
-    let two = with_channel(&one, 9);
-    for vc in 0..64 {
-        assert!(rt; !has(&none, vc), "at {vc}");
-        assert_eq!(rt; has(&one, vc), vc == 5, "at {vc}");
-        assert_eq!(rt; has(&two, vc), vc == 5 || vc == 9, "at {vc}");
-    }
-    assert!(rt; are_same(&with_channel(&one, 5), &one));
-    assert!(rt; !are_same(&one, &none));
-    assert!(rt; are_same(&two, &set_of(&[9, 5])));
-}
-
-#[test]
 fn sets_of_virtual_channels_are_read(rt: HostRuntime) {
-    let sets: [(&str, &[u8]); 4] = [
-        ("5", &[5]),
-        ("0", &[0]),
-        ("0,63", &[63, 0]),
-        ("0,9,10,63", &[63, 0, 9, 10]),
-    ];
-    for (text, channels) in sets {
-        assert!(rt; reads_as(text, Some(set_of(channels))), "at {text}");
+    for (text, channels) in &TEXTS {
+        holds(&rt, text, reads_as(text, Some(set_of(channels))));
     }
-    for text in [
-        "", ",", "5,", ",5", "5,,6", "05", "00", "5,5", "6,5", "64", "255", "256", "5,64", " 5",
-        "5 ", "5, 6", "+5", "-5", "5;6", "5.6", "x", "0x5", "٥",
-    ] {
-        assert!(rt; reads_as(text, None), "at {text}");
+    for text in &NO_TEXTS {
+        holds(&rt, text, reads_as(text, None));
     }
 }

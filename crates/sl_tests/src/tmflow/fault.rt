@@ -1,45 +1,65 @@
 //! An extractor whose sink refuses packets.
-use super::{BEGUN, ENDED, IDLE, SPLIT};
-use crate::support::sinks::{Keeps, Refuses};
-use crate::support::tm::{ended, extractor, frame, shape, take};
+use super::{BEGUN, ENDED, Frame, IDLE, OF_23, end};
+use crate::support::rows::{Stop, passes};
+use crate::support::sinks::Keeps;
+use crate::support::tm::{extractor, fault};
 use sl_packet::{FlowFault, SinkFault};
-use std::test::Fail;
+use sl_tmflow::Extractor;
+use std::alloc::Global;
 
-#[test]
-fn an_extractor_stops_at_a_fault(rt: HostRuntime) -> Result<(), Fail> {
-    let shape = shape(32, false)?;
-    let begun = frame(&shape, &BEGUN)?;
-    let mut extractor = extractor(rt.alloc());
-    let mut sink = Refuses { refused: 0 };
-    for fault in [FlowFault::Sink(SinkFault::Refused), FlowFault::Failed] {
-        assert_eq!(rt; take(&mut extractor, &begun, &mut sink).err(), Some(fault));
+// The packets of 23 and of ten octets.
+const BOTH: [u8; 33] = [
+    0x00, 0x02, 0xC0, 0x05, 0x00, 0x10, //
+    0x11, 0x11, 0x11, 0x11, 0x11, 0x11, 0x11, 0x11, 0x11, 0x11, 0x11, 0x11, 0x11, 0x11, 0x11, 0x11,
+    0x11, //
+    0x00, 0x03, 0xC0, 0x00, 0x00, 0x03, 0x01, 0x02, 0x03, 0x04,
+];
+
+const FRAMES: [Frame; 2] = [(&BEGUN, (1, 0)), (&IDLE, (0, 0))];
+
+// How many packets a sink keeps; frames that go well, and one with a packet more; and what is kept then.
+const REFUSED: [(u32, &[Frame], &[u8; 32], &[u8]); 3] = [
+    (0, &[], &BEGUN, &[]),
+    (1, &FRAMES, &ENDED, &OF_23),
+    (2, &FRAMES, &ENDED, &BOTH),
+];
+
+// The faults at that frame, which is tried again.
+const FAULTS: [FlowFault; 3] = [
+    FlowFault::Sink(SinkFault::Refused),
+    FlowFault::Failed,
+    FlowFault::Failed,
+];
+
+// Whether a frame fails whenever it is tried, and its packet is offered only once.
+fn fails(extractor: &mut Extractor, sink: &mut Keeps, frame: &[u8; 32]) -> Result<bool, Stop> {
+    for wanted in &FAULTS {
+        let fault = fault(extractor, frame, sink)?;
+        if fault != Some(*wanted) || sink.refused != 1 {
+            return Ok(false);
+        }
     }
-    assert_eq!(rt; sink.refused, 1);
-    Ok(())
+    Ok(true)
 }
 
-// What it has accepted stays, what it refused isn't offered again, and nothing after it is.
+// Whether what was accepted stays where a frame fails.
+fn keeps(
+    alloc: Global,
+    most: u32,
+    frames: &[Frame],
+    last: &[u8; 32],
+    kept: &[u8],
+) -> Result<bool, Stop> {
+    let mut extractor = extractor(alloc);
+    let mut sink = Keeps::new(most);
+    let has_begun = end(&mut extractor, &mut sink, frames)?;
+    let has_failed = fails(&mut extractor, &mut sink, last)?;
+    Ok(has_begun && has_failed && sink.kept() == Some(kept))
+}
+
 #[test]
-fn the_first_packets_are_accepted_before_a_fault(rt: HostRuntime) -> Result<(), Fail> {
-    let shape = shape(32, false)?;
-    let last = frame(&shape, &ENDED)?;
-    for (most, len) in [(1, 23), (2, 33)] {
-        let mut extractor = extractor(rt.alloc());
-        let mut sink = Keeps::new(most);
-        assert_eq!(rt; ended(&mut extractor, &BEGUN, &mut sink)?, (1, 0));
-        assert_eq!(rt; ended(&mut extractor, &IDLE, &mut sink)?, (0, 0));
-        let wanted = [
-            FlowFault::Sink(SinkFault::Refused),
-            FlowFault::Failed,
-            FlowFault::Failed,
-        ];
-        for fault in wanted {
-            assert_eq!(rt; take(&mut extractor, &last, &mut sink).err(), Some(fault));
-            assert_eq!(rt; sink.refused, 1);
-        }
-        let mut taken = Vec::from_slice(rt.alloc(), &BEGUN[6..29])?;
-        taken.extend_from_slice(&SPLIT)?;
-        assert_eq!(rt; sink.kept(), taken.get(..len));
+fn an_extractor_stops_at_a_fault(rt: HostRuntime) {
+    for (most, frames, last, kept) in &REFUSED {
+        passes(&rt, most, keeps(rt.alloc(), *most, frames, last, kept));
     }
-    Ok(())
 }

@@ -1,8 +1,8 @@
 //! Frames out of a recording that comes in chunks.
+use crate::support::rows::{Stop, passes};
 use crate::support::tm::shape;
-use sl_fields::ShapeFault;
 use sl_tmframe::TmFramer;
-use std::test::Fail;
+use std::alloc::Global;
 
 // Two frames of 32 octets, the second one of numbered octets, and six octets of a third one.
 const RECORDING: [u8; 70] = [
@@ -14,46 +14,65 @@ const RECORDING: [u8; 70] = [
     64, 65, 66, 67, 68, 69,
 ];
 
+// Sizes of chunks.
+const SIZES: [usize; 7] = [1, 7, 31, 32, 33, 64, 70];
+
 // A framer of frames of this length, without error control.
-fn framer(len: u16) -> Result<TmFramer, ShapeFault> {
+fn framer(len: u16) -> Result<TmFramer, Stop> {
     Ok(TmFramer::new(&shape(len, false)?))
 }
 
-// Whether a framer lends this of a chunk.
-fn lends(framer: &mut TmFramer, piece: &mut &[u8], wanted: Option<&[u8]>) -> bool {
-    framer.next(piece) == wanted
+// Whether a framer lends this of a chunk, leaves this of it, and holds these octets then.
+fn lends(
+    framer: &mut TmFramer,
+    chunk: &[u8],
+    wanted: Option<&[u8]>,
+    left: &[u8],
+    held: &[u8],
+) -> bool {
+    let mut piece = chunk;
+    framer.next(&mut piece) == wanted && piece == left && framer.rest() == held
 }
 
-// Whether a framer holds these octets.
-fn holds(framer: &TmFramer, octets: &[u8]) -> bool {
-    framer.rest() == octets
+// Twenty octets, and twenty more, of which twelve are of the frame.
+fn is_in_two_chunks() -> Result<bool, Stop> {
+    let mut framer = framer(32)?;
+    let (one, other) = (&RECORDING[..20], &RECORDING[20..40]);
+    let (frame, rest) = (&RECORDING[..32], &RECORDING[32..40]);
+    let is_empty = framer.rest().is_empty();
+    let is_begun = lends(&mut framer, one, None, &[], one);
+    let is_lent = lends(&mut framer, other, Some(frame), rest, &[]);
+    Ok(is_empty && is_begun && is_lent && lends(&mut framer, rest, None, &[], rest))
+}
+
+#[test]
+fn a_frame_in_two_chunks(rt: HostRuntime) {
+    passes(&rt, &"two chunks", is_in_two_chunks());
 }
 
 // Adds the next frame that a chunk completes, lent from the framer or from the chunk.
-fn add_next(framer: &mut TmFramer, piece: &mut &[u8], lent: &mut Vec<u8>) -> Result<(), Fail> {
-    if let Some(frame) = framer.next(piece) {
-        if frame.len() != 32 {
-            return Err("no frame of 32 octets".into());
-        }
-        lent.extend_from_slice(frame)?;
+fn add_next(framer: &mut TmFramer, piece: &mut &[u8], lent: &mut Vec<u8>) -> Result<(), Stop> {
+    match framer.next(piece) {
+        Some(frame) if frame.len() == 32 => Ok(lent.extend_from_slice(frame)?),
+        Some(_) => Err(Stop::Absent),
+        None => Ok(()),
     }
-    Ok(())
 }
 
-fn add_next_from(framer: &mut TmFramer, piece: &mut &[u8], lent: &mut Vec<u8>) -> Result<(), Fail> {
+fn add_next_from(framer: &mut TmFramer, piece: &mut &[u8], lent: &mut Vec<u8>) -> Result<(), Stop> {
     if let Some(frame) = framer.next_from(piece) {
         lent.extend_from_slice(frame)?;
     }
     Ok(())
 }
 
-// Adds the frames that a chunk completes, whichever call lends them.
+// Adds the frames that a chunk completes, whichever call lends them, until nothing is left of it.
 fn lend(
     framer: &mut TmFramer,
     chunk: &[u8],
     from_chunk: bool,
     lent: &mut Vec<u8>,
-) -> Result<(), Fail> {
+) -> Result<(), Stop> {
     let mut piece = chunk;
     for _ in 0..3 {
         if from_chunk {
@@ -65,54 +84,40 @@ fn lend(
     if piece.is_empty() {
         Ok(())
     } else {
-        Err("octets of the chunk are left".into())
+        Err(Stop::Absent)
     }
 }
 
-#[test]
-fn a_frame_in_two_chunks(rt: HostRuntime) -> Result<(), Fail> {
-    let octets = RECORDING;
+// Whether the two frames are lent of chunks of this size, and the other octets are held.
+fn are_lent(alloc: Global, size: usize, from_chunk: bool) -> Result<bool, Stop> {
     let mut framer = framer(32)?;
-    assert!(rt; holds(&framer, &[]));
-    let mut piece = &octets[..20];
-    assert!(rt; lends(&mut framer, &mut piece, None));
-    assert!(rt; piece.is_empty());
-    assert!(rt; holds(&framer, &octets[..20]));
-    let mut piece = &octets[20..40];
-    assert!(rt; lends(&mut framer, &mut piece, Some(&octets[..32])));
-    assert_eq!(rt; piece, &octets[32..40]);
-    assert!(rt; holds(&framer, &[]));
-    assert!(rt; lends(&mut framer, &mut piece, None));
-    assert!(rt; piece.is_empty());
-    assert!(rt; holds(&framer, &octets[32..40]));
-    Ok(())
-}
-
-#[test]
-fn two_frames_in_chunks_of_any_size(rt: HostRuntime) -> Result<(), Fail> {
-    let octets = RECORDING;
-    for from_chunk in [false, true] {
-        for size in [1, 7, 31, 32, 33, 64, 70] {
-            let mut framer = framer(32)?;
-            let mut lent = Vec::new(rt.alloc());
-            for chunk in octets.chunks(size) {
-                lend(&mut framer, chunk, from_chunk, &mut lent)?;
-            }
-            assert!(rt; lent.as_slice() == &octets[..64], "at {size}");
-            assert!(rt; holds(&framer, &octets[64..]), "at {size}");
-        }
+    let mut lent = Vec::new(alloc);
+    if size == 0 {
+        return Err(Stop::Absent);
     }
-    Ok(())
+    for chunk in RECORDING.chunks(size) {
+        lend(&mut framer, chunk, from_chunk, &mut lent)?;
+    }
+    Ok(lent.as_slice() == &RECORDING[..64] && framer.rest() == &RECORDING[64..])
 }
 
 #[test]
-fn the_longest_frame(rt: HostRuntime) -> Result<(), Fail> {
+fn two_frames_in_chunks_of_any_size(rt: HostRuntime) {
+    for size in &SIZES {
+        passes(&rt, size, are_lent(rt.alloc(), *size, false));
+        passes(&rt, size, are_lent(rt.alloc(), *size, true));
+    }
+}
+
+fn is_longest_lent() -> Result<bool, Stop> {
     let mut octets = [0; 2048];
     octets[2047] = 1;
     let mut framer = framer(2048)?;
-    let mut piece = &octets[..2047];
-    assert!(rt; lends(&mut framer, &mut piece, None));
-    let mut piece = &octets[2047..];
-    assert!(rt; lends(&mut framer, &mut piece, Some(octets.as_slice())));
-    Ok(())
+    let is_begun = lends(&mut framer, &octets[..2047], None, &[], &octets[..2047]);
+    Ok(is_begun && lends(&mut framer, &octets[2047..], Some(&octets), &[], &[]))
+}
+
+#[test]
+fn the_longest_frame(rt: HostRuntime) {
+    passes(&rt, &2048, is_longest_lent());
 }

@@ -3,11 +3,11 @@ ghost use Rattle.std.specs.Prelude.{◌≡◌, ◌↔◌, IsTrue, IfOk};
 ghost use Rattle.sl_link.specs.Normalise.Tm.{tm_normal_form, tm_packets};
 ghost use Rattle.sl_link.specs.Normalise.Tc.{tc_normal_form, tc_packets};
 
-use super::support::recordings::{TC_FRAME, TM_FRAME};
+use super::support::recordings::{TC_BYPASSING, TC_FRAME, TM_FRAME};
+use super::support::rows::{Stop, passes};
 use sl_link::laws::{tc_normal_forms_tell_packets, tm_normal_forms_tell_packets};
-use sl_link::{Counted, LinkFault, Managed, ManagedFault, normalise_tc, normalise_tm};
+use sl_link::{Counted, LinkFault, Managed, normalise_tc, normalise_tm};
 use std::alloc::Global;
-use std::test::Fail;
 
 // Whether two TM recordings deliver the same packets on each virtual channel, idle ones left out.
 fn have_same_tm_packets(
@@ -24,8 +24,8 @@ fn have_same_tm_packets(
     Ok(form.as_slice() == other_form.as_slice())
 }
 
-// Whether two TM recordings deliver the same packets on each virtual channel, idle ones left out, by the law of normal forms alone,
-// under parameters that a caller lends.
+// The same, proved by the law: of the two forms only that they are normal forms is known, and the parameters are those
+// that a caller lends.
 fn tell_tm_packets(
     alloc: Global,
     managed: &Managed,
@@ -43,7 +43,7 @@ fn tell_tm_packets(
     Ok(form.as_slice() == other_form.as_slice())
 }
 
-// The normal form of a TM recording, and nothing else of it.
+// The normal form of a TM recording. The contract says nothing of packets.
 fn written_tm_form(alloc: Global, managed: &Managed, recording: &[u8]) -> Result<Vec<u8>, LinkFault>
     ensures { IfOk result (λ form. form.items ≡ tm_normal_form managed.now recording.now) }
 {
@@ -87,8 +87,8 @@ fn have_same_tc_packets(
     Ok(form.as_slice() == other_form.as_slice())
 }
 
-// Whether two TC recordings deliver the same packets on each virtual channel and MAP, idle ones left out, by the law of normal forms alone,
-// under parameters that a caller lends.
+// The same, proved by the law: of the two forms only that they are normal forms is known, and the parameters are those
+// that a caller lends.
 fn tell_tc_packets(
     alloc: Global,
     managed: &Managed,
@@ -106,7 +106,7 @@ fn tell_tc_packets(
     Ok(form.as_slice() == other_form.as_slice())
 }
 
-// The normal form of a TC recording, and nothing else of it.
+// The normal form of a TC recording. The contract says nothing of packets.
 fn written_tc_form(alloc: Global, managed: &Managed, recording: &[u8]) -> Result<Vec<u8>, LinkFault>
     ensures { IfOk result (λ form. form.items ≡ tc_normal_form managed.now recording.now) }
 {
@@ -145,58 +145,93 @@ const TM_OTHER: [u8; 32] = [
     0x07, 0xFF, 0xC0, 0x00, 0x00, 0x09, 0x00, 0x00, 0x00, 0x00, 0x00, 0x00, 0x00, 0x00, 0x00, 0x00,
 ];
 
-// A frame of type BD with the packet of `TC_FRAME`, and one of type AD with it on another MAP.
-const TC_BYPASSING: [u8; 16] = [
-    0x20, 0x01, 0x00, 0x0F, 0x00, 0xC0, 0x10, 0x01, 0xC0, 0x00, 0x00, 0x03, 0xAA, 0xBB, 0xCC, 0xDD,
-];
-
+// A frame of type AD with the packet of `TC_FRAME` on another MAP.
 const TC_OTHER: [u8; 16] = [
     0x00, 0x01, 0x00, 0x0F, 0x00, 0xC1, 0x10, 0x01, 0xC0, 0x00, 0x00, 0x03, 0xAA, 0xBB, 0xCC, 0xDD,
 ];
 
-fn link() -> Result<Managed, ManagedFault> {
-    Managed::new(1, 32, false, 16, false, 10, 0, 100)
+// A link with a limit of a hundred octets.
+fn link() -> Result<Managed, Stop> {
+    Managed::new(1, 32, false, 16, false, 10, 0, 100).or(Err(Stop::Absent))
 }
 
-// What these say, without their contracts.
-fn same_tm(alloc: Global, managed: &Managed, other: &[u8]) -> Result<bool, LinkFault> {
-    have_same_tm_packets(alloc, managed, &TM_FRAME, other)
+// What the six say, without their contracts: whether the packets of another recording are the same ones, and whether a
+// form is its own form.
+fn is_same_tm(alloc: Global, other: &[u8]) -> Result<bool, Stop> {
+    let link = link()?;
+    Ok(have_same_tm_packets(alloc, &link, &TM_FRAME, other)?)
 }
 
-fn own_tm(alloc: Global, managed: &Managed) -> Result<bool, LinkFault> {
-    is_tm_form_its_own(alloc, managed, &TM_FILLED)
+fn is_told_same_tm(alloc: Global, other: &[u8]) -> Result<bool, Stop> {
+    let link = link()?;
+    Ok(tell_tm_packets(alloc, &link, &TM_FRAME, other)?)
 }
 
-fn same_tc(alloc: Global, managed: &Managed, other: &[u8]) -> Result<bool, LinkFault> {
-    have_same_tc_packets(alloc, managed, &TC_FRAME, other)
+fn is_own_tm(alloc: Global) -> Result<bool, Stop> {
+    let link = link()?;
+    Ok(is_tm_form_its_own(alloc, &link, &TM_FILLED)?)
 }
 
-fn own_tc(alloc: Global, managed: &Managed) -> Result<bool, LinkFault> {
-    is_tc_form_its_own(alloc, managed, &TC_BYPASSING)
+fn is_same_tc(alloc: Global, other: &[u8]) -> Result<bool, Stop> {
+    let link = link()?;
+    Ok(have_same_tc_packets(alloc, &link, &TC_FRAME, other)?)
 }
 
-fn told_tm(alloc: Global, managed: &Managed, other: &[u8]) -> Result<bool, LinkFault> {
-    tell_tm_packets(alloc, managed, &TM_FRAME, other)
+fn is_told_same_tc(alloc: Global, other: &[u8]) -> Result<bool, Stop> {
+    let link = link()?;
+    Ok(tell_tc_packets(alloc, &link, &TC_FRAME, other)?)
 }
 
-fn told_tc(alloc: Global, managed: &Managed, other: &[u8]) -> Result<bool, LinkFault> {
-    tell_tc_packets(alloc, managed, &TC_FRAME, other)
+fn is_own_tc(alloc: Global) -> Result<bool, Stop> {
+    let link = link()?;
+    Ok(is_tc_form_its_own(alloc, &link, &TC_BYPASSING)?)
+}
+
+// The spacecraft of the link is the one that it was given.
+fn has_its_spacecraft() -> Result<bool, Stop> {
+    Ok(link()?.spacecraft() == 1)
+}
+
+// A row that is as it should be where an outcome is this one.
+fn is(outcome: Result<bool, Stop>, wanted: bool) -> Result<bool, Stop> {
+    Ok(outcome? == wanted)
 }
 
 #[test]
-fn callers_tell_packets_by_normal_forms(rt: HostRuntime) -> Result<(), Fail> {
+fn callers_tell_packets_by_normal_forms(rt: HostRuntime) {
     let alloc = rt.alloc();
-    let managed = link()?;
-    assert_eq!(rt; same_tm(alloc, &managed, &TM_FILLED), Ok(true));
-    assert_eq!(rt; same_tm(alloc, &managed, &TM_OTHER), Ok(false));
-    assert_eq!(rt; own_tm(alloc, &managed), Ok(true));
-    assert_eq!(rt; same_tc(alloc, &managed, &TC_BYPASSING), Ok(true));
-    assert_eq!(rt; same_tc(alloc, &managed, &TC_OTHER), Ok(false));
-    assert_eq!(rt; own_tc(alloc, &managed), Ok(true));
-    assert_eq!(rt; told_tm(alloc, &managed, &TM_FILLED), Ok(true));
-    assert_eq!(rt; told_tm(alloc, &managed, &TM_OTHER), Ok(false));
-    assert_eq!(rt; told_tc(alloc, &managed, &TC_BYPASSING), Ok(true));
-    assert_eq!(rt; told_tc(alloc, &managed, &TC_OTHER), Ok(false));
-    assert_eq!(rt; managed.spacecraft(), 1);
-    Ok(())
+    let rows = [
+        (
+            "the same TM packet",
+            is(is_same_tm(alloc, &TM_FILLED), true),
+        ),
+        ("another TM packet", is(is_same_tm(alloc, &TM_OTHER), false)),
+        (
+            "the same TM packet by the law",
+            is(is_told_same_tm(alloc, &TM_FILLED), true),
+        ),
+        (
+            "another TM packet by the law",
+            is(is_told_same_tm(alloc, &TM_OTHER), false),
+        ),
+        ("a TM form's own form", is_own_tm(alloc)),
+        (
+            "the same TC packet",
+            is(is_same_tc(alloc, &TC_BYPASSING), true),
+        ),
+        ("another TC packet", is(is_same_tc(alloc, &TC_OTHER), false)),
+        (
+            "the same TC packet by the law",
+            is(is_told_same_tc(alloc, &TC_BYPASSING), true),
+        ),
+        (
+            "another TC packet by the law",
+            is(is_told_same_tc(alloc, &TC_OTHER), false),
+        ),
+        ("a TC form's own form", is_own_tc(alloc)),
+        ("the spacecraft", has_its_spacecraft()),
+    ];
+    for (row, outcome) in rows {
+        passes(&rt, &row, outcome);
+    }
 }

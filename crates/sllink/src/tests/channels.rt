@@ -2,10 +2,13 @@
 use super::support::recordings::{
     BEGUN_FROM_255, CONTINUED_FROM_255, DIVIDED_FROM_255, ENDED_FROM_255, WHOLE,
 };
+use super::support::rows::{Stop, passes};
 use super::support::run::{lists, normalises, refuses};
-use std::test::Fail;
+use std::alloc::{AllocError, Global};
 
 const LINK: &str = "tc --scid 1 --tm-length 32 --tc-length 24";
+
+const UP_TO_16: &str = "tc --scid 1 --tc-length 16";
 
 // A packet of ten octets in a frame on virtual channel 5 without a segment header, of type AD and of type BD.
 const PLAIN: &str = "0001140e001001c0000003aabbccdd";
@@ -27,182 +30,218 @@ const EARLY: &str = "0001140b041002c0010000ee";
 // A packet on virtual channel 0 from N(S) 0 on, and one on virtual channel 5 from N(S) 255 on.
 const ON_TWO_CHANNELS: [&str; 4] = [WHOLE, BEGUN_FROM_255, CONTINUED_FROM_255, ENDED_FROM_255];
 
-// Verb, options, recording, status and listing.
-type Case = (
-    &'static str,
-    &'static str,
-    &'static [&'static str],
-    u8,
-    &'static str,
-);
+// What FARM-1 reports of that recording, whose virtual channels begin with other V(R).
+const BEGUN_BY_CHANNEL: &str =
+    "0 frame vc 0 ad 0 segment whole map 0 octets 10 accept clcw 01000001\n\
+    16 frame vc 5 ad 255 segment first map 0 octets 10 accept clcw 01140000\n\
+    32 frame vc 5 ad 0 segment middle map 0 octets 10 accept clcw 01140001\n\
+    48 frame vc 5 ad 1 segment last map 0 octets 3 accept clcw 01140002\n";
 
-fn cases() -> [Case; 11] {
-    [
-        (
-            "show",
-            "--plain 5",
-            &[PLAIN, PLAIN_BD, EARLY],
-            0,
-            "0 frame vc 5 ad 0 unit octets 10 accept clcw 01140001\n\
-            15 frame vc 5 bd unit octets 10 accept clcw 01140201\n\
-            30 frame vc 5 ad 4 unit octets 7 early clcw 01140a01\n",
-        ),
-        (
-            "show",
-            "--plain 4,6",
-            &[PLAIN],
-            0,
-            "0 frame vc 5 ad 0 segment middle map 16 octets 9 accept clcw 01140001\n",
-        ),
-        (
-            "check",
-            "--plain 5",
-            &[PLAIN, PLAIN_BD],
-            0,
-            "frames 2 skipped 0 packets 2 idle 0 anomalies 0\n",
-        ),
-        (
-            "check",
-            "",
-            &[PLAIN],
-            1,
-            "0 stray vc 5 map 16\nframes 1 skipped 0 packets 0 idle 0 anomalies 1\n",
-        ),
-        (
-            "check",
-            "--plain 0,5,63",
-            &[WITH_TAIL, EARLY, "0001140400"],
-            1,
-            "0 tail vc 5 map 0 octets 2\n14 early vc 5 ad 4\n26 skip empty\n\
-            frames 3 skipped 1 packets 1 idle 0 anomalies 3\n",
-        ),
-        (
-            "packets",
-            "--plain 5",
-            &[BOTH],
-            0,
-            "vc 5 map 0 apid 2 type 1 secondary 0 flags 3 count 1 octets 7 1002c0010000ee\n\
-            vc 5 map 0 apid 2 type 1 secondary 0 flags 3 count 2 octets 7 1002c0020000ef\n",
-        ),
-        ("packets", "", &[BOTH], 0, ""),
-        (
-            "check",
-            "--vr 255 --vr-of 0:0",
-            &ON_TWO_CHANNELS,
-            0,
-            "frames 4 skipped 0 packets 2 idle 0 anomalies 0\n",
-        ),
-        (
-            "check",
-            "",
-            &ON_TWO_CHANNELS,
-            1,
-            "16 late vc 5 ad 255\n32 stray vc 5 map 0\n48 stray vc 5 map 0\n\
-            frames 4 skipped 0 packets 1 idle 0 anomalies 3\n",
-        ),
-        (
-            "packets",
-            "--vr-of 4:9,5:255",
-            &DIVIDED_FROM_255,
-            0,
-            "vc 5 map 0 apid 2 type 1 secondary 0 flags 3 count 5 octets 23 \
-            1002c00500101111111111111111111111111111111111\n",
-        ),
-        (
-            "packets",
-            "--vr 255 --vr-of 5:0,6:255",
-            &DIVIDED_FROM_255,
-            0,
-            "",
-        ),
-    ]
+// Verb, link, options, recording, status and listing.
+type Listing<'a> = (&'a str, &'a str, &'a str, &'a [&'a str], u8, &'a str);
+
+const LISTINGS: [Listing; 13] = [
+    (
+        "show",
+        LINK,
+        "--plain 5",
+        &[PLAIN, PLAIN_BD, EARLY],
+        0,
+        "0 frame vc 5 ad 0 unit octets 10 accept clcw 01140001\n\
+        15 frame vc 5 bd unit octets 10 accept clcw 01140201\n\
+        30 frame vc 5 ad 4 unit octets 7 early clcw 01140a01\n",
+    ),
+    (
+        "show",
+        LINK,
+        "--plain 4,6",
+        &[PLAIN],
+        0,
+        "0 frame vc 5 ad 0 segment middle map 16 octets 9 accept clcw 01140001\n",
+    ),
+    (
+        "check",
+        LINK,
+        "--plain 5",
+        &[PLAIN, PLAIN_BD],
+        0,
+        "frames 2 skipped 0 packets 2 idle 0 anomalies 0\n",
+    ),
+    (
+        "check",
+        LINK,
+        "",
+        &[PLAIN],
+        1,
+        "0 stray vc 5 map 16\nframes 1 skipped 0 packets 0 idle 0 anomalies 1\n",
+    ),
+    (
+        "check",
+        LINK,
+        "--plain 0,5,63",
+        &[WITH_TAIL, EARLY, "0001140400"],
+        1,
+        "0 tail vc 5 map 0 octets 2\n14 early vc 5 ad 4\n26 skip empty\n\
+        frames 3 skipped 1 packets 1 idle 0 anomalies 3\n",
+    ),
+    (
+        "packets",
+        LINK,
+        "--plain 5",
+        &[BOTH],
+        0,
+        "vc 5 map 0 apid 2 type 1 secondary 0 flags 3 count 1 octets 7 1002c0010000ee\n\
+        vc 5 map 0 apid 2 type 1 secondary 0 flags 3 count 2 octets 7 1002c0020000ef\n",
+    ),
+    ("packets", LINK, "", &[BOTH], 0, ""),
+    (
+        "check",
+        LINK,
+        "--vr 255 --vr-of 0:0",
+        &ON_TWO_CHANNELS,
+        0,
+        "frames 4 skipped 0 packets 2 idle 0 anomalies 0\n",
+    ),
+    (
+        "check",
+        LINK,
+        "",
+        &ON_TWO_CHANNELS,
+        1,
+        "16 late vc 5 ad 255\n32 stray vc 5 map 0\n48 stray vc 5 map 0\n\
+        frames 4 skipped 0 packets 1 idle 0 anomalies 3\n",
+    ),
+    (
+        "packets",
+        LINK,
+        "--vr-of 4:9,5:255",
+        &DIVIDED_FROM_255,
+        0,
+        "vc 5 map 0 apid 2 type 1 secondary 0 flags 3 count 5 octets 23 \
+        1002c00500101111111111111111111111111111111111\n",
+    ),
+    (
+        "packets",
+        LINK,
+        "--vr 255 --vr-of 5:0,6:255",
+        &DIVIDED_FROM_255,
+        0,
+        "",
+    ),
+    // Either way to say with which V(R) virtual channels begin.
+    (
+        "show",
+        UP_TO_16,
+        "--vr-of 5:255",
+        &ON_TWO_CHANNELS,
+        0,
+        BEGUN_BY_CHANNEL,
+    ),
+    (
+        "show",
+        UP_TO_16,
+        "--vr 255 --vr-of 0:0",
+        &ON_TWO_CHANNELS,
+        0,
+        BEGUN_BY_CHANNEL,
+    ),
+];
+
+// Link, options, recording and its normal form.
+type Form<'a> = (&'a str, &'a str, &'a [&'a str], &'a [&'a str]);
+
+const FORMS: [Form; 9] = [
+    (LINK, "--plain 5", &[PLAIN], &[PLAIN]),
+    (LINK, "--plain 5", &[BOTH], &[FIRST, SECOND]),
+    (LINK, "--plain 5", &[FIRST, SECOND], &[FIRST, SECOND]),
+    (LINK, "", &[PLAIN], &[]),
+    (
+        LINK,
+        "--vr-of 5:255",
+        &ON_TWO_CHANNELS,
+        &[
+            WHOLE,
+            "00011417ff401002c0050010111111111111111111111111",
+            "0001140a00801111111111",
+        ],
+    ),
+    (
+        LINK,
+        "--vr-of 5:1 --plain 5",
+        &[SECOND],
+        &["0001140b011002c0020000ef"],
+    ),
+    (LINK, "", &DIVIDED_FROM_255, &[]),
+    // A recording whose virtual channels begin with other V(R), by either way to say so, is its own normal form.
+    (
+        UP_TO_16,
+        "--vr-of 5:255",
+        &ON_TWO_CHANNELS,
+        &ON_TWO_CHANNELS,
+    ),
+    (
+        UP_TO_16,
+        "--vr 255 --vr-of 0:0",
+        &ON_TWO_CHANNELS,
+        &ON_TWO_CHANNELS,
+    ),
+];
+
+// Texts of virtual channels that are refused, after the managed parameters.
+const REFUSED: [(&str, &str); 10] = [
+    ("--plain 64", "sllink: managed: plain\n"),
+    ("--plain=", "sllink: managed: plain\n"),
+    ("--plain 05", "sllink: managed: plain\n"),
+    ("--plain 6,5", "sllink: managed: plain\n"),
+    ("--plain 5, --vr-of 5", "sllink: managed: plain\n"),
+    ("--vr-of 5", "sllink: managed: start\n"),
+    ("--vr-of=", "sllink: managed: start\n"),
+    ("--vr-of 5:256 --plain 5", "sllink: managed: start\n"),
+    ("--vr-of 5:1,5:2", "sllink: managed: start\n"),
+    ("--plain 64 --vr-of 5 --limit 0", "sllink: managed: limit\n"),
+];
+
+// The command line of a verb with options.
+fn line(alloc: Global, verb: &str, link: &str, options: &str) -> Result<String, AllocError> {
+    format!(in alloc; "sllink {verb} {link} {options}")
+}
+
+fn is_listed(alloc: Global, listing: &Listing) -> Result<bool, Stop> {
+    let (verb, link, options, parts, status, wanted) = listing;
+    let line = line(alloc, verb, link, options)?;
+    lists(alloc, line.as_str(), parts, *status, wanted)
 }
 
 #[test]
-fn virtual_channels_are_listed_as_managed(rt: HostRuntime) -> Result<(), Fail> {
-    let alloc = rt.alloc();
-    for (verb, options, parts, status, listing) in cases() {
-        let line = format!(in alloc; "sllink {verb} {LINK} {options}")?;
-        lists(&rt, alloc, line.as_str(), parts, (status, listing))?;
+fn virtual_channels_are_listed_as_managed(rt: HostRuntime) {
+    for row in &LISTINGS {
+        passes(&rt, row, is_listed(rt.alloc(), row));
     }
-    Ok(())
+}
+
+fn is_normalised(alloc: Global, form: &Form) -> Result<bool, Stop> {
+    let (link, options, parts, wanted) = form;
+    let line = line(alloc, "normalise", link, options)?;
+    normalises(alloc, line.as_str(), parts, wanted)
 }
 
 #[test]
-fn normal_forms_are_as_managed(rt: HostRuntime) -> Result<(), Fail> {
-    let alloc = rt.alloc();
-    let cases: [(&str, &[&str], &[&str]); 7] = [
-        ("--plain 5", &[PLAIN], &[PLAIN]),
-        ("--plain 5", &[BOTH], &[FIRST, SECOND]),
-        ("--plain 5", &[FIRST, SECOND], &[FIRST, SECOND]),
-        ("", &[PLAIN], &[]),
-        (
-            "--vr-of 5:255",
-            &ON_TWO_CHANNELS,
-            &[
-                WHOLE,
-                "00011417ff401002c0050010111111111111111111111111",
-                "0001140a00801111111111",
-            ],
-        ),
-        (
-            "--vr-of 5:1 --plain 5",
-            &[SECOND],
-            &["0001140b011002c0020000ef"],
-        ),
-        ("", &DIVIDED_FROM_255, &[]),
-    ];
-    for (options, parts, wanted) in cases {
-        let line = format!(in alloc; "sllink normalise {LINK} {options}")?;
-        normalises(&rt, alloc, line.as_str(), parts, wanted)?;
+fn normal_forms_are_as_managed(rt: HostRuntime) {
+    for row in &FORMS {
+        passes(&rt, row, is_normalised(rt.alloc(), row));
     }
-    Ok(())
 }
 
-// A recording whose virtual channels begin with other V(R), by either way to say so: what FARM-1 reports, and that it
-// is its own normal form.
-#[test]
-fn virtual_channels_begin_with_their_own_vr(rt: HostRuntime) -> Result<(), Fail> {
-    let alloc = rt.alloc();
-    let listing = "0 frame vc 0 ad 0 segment whole map 0 octets 10 accept clcw 01000001\n\
-        16 frame vc 5 ad 255 segment first map 0 octets 10 accept clcw 01140000\n\
-        32 frame vc 5 ad 0 segment middle map 0 octets 10 accept clcw 01140001\n\
-        48 frame vc 5 ad 1 segment last map 0 octets 3 accept clcw 01140002\n";
-    for options in ["--vr-of 5:255", "--vr 255 --vr-of 0:0"] {
-        let line = format!(in alloc; "sllink show tc --scid 1 --tc-length 16 {options}")?;
-        lists(&rt, alloc, line.as_str(), &ON_TWO_CHANNELS, (0, listing))?;
-        let line = format!(in alloc; "sllink normalise tc --scid 1 --tc-length 16 {options}")?;
-        normalises(
-            &rt,
-            alloc,
-            line.as_str(),
-            &ON_TWO_CHANNELS,
-            &ON_TWO_CHANNELS,
-        )?;
-    }
-    Ok(())
+fn is_refused(alloc: Global, kind: &str, options: &str, said: &str) -> Result<bool, Stop> {
+    let line = format!(in alloc; "sllink normalise {kind} --scid 1 {options}")?;
+    Ok(refuses(alloc, line.as_str(), said)?)
 }
 
-// Both kinds of recording refuse a text, after the managed parameters and before anything is read.
+// Both kinds of recording refuse a text before anything is read.
 #[test]
-fn texts_of_virtual_channels_are_refused(rt: HostRuntime) -> Result<(), Fail> {
-    let cases = [
-        ("--plain 64", "sllink: managed: plain\n"),
-        ("--plain=", "sllink: managed: plain\n"),
-        ("--plain 05", "sllink: managed: plain\n"),
-        ("--plain 6,5", "sllink: managed: plain\n"),
-        ("--plain 5, --vr-of 5", "sllink: managed: plain\n"),
-        ("--vr-of 5", "sllink: managed: start\n"),
-        ("--vr-of=", "sllink: managed: start\n"),
-        ("--vr-of 5:256 --plain 5", "sllink: managed: start\n"),
-        ("--vr-of 5:1,5:2", "sllink: managed: start\n"),
-        ("--plain 64 --vr-of 5 --limit 0", "sllink: managed: limit\n"),
-    ];
-    for (options, said) in cases {
-        for kind in ["tm", "tc"] {
-            let line = format!(in rt.alloc(); "sllink normalise {kind} --scid 1 {options}")?;
-            refuses(&rt, rt.alloc(), line.as_str(), said)?;
-        }
+fn texts_of_virtual_channels_are_refused(rt: HostRuntime) {
+    for (options, said) in &REFUSED {
+        passes(&rt, options, is_refused(rt.alloc(), "tm", options, said));
+        passes(&rt, options, is_refused(rt.alloc(), "tc", options, said));
     }
-    Ok(())
 }

@@ -1,247 +1,409 @@
 //! Command lines: what they ask for, which are refused, help and the version.
-use super::support::recordings::{FIRST, TEN_FILLED, TM_TEN_SHOWN};
-use super::support::run::{Outcome, lists};
-use std::test::Fail;
-
-const HELP: &str = "sllink --help";
+use super::support::recordings::{FIRST, TEN_FILLED, TM_TEN_LISTED, TM_TEN_SHOWN, WITH_FECF};
+use super::support::rows::{Stop, holds, passes};
+use super::support::run::{Outcome, lists, normalises};
+use std::alloc::{AllocError, Global};
+use std::process::Abort;
 
 // Options come in any order, before the kind or after it, with their number as a word of its own or not; what the first
 // word is doesn't matter.
+const LINES: [(&str, &str); 4] = [
+    ("sllink show tm --scid 1 --tm-length 32", TM_TEN_SHOWN),
+    (
+        "any show --limit=32 --tm-length=32 tm --scid=1",
+        TM_TEN_SHOWN,
+    ),
+    (
+        "sllink show --tc-fecf --tm-length 32 --scid 1 --vr 255 --window 2 tm --tc-length 16",
+        TM_TEN_SHOWN,
+    ),
+    ("sllink show tm --scid 1", "0 rest 32\n"),
+];
+
+const WRONG: [&str; 41] = [
+    "",
+    "sllink",
+    "sllink tell tm --scid 1",
+    "sllink help tell",
+    "sllink show --scid 1",
+    "sllink show tx --scid 1",
+    "sllink check --scid 1",
+    "sllink check tx --scid 1",
+    "sllink check tm",
+    "sllink packets --scid 1",
+    "sllink packets tx --scid 1",
+    "sllink packets tc",
+    "sllink packet tm --scid 1",
+    "sllink normalise --scid 1",
+    "sllink normalise tx --scid 1",
+    "sllink normalise tm",
+    "sllink show tm tm --scid 1",
+    "sllink show tm",
+    "sllink show tm --scid",
+    "sllink show tm --scid one",
+    "sllink show tm --scid 0x1",
+    "sllink show tm --scid 65536",
+    "sllink show tm --scid -1",
+    "sllink show tm --scid=-1",
+    "sllink show tm --scid 1 --scid 1",
+    "sllink show tm --scid 1 --tm-length 65536",
+    "sllink show tm --scid 1 --limit 18446744073709551616",
+    "sllink show tm --scid 1 --spare 10",
+    "sllink show tc --scid 1 --tc-length 65536",
+    "sllink show tc --scid 1 --window 256",
+    "sllink show tc --scid 1 --vr 256",
+    "sllink show tc --scid 1 --vr=-1",
+    "sllink show tm --scid 1 --tm-fecf --tm-fecf",
+    "sllink show tm --scid 1 --tm-fecf=1",
+    "sllink show tc --scid 1 --tc-fecf=1",
+    "sllink show tc --scid 1 --tc-fecf --tc-fecf",
+    "sllink show tm --scid 1 --tm-fecf yes",
+    "sllink version",
+    "sllink --version=1",
+    "sllink show --version",
+    "sllink show tm --scid 1 -V",
+];
+
+// The beginning of command lines of a thousand words more, and their status.
+const LONG: [(&str, u8); 4] = [
+    ("sllink", 2),
+    ("sllink show --scid 1", 2),
+    ("sllink --help", 0),
+    ("sllink -V", 0),
+];
+
+// The version is written whatever comes after it.
+const VERSION_LINES: [&str; 4] = [
+    "sllink --version",
+    "sllink -V",
+    "any --version show tm --scid 1",
+    "sllink -Vh",
+];
+
+// What help says at the end, whichever it is.
+const END: [&str; 6] = [
+    " read from the standard input: transfer frames ",
+    " to the standard output, faults to the standard error.\n",
+    "\nExit status:\n  0  ",
+    "\n  1  ",
+    "\n  2  ",
+    "\n  3  ",
+];
+
+// What it says of each value.
+const VALUES: [&str; 8] = [
+    "Spacecraft identifier, in decimal, 0 to 1023\n",
+    "Length of each TM frame in octets, 32 to 2048 [default: 1115]\n",
+    "Greatest length of a TC frame in octets, 16 to 1024 [default: 1024]\n",
+    "Width of the FARM-1 sliding window in frames, even, 2 to 254 [default: 10]\n",
+    "V(R) with which each FARM-1 begins, 0 to 255 [default: 0]\n",
+    "Initial V(R), 0 to 255, of these virtual channels, 0 to 63 in rising order\n",
+    "Virtual channels whose TC frames have no segment headers, 0 to 63 in rising order\n",
+    "Octets read at most, 1 to 18446744073709551615 [default: 1073741824]\n",
+];
+
+// Command lines that ask for help, and what this says.
+const HELP: [(&str, &[&str]); 23] = [
+    ("sllink --help", &["\nUsage: sllink <COMMAND>\n"]),
+    ("sllink help", &["\nUsage: sllink <COMMAND>\n"]),
+    (
+        "sllink show -h",
+        &["\nUsage: sllink show [OPTIONS] --scid <ID> <KIND>\n"],
+    ),
+    (
+        "sllink help show",
+        &["\nUsage: sllink show [OPTIONS] --scid <ID> <KIND>\n"],
+    ),
+    (
+        "sllink check --help",
+        &["\nUsage: sllink check [OPTIONS] --scid <ID> <KIND>\n"],
+    ),
+    (
+        "sllink help check",
+        &["\nUsage: sllink check [OPTIONS] --scid <ID> <KIND>\n"],
+    ),
+    (
+        "sllink packets -h",
+        &["\nUsage: sllink packets [OPTIONS] --scid <ID> <KIND>\n"],
+    ),
+    (
+        "sllink help packets",
+        &["\nUsage: sllink packets [OPTIONS] --scid <ID> <KIND>\n"],
+    ),
+    (
+        "sllink help normalise",
+        &["\nUsage: sllink normalise [OPTIONS] --scid <ID> <KIND>\n"],
+    ),
+    ("sllink --help", &["\n  sllink show --help\n"]),
+    ("sllink show -h", &["\nExample:\n  sllink show t"]),
+    ("sllink check -h", &["\nExample:\n  sllink check t"]),
+    ("sllink packets -h", &["\nExample:\n  sllink packets t"]),
+    ("sllink normalise -h", &["\nExample:\n  sllink normalise t"]),
+    ("sllink --help", &END),
+    ("sllink show -h", &END),
+    ("sllink check -h", &END),
+    ("sllink packets -h", &END),
+    ("sllink normalise -h", &END),
+    ("sllink show -h", &VALUES),
+    ("sllink check -h", &VALUES),
+    ("sllink packets -h", &VALUES),
+    ("sllink normalise -h", &VALUES),
+];
+
+// The verbs in their order, each with what is said of it.
+const VERBS: [(&str, &str); 4] = [
+    ("show", "List the frames of a recording\n"),
+    ("check", "List what is amiss in a recording\n"),
+    ("packets", "List the packets of a recording\n"),
+    ("normalise", "Write the normal form of a recording\n"),
+];
+
+// The options in their order, of each verb.
+const OPTIONS: [&str; 8] = [
+    "--scid <ID>",
+    "--tm-length <OCTETS>",
+    "--tc-length <OCTETS>",
+    "--tm-fecf",
+    "--tc-fecf",
+    "--window <WIDTH>",
+    "--vr <NUMBER>",
+    "--limit <OCTETS>",
+];
+
+const WITH_OPTIONS: [&str; 4] = [
+    "sllink show --help",
+    "sllink check --help",
+    "sllink packets --help",
+    "sllink normalise --help",
+];
+
 #[test]
-fn command_lines_are_read(rt: HostRuntime) -> Result<(), Fail> {
-    let alloc = rt.alloc();
-    let lines = [
-        ("sllink show tm --scid 1 --tm-length 32", TM_TEN_SHOWN),
-        (
-            "any show --limit=32 --tm-length=32 tm --scid=1",
-            TM_TEN_SHOWN,
-        ),
-        (
-            "sllink show --tc-fecf --tm-length 32 --scid 1 --vr 255 --window 2 tm --tc-length 16",
-            TM_TEN_SHOWN,
-        ),
-        ("sllink show tm --scid 1", "0 rest 32\n"),
-    ];
-    for (line, listing) in lines {
-        lists(&rt, alloc, line, &[FIRST, TEN_FILLED], (0, listing))?;
+fn command_lines_are_read(rt: HostRuntime) {
+    for (line, listing) in &LINES {
+        let outcome = lists(rt.alloc(), line, &[FIRST, TEN_FILLED], 0, listing);
+        passes(&rt, line, outcome);
     }
-    Ok(())
+}
+
+// Whether a command line is refused, and nothing is written for it.
+fn is_wrong(alloc: Global, line: &str) -> Result<bool, Stop> {
+    let outcome = Outcome::of(alloc, line, &[])?;
+    let is_refused = outcome.status == 2 && outcome.output.is_empty();
+    Ok(is_refused && outcome.errors.starts_with(b"error: "))
 }
 
 #[test]
-fn wrong_command_lines_are_refused(rt: HostRuntime) -> Result<(), Fail> {
-    let lines = [
-        "",
-        "sllink",
-        "sllink tell tm --scid 1",
-        "sllink help tell",
-        "sllink show --scid 1",
-        "sllink show tx --scid 1",
-        "sllink check --scid 1",
-        "sllink check tx --scid 1",
-        "sllink check tm",
-        "sllink packets --scid 1",
-        "sllink packets tx --scid 1",
-        "sllink packets tc",
-        "sllink packet tm --scid 1",
-        "sllink normalise --scid 1",
-        "sllink normalise tx --scid 1",
-        "sllink normalise tm",
-        "sllink show tm tm --scid 1",
-        "sllink show tm",
-        "sllink show tm --scid",
-        "sllink show tm --scid one",
-        "sllink show tm --scid 0x1",
-        "sllink show tm --scid 65536",
-        "sllink show tm --scid -1",
-        "sllink show tm --scid=-1",
-        "sllink show tm --scid 1 --scid 1",
-        "sllink show tm --scid 1 --tm-length 65536",
-        "sllink show tm --scid 1 --limit 18446744073709551616",
-        "sllink show tm --scid 1 --spare 10",
-        "sllink show tc --scid 1 --tc-length 65536",
-        "sllink show tc --scid 1 --window 256",
-        "sllink show tc --scid 1 --vr 256",
-        "sllink show tc --scid 1 --vr=-1",
-        "sllink show tm --scid 1 --tm-fecf --tm-fecf",
-        "sllink show tm --scid 1 --tm-fecf=1",
-        "sllink show tc --scid 1 --tc-fecf=1",
-        "sllink show tc --scid 1 --tc-fecf --tc-fecf",
-        "sllink show tm --scid 1 --tm-fecf yes",
-        "sllink version",
-        "sllink --version=1",
-        "sllink show --version",
-        "sllink show tm --scid 1 -V",
-    ];
-    for line in lines {
-        let outcome = Outcome::of(rt.alloc(), line, &[])?;
-        assert_eq!(rt; outcome.status, 2, "{line}");
-        assert!(rt; outcome.output.is_empty(), "{line}");
-        assert!(rt; outcome.errors.starts_with(b"error: "), "{line}");
+fn wrong_command_lines_are_refused(rt: HostRuntime) {
+    for line in &WRONG {
+        passes(&rt, line, is_wrong(rt.alloc(), line));
     }
-    Ok(())
 }
 
-#[test]
-fn help_is_printed(rt: HostRuntime) -> Result<(), Fail> {
-    let all = "\nUsage: sllink <COMMAND>\n";
-    let show = "\nUsage: sllink show [OPTIONS] --scid <ID> <KIND>\n";
-    let check = "\nUsage: sllink check [OPTIONS] --scid <ID> <KIND>\n";
-    let packets = "\nUsage: sllink packets [OPTIONS] --scid <ID> <KIND>\n";
-    let normalise = "\nUsage: sllink normalise [OPTIONS] --scid <ID> <KIND>\n";
-    let cases = [
-        (HELP, all),
-        ("sllink help", all),
-        ("sllink show -h", show),
-        ("sllink help show", show),
-        ("sllink check --help", check),
-        ("sllink help check", check),
-        ("sllink packets -h", packets),
-        ("sllink help packets", packets),
-        ("sllink help normalise", normalise),
-    ];
-    for (line, usage) in cases {
-        let outcome = Outcome::of(rt.alloc(), line, &[])?;
-        assert!(rt; outcome.says(0, ""), "{line}");
-        assert!(rt; outcome.text().contains(usage), "{line}");
+// A command line that goes on with a thousand words.
+fn long_line(alloc: Global, line: &str) -> Result<String, AllocError> {
+    let mut long = String::from_str(alloc, line)?;
+    for _word in 0..1000 {
+        long.push_str(" tm")?;
     }
-    Ok(())
+    Ok(long)
+}
+
+fn has_status(alloc: Global, line: &str, status: u8) -> Result<bool, Stop> {
+    let line = long_line(alloc, line)?;
+    let outcome = Outcome::of(alloc, line.as_str(), &[])?;
+    Ok(outcome.status == status)
 }
 
 // As many words as memory has room for are no fault.
 #[test]
-fn many_words_are_read(rt: HostRuntime) -> Result<(), Fail> {
-    let alloc = rt.alloc();
-    let mut many = String::new(alloc);
-    for _word in 0..1000 {
-        many.push_str(" tm")?;
+fn many_words_are_read(rt: HostRuntime) {
+    for (line, status) in &LONG {
+        passes(&rt, line, has_status(rt.alloc(), line, *status));
     }
-    let cases = [
-        ("sllink", 2),
-        ("sllink show --scid 1", 2),
-        (HELP, 0),
-        ("sllink -V", 0),
-    ];
-    for (line, status) in cases {
-        let line = format!(in alloc; "{line}{many}")?;
-        let outcome = Outcome::of(alloc, line.as_str(), &[])?;
-        assert_eq!(rt; outcome.status, status, "{line}");
-    }
-    Ok(())
 }
 
-// The version is written whatever comes after it, and nothing is read for it.
-#[test]
-fn the_version_is_printed(rt: HostRuntime) -> Result<(), Fail> {
-    let alloc = rt.alloc();
-    let lines = [
-        "sllink --version",
-        "sllink -V",
-        "any --version show tm --scid 1",
-        "sllink -Vh",
-    ];
-    for line in lines {
-        let outcome = Outcome::unread(alloc, line)?;
-        assert!(rt; outcome.says(0, ""), "{line}");
-        assert_eq!(rt; outcome.text(), "sllink 1.0.0\n", "{line}");
-    }
-    Ok(())
+// Whether the version is written, and nothing is read for it.
+fn is_version(alloc: Global, line: &str) -> Result<bool, Stop> {
+    let outcome = Outcome::unread(alloc, line)?;
+    Ok(outcome.says(0, "") && outcome.text() == "sllink 1.0.0\n")
 }
 
-// What help says of each value, an example, and what is the same for all.
 #[test]
-fn help_says_what_a_run_takes_and_gives(rt: HostRuntime) -> Result<(), Fail> {
-    let values = [
-        "Spacecraft identifier, in decimal, 0 to 1023\n",
-        "Length of each TM frame in octets, 32 to 2048 [default: 1115]\n",
-        "Greatest length of a TC frame in octets, 16 to 1024 [default: 1024]\n",
-        "Width of the FARM-1 sliding window in frames, even, 2 to 254 [default: 10]\n",
-        "V(R) with which each FARM-1 begins, 0 to 255 [default: 0]\n",
-        "Initial V(R), 0 to 255, of these virtual channels, 0 to 63 in rising order\n",
-        "Virtual channels whose TC frames have no segment headers, 0 to 63 in rising order\n",
-        "Octets read at most, 1 to 18446744073709551615 [default: 1073741824]\n",
-    ];
-    let cases: [(&str, &[&str], &str); 5] = [
-        (HELP, &[], "\n  sllink show --help\n"),
-        ("sllink show -h", &values, "\nExample:\n  sllink show t"),
-        ("sllink check -h", &values, "\nExample:\n  sllink check t"),
-        (
-            "sllink packets -h",
-            &values,
-            "\nExample:\n  sllink packets t",
-        ),
-        (
-            "sllink normalise -h",
-            &values,
-            "\nExample:\n  sllink normalise t",
-        ),
-    ];
-    let end = [
-        " read from the standard input: transfer frames ",
-        " to the standard output, faults to the standard error.\n",
-        "\nExit status:\n  0  ",
-        "\n  1  ",
-        "\n  2  ",
-        "\n  3  ",
-    ];
-    for (line, values, example) in cases {
-        let outcome = Outcome::of(rt.alloc(), line, &[])?;
-        let said = outcome.text();
-        for part in values.iter().chain([example].iter()).chain(end.iter()) {
-            assert!(rt; said.contains(*part), "{line} {part}");
+fn the_version_is_printed(rt: HostRuntime) {
+    for line in &VERSION_LINES {
+        passes(&rt, line, is_version(rt.alloc(), line));
+    }
+}
+
+// Whether a command line is answered by help that says all these.
+fn is_said(rt: &impl Abort, alloc: Global, line: &str, parts: &[&str]) -> Result<bool, Stop> {
+    let outcome = Outcome::of(alloc, line, &[])?;
+    for part in parts {
+        holds(rt, part, outcome.text().contains(*part));
+    }
+    Ok(outcome.says(0, ""))
+}
+
+#[test]
+fn help_says_what_a_run_takes_and_gives(rt: HostRuntime) {
+    for (line, parts) in &HELP {
+        passes(&rt, line, is_said(&rt, rt.alloc(), line, parts));
+    }
+}
+
+// What comes after a verb and what is said of it, with blanks alone between them.
+fn after<'a>(said: &'a str, verb: &str, about: &str) -> Option<&'a str> {
+    let (_, behind) = said.split_once(verb)?;
+    let (between, after) = behind.split_once(about)?;
+    if between.trim().is_empty() {
+        Some(after)
+    } else {
+        None
+    }
+}
+
+// Whether all verbs are named, in this order.
+fn names_verbs(said: &str) -> bool {
+    let mut left = said;
+    for (verb, about) in &VERBS {
+        match after(left, verb, about) {
+            Some(after) => left = after,
+            None => return false,
         }
     }
-    Ok(())
+    true
 }
 
-#[test]
-fn help_names_each_verb(rt: HostRuntime) -> Result<(), Fail> {
-    let verbs = [
-        ("show", "List the frames of a recording\n"),
-        ("check", "List what is amiss in a recording\n"),
-        ("packets", "List the packets of a recording\n"),
-        ("normalise", "Write the normal form of a recording\n"),
-    ];
-    let outcome = Outcome::of(rt.alloc(), HELP, &[])?;
-    let mut left = outcome.text();
-    // In this order.
-    for (verb, about) in verbs {
-        let (_, behind) = left.split_once(verb).unwrap_or(("", ""));
-        let (between, after) = behind.split_once(about).unwrap_or(("no", ""));
-        assert!(rt; between.trim().is_empty(), "{verb}");
-        left = after;
-    }
-    Ok(())
-}
-
-#[test]
-fn help_names_each_option(rt: HostRuntime) -> Result<(), Fail> {
-    let options = [
-        "--scid <ID>",
-        "--tm-length <OCTETS>",
-        "--tc-length <OCTETS>",
-        "--tm-fecf",
-        "--tc-fecf",
-        "--window <WIDTH>",
-        "--vr <NUMBER>",
-        "--limit <OCTETS>",
-    ];
-    let lines = [
-        "sllink show --help",
-        "sllink check --help",
-        "sllink packets --help",
-        "sllink normalise --help",
-    ];
-    for line in lines {
-        let outcome = Outcome::of(rt.alloc(), line, &[])?;
-        let mut left = outcome.text();
-        assert!(rt; left.contains("[possible values: tm, tc]"), "{left}");
-        // In this order.
-        for option in options {
-            let (_, behind) = left.split_once(option).unwrap_or(("", ""));
-            assert!(rt; !behind.is_empty(), "{line} {option}");
-            left = behind;
+// Whether all options are named, in this order.
+fn names_options(said: &str) -> bool {
+    let mut left = said;
+    for option in &OPTIONS {
+        match left.split_once(*option) {
+            Some((_, behind)) if !behind.is_empty() => left = behind,
+            _ => return false,
         }
     }
-    Ok(())
+    said.contains("[possible values: tm, tc]")
+}
+
+fn has_verbs(alloc: Global, line: &str) -> Result<bool, Stop> {
+    Ok(names_verbs(Outcome::of(alloc, line, &[])?.text()))
+}
+
+fn has_options(alloc: Global, line: &str) -> Result<bool, Stop> {
+    Ok(names_options(Outcome::of(alloc, line, &[])?.text()))
+}
+
+#[test]
+fn help_names_each_verb_and_option(rt: HostRuntime) {
+    passes(
+        &rt,
+        &"sllink --help",
+        has_verbs(rt.alloc(), "sllink --help"),
+    );
+    for line in &WITH_OPTIONS {
+        passes(&rt, line, has_options(rt.alloc(), line));
+    }
+}
+
+// Each option at once: with the program, the verb and the kind these are twenty-one words.
+const ALL_OPTIONS: &str =
+    "--scid 1 --tm-length 34 --tc-length 24 --tm-fecf --tc-fecf --window 20 --vr 3 \
+    --vr-of 5:255 --plain 7 --limit 69";
+
+// A packet of ten octets on virtual channel 5, which begins with a V(R) of 255, and on virtual channel 7, without a
+// segment header; a frame that a sliding window of 20 finds early, and one of 25 octets.
+const UPLINK: [&str; 4] = [
+    "00011411ffc01001c0000003aabbccdd03f2",
+    "00011c10031001c0000003aabbccdd3d47",
+    "0001000808c0008e58",
+    "0001001800c0000000000000000000000000000000000061e4",
+];
+
+// Each option but the limit makes a difference in TM or in TC. The limit is the length of the TC recording.
+const WITH_ALL: [(&str, &[&str], u8, &str); 6] = [
+    (
+        "show tm",
+        &WITH_FECF,
+        0,
+        "0 skip fecf\n34 frame vc 0 mc 0 vcc 0 first 0\n",
+    ),
+    (
+        "show tc",
+        &UPLINK,
+        0,
+        "0 frame vc 5 ad 255 segment whole map 0 octets 10 accept clcw 01140000\n\
+        18 frame vc 7 ad 3 unit octets 10 accept clcw 011c0004\n\
+        35 frame vc 0 ad 8 segment whole map 0 octets 1 early clcw 01000803\n\
+        44 skip long\n",
+    ),
+    (
+        "check tm",
+        &WITH_FECF,
+        1,
+        "0 skip fecf\nframes 2 skipped 1 packets 1 idle 1 anomalies 1\n",
+    ),
+    (
+        "check tc",
+        &UPLINK,
+        1,
+        "35 early vc 0 ad 8\n44 skip long\n\
+        frames 4 skipped 1 packets 2 idle 0 anomalies 2\n",
+    ),
+    ("packets tm", &WITH_FECF, 0, TM_TEN_LISTED),
+    (
+        "packets tc",
+        &UPLINK,
+        0,
+        "vc 5 map 0 apid 1 type 1 secondary 0 flags 3 count 0 octets 10 1001c0000003aabbccdd\n\
+        vc 7 map 0 apid 1 type 1 secondary 0 flags 3 count 0 octets 10 1001c0000003aabbccdd\n",
+    ),
+];
+
+// And their normal forms: of the frames that aren't skipped, as it happens.
+const FORMS_WITH_ALL: [(&str, &[&str], usize, usize); 2] = [
+    ("normalise tm", &WITH_FECF, 3, 6),
+    ("normalise tc", &UPLINK, 0, 2),
+];
+
+fn lists_with_all(
+    alloc: Global,
+    verb: &str,
+    parts: &[&str],
+    status: u8,
+    listing: &str,
+) -> Result<bool, Stop> {
+    let line = format!(in alloc; "sllink {verb} {ALL_OPTIONS}")?;
+    lists(alloc, line.as_str(), parts, status, listing)
+}
+
+// The form is that of these parts, from one to another.
+fn normalises_with_all(
+    alloc: Global,
+    verb: &str,
+    parts: &[&str],
+    from: usize,
+    to: usize,
+) -> Result<bool, Stop> {
+    let form = parts.get(from..to).ok_or(Stop::Absent)?;
+    let line = format!(in alloc; "sllink {verb} {ALL_OPTIONS}")?;
+    normalises(alloc, line.as_str(), parts, form)
+}
+
+#[test]
+fn each_verb_and_kind_takes_all_options(rt: HostRuntime) {
+    for (verb, parts, status, listing) in &WITH_ALL {
+        passes(
+            &rt,
+            verb,
+            lists_with_all(rt.alloc(), verb, parts, *status, listing),
+        );
+    }
+    for (verb, parts, from, to) in &FORMS_WITH_ALL {
+        passes(
+            &rt,
+            verb,
+            normalises_with_all(rt.alloc(), verb, parts, *from, *to),
+        );
+    }
 }

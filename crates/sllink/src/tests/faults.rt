@@ -1,12 +1,12 @@
 //! Streams that fail, and limits, in every engine: which fault it is, and what is written by then.
-use super::support::engines::{ALL, Kind, Link, VERBS, Verb};
+use super::support::engines::{ALL, Kind, Link, Verb};
 use super::support::recordings::{BEGUN, ENDED, FIRST, LONG, OUTSIDE, WHOLE, octets};
+use super::support::rows::{Stop, holds, passes};
 use super::support::streams::{FailsAfter, FullAfter, InPieces, Interrupted};
 use sl_link::LinkFault;
 use std::alloc::Global;
-use std::io::{Read, Write};
+use std::io::Read;
 use std::process::Abort;
-use std::test::Fail;
 
 // A packet of twenty-three octets, a packet of ten in two frames, and a remainder.
 const TM: [&str; 6] = [FIRST, LONG, BEGUN, "001001011807", ENDED, "0010"];
@@ -14,126 +14,142 @@ const TM: [&str; 6] = [FIRST, LONG, BEGUN, "001001011807", ENDED, "0010"];
 // A packet of ten octets, a frame that comes too early, a series that isn't ended, and a remainder.
 const TC: [&str; 4] = [WHOLE, OUTSIDE, "2001000900401002c0aa", "00"];
 
-// A recording of each kind, with a limit of as many octets, or of so many fewer.
-fn recordings(alloc: Global, fewer: usize) -> Result<[(Link, Vec<u8>); 2], Fail> {
-    let tm = octets(alloc, &TM)?;
-    let tc = octets(alloc, &TC)?;
-    let tm_limit = tm.len().saturating_sub(fewer) as u64;
-    let tc_limit = tc.len().saturating_sub(fewer) as u64;
-    Ok([
-        (Link::new(Kind::Tm, 32, false, 0, tm_limit)?, tm),
-        (Link::new(Kind::Tc, 16, false, 0, tc_limit)?, tc),
-    ])
+// An engine, and its recording: kind of frames and their length.
+type Engine<'a> = (Kind, Verb, u16, &'a [&'a str]);
+
+const ENGINES: [Engine; 8] = [
+    (Kind::Tm, Verb::Show, 32, &TM),
+    (Kind::Tm, Verb::Check, 32, &TM),
+    (Kind::Tm, Verb::Packets, 32, &TM),
+    (Kind::Tm, Verb::Normalise, 32, &TM),
+    (Kind::Tc, Verb::Show, 16, &TC),
+    (Kind::Tc, Verb::Check, 16, &TC),
+    (Kind::Tc, Verb::Packets, 16, &TC),
+    (Kind::Tc, Verb::Normalise, 16, &TC),
+];
+
+// An engine with its recording and the link of this.
+#[derive(Drop)]
+struct Run {
+    verb: Verb,
+    link: Link,
+    recording: Vec<u8>,
 }
 
-// An engine ends with this fault, after these faults of its reader and of its writer: the writer.
-fn fails<R: Read + Drop, W: Write>(
-    rt: &impl Abort,
-    alloc: Global,
-    (link, verb): (&Link, Verb),
-    (reader, writer): (R, W),
-    (fault, faults): (LinkFault, (u64, u64)),
-) -> W {
-    let ending = link.end(alloc, verb, reader, writer);
-    let found = (ending.outcome.err(), ending.faults);
-    assert_eq!(rt; found, (Some(fault), faults), "{link:?} {verb:?}");
-    ending.writer
-}
+impl Run {
+    // With a limit of as many octets as the recording has, or of this number fewer.
+    fn new(alloc: Global, engine: &Engine, fewer: usize) -> Result<Run, Stop> {
+        let (kind, verb, length, parts) = engine;
+        let recording = octets(alloc, parts)?;
+        let limit = recording.len().saturating_sub(fewer) as u64;
+        Ok(Run {
+            verb: *verb,
+            link: Link::new(*kind, *length, false, 0, limit)?,
+            recording,
+        })
+    }
 
-// What was written is the beginning of the text, none of a normal form.
-fn is_front(verb: Verb, whole: &[u8], written: &[u8]) -> bool {
-    whole.starts_with(written) && (verb != Verb::Normalise || written.is_empty())
+    // What is written where nothing fails.
+    fn whole(&self, alloc: Global) -> Result<Vec<u8>, LinkFault> {
+        let answer = self.link.answer(alloc, self.verb, &self.recording, ALL)?;
+        Ok(answer.output)
+    }
+
+    // Whether the fault is the read after this number of reads, and the beginning of the text is written, none of a
+    // normal form.
+    fn fails_at_read(&self, alloc: Global, reads: u64, whole: &[u8]) -> bool {
+        let reader = FailsAfter::new(InPieces(self.recording.as_slice(), 1), reads);
+        let ending = self.link.end(alloc, self.verb, reader, Vec::new(alloc));
+        ending.is_fault(LinkFault::Read, (1, 0))
+            && whole.starts_with(&ending.writer)
+            && (self.verb != Verb::Normalise || ending.writer.is_empty())
+    }
+
+    // Whether the fault is the write after this number of writes, and all that was taken before is the beginning of the
+    // text.
+    fn fails_at_write(&self, alloc: Global, writes: usize, whole: &[u8]) -> bool {
+        let writer = FailsAfter::new(InPieces(Vec::new(alloc), 1), writes as u64);
+        let ending = self
+            .link
+            .end(alloc, self.verb, self.recording.as_slice(), writer);
+        ending.is_fault(LinkFault::Write, (0, 1))
+            && Some(ending.writer.into_inner().0.as_slice()) == whole.get(..writes)
+    }
+
+    // Whether a writer that takes nothing after this number of octets has failed.
+    fn fails_when_full(&self, alloc: Global, room: usize, whole: &[u8]) -> bool {
+        let writer = FullAfter::new(alloc, room);
+        let ending = self
+            .link
+            .end(alloc, self.verb, self.recording.as_slice(), writer);
+        ending.is_fault(LinkFault::Write, (0, 1))
+            && Some(ending.writer.taken.as_slice()) == whole.get(..room)
+    }
+
+    // Whether an interrupted read is a fault: it isn't tried again, though it would go well.
+    fn fails_when_interrupted(&self, alloc: Global) -> bool {
+        let reader = Interrupted::new();
+        let ending = self.link.end(alloc, self.verb, reader, Vec::new(alloc));
+        ending.is_fault(LinkFault::Read, (1, 0)) && ending.writer.is_empty()
+    }
+
+    // Whether an input is too long, and nothing of a normal form is written.
+    fn is_too_long<R: Read + Drop>(&self, alloc: Global, reader: R) -> bool {
+        let ending = self.link.end(alloc, self.verb, reader, Vec::new(alloc));
+        ending.is_fault(LinkFault::TooLong, (0, 0))
+            && (self.verb != Verb::Normalise || ending.writer.is_empty())
+    }
 }
 
 // The fault comes at whichever read it is.
-#[test]
-fn each_read_may_fail(rt: HostRuntime) -> Result<(), Fail> {
-    let alloc = rt.alloc();
-    for (link, recording) in &recordings(alloc, 0)? {
-        for verb in VERBS {
-            let whole = link.answer(alloc, verb, recording.as_slice(), ALL)?.output;
-            assert!(rt; !whole.is_empty());
-            for allowed in 0..=recording.len() as u64 {
-                let reader = FailsAfter::new(InPieces(recording.as_slice(), 1), allowed);
-                let streams = (reader, Vec::new(alloc));
-                let fault = (LinkFault::Read, (1, 0));
-                let written = fails(&rt, alloc, (link, verb), streams, fault);
-                assert!(rt; is_front(verb, whole.as_slice(), written.as_slice()));
-            }
-        }
+fn reads_fail(rt: &impl Abort, alloc: Global, engine: &Engine) -> Result<bool, Stop> {
+    let run = Run::new(alloc, engine, 0)?;
+    let whole = run.whole(alloc)?;
+    for reads in 0..=run.recording.len() as u64 {
+        holds(rt, &reads, run.fails_at_read(alloc, reads, &whole));
     }
-    Ok(())
+    Ok(!whole.is_empty())
 }
 
-// So does it at whichever write it is, and all that was taken before is the beginning of the text.
-#[test]
-fn each_write_may_fail(rt: HostRuntime) -> Result<(), Fail> {
-    let alloc = rt.alloc();
-    for (link, recording) in &recordings(alloc, 0)? {
-        for verb in VERBS {
-            let whole = link.answer(alloc, verb, recording.as_slice(), ALL)?.output;
-            for allowed in 0..whole.len() {
-                let inner = InPieces(Vec::new(alloc), 1);
-                let writer = FailsAfter::new(inner, allowed as u64);
-                let streams = (recording.as_slice(), writer);
-                let fault = (LinkFault::Write, (0, 1));
-                let written = fails(&rt, alloc, (link, verb), streams, fault)
-                    .into_inner()
-                    .0;
-                assert_eq!(rt; Some(written.as_slice()), whole.get(..allowed));
-            }
-        }
+// So does it at whichever write it is, and where there is no room for one octet, or for three.
+fn writes_fail(rt: &impl Abort, alloc: Global, engine: &Engine) -> Result<bool, Stop> {
+    let run = Run::new(alloc, engine, 0)?;
+    let whole = run.whole(alloc)?;
+    for writes in 0..whole.len() {
+        holds(rt, &writes, run.fails_at_write(alloc, writes, &whole));
     }
-    Ok(())
+    Ok(run.fails_when_full(alloc, 0, &whole) && run.fails_when_full(alloc, 2, &whole))
 }
 
-// A writer that takes nothing has failed, at its first write or after it took two octets.
 #[test]
-fn a_full_device_is_a_fault(rt: HostRuntime) -> Result<(), Fail> {
-    let alloc = rt.alloc();
-    for (link, recording) in &recordings(alloc, 0)? {
-        for verb in VERBS {
-            let whole = link.answer(alloc, verb, recording.as_slice(), ALL)?.output;
-            for room in [0, 2] {
-                let streams = (recording.as_slice(), FullAfter::new(alloc, room));
-                let fault = (LinkFault::Write, (0, 1));
-                let taken = fails(&rt, alloc, (link, verb), streams, fault).taken;
-                assert_eq!(rt; Some(taken.as_slice()), whole.get(..room));
-            }
-        }
+fn each_read_and_write_may_fail(rt: HostRuntime) {
+    for engine in &ENGINES {
+        passes(&rt, engine, reads_fail(&rt, rt.alloc(), engine));
+        passes(&rt, engine, writes_fail(&rt, rt.alloc(), engine));
     }
-    Ok(())
 }
 
-// It isn't tried again, though it would go well.
-#[test]
-fn an_interrupted_read_is_a_fault(rt: HostRuntime) -> Result<(), Fail> {
-    let alloc = rt.alloc();
-    for (link, _) in &recordings(alloc, 0)? {
-        for verb in VERBS {
-            let streams = (Interrupted::new(), Vec::new(alloc));
-            let fault = (LinkFault::Read, (1, 0));
-            assert!(rt; fails(&rt, alloc, (link, verb), streams, fault).is_empty());
-        }
-    }
-    Ok(())
+fn is_interrupted(alloc: Global, engine: &Engine) -> Result<bool, Stop> {
+    let run = Run::new(alloc, engine, 0)?;
+    Ok(run.fails_when_interrupted(alloc))
 }
 
-// The recordings above have as many octets as the limit allows, and these one more; and there is an input without end.
-#[test]
-fn one_octet_past_the_limit_is_a_fault(rt: HostRuntime) -> Result<(), Fail> {
-    let alloc = rt.alloc();
-    let fault = (LinkFault::TooLong, (0, 0));
-    for (link, recording) in &recordings(alloc, 1)? {
-        for verb in VERBS {
-            for most in [1, 7, ALL] {
-                let streams = (InPieces(recording.as_slice(), most), Vec::new(alloc));
-                let written = fails(&rt, alloc, (link, verb), streams, fault);
-                assert!(rt; verb != Verb::Normalise || written.is_empty());
-            }
-            let streams = (std::io::repeat(0), Vec::new(alloc));
-            fails(&rt, alloc, (link, verb), streams, fault);
-        }
+// Whether a recording of one octet more than the limit is too long, however many octets come at a time, and so is an
+// input without end.
+fn is_limited(alloc: Global, engine: &Engine) -> Result<bool, Stop> {
+    let run = Run::new(alloc, engine, 1)?;
+    let mut is_so = run.is_too_long(alloc, std::io::repeat(0));
+    for most in &[1, 7, ALL] {
+        is_so &= run.is_too_long(alloc, InPieces(run.recording.as_slice(), *most));
     }
-    Ok(())
+    Ok(is_so)
+}
+
+// The recordings above have as many octets as the limit allows, and here they have one more.
+#[test]
+fn interruptions_and_limits_are_faults(rt: HostRuntime) {
+    for engine in &ENGINES {
+        passes(&rt, engine, is_interrupted(rt.alloc(), engine));
+        passes(&rt, engine, is_limited(rt.alloc(), engine));
+    }
 }

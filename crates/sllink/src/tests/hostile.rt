@@ -3,205 +3,272 @@ use super::normalise;
 use super::support::engines::{ALL, Answer, Kind, Link, VERBS, Verb};
 use super::support::recordings::{
     BAD_LENGTH, BEGUN, DIVIDED, DIVIDED_FROM_255, ENDED, FIRST, HUNDRED, IN_WINDOW, LOCKED_OUT,
-    LONG, MIXED, SKIPPED, UNLOCK_DAMAGED, UNLOCK_WITH_FECF, WHOLE, WITH_FECF, WITH_IDLE, longest,
-    octets, too_long,
+    LONG, MIXED, SKIPPED, UNLOCK_DAMAGED, UNLOCK_WITH_FECF, WHOLE, WITH_FECF, WITH_IDLE, filled,
+    longest, octets, too_long,
 };
-use sl_link::{LinkFault, ManagedFault};
-use std::alloc::Global;
+use super::support::rows::{Stop, holds, passes};
+use super::support::streams::InPieces;
+use sl_link::LinkFault;
+use std::alloc::{AllocError, Global};
 use std::process::Abort;
-use std::test::Fail;
 
-// TC recordings, with the greatest frame length, whether there is error control, and the N(S) that is expected first.
-fn tc_cases() -> [(u16, bool, u8, &'static [&'static str]); 13] {
-    [
-        (16, false, 0, &[]),
-        (16, false, 0, &[WHOLE]),
-        (16, false, 0, &IN_WINDOW),
-        (16, false, 0, &LOCKED_OUT),
-        (16, false, 0, &MIXED),
-        (16, false, 0, &[WHOLE, BAD_LENGTH]),
-        (16, false, 0, &DIVIDED),
-        (16, false, 255, &DIVIDED),
-        (16, false, 255, &DIVIDED_FROM_255),
-        (16, false, 0, &SKIPPED),
-        (16, true, 0, &[UNLOCK_WITH_FECF]),
-        (16, true, 0, &[UNLOCK_DAMAGED]),
-        (24, false, 0, &[WITH_IDLE]),
-    ]
-}
+// A recording: kind of frames, their length or greatest length, whether there is error control, and the N(S) that is
+// expected first.
+type Recorded<'a> = (Kind, u16, bool, u8, &'a [&'a str]);
 
-fn tm() -> Result<Link, ManagedFault> {
-    Link::new(Kind::Tm, 32, false, 0, 1_000_000)
-}
+// Beside those of normal forms.
+const RECORDED: [Recorded; 14] = [
+    (Kind::Tm, 34, true, 0, &WITH_FECF),
+    (Kind::Tc, 16, false, 0, &[]),
+    (Kind::Tc, 16, false, 0, &[WHOLE]),
+    (Kind::Tc, 16, false, 0, &IN_WINDOW),
+    (Kind::Tc, 16, false, 0, &LOCKED_OUT),
+    (Kind::Tc, 16, false, 0, &MIXED),
+    (Kind::Tc, 16, false, 0, &[WHOLE, BAD_LENGTH]),
+    (Kind::Tc, 16, false, 0, &DIVIDED),
+    (Kind::Tc, 16, false, 255, &DIVIDED),
+    (Kind::Tc, 16, false, 255, &DIVIDED_FROM_255),
+    (Kind::Tc, 16, false, 0, &SKIPPED),
+    (Kind::Tc, 16, true, 0, &[UNLOCK_WITH_FECF]),
+    (Kind::Tc, 16, true, 0, &[UNLOCK_DAMAGED]),
+    (Kind::Tc, 24, false, 0, &[WITH_IDLE]),
+];
 
-// Recordings with their links.
-fn recordings(alloc: Global) -> Result<Vec<(Link, Vec<u8>)>, Fail> {
-    let mut recordings = Vec::new(alloc);
-    for (parts, _) in normalise::cases() {
-        recordings.push((tm()?, octets(alloc, parts)?))?;
-    }
-    let link = Link::new(Kind::Tm, 34, true, 0, 1_000_000)?;
-    recordings.push((link, octets(alloc, &WITH_FECF)?))?;
-    for (max, fecf, vr, parts) in tc_cases() {
-        let link = Link::new(Kind::Tc, max, fecf, vr, 1_000_000)?;
-        recordings.push((link, octets(alloc, parts)?))?;
-    }
-    Ok(recordings)
-}
+// What is amiss in long recordings.
+const OF_LONGEST: &str = "frames 2522 skipped 0 packets 1 idle 1 anomalies 0\n";
+
+const OF_WAITING: &str = "frames 258 skipped 0 packets 3 idle 1 anomalies 0\n";
+
+const OF_TOO_LONG: &str =
+    "104864 long vc 0 map 0\n104880 stray vc 0 map 0\nframes 6556 skipped 0 packets 0 idle 0 anomalies 2\n";
+
+const OF_NO_OCTETS: &str =
+    "6000 open vc 0 map 0 octets 0\nframes 1000 skipped 0 packets 0 idle 0 anomalies 1\n";
+
+// Kind and length of long recordings, and what is amiss in them.
+const LONG_RECORDINGS: [(Kind, u16, &str); 4] = [
+    (Kind::Tm, 32, OF_LONGEST),
+    (Kind::Tm, 32, OF_WAITING),
+    (Kind::Tc, 16, OF_TOO_LONG),
+    (Kind::Tc, 16, OF_NO_OCTETS),
+];
 
 fn lines(answer: &Answer) -> u64 {
     answer.text().lines().count() as u64
 }
 
-// What holds of every recording: each engine passes over all of it, they count the same, and the lines are as many as
-// are counted; and the normal form is whole, has as many packets, and is its own. The answer is the listing of the
-// packets.
-fn passes(rt: &impl Abort, alloc: Global, link: &Link, recording: &[u8]) -> Result<Answer, Fail> {
-    let show = link.answer(alloc, Verb::Show, recording, ALL)?;
-    let check = link.answer(alloc, Verb::Check, recording, ALL)?;
-    let packets = link.answer(alloc, Verb::Packets, recording, ALL)?;
-    let normal = link.answer(alloc, Verb::Normalise, recording, ALL)?;
-    let again = link.answer(alloc, Verb::Normalise, normal.output.as_slice(), ALL)?;
-    let [all, frames, skipped, rest, delivered, idle, anomalies] = check.counts();
-    let counted = [show.counts(), packets.counts(), normal.counts()];
-    let wanted = [
-        [all, frames, skipped, rest, 0, 0, 0],
-        [all, frames, skipped, rest, delivered, idle, 0],
-        [all, frames, skipped, rest, delivered, idle, 0],
-    ];
-    assert_eq!(rt; counted, wanted, "{link:?} {recording:?}");
-    assert_eq!(rt; all, recording.len() as u64);
-    let told = [lines(&show), lines(&check), lines(&packets)];
-    let wanted = [
-        frames.saturating_add(rest.min(1)),
-        anomalies.saturating_add(1),
-        delivered,
-    ];
-    assert_eq!(rt; told, wanted, "{link:?} {recording:?}");
-    assert_eq!(rt; again.output, normal.output, "{link:?} {recording:?}");
-    let [_, _, skipped, rest, packets_again, _, _] = again.counts();
-    assert_eq!(rt;
-        [skipped, rest, packets_again],
-        [0, 0, delivered],
-        "{link:?} {recording:?}"
-    );
-    Ok(packets)
+// Whether an engine counts this, and writes this number of lines.
+fn is_listed(
+    alloc: Global,
+    (link, verb): (&Link, Verb),
+    recording: &[u8],
+    counts: [u64; 7],
+    wanted: u64,
+) -> Result<bool, LinkFault> {
+    let answer = link.answer(alloc, verb, recording, ALL)?;
+    Ok(answer.counts() == counts && lines(&answer) == wanted)
 }
 
-// And the same is told of it where streams give and take one octet or seven at a time.
-fn passes_in_pieces(
-    rt: &impl Abort,
+// What a check counts, and how many lines it writes.
+fn checked(alloc: Global, link: &Link, recording: &[u8]) -> Result<([u64; 7], u64), LinkFault> {
+    let check = link.answer(alloc, Verb::Check, recording, ALL)?;
+    Ok((check.counts(), lines(&check)))
+}
+
+// Whether this is counted for a normal form, which is whole, has as many packets, and is its own.
+fn is_normalised(
     alloc: Global,
     link: &Link,
     recording: &[u8],
-) -> Result<(), Fail> {
-    passes(rt, alloc, link, recording)?;
-    for verb in VERBS {
-        let whole = link.answer(alloc, verb, recording, ALL)?;
-        for most in [1, 7] {
-            let in_pieces = link.answer(alloc, verb, recording, most)?;
-            assert!(rt;
-                in_pieces.is_same(&whole),
-                "{verb:?} {most} {link:?} {recording:?}"
-            );
-        }
-    }
-    Ok(())
+    counts: [u64; 7],
+) -> Result<bool, LinkFault> {
+    let normal = link.answer(alloc, Verb::Normalise, recording, ALL)?;
+    let again = link.answer(alloc, Verb::Normalise, &normal.output, ALL)?;
+    let [_, _, skipped, rest, packets, _, _] = again.counts();
+    let is_whole = [skipped, rest, packets] == [0, 0, counts[4]];
+    Ok(is_whole && normal.counts() == counts && again.output == normal.output)
 }
 
-// The packets of a front are listed as those of the whole.
-#[test]
-fn recordings_are_cut_short(rt: HostRuntime) -> Result<(), Fail> {
-    let alloc = rt.alloc();
-    for (link, recording) in &recordings(alloc)? {
-        passes_in_pieces(&rt, alloc, link, recording.as_slice())?;
-        let whole = link.answer(alloc, Verb::Packets, recording.as_slice(), ALL)?;
-        for len in 0..recording.len() {
-            let front = recording.get(..len).ok_or("short")?;
-            let packets = passes(&rt, alloc, link, front)?;
-            assert!(rt;
-                whole.output.starts_with(packets.output.as_slice()),
-                "{link:?} {front:?}"
-            );
+// What holds of every recording: each engine passes over all of it, they count the same, and the lines are as many as
+// are counted; and the normal form is as it should be.
+fn is_passed(alloc: Global, link: &Link, recording: &[u8]) -> Result<bool, LinkFault> {
+    let (counts, lines) = checked(alloc, link, recording)?;
+    let [all, frames, skipped, rest, packets, idle, anomalies] = counts;
+    let shown = [all, frames, skipped, rest, 0, 0, 0];
+    let counts = [all, frames, skipped, rest, packets, idle, 0];
+    let shown_lines = frames.saturating_add(rest.min(1));
+    let is_whole = all == recording.len() as u64 && lines == anomalies.saturating_add(1);
+    let is_shown = is_listed(alloc, (link, Verb::Show), recording, shown, shown_lines)?;
+    let are_packets = is_listed(alloc, (link, Verb::Packets), recording, counts, packets)?;
+    Ok(is_whole && is_shown && are_packets && is_normalised(alloc, link, recording, counts)?)
+}
+
+// Whether an engine tells the same where streams give and take one octet or seven at a time.
+fn is_same(alloc: Global, link: &Link, verb: Verb, recording: &[u8]) -> Result<bool, LinkFault> {
+    let whole = link.answer(alloc, verb, recording, ALL)?;
+    let by_one = link.answer(alloc, verb, recording, 1)?;
+    let by_seven = link.answer(alloc, verb, recording, 7)?;
+    Ok(by_one == whole && by_seven == whole)
+}
+
+fn is_passed_in_pieces(alloc: Global, link: &Link, recording: &[u8]) -> Result<bool, LinkFault> {
+    for verb in &VERBS {
+        if !is_same(alloc, link, *verb, recording)? {
+            return Ok(false);
         }
     }
-    Ok(())
+    is_passed(alloc, link, recording)
+}
+
+fn recorded(alloc: Global, recorded: &Recorded) -> Result<(Link, Vec<u8>), Stop> {
+    let (kind, length, fecf, vr, parts) = recorded;
+    let link = Link::new(*kind, *length, *fecf, *vr, 1_000_000)?;
+    Ok((link, octets(alloc, parts)?))
+}
+
+// Whether a front of a recording passes, and its packets are listed as those of the whole.
+fn is_front(alloc: Global, link: &Link, front: &[u8], listing: &[u8]) -> Result<bool, Stop> {
+    let packets = link.answer(alloc, Verb::Packets, front, ALL)?;
+    Ok(listing.starts_with(&packets.output) && is_passed(alloc, link, front)?)
+}
+
+// Whether a recording passes in pieces. Each front of it passes.
+fn is_cut_short(rt: &impl Abort, alloc: Global, row: &Recorded) -> Result<bool, Stop> {
+    let (link, recording) = recorded(alloc, row)?;
+    let packets = link.answer(alloc, Verb::Packets, &recording, ALL)?;
+    for len in 0..recording.len() {
+        let outcome = is_front(alloc, &link, &recording[..len], &packets.output);
+        passes(rt, &len, outcome);
+    }
+    Ok(is_passed_in_pieces(alloc, &link, &recording)?)
 }
 
 #[test]
-fn recordings_are_damaged(rt: HostRuntime) -> Result<(), Fail> {
-    let alloc = rt.alloc();
-    for (link, recording) in &recordings(alloc)? {
-        for place in 0..recording.len() {
-            for octet in [0x00, 0xFF] {
-                let mut damaged = recording.clone()?;
-                *damaged.get_mut(place).ok_or("short")? = octet;
-                passes(&rt, alloc, link, damaged.as_slice())?;
-            }
+fn recordings_are_cut_short(rt: HostRuntime) {
+    for (parts, _) in &normalise::CASES {
+        let row = (Kind::Tm, 32, false, 0, *parts);
+        passes(&rt, parts, is_cut_short(&rt, rt.alloc(), &row));
+    }
+    for row in &RECORDED {
+        passes(&rt, row, is_cut_short(&rt, rt.alloc(), row));
+    }
+}
+
+// Whether a recording passes with this octet at this place.
+fn is_passed_with(
+    alloc: Global,
+    link: &Link,
+    recording: &[u8],
+    place: usize,
+    octet: u8,
+) -> Result<bool, Stop> {
+    let mut damaged = Vec::from_slice(alloc, recording)?;
+    match damaged.get_mut(place) {
+        Some(damaged) => *damaged = octet,
+        None => return Err(Stop::Absent),
+    }
+    Ok(is_passed(alloc, link, &damaged)?)
+}
+
+// Each octet of a recording may be damaged, in either way.
+fn is_damaged(rt: &impl Abort, alloc: Global, row: &Recorded) -> Result<bool, Stop> {
+    let (link, recording) = recorded(alloc, row)?;
+    for place in 0..recording.len() {
+        for octet in &[0x00, 0xFF] {
+            let outcome = is_passed_with(alloc, &link, &recording, place, *octet);
+            passes(rt, &(place, octet), outcome);
         }
     }
-    Ok(())
+    Ok(true)
+}
+
+#[test]
+fn recordings_are_damaged(rt: HostRuntime) {
+    for (parts, _) in &normalise::CASES {
+        let row = (Kind::Tm, 32, false, 0, *parts);
+        passes(&rt, parts, is_damaged(&rt, rt.alloc(), &row));
+    }
+    for row in &RECORDED {
+        passes(&rt, row, is_damaged(&rt, rt.alloc(), row));
+    }
 }
 
 // 256 idle frames within a packet, after which the count is the same again.
-fn waiting(alloc: Global) -> Result<Vec<u8>, Fail> {
+fn waiting(alloc: Global) -> Result<Vec<u8>, Stop> {
     let mut recording = octets(alloc, &[FIRST, LONG, BEGUN])?;
     for number in 1..257u16 {
         let [_, count] = number.to_be_bytes();
-        recording.extend_from_slice(&[0x00, 0x10, count, count, 0x1F, 0xFE])?;
-        recording.extend_from_slice(&[0x55; 26])?;
+        filled(
+            &mut recording,
+            &[0x00, 0x10, count, count, 0x1F, 0xFE],
+            0x55,
+            26,
+        )?;
     }
-    recording.extend_from_slice(octets(alloc, &["001001011807", ENDED])?.as_slice())?;
+    let end = octets(alloc, &["001001011807", ENDED])?;
+    recording.extend_from_slice(&end)?;
     Ok(recording)
 }
 
 // A series of a thousand segments without octets.
-fn without_octets(alloc: Global) -> Result<Vec<u8>, Fail> {
-    let mut recording = octets(alloc, &["200100050040"])?;
+fn without_octets(alloc: Global) -> Result<Vec<u8>, AllocError> {
+    let mut recording = Vec::from_slice(alloc, &[0x20, 0x01, 0x00, 0x05, 0x00, 0x40])?;
     for _ in 0..999 {
         recording.extend_from_slice(&[0x20, 0x01, 0x00, 0x05, 0x00, 0x00])?;
     }
     Ok(recording)
 }
 
-#[test]
-fn recordings_are_long(rt: HostRuntime) -> Result<(), Fail> {
-    let alloc = rt.alloc();
-    let cases = [
-        (Kind::Tm, 32, longest(alloc)?),
-        (Kind::Tm, 32, waiting(alloc)?),
-        (Kind::Tc, 16, too_long(alloc)?),
-        (Kind::Tc, 16, without_octets(alloc)?),
-    ];
-    let listings = [
-        "frames 2522 skipped 0 packets 1 idle 1 anomalies 0\n",
-        "frames 258 skipped 0 packets 3 idle 1 anomalies 0\n",
-        "104864 long vc 0 map 0\n104880 stray vc 0 map 0\nframes 6556 skipped 0 packets 0 idle 0 anomalies 2\n",
-        "6000 open vc 0 map 0 octets 0\nframes 1000 skipped 0 packets 0 idle 0 anomalies 1\n",
-    ];
-    for ((kind, length, recording), listing) in cases.iter().zip(listings) {
-        let link = Link::new(*kind, *length, false, 0, 1_000_000)?;
-        passes_in_pieces(&rt, alloc, &link, recording.as_slice())?;
-        let check = link.answer(alloc, Verb::Check, recording.as_slice(), ALL)?;
-        assert_eq!(rt; check.text(), listing);
+// The recordings by their listings of what is amiss.
+fn long(alloc: Global, amiss: &str) -> Result<Vec<u8>, Stop> {
+    match amiss {
+        OF_LONGEST => Ok(longest(alloc)?),
+        OF_WAITING => waiting(alloc),
+        OF_TOO_LONG => Ok(too_long(alloc)?),
+        OF_NO_OCTETS => Ok(without_octets(alloc)?),
+        _ => Err(Stop::Absent),
     }
-    Ok(())
+}
+
+// Whether a recording passes, also in pieces, and this is what is amiss with it.
+fn is_long(alloc: Global, kind: Kind, length: u16, amiss: &str) -> Result<bool, Stop> {
+    let recording = long(alloc, amiss)?;
+    let link = Link::new(kind, length, false, 0, 1_000_000)?;
+    let is_checked = link.writes(alloc, Verb::Check, &recording, amiss.as_bytes())?;
+    Ok(is_checked && is_passed_in_pieces(alloc, &link, &recording)?)
+}
+
+#[test]
+fn recordings_are_long(rt: HostRuntime) {
+    for (kind, length, amiss) in &LONG_RECORDINGS {
+        passes(&rt, amiss, is_long(rt.alloc(), *kind, *length, amiss));
+    }
+}
+
+// Whether a recording is too long for an engine, where this number of octets come at a time.
+fn is_too_long(alloc: Global, link: &Link, verb: Verb, recording: &[u8], most: usize) -> bool {
+    let writer = InPieces(Vec::new(alloc), most);
+    let ending = link.end(alloc, verb, InPieces(recording, most), writer);
+    ending.is_fault(LinkFault::TooLong, (0, 0))
+}
+
+// Whether a recording of as many octets as the limit passes. With one octet more it is too long.
+fn is_limited(rt: &impl Abort, alloc: Global) -> Result<bool, Stop> {
+    let link = Link::new(Kind::Tm, 32, false, 0, 100)?;
+    let mut recording = octets(alloc, &HUNDRED)?;
+    let is_passed = is_passed_in_pieces(alloc, &link, &recording)?;
+    recording.push(0x18)?;
+    for verb in &VERBS {
+        for most in &[1, 7, ALL] {
+            let is_so = is_too_long(alloc, &link, *verb, &recording, *most);
+            holds(rt, &(verb, most), is_so);
+        }
+    }
+    Ok(is_passed)
 }
 
 // With a remainder up to the greatest number of octets, and past it.
 #[test]
-fn recordings_are_limited(rt: HostRuntime) -> Result<(), Fail> {
-    let alloc = rt.alloc();
-    let link = Link::new(Kind::Tm, 32, false, 0, 100)?;
-    let limited = octets(alloc, &HUNDRED)?;
-    let mut longer = limited.clone()?;
-    longer.push(0x18)?;
-    passes_in_pieces(&rt, alloc, &link, limited.as_slice())?;
-    for verb in VERBS {
-        for most in [1, 7, ALL] {
-            let fault = link.answer(alloc, verb, longer.as_slice(), most).err();
-            assert_eq!(rt; fault, Some(LinkFault::TooLong), "{verb:?} {most}");
-        }
-    }
-    Ok(())
+fn recordings_are_limited(rt: HostRuntime) {
+    passes(&rt, &HUNDRED, is_limited(&rt, rt.alloc()));
 }

@@ -1,11 +1,10 @@
 //! Recordings that come a frame at a time: the lines of a frame are written before more is read.
 use super::support::engines::{Kind, Link, Verb};
-use super::support::recordings::{TM_FRAME, WHOLE_BD, octets};
-use sl_link::LinkFault;
+use super::support::recordings::{TC_BYPASSING, TM_FRAME};
+use super::support::rows::{Stop, passes};
 use std::alloc::Global;
 use std::cell::Cell;
 use std::io::{Read, Result as IoResult, Write};
-use std::test::Fail;
 
 // How often the frame comes.
 const FRAMES: usize = 3;
@@ -57,8 +56,22 @@ impl<'a> Write for Screen<'a> {
     }
 }
 
+// Frames, and the listings of them.
+const LISTINGS: [(Kind, Verb, u16, &[u8]); 4] = [
+    (Kind::Tm, Verb::Show, 32, &TM_FRAME),
+    (Kind::Tm, Verb::Packets, 32, &TM_FRAME),
+    (Kind::Tc, Verb::Show, 16, &TC_BYPASSING),
+    (Kind::Tc, Verb::Packets, 16, &TC_BYPASSING),
+];
+
 // Whether a listing has a line for each frame before more was read.
-fn is_live(alloc: Global, link: &Link, verb: Verb, frame: &[u8]) -> Result<bool, LinkFault> {
+fn is_live(
+    alloc: Global,
+    (kind, verb): (Kind, Verb),
+    length: u16,
+    frame: &[u8],
+) -> Result<bool, Stop> {
+    let link = Link::new(kind, length, false, 0, 1000)?;
     let lines = Cell::new(0);
     let is_late = Cell::new(false);
     let reader = Live {
@@ -67,20 +80,15 @@ fn is_live(alloc: Global, link: &Link, verb: Verb, frame: &[u8]) -> Result<bool,
         lines: &lines,
         is_late: &is_late,
     };
-    link.end(alloc, verb, reader, Screen { lines: &lines })
-        .outcome?;
+    let ending = link.end(alloc, verb, reader, Screen { lines: &lines });
+    ending.outcome?;
     Ok(!is_late.get() && lines.get() == FRAMES)
 }
 
 #[test]
-fn a_line_is_written_before_more_is_read(rt: HostRuntime) -> Result<(), Fail> {
-    let alloc = rt.alloc();
-    let tm = Link::new(Kind::Tm, 32, false, 0, 1000)?;
-    let tc = Link::new(Kind::Tc, 16, false, 0, 1000)?;
-    let bd_frame = octets(alloc, &[WHOLE_BD])?;
-    for verb in [Verb::Show, Verb::Packets] {
-        assert!(rt; is_live(alloc, &tm, verb, &TM_FRAME)?);
-        assert!(rt; is_live(alloc, &tc, verb, bd_frame.as_slice())?);
+fn a_line_is_written_before_more_is_read(rt: HostRuntime) {
+    for (kind, verb, length, frame) in &LISTINGS {
+        let outcome = is_live(rt.alloc(), (*kind, *verb), *length, frame);
+        passes(&rt, &(kind, verb), outcome);
     }
-    Ok(())
 }

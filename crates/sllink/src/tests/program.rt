@@ -1,10 +1,13 @@
 //! Runs of the program: refused parameters, statuses, and what it says of faults.
 use super::support::recordings::{
-    FIRST, HUNDRED, TC_TEN_LISTED, TEN, TEN_FILLED, TM_TEN_LISTED, WHOLE, WITH_FECF, octets,
+    FIRST, HUNDRED, TC_TEN_LISTED, TEN, TEN_FILLED, TM_FRAME, TM_TEN_LISTED, WHOLE, WITH_FECF,
+    octets,
 };
+use super::support::rows::{Stop, passes};
 use super::support::run::{Outcome, ended, ends, lists, normalises, refuses};
-use super::support::streams::{FullAfter, Interrupted, Unflushed, Unreadable, Unwritable};
-use std::test::Fail;
+use super::support::streams::{FullAfter, Interrupted, Unflushed, Unwritable};
+use std::alloc::Global;
+use std::io::Write;
 
 const ENGINES: [&str; 8] = [
     "show tm",
@@ -37,6 +40,10 @@ const SHOW_WITH_FECF: &str = "sllink show tm --scid 1 --tm-length 34 --tm-fecf";
 
 const NORMALISE_WITH_FECF: &str = "sllink normalise tm --scid 1 --tm-length 34 --tm-fecf";
 
+const UP_TO_ONE: &str = "sllink show tm --scid 1 --limit 1";
+
+const LIMITED: &str = "sllink normalise tm --scid 1 --tm-length 32 --limit 100";
+
 const RECORDING: &[u8] = &[0, 0];
 
 // A frame with a packet of ten octets, and the same with other counts and another idle packet.
@@ -44,135 +51,206 @@ const NORMAL: [&str; 2] = [FIRST, TEN_FILLED];
 
 const COUNTED: [&str; 4] = ["00104dc81800", TEN, "07ff00070009", "55555555555555555555"];
 
+// Parameters that are refused.
+const REFUSED: [(&str, &str); 5] = [
+    ("--scid 1024 --limit 0", "sllink: managed: spacecraft\n"),
+    ("--scid 1 --tm-length 31", "sllink: managed: tm length\n"),
+    (
+        "--scid 1 --tc-length 15 --limit 0",
+        "sllink: managed: tc length\n",
+    ),
+    ("--scid 1 --window 11", "sllink: managed: window\n"),
+    ("--scid 1 --limit 0", "sllink: managed: limit\n"),
+];
+
+// A check says by its status whether it met anomalies.
+const LISTINGS: [(&str, &[&str], u8, &str); 9] = [
+    (
+        CHECK,
+        &[],
+        0,
+        "frames 0 skipped 0 packets 0 idle 0 anomalies 0\n",
+    ),
+    (
+        CHECK,
+        &NORMAL,
+        0,
+        "frames 1 skipped 0 packets 1 idle 1 anomalies 0\n",
+    ),
+    (
+        CHECK,
+        &[FIRST, TEN_FILLED, "00"],
+        1,
+        "32 rest 1\nframes 1 skipped 0 packets 1 idle 1 anomalies 1\n",
+    ),
+    (
+        CHECK,
+        &["002000001800", TEN_FILLED],
+        1,
+        "0 skip spacecraft\nframes 1 skipped 1 packets 0 idle 0 anomalies 1\n",
+    ),
+    (
+        CHECK_TC,
+        &[WHOLE],
+        0,
+        "frames 1 skipped 0 packets 1 idle 0 anomalies 0\n",
+    ),
+    (
+        CHECK_TC,
+        &[WHOLE, "00"],
+        1,
+        "16 rest 1\nframes 1 skipped 0 packets 1 idle 0 anomalies 1\n",
+    ),
+    // Other verbs count no anomalies.
+    (PACKETS, &[FIRST, TEN_FILLED, "00"], 0, TM_TEN_LISTED),
+    (PACKETS_TC, &[WHOLE, "00"], 0, TC_TEN_LISTED),
+    // An octet of the first frame is damaged.
+    (
+        SHOW_WITH_FECF,
+        &WITH_FECF,
+        0,
+        "0 skip fecf\n34 frame vc 0 mc 0 vcc 0 first 0\n",
+    ),
+];
+
+const FORMS: [(&str, &[&str], &[&str]); 3] = [
+    (NORMALISE, &NORMAL, &NORMAL),
+    (NORMALISE, &COUNTED, &NORMAL),
+    (
+        NORMALISE_WITH_FECF,
+        &WITH_FECF,
+        &[FIRST, TEN_FILLED, "5e0c"],
+    ),
+];
+
+// Command lines whose input can't be read.
+const UNREAD: [&str; 4] = [SHOW, CHECK, PACKETS, NORMALISE];
+
+// Command lines whose output can't be written, and recordings.
+const UNWRITTEN: [(&str, &[u8]); 6] = [
+    (SHOW, RECORDING),
+    (HELP, RECORDING),
+    (VERSION, RECORDING),
+    (CHECK, RECORDING),
+    (PACKETS, &TM_FRAME),
+    (NORMALISE, &TM_FRAME),
+];
+
+// Command lines, and the statuses of their runs where nothing can be said.
+const UNSAID: [(&str, u8); 3] = [
+    ("sllink", 2),
+    ("sllink show tm --scid 1024", 2),
+    ("sllink show tm --scid 1 --limit 1", 3),
+];
+
+fn is_refused(alloc: Global, engine: &str, options: &str, said: &str) -> Result<bool, Stop> {
+    let line = format!(in alloc; "sllink {engine} {options}")?;
+    Ok(refuses(alloc, line.as_str(), said)?)
+}
+
 #[test]
-fn refused_parameters_are_named(rt: HostRuntime) -> Result<(), Fail> {
-    let cases = [
-        ("--scid 1024 --limit 0", "sllink: managed: spacecraft\n"),
-        ("--scid 1 --tm-length 31", "sllink: managed: tm length\n"),
-        (
-            "--scid 1 --tc-length 15 --limit 0",
-            "sllink: managed: tc length\n",
-        ),
-        ("--scid 1 --window 11", "sllink: managed: window\n"),
-        ("--scid 1 --limit 0", "sllink: managed: limit\n"),
-    ];
-    for (options, said) in cases {
-        for engine in ENGINES {
-            let line = format!(in rt.alloc(); "sllink {engine} {options}")?;
-            refuses(&rt, rt.alloc(), line.as_str(), said)?;
+fn refused_parameters_are_named(rt: HostRuntime) {
+    for (options, said) in &REFUSED {
+        for engine in &ENGINES {
+            let outcome = is_refused(rt.alloc(), engine, options, said);
+            passes(&rt, &(engine, options), outcome);
         }
     }
-    Ok(())
 }
 
 #[test]
-fn a_check_says_by_its_status_whether_it_met_anomalies(rt: HostRuntime) -> Result<(), Fail> {
-    let none = "frames 0 skipped 0 packets 0 idle 0 anomalies 0\n";
-    let whole = "frames 1 skipped 0 packets 1 idle 1 anomalies 0\n";
-    let rest = "32 rest 1\nframes 1 skipped 0 packets 1 idle 1 anomalies 1\n";
-    let skip = "0 skip spacecraft\nframes 1 skipped 1 packets 0 idle 0 anomalies 1\n";
-    let tc_whole = "frames 1 skipped 0 packets 1 idle 0 anomalies 0\n";
-    let tc_rest = "16 rest 1\nframes 1 skipped 0 packets 1 idle 0 anomalies 1\n";
-    let cases: [(&str, &[&str], u8, &str); 8] = [
-        (CHECK, &[], 0, none),
-        (CHECK, &[FIRST, TEN_FILLED], 0, whole),
-        (CHECK, &[FIRST, TEN_FILLED, "00"], 1, rest),
-        (CHECK, &["002000001800", TEN_FILLED], 1, skip),
-        (CHECK_TC, &[WHOLE], 0, tc_whole),
-        (CHECK_TC, &[WHOLE, "00"], 1, tc_rest),
-        // Other verbs count no anomalies.
-        (PACKETS, &[FIRST, TEN_FILLED, "00"], 0, TM_TEN_LISTED),
-        (PACKETS_TC, &[WHOLE, "00"], 0, TC_TEN_LISTED),
-    ];
-    for (line, parts, status, listing) in cases {
-        lists(&rt, rt.alloc(), line, parts, (status, listing))?;
+fn recordings_are_listed_and_normalised(rt: HostRuntime) {
+    for (line, parts, status, listing) in &LISTINGS {
+        let outcome = lists(rt.alloc(), line, parts, *status, listing);
+        passes(&rt, &(line, parts), outcome);
     }
-    Ok(())
+    for row in &FORMS {
+        passes(&rt, row, normalises(rt.alloc(), row.0, row.1, row.2));
+    }
 }
 
-#[test]
-fn normal_forms_are_written(rt: HostRuntime) -> Result<(), Fail> {
-    let alloc = rt.alloc();
-    normalises(&rt, alloc, NORMALISE, &NORMAL, &NORMAL)?;
-    normalises(&rt, alloc, NORMALISE, &COUNTED, &NORMAL)?;
-    // Exactly the limit, and one octet more.
-    let line = format!(in alloc; "{NORMALISE} --limit 100")?;
+// Whether a recording has this status where a hundred octets are read at most.
+fn has_status(alloc: Global, recording: &[u8], status: u8, said: &str) -> Result<bool, Stop> {
+    let outcome = Outcome::of(alloc, LIMITED, recording)?;
+    Ok(outcome.says(status, said) && outcome.output.is_empty() == (status != 0))
+}
+
+// Exactly the limit, and one octet more.
+fn is_limited(alloc: Global) -> Result<bool, Stop> {
     let mut recording = octets(alloc, &HUNDRED)?;
-    for (status, said) in [(0, ""), (3, "sllink: too long\n")] {
-        let outcome = Outcome::of(alloc, line.as_str(), recording.as_slice())?;
-        assert!(rt; outcome.says(status, said), "{outcome:?}");
-        assert_eq!(rt; outcome.output.is_empty(), status != 0);
-        recording.push(0x18)?;
+    let is_all = has_status(alloc, &recording, 0, "")?;
+    recording.push(0x18)?;
+    Ok(is_all && has_status(alloc, &recording, 3, "sllink: too long\n")?)
+}
+
+#[test]
+fn the_limit_is_kept(rt: HostRuntime) {
+    passes(&rt, &LIMITED, is_limited(rt.alloc()));
+}
+
+fn is_unread(alloc: Global, line: &str) -> Result<bool, Stop> {
+    Ok(Outcome::unread(alloc, line)?.says(3, "sllink: read\n"))
+}
+
+fn is_too_long(alloc: Global, line: &str) -> Result<bool, Stop> {
+    Ok(Outcome::of(alloc, line, RECORDING)?.says(3, "sllink: too long\n"))
+}
+
+#[test]
+fn faults_of_reading_are_named(rt: HostRuntime) {
+    for line in &UNREAD {
+        passes(&rt, line, is_unread(rt.alloc(), line));
     }
-    Ok(())
+    passes(&rt, &UP_TO_ONE, is_too_long(rt.alloc(), UP_TO_ONE));
 }
 
-// An octet of the first frame is damaged.
-#[test]
-fn the_frame_error_control_field_is_checked(rt: HostRuntime) -> Result<(), Fail> {
-    let alloc = rt.alloc();
-    let listing = "0 skip fecf\n34 frame vc 0 mc 0 vcc 0 first 0\n";
-    lists(&rt, alloc, SHOW_WITH_FECF, &WITH_FECF, (0, listing))?;
-    normalises(&rt, alloc, NORMALISE_WITH_FECF, &WITH_FECF, &WITH_FECF[3..])
+// Whether a run says that this writer failed.
+fn fails<W: Write + Drop>(
+    alloc: Global,
+    line: &str,
+    recording: &[u8],
+    writer: W,
+) -> Result<bool, Stop> {
+    let wanted = (3, "sllink: write\n");
+    let (is_so, _, _) = ends(alloc, line, (recording, writer), wanted)?;
+    Ok(is_so)
 }
 
 #[test]
-fn faults_of_reading_are_named(rt: HostRuntime) -> Result<(), Fail> {
-    let alloc = rt.alloc();
-    for line in [SHOW, CHECK, PACKETS, NORMALISE] {
-        let outcome = Outcome::unread(alloc, line)?;
-        assert!(rt; outcome.says(3, "sllink: read\n"), "{line}");
+fn faults_of_writing_are_named(rt: HostRuntime) {
+    for (line, recording) in &UNWRITTEN {
+        passes(&rt, line, fails(rt.alloc(), line, recording, Unwritable));
+        passes(&rt, line, fails(rt.alloc(), line, recording, Unflushed));
+        passes(
+            &rt,
+            line,
+            fails(rt.alloc(), line, recording, Interrupted::new()),
+        );
     }
-    let outcome = Outcome::of(alloc, "sllink show tm --scid 1 --limit 1", RECORDING)?;
-    assert!(rt; outcome.says(3, "sllink: too long\n"));
-    Ok(())
+}
+
+// Whether a device that is full after two octets has these, and the program says that writing failed.
+fn has_beginning(alloc: Global) -> Result<bool, Stop> {
+    let streams = (&TM_FRAME[..], FullAfter::new(alloc, 2));
+    let (is_so, faults, writer) = ends(alloc, NORMALISE, streams, (3, "sllink: write\n"))?;
+    Ok(is_so && faults == 1 && writer.taken.as_slice() == &[0x00, 0x10][..])
 }
 
 #[test]
-fn faults_of_writing_are_named(rt: HostRuntime) -> Result<(), Fail> {
-    let alloc = rt.alloc();
-    let normal = octets(alloc, &[FIRST, TEN_FILLED])?;
-    let cases: [(&str, &[u8]); 6] = [
-        (SHOW, RECORDING),
-        (HELP, RECORDING),
-        (VERSION, RECORDING),
-        (CHECK, RECORDING),
-        (PACKETS, normal.as_slice()),
-        (NORMALISE, normal.as_slice()),
-    ];
-    for (line, recording) in cases {
-        let wanted = (3, "sllink: write\n");
-        ends(&rt, alloc, line, (recording, Unwritable), wanted)?;
-        ends(&rt, alloc, line, (recording, Unflushed), wanted)?;
-        ends(&rt, alloc, line, (recording, Interrupted::new()), wanted)?;
+fn a_full_device_has_the_beginning(rt: HostRuntime) {
+    passes(&rt, &NORMALISE, has_beginning(rt.alloc()));
+}
+
+// Whether this is the status of a run that can't say anything.
+fn ends_silently(alloc: Global, line: &str, wanted: u8) -> Result<bool, Stop> {
+    let mut errors = Unwritable;
+    let (status, _, _) = ended(alloc, line, RECORDING, Vec::new(alloc), &mut errors)?;
+    Ok(status == wanted)
+}
+
+#[test]
+fn faults_of_the_error_output_are_passed_over(rt: HostRuntime) {
+    for (line, wanted) in &UNSAID {
+        passes(&rt, line, ends_silently(rt.alloc(), line, *wanted));
     }
-    Ok(())
-}
-
-// It has the octets that it took, and the program says that writing failed.
-#[test]
-fn a_full_device_has_the_beginning(rt: HostRuntime) -> Result<(), Fail> {
-    let alloc = rt.alloc();
-    let recording = octets(alloc, &[FIRST, TEN_FILLED])?;
-    let streams = (recording.as_slice(), FullAfter::new(alloc, 2));
-    let (faults, writer) = ends(&rt, alloc, NORMALISE, streams, (3, "sllink: write\n"))?;
-    assert_eq!(rt; faults, 1);
-    assert_eq!(rt; writer.taken.as_slice(), &[0x00, 0x10][..]);
-    Ok(())
-}
-
-#[test]
-fn faults_of_the_error_output_are_passed_over(rt: HostRuntime) -> Result<(), Fail> {
-    let alloc = rt.alloc();
-    let cases = [
-        ("sllink", 2),
-        ("sllink show tm --scid 1024", 2),
-        ("sllink show tm --scid 1 --limit 1", 3),
-    ];
-    for (line, wanted) in cases {
-        let mut errors = Unwritable;
-        let (status, _, _) = ended(alloc, line, RECORDING, Vec::new(alloc), &mut errors)?;
-        assert_eq!(rt; status, wanted, "{line}");
-    }
-    Ok(())
 }

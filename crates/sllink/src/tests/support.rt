@@ -2,5 +2,6 @@
 //! without a contract, so that the proof of a test doesn't carry all that the run ensures.
 pub(super) mod engines;
 pub(super) mod recordings;
+pub(super) mod rows;
 pub(super) mod run;
 pub(super) mod streams;

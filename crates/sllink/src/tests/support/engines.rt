@@ -1,9 +1,10 @@
 //! Every engine over a recording.
+use super::rows::Stop;
 use super::run::text;
 use super::streams::InPieces;
 use sl_link::{
-    Counted, LinkFault, Managed, ManagedFault, Totals, check_tc, check_tm, normalise_tc,
-    normalise_tm, packets_tc, packets_tm, show_tc, show_tm,
+    Counted, LinkFault, Managed, Totals, check_tc, check_tm, normalise_tc, normalise_tm,
+    packets_tc, packets_tm, show_tc, show_tm,
 };
 use std::alloc::Global;
 use std::io::{Read, Write};
@@ -30,17 +31,17 @@ pub const ALL: usize = usize::MAX;
 pub const VERBS: [Verb; 4] = [Verb::Show, Verb::Check, Verb::Packets, Verb::Normalise];
 
 /// A link of which frames of one kind are recorded.
-#[derive(Clone, Copy, Debug)]
+#[derive(Clone, Copy)]
 pub struct Link {
     kind: Kind,
     managed: Managed,
 }
 
 /// What an engine counted, how many faults its reader and its writer had, and what it wrote.
-#[derive(Debug, PartialEq, Drop)]
+#[derive(PartialEq, Drop)]
 pub struct Answer {
     totals: Totals,
-    pub faults: (u64, u64),
+    faults: (u64, u64),
     pub output: Vec<u8>,
 }
 
@@ -64,9 +65,9 @@ impl Answer {
         ]
     }
 
-    /// Whether another answer counts and writes the same.
-    pub fn is_same(&self, other: &Answer) -> bool {
-        self == other
+    /// Whether an engine counted this, wrote this, and its streams had no fault.
+    pub fn is(&self, counts: [u64; 7], output: &[u8]) -> bool {
+        self.counts() == counts && self.output.as_slice() == output && self.faults == (0, 0)
     }
 }
 
@@ -79,21 +80,28 @@ pub struct Ending<W> {
     pub writer: W,
 }
 
+impl<W> Ending<W> {
+    /// Whether it met this fault, after these faults of the reader and of the writer.
+    pub fn is_fault(&self, fault: LinkFault, faults: (u64, u64)) -> bool {
+        match self.outcome {
+            Ok(_) => false,
+            Err(found) => found == fault && self.faults == faults,
+        }
+    }
+}
+
 impl Link {
     /// With frames of this length, or at most this length, with error control or without, of which this N(S) is
     /// expected first.
-    pub fn new(
-        kind: Kind,
-        length: u16,
-        fecf: bool,
-        vr: u8,
-        max_octets: u64,
-    ) -> Result<Link, ManagedFault> {
+    pub fn new(kind: Kind, length: u16, fecf: bool, vr: u8, max_octets: u64) -> Result<Link, Stop> {
         let managed = match kind {
-            Kind::Tm => Managed::new(1, length, fecf, 16, false, 10, vr, max_octets)?,
-            Kind::Tc => Managed::new(1, 32, false, length, fecf, 10, vr, max_octets)?,
+            Kind::Tm => Managed::new(1, length, fecf, 16, false, 10, vr, max_octets),
+            Kind::Tc => Managed::new(1, 32, false, length, fecf, 10, vr, max_octets),
         };
-        Ok(Link { kind, managed })
+        match managed {
+            Ok(managed) => Ok(Link { kind, managed }),
+            Err(_) => Err(Stop::Absent),
+        }
     }
 
     // Runs an engine.
@@ -133,6 +141,18 @@ impl Link {
             faults: ending.faults,
             output: ending.writer.0,
         })
+    }
+
+    /// Whether what an engine writes all at once is this.
+    pub fn writes(
+        &self,
+        alloc: Global,
+        verb: Verb,
+        recording: &[u8],
+        wanted: &[u8],
+    ) -> Result<bool, LinkFault> {
+        let answer = self.answer(alloc, verb, recording, ALL)?;
+        Ok(answer.output.as_slice() == wanted)
     }
 
     /// How an engine ends with these streams.

@@ -1,15 +1,19 @@
 //! Recordings in hexadecimal, part by part, and some in octets.
+use super::rows::Stop;
 use std::alloc::{AllocError, Global};
-use std::test::Fail;
 
 /// The octets of these parts, end to end.
-pub fn octets(alloc: Global, parts: &[&str]) -> Result<Vec<u8>, Fail> {
+pub fn octets(alloc: Global, parts: &[&str]) -> Result<Vec<u8>, Stop> {
     let mut octets = Vec::new(alloc);
     for part in parts {
-        let part = hex::decode(alloc, part)?;
-        octets.extend_from_slice(part.as_slice())?;
+        add(alloc, &mut octets, part)?;
     }
     Ok(octets)
+}
+
+fn add(alloc: Global, octets: &mut Vec<u8>, part: &str) -> Result<(), Stop> {
+    let part = hex::decode(alloc, part)?;
+    Ok(octets.extend_from_slice(part.as_slice())?)
 }
 
 /// The header of a first TM frame of virtual channel 0 in which a packet starts at once.
@@ -81,11 +85,13 @@ pub const SECOND: &str = "0001000f01c01001c0000003aabbccdd";
 pub const THIRD: &str = "0001000f02c01001c0000003aabbccdd";
 
 /// A packet of twenty-three octets in three frames of virtual channel 5, N(S) from 0 on and from 255 on.
-pub const DIVIDED: [&str; 3] = [
-    "0001140f00401002c005001011111111",
-    "0001140f010011111111111111111111",
-    "000114080280111111",
-];
+pub const DIVIDED: [&str; 3] = [FIRST_OF_3, MIDDLE_OF_3, LAST_OF_3];
+
+pub const FIRST_OF_3: &str = "0001140f00401002c005001011111111";
+
+pub const MIDDLE_OF_3: &str = "0001140f010011111111111111111111";
+
+pub const LAST_OF_3: &str = "000114080280111111";
 
 pub const DIVIDED_FROM_255: [&str; 3] = [BEGUN_FROM_255, CONTINUED_FROM_255, ENDED_FROM_255];
 
@@ -154,39 +160,64 @@ pub const TC_FRAME: [u8; 16] = [
     0x00, 0x01, 0x00, 0x0F, 0x00, 0xC0, 0x10, 0x01, 0xC0, 0x00, 0x00, 0x03, 0xAA, 0xBB, 0xCC, 0xDD,
 ];
 
-/// What `packets` lists of these two.
+/// A frame of type BD with the same unit.
+pub const TC_BYPASSING: [u8; 16] = [
+    0x20, 0x01, 0x00, 0x0F, 0x00, 0xC0, 0x10, 0x01, 0xC0, 0x00, 0x00, 0x03, 0xAA, 0xBB, 0xCC, 0xDD,
+];
+
+/// What `packets` lists of the first two.
 pub const TM_TEN_LISTED: &str =
     "vc 0 apid 1 type 0 secondary 0 flags 3 count 0 octets 10 0001c0000003aabbccdd\n";
 
 pub const TC_TEN_LISTED: &str =
     "vc 0 map 0 apid 1 type 1 secondary 0 flags 3 count 0 octets 10 1001c0000003aabbccdd\n";
 
-/// What `show tm` lists of the first.
+/// What `show tm` lists of the first one.
 pub const TM_TEN_SHOWN: &str = "0 frame vc 0 mc 0 vcc 0 first 0\n";
+
+/// A header of six octets, and this number of octets after it, all the same.
+pub fn filled(
+    frames: &mut Vec<u8>,
+    header: &[u8; 6],
+    octet: u8,
+    count: usize,
+) -> Result<(), AllocError> {
+    frames.extend_from_slice(header)?;
+    let len = frames.len().saturating_add(count);
+    frames.resize(len, octet)
+}
 
 /// The frames of a packet of 65,542 octets up to the one in which it ends: one in which it begins, and 2,519 in which
 /// none does.
 pub fn front_of_longest(alloc: Global) -> Result<Vec<u8>, AllocError> {
-    let mut frames = Vec::new(alloc);
-    frames.extend_from_slice(&[0x00, 0x10, 0x00, 0x00, 0x18, 0x00])?;
-    frames.extend_from_slice(&[0x00, 0x03, 0xC0, 0x00, 0xFF, 0xFF])?;
-    frames.extend_from_slice(&[0x33; 20])?;
+    let mut frames = Vec::from_slice(alloc, &[0x00, 0x10, 0x00, 0x00, 0x18, 0x00])?;
+    filled(&mut frames, &[0x00, 0x03, 0xC0, 0x00, 0xFF, 0xFF], 0x33, 20)?;
     for number in 1..2520u16 {
         let [_, count] = number.to_be_bytes();
-        frames.extend_from_slice(&[0x00, 0x10, count, count, 0x1F, 0xFF])?;
-        frames.extend_from_slice(&[0x33; 26])?;
+        filled(
+            &mut frames,
+            &[0x00, 0x10, count, count, 0x1F, 0xFF],
+            0x33,
+            26,
+        )?;
     }
     Ok(frames)
 }
 
-/// All its frames, with an idle packet of thirty octets after the packet.
+// The last two of its frames, with an idle packet of thirty octets after the packet.
+const END_OF_LONGEST: [u8; 64] = [
+    0x00, 0x10, 0xD8, 0xD8, 0x18, 0x16, //
+    0x33, 0x33, 0x33, 0x33, 0x33, 0x33, 0x33, 0x33, 0x33, 0x33, 0x33, 0x33, 0x33, 0x33, 0x33, 0x33,
+    0x33, 0x33, 0x33, 0x33, 0x33, 0x33, //
+    0x07, 0xFF, 0xC0, 0x00, //
+    0x00, 0x10, 0xD9, 0xD9, 0x1F, 0xFF, //
+    0x00, 0x17, 0, 0, 0, 0, 0, 0, 0, 0, 0, 0, 0, 0, 0, 0, 0, 0, 0, 0, 0, 0, 0, 0, 0, 0,
+];
+
+/// All its frames.
 pub fn longest(alloc: Global) -> Result<Vec<u8>, AllocError> {
     let mut frames = front_of_longest(alloc)?;
-    frames.extend_from_slice(&[0x00, 0x10, 0xD8, 0xD8, 0x18, 0x16])?;
-    frames.extend_from_slice(&[0x33; 22])?;
-    frames.extend_from_slice(&[0x07, 0xFF, 0xC0, 0x00])?;
-    frames.extend_from_slice(&[0x00, 0x10, 0xD9, 0xD9, 0x1F, 0xFF, 0x00, 0x17])?;
-    frames.extend_from_slice(&[0; 24])?;
+    frames.extend_from_slice(&END_OF_LONGEST)?;
     Ok(frames)
 }
 
@@ -201,8 +232,7 @@ pub fn too_long(alloc: Global) -> Result<Vec<u8>, AllocError> {
             6555 => 0x80,
             _ => 0x00,
         };
-        recording.extend_from_slice(&[0x00, 0x01, 0x00, 0x0F, ns, flags])?;
-        recording.extend_from_slice(&[0; 10])?;
+        filled(&mut recording, &[0x00, 0x01, 0x00, 0x0F, ns, flags], 0, 10)?;
     }
     Ok(recording)
 }

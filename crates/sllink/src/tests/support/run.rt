@@ -1,14 +1,13 @@
 //! Runs of the program over words and streams in memory.
 use super::engines::ALL;
 use super::recordings::octets;
+use super::rows::Stop;
 use super::streams::{InPieces, Unreadable, Unwritable};
 use sl_link::{Counted, run};
 use std::alloc::{AllocError, Global};
 use std::io::{Read, Write};
-use std::process::Abort;
-use std::test::Fail;
 
-/// The words of a command line.
+// The words of a command line.
 fn words(alloc: Global, line: &str) -> Result<Vec<String>, AllocError> {
     let mut words = Vec::new(alloc);
     for word in line.split_whitespace() {
@@ -22,7 +21,7 @@ pub fn text(octets: &[u8]) -> &str {
 }
 
 /// What a run answers, and what it says.
-#[derive(Debug, Drop)]
+#[derive(Drop)]
 pub struct Outcome {
     pub status: u8,
     pub output: Vec<u8>,
@@ -91,65 +90,60 @@ pub fn ended<R: Read + Drop, W: Write + Drop, E: Write>(
     Ok((status, faults, writer.into_inner()))
 }
 
-/// A run with these streams ends with this status and says this: the writer.
+/// Whether a run with these streams ends with this status and says this; how many faults the writer had, and the
+/// writer.
 pub fn ends<R: Read + Drop, W: Write + Drop>(
-    rt: &impl Abort,
     alloc: Global,
     line: &str,
     (reader, writer): (R, W),
     (status, said): (u8, &str),
-) -> Result<(u64, W), AllocError> {
+) -> Result<(bool, u64, W), AllocError> {
     let mut errors = Vec::new(alloc);
     let (found, faults, writer) = ended(alloc, line, reader, writer, &mut errors)?;
-    let told = text(errors.as_slice());
-    assert_eq!(rt; (found, told), (status, said), "{line}");
-    Ok((faults, writer))
+    let is_so = found == status && text(errors.as_slice()) == said;
+    Ok((is_so, faults, writer))
 }
 
-/// A run says this, refuses its words or parameters, and neither reads nor writes.
-pub fn refuses(rt: &impl Abort, alloc: Global, line: &str, said: &str) -> Result<(), AllocError> {
-    let streams = (Unreadable, Unwritable);
-    let (faults, _) = ends(rt, alloc, line, streams, (2, said))?;
-    assert_eq!(rt; faults, 0, "{line}");
-    Ok(())
+/// Whether a run says this, refuses its words or parameters, and neither reads nor writes.
+pub fn refuses(alloc: Global, line: &str, said: &str) -> Result<bool, AllocError> {
+    let (is_so, faults, _) = ends(alloc, line, (Unreadable, Unwritable), (2, said))?;
+    Ok(is_so && faults == 0)
 }
 
-/// A run over a recording ends with this status, says nothing and writes this text, whether its streams take all at
-/// once or octet by octet.
-pub fn lists(
-    rt: &impl Abort,
+/// Whether a run over a recording ends with this status, says nothing and writes this, where its streams give and take
+/// at most this number of octets at a time.
+pub fn writes(
     alloc: Global,
     line: &str,
-    parts: &[&str],
-    (status, listing): (u8, &str),
-) -> Result<(), Fail> {
-    let recording = octets(alloc, parts)?;
-    let outcome = Outcome::of(alloc, line, recording.as_slice())?;
-    let pieces = Outcome::with(alloc, line, recording.as_slice(), 1)?;
-    for outcome in [&outcome, &pieces] {
-        assert!(rt; outcome.says(status, ""), "{line} {outcome:?}");
-        assert_eq!(rt; outcome.text(), listing, "{line}");
-    }
-    Ok(())
+    recording: &[u8],
+    most: usize,
+    (status, output): (u8, &[u8]),
+) -> Result<bool, AllocError> {
+    let outcome = Outcome::with(alloc, line, recording, most)?;
+    Ok(outcome.says(status, "") && outcome.output.as_slice() == output)
 }
 
-/// A run over a recording writes this normal form, which is its own, whether its streams take all at once or octet by
+/// Whether a run over a recording ends with this status, says nothing and writes this text, all at once and octet by
 /// octet.
-pub fn normalises(
-    rt: &impl Abort,
+pub fn lists(
     alloc: Global,
     line: &str,
     parts: &[&str],
-    wanted: &[&str],
-) -> Result<(), Fail> {
+    status: u8,
+    listing: &str,
+) -> Result<bool, Stop> {
     let recording = octets(alloc, parts)?;
-    let wanted = octets(alloc, wanted)?;
-    let once = Outcome::of(alloc, line, recording.as_slice())?;
-    let twice = Outcome::of(alloc, line, wanted.as_slice())?;
-    let pieces = Outcome::with(alloc, line, recording.as_slice(), 1)?;
-    for outcome in [&once, &twice, &pieces] {
-        assert!(rt; outcome.says(0, ""), "{line} {outcome:?}");
-        assert!(rt; outcome.output == wanted, "{line} {outcome:?}");
-    }
-    Ok(())
+    let wanted = (status, listing.as_bytes());
+    let is_whole = writes(alloc, line, &recording, ALL, wanted)?;
+    Ok(is_whole && writes(alloc, line, &recording, 1, wanted)?)
+}
+
+/// Whether a run over a recording writes this normal form, which is its own, all at once and octet by octet.
+pub fn normalises(alloc: Global, line: &str, parts: &[&str], form: &[&str]) -> Result<bool, Stop> {
+    let recording = octets(alloc, parts)?;
+    let form = octets(alloc, form)?;
+    let wanted = (0, form.as_slice());
+    let is_form = writes(alloc, line, &recording, ALL, wanted)?;
+    let is_form_in_pieces = writes(alloc, line, &recording, 1, wanted)?;
+    Ok(is_form && is_form_in_pieces && writes(alloc, line, &form, ALL, wanted)?)
 }

@@ -27,7 +27,7 @@ impl Write for Unwritable {
     }
 }
 
-/// Takes one octet at a time, so many in all, and then none.
+/// Takes one octet at a time, this number in all, and then none.
 #[derive(Drop)]
 pub struct FullAfter {
     pub taken: Vec<u8>,
@@ -112,7 +112,7 @@ impl Write for Interrupted {
     }
 }
 
-/// Gives, or takes, at most so many octets at a time.
+/// Gives, or takes, at most this number of octets at a time.
 #[derive(Drop)]
 pub struct InPieces<T>(pub T, pub usize);
 
@@ -134,7 +134,7 @@ impl<W: Write> Write for InPieces<W> {
     }
 }
 
-/// Fails once so many calls have gone well, and at each later one.
+/// Fails once this number of calls have gone well, and at each later one.
 #[derive(Drop)]
 pub struct FailsAfter<T> {
     inner: T,

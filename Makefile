@@ -1,4 +1,5 @@
-# Installs the built program, its tools, manual pages and completions, or takes them away again; or packs them.
+# Installs the built program, its tools, manual pages and completions, or takes them away again; or packs them. Builds the
+# library for C.
 #
 #     make install
 #     make install PREFIX=$HOME/.local
@@ -6,11 +7,14 @@
 #     make uninstall
 #     make dist
 #     make deb
+#     make lib
 #
 # PREFIX is where they are to be used, /usr/local where nothing is said. DESTDIR is put before each path, for whoever
 # makes a package. `make dist` writes out/sllink-VERSION-linux-ARCHITECTURE.tar.gz, whose folders bin and share work
-# wherever they lie beside each other; `make deb` writes out/sllink_VERSION_ARCHITECTURE.deb, and wants dpkg-deb. Nothing
-# is built here: that is done by `rt run` in crates/sllink.
+# wherever they lie beside each other; `make deb` writes out/sllink_VERSION_ARCHITECTURE.deb, and wants dpkg-deb. The
+# program isn't built here: that is done by `rt run` in crates/sllink. `make lib` proves and builds libsllink.a and
+# libsllink.so in LIBRARIES, which is out where nothing is said, and wants the kit, cc, ld, objcopy and ar. Where they are
+# there, they are installed and packed with the program, with their header and what pkg-config reads.
 
 PREFIX = /usr/local
 DESTDIR =
@@ -23,12 +27,22 @@ FISH_COMPLETIONS = $(PREFIX)/share/fish/vendor_completions.d
 # The tools look for their module in ../share from the folder that they are in.
 SHARE = $(PREFIX)/share/sllink
 MODULE = $(SHARE)/python/sllink
+INCLUDE = $(PREFIX)/include
+LIB = $(PREFIX)/lib
 
 PROGRAM = crates/sllink/out/sllink
 TOOLS = $(notdir $(wildcard tools/sllink-*))
 INSTALL = install
 
-.PHONY: all install uninstall built dist deb
+# The number in it rises when a program that was linked to the library would have to be built again.
+SONAME = libsllink.so.1
+LIBRARIES = out
+CALLS = crates/sl_c/out/libsl_c.a
+# The kit's way to malloc, realloc and free, which lies beside what it says is to be read first.
+HEAP = $(dir $(shell rt doc 2> /dev/null))c/liblibc_c.a
+OBJCOPY = objcopy
+
+.PHONY: all install uninstall built dist deb lib
 
 all: built
 	@echo "$(PROGRAM) is built; 'make install' installs it under $(PREFIX)"
@@ -52,6 +66,27 @@ install: built
 	  ln -sf sllink "$(DESTDIR)$(BASH_COMPLETIONS)/$$tool" && \
 	  ln -sf sllink.fish "$(DESTDIR)$(FISH_COMPLETIONS)/$$tool.fish" || exit 1; \
 	done
+	if [ -e "$(LIBRARIES)/libsllink.a" ]; then \
+	  $(INSTALL) -d "$(DESTDIR)$(INCLUDE)" "$(DESTDIR)$(LIB)/pkgconfig" && \
+	  $(INSTALL) -m 644 include/sllink.h "$(DESTDIR)$(INCLUDE)" && \
+	  $(INSTALL) -m 644 include/sllink.pc "$(DESTDIR)$(LIB)/pkgconfig" && \
+	  $(INSTALL) -m 644 "$(LIBRARIES)/libsllink.a" "$(LIBRARIES)/$(SONAME)" "$(DESTDIR)$(LIB)" && \
+	  ln -sf $(SONAME) "$(DESTDIR)$(LIB)/libsllink.so"; \
+	fi
+
+# The library for C: what the kit builds of the calls, with its way to the heap, as one file in which the calls alone can
+# be seen from outside.
+lib:
+	cd crates/sl_c && rt lib
+	$(INSTALL) -d "$(LIBRARIES)"
+	$(LD) -r --whole-archive -o "$(LIBRARIES)/sllink.o" $(CALLS) $(HEAP)
+	$(OBJCOPY) --wildcard --keep-global-symbol 'sllink_*' "$(LIBRARIES)/sllink.o"
+	rm -f "$(LIBRARIES)/libsllink.a"
+	$(AR) -rcsD "$(LIBRARIES)/libsllink.a" "$(LIBRARIES)/sllink.o"
+	$(CC) -shared -Wl,-soname,$(SONAME) -Wl,-z,now,-z,noexecstack,--no-undefined -o "$(LIBRARIES)/$(SONAME)" \
+	  "$(LIBRARIES)/sllink.o"
+	ln -sf $(SONAME) "$(LIBRARIES)/libsllink.so"
+	rm "$(LIBRARIES)/sllink.o"
 
 # The files go, the folders stay, but for the one that has nothing else.
 uninstall:
@@ -59,7 +94,8 @@ uninstall:
 	  rm -f "$(DESTDIR)$(BIN)/$$name" "$(DESTDIR)$(MAN)/$$name.1" "$(DESTDIR)$(BASH_COMPLETIONS)/$$name" \
 	    "$(DESTDIR)$(FISH_COMPLETIONS)/$$name.fish" || exit 1; \
 	done
-	rm -f "$(DESTDIR)$(ZSH_COMPLETIONS)/_sllink"
+	rm -f "$(DESTDIR)$(ZSH_COMPLETIONS)/_sllink" "$(DESTDIR)$(INCLUDE)/sllink.h" "$(DESTDIR)$(LIB)/pkgconfig/sllink.pc" \
+	  "$(DESTDIR)$(LIB)/libsllink.a" "$(DESTDIR)$(LIB)/libsllink.so" "$(DESTDIR)$(LIB)/$(SONAME)"
 	rm -rf "$(DESTDIR)$(SHARE)"
 
 # Packages are made in OUT, with the date of the last change as the date of each file, so that they come out the same.
@@ -81,7 +117,7 @@ dist: built
 
 # Whoever makes the package is its maintainer. Of the C library it wants the last version that the program names.
 MAINTAINER = $(shell id -un) <$(shell id -un)@$(shell uname -n)>
-LIBC = $(shell grep -a -o 'GLIBC_[0-9][0-9.]*' "$(PROGRAM)" | sed 's/GLIBC_//' | sort -V | tail -n 1)
+LIBC = $(shell grep -a -h -o 'GLIBC_[0-9][0-9.]*' "$(PROGRAM)" $(wildcard $(LIBRARIES)/$(SONAME)) | sed 's/GLIBC_//' | sort -V | tail -n 1)
 
 deb: built
 	@command -v dpkg-deb > /dev/null || { echo "dpkg-deb isn't there; 'make dist' makes a tarball" >&2; exit 1; }
@@ -99,7 +135,8 @@ deb: built
 	  " the space packets in them. It lists the frames, checks the recording, lists its" \
 	  " packets, or writes its normal form, by which two recordings are compared." \
 	  " ." \
-	  " The tools around it, and their module, want Python 3." > "$(OUT)/$(DEBIAN)/DEBIAN/control"
+	  " The tools around it, and their module, want Python 3. Where the library for C was" \
+	  " built, it is there too." > "$(OUT)/$(DEBIAN)/DEBIAN/control"
 	printf '%s\n' '#!/bin/sh' 'set -e' 'rm -rf /usr/share/sllink/python/sllink/__pycache__' > "$(OUT)/$(DEBIAN)/DEBIAN/prerm"
 	chmod 644 "$(OUT)/$(DEBIAN)/DEBIAN/control"
 	chmod 755 "$(OUT)/$(DEBIAN)/DEBIAN/prerm"

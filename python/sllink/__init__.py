@@ -8,21 +8,24 @@
 
 A recording is a path, an open file descriptor, or a binary file object. Options are an Options or a sequence of words
 as they stand on the command line of the program. The program is the one of the keyword `program`, else $SLLINK, else
-sllink on the PATH, else the one that is built in the repository.
+sllink on the PATH, else the one that is built in the repository. Where it is a Library, that reads the recording in
+this process.
 
 OSError: the recording can't be opened, or the output not written. SllinkError: the program refused something or
 stopped. What came before it is the beginning of the listing.
 """
 
+from ._fault import SllinkError
+from ._library import Library, Recording
 from ._options import Options, Words
-from ._program import Recording, SllinkError, find_program, lines
+from ._program import find_program, lines
 from ._read import Anomalies, anomalies, counts, frames, normal_form, packets, same_packets
 from ._records import Anomaly, Clcw, Count, Frame, Packet, Remainder, Skip, TcFrame, TmFrame, Totals
 
 __version__ = "1.0.0"
 
 __all__ = [
-    "Anomalies", "Anomaly", "Clcw", "Count", "Frame", "Options", "Packet", "Recording", "Remainder", "Skip",
+    "Anomalies", "Anomaly", "Clcw", "Count", "Frame", "Library", "Options", "Packet", "Recording", "Remainder", "Skip",
     "SllinkError", "TcFrame", "TmFrame", "Totals", "Words", "anomalies", "counts", "find_program", "frames", "lines",
     "normal_form", "packets", "same_packets",
 ]

@@ -1,55 +1,26 @@
 """The program as a child: where it is, what it is given, and what it says."""
 
 import os
-import re
 import shutil
 import subprocess
 import threading
 from typing import Any, BinaryIO, Dict, Generator, List, Optional, Union
 
+from ._fault import SllinkError, explained
+from ._library import Library, Recording
 from ._options import Words, words_of
 
 HERE = os.path.dirname(os.path.realpath(__file__))
 BUILT = os.path.normpath(os.path.join(HERE, "../../crates/sllink/out/sllink"))
 INSTALLED = os.path.normpath(os.path.join(HERE, "../../../../bin/sllink"))
 MOST_SAID = 65536                                            # octets that are kept of what the program says
-BLOCK = 1 << 20                                              # octets of lines that are read together
+BLOCK = 3 << 20                                              # octets of lines that are read together
 
-# What the options of the program take, and the names that it has for their values.
-TAKEN = {
-    "--scid": "a decimal number from 0 to 1023",
-    "--tm-length": "a decimal number from 32 to 2048",
-    "--tc-length": "a decimal number from 16 to 1024",
-    "--window": "an even decimal number from 2 to 254",
-    "--vr": "a decimal number from 0 to 255",
-    "--vr-of": "rising virtual channels, each with its V(R), as in 0:12,5:57",
-    "--plain": "rising virtual channels, as in 5,6",
-    "--limit": "a decimal number of octets, 1 or more",
-}
-MANAGED = {"spacecraft": "--scid", "tm length": "--tm-length", "tc length": "--tc-length", "window": "--window",
-           "limit": "--limit", "plain": "--plain", "start": "--vr-of"}
-
-Recording = Union[str, bytes, "os.PathLike[str]", "os.PathLike[bytes]", int, BinaryIO]
-Program = Optional[Union[str, "os.PathLike[str]"]]
+Path = Optional[Union[str, "os.PathLike[str]"]]
+Program = Union[Path, Library]
 
 
-class SllinkError(Exception):
-    """The program refused something or stopped, or it isn't there.
-
-    `status` is the status of the program: 2 where it refused something, 3 at a fault, and 127 where there is no such
-    program; below 0 it is the number of the signal that ended it. `text` says why, in one line.
-    """
-
-    def __init__(self, status: int, text: str) -> None:
-        super().__init__(status, text)
-        self.status = status
-        self.text = text
-
-    def __str__(self) -> str:
-        return self.text
-
-
-def find_program(program: Program = None) -> str:
+def find_program(program: Path = None) -> str:
     """The program that is named, else $SLLINK, else sllink on the PATH, else the one that is installed with this module
     or built in its repository."""
     if program is not None:
@@ -57,20 +28,11 @@ def find_program(program: Program = None) -> str:
     return os.environ.get("SLLINK") or shutil.which("sllink") or (INSTALLED if os.path.exists(INSTALLED) else BUILT)
 
 
-def explained(reason: str) -> str:
-    """What the program says, and after it what the option takes that it refuses."""
-    if reason == "too long":
-        return f"{reason}; the recording has more octets than --limit"
-    found = re.match(r"managed: (?P<value>.+)|invalid value .* for '(?P<option>--[a-z-]+)", reason)
-    option = (found["option"] or MANAGED.get(found["value"], "")) if found else ""
-    return f"{reason}; {option} takes {TAKEN[option]}" if option in TAKEN else reason
-
-
 class Child:
     """A running program, whose standard output is `output`."""
 
     def __init__(self, verb: str, kind: str, recording: Recording, options: Words,
-                 program: Program = None) -> None:
+                 program: Path = None) -> None:
         name = find_program(program)
         command = [name, verb, kind, *words_of(options)]
         self._fault: Optional[BaseException] = None          # of reading the recording
@@ -156,7 +118,10 @@ class Child:
 
 def lines(verb: str, kind: str, recording: Recording, options: Words, *,
           program: Program = None) -> Generator[str, None, None]:
-    """The lines of a listing, without their line feeds, as they come."""
+    """The lines of a listing, without their line feeds, as they come; of a library all at once."""
+    if isinstance(program, Library):
+        yield from program.text(verb, kind, recording, options).decode("ascii").splitlines()
+        return
     child = Child(verb, kind, recording, options, program)
     try:
         for line in child.output:

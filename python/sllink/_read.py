@@ -5,8 +5,10 @@ from contextlib import closing
 from hashlib import sha256
 from typing import Any, BinaryIO, Dict, Generator, Iterable, Iterator, List, Literal, Optional, Tuple, Union, overload
 
+from ._fault import SllinkError
+from ._library import Library, Recording
 from ._options import Words, words_of
-from ._program import Child, Program, Recording, SllinkError, lines
+from ._program import Child, Program, lines
 from ._records import Anomaly, Count, Packet, Remainder, Skip, TcFrame, TmFrame, Totals
 from ._records import anomaly_of, frame_of, packet_of
 
@@ -103,6 +105,9 @@ def normal_form(kind: str, recording: Recording, output: Union[str, bytes, "os.P
                 options: Words, *, program: Program = None) -> None:
     """Writes the normal form of a recording into a file, which is made anew, or to a binary file object. Where the
     program refuses something or stops while it reads, nothing is written, and a file that is there stays as it is."""
+    if isinstance(program, Library):
+        _put(program.text("normalise", kind, recording, options), output)
+        return
     child = Child("normalise", kind, recording, options, program)
     try:
         octets = child.output.read(CHUNK)
@@ -120,11 +125,23 @@ def normal_form(kind: str, recording: Recording, output: Union[str, bytes, "os.P
 
 def _copy(octets: bytes, child: Child, file: BinaryIO) -> None:
     while octets:
-        left = memoryview(octets)
-        while left:
-            written = file.write(left)                       # a raw file may take a part of them
-            left = left[len(left) if written is None else written:]
+        _write(octets, file)
         octets = child.output.read(CHUNK)
+
+
+def _put(form: bytes, output: Union[str, bytes, "os.PathLike[str]", BinaryIO]) -> None:
+    if hasattr(output, "write"):
+        _write(form, output)                                 # type: ignore[arg-type]
+    else:
+        with open(output, "wb") as file:
+            _write(form, file)
+
+
+def _write(octets: bytes, file: BinaryIO) -> None:
+    left = memoryview(octets)
+    while left:
+        written = file.write(left)                           # a raw file may take a part of them
+        left = left[len(left) if written is None else written:]
 
 
 def same_packets(kind: str, a: Recording, b: Recording, options: Words, b_options: Optional[Words] = None, *,
@@ -140,6 +157,8 @@ def same_packets(kind: str, a: Recording, b: Recording, options: Words, b_option
     if b_options is not None and words_of(b_options) != words_of(options):
         return _digests(packets(kind, a, options, program=program)) == _digests(
             packets(kind, b, b_options, program=program))
+    if isinstance(program, Library):
+        return program.same_packets(kind, a, b, options)
     one = Child("normalise", kind, a, options, program)
     try:
         other = Child("normalise", kind, b, options, program)

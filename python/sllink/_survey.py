@@ -76,25 +76,18 @@ class Command(NamedTuple):
         return Command(int(words[1]), what, words[3], words[-1], int(words[-1], 16) & FLAGGED)
 
 
-class Commands(Dict[bytes, int]):
-    """TC frames by their lines without offsets, of which the same ones come often. Each has a number, which is its place
-    in `known`."""
+class Commands(Dict[bytes, Tuple[Command, List[int]]]):
+    """TC frames by their lines without offsets, of which the same ones come often: each with the numbers of frames of
+    its row and class."""
 
-    def __init__(self) -> None:
+    def __init__(self, bins: Dict[Tuple[int, str], List[int]]) -> None:
         super().__init__()
-        self.known: List[Command] = []
+        self._bins = bins
 
-    def __missing__(self, line: bytes) -> int:
-        self[line] = number = len(self.known)
-        self.known.append(Command.of(line.decode()))
-        return number
-
-    def numbers(self, piece: bytes) -> List[int]:
-        """The frames in lines of `show tc`. Numbers of frames before them are no longer right."""
-        if len(self.known) > MOST_KNOWN:
-            self.clear()
-            self.known = []
-        return list(map(self.__getitem__, SHOWN_TC.findall(piece)))
+    def __missing__(self, line: bytes) -> Tuple[Command, List[int]]:
+        command = Command.of(line.decode())
+        self[line] = it = command, self._bins[command.row, command.what]
+        return it
 
 
 class Mark:
@@ -179,7 +172,7 @@ class Survey:
         self._begun: Dict[Tuple[int, str], int] = {}
         self._locked: Dict[int, Lockout] = {}
         self._flags: Dict[int, int] = defaultdict(int)    # those of FARM-1 that are set, by channel
-        self._commands = Commands()
+        self._commands = Commands(self.bins)
         self._show()
         self.require_unchanged()
 
@@ -282,19 +275,30 @@ class Survey:
 
     def _add_tc(self, stretch: int, piece: bytes) -> None:
         """Adds lines of `show tc` that lie in one stretch."""
-        numbers, known = self._commands.numbers(piece), self._commands.known
+        known, now = self._commands, self._flags
+        if len(known) > MOST_KNOWN:
+            known.clear()
+        found = SHOWN_TC.findall(piece)
         changes = False                                   # of flags, and lockouts
         refused: List[Tuple[int, int]] = []
-        for number, times in collections.Counter(numbers).items():
-            it = known[number]
-            self.bins[it.row, it.what][stretch] += times
-            changes = changes or it.flags != self._flags[it.row] or it.what == "outside"
-            if it.what == "refused":
+        rows = set()
+        for line, times in collections.Counter(found).items():
+            it, numbers = known[line]
+            numbers[stretch] += times
+            rows.add(it.row)
+            if it.flags != now[it.row] or it.what == "outside":
+                changes = True
+            elif it.what == "refused":
                 refused.append((it.row, times))
-        last = {known[number].row: known[number].digits for number in reversed(dict.fromkeys(reversed(numbers)))}
-        self.farms.update(last)
+        for line in reversed(found):
+            it, _ = known[line]
+            if it.row in rows:
+                rows.remove(it.row)
+                self.farms[it.row] = it.digits
+                if not rows:
+                    break
         if changes:
-            self._follow([known[number] for number in numbers], piece)
+            self._follow([known[line][0] for line in found], piece)
         else:
             for row, times in refused:
                 self._locked[row].refused += times

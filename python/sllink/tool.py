@@ -14,7 +14,7 @@ import subprocess
 import sys
 from typing import Any, Callable, Iterator, List, NoReturn, Optional, Union
 
-from ._program import SllinkError
+from ._fault import SllinkError
 
 
 class Refused(Exception):

@@ -1,0 +1,2 @@
+pub mod LinkLemmas
+pub mod RecordingLemmas

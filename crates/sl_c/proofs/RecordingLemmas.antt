@@ -1,0 +1,76 @@
+-- What calls over recordings answer: a text, as much of it as fits, and whether packets are the same.
+use Rattle.std.proofs.Common.{◌≡◌, ◌↔◌, ◌⊎◌, ℕ, ◌++◌, max, min, Bool, List, length, take, drop, Some, Result, Ok, Err, refl, sym, ap, subst, ◌∙◌, inl, inr, append-nil}
+use Rattle.std.specs.Io.KnownBytes.{Consumes, IsAtEnd}
+use Rattle.std.specs.Prelude.{IfErr, IfOk, IsTrue}
+use Rattle.std.proofs.Math.Nat.{min_comm}
+use Rattle.std.proofs.lemmas.List.{drop_min, take_min}
+use Rattle.sl_link.specs.Link.Managed.{Parameters}
+use Rattle.sl_link.specs.Link.Totals.{Counts}
+use Rattle.sl_c.specs.Answer.{Says}
+use Rattle.sl_c.specs.declared.answer.Answer.{Answer}
+use Rattle.sl_c.specs.declared.answer.Answer.TheVariants.{Done, Memory}
+use Rattle.sl_c.specs.declared.link.ManagedFields.{ManagedFields}
+use Rattle.sl_c.specs.Link.{reading_of}
+use Rattle.sl_c.specs.Recording.{ComparesPackets, GivesText, Lent, Outcome}
+
+-- the copied part, by how much of it there is
+pub front_is : (text output new : List ℕ) (fits : ℕ) → fits ≡ min (length text) (length output) → new ≡ take fits text ++ drop fits output
+    → new ≡ take (length output) text ++ drop (length text) output
+front_is text output new fits is copied =
+    copied
+    ∙ ap (λ n. take n text ++ drop n output) is
+    ∙ ap (λ n. take n text ++ drop (min (length text) (length output)) output) (min_comm (length text) (length output))
+    ∙ ap (λ front. front ++ drop (min (length text) (length output)) output) (take_min (length output) text)
+    ∙ ap (λ rest. take (length output) text ++ rest) (drop_min (length text) output)
+
+-- ---- what a call over a recording answers
+
+module _ (text : Parameters → List ℕ → List ℕ) (counts : Parameters → List ℕ → Counts) (m : ManagedFields) (recording : List ℕ) where
+  -- that the recording isn't read
+  pub refused_gives : (old : Lent) (answer : ℕ) (refusal : Answer) → reading_of m (length recording) ≡ Err refusal → Says answer refusal → GivesText text counts m recording old old answer
+  refused_gives old answer refusal e says = record {
+    refused = subst (λ (r : Result Parameters Answer). IfErr r (λ it. Says answer it × (old ≡ old))) (sym e) (says, refl);
+    read = subst (λ (r : Result Parameters Answer). IfOk r (λ p. (Says answer Memory × (old ≡ old)) ⊎ Outcome text counts recording old old answer p)) (sym e) tt;
+  }
+
+  -- that memory was refused
+  pub memory_gives : (old : Lent) (answer : ℕ) (p : Parameters) → reading_of m (length recording) ≡ Ok p → Says answer Memory → GivesText text counts m recording old old answer
+  memory_gives old answer p e says = record {
+    refused = subst (λ (r : Result Parameters Answer). IfErr r (λ it. Says answer it × (old ≡ old))) (sym e) tt;
+    read = subst (λ (r : Result Parameters Answer). IfOk r (λ q. (Says answer Memory × (old ≡ old)) ⊎ Outcome text counts recording old old answer q)) (sym e) (inl (says, refl));
+  }
+
+  -- or the text
+  pub text_gives : (old new : Lent) (answer : ℕ) (p : Parameters) → reading_of m (length recording) ≡ Ok p → Outcome text counts recording old new answer p → GivesText text counts m recording old new answer
+  text_gives old new answer p e outcome = record {
+    refused = subst (λ (r : Result Parameters Answer). IfErr r (λ it. Says answer it × (new ≡ old))) (sym e) tt;
+    read = subst (λ (r : Result Parameters Answer). IfOk r (λ q. (Says answer Memory × (new ≡ old)) ⊎ Outcome text counts recording old new answer q)) (sym e) (inr outcome);
+  }
+
+-- ---- what a call over two recordings answers
+
+module _ (packets : Parameters → List ℕ → List (List (List ℕ))) (m : ManagedFields) (one other : List ℕ) where
+  -- that the recordings aren't read
+  pub refused_compares : (same : Bool) (answer : ℕ) (refusal : Answer) → reading_of m (max (length one) (length other)) ≡ Err refusal → Says answer refusal → ComparesPackets packets m one other same same answer
+  refused_compares same answer refusal e says = record {
+    refused = subst (λ (r : Result Parameters Answer). IfErr r (λ it. Says answer it × (same ≡ same))) (sym e) (says, refl);
+    read = subst (λ (r : Result Parameters Answer). IfOk r (λ p. (Says answer Memory × (same ≡ same)) ⊎ (Says answer Done × (IsTrue same ↔ (packets p one ≡ packets p other))))) (sym e) tt;
+  }
+
+  -- that memory was refused
+  pub memory_compares : (same : Bool) (answer : ℕ) (p : Parameters) → reading_of m (max (length one) (length other)) ≡ Ok p → Says answer Memory → ComparesPackets packets m one other same same answer
+  memory_compares same answer p e says = record {
+    refused = subst (λ (r : Result Parameters Answer). IfErr r (λ it. Says answer it × (same ≡ same))) (sym e) tt;
+    read = subst (λ (r : Result Parameters Answer). IfOk r (λ q. (Says answer Memory × (same ≡ same)) ⊎ (Says answer Done × (IsTrue same ↔ (packets q one ≡ packets q other))))) (sym e) (inl (says, refl));
+  }
+
+  -- or what was found
+  pub found_compares : (same same' : Bool) (answer : ℕ) (p : Parameters) → reading_of m (max (length one) (length other)) ≡ Ok p → Says answer Done → (IsTrue same' ↔ (packets p one ≡ packets p other)) → ComparesPackets packets m one other same same' answer
+  found_compares same same' answer p e says found = record {
+    refused = subst (λ (r : Result Parameters Answer). IfErr r (λ it. Says answer it × (same' ≡ same))) (sym e) tt;
+    read = subst (λ (r : Result Parameters Answer). IfOk r (λ q. (Says answer Memory × (same' ≡ same)) ⊎ (Says answer Done × (IsTrue same' ↔ (packets q one ≡ packets q other))))) (sym e) (inr (says, found));
+  }
+
+-- octets in memory that were read to their end are all of them
+pub whole_of : (recording rest octets : List ℕ) → Consumes (Some recording) (Some rest) octets → IsAtEnd (Some rest) → octets ≡ recording
+whole_of recording rest octets taken ended = sym (taken ∙ ap (λ l. octets ++ l) ended ∙ append-nil octets)

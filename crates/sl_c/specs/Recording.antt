@@ -1,0 +1,83 @@
+-- What a call over recordings in memory answers, and what it leaves in what it was lent.
+use Rattle.std.specs.Prelude.{◌≡◌, ◌↔◌, ◌⊎◌, ℕ, ◌<◌, ◌≤◌, List, ◌++◌, length, take, drop, max, Bool, IsTrue, IfOk, IfErr}
+use Rattle.sl_link.specs.Link.Managed.{Parameters}
+use Rattle.sl_link.specs.Link.Totals.{Counts}
+use Rattle.sl_link.specs.Kind.Tc.{tc_counts}
+use Rattle.sl_link.specs.Kind.Tm.{tm_counts}
+use Rattle.sl_link.specs.Normalise.Tc.{tc_normal_form}
+use Rattle.sl_link.specs.Normalise.Tm.{tm_normal_form}
+use Rattle.sl_link.specs.Verbs.Check.Tc.{check_tc_counts, check_tc_text}
+use Rattle.sl_link.specs.Verbs.Check.Tm.{check_tm_counts, check_tm_text}
+use Rattle.sl_link.specs.Verbs.Packets.Tc.{packets_tc_text}
+use Rattle.sl_link.specs.Verbs.Packets.Tm.{packets_tm_text}
+use Rattle.sl_link.specs.Verbs.Show.Tc.{show_tc_counts, show_tc_text}
+use Rattle.sl_link.specs.Verbs.Show.Tm.{show_tm_counts, show_tm_text}
+use Rattle.sl_c.specs.Answer.{Says}
+use Rattle.sl_c.specs.declared.answer.Answer.TheVariants.{Done, Memory, Room}
+use Rattle.sl_c.specs.declared.link.ManagedFields.{ManagedFields}
+use Rattle.sl_c.specs.declared.link.TotalsFields.{TotalsFields}
+use Rattle.sl_c.specs.declared.recording.Engine.{Engine}
+use Rattle.sl_c.specs.declared.recording.Engine.TheVariants.{ShowTm, ShowTc, CheckTm, CheckTc, PacketsTm, PacketsTc, NormaliseTm, NormaliseTc}
+use Rattle.sl_c.specs.Link.{counts_of, reading_of}
+
+-- ---- the text of a recording
+
+-- what a call is lent: room for a text, and where its size and the totals go
+pub record Lent : Type 0 where
+  pub output : List ℕ
+  pub size : ℕ
+  pub totals : TotalsFields
+
+abbrev pub lent : List ℕ → ℕ → TotalsFields → Lent
+lent output size totals = record { output = output; size = size; totals = totals }
+
+-- The room has the text, or as much of its front as fits, and what is behind it stays. The size is that of the whole text.
+pub record HasText (text : List ℕ) (counts : Counts) (old new : Lent) : Type 0 where
+  pub front : new.output ≡ take (length old.output) text ++ drop (length text) old.output
+  pub size : new.size ≡ length text
+  pub totals : counts_of new.totals ≡ counts
+
+-- the text is there under these parameters, and whether there was room for all of it is answered
+pub record Outcome (text : Parameters → List ℕ → List ℕ) (counts : Parameters → List ℕ → Counts) (recording : List ℕ) (old new : Lent) (answer : ℕ) (p : Parameters) : Type 0 where
+  pub written : HasText (text p recording) (counts p recording) old new
+  pub fits : length (text p recording) ≤ length old.output → Says answer Done
+  pub room : length old.output < length (text p recording) → Says answer Room
+
+-- What a call answers and leaves: why the recording isn't read, or that memory was refused, and all is as it was; or the
+-- text.
+pub record GivesText (text : Parameters → List ℕ → List ℕ) (counts : Parameters → List ℕ → Counts) (m : ManagedFields) (recording : List ℕ) (old new : Lent) (answer : ℕ) : Type 0 where
+  pub refused : IfErr (reading_of m (length recording)) (λ refusal. Says answer refusal × (new ≡ old))
+  pub read : IfOk (reading_of m (length recording)) (λ p. (Says answer Memory × (new ≡ old)) ⊎ Outcome text counts recording old new answer p)
+
+-- ---- whether two recordings deliver the same packets
+
+-- What a call answers and leaves: why the recordings aren't read, or that memory was refused, and all is as it was; or
+-- true exactly where the packets of both are the same.
+pub record ComparesPackets (packets : Parameters → List ℕ → List (List (List ℕ))) (m : ManagedFields) (one other : List ℕ) (same same' : Bool) (answer : ℕ) : Type 0 where
+  pub refused : IfErr (reading_of m (max (length one) (length other))) (λ refusal. Says answer refusal × (same' ≡ same))
+  pub read : IfOk (reading_of m (max (length one) (length other))) (λ p. (Says answer Memory × (same' ≡ same))
+      ⊎ (Says answer Done × (IsTrue same' ↔ (packets p one ≡ packets p other))))
+
+-- ---- the engines
+
+-- the listing of its frames, of what is amiss in it or of its packets, or the normal form of its packets
+abbrev pub text_by : Engine → Parameters → List ℕ → List ℕ
+text_by ShowTm = show_tm_text
+text_by ShowTc = show_tc_text
+text_by CheckTm = check_tm_text
+text_by CheckTc = check_tc_text
+text_by PacketsTm = packets_tm_text
+text_by PacketsTc = packets_tc_text
+text_by NormaliseTm = tm_normal_form
+text_by NormaliseTc = tc_normal_form
+
+-- what is counted in it
+abbrev pub counts_by : Engine → Parameters → List ℕ → Counts
+counts_by ShowTm = show_tm_counts
+counts_by ShowTc = show_tc_counts
+counts_by CheckTm = check_tm_counts
+counts_by CheckTc = check_tc_counts
+counts_by PacketsTm = tm_counts
+counts_by PacketsTc = tc_counts
+counts_by NormaliseTm = tm_counts
+counts_by NormaliseTc = tc_counts

@@ -1,0 +1,73 @@
+//! Whether two recordings in memory deliver the same packets.
+ghost use Rattle.std.specs.Prelude.{◌≡◌, IfOk, OnErr};
+ghost use Rattle.sl_link.specs.Normalise.Tc.{tc_packets};
+ghost use Rattle.sl_link.specs.Normalise.Tm.{tm_packets};
+ghost use Rattle.sl_c.specs.Answer.{Says};
+ghost use Rattle.sl_c.specs.Recording.{ComparesPackets};
+
+use crate::answer::Answer;
+use crate::link::{ManagedFields, managed_for};
+use sl_link::{Counted, LinkFault, same_packets_tc, same_packets_tm};
+use std::alloc::Global;
+
+/// Reports whether two recordings of TM transfer frames deliver the same packets on each virtual channel, idle packets
+/// left out.
+#[unsafe(no_mangle)]
+pub extern "C" fn sllink_same_packets_tm(
+    alloc: Global,
+    managed: &ManagedFields,
+    one: &[u8],
+    other: &[u8],
+    same: &mut bool,
+) -> u32
+    ensures { ComparesPackets tm_packets managed.now one.now other.now same.old same.new result }
+{
+    let managed = match managed_for(managed, one.len().max(other.len())) {
+        Ok(managed) => managed,
+        Err(answer) => return answer.number(),
+    };
+    let mut reader = Counted::new(one);
+    let mut other_reader = Counted::new(other);
+    hand_out(
+        same_packets_tm(alloc, &managed, &mut reader, &mut other_reader),
+        same,
+    )
+}
+
+/// Reports whether FARM-1 lets the same packets of two recordings of TC transfer frames through on each virtual channel
+/// and MAP, idle packets left out.
+#[unsafe(no_mangle)]
+pub extern "C" fn sllink_same_packets_tc(
+    alloc: Global,
+    managed: &ManagedFields,
+    one: &[u8],
+    other: &[u8],
+    same: &mut bool,
+) -> u32
+    ensures { ComparesPackets tc_packets managed.now one.now other.now same.old same.new result }
+{
+    let managed = match managed_for(managed, one.len().max(other.len())) {
+        Ok(managed) => managed,
+        Err(answer) => return answer.number(),
+    };
+    let mut reader = Counted::new(one);
+    let mut other_reader = Counted::new(other);
+    hand_out(
+        same_packets_tc(alloc, &managed, &mut reader, &mut other_reader),
+        same,
+    )
+}
+
+// Hands out what was found. A reader of octets in memory has no fault, and neither recording is over the limit.
+fn hand_out(found: Result<bool, LinkFault>, same: &mut bool) -> u32
+    ensures found { IfOk found (λ is_same. Says result Answer.Done × (same.new ≡ is_same)) }
+    ensures refused { OnErr found (Says result Answer.Memory × (same.new ≡ same.old)) }
+{
+    match found {
+        Ok(is_same) => {
+            *same = is_same;
+            Answer::Done.number()
+        }
+        Err(_) => Answer::Memory.number(),
+    }
+}

@@ -1,0 +1,59 @@
+"""The calls of libsllink.so, as sllink.h has them."""
+
+import ctypes
+from typing import Any, List, Tuple
+
+VERBS = "show", "check", "packets", "normalise"
+KINDS = "tm", "tc"
+
+
+class Managed(ctypes.Structure):
+    """sllink_managed."""
+
+    _fields_ = [
+        ("spacecraft", ctypes.c_uint16), ("tm_length", ctypes.c_uint16), ("tc_length", ctypes.c_uint16),
+        ("tm_fecf", ctypes.c_bool), ("tc_fecf", ctypes.c_bool), ("window", ctypes.c_uint8), ("vr", ctypes.c_uint8 * 64),
+        ("plain", ctypes.c_bool * 64), ("limit", ctypes.c_uint64),
+    ]
+
+
+class Totals(ctypes.Structure):
+    """sllink_totals."""
+
+    _fields_ = [(name, ctypes.c_uint64)
+                for name in ("octets", "frames", "skipped", "rest", "packets", "idle", "anomalies")]
+
+
+def loaded(path: str) -> Any:
+    """The library, with the types of its calls over recordings."""
+    calls = ctypes.CDLL(path)
+    size, octets, managed = ctypes.c_size_t, ctypes.c_char_p, ctypes.POINTER(Managed)
+    for kind in KINDS:
+        same = getattr(calls, f"sllink_same_packets_{kind}")
+        same.argtypes = [managed, octets, size, octets, size, ctypes.POINTER(ctypes.c_bool)]
+        same.restype = ctypes.c_uint
+        for verb in VERBS:
+            call = getattr(calls, f"sllink_{verb}_{kind}")
+            call.argtypes = [managed, octets, size, octets, size, ctypes.POINTER(size), ctypes.POINTER(Totals)]
+            call.restype = ctypes.c_uint
+    return calls
+
+
+def text_of(call: Any, managed: Managed, octets: bytes, room: int) -> Tuple[int, bytes, int]:
+    """What one of the engines answers, as much of its text as there is room for, and the size of all of it."""
+    text, size, totals = ctypes.create_string_buffer(room), ctypes.c_size_t(), Totals()
+    answer: int = call(managed, octets, len(octets), text, room, size, totals)
+    return answer, ctypes.string_at(text, min(size.value, room)), size.value
+
+
+def same_of(call: Any, managed: Managed, one: bytes, other: bytes) -> Tuple[int, bool]:
+    """What is answered of two recordings, and whether they deliver the same packets."""
+    same = ctypes.c_bool(False)
+    answer: int = call(managed, one, len(one), other, len(other), same)
+    return answer, same.value
+
+
+def managed_of(numbers: Any, starts: List[int], plain: List[bool]) -> Managed:
+    """Managed parameters, by the options that are numbers and flags."""
+    return Managed(numbers.scid, numbers.tm_length, numbers.tc_length, numbers.tm_fecf, numbers.tc_fecf, numbers.window,
+                   (ctypes.c_uint8 * 64)(*starts), (ctypes.c_bool * 64)(*plain), numbers.limit)

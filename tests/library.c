@@ -1,0 +1,921 @@
+/*
+ * What tests/library runs in C: every call of sllink.h, and recordings that it compares with the
+ * program's output.
+ *
+ *     library calls              each call, at lengths of 0 and 1 and at the edges, and refusals
+ *     library jobs < JOBS        the text of each job, with no room, one octet too few, and enough
+ *     library memory < JOBS      the same, with each allocation refused in turn
+ *     library threads < JOBS     all jobs in each of four threads at once
+ *     library stack < JOBS       how much stack a call takes
+ *     library time ROUNDS < JOBS how long a call takes, in microseconds
+ *
+ * A job is a line: VERB KIND SCID TM_LENGTH TC_LENGTH TM_FECF TC_FECF WINDOW VR PLAIN LIMIT
+ * RECORDING OUTPUT, where VR and PLAIN are 64 octets in hexadecimal, and `same` as the verb has the
+ * second recording as its output.
+ *
+ * Status: 0 where all is as it should be, 1 where something isn't, which is named.
+ */
+#define _POSIX_C_SOURCE 200809L
+#include <sllink.h>
+
+#include <pthread.h>
+#include <stdio.h>
+#include <stdlib.h>
+#include <string.h>
+#include <time.h>
+
+static int failures;
+
+static void complain(const char *what, int line) {
+    fprintf(stderr, "FAILED: line %d: %s\n", line, what);
+    failures++;
+}
+
+#define CHECK(that) ((that) ? (void)0 : complain(#that, __LINE__))
+
+/* ---- memory ---- */
+
+/* The linker leads the library's calls of malloc and realloc here. */
+static _Thread_local long refused_one, asked;
+
+void *__real_malloc(size_t size);
+void *__real_realloc(void *block, size_t size);
+void *__wrap_malloc(size_t size);
+void *__wrap_realloc(void *block, size_t size);
+
+void *__wrap_malloc(size_t size) {
+    return ++asked == refused_one ? NULL : __real_malloc(size);
+}
+
+void *__wrap_realloc(void *block, size_t size) {
+    return ++asked == refused_one ? NULL : __real_realloc(block, size);
+}
+
+/* A block of its own, so that what is read or written beside it is seen. */
+static uint8_t *block_of(const void *octets, size_t length) {
+    uint8_t *block = __real_malloc(length + (length == 0));
+    if (block == NULL)
+        exit(2);
+    if (octets != NULL)
+        memcpy(block, octets, length);
+    return block;
+}
+
+/* ---- chance ---- */
+
+static uint32_t state = 1;
+
+static uint32_t chance(uint32_t below) {
+    state = state * 1664525u + 1013904223u;
+    return (state >> 8) % below;
+}
+
+static void fill(uint8_t *octets, size_t length) {
+    for (size_t i = 0; i < length; i++)
+        octets[i] = (uint8_t)chance(256);
+}
+
+/* ---- the frame error control field ---- */
+
+/* Bit by bit. */
+static uint16_t field_of(const uint8_t *octets, size_t length) {
+    uint16_t register_ = 0xFFFF;
+    for (size_t i = 0; i < 8 * length; i++) {
+        int bit = octets[i / 8] >> (7 - i % 8) & 1;
+        int out = register_ >> 15 ^ bit;
+        register_ = (uint16_t)(register_ << 1 ^ (out ? 0x1021 : 0));
+    }
+    return register_;
+}
+
+static void error_control(void) {
+    uint8_t one = 0x31;
+    CHECK(sllink_fecf((const uint8_t *)"123456789", 9) == 0x29B1);
+    CHECK(sllink_fecf(&one, 0) == 0xFFFF);
+    CHECK(sllink_fecf(&one, 1) == field_of(&one, 1));
+    for (size_t length = 0; length < 70; length++) {
+        uint8_t *octets = block_of(NULL, length);
+        fill(octets, length);
+        CHECK(sllink_fecf(octets, length) == field_of(octets, length));
+        CHECK(
+            sllink_fecf_good(octets, length)
+            == (length > 2
+                && field_of(octets, length - 2) == (octets[length - 2] << 8 | octets[length - 1])));
+        if (length > 2) {
+            uint16_t field = field_of(octets, length - 2);
+            octets[length - 2] = (uint8_t)(field >> 8);
+            octets[length - 1] = (uint8_t)field;
+            CHECK(sllink_fecf_good(octets, length));
+            octets[chance((uint32_t)length)] ^= 0x10;
+            CHECK(!sllink_fecf_good(octets, length));
+        }
+        free(octets);
+    }
+}
+
+/* ---- headers ---- */
+
+/* The number that `width` bits have, from bit `from` on. */
+static unsigned bits(const uint8_t *octets, unsigned from, unsigned width) {
+    unsigned number = 0;
+    for (unsigned i = from; i < from + width; i++)
+        number = number << 1 | (octets[i / 8] >> (7 - i % 8) & 1);
+    return number;
+}
+
+/* Reads octets, has each field looked at, writes them again; and a field that is one too great is
+ * refused. */
+#define HEADER(name, size, look, refuse)                                                           \
+    static void name(void) {                                                                       \
+        for (int round = 0; round < 300; round++) {                                                \
+            uint8_t *octets = block_of(NULL, size), *again = block_of(NULL, size), before[size];   \
+            fill(octets, size);                                                                    \
+            if (round < 2)                                                                         \
+                memset(octets, round ? 0xFF : 0, size);                                            \
+            sllink_##name h;                                                                       \
+            memset(&h, 0, sizeof h);                                                               \
+            sllink_##name##_read(octets, &h);                                                      \
+            look;                                                                                  \
+            memset(again, 0xA5, size);                                                             \
+            CHECK(sllink_##name##_write(&h, again) == SLLINK_DONE);                                \
+            CHECK(memcmp(again, octets, size) == 0);                                               \
+            memcpy(before, again, size);                                                           \
+            sllink_##name kept = h;                                                                \
+            refuse;                                                                                \
+            CHECK(memcmp(again, before, size) == 0);                                               \
+            free(octets);                                                                          \
+            free(again);                                                                           \
+        }                                                                                          \
+    }
+
+#define IS(field, from, width) CHECK((unsigned)h.field == bits(octets, from, width))
+#define NOT(name, field, value)                                                                    \
+    do {                                                                                           \
+        h = kept;                                                                                  \
+        h.field = value;                                                                           \
+        CHECK(sllink_##name##_write(&h, again) == SLLINK_FIELD);                                   \
+    } while (0)
+
+HEADER(
+    tm_header, 6,
+    {
+        IS(version, 0, 2);
+        IS(spacecraft, 2, 10);
+        IS(vc, 12, 3);
+        IS(control, 15, 1);
+        IS(mc, 16, 8);
+        IS(vcc, 24, 8);
+        IS(secondary, 32, 1);
+        IS(sync, 33, 1);
+        IS(order, 34, 1);
+        IS(segment, 35, 2);
+        IS(first, 37, 11);
+    },
+    {
+        NOT(tm_header, version, 4);
+        NOT(tm_header, spacecraft, 1024);
+        NOT(tm_header, vc, 8);
+        NOT(tm_header, segment, 4);
+        NOT(tm_header, first, 2048);
+        NOT(tm_header, version, 255);
+        NOT(tm_header, spacecraft, 65535);
+    })
+
+HEADER(
+    tc_header, 5,
+    {
+        IS(version, 0, 2);
+        IS(bypass, 2, 1);
+        IS(command, 3, 1);
+        IS(spare, 4, 2);
+        IS(spacecraft, 6, 10);
+        IS(vc, 16, 6);
+        IS(length, 22, 10);
+        IS(ns, 32, 8);
+    },
+    {
+        NOT(tc_header, version, 4);
+        NOT(tc_header, spare, 4);
+        NOT(tc_header, spacecraft, 1024);
+        NOT(tc_header, vc, 64);
+        NOT(tc_header, length, 1024);
+    })
+
+HEADER(
+    segment_header, 1,
+    {
+        IS(flags, 0, 2);
+        IS(map, 2, 6);
+    },
+    {
+        NOT(segment_header, flags, 4);
+        NOT(segment_header, map, 64);
+    })
+
+HEADER(
+    packet_header, 6,
+    {
+        IS(version, 0, 3);
+        IS(kind, 3, 1);
+        IS(secondary, 4, 1);
+        IS(apid, 5, 11);
+        IS(flags, 16, 2);
+        IS(count, 18, 14);
+        IS(length, 32, 16);
+    },
+    {
+        NOT(packet_header, version, 8);
+        NOT(packet_header, kind, 2);
+        NOT(packet_header, apid, 2048);
+        NOT(packet_header, flags, 4);
+        NOT(packet_header, count, 16384);
+    })
+
+HEADER(
+    clcw, 4,
+    {
+        IS(word, 0, 1);
+        IS(version, 1, 2);
+        IS(status, 3, 3);
+        IS(cop, 6, 2);
+        IS(vc, 8, 6);
+        IS(spare, 14, 2);
+        IS(no_rf, 16, 1);
+        IS(no_lock, 17, 1);
+        IS(lockout, 18, 1);
+        IS(wait, 19, 1);
+        IS(retransmit, 20, 1);
+        IS(farm_b, 21, 2);
+        IS(spare_end, 23, 1);
+        IS(report, 24, 8);
+    },
+    {
+        NOT(clcw, word, 2);
+        NOT(clcw, version, 4);
+        NOT(clcw, status, 8);
+        NOT(clcw, cop, 4);
+        NOT(clcw, vc, 64);
+        NOT(clcw, spare, 4);
+        NOT(clcw, farm_b, 4);
+    })
+
+/* ---- FARM-1 ---- */
+
+/* FARM-1's table, written apart from the library. */
+static sllink_verdict stepped(sllink_farm *f, sllink_event event, uint8_t number) {
+    if (event == SLLINK_AD) {
+        unsigned ahead = (uint8_t)(number - f->vr), half = f->window / 2u;
+        if (f->lockout)
+            return SLLINK_REFUSED;
+        if (ahead == 0) {
+            f->vr++;
+            f->retransmit = false;
+            return SLLINK_ACCEPT;
+        }
+        if (ahead < half) {
+            f->retransmit = true;
+            return SLLINK_EARLY;
+        }
+        if (ahead >= 256 - half)
+            return SLLINK_LATE;
+        f->lockout = true;
+        return SLLINK_OUTSIDE;
+    }
+    f->farm_b = (f->farm_b + 1) % 4;
+    if (event == SLLINK_BD)
+        return SLLINK_ACCEPT;
+    if (event == SLLINK_UNLOCK) {
+        f->retransmit = false;
+        f->lockout = false;
+    } else if (!f->lockout) {
+        f->retransmit = false;
+        f->vr = number;
+    }
+    return SLLINK_COMMAND;
+}
+
+static bool same_farm(const sllink_farm *a, const sllink_farm *b) {
+    return a->window == b->window && a->vr == b->vr && a->lockout == b->lockout
+           && a->retransmit == b->retransmit && a->farm_b == b->farm_b;
+}
+
+static void farm(void) {
+    static const uint8_t windows[] = {2, 4, 10, 128, 254};
+    for (unsigned i = 0; i < 256; i++) {
+        sllink_farm made = {7, 8, true, true, 3}, before = made;
+        sllink_answer answer = sllink_farm_new(&made, (uint8_t)i, 200);
+        sllink_farm wanted = {(uint8_t)i, 200, false, false, 0};
+        CHECK(answer == (i == 0 || i % 2 == 1 ? SLLINK_WINDOW : SLLINK_DONE));
+        CHECK(same_farm(&made, answer == SLLINK_DONE ? &wanted : &before));
+    }
+    for (size_t i = 0; i < sizeof windows; i++) {
+        sllink_farm f, own;
+        CHECK(sllink_farm_new(&f, windows[i], (uint8_t)chance(256)) == SLLINK_DONE);
+        own = f;
+        for (int round = 0; round < 20000; round++) {
+            sllink_event event = (sllink_event)(chance(12) < 9 ? 0 : 1 + chance(3));
+            uint8_t number = (uint8_t)(chance(3) ? own.vr + chance(9) - 4u : chance(256));
+            sllink_verdict verdict = SLLINK_REFUSED;
+            CHECK(sllink_farm_step(&f, event, number, &verdict) == SLLINK_DONE);
+            CHECK(verdict == stepped(&own, event, number));
+            CHECK(same_farm(&f, &own));
+            CHECK(sllink_farm_vr(&f) == own.vr);
+            uint8_t vc = (uint8_t)chance(64), octets[4];
+            sllink_clcw word;
+            memset(&word, 0, sizeof word);
+            CHECK(sllink_farm_clcw(&f, vc, octets) == SLLINK_DONE);
+            sllink_clcw_read(octets, &word);
+            CHECK(word.cop == 1 && word.vc == vc && word.lockout == own.lockout
+                  && word.retransmit == own.retransmit && word.farm_b == own.farm_b
+                  && word.report == own.vr);
+            CHECK(octets[0] == 1 && octets[1] == vc << 2 && (octets[2] & 0xD1) == 0);
+        }
+    }
+    static const sllink_farm none[] = {{0, 1, false, false, 0},
+                                       {9, 1, true, false, 0},
+                                       {10, 1, false, true, 4},
+                                       {254, 1, true, true, 255},
+                                       {255, 0, false, false, 255}};
+    for (size_t i = 0; i < sizeof none / sizeof *none; i++) {
+        sllink_farm f = none[i];
+        sllink_verdict verdict = SLLINK_LATE;
+        uint8_t octets[4] = {1, 2, 3, 4};
+        sllink_answer wanted = i < 2 || i == 4 ? SLLINK_WINDOW : SLLINK_COUNTER;
+        CHECK(sllink_farm_step(&f, SLLINK_BD, 0, &verdict) == wanted);
+        CHECK(sllink_farm_clcw(&f, 64, octets) == wanted);
+        CHECK(same_farm(&f, &none[i]) && verdict == SLLINK_LATE
+              && memcmp(octets, "\1\2\3\4", 4) == 0);
+    }
+    sllink_farm f;
+    sllink_verdict verdict = SLLINK_LATE;
+    uint8_t octets[4] = {1, 2, 3, 4};
+    CHECK(sllink_farm_new(&f, 10, 5) == SLLINK_DONE);
+    sllink_farm before = f;
+    CHECK(sllink_farm_step(&f, (sllink_event)4, 0, &verdict) == SLLINK_EVENT);
+    CHECK(sllink_farm_clcw(&f, 64, octets) == SLLINK_VIRTUAL_CHANNEL);
+    CHECK(sllink_farm_clcw(&f, 255, octets) == SLLINK_VIRTUAL_CHANNEL);
+    CHECK(same_farm(&f, &before) && verdict == SLLINK_LATE && memcmp(octets, "\1\2\3\4", 4) == 0);
+}
+
+/* ---- recordings ---- */
+
+typedef sllink_answer engine(const sllink_managed *, const uint8_t *, size_t, uint8_t *, size_t,
+                             size_t *, sllink_totals *);
+
+static const struct {
+    const char *verb, *kind;
+    engine *call;
+} engines[] = {{"show", "tm", sllink_show_tm},           {"show", "tc", sllink_show_tc},
+               {"check", "tm", sllink_check_tm},         {"check", "tc", sllink_check_tc},
+               {"packets", "tm", sllink_packets_tm},     {"packets", "tc", sllink_packets_tc},
+               {"normalise", "tm", sllink_normalise_tm}, {"normalise", "tc", sllink_normalise_tc}};
+
+enum { ENGINES = sizeof engines / sizeof *engines, KEPT = 0xA5 };
+
+static const sllink_totals no_totals = {9, 9, 9, 9, 9, 9, 9};
+
+static bool same_totals(const sllink_totals *a, const sllink_totals *b) {
+    return memcmp(a, b, sizeof *a) == 0;
+}
+
+/* Whether all these octets are as they were. */
+static bool are_kept(const uint8_t *octets, size_t length) {
+    for (size_t i = 0; i < length; i++)
+        if (octets[i] != KEPT)
+            return false;
+    return true;
+}
+
+/* A call with `room` octets of room, which are all looked at. The text, if there is one, is the
+ * caller's to free. */
+static sllink_answer called(engine *call, const sllink_managed *managed, const uint8_t *recording,
+                            size_t length, size_t room, uint8_t **text, size_t *size,
+                            sllink_totals *totals) {
+    uint8_t *output = block_of(NULL, room);
+    memset(output, KEPT, room);
+    *size = 12345;
+    *totals = no_totals;
+    sllink_answer answer = call(managed, recording, length, output, room, size, totals);
+    if (answer == SLLINK_DONE || answer == SLLINK_ROOM) {
+        CHECK(answer == (*size <= room ? SLLINK_DONE : SLLINK_ROOM));
+        if (*size < room)
+            CHECK(are_kept(output + *size, room - *size));
+        CHECK(totals->octets == length);
+    } else {
+        CHECK(are_kept(output, room) && *size == 12345 && same_totals(totals, &no_totals));
+    }
+    *text = output;
+    return answer;
+}
+
+/* The text of a recording: a call with no room, one with enough, and around that. */
+static uint8_t *text_of(engine *call, const sllink_managed *managed, const uint8_t *recording,
+                        size_t length, size_t *size) {
+    uint8_t *none, *text;
+    sllink_totals first, totals;
+    sllink_answer answer = called(call, managed, recording, length, 0, &none, size, &first);
+    free(none);
+    if (answer != SLLINK_ROOM && answer != SLLINK_DONE)
+        return NULL;
+    size_t whole = *size;
+    CHECK(called(call, managed, recording, length, whole, &text, size, &totals) == SLLINK_DONE);
+    CHECK(*size == whole && same_totals(&first, &totals));
+    for (size_t room = whole > 1 ? whole - 1 : 0; room <= whole + 2; room++) {
+        uint8_t *other;
+        called(call, managed, recording, length, room, &other, size, &totals);
+        CHECK(*size == whole && same_totals(&first, &totals));
+        CHECK(memcmp(other, text, room < whole ? room : whole) == 0);
+        free(other);
+    }
+    *size = whole;
+    return text;
+}
+
+static sllink_managed usual(void) {
+    sllink_managed managed;
+    memset(&managed, 0, sizeof managed);
+    managed.spacecraft = 1;
+    managed.tm_length = 32;
+    managed.tc_length = 1024;
+    managed.window = 10;
+    managed.limit = 1073741824;
+    return managed;
+}
+
+/* A TM frame with a packet of 26 octets. */
+static void frame(uint8_t *octets, uint8_t count) {
+    static const uint8_t front[12] = {0, 0x10, 0, 0, 0x18, 0, 0, 1, 0xC0, 0, 0, 19};
+    memcpy(octets, front, 12);
+    memset(octets + 12, 'a' + count % 26, 20);
+    octets[2] = octets[3] = count;
+}
+
+static void refused(engine *call, const sllink_managed *managed, size_t length,
+                    sllink_answer wanted) {
+    uint8_t *recording = block_of(NULL, length), *text;
+    size_t size;
+    sllink_totals totals;
+    memset(recording, 0, length);
+    CHECK(called(call, managed, recording, length, 100, &text, &size, &totals) == wanted);
+    free(text);
+    free(recording);
+}
+
+static void recordings(void) {
+    for (int i = 0; i < ENGINES; i++) {
+        engine *call = engines[i].call;
+        bool is_tm = strcmp(engines[i].kind, "tm") == 0;
+        sllink_managed managed = usual();
+        /* lengths */
+        for (size_t length = 0; length < 200; length += length < 70 ? 1 : 29) {
+            uint8_t *recording = block_of(NULL, length);
+            size_t size;
+            for (size_t j = 0; j + 32 <= length; j += 32)
+                frame(recording + j, (uint8_t)(j / 32));
+            memset(recording + length / 32 * 32, 0, length % 32);
+            free(text_of(call, &managed, recording, length, &size));
+            CHECK(length > 0 || size == (strcmp(engines[i].verb, "check") == 0 ? 48u : 0u));
+            free(recording);
+        }
+        if (is_tm) {
+            uint8_t octets[64], *text;
+            size_t size;
+            frame(octets, 0);
+            frame(octets + 32, 1);
+            text = text_of(call, &managed, octets, 64, &size);
+            CHECK(text != NULL && size > 0);
+            free(text);
+        }
+        /* what is refused, in its order, and the edges of what isn't */
+        static const struct {
+            int spacecraft, tm, tc, window;
+            uint64_t limit;
+            sllink_answer answer;
+        } tried[] = {
+            {1024, 31, 15, 0, 0, SLLINK_SPACECRAFT}, {65535, 32, 16, 2, 9, SLLINK_SPACECRAFT},
+            {1023, 31, 15, 0, 0, SLLINK_TM_LENGTH},  {0, 2049, 16, 2, 9, SLLINK_TM_LENGTH},
+            {0, 0, 16, 2, 9, SLLINK_TM_LENGTH},      {0, 65535, 16, 2, 9, SLLINK_TM_LENGTH},
+            {0, 32, 15, 0, 0, SLLINK_TC_LENGTH},     {0, 32, 1025, 2, 9, SLLINK_TC_LENGTH},
+            {0, 32, 16, 0, 0, SLLINK_WINDOW},        {0, 32, 16, 255, 9, SLLINK_WINDOW},
+            {0, 2048, 1024, 254, 0, SLLINK_LIMIT},   {0, 32, 16, 2, 8, SLLINK_TOO_LONG},
+            {0, 32, 16, 2, 1, SLLINK_TOO_LONG},
+        };
+        for (size_t j = 0; j < sizeof tried / sizeof *tried; j++) {
+            managed.spacecraft = (uint16_t)tried[j].spacecraft;
+            managed.tm_length = (uint16_t)tried[j].tm;
+            managed.tc_length = (uint16_t)tried[j].tc;
+            managed.window = (uint8_t)tried[j].window;
+            managed.limit = tried[j].limit;
+            refused(call, &managed, 9, tried[j].answer);
+        }
+        uint8_t zeros[9] = {0};
+        size_t size;
+        static const int edges[][4] = {{0, 32, 16, 2}, {1023, 2048, 1024, 254}};
+        for (int j = 0; j < 2; j++) {
+            managed = usual();
+            managed.spacecraft = (uint16_t)edges[j][0];
+            managed.tm_length = (uint16_t)edges[j][1];
+            managed.tc_length = (uint16_t)edges[j][2];
+            managed.window = (uint8_t)edges[j][3];
+            managed.limit = j ? UINT64_MAX : 9;
+            uint8_t *text = text_of(call, &managed, zeros, 9, &size);
+            CHECK(text != NULL);
+            free(text);
+        }
+    }
+}
+
+typedef sllink_answer comparison(const sllink_managed *, const uint8_t *, size_t, const uint8_t *,
+                                 size_t, bool *);
+
+static void same_packets(void) {
+    uint8_t octets[96], other[64];
+    sllink_managed managed = usual();
+    for (int i = 0; i < 3; i++)
+        frame(octets + 32 * i, (uint8_t)i);
+    frame(other, 0);
+    frame(other + 32, 9);
+    comparison *calls[] = {sllink_same_packets_tm, sllink_same_packets_tc};
+    for (int i = 0; i < 2; i++) {
+        bool same = false;
+        CHECK(calls[i](&managed, octets, 96, octets, 96, &same) == SLLINK_DONE && same);
+        same = false;
+        CHECK(calls[i](&managed, octets, 0, octets, 1, &same) == SLLINK_DONE && same);
+        /* a refusal leaves it as it was, whatever that is */
+        for (int was = 0; was < 2; was++) {
+            managed.limit = 95;
+            same = was;
+            CHECK(calls[i](&managed, octets, 96, other, 64, &same) == SLLINK_TOO_LONG
+                  && same == was);
+            CHECK(calls[i](&managed, other, 64, octets, 96, &same) == SLLINK_TOO_LONG
+                  && same == was);
+            managed.limit = 0;
+            CHECK(calls[i](&managed, octets, 96, other, 64, &same) == SLLINK_LIMIT && same == was);
+            managed.spacecraft = 1024;
+            CHECK(calls[i](&managed, octets, 96, other, 64, &same) == SLLINK_SPACECRAFT
+                  && same == was);
+            managed = usual();
+        }
+    }
+    bool same = true;
+    CHECK(sllink_same_packets_tm(&managed, octets, 96, octets, 64, &same) == SLLINK_DONE && !same);
+    same = true;
+    CHECK(sllink_same_packets_tm(&managed, octets, 64, other, 64, &same) == SLLINK_DONE && !same);
+    /* the normal form of two packets has other counts than these frames */
+    uint8_t *form;
+    size_t size;
+    octets[2] = 77;
+    octets[34] = 99;
+    form = text_of(sllink_normalise_tm, &managed, octets, 64, &size);
+    CHECK(form != NULL && size == 64 && memcmp(form, octets, 64) != 0);
+    CHECK(sllink_same_packets_tm(&managed, octets, 64, form, size, &same) == SLLINK_DONE && same);
+    free(form);
+}
+
+/* ---- jobs ---- */
+
+typedef struct job {
+    char verb[16], kind[4], path[512], output[512];
+    sllink_managed managed;
+    uint8_t *recording, *other;
+    size_t length, other_length;
+    engine *call;
+    comparison *compare;
+} job;
+
+static uint8_t *octets_of(const char *path, size_t *length) {
+    FILE *file = fopen(path, "rb");
+    if (file == NULL || fseek(file, 0, SEEK_END) != 0) {
+        perror(path);
+        exit(2);
+    }
+    *length = (size_t)ftell(file);
+    rewind(file);
+    uint8_t *octets = block_of(NULL, *length);
+    if (fread(octets, 1, *length, file) != *length)
+        exit(2);
+    fclose(file);
+    return octets;
+}
+
+static bool next_job(job *it) {
+    char vr[130], plain[130];
+    int scid, tm, tc, tm_fecf, tc_fecf, window;
+    unsigned long long limit;
+    int found =
+        scanf("%15s %3s %d %d %d %d %d %d %129s %129s %llu %511s %511s", it->verb, it->kind, &scid,
+              &tm, &tc, &tm_fecf, &tc_fecf, &window, vr, plain, &limit, it->path, it->output);
+    if (found != 13)
+        return false;
+    it->managed = usual();
+    it->managed.spacecraft = (uint16_t)scid;
+    it->managed.tm_length = (uint16_t)tm;
+    it->managed.tc_length = (uint16_t)tc;
+    it->managed.tm_fecf = tm_fecf;
+    it->managed.tc_fecf = tc_fecf;
+    it->managed.window = (uint8_t)window;
+    it->managed.limit = limit;
+    for (int i = 0; i < 64; i++) {
+        unsigned number;
+        if (sscanf(vr + 2 * i, "%2x", &number) == 1)
+            it->managed.vr[i] = (uint8_t)number;
+        if (sscanf(plain + 2 * i, "%2x", &number) == 1)
+            it->managed.plain[i] = number != 0;
+    }
+    it->recording = octets_of(it->path, &it->length);
+    it->call = NULL;
+    it->compare = NULL;
+    it->other = NULL;
+    for (int i = 0; i < ENGINES; i++)
+        if (strcmp(engines[i].verb, it->verb) == 0 && strcmp(engines[i].kind, it->kind) == 0)
+            it->call = engines[i].call;
+    if (it->call == NULL) {
+        it->compare = strcmp(it->kind, "tm") == 0 ? sllink_same_packets_tm : sllink_same_packets_tc;
+        it->other = octets_of(it->output, &it->other_length);
+    }
+    return true;
+}
+
+static void end_job(job *it) {
+    free(it->recording);
+    free(it->other);
+}
+
+static void jobs(void) {
+    for (job it; next_job(&it); end_job(&it)) {
+        if (it.compare != NULL) {
+            bool same = false;
+            sllink_answer answer =
+                it.compare(&it.managed, it.recording, it.length, it.other, it.other_length, &same);
+            printf("%s %s %d %s\n", it.path, it.output, (int)answer, same ? "same" : "other");
+            continue;
+        }
+        size_t size = 0;
+        uint8_t *text = text_of(it.call, &it.managed, it.recording, it.length, &size);
+        FILE *file = fopen(it.output, "wb");
+        if (file == NULL || text == NULL || fwrite(text, 1, size, file) != size
+            || fclose(file) != 0)
+            complain(it.output, __LINE__);
+        free(text);
+    }
+}
+
+/* Each allocation is refused in turn: nothing is written then, and all blocks are given back, as
+ * valgrind sees. */
+static void memory(void) {
+    long refusals = 0;
+    for (job it; next_job(&it); end_job(&it)) {
+        for (long which = 1;; which++) {
+            sllink_answer answer;
+            asked = 0;
+            refused_one = which;
+            if (it.compare != NULL) {
+                bool same = which % 2;
+                answer = it.compare(&it.managed, it.recording, it.length, it.other, it.other_length,
+                                    &same);
+                if (answer != SLLINK_DONE)
+                    CHECK(same == which % 2);
+            } else {
+                uint8_t *text;
+                size_t size;
+                sllink_totals totals;
+                answer = called(it.call, &it.managed, it.recording, it.length, 1 << 20, &text,
+                                &size, &totals);
+                free(text);
+            }
+            refused_one = 0;
+            if (asked < which) {
+                CHECK(answer == SLLINK_DONE);
+                break;
+            }
+            CHECK(answer == SLLINK_MEMORY);
+            refusals++;
+        }
+    }
+    printf("%ld refusals\n", refusals);
+}
+
+/* ---- threads ---- */
+
+enum { THREADS = 4, ROUNDS = 20, STACK = 1 << 20 };
+
+static job *all;
+static size_t count;
+static int threads_failed[THREADS];
+
+static void *in_a_thread(void *number) {
+    int *failed = number;
+    sllink_farm f;
+    sllink_verdict verdict;
+    if (sllink_farm_new(&f, 10, 0) != SLLINK_DONE)
+        ++*failed;
+    for (int round = 0; round < ROUNDS; round++)
+        for (size_t i = 0; i < count; i++) {
+            const job *it = &all[i];
+            sllink_totals totals;
+            size_t size = 0;
+            bool same = false;
+            if (it->compare != NULL) {
+                if (it->compare(&it->managed, it->recording, it->length, it->other,
+                                it->other_length, &same)
+                    != SLLINK_DONE)
+                    ++*failed;
+                continue;
+            }
+            uint8_t *text = block_of(NULL, 1 << 16);
+            if (it->call(&it->managed, it->recording, it->length, text, 1 << 16, &size, &totals)
+                    != SLLINK_DONE
+                || size != it->other_length || memcmp(text, it->other, size) != 0)
+                ++*failed;
+            free(text);
+            if (sllink_farm_step(&f, SLLINK_AD, (uint8_t)(round * (int)count + (int)i), &verdict)
+                    != SLLINK_DONE
+                && ++*failed)
+                break;
+        }
+    return NULL;
+}
+
+static void threads(void) {
+    pthread_t them[THREADS];
+    pthread_attr_t small;
+    all = calloc(10000, sizeof *all);
+    if (all == NULL)
+        exit(2);
+    while (count < 10000 && next_job(&all[count])) {
+        job *it = &all[count++];
+        if (it->call != NULL) {
+            it->other =
+                text_of(it->call, &it->managed, it->recording, it->length, &it->other_length);
+            CHECK(it->other_length <= 1 << 16);
+        }
+    }
+    CHECK(pthread_attr_init(&small) == 0 && pthread_attr_setstacksize(&small, STACK) == 0);
+    for (int i = 0; i < THREADS; i++)
+        CHECK(pthread_create(&them[i], &small, in_a_thread, &threads_failed[i]) == 0);
+    for (int i = 0; i < THREADS; i++) {
+        CHECK(pthread_join(them[i], NULL) == 0);
+        CHECK(threads_failed[i] == 0);
+    }
+    pthread_attr_destroy(&small);
+    for (size_t i = 0; i < count; i++)
+        end_job(&all[i]);
+    free(all);
+}
+
+/* ---- stack ---- */
+
+enum { RECORDINGS_STACK = 256 << 10, OTHER_STACK = 8 << 10 };
+
+typedef struct task {
+    void *(*does)(void *);
+    void *with;
+} task;
+
+/* Does it below what the beginning and the end of a thread touch. */
+static void *below(void *with) {
+    const task *it = with;
+    volatile uint8_t above[1 << 15];
+    above[0] = 1;
+    void *done = it->does(it->with);
+    return above[0] == 1 ? done : NULL;
+}
+
+/* How much of its stack a thread touches that does this. */
+static size_t touched(void *(*does)(void *), void *with) {
+    pthread_t thread;
+    pthread_attr_t painted;
+    task it = {does, with};
+    uint8_t *stack = aligned_alloc(4096, STACK);
+    size_t left = 0;
+    if (stack == NULL)
+        exit(2);
+    memset(stack, KEPT, STACK);
+    CHECK(pthread_attr_init(&painted) == 0);
+    CHECK(pthread_attr_setstack(&painted, stack, STACK) == 0);
+    CHECK(pthread_create(&thread, &painted, below, &it) == 0);
+    CHECK(pthread_join(thread, NULL) == 0);
+    while (left < STACK && stack[left] == KEPT)
+        left++;
+    pthread_attr_destroy(&painted);
+    free(stack);
+    return STACK - left;
+}
+
+static uint8_t lent[1 << 16];
+
+static void *nothing(void *with) {
+    return with;
+}
+
+static void *the_job(void *with) {
+    job *it = with;
+    sllink_totals totals;
+    size_t size;
+    bool same;
+    sllink_answer answer =
+        it->compare != NULL
+            ? it->compare(&it->managed, it->recording, it->length, it->other, it->other_length,
+                          &same)
+            : it->call(&it->managed, it->recording, it->length, lent, sizeof lent, &size, &totals);
+    return answer == SLLINK_DONE ? with : NULL;
+}
+
+static void *other_calls(void *with) {
+    static sllink_farm f;
+    static sllink_verdict verdict;
+    static sllink_tm_header tm;
+    static sllink_tc_header tc;
+    static sllink_segment_header segment;
+    static sllink_packet_header packet;
+    static sllink_clcw word;
+    unsigned done = sllink_farm_new(&f, 10, 0);
+    done |= sllink_farm_clcw(&f, 63, lent);
+    for (unsigned event = 0; event < 4; event++)
+        done |= sllink_farm_step(&f, (sllink_event)event, 9, &verdict);
+    sllink_clcw_read(lent, &word);
+    done |= sllink_clcw_write(&word, lent);
+    sllink_tm_header_read(lent, &tm);
+    done |= sllink_tm_header_write(&tm, lent);
+    sllink_tc_header_read(lent, &tc);
+    done |= sllink_tc_header_write(&tc, lent);
+    sllink_segment_header_read(lent, &segment);
+    done |= sllink_segment_header_write(&segment, lent);
+    sllink_packet_header_read(lent, &packet);
+    done |= sllink_packet_header_write(&packet, lent);
+    (void)(sllink_fecf(lent, sizeof lent) + sllink_fecf_good(lent, 77) + sllink_farm_vr(&f));
+    return done == SLLINK_DONE ? with : NULL;
+}
+
+/* A call takes no more stack than the header says. */
+static void stack(void) {
+    size_t before = touched(nothing, NULL), most = 0, other = touched(other_calls, NULL) - before;
+    for (job it; next_job(&it); end_job(&it)) {
+        size_t found = touched(the_job, &it) - before;
+        CHECK(found <= RECORDINGS_STACK);
+        most = found > most ? found : most;
+    }
+    CHECK(other <= OTHER_STACK);
+    printf("%zu octets of stack, other calls %zu\n", most, other);
+}
+
+/* ---- time ---- */
+
+static double now(void) {
+    struct timespec it;
+    clock_gettime(CLOCK_MONOTONIC, &it);
+    return 1e6 * (double)it.tv_sec + 1e-3 * (double)it.tv_nsec;
+}
+
+static void times(long rounds) {
+    for (job it; next_job(&it); end_job(&it)) {
+        size_t room = 4 * it.length + (1 << 20), size;
+        uint8_t *output = block_of(NULL, room);
+        sllink_totals totals;
+        bool same;
+        memset(output, 0, room);
+        double least = 1e300;
+        for (long round = 0; round < rounds; round++) {
+            double before = now();
+            sllink_answer answer = it.compare ? it.compare(&it.managed, it.recording, it.length,
+                                                           it.other, it.other_length, &same)
+                                              : it.call(&it.managed, it.recording, it.length,
+                                                        output, room, &size, &totals);
+            double after = now();
+            CHECK(answer == SLLINK_DONE);
+            if (after - before < least)
+                least = after - before;
+        }
+        printf("%s %s %zu octets %.1f us\n", it.verb, it.kind, it.length, least);
+        free(output);
+    }
+}
+
+int main(int argc, char **argv) {
+    const char *mode = argc > 1 ? argv[1] : "";
+    if (strcmp(mode, "calls") == 0) {
+        error_control();
+        tm_header();
+        tc_header();
+        segment_header();
+        packet_header();
+        clcw();
+        farm();
+        recordings();
+        same_packets();
+    } else if (strcmp(mode, "jobs") == 0) {
+        jobs();
+    } else if (strcmp(mode, "memory") == 0) {
+        memory();
+    } else if (strcmp(mode, "threads") == 0) {
+        threads();
+    } else if (strcmp(mode, "stack") == 0) {
+        stack();
+    } else if (strcmp(mode, "time") == 0 && argc == 3) {
+        times(atol(argv[2]));
+    } else {
+        fprintf(stderr, "library: calls, jobs, memory, threads, stack, or time ROUNDS\n");
+        return 2;
+    }
+    return failures > 0;
+}

@@ -69,7 +69,7 @@ const OF_CHANNEL_5: [Answer; 3] = [
 type State = (u8, bool, bool, u8);
 
 // The state of a FARM-1 with a window of 10 and V(R) 7 at the start, after each event.
-const STATES: [(FarmEvent, State); 7] = [
+static STATES: [(FarmEvent, State); 7] = [
     (FarmEvent::Ad(7), (8, false, false, 0)),
     (FarmEvent::Bd, (8, false, false, 1)),
     (FarmEvent::Ad(9), (8, false, true, 1)),

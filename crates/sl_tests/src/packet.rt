@@ -46,7 +46,7 @@ const VERSION_ONE: [u8; 7] = [0x20, 0x01, 0xC0, 0x00, 0x00, 0x00, 0xAA];
 const SHORT: [u8; 9] = [0x00, 0x01, 0xC0, 0x00, 0x00, 0x03, 0xAA, 0xBB, 0xCC];
 
 // Octets, and the packet at their front.
-const FIRST: [(&[u8], Option<&[u8]>); 6] = [
+static FIRST: [(&[u8], Option<&[u8]>); 6] = [
     (&TELEMETRY, Some(&TELEMETRY)),
     (&OCTETS, Some(&TELEMETRY)),
     (&BEHIND, Some(&IDLE)),
@@ -56,7 +56,7 @@ const FIRST: [(&[u8], Option<&[u8]>); 6] = [
 ];
 
 // Octets, and what is wanted for a packet.
-const NEEDS: [(&[u8], Need); 10] = [
+static NEEDS: [(&[u8], Need); 10] = [
     (&[], Need::Header(6)),
     (&[0x00], Need::Header(5)),
     (&[0x00, 0x03, 0xC0], Need::Header(3)),
@@ -70,14 +70,14 @@ const NEEDS: [(&[u8], Need); 10] = [
 ];
 
 // Octets, their packets end to end, and what is left after each packet and then.
-const SERIES: [(&[u8], &[(&[u8], &[u8])], &[u8]); 2] = [
+static SERIES: [(&[u8], &[(&[u8], &[u8])], &[u8]); 2] = [
     (&BEHIND, &[(&IDLE, &AFTER_IDLE), (&LEAST, &REST)], &REST),
     // There are none of another version.
     (&VERSION_ONE, &[], &VERSION_ONE),
 ];
 
 // Octets, and whether a packet of them is idle.
-const IDLENESS: [(&[u8], bool); 6] = [
+static IDLENESS: [(&[u8], bool); 6] = [
     (&[0x07, 0xFF], true),
     (&[0x07], false),
     (&[0x07, 0xFF, 0x00, 0x07, 0x00, 0x00, 0x01], true),
@@ -87,13 +87,13 @@ const IDLENESS: [(&[u8], bool); 6] = [
 ];
 
 // Faults and their texts.
-const SINK_FAULTS: [(SinkFault, &str); 3] = [
+static SINK_FAULTS: [(SinkFault, &str); 3] = [
     (SinkFault::Memory, "memory"),
     (SinkFault::Device, "device"),
     (SinkFault::Refused, "refused"),
 ];
 
-const FLOW_FAULTS: [(FlowFault, &str); 3] = [
+static FLOW_FAULTS: [(FlowFault, &str); 3] = [
     (FlowFault::Memory, "memory"),
     (FlowFault::Sink(SinkFault::Refused), "sink: refused"),
     (FlowFault::Failed, "failed"),

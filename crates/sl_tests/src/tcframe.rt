@@ -36,7 +36,7 @@ const LONG_UNLOCK: [u8; 17] = [
 ];
 
 // Octets, and whether they are one frame, without error control and with it.
-const CUTS: [(&[u8], bool, bool); 12] = [
+static CUTS: [(&[u8], bool, bool); 12] = [
     (&TC_FRAME, true, true),
     (
         &[
@@ -64,7 +64,7 @@ const CUTS: [(&[u8], bool, bool); 12] = [
 ];
 
 // Frames of formats without error control and with it, and why they are skipped.
-const SKIPPED: [(&[u8], TcSkip); 17] = [
+static SKIPPED: [(&[u8], TcSkip); 17] = [
     // Each reason alone.
     (&[0x40, 0x01, 0x00, 0x06, 0x00, 0xC0, 0x00], TcSkip::Version),
     (
@@ -102,7 +102,7 @@ const SKIPPED: [(&[u8], TcSkip); 17] = [
     (&[0x30, 0x01, 0x00, 0x04, 0x00], TcSkip::Empty),
 ];
 
-const WITH_FECF: [(&[u8], Option<TcSkip>); 7] = [
+static WITH_FECF: [(&[u8], Option<TcSkip>); 7] = [
     (&[0x30, 0x01, 0x00, 0x07, 0x00, 0x00, 0x0E, 0x5D], None),
     (
         &[0x30, 0x01, 0x00, 0x07, 0x00, 0x00, 0x0E, 0x5E],

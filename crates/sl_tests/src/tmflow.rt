@@ -83,7 +83,7 @@ const NORMAL_FORM: [u8; 64] = [
 type Frame<'a> = (&'a [u8; 32], (u32, u32));
 
 // Frames, the packets of virtual channel 0 that they bring, and the normal form of these.
-const BROUGHT: [(&str, &[Frame], &[&[u8]], &[u8]); 3] = [
+static BROUGHT: [(&str, &[Frame], &[&[u8]], &[u8]); 3] = [
     (
         "a packet that goes on past an idle frame",
         &[(&BEGUN, (1, 0)), (&IDLE, (0, 0)), (&ENDED, (2, 1))],
@@ -109,7 +109,7 @@ const BROUGHT: [(&str, &[Frame], &[&[u8]], &[u8]); 3] = [
 type Row<'a> = (&'a [u8; 32], (Option<u8>, u32, bool), (u32, u32), u32);
 
 // One frame after another.
-const AMISS: [Row; 6] = [
+static AMISS: [Row; 6] = [
     (&FOREIGN, (None, 0, true), (1, 0), 0),
     (&BEGUN, (None, 0, false), (1, 0), 3),
     (&ENDED, (Some(1), 3, false), (1, 1), 0),

@@ -26,7 +26,7 @@ const FORMATS: [(u16, bool, u16); 4] = [
 type View = (u8, (u8, u8), Option<[u8; 4]>);
 
 // Headers of frames of packets, what is read of them, and where the first packet starts.
-const PACKETS: [([u8; 6], View, Option<u16>); 4] = [
+static PACKETS: [([u8; 6], View, Option<u16>); 4] = [
     (
         [0x00, 0x10, 0x00, 0x00, 0x18, 0x00],
         (0, (0, 0), None),
@@ -78,7 +78,7 @@ const FIELD_OF_24: [u8; 24] = [
 ];
 
 // Length and error control of a format, a frame, what is read of it, where the first packet starts, and the data field.
-const WITH_CONTROL_FIELDS: [((u16, bool), &[u8], View, (Option<u16>, &[u8])); 3] = [
+static WITH_CONTROL_FIELDS: [((u16, bool), &[u8], View, (Option<u16>, &[u8])); 3] = [
     (
         (34, true),
         &WITH_FECF,
@@ -114,7 +114,7 @@ const WITHOUT_PACKETS: [([u8; 6], bool); 6] = [
 ];
 
 // Headers and error control fields of frames, and why these are skipped: with error control, and without.
-const SKIPPED: [([u8; 6], [u8; 2], Option<TmSkip>, Option<TmSkip>); 6] = [
+static SKIPPED: [([u8; 6], [u8; 2], Option<TmSkip>, Option<TmSkip>); 6] = [
     // Nothing is wrong,
     (
         [0x00, 0x10, 0x00, 0x00, 0x18, 0x00],
@@ -160,7 +160,7 @@ const SKIPPED: [([u8; 6], [u8; 2], Option<TmSkip>, Option<TmSkip>); 6] = [
 
 // Headers and error control fields of frames with `TM_FIELD`; and the virtual channel, the two counts and the place of
 // the first packet that make them.
-const ADDED: [([u8; 6], [u8; 2], Numbers); 3] = [
+static ADDED: [([u8; 6], [u8; 2], Numbers); 3] = [
     (
         [0x00, 0x10, 0x00, 0x00, 0x18, 0x00],
         [0x5E, 0x0C],

@@ -10,7 +10,7 @@ const LEAST_AND_GREATEST: &[(u8, u8)] = &[(63, 255), (0, 0)];
 
 // The V(R) of all virtual channels but some, and that of these; a text; and the V(R) of those that have another one
 // then.
-const TEXTS: [(u8, &[(u8, u8)], &str, &[(u8, u8)]); 10] = [
+static TEXTS: [(u8, &[(u8, u8)], &str, &[(u8, u8)]); 10] = [
     (9, &[], "5:255", &[(5, 255)]),
     (9, &[], "0:0", &[(0, 0)]),
     (9, &[], "63:255", &[(63, 255)]),
@@ -39,7 +39,7 @@ const TEXTS: [(u8, &[(u8, u8)], &str, &[(u8, u8)]); 10] = [
     ),
 ];
 
-const NO_TEXTS: [&str; 56] = [
+static NO_TEXTS: [&str; 56] = [
     "",
     "5",
     ":",

@@ -4,7 +4,7 @@ ghost use Rattle.std.specs.Prelude.{◌≤◌, length};
 use crate::support::rows::holds;
 use sl_fields::{back, front, read_decimal};
 
-const NUMBERS: [(&str, Option<u8>); 14] = [
+static NUMBERS: [(&str, Option<u8>); 14] = [
     ("0", Some(0)),
     ("9", Some(9)),
     ("10", Some(10)),

@@ -4,7 +4,7 @@ use crate::support::rows::{holds, is_text, passes};
 use sl_fields::{ShapeFault, fecf, fecf_field, fecf_good, without_fecf};
 
 // The error control fields of octets.
-const KNOWN: [(&[u8], u16); 6] = [
+static KNOWN: [(&[u8], u16); 6] = [
     (&[], 0xFFFF),
     (&[0x00, 0x00], 0x1D0F),
     (&[0x00, 0x00, 0x00], 0xCC9C),
@@ -19,7 +19,7 @@ const BEFORE: [u8; 6] = [0x30, 0x01, 0x00, 0x07, 0x00, 0x00];
 const FRAME: [u8; 8] = [0x30, 0x01, 0x00, 0x07, 0x00, 0x00, 0x0E, 0x5D];
 
 // Whether a frame has an error control field, the frame, and what the field covers.
-const COVERED: [(bool, &[u8], &[u8]); 3] = [
+static COVERED: [(bool, &[u8], &[u8]); 3] = [
     (true, &FRAME, &BEFORE),
     (false, &FRAME, &FRAME),
     (true, &[0x0E, 0x5D], &[]),
@@ -36,7 +36,7 @@ const DAMAGED: [u8; 32] = [
 ];
 
 // A frame, its error control field, and whether this is right.
-const FIELDS: [(&str, &[u8; 32], [u8; 2], bool); 4] = [
+static FIELDS: [(&str, &[u8; 32], [u8; 2], bool); 4] = [
     ("right", &TM_FRAME, [0x5E, 0x0C], true),
     ("damaged packet", &DAMAGED, [0x5E, 0x0C], false),
     ("damaged field", &TM_FRAME, [0x5E, 0x0D], false),
@@ -44,10 +44,10 @@ const FIELDS: [(&str, &[u8; 32], [u8; 2], bool); 4] = [
 ];
 
 // Too few octets: the field of no octets stands in the first, and there is nothing that it covers.
-const TOO_FEW: [&[u8]; 3] = [&[0xFF, 0xFF], &[0x1D], &[]];
+static TOO_FEW: [&[u8]; 3] = [&[0xFF, 0xFF], &[0x1D], &[]];
 
 // Why a format is refused, as a text.
-const FAULTS: [(ShapeFault, &str); 2] = [
+static FAULTS: [(ShapeFault, &str); 2] = [
     (ShapeFault::TmLength, "tm length"),
     (ShapeFault::TcLength, "tc length"),
 ];

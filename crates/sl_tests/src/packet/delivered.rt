@@ -10,7 +10,7 @@ use std::alloc::Global;
 use std::process::Abort;
 
 // Channels, and the least one from there on that has packets, where 3 and 4095 have.
-const AT_OR_ABOVE: [(u16, Option<u16>); 4] = [
+static AT_OR_ABOVE: [(u16, Option<u16>); 4] = [
     (0, Some(3)),
     (4, Some(4095)),
     (4095, Some(4095)),
@@ -18,7 +18,7 @@ const AT_OR_ABOVE: [(u16, Option<u16>); 4] = [
 ];
 
 // Channels, and their packets.
-const KEPT: [(u16, &[&[u8]]); 4] = [(3, &[&TELEMETRY]), (4095, &[&LEAST]), (0, &[]), (5000, &[])];
+static KEPT: [(u16, &[&[u8]]); 4] = [(3, &[&TELEMETRY]), (4095, &[&LEAST]), (0, &[]), (5000, &[])];
 
 // Channels, and whether they are virtual channels of telemetry.
 const CHANNELS: [(u16, bool); 4] = [(0, true), (7, true), (8, false), (4095, false)];

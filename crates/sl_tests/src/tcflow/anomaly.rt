@@ -36,7 +36,7 @@ type Frame<'a> = (
 const TOO_LONG: Frame = (&LAST_BYPASSING, (false, None, true, 0), (0, 0, (0, false)));
 
 // Frames one after another, and the packets of a channel then.
-const SERIES: [(&str, &[Frame], (u16, &[&[u8]])); 5] = [
+static SERIES: [(&str, &[Frame], (u16, &[&[u8]])); 5] = [
     (
         "no frame, and a first segment without octets",
         &[(&EMPTY_FIRST, (false, None, false, 0), (0, 0, (0, true)))],

@@ -9,7 +9,7 @@ use std::alloc::Global;
 use std::process::Abort;
 
 // The faults at a frame, which is tried again.
-const FAULTS: [FlowFault; 2] = [FlowFault::Sink(SinkFault::Refused), FlowFault::Failed];
+static FAULTS: [FlowFault; 2] = [FlowFault::Sink(SinkFault::Refused), FlowFault::Failed];
 
 // Whether the frame fails so, and its packet is offered only once.
 fn fails(receiver: &mut Receiver, sink: &mut Keeps, wanted: FlowFault) -> Result<bool, Stop> {

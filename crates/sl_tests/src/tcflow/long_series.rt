@@ -25,7 +25,7 @@ type Series<'a> = (
     bool,
 );
 
-const SERIES: [Series; 4] = [
+static SERIES: [Series; 4] = [
     ("a longest packet", 65542, 2, (1, (0, false)), &[], true),
     (
         "one octet more, with which it is given up",

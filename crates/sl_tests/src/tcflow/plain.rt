@@ -67,7 +67,7 @@ type Case<'a> = (
     [u8; 4],
 );
 
-const CASES: [Case; 4] = [
+static CASES: [Case; 4] = [
     (
         "units without a segment header, which are whole",
         &[5],
@@ -103,13 +103,13 @@ const CASES: [Case; 4] = [
 ];
 
 // Packets of virtual channel 5 without segment headers, and their frames of at most 24 octets.
-const FORMS: [(&[(u16, &[u8])], &[u8]); 2] = [
+static FORMS: [(&[(u16, &[u8])], &[u8]); 2] = [
     (&[(320, &LEAST), (320, &SECOND)], &APART),
     (&[(320, &COMMAND)], &WHOLE),
 ];
 
 // Greatest frame length and error control, virtual channels without segment headers, packets, and whether these fit.
-const FITS: [((u16, bool), &[u8], &[(u16, &[u8])], bool); 13] = [
+static FITS: [((u16, bool), &[u8], &[(u16, &[u8])], bool); 13] = [
     ((16, false), &[5], &[(320, &OF_11), (384, &OF_12)], true),
     ((16, false), &[5], &[(320, &OF_12)], false),
     ((16, false), &[], &[(320, &OF_12)], true),

@@ -61,7 +61,7 @@ type Word = (u8, [u8; 4]);
 // The V(R) with which each virtual channel begins; frames, one after another; and what there is then.
 type Case<'a> = (&'a str, u8, &'a [Frame<'a>], &'a [Packets<'a>], &'a [Word]);
 
-const CASES: [Case; 8] = [
+static CASES: [Case; 8] = [
     ("no frame", 0, &[], &[], &[(0, [0x01, 0x00, 0x00, 0x00])]),
     (
         "a whole unit",

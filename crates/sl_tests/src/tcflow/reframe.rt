@@ -71,7 +71,7 @@ const ON_THREE_CHANNELS: [u8; 68] = [
 // Greatest frame length and error control, initial V(R), packets on their channels, and their frames.
 type Row<'a> = ((u16, bool), u8, &'a [(u16, &'a [u8])], &'a [u8]);
 
-const FORMS: [Row; 8] = [
+static FORMS: [Row; 8] = [
     ((16, false), 0, &[], &[]),
     // Packets of one segment.
     ((16, false), 0, &[(0, &COMMAND)], &TC_FRAME),

@@ -12,7 +12,7 @@ use std::process::Abort;
 type Segment<'a> = ((u16, u8, u8), u8, &'a [u8]);
 
 // Frames of at most 16 octets, with error control or without.
-const ADDED: [(bool, Segment, &[u8]); 4] = [
+static ADDED: [(bool, Segment, &[u8]); 4] = [
     (false, ((1, 0, 0), 0xC0, &COMMAND), &TC_FRAME),
     // No octets after the segment header, and the greatest of each number.
     (
@@ -46,7 +46,7 @@ const PLAIN: [u8; 15] = [
 ];
 
 // Greatest length, error control, what is there before, virtual channel and octets of frames without segment header.
-const ADDED_PLAIN: [(u16, bool, &[u8], u8, &[u8], &[u8]); 2] = [
+static ADDED_PLAIN: [(u16, bool, &[u8], u8, &[u8], &[u8]); 2] = [
     (1024, false, &[0xEE], 5, &COMMAND, &PLAIN),
     (16, true, &[], 0, &[0xC0, 0xAA], &PROTECTED),
 ];

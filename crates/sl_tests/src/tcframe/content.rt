@@ -14,7 +14,7 @@ const WHOLE: &[u8] = &[
 ];
 
 // Frames without error control, their virtual channels, and what they carry.
-const CARRIED: [(&[u8], u8, TcContent); 11] = [
+static CARRIED: [(&[u8], u8, TcContent); 11] = [
     (&TC_FRAME, 0, TcContent::Ad { ns: 0, unit: WHOLE }),
     (
         &[0x00, 0x01, 0x00, 0x06, 0x04, 0xC0, 0x00],
@@ -71,7 +71,7 @@ const CARRIED: [(&[u8], u8, TcContent); 11] = [
 ];
 
 // The same with error control, the field of which is no part of the data field.
-const WITH_FECF: [(&[u8], u8, TcContent); 4] = [
+static WITH_FECF: [(&[u8], u8, TcContent); 4] = [
     (
         &[0x30, 0x01, 0x00, 0x07, 0x00, 0x00, 0x0E, 0x5D],
         0,

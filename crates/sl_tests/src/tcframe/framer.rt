@@ -18,7 +18,7 @@ const RECORDING: [u8; 30] = [
 const SIZES: [usize; 8] = [1, 3, 4, 5, 7, 16, 23, 30];
 
 // Chunks one after another, what is left of each, what is held then, and whether no frame begins with that.
-const STUCK: [(&[u8], &[u8], &[u8], bool); 3] = [
+static STUCK: [(&[u8], &[u8], &[u8], bool); 3] = [
     (&[0x00, 0x01], &[], &[0x00, 0x01], false),
     (
         &[0x00, 0x02, 0x00],

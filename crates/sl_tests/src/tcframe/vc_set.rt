@@ -6,7 +6,7 @@ use crate::support::tc::set_of;
 use sl_tcframe::VcSet;
 
 // Texts, and the sets that they name.
-const TEXTS: [(&str, &[u8]); 4] = [
+static TEXTS: [(&str, &[u8]); 4] = [
     ("5", &[5]),
     ("0", &[0]),
     ("0,63", &[63, 0]),

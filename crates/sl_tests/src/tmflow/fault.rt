@@ -18,14 +18,14 @@ const BOTH: [u8; 33] = [
 const FRAMES: [Frame; 2] = [(&BEGUN, (1, 0)), (&IDLE, (0, 0))];
 
 // How many packets a sink keeps; frames that go well, and one with a packet more; and what is kept then.
-const REFUSED: [(u32, &[Frame], &[u8; 32], &[u8]); 3] = [
+static REFUSED: [(u32, &[Frame], &[u8; 32], &[u8]); 3] = [
     (0, &[], &BEGUN, &[]),
     (1, &FRAMES, &ENDED, &OF_23),
     (2, &FRAMES, &ENDED, &BOTH),
 ];
 
 // The faults at that frame, which is tried again.
-const FAULTS: [FlowFault; 3] = [
+static FAULTS: [FlowFault; 3] = [
     FlowFault::Sink(SinkFault::Refused),
     FlowFault::Failed,
     FlowFault::Failed,

@@ -660,12 +660,13 @@ static void jobs(void) {
     }
 }
 
-/* Each allocation is refused in turn: nothing is written then, and all blocks are given back, as
+/* Allocations are refused one by one: nothing is written then, and all blocks are given back, as
  * valgrind sees. */
 static void memory(void) {
     long refusals = 0;
     for (job it; next_job(&it); end_job(&it)) {
-        for (long which = 1;; which++) {
+        // Each of the first 31 allocations is refused, then every second one, and ever fewer of the later ones.
+        for (long which = 1;; which += 1 + which / 32) {
             sllink_answer answer;
             asked = 0;
             refused_one = which;

@@ -8,29 +8,32 @@ use Rattle.sl_cop.specs.declared.verdict.Verdict.TheVariants.{Accept, Early, Lat
 use Rattle.sl_cop.specs.Farm.{FarmState, farm_start, farm_step, distance, verdicts_of, state_after}
 use Rattle.sl_cop.specs.FarmClcw.{clcw_of}
 
--- the verdict in the first state, with this width of the window and this V(R), on a frame of type AD with this N(S)
-abbrev verdict_at : ℕ → ℕ → ℕ → Verdict
-verdict_at w vr ns = (farm_step w (farm_start vr) (Ad ns)).0
+-- the verdict in the first state, with this width of the window and this V(R), on a frame of type
+-- AD with this N(S)
+abbrev first_verdict : ℕ → ℕ → ℕ → Verdict
+first_verdict w vr ns = (farm_step w (farm_start vr) (Ad ns)).0
 
+-- The edges of the areas with V(R) 0. The window is the least one, of the width 2, then one of the
+-- width 10, and then the greatest one, of the width 254.
 pub record AreWindowEdges : Type 0 where
-  pub least_expected : verdict_at 2 0 0 ≡ Accept
-  pub least_first_outside : verdict_at 2 0 1 ≡ Outside
-  pub least_last_outside : verdict_at 2 0 254 ≡ Outside
-  pub least_late : verdict_at 2 0 255 ≡ Late
-  pub expected : verdict_at 10 0 0 ≡ Accept
-  pub first_early : verdict_at 10 0 1 ≡ Early
-  pub last_early : verdict_at 10 0 4 ≡ Early
-  pub first_outside : verdict_at 10 0 5 ≡ Outside
-  pub last_outside : verdict_at 10 0 250 ≡ Outside
-  pub first_late : verdict_at 10 0 251 ≡ Late
-  pub last_late : verdict_at 10 0 255 ≡ Late
-  pub greatest_expected : verdict_at 254 0 0 ≡ Accept
-  pub greatest_first_early : verdict_at 254 0 1 ≡ Early
-  pub greatest_last_early : verdict_at 254 0 126 ≡ Early
-  pub greatest_first_outside : verdict_at 254 0 127 ≡ Outside
-  pub greatest_last_outside : verdict_at 254 0 128 ≡ Outside
-  pub greatest_first_late : verdict_at 254 0 129 ≡ Late
-  pub greatest_last_late : verdict_at 254 0 255 ≡ Late
+  pub least_expected : first_verdict 2 0 0 ≡ Accept
+  pub least_first_outside : first_verdict 2 0 1 ≡ Outside
+  pub least_last_outside : first_verdict 2 0 254 ≡ Outside
+  pub least_late : first_verdict 2 0 255 ≡ Late
+  pub expected : first_verdict 10 0 0 ≡ Accept
+  pub first_early : first_verdict 10 0 1 ≡ Early
+  pub last_early : first_verdict 10 0 4 ≡ Early
+  pub first_outside : first_verdict 10 0 5 ≡ Outside
+  pub last_outside : first_verdict 10 0 250 ≡ Outside
+  pub first_late : first_verdict 10 0 251 ≡ Late
+  pub last_late : first_verdict 10 0 255 ≡ Late
+  pub greatest_expected : first_verdict 254 0 0 ≡ Accept
+  pub greatest_first_early : first_verdict 254 0 1 ≡ Early
+  pub greatest_last_early : first_verdict 254 0 126 ≡ Early
+  pub greatest_first_outside : first_verdict 254 0 127 ≡ Outside
+  pub greatest_last_outside : first_verdict 254 0 128 ≡ Outside
+  pub greatest_first_late : first_verdict 254 0 129 ≡ Late
+  pub greatest_last_late : first_verdict 254 0 255 ≡ Late
 
 pub edges : AreWindowEdges
 edges = record {
@@ -57,13 +60,13 @@ edges = record {
 -- V(R) 254, and N(S) ahead of it and behind it, at the edges of a window of width 10
 pub record AreModulo : Type 0 where
   pub ahead_by_3 : distance 0x01 254 ≡ 3
-  pub early : verdict_at 10 254 0x01 ≡ Early
+  pub early : first_verdict 10 254 0x01 ≡ Early
   pub ahead_by_252 : distance 0xFA 254 ≡ 252
-  pub late : verdict_at 10 254 0xFA ≡ Late
+  pub late : first_verdict 10 254 0xFA ≡ Late
   pub ahead_by_251 : distance 0xF9 254 ≡ 251
-  pub last_late : verdict_at 10 254 0xF9 ≡ Late
+  pub last_late : first_verdict 10 254 0xF9 ≡ Late
   pub ahead_by_250 : distance 0xF8 254 ≡ 250
-  pub outside : verdict_at 10 254 0xF8 ≡ Outside
+  pub outside : first_verdict 10 254 0xF8 ≡ Outside
   pub next : (farm_step 10 (farm_start 255) (Ad 255)).1 ≡ farm_start 0
 
 pub modulo : AreModulo
@@ -79,6 +82,7 @@ modulo = record {
   next = refl;
 }
 
+-- the state with these values
 abbrev state : ℕ → Bool → Bool → ℕ → FarmState
 state vr lockout retransmit farm_b = record { vr = vr; lockout = lockout; retransmit = retransmit; farm_b = farm_b }
 
@@ -86,10 +90,12 @@ state vr lockout retransmit farm_b = record { vr = vr; lockout = lockout; retran
 abbrev into_lockout : List FarmEvent
 into_lockout = Ad 4 ∷ Ad 251 ∷ Ad 5 ∷ Ad 0 ∷ []
 
--- a frame outside the window, and then the events that count in the lockout state
+-- a frame outside the window, and then the events that increment the FARM-B counter in the lockout
+-- state
 abbrev through_lockout : List FarmEvent
 through_lockout = Ad 250 ∷ SetVr 5 ∷ Bd ∷ Unlock ∷ []
 
+-- runs with a window of the width 10: into lockout, through it, and in the open state
 pub record AreRuns : Type 0 where
   pub into_verdicts : verdicts_of 10 (farm_start 0) into_lockout ≡ Early ∷ Late ∷ Outside ∷ Refused ∷ []
   pub into_state : state_after 10 (farm_start 0) into_lockout ≡ state 0 true true 0
@@ -128,10 +134,12 @@ runs = record {
   found_again = refl;
 }
 
--- the octets of the CLCW after these events on a virtual channel, from V(R) 0 with a window of width 10
+-- the octets of the CLCW after these events on a virtual channel, from V(R) 0 with a window of
+-- width 10
 abbrev IsReported : ℕ → List FarmEvent → List ℕ → Type 0
 IsReported vc events octets = clcw_word octets ≡ clcw_of vc (state_after 10 (farm_start 0) events)
 
+-- words of the state at the beginning, of both flags, and of the greatest and least fields
 pub record AreWords : Type 0 where
   pub start : IsReported 0 [] (0x01 ∷ 0x00 ∷ 0x00 ∷ 0x00 ∷ [])
   pub accepted : IsReported 0 (Ad 0 ∷ []) (0x01 ∷ 0x00 ∷ 0x00 ∷ 0x01 ∷ [])

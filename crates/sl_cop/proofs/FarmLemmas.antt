@@ -69,6 +69,7 @@ not_expected w ns s t Outside other step = (refl, ap (λ u. u.vr) step.2)
 not_expected w ns s t Refused other step = (refl, ap (λ u. u.vr) step.1)
 not_expected w ns s t Command other step = absurd step
 
+-- where N(S) isn't V(R), none of the copies is accepted
 none_accepted : (w copies ns : ℕ) (s t : FarmState) (verdicts : List Verdict) → distance ns s.vr ≢ 0 → IsRun w s (replicate copies (Ad ns)) verdicts t
     → count_by is_accept verdicts ≡ 0
 none_accepted w zero ns s t [] other run = refl

@@ -1,5 +1,5 @@
--- Known copies that arrive out of order, lost and repeated. They show that the laws aren't empty, and what FARM-1
--- does with copies that are too far away.
+-- Known copies that arrive out of order, lost and repeated. They show that the laws aren't empty,
+-- and what FARM-1 does with copies that are too far away.
 use Rattle.std.proofs.Common.{◌≡◌, ℕ, ◌+◌, Bool, true, false, List, [], ◌∷◌, ◌++◌, get_or, drop, map, refl, ap, subst, arith, rules}
 use Rattle.std.specs.List.{range_with_len}
 use Rattle.sl_cop.specs.declared.verdict.Verdict.TheVariants.{Accept, Early, Late, Outside, Refused, Command}
@@ -8,15 +8,18 @@ use Rattle.sl_cop.specs.Reordered.{Arrival, Copy, OfTypeBd, UnlockCommand, event
 
 -- ---- properties of each copy, one after another
 
+-- the property holds of the index, where the arrival is a copy
 abbrev IfCopy : (ℕ → Type 0) → Arrival → Type 0
 IfCopy holds (Copy k) = holds k
 IfCopy holds OfTypeBd = Unit {0}
 IfCopy holds UnlockCommand = Unit {0}
 
+-- the relation holds for each copy of the list, one copy after another
 abbrev pub OneByOne : (List Arrival → ℕ → Type 0) → List Arrival → Type 0
 OneByOne holds [] = Unit {0}
 OneByOne holds (arrival ∷ rest) = IfCopy (holds []) arrival × OneByOne (λ before. holds (arrival ∷ before)) rest
 
+-- what holds for the copies one after another holds for each of them
 pub of_each : (holds : List Arrival → ℕ → Type 0) (arrivals : List Arrival) → OneByOne holds arrivals → OfEachCopy arrivals holds
 of_each holds [] all [] after k split = absurd (cc)
 of_each holds [] all (b ∷ before) after k split = absurd (cc)
@@ -85,7 +88,8 @@ near_edges = record {
   behind_indices = refl;
 }
 
--- A copy that is 256 after the expected frame, or 256 before it, has the expected N(S). It is accepted, out of order.
+-- A copy that is 256 after the expected frame, or 256 before it, has the expected N(S). It is
+-- accepted, out of order.
 pub record AreTooFar : Type 0 where
   pub ahead : accepted_indices 10 254 (Copy 256 ∷ []) ≡ 256 ∷ []
   pub ahead_by : 256 ≡ accepted_count 10 254 [] + 256
@@ -102,11 +106,13 @@ are_too_far = record {
 
 -- ---- the edges of windows
 
--- whether FARM-1 with this window is in lockout after a copy of the frame with this index, as the first arrival
+-- whether FARM-1 with this window is in lockout after a copy of the frame with this index, as the
+-- first arrival
 abbrev lockout_ahead : ℕ → ℕ → Bool
 lockout_ahead w index = (state_at w 254 (Copy index ∷ [])).lockout
 
--- whether FARM-1 is in lockout after a copy of the first frame, after a copy of each of the first `n` frames
+-- whether FARM-1 is in lockout after a copy of the first frame, after a copy of each of the first
+-- `n` frames
 abbrev lockout_behind : ℕ → ℕ → Bool
 lockout_behind w n = (state_at w 254 (one_of_each n ++ Copy 0 ∷ [])).lockout
 

@@ -13,6 +13,7 @@ use Rattle.sl_fields.proofs.ListLemmas.{range-push}
 
 -- ---- numbers
 
+-- an index in the window is near
 near_in_window : (w m k : ℕ) → positive_width w + negative_width w ≤ 256 → IsInWindow w m k → IsNear m k
 near_in_window w m k small within = let behind = within.0 in let ahead = within.1 in (omega arith, omega arith)
 
@@ -29,6 +30,7 @@ not_in_lockout_area : (w vr m k : ℕ) → positive_width w + negative_width w �
     → ⊥
 not_in_lockout_area w vr m k small within above below = let behind = within.0 in let ahead = within.1 in omega arith
 
+-- V(R) after one more accepted frame
 next_ns : (vr m : ℕ) → (ns_of vr m + 1) % 256 ≡ ns_of vr (m + 1)
 next_ns vr m = omega arith
 
@@ -46,6 +48,7 @@ module _ {A : Type 0} (P : List A → Type 0) (more : (before : List A) (next : 
 -- ---- one more event
 
 module _ {A B : Type 0} (event : A → FarmEvent) (carried : A → List B) (w : ℕ) where
+  -- what is accepted of one more element stands at the end
   pub accepted_more : (s : FarmState) (list : List A) (next : A)
       → accepted_by carried (verdicts_of w s (map event (list ++ next ∷ []))) (list ++ next ∷ [])
       ≡ accepted_by carried (verdicts_of w s (map event list)) list ++ if_accepted (farm_step w (state_after w s (map event list)) (event next)).0 (carried next)
@@ -58,6 +61,7 @@ module _ {A B : Type 0} (event : A → FarmEvent) (carried : A → List B) (w : 
       ∙ sym (append_assoc here later (if_accepted (farm_step w (state_after w step.1 (map event list)) (event next)).0 (carried next)))
 
 module _ {A : Type 0} (event : A → FarmEvent) (w : ℕ) where
+  -- the state after one more element is that of one more step
   pub state_more : (s : FarmState) (list : List A) (next : A)
       → state_after w s (map event (list ++ next ∷ [])) ≡ (farm_step w (state_after w s (map event list)) (event next)).1
   state_more s [] next = refl
@@ -69,6 +73,7 @@ module _ {A : Type 0} (event : A → FarmEvent) (w : ℕ) where
 abbrev GoesOn : ℕ → ℕ → List ℕ → FarmState → Type 0
 GoesOn vr m now t = ((now ≡ []) × (t.vr ≡ ns_of vr m)) ⊎ ((now ≡ m ∷ []) × (t.vr ≡ ns_of vr (m + 1)))
 
+-- a near copy is accepted only where it is the expected one
 copy_goes_on : (w vr m k : ℕ) (s t : FarmState) (verdict : Verdict) → s.vr ≡ ns_of vr m → IsNear m k → IsStep w s (Ad (ns_of vr k)) verdict t
     → GoesOn vr m (if_accepted verdict (k ∷ [])) t
 copy_goes_on w vr m k s t Accept counts near step =
@@ -80,6 +85,7 @@ copy_goes_on w vr m k s t Outside counts near step = inl (refl, ap (λ u. u.vr) 
 copy_goes_on w vr m k s t Refused counts near step = inl (refl, ap (λ u. u.vr) step.1 ∙ counts)
 copy_goes_on w vr m k s t Command counts near step = absurd step
 
+-- a copy in the window leaves FARM-1 in the open state
 copy_keeps_open : (w vr m k : ℕ) (s t : FarmState) (verdict : Verdict) → positive_width w + negative_width w ≤ 256 → s.vr ≡ ns_of vr m → s.lockout ≡ false
     → IsInWindow w m k → IsStep w s (Ad (ns_of vr k)) verdict t → t.lockout ≡ false
 copy_keeps_open w vr m k s t Accept small counts is_open within step = ap (λ u. u.lockout) step.2 ∙ is_open
@@ -100,6 +106,7 @@ accepted_where_expected w ns s t Outside small is_open none step = absurd (step.
 accepted_where_expected w ns s t Refused small is_open none step = absurd (cc)
 accepted_where_expected w ns s t Command small is_open none step = absurd step
 
+-- the same of any arrival
 arrival_goes_on : (w vr m : ℕ) (s : FarmState) (arrival : Arrival) → s.vr ≡ ns_of vr m → ((k : ℕ) → arrival ≡ Copy k → IsNear m k)
     → GoesOn vr m (if_accepted (farm_step w s (event_at vr arrival)).0 (index_of arrival)) (farm_step w s (event_at vr arrival)).1
 arrival_goes_on w vr m s (Copy k) counts near =
@@ -107,6 +114,7 @@ arrival_goes_on w vr m s (Copy k) counts near =
 arrival_goes_on w vr m s OfTypeBd counts near = inl (refl, counts)
 arrival_goes_on w vr m s UnlockCommand counts near = inl (refl, counts)
 
+-- an arrival leaves FARM-1 in the open state, where a copy is in the window
 arrival_keeps_open : (w vr m : ℕ) (s : FarmState) (arrival : Arrival) → positive_width w + negative_width w ≤ 256 → s.vr ≡ ns_of vr m → s.lockout ≡ false
     → ((k : ℕ) → arrival ≡ Copy k → IsInWindow w m k)
     → (farm_step w s (event_at vr arrival)).1.lockout ≡ false

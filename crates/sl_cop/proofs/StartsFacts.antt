@@ -1,4 +1,5 @@
--- Changed V(R), texts that name some, and texts that name none. A wrong definition would fail these facts.
+-- Changed V(R), texts that name some, and texts that name none. A wrong definition would fail these
+-- facts.
 use Rattle.std.proofs.Common.{◌≡◌, ℕ, suc, ◌≤◌, true, List, [], ◌∷◌, ◌++◌, length, slice_index_or, replicate, refl, ap, arith}
 use Rattle.std.specs.Fmt.{decimal, digits}
 use Rattle.std.proofs.lemmas.Fmt.{decimal_injective, decimal_nonempty}
@@ -7,6 +8,7 @@ use Rattle.sl_cop.proofs.StartsTextLemmas.{has_colon, has_more, has_one, item_pa
 use Rattle.sl_fields.proofs.DecimalLemmas.{unpadded}
 use Rattle.sl_fields.proofs.JoinedLemmas.{has_no, is_without}
 
+-- an item
 abbrev of : ℕ → ℕ → Item
 of vc vr = record { vc = vc; vr = vr }
 
@@ -45,6 +47,7 @@ lists_least_and_greatest =
 
 -- ---- refused
 
+-- the text lists no items
 abbrev pub IsRefused : List ℕ → Type 0
 IsRefused text = (items : List Item) → Lists 0 text items → ⊥
 
@@ -58,6 +61,7 @@ pub record HasNumbers (least : ℕ) (first rest : List ℕ) : Type 0 where
   pub before : first ≡ decimal vc
   pub after : rest ≡ decimal vr
 
+-- a text without a comma that lists items has the two numbers
 numbers : (least : ℕ) (first rest : List ℕ) (items : List Item) → is_without 58 first ≡ true → is_without 44 (first ++ 58 ∷ rest) ≡ true → Lists least (first ++ 58 ∷ rest) items → HasNumbers least first rest
 numbers least first rest items colon comma listed =
     let only = has_one least (first ++ 58 ∷ rest) items (has_no 44 (first ++ 58 ∷ rest) comma) listed in
@@ -65,6 +69,7 @@ numbers least first rest items colon comma listed =
     let parts = item_parts least (first ++ 58 ∷ rest) first rest only.item refl (has_no 58 first colon) is only.written in
     record { vc = only.item.vc; vr = only.item.vr; low = is.low; high = is.high; octet = is.octet; before = parts.0; after = parts.1 }
 
+-- a text without a comma and without a colon lists no items
 no_colon : (least : ℕ) (text : List ℕ) (items : List Item) → is_without 58 text ≡ true → is_without 44 text ≡ true → Lists least text items → ⊥
 no_colon least text items colon comma listed =
     let only = has_one least text items (has_no 44 text comma) listed in

@@ -10,7 +10,8 @@ use Rattle.sl_cop.specs.Starts.{AreItems, AreStarts, IsItem, Item, over_from, st
 pub all_are_starts : (vr : ℕ) → vr < 256 → AreStarts (replicate 64 vr)
 all_are_starts vr small = record { count = refl; each = All-replicate (λ n. n < 256) 64 vr small }
 
--- a virtual channel that is given a V(R) has this value, and every other virtual channel keeps its own
+-- a virtual channel that is given a V(R) has this value, and every other virtual channel keeps its
+-- own
 pub one_is_changed : (starts : List ℕ) (vc vr v : ℕ) → vc < length starts → slice_index_or (slice_set starts vc vr) v 0 ≡ (if v == vc then vr else slice_index_or starts v 0)
 one_is_changed starts vc vr v inside = by (v == vc) refl
   where
@@ -40,11 +41,13 @@ set_over_from first (own ∷ starts) item items zero is inside =
 set_over_from first (own ∷ starts) item items (suc k) is inside =
     rw (ne_eqb first item.vc (λ e. omega arith)) (ap (λ l. vr_of items first own ∷ l) (set_over_from (suc first) starts item items k (omega arith) (omega arith)))
 
+-- items change no number of virtual channels
 length_over_from : (first : ℕ) (starts : List ℕ) (items : List Item) → length (over_from first starts items) ≡ length starts
 unfolding over_from
 length_over_from first [] items = refl
 length_over_from first (own ∷ starts) items = ap suc (length_over_from (suc first) starts items)
 
+-- the same of all virtual channels
 pub set_over : (starts changed : List ℕ) (item : Item) (items : List Item) → changed ≡ slice_set (starts_over starts items) item.vc item.vr → AreStarts changed → item.vc ≤ 63 → changed ≡ starts_over starts (item ∷ items)
 set_over starts changed item items is are high =
     let many : length starts ≡ 64 = omega (arith, are.count, ap length is, length-set (starts_over starts items) item.vc item.vr, length_over_from 0 starts items) in
@@ -56,6 +59,7 @@ unfolding over_from
 none_over_from first [] = refl
 none_over_from first (own ∷ starts) = ap (λ l. own ∷ l) (none_over_from (suc first) starts)
 
+-- one item changes the V(R) of its virtual channel
 pub one_over : (starts changed : List ℕ) (item : Item) → changed ≡ slice_set starts item.vc item.vr → AreStarts changed → item.vc ≤ 63 → changed ≡ starts_over starts (item ∷ [])
 one_over starts changed item is are high = set_over starts changed item [] (is ∙ ap (λ l. slice_set l item.vc item.vr) (sym (none_over_from 0 starts))) are high
 
@@ -98,6 +102,7 @@ others_name_none [] vc own other = refl
 others_name_none (item ∷ items) vc own other =
     rw (ne_eqb vc item.vc (λ e. All-head (λ i. i.vc ≢ vc) item items other (sym e))) (others_name_none items vc own (All-tail (λ i. i.vc ≢ vc) item items other))
 
+-- a virtual channel that no item names keeps its V(R)
 kept_from : (first : ℕ) (starts : List ℕ) (items : List Item) (k vc : ℕ) → vc ≡ first + k → All (λ item. item.vc ≢ vc) items
     → slice_index_or (over_from first starts items) k 0 ≡ slice_index_or starts k 0
 unfolding over_from
@@ -117,6 +122,7 @@ octet_of least (item ∷ items) vc own rising small = by (vc == item.vc) (octet_
     by true rest = omega (arith, rising.0.octet)
     by false rest = rest
 
+-- with items over them, all V(R) are 255 at most
 octets_from : (least first : ℕ) (starts : List ℕ) (items : List Item) → All (λ vr. vr < 256) starts → AreItems least items → All (λ vr. vr < 256) (over_from first starts items)
 unfolding over_from
 octets_from least first [] items each rising = each

@@ -9,6 +9,7 @@ use Rattle.sl_fields.proofs.JoinedLemmas.{HasNo, has_first, has_no-append, has_n
 
 -- ---- one item
 
+-- a number in decimal has no colon
 no_colon : (n : ℕ) → n ≤ 255 → HasNo 58 (decimal n)
 no_colon n small = decimal_has_no 58 n (inr (omega arith)) small
 
@@ -18,7 +19,7 @@ pub item_parts : (least : ℕ) (text first rest : List ℕ) (item : Item) → te
 item_parts least text first rest item split none is written =
     one_split 58 first (decimal item.vc) rest (decimal item.vr) none (no_colon item.vc (omega (arith, is.high))) (sym split ∙ written)
 
--- the text of an item has a colon
+-- a text without a colon isn't that of an item
 pub has_colon : (text : List ℕ) (item : Item) → HasNo 58 text → text ≡ item_text item → ⊥
 has_colon text item none written = separated 58 (decimal item.vc) (decimal item.vr) text written none
 
@@ -26,6 +27,7 @@ has_colon text item none written = separated 58 (decimal item.vc) (decimal item.
 no_comma : (n : ℕ) → n ≤ 255 → HasNo 44 (decimal n)
 no_comma n small = decimal_has_no 44 n (inl (omega arith)) small
 
+-- the text of an item has no comma
 no_comma_in : (item : Item) → IsItem 0 item → HasNo 44 (item_text item)
 no_comma_in item is =
     has_no-append 44 (decimal item.vc) (58 ∷ decimal item.vr) (no_comma item.vc (omega (arith, is.high))) (has_no-cons 44 58 (decimal item.vr) (λ e. omega (arith, e)) (no_comma item.vr is.octet))
@@ -47,6 +49,7 @@ each_item : (least : ℕ) (items : List Item) → AreItems least items → AllBy
 each_item least [] are = tt
 each_item least (item ∷ items) are = (record { low = omega arith; high = are.0.high; octet = are.0.octet }, each_item (suc item.vc) items are.1)
 
+-- the text of each item has no comma
 clear : (least : ℕ) (items : List Item) → AreItems least items → AllByRecursion (λ item. HasNo 44 (item_text item)) items
 clear least [] are = tt
 clear least (item ∷ items) are = (no_comma_in item (each_item least (item ∷ items) are).0, clear (suc item.vc) items are.1)

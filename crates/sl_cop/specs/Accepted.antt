@@ -1,4 +1,6 @@
--- The accepted part of a list whose elements are events of FARM-1, CCSDS 232.1-B, one after another.
+-- What FARM-1, CCSDS 232.1-B, accepts of a list of elements that arrive one after another. Each
+-- element is an event with a verdict, and carries a list: that of the element's frame data unit, or
+-- the empty list.
 use Rattle.std.specs.Prelude.{List, [], ◌∷◌, ◌++◌}
 use Rattle.sl_cop.specs.declared.verdict.Verdict.{Verdict}
 use Rattle.sl_cop.specs.declared.verdict.Verdict.TheVariants.{Accept}
@@ -8,7 +10,8 @@ abbrev pub if_accepted : {A : Type 0} → Verdict → List A → List A
 if_accepted Accept carried = carried
 if_accepted verdict carried = []
 
--- what the accepted elements carry, in order, where the elements have these verdicts
+-- the lists that the accepted elements carry, in order and joined, where the elements have these
+-- verdicts
 abbrev pub accepted_by : {A B : Type 0} → (A → List B) → List Verdict → List A → List B
 accepted_by carried [] elements = []
 accepted_by carried (verdict ∷ verdicts) [] = []

@@ -1,35 +1,37 @@
--- FARM-1, the frame acceptance and reporting mechanism of CCSDS 232.1-B, on one virtual channel. Its buffers are
--- always free, so FARM-1 never reaches the wait state.
+-- FARM-1, the frame acceptance and reporting mechanism of CCSDS 232.1-B, on one virtual channel.
+-- Its buffers are always free, so FARM-1 never reaches the wait state.
 --
--- Three things are this project's mission profile, and are marked below: the first state; that the Retransmit flag
--- stays when lockout begins; and that Set V(R) increments the FARM-B counter in the lockout state too. The window is
--- the standard's.
+-- Three things are this project's choices, each marked below as mission profile: the first state;
+-- that the Retransmit flag stays when lockout begins; and that Set V(R) increments the FARM-B
+-- counter in the lockout state too. The sliding window and its two parts are the standard's.
 use Rattle.std.specs.Prelude.{◌≡◌, ◌≢◌, ◌⊎◌, ℕ, ◌+◌, ◌-◌, ◌/◌, ◌%◌, ◌<◌, ◌≤◌, ◌==◌, nat_lt, nat_le, Bool, true, false, if◌then◌else◌, List, [], ◌∷◌, ◌++◌, replicate, count_by, Contains}
 use Rattle.sl_cop.specs.declared.farm_event.FarmEvent.{FarmEvent}
 use Rattle.sl_cop.specs.declared.farm_event.FarmEvent.TheVariants.{Ad, Bd, Unlock, SetVr}
 use Rattle.sl_cop.specs.declared.verdict.Verdict.{Verdict}
 use Rattle.sl_cop.specs.declared.verdict.Verdict.TheVariants.{Accept, Early, Late, Outside, Refused, Command}
 
--- The state: the receiver frame sequence number V(R), the Lockout flag, the Retransmit flag, and the FARM-B counter
--- modulo 4. The lockout state has Lockout 1, and the open state has Lockout 0.
+-- The state: the receiver frame sequence number V(R), the Lockout flag, the Retransmit flag, and
+-- the FARM-B counter modulo 4. The Lockout flag is 1 in the lockout state, and 0 in the open state.
 pub record FarmState : Type 0 where
   pub vr : ℕ
   pub lockout : Bool
   pub retransmit : Bool
   pub farm_b : ℕ
 
--- The first state: open, with this V(R), Retransmit 0 and counter 0. Mission profile.
+-- The first state: the open state with this V(R), the Retransmit flag 0 and the FARM-B counter 0.
+-- Mission profile.
 abbrev pub farm_start : ℕ → FarmState
 farm_start vr = record { vr = vr; lockout = false; retransmit = false; farm_b = 0 }
 
--- FARM-1 with the width of its window and its state
+-- what a `Farm` stands for in clauses: the width of its window, and its state
 pub record FarmView : Type 0 where
   pub window : ℕ
   pub state : FarmState
 
 -- ---- the sliding window
 
--- The width (W) of a window is even and not 0. CCSDS 232.1-B has 2 to 254, which the type `Window` keeps.
+-- The width (W) of a window is even and not 0. The bound of W in CCSDS 232.1-B, 254, is in the
+-- invariant of the type `Window`, `IsWindow`.
 pub record IsWidth (w : ℕ) : Type 0 where
   pub positive : 0 < w
   pub even : w % 2 ≡ 0
@@ -46,14 +48,16 @@ positive_width w = w / 2
 abbrev pub negative_width : ℕ → ℕ
 negative_width w = w / 2
 
--- the areas in which N(S) may lie
+-- The areas in which N(S) may lie. The positive part of the window begins with V(R) itself, which
+-- is the area `Expected` here.
 pub data Area : Type 0 where
   Expected : Area
   PositivePart : Area
   NegativePart : Area
   LockoutArea : Area
 
--- An N(S) that is ahead of V(R) by the distance `d` lies in the area, with a window of the width `w`.
+-- N(S) lies in this area, with a window of the width `w`, where N(S) is ahead of V(R) by the
+-- distance `d`. Greater and less are meant modulo 256.
 abbrev pub IsArea : ℕ → ℕ → Area → Type 0
 -- N(S) equals V(R).
 IsArea w d Expected = d ≡ 0
@@ -64,7 +68,8 @@ IsArea w d NegativePart = (256 - negative_width w ≤ d) × (d < 256)
 -- N(S) lies outside the sliding window: in neither part, and not equal to V(R).
 IsArea w d LockoutArea = (d ≢ 0) × (positive_width w ≤ d) × (d < 256 - negative_width w)
 
--- the area of an N(S) that is ahead of V(R) by the distance `d`
+-- the area in which N(S) lies, with a window of the width `w`, where N(S) is ahead of V(R) by the
+-- distance `d`
 abbrev pub area_of : ℕ → ℕ → Area
 area_of w d =
     if d == 0 then Expected
@@ -72,58 +77,63 @@ area_of w d =
     else if nat_le (256 - negative_width w) d then NegativePart
     else LockoutArea
 
--- ---- the table
+-- ---- the FARM-1 state table
 
 -- the state with the FARM-B counter incremented
 abbrev pub counted : FarmState → FarmState
 counted s = record s { farm_b = (s.farm_b + 1) % 4 }
 
--- One case of the table, with a window of the width `w`: the state before, the event, the verdict, and the state
--- after the event.
+-- A step, one entry of the FARM-1 state table: with a window of the width `w`, in the state `s`,
+-- the event has this verdict and leads to the state `t`.
 abbrev pub IsStep : ℕ → FarmState → FarmEvent → Verdict → FarmState → Type 0
--- A frame of type AD arrives in the open state and N(S) equals V(R): the frame is accepted, V(R) is incremented, and
--- the Retransmit flag is reset.
+-- A frame of type AD arrives in the open state and N(S) equals V(R): the frame is accepted, V(R) is
+-- incremented, and the Retransmit flag is reset.
 IsStep w s (Ad ns) Accept t =
     (s.lockout ≡ false) × IsArea w (distance ns s.vr) Expected × (t ≡ record s { vr = (s.vr + 1) % 256; retransmit = false })
--- A frame of type AD arrives in the open state, and N(S) is in the positive part of the sliding window: the frame is
--- discarded, and the Retransmit flag is set.
+-- A frame of type AD arrives in the open state, and N(S) is in the positive part of the sliding
+-- window: the frame is discarded, and the Retransmit flag is set.
 IsStep w s (Ad ns) Early t =
     (s.lockout ≡ false) × IsArea w (distance ns s.vr) PositivePart × (t ≡ record s { retransmit = true })
--- A frame of type AD arrives in the open state, and N(S) is in the negative part of the sliding window: the frame is
--- discarded, and nothing changes.
+-- A frame of type AD arrives in the open state, and N(S) is in the negative part of the sliding
+-- window: the frame is discarded, and nothing changes.
 IsStep w s (Ad ns) Late t = (s.lockout ≡ false) × IsArea w (distance ns s.vr) NegativePart × (t ≡ s)
--- A frame of type AD arrives in the open state, and N(S) is in the lockout area: the frame is discarded, and the
--- Lockout flag is set. The Retransmit flag stays: mission profile.
+-- A frame of type AD arrives in the open state, and N(S) is in the lockout area: the frame is
+-- discarded, and the Lockout flag is set. The Retransmit flag stays: mission profile.
 IsStep w s (Ad ns) Outside t =
     (s.lockout ≡ false) × IsArea w (distance ns s.vr) LockoutArea × (t ≡ record s { lockout = true })
--- A frame of type AD arrives in the lockout state, with any N(S): the frame is discarded, and nothing changes.
+-- A frame of type AD arrives in the lockout state, with any N(S): the frame is discarded, and
+-- nothing changes.
 IsStep w s (Ad ns) Refused t = (s.lockout ≡ true) × (t ≡ s)
 -- A frame of type AD is no control command.
 IsStep w s (Ad ns) Command t = ⊥
--- A frame of type BD arrives, in either state: the frame is accepted, and the FARM-B counter is incremented.
+-- A frame of type BD arrives, in either state: the frame is accepted, and the FARM-B counter is
+-- incremented.
 IsStep w s Bd Accept t = t ≡ counted s
--- A frame of type BD bypasses the acceptance checks, and is no control command.
+-- A frame of type BD bypasses the acceptance checks, and is no control command. No other verdict is
+-- possible.
 IsStep w s Bd Early t = ⊥
 IsStep w s Bd Late t = ⊥
 IsStep w s Bd Outside t = ⊥
 IsStep w s Bd Refused t = ⊥
 IsStep w s Bd Command t = ⊥
--- The control command Unlock arrives, in either state: the FARM-B counter is incremented, and the Retransmit flag and
--- the Lockout flag are reset.
+-- The control command Unlock arrives, in either state: the FARM-B counter is incremented, and the
+-- Retransmit flag and the Lockout flag are reset.
 IsStep w s Unlock Command t = t ≡ record (counted s) { lockout = false; retransmit = false }
--- Unlock bypasses the acceptance checks, and carries no unit to accept.
+-- Unlock bypasses the acceptance checks, and carries no frame data unit. No other verdict is
+-- possible.
 IsStep w s Unlock Accept t = ⊥
 IsStep w s Unlock Early t = ⊥
 IsStep w s Unlock Late t = ⊥
 IsStep w s Unlock Outside t = ⊥
 IsStep w s Unlock Refused t = ⊥
--- The control command Set V(R) arrives: the FARM-B counter is incremented. In the open state the Retransmit flag is
--- reset, and V(R) is set to the value of the command. In the lockout state nothing else changes; the increment in
--- this state is the mission profile's.
+-- The control command Set V(R) arrives: the FARM-B counter is incremented. In the open state the
+-- Retransmit flag is reset, and V(R) is set to the value of the command. In the lockout state
+-- nothing else changes; the increment in this state is the mission profile's.
 IsStep w s (SetVr x) Command t =
     ((s.lockout ≡ false) × (t ≡ record (counted s) { vr = x; retransmit = false }))
     ⊎ ((s.lockout ≡ true) × (t ≡ counted s))
--- Set V(R) bypasses the acceptance checks, and carries no unit to accept.
+-- Set V(R) bypasses the acceptance checks, and carries no frame data unit. No other verdict is
+-- possible.
 IsStep w s (SetVr x) Accept t = ⊥
 IsStep w s (SetVr x) Early t = ⊥
 IsStep w s (SetVr x) Late t = ⊥
@@ -132,21 +142,21 @@ IsStep w s (SetVr x) Refused t = ⊥
 
 -- ---- the verdict and the state after an event
 
--- the verdict on a frame of type AD in the open state, by its area
+-- the verdict on a frame of type AD in the open state, by the area in which N(S) lies
 abbrev pub verdict_in : Area → Verdict
 verdict_in Expected = Accept
 verdict_in PositivePart = Early
 verdict_in NegativePart = Late
 verdict_in LockoutArea = Outside
 
--- the state after a frame of type AD in the open state, by its area
+-- the state after a frame of type AD in the open state, by the area in which N(S) lies
 abbrev pub state_in : Area → FarmState → FarmState
 state_in Expected s = record s { vr = (s.vr + 1) % 256; retransmit = false }
 state_in PositivePart s = record s { retransmit = true }
 state_in NegativePart s = s
 state_in LockoutArea s = record s { lockout = true }
 
--- The step of the table as a function: the verdict, and the state after the event.
+-- the step in the state table as a function: the verdict, and the state after the event
 abbrev pub farm_step : ℕ → FarmState → FarmEvent → Verdict × FarmState
 farm_step w s (Ad ns) =
     let area = area_of w (distance ns s.vr) in
@@ -157,30 +167,32 @@ farm_step w s (SetVr x) = (Command, if s.lockout then counted s else record (cou
 
 -- ---- runs
 
--- A run: from the first state `s`, the events one after another have these verdicts and lead to the state `t`.
+-- A run: from the first state `s`, the events one after another have these verdicts and lead to the
+-- state `t`.
 abbrev pub IsRun : ℕ → FarmState → List FarmEvent → List Verdict → FarmState → Type 0
 IsRun w s [] [] t = t ≡ s
 IsRun w s (event ∷ events) (verdict ∷ verdicts) t = (mid : FarmState) × IsStep w s event verdict mid × IsRun w mid events verdicts t
 IsRun w s [] (verdict ∷ verdicts) t = ⊥
 IsRun w s (event ∷ events) [] t = ⊥
 
--- the verdicts on events, one after another
+-- the verdicts on events one after another, from the state `s` on
 abbrev pub verdicts_of : ℕ → FarmState → List FarmEvent → List Verdict
 verdicts_of w s [] = []
 verdicts_of w s (event ∷ events) = (farm_step w s event).0 ∷ verdicts_of w (farm_step w s event).1 events
 
--- the state after events, one after another
+-- the state after events one after another, from the state `s` on
 abbrev pub state_after : ℕ → FarmState → List FarmEvent → FarmState
 state_after w s [] = s
 state_after w s (event ∷ events) = state_after w (farm_step w s event).1 events
 
--- ---- the table has one case for each state and event
+-- ---- the state table has one entry for each state and event
 
--- The function `farm_step` is a step of the table, for every width and state.
+-- What the function `farm_step` answers is a step, for every width and state.
 abbrev pub EachHasStep : Type 0
 EachHasStep = (w : ℕ) (s : FarmState) (event : FarmEvent) → IsStep w s event (farm_step w s event).0 (farm_step w s event).1
 
--- No other step exists, where the window is at most all 256 sequence numbers, so that its parts don't overlap.
+-- No other step exists, where PW and NW together are at most 256, so that the two parts of the
+-- window don't overlap.
 abbrev pub HasStepOnce : Type 0
 HasStepOnce =
     (w : ℕ) (s : FarmState) (event : FarmEvent) (verdict : Verdict) (t : FarmState) → positive_width w + negative_width w ≤ 256 → IsStep w s event verdict t
@@ -188,11 +200,12 @@ HasStepOnce =
 
 -- ---- events have one run
 
--- The functions give a run, for every width and first state.
+-- What the functions `verdicts_of` and `state_after` answer is a run, for every width and first
+-- state.
 abbrev pub EachHasRun : Type 0
 EachHasRun = (w : ℕ) (s : FarmState) (events : List FarmEvent) → IsRun w s events (verdicts_of w s events) (state_after w s events)
 
--- No other run exists, where the window is at most all 256 sequence numbers.
+-- No other run exists, where PW and NW together are at most 256.
 abbrev pub HasRunOnce : Type 0
 HasRunOnce =
     (w : ℕ) (s : FarmState) (events : List FarmEvent) (verdicts : List Verdict) (t : FarmState) → positive_width w + negative_width w ≤ 256 → IsRun w s events verdicts t
@@ -211,21 +224,23 @@ RunsEndInAStep =
     → (earlier : List Verdict) × (verdict : Verdict) × (mid : FarmState) × IsRun w s events earlier mid × IsStep w mid event verdict t
     × (verdicts ≡ earlier ++ verdict ∷ [])
 
--- One more event has the verdict and leads to the state of one more step.
+-- The functions go on by a step: over one more event `verdicts_of` has the verdict of `farm_step`
+-- as its last one, and `state_after` is the state of `farm_step`.
 abbrev pub RunsAreSteps : Type 0
 RunsAreSteps =
     (w : ℕ) (s : FarmState) (events : List FarmEvent) (event : FarmEvent)
     → (verdicts_of w s (events ++ event ∷ []) ≡ verdicts_of w s events ++ (farm_step w (state_after w s events) event).0 ∷ [])
     × (state_after w s (events ++ event ∷ []) ≡ (farm_step w (state_after w s events) event).1)
 
--- ---- what FARM-1 keeps
+-- ---- properties of steps and runs
 
--- whether a verdict accepts the frame's unit
+-- whether a verdict accepts the frame data unit
 abbrev pub is_accept : Verdict → Bool
 is_accept Accept = true
 is_accept verdict = false
 
--- Among frames of type AD in a row that all have the same N(S), at most one is accepted, for every window.
+-- Among frames of type AD in a row that all have the same N(S), at most one is accepted, for every
+-- window.
 abbrev pub CopiesAreAcceptedOnce : Type 0
 CopiesAreAcceptedOnce =
     (w copies ns : ℕ) (s t : FarmState) (verdicts : List Verdict) → s.vr < 256 → IsRun w s (replicate copies (Ad ns)) verdicts t
@@ -236,20 +251,20 @@ abbrev pub LockoutRefuses : Type 0
 LockoutRefuses =
     (w ns : ℕ) (s t : FarmState) (verdict : Verdict) → s.lockout ≡ true → IsStep w s (Ad ns) verdict t → (verdict ≡ Refused) × (t ≡ s)
 
--- An event that ends the lockout state is Unlock.
+-- The event of a step from the lockout state to the open state is Unlock.
 abbrev pub OnlyUnlockEndsLockout : Type 0
 OnlyUnlockEndsLockout =
     (w : ℕ) (s t : FarmState) (event : FarmEvent) (verdict : Verdict) → s.lockout ≡ true → IsStep w s event verdict t → t.lockout ≡ false
     → event ≡ Unlock
 
--- Events that end the lockout state have an Unlock among them.
+-- The events of a run from the lockout state to the open state have an Unlock among them.
 abbrev pub LockoutLastsUntilUnlock : Type 0
 LockoutLastsUntilUnlock =
     (w : ℕ) (s t : FarmState) (events : List FarmEvent) (verdicts : List Verdict) → s.lockout ≡ true → IsRun w s events verdicts t → t.lockout ≡ false
     → Contains events Unlock
 
--- V(R) changes in two cases only. An accepted frame of type AD increments it, and Set V(R) in the open state sets it
--- to the value of the command.
+-- V(R) changes in two cases only. An accepted frame of type AD increments V(R) modulo 256, and Set
+-- V(R) in the open state sets V(R) to the value of the command.
 abbrev pub VrHasACause : Type 0
 VrHasACause =
     (w : ℕ) (s t : FarmState) (event : FarmEvent) (verdict : Verdict) → IsStep w s event verdict t → t.vr ≢ s.vr

@@ -1,9 +1,10 @@
 //! FARM-1, the frame acceptance and reporting mechanism of CCSDS 232.1-B, on one virtual channel:
-//! [`Farm`] decides which frames are accepted, and reports by a Communications Link Control Word.
-//! Beside it stands [`Starts`], the V(R) with which FARM-1 begins on each virtual channel.
+//! [`Farm`] decides which frames are accepted, and reports by a Communications Link Control Word
+//! (CLCW) of CCSDS 232.0-B. [`Starts`] has the initial V(R) of FARM-1 on each virtual channel.
 //!
-//! Buffers are always free, so FARM-1 never reaches the wait state. Each [`step`](Farm::step) is
-//! one case of the table of FARM-1. The [`laws`] speak of whole runs.
+//! Each [`step`](Farm::step) takes one frame, and is one entry of the FARM-1 state table. Buffers
+//! are always free, so FARM-1 never reaches the wait state. The [`laws`] state what holds for the
+//! table, for whole lists of frames, and for the texts that [`Starts::read`] reads.
 #![tactic(auto)]
 
 mod farm;

@@ -1,4 +1,4 @@
-//! The V(R) with which FARM-1 of each virtual channel begins.
+//! The initial V(R) of FARM-1 on each virtual channel.
 ghost use Rattle.std.specs.Prelude.{◌≡◌, ◌≤◌, ℕ, List, IfSome, Some, replicate, slice_index_or};
 ghost use Rattle.std.specs.Prelude.{slice_set};
 ghost use Rattle.sl_cop.specs.Starts.{AreNamed, AreStarts, IsItem, Item, Lists, item_text};
@@ -7,8 +7,9 @@ ghost use Rattle.sl_cop.specs.Starts.{starts_over};
 use sl_fields::read_decimal;
 use std::marker::Model;
 
-/// The initial V(R) of FARM-1, the receiver frame sequence number of CCSDS 232.1-B, for each of the
-/// 64 virtual channels of TC frames: a list of 64 numbers, 0 to 255, by virtual channel identifier.
+/// The initial V(R) of FARM-1 on each of the 64 virtual channels of TC frames: the receiver frame
+/// sequence number of CCSDS 232.1-B before the first frame. In clauses this is a list of 64
+/// numbers, 0 to 255, by virtual channel identifier.
 ///
 /// A separate managed value for each virtual channel is this project's choice.
 #[derive(Clone, Copy, Debug, PartialEq, Eq)]
@@ -51,7 +52,7 @@ impl Starts {
         Starts { vrs }
     }
 
-    /// The initial V(R) of the virtual channel `vc`, 0 to 63.
+    /// The initial V(R), 0 to 255, of the virtual channel `vc`, 0 to 63.
     pub fn start(&self, vc: u8) -> u8
         requires { vc ≤ 63 }
         ensures value { result ≡ slice_index_or self.now vc 0 }
@@ -63,20 +64,26 @@ impl Starts {
     /// The same values with those that the text names. The other virtual channels keep their
     /// values.
     ///
-    /// The text is one or more items `v:x`, joined by single commas: a virtual channel `v`, 0 to
-    /// 63, and its V(R) `x`, 0 to 255, both in decimal without leading zeros. The virtual channels
-    /// rise strictly. `None` for any other text, also for the empty one.
+    /// The text is one or more items `v:x`, joined by single commas, as `0:0,63:255`: a virtual
+    /// channel `v`, 0 to 63, and its initial V(R) `x`, 0 to 255, both in decimal without leading
+    /// zeros. The virtual channels rise strictly. This form is this project's choice. `None` for
+    /// any other text, also for the empty text.
     pub fn read(&self, text: &str) -> Option<Starts>
+        // A text that is read has this form. The answer has the values of its items, and the same
+        // values as before elsewhere.
         ensures listed { IfSome result (λ starts. AreNamed 0 text.now self.now starts) }
+        // Each text of this form is read.
         ensures every { (items : List Item) → Lists 0 text.now items → result
             ≡ Some (starts_over self.now items) }
+        // Each of the 64 values is 0 to 255.
         ensures octets { IfSome result AreStarts }
     {
         read_from(self, text, 0)
     }
 }
 
-// The same values with those that the text names. Its virtual channels are `least` or above.
+// The same values with those that the text names, a text as in `Starts::read`. `None` also where
+// the text names a virtual channel below `least`.
 fn read_from(starts: &Starts, text: &str, least: u8) -> Option<Starts>
     ensures listed { IfSome result (λ named. AreNamed least text.now starts.now named) }
     ensures every { (items : List Item) → Lists least text.now items → result
@@ -86,6 +93,7 @@ fn read_from(starts: &Starts, text: &str, least: u8) -> Option<Starts>
     match text.split_once(',') {
         Some((first, rest)) => {
             let (vc, vr) = read_item(first, least)?;
+            // The items of the rest name virtual channels above `vc`.
             let above = read_from(starts, rest, vc + 1)?;
             Some(above.with(vc, vr))
         }
@@ -96,8 +104,8 @@ fn read_from(starts: &Starts, text: &str, least: u8) -> Option<Starts>
     }
 }
 
-// Reads an item: a virtual channel, `least` to 63, and its V(R), both in decimal with a colon
-// between them.
+// Reads an item: a virtual channel, `least` to 63, and its initial V(R), 0 to 255, both in decimal
+// without leading zeros, with a colon between them. `None` for any other text.
 fn read_item(text: &str, least: u8) -> Option<(u8, u8)>
     ensures item { IfSome result (λ p. let item : Item = record { vc = p.0; vr = p.1 } in
         IsItem least item × (text.now ≡ item_text item)) }

@@ -4,8 +4,8 @@ ghost use Rattle.sl_cop.specs.Farm.{IsWidth};
 
 use std::marker::Model;
 
-/// The sliding window of CCSDS 232.1-B, as its width W: even, 2 to 254. The positive part and the
-/// negative part have half the width each.
+/// The sliding window of CCSDS 232.1-B, given by its width W: even, 2 to 254. The positive part and
+/// the negative part have half the width each (PW and NW).
 #[derive(Clone, Copy, Debug, PartialEq, Eq)]
 pub struct Window {
     pub(crate) width: u8,

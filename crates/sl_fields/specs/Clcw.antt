@@ -30,8 +30,9 @@ pub record FitsClcw (w : ClcwFields) : Type 0 where
   pub farm_b : w.farm_b < 2 ^ 2
   pub report : w.report < 2 ^ 8
 
--- The word that reports the state of FARM-1 on a virtual channel: control word type 0, CLCW version 0, status 0,
--- COP-1 in effect, spare bits 0, and the flags No RF Available, No Bit Lock and Wait 0.
+-- The word that reports the state of FARM-1 on a virtual channel: COP-1 is in effect. The control
+-- word type, the CLCW version, the status, the spare bits and the flags No RF Available, No Bit
+-- Lock and Wait are 0.
 abbrev pub farm_word : ℕ → Bool → Bool → ℕ → ℕ → ClcwFields
 farm_word vc lockout retransmit farm_b report =
     record {
@@ -71,12 +72,14 @@ clcw_word octets =
       report = field 4 24 8 octets;
     }
 
--- the fields with their widths
+-- the fields in their order, each as its width and its value
 abbrev pub clcw_fields : ClcwFields → List (ℕ × ℕ)
 clcw_fields w =
-    (1, w.word) ∷ (2, w.version) ∷ (3, w.status) ∷ (2, w.cop) ∷ (6, w.vc) ∷ (2, w.spare) ∷ (1, bit_of w.no_rf)
-    ∷ (1, bit_of w.no_lock) ∷ (1, bit_of w.lockout) ∷ (1, bit_of w.wait) ∷ (1, bit_of w.retransmit)
-    ∷ (2, w.farm_b) ∷ (1, bit_of w.spare_end) ∷ (8, w.report) ∷ []
+    (1, w.word) ∷ (2, w.version) ∷ (3, w.status) ∷ (2, w.cop)
+    ∷ (6, w.vc) ∷ (2, w.spare)
+    ∷ (1, bit_of w.no_rf) ∷ (1, bit_of w.no_lock) ∷ (1, bit_of w.lockout) ∷ (1, bit_of w.wait)
+    ∷ (1, bit_of w.retransmit) ∷ (2, w.farm_b) ∷ (1, bit_of w.spare_end)
+    ∷ (8, w.report) ∷ []
 
 -- the four octets of the word with these fields
 abbrev pub clcw_octets : ClcwFields → List ℕ

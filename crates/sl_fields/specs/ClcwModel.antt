@@ -1,7 +1,8 @@
--- A `Clcw` stands for its fields. Each field is in range.
+-- A `Clcw` stands for its fields. Each field is in range. `Inside` is the struct itself.
 use Rattle.sl_fields.specs.Clcw.{ClcwFields, FitsClcw}
 use Rattle.sl_fields.specs.declared.clcw.Clcw.TheInside.{Inside}
 
+-- the fields that this struct stands for
 abbrev pub fields_of : Inside → ClcwFields
 fields_of w =
     record {
@@ -21,9 +22,11 @@ fields_of w =
       report = w.report;
     }
 
+-- what holds of each struct: its fields are in range
 abbrev pub IsClcw : Inside → Type 0
 IsClcw w = FitsClcw (fields_of w)
 
+-- the struct that stands for these fields
 abbrev pub inside_of : ClcwFields → Inside
 inside_of v =
     record {

@@ -1,5 +1,8 @@
--- The frame error control field, CCSDS 132.0-B and 232.0-B: the remainder of a division of bit lists.
-use Rattle.std.specs.Prelude.{ℕ, zero, suc, ◌+◌, ◌-◌, ◌*◌, ◌/◌, ◌%◌, ◌^◌, ◌==◌, nat_lt, ◌&&◌, Bool, true, false, not, cond, List, [], ◌∷◌, ◌++◌, length, take, drop, map, flat_map, replicate}
+-- The frame error control field, CCSDS 132.0-B and 232.0-B: the remainder of a division of lists of
+-- bits.
+use Rattle.std.specs.Prelude.{ℕ, zero, suc, ◌+◌, ◌-◌, ◌*◌, ◌/◌, ◌%◌, ◌^◌, ◌==◌, nat_lt, ◌&&◌, Bool}
+use Rattle.std.specs.Prelude.{true, false, not, cond, List, [], ◌∷◌, ◌++◌, length, take, drop, map}
+use Rattle.std.specs.Prelude.{flat_map, replicate}
 use Rattle.sl_fields.specs.Field.{bit_of, number_of}
 
 -- the bits of an octet, the most significant first
@@ -22,44 +25,52 @@ abbrev pub plus_bit : Bool → Bool → Bool
 plus_bit false b = b
 plus_bit true b = not b
 
--- the bits plus the bits of a word, added without carries from the front on
+-- The sum without carries of two lists of bits, from the front on: the bits of the first list are
+-- added to the first bits of the second. The sum is as long as the second list.
 abbrev pub plus_word : List Bool → List Bool → List Bool
 plus_word [] bits = bits
 plus_word (w ∷ word) [] = []
 plus_word (w ∷ word) (b ∷ bits) = plus_bit w b ∷ plus_word word bits
 
--- the generator, x^16 + x^12 + x^5 + 1, as the word 1 0001 0000 0010 0001
+-- the seventeen bits of the generator x^16 + x^12 + x^5 + 1: 1 0001 0000 0010 0001
 abbrev pub generator : List Bool
 generator =
-    true ∷ false ∷ false ∷ false ∷ true ∷ false ∷ false ∷ false ∷ false ∷ false ∷ false ∷ true ∷ false ∷ false ∷ false ∷ false
-    ∷ true ∷ []
+    true
+    ∷ false ∷ false ∷ false ∷ true
+    ∷ false ∷ false ∷ false ∷ false
+    ∷ false ∷ false ∷ true ∷ false
+    ∷ false ∷ false ∷ false ∷ true ∷ []
 
--- Long division without carries, in as many steps as the quotient has bits. Where the first bit is 1, the generator
--- is subtracted from there on, which clears the first bit; then the next bit is the first.
+-- Long division without carries: what is left after this number of steps, one for each bit of the
+-- quotient. Where the first bit is 1, a step adds the generator from the front on, and the first
+-- bit becomes 0. Then the step drops the first bit. (Without carries, a sum is also the
+-- difference.)
 abbrev pub divided : ℕ → List Bool → List Bool
 divided zero bits = bits
 divided (suc steps) [] = []
-divided (suc steps) (b ∷ bits) = divided steps (drop 1 (cond b (plus_word generator (b ∷ bits)) (b ∷ bits)))
+divided (suc steps) (b ∷ bits) =
+    divided steps (drop 1 (cond b (plus_word generator (b ∷ bits)) (b ∷ bits)))
 
--- the sixteen bits of the remainder by the generator
+-- The remainder by the generator: sixteen bits, or the bits themselves where there are fewer.
 abbrev pub remainder : List Bool → List Bool
 remainder bits = divided (length bits - 16) bits
 
--- the bits with the first sixteen inverted, as by a register that is preset to all ones
+-- The bits with the first sixteen inverted. A register that is preset to all ones has this effect.
 abbrev pub preset : List Bool → List Bool
 preset bits = map not (take 16 bits) ++ drop 16 bits
 
--- The field of a message's bits: sixteen zeros follow the bits, the first sixteen bits of this list are inverted, and
--- the list is divided. A register that divides bit by bit holds this number after the message.
+-- What the register of a division bit by bit holds after a message, given as its bits. Sixteen
+-- zeros are put after the bits, the first sixteen bits of this list are inverted, and the list is
+-- divided: the remainder, as a number.
 unfoldable pub register_of : List Bool → ℕ
 register_of bits = bits_number (remainder (preset (bits ++ replicate 16 false)))
 
--- The frame error control field of the octets that come before it. Each message has one, also the empty message.
+-- The frame error control field that follows these octets in a frame. An empty list has one too.
 unfoldable pub fecf_of : List ℕ → ℕ
 fecf_of octets = register_of (bits_of octets)
 
--- Whether octets end with their frame error control field: the last two, as one number, are the field of the octets
--- before them. At least one octet comes before the field.
+-- Whether octets end with their frame error control field: there are three octets or more, and the
+-- last two, as one number, are the field of the octets before them.
 abbrev pub fecf_is_good : List ℕ → Bool
 fecf_is_good octets =
     nat_lt 2 (length octets)

@@ -1,7 +1,8 @@
--- Numbers that never fall from one to the next.
+-- Numbers that never fall from one to the next. Contracts of crates above cite this file, and none
+-- of this crate.
 use Rattle.std.specs.Prelude.{⊤, ℕ, ◌≤◌, List, [], ◌∷◌}
 
--- The numbers never fall, and the first isn't below `least`.
+-- No number is below the one before it, and the first number isn't below `least`.
 abbrev pub NeverFall : ℕ → List ℕ → Type 0
 NeverFall least [] = ⊤
 NeverFall least (number ∷ numbers) = (least ≤ number) × NeverFall number numbers

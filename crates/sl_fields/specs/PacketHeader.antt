@@ -21,7 +21,8 @@ pub record FitsPacketHeader (h : PacketFields) : Type 0 where
   pub count : h.count < 2 ^ 14
   pub length : h.length < 2 ^ 16
 
--- the header of an unsegmented telemetry packet without secondary header: version 0 and sequence flags 3
+-- The header of an unsegmented telemetry packet without a secondary header: version 0, packet type
+-- 0, secondary header flag 0 and sequence flags 3.
 abbrev pub telemetry_header : ℕ → ℕ → ℕ → PacketFields
 telemetry_header apid count length =
     record {
@@ -47,11 +48,11 @@ packet_header octets =
       length = field 6 32 16 octets;
     }
 
--- the fields with their widths
+-- the fields in their order, each as its width and its value
 abbrev pub packet_fields : PacketFields → List (ℕ × ℕ)
 packet_fields h =
-    (3, h.version) ∷ (1, h.kind) ∷ (1, bit_of h.secondary) ∷ (11, h.apid) ∷ (2, h.flags) ∷ (14, h.count)
-    ∷ (16, h.length) ∷ []
+    (3, h.version) ∷ (1, h.kind) ∷ (1, bit_of h.secondary) ∷ (11, h.apid)
+    ∷ (2, h.flags) ∷ (14, h.count) ∷ (16, h.length) ∷ []
 
 -- the six octets of the header with these fields
 abbrev pub packet_octets : PacketFields → List ℕ

@@ -12,7 +12,8 @@ pub record FitsSegmentHeader (h : SegmentFields) : Type 0 where
   pub flags : h.flags < 2 ^ 2
   pub map : h.map < 2 ^ 6
 
--- the sequence flags of a segment: whether it is the first one and the last one of its service data unit
+-- The sequence flags of a segment. `first` says whether the segment is the first one of its service
+-- data unit, and `last` whether it is the last one.
 abbrev pub sequence_flags : Bool → Bool → ℕ
 sequence_flags first last = if first then (if last then 3 else 1) else (if last then 2 else 0)
 
@@ -24,7 +25,7 @@ segment_header octets =
       map = field 1 2 6 octets;
     }
 
--- the fields with their widths
+-- the fields in their order, each as its width and its value
 abbrev pub segment_fields : SegmentFields → List (ℕ × ℕ)
 segment_fields h = (2, h.flags) ∷ (6, h.map) ∷ []
 

@@ -22,7 +22,8 @@ pub record FitsTcHeader (h : TcFields) : Type 0 where
   pub length : h.length < 2 ^ 10
   pub ns : h.ns < 2 ^ 8
 
--- the header of a frame of type AD: version 0, bypass flag 0, control command flag 0 and spare bits 0
+-- the header of a frame of type AD: the version, the bypass flag, the control command flag and the
+-- spare bits are 0
 abbrev pub ad_header : ℕ → ℕ → ℕ → ℕ → TcFields
 ad_header spacecraft vc length ns =
     record {
@@ -50,11 +51,11 @@ tc_header octets =
       ns = field 5 32 8 octets;
     }
 
--- the fields with their widths
+-- the fields in their order, each as its width and its value
 abbrev pub tc_fields : TcFields → List (ℕ × ℕ)
 tc_fields h =
-    (2, h.version) ∷ (1, bit_of h.bypass) ∷ (1, bit_of h.command) ∷ (2, h.spare) ∷ (10, h.spacecraft) ∷ (6, h.vc)
-    ∷ (10, h.length) ∷ (8, h.ns) ∷ []
+    (2, h.version) ∷ (1, bit_of h.bypass) ∷ (1, bit_of h.command) ∷ (2, h.spare)
+    ∷ (10, h.spacecraft) ∷ (6, h.vc) ∷ (10, h.length) ∷ (8, h.ns) ∷ []
 
 -- the five octets of the header with these fields
 abbrev pub tc_octets : TcFields → List ℕ

@@ -1,7 +1,8 @@
--- A `TcHeader` stands for its fields. Each field is in range.
+-- A `TcHeader` stands for its fields. Each field is in range. `Inside` is the struct itself.
 use Rattle.sl_fields.specs.TcHeader.{TcFields, FitsTcHeader}
 use Rattle.sl_fields.specs.declared.tc_header.TcHeader.TheInside.{Inside}
 
+-- the fields that this struct stands for
 abbrev pub fields_of : Inside → TcFields
 fields_of h =
     record {
@@ -15,9 +16,11 @@ fields_of h =
       ns = h.ns;
     }
 
+-- what holds of each struct: its fields are in range
 abbrev pub IsTcHeader : Inside → Type 0
 IsTcHeader h = FitsTcHeader (fields_of h)
 
+-- the struct that stands for these fields
 abbrev pub inside_of : TcFields → Inside
 inside_of v =
     record {

@@ -26,8 +26,8 @@ pub record FitsTmHeader (h : TmFields) : Type 0 where
   pub segment : h.segment < 2 ^ 2
   pub first : h.first < 2 ^ 11
 
--- The header of a frame of packets: version 0, no operational control field, no secondary header, synchronisation
--- flag 0, packet order flag 0 and segment length identifier 3.
+-- The header of a frame of packets: version 0, no operational control field, no secondary header,
+-- synchronisation flag 0, packet order flag 0 and segment length identifier 3.
 abbrev pub packets_header : ℕ → ℕ → ℕ → ℕ → ℕ → TmFields
 packets_header spacecraft vc mc vcc first =
     record {
@@ -61,11 +61,13 @@ tm_header octets =
       first = field 6 37 11 octets;
     }
 
--- the fields with their widths
+-- the fields in their order, each as its width and its value
 abbrev pub tm_fields : TmFields → List (ℕ × ℕ)
 tm_fields h =
-    (2, h.version) ∷ (10, h.spacecraft) ∷ (3, h.vc) ∷ (1, bit_of h.control) ∷ (8, h.mc) ∷ (8, h.vcc)
-    ∷ (1, bit_of h.secondary) ∷ (1, bit_of h.sync) ∷ (1, bit_of h.order) ∷ (2, h.segment) ∷ (11, h.first) ∷ []
+    (2, h.version) ∷ (10, h.spacecraft) ∷ (3, h.vc) ∷ (1, bit_of h.control)
+    ∷ (8, h.mc) ∷ (8, h.vcc)
+    ∷ (1, bit_of h.secondary) ∷ (1, bit_of h.sync) ∷ (1, bit_of h.order) ∷ (2, h.segment)
+    ∷ (11, h.first) ∷ []
 
 -- the six octets of the header with these fields
 abbrev pub tm_octets : TmFields → List ℕ

@@ -1,7 +1,8 @@
--- A `TmHeader` stands for its fields. Each field is in range.
+-- A `TmHeader` stands for its fields. Each field is in range. `Inside` is the struct itself.
 use Rattle.sl_fields.specs.TmHeader.{TmFields, FitsTmHeader}
 use Rattle.sl_fields.specs.declared.tm_header.TmHeader.TheInside.{Inside}
 
+-- the fields that this struct stands for
 abbrev pub fields_of : Inside → TmFields
 fields_of h =
     record {
@@ -18,9 +19,11 @@ fields_of h =
       first = h.first;
     }
 
+-- what holds of each struct: its fields are in range
 abbrev pub IsTmHeader : Inside → Type 0
 IsTmHeader h = FitsTmHeader (fields_of h)
 
+-- the struct that stands for these fields
 abbrev pub inside_of : TmFields → Inside
 inside_of v =
     record {

@@ -10,6 +10,7 @@ use std::marker::Model;
 /// The Communications Link Control Word (CLCW) of CCSDS 232.0-B, four octets.
 #[derive(Clone, Copy, Debug, PartialEq, Eq)]
 pub struct Clcw {
+    // The fields in their order. The method of the same name describes each field.
     word: u8,
     version: u8,
     status: u8,
@@ -41,8 +42,9 @@ impl Model for Clcw {
 }
 
 impl Clcw {
-    /// The word with these fields. `None` exactly where a field is out of the range of its bits:
-    /// `word` 0 or 1; `version`, `cop`, `spare` and `farm_b` 0 to 3; `status` 0 to 7; `vc` 0 to 63.
+    /// The CLCW with these fields, or `None` where a field is out of its range. The range of
+    /// `word`, the control word type, is 0 to 1; of `version`, `cop`, `spare` and `farm_b` 0 to 3;
+    /// of `status` 0 to 7; of `vc` 0 to 63. Any `report` is in range.
     pub fn new(
         word: u8,
         version: u8,
@@ -76,8 +78,8 @@ impl Clcw {
           report = report;
         } in SomeIff result (FitsClcw fields) fields }
     {
-        let kind_fits = word < 2 && version < 4 && status < 8 && cop < 4;
-        if !kind_fits || vc >= 64 || spare >= 4 || farm_b >= 4 {
+        let first_octet_fits = word < 2 && version < 4 && status < 8 && cop < 4;
+        if !first_octet_fits || vc >= 64 || spare >= 4 || farm_b >= 4 {
             return None;
         }
         Some(Clcw {
@@ -98,11 +100,13 @@ impl Clcw {
         })
     }
 
-    /// The word that reports the state of FARM-1 on the virtual channel `vc`, 0 to 63: control word
-    /// type 0, CLCW version 0, status 0, COP-1 in effect, spare bits 0, and the flags No RF
-    /// Available, No Bit Lock and Wait 0.
+    /// The CLCW that reports the state of FARM-1 on the virtual channel `vc`, 0 to 63: COP-1 is in
+    /// effect. The control word type, the CLCW version, the status, the spare bits and the flags No
+    /// RF Available, No Bit Lock and Wait are 0. This project's FARM-1 never reaches the wait
+    /// state.
     ///
-    /// `farm_b` is the FARM-B counter, 0 to 3, and `report` is V(R).
+    /// `lockout` and `retransmit` are the flags of these names, `farm_b` is the FARM-B counter, 0
+    /// to 3, and `report` is V(R), 0 to 255.
     pub fn of_farm(vc: u8, lockout: bool, retransmit: bool, farm_b: u8, report: u8) -> Clcw
         requires vc { vc ≤ 63 }
         requires farm_b { farm_b ≤ 3 }
@@ -126,7 +130,8 @@ impl Clcw {
         }
     }
 
-    /// Reads the word from its four octets. All octets are a word; a CLCW has control word type 0.
+    /// Reads the word from its four octets. Any four octets are read: the control word type, 0 for
+    /// a CLCW, isn't checked.
     pub fn read(octets: &[u8; 4]) -> Clcw
         ensures { result ≡ clcw_word octets.now }
     {
@@ -247,7 +252,7 @@ impl Clcw {
         self.spare_end
     }
 
-    /// Report value, 0 to 255: N(R), the frame sequence number that is expected next.
+    /// Report value, 0 to 255: N(R), the frame sequence number that FARM-1 expects next, its V(R).
     pub fn report(&self) -> u8
         ensures { result ≡ self.now.report }
     {
@@ -258,9 +263,10 @@ impl Clcw {
     pub fn write(&self) -> [u8; 4]
         // The octets read back as this word.
         ensures reads_back { clcw_word result ≡ self.now }
-        // No other octets do.
+        // No other four octets do.
         ensures only { (octets : List ℕ) → length octets ≡ 4 → IsOctets octets
             → clcw_word octets ≡ self.now → octets ≡ result }
+        // The octets are the fields, one after another.
         ensures octets { result ≡ clcw_octets self.now }
     {
         let number = pack(&[

@@ -1,4 +1,4 @@
-//! A number of one octet as text.
+//! Numbers of one octet as decimal text.
 ghost use Rattle.std.specs.Prelude.{◌≡◌, ◌≤◌, ℕ, IfSome, Some};
 ghost use Rattle.std.specs.Fmt.{decimal};
 
@@ -7,6 +7,7 @@ pub fn read_decimal(text: &str) -> Option<u8>
     ensures number { IfSome result (λ n. text.now ≡ decimal n) }
     ensures every { (n : ℕ) → n ≤ 255 → text.now ≡ decimal n → result ≡ Some n }
 {
+    // `parse` takes a plus sign and leading zeros too. Both `+` and `0` are below `1`.
     if text.len() > 1 && text.as_bytes()[0] < b'1' {
         return None;
     }

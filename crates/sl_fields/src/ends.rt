@@ -1,8 +1,7 @@
-//! The first and the last octets of a slice that is long enough.
+//! Splits a slice after its first octets, or before its last octets.
 ghost use Rattle.std.specs.Prelude.{◌≡◌, ◌-◌, ◌≤◌, length, take, drop};
 
-/// Splits off the first `N` octets: these, and the octets after them. `octets` has `N` octets or
-/// more.
+/// Returns the first `N` octets, and the octets after them. `octets` has `N` octets or more.
 #[inline(always)]
 pub fn front<const N: usize>(octets: &[u8]) -> (&[u8; N], &[u8])
     requires { N ≤ length octets.now }
@@ -12,8 +11,7 @@ pub fn front<const N: usize>(octets: &[u8]) -> (&[u8; N], &[u8])
     octets.split_first_chunk::<N>().unwrap()
 }
 
-/// Splits off the last `N` octets: the octets before them, and these. `octets` has `N` octets or
-/// more.
+/// Returns the octets before the last `N`, and the last `N`. `octets` has `N` octets or more.
 #[inline(always)]
 pub fn back<const N: usize>(octets: &[u8]) -> (&[u8], &[u8; N])
     requires { N ≤ length octets.now }

@@ -1,4 +1,11 @@
-//! The frame error control field.
+//! The frame error control field: computed, checked and left out.
+//!
+//! The field is the remainder of a division, whose register holds sixteen bits. Each octet of the
+//! message adds a word to the remainder. The word depends on the value of the octet and on the
+//! number of octets that follow. All sums are without carries.
+//!
+//! Here a slice is sixteen octets of the message. A slice is taken in one step, with a table of
+//! words for each of its octets. The octets after the last slice are taken one by one.
 ghost use Rattle.std.specs.Prelude.{◌≡◌, ◌-◌, ◌<◌, ◌≤◌, [], ◌∷◌, length, take, drop};
 ghost use Rattle.std.specs.List.{concat};
 ghost use Rattle.sl_fields.specs.Fecf.{fecf_of, fecf_is_good};
@@ -12,8 +19,7 @@ use crate::slices::SLICES;
 use crate::words::WORDS;
 use byteorder::{BigEndian, ByteOrder};
 
-/// The frame error control field of CCSDS 132.0-B and 232.0-B for these octets, which come before
-/// the field in their frame.
+/// The frame error control field (CCSDS 132.0-B and 232.0-B) that follows these octets in a frame.
 ///
 /// The field is the remainder by the generator x^16 + x^12 + x^5 + 1, with the register preset to
 /// all ones. Each octet is taken from its most significant bit on, and the remainder isn't
@@ -43,8 +49,8 @@ pub fn fecf_good(octets: &[u8]) -> bool
     BigEndian::read_u16(field) == fecf(covered)
 }
 
-/// The frame error control field of these octets as two octets, the most significant first. The two
-/// octets stand after these octets in a frame.
+/// The frame error control field that follows these octets in a frame, as two octets, the most
+/// significant first.
 pub fn fecf_field(octets: &[u8]) -> [u8; 2]
     ensures { result ≡ fecf_octets octets.now }
 {
@@ -53,8 +59,11 @@ pub fn fecf_field(octets: &[u8]) -> [u8; 2]
     field
 }
 
-/// Leaves out the frame error control field, where frames have one (`has_fecf`). `octets` is a
-/// frame, or a frame from some offset on, and has two octets or more in this case.
+/// The octets before the frame error control field; all octets where frames have none. `has_fecf`
+/// says whether frames have one.
+///
+/// `octets` is a frame, or a frame from some offset on. Where `has_fecf` is set, `octets` has two
+/// octets or more.
 #[inline(always)]
 pub fn without_fecf(has_fecf: bool, octets: &[u8]) -> &[u8]
     requires { fecf_len has_fecf ≤ length octets.now }
@@ -66,13 +75,14 @@ pub fn without_fecf(has_fecf: bool, octets: &[u8]) -> &[u8]
     back::<2>(octets).0
 }
 
-// The register of the division, as its two octets.
+// The sixteen bits of the division's register, as two octets.
 #[derive(Clone, Copy)]
 struct Register {
     high: u8,
     low: u8,
 }
 
+// The register as one number.
 #[inline(always)]
 fn number(register: Register) -> u16
     ensures { result ≡ register_number register }
@@ -80,6 +90,7 @@ fn number(register: Register) -> u16
     u16::from_be_bytes([register.high, register.low])
 }
 
+// The register that holds this number.
 #[inline(always)]
 fn halves(number: u16) -> Register
     ensures { register_number result ≡ number }
@@ -90,6 +101,7 @@ fn halves(number: u16) -> Register
     }
 }
 
+// The register after these octets of the message, taken one by one.
 #[inline(always)]
 fn after_octets(register: Register, octets: &[u8]) -> Register
     ensures { TakesIn register octets.now result }
@@ -101,8 +113,8 @@ fn after_octets(register: Register, octets: &[u8]) -> Register
     after
 }
 
-// The register after one more octet. The register is moved up by one octet, and the word of its
-// first octet plus the message's octet is added.
+// The register after one more octet of the message: the lower octet moves up, and a word is added.
+// The word is that of the sum of the register's upper octet and the message's octet.
 #[inline(always)]
 fn after_octet(register: Register, octet: u8) -> Register
     ensures { TakesIn register (octet ∷ []) result }
@@ -114,6 +126,7 @@ fn after_octet(register: Register, octet: u8) -> Register
     }
 }
 
+// The register after these slices of the message, taken one by one.
 #[inline(always)]
 fn after_slices(register: Register, slices: &[[u8; 16]]) -> Register
     ensures { TakesIn register (concat slices.now) result }
@@ -125,8 +138,8 @@ fn after_slices(register: Register, slices: &[[u8; 16]]) -> Register
     after
 }
 
-// The register after sixteen more octets: the sum of the words of all sixteen, with the register
-// added to the first two octets.
+// The register after one more slice of the message: the register's two octets are added to the
+// first two octets of the slice, and the words of all sixteen octets are summed.
 #[inline(always)]
 fn after_slice(register: Register, slice: &[u8; 16]) -> Register
     ensures { TakesIn register slice.now result }
@@ -136,20 +149,20 @@ fn after_slice(register: Register, slice: &[u8; 16]) -> Register
     halves(first ^ second ^ later_words(slice))
 }
 
-// The sum of the words that don't depend on the register: this sum can be computed before the
-// register is known.
+// The sum of the words of the slice's octets from the third on. This sum doesn't depend on the
+// register, so it can be computed before the register is known.
 #[inline(always)]
 fn later_words(slice: &[u8; 16]) -> u16
     ensures { result ≡ words_sum (drop 2 slice.now) }
 {
     let mut sum = 0;
-    for place in 2..16usize {
-        sum ^= slice_word(15 - place, slice[place]);
+    for offset in 2..16usize {
+        sum ^= slice_word(15 - offset, slice[offset]);
     }
     sum
 }
 
-// The word of the last octet of a message.
+// The word of a message's last octet, as two octets, the most significant first.
 #[inline(always)]
 fn word(octet: u8) -> [u8; 2]
     ensures { number_of result ≡ word_of 0 octet }
@@ -157,7 +170,7 @@ fn word(octet: u8) -> [u8; 2]
     WORDS[usize::from(octet)]
 }
 
-// The word of an octet that `later` more octets follow.
+// The word of an octet of the message that `later` more octets follow, 0 to 15.
 #[inline(always)]
 fn slice_word(later: usize, octet: u8) -> u16
     requires { later < 16 }

@@ -1,4 +1,5 @@
-//! The laws on this crate's definitions. Each function is empty; its clauses are the laws.
+//! The laws on this crate's definitions. Each function is empty, and nothing calls it. Its clauses
+//! are the laws, and the check of the function proves them.
 ghost use Rattle.sl_fields.specs.FecfWords.{AreWords, AreSliceWords};
 ghost use Rattle.sl_fields.specs.Remainder.{DivisionFindsRemainder, RemainderIsOnlyOne};
 ghost use Rattle.sl_fields.specs.Remainder.{FieldIsRemainder, WordIsRemainder};
@@ -6,21 +7,25 @@ ghost use Rattle.sl_fields.specs.Remainder.{FieldIsRemainder, WordIsRemainder};
 use crate::slices::SLICES;
 use crate::words::WORDS;
 
-/// Bits, sixteen or more, are a multiple of the generator plus, without carries, a remainder of
-/// sixteen bits. The long division finds this remainder, and there is no other.
+/// Each list of sixteen or more bits is the sum, without carries, of a multiple of the generator
+/// x^16 + x^12 + x^5 + 1 and a remainder of sixteen bits. The long division finds this remainder,
+/// and there is no other.
 pub fn bits_have_one_remainder()
     ensures found { DivisionFindsRemainder }
     ensures only { RemainderIsOnlyOne }
 {}
 
-/// The frame error control field is the remainder of the message's bits followed by sixteen zeros,
-/// with the first sixteen bits of this list inverted.
+/// The frame error control field is the remainder of a list of bits: the message's bits and sixteen
+/// zeros after them, with the first sixteen bits of the list inverted.
 pub fn fecf_is_a_remainder()
     ensures { FieldIsRemainder }
 {}
 
-/// The word of an octet is the remainder, without preset, of the octet's bits and the zeros after
-/// them. The tables have the words of all octets.
+/// The word of an octet is the remainder of another list of bits: the octet's eight bits, eight
+/// zeros for each later octet of the message, and sixteen zeros. None of them is inverted.
+///
+/// `WORDS` has the words of a message's last octet, and `SLICES` the words of the octets that 0 to
+/// 15 more octets follow, for each value of the octet.
 pub fn words_are_remainders()
     ensures word { WordIsRemainder }
     ensures last { AreWords WORDS }

@@ -1,9 +1,16 @@
-//! The headers of CCSDS telemetry and telecommand links and of space packets, each as its fields
-//! and as its octets. Beside them stand the frame error control field, and the reading of a number
-//! of one octet from text.
+//! The fixed parts of CCSDS frames and packets: the primary headers of TM transfer frames
+//! (132.0-B), TC transfer frames (232.0-B) and space packets (133.0-B), the segment header and the
+//! Communications Link Control Word (CLCW) of 232.0-B, and the frame error control field of TM and
+//! TC.
 //!
-//! A header consists of its fields alone. Every bit belongs to a field, the spare bits too. So
-//! [`write`](TmHeader::write) gives back the same octets that [`read`](TmHeader::read) took.
+//! Each header, and the CLCW, has a type with the values of all its fields, the spare bits too, so
+//! that every bit belongs to a field. [`read`](TmHeader::read) refuses no octets, and
+//! [`write`](TmHeader::write) returns the octets that `read` took. [`new`](TmHeader::new) refuses a
+//! value that its field's bits can't hold.
+//!
+//! The crate also has three things that several crates above use: the first and the last octets of
+//! a slice ([`front`], [`back`]), a number of one octet from text ([`read_decimal`]), and the
+//! reason why frame lengths are refused ([`ShapeFault`]).
 #![tactic(auto)]
 
 mod bits;

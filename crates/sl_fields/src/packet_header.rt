@@ -11,6 +11,7 @@ use std::marker::Model;
 /// The space packet primary header of CCSDS 133.0-B, six octets.
 #[derive(Clone, Copy, Debug, PartialEq, Eq)]
 pub struct PacketHeader {
+    // The fields in their order. The method of the same name describes each field.
     version: u8,
     kind: u8,
     secondary: bool,
@@ -35,9 +36,9 @@ impl Model for PacketHeader {
 }
 
 impl PacketHeader {
-    /// The header with these fields. `None` exactly where a field is out of the range of its bits:
-    /// `version` 0 to 7, `kind` 0 or 1, `apid` 0 to 2047, `flags` 0 to 3, `count` 0 to 16,383. Any
-    /// `length` is in range.
+    /// The header with these fields, or `None` where a field is out of its range. The range of
+    /// `version` is 0 to 7, of `kind` 0 to 1, of `apid` 0 to 2047, of `flags` 0 to 3, and of
+    /// `count` 0 to 16,383. Any `length` is in range.
     pub fn new(
         version: u8,
         kind: u8,
@@ -72,9 +73,11 @@ impl PacketHeader {
         })
     }
 
-    /// The header of an unsegmented telemetry packet without a secondary header: version 0 and
-    /// sequence flags 3. `apid` is 0 to 2047 and `count` 0 to 16,383; `length` is the octets of the
-    /// packet data field minus 1.
+    /// The header of an unsegmented telemetry packet without a secondary header: version 0, packet
+    /// type 0, secondary header flag 0 and sequence flags 3.
+    ///
+    /// `apid` is 0 to 2047, and `count`, the packet sequence count, 0 to 16,383. `length` is the
+    /// number of octets of the packet data field minus 1, 0 to 65,535.
     pub fn of_telemetry(apid: u16, count: u16, length: u16) -> PacketHeader
         requires apid { apid ≤ 2047 }
         requires count { count ≤ 16383 }
@@ -91,8 +94,8 @@ impl PacketHeader {
         }
     }
 
-    /// Reads the header from its six octets. All octets are a header; a space packet's has
-    /// version 0.
+    /// Reads the header from its six octets. Any six octets are read: the version, 0 for a space
+    /// packet, isn't checked.
     pub fn read(octets: &[u8; 6]) -> PacketHeader
         ensures { result ≡ packet_header octets.now }
     {
@@ -155,7 +158,7 @@ impl PacketHeader {
         self.count
     }
 
-    /// Packet data length: the octets after the primary header, minus 1.
+    /// Packet data length, 0 to 65,535: the number of octets after the primary header, minus 1.
     pub fn length(&self) -> u16
         ensures { result ≡ self.now.length }
     {
@@ -166,9 +169,10 @@ impl PacketHeader {
     pub fn write(&self) -> [u8; 6]
         // The octets read back as this header.
         ensures reads_back { packet_header result ≡ self.now }
-        // No other octets do.
+        // No other six octets do.
         ensures only { (octets : List ℕ) → length octets ≡ 6 → IsOctets octets
             → packet_header octets ≡ self.now → octets ≡ result }
+        // The octets are the fields, one after another.
         ensures octets { result ≡ packet_octets self.now }
     {
         let number = pack(&[

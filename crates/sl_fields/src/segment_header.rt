@@ -11,6 +11,7 @@ use std::marker::Model;
 /// The segment header of CCSDS 232.0-B: one octet at the front of a TC transfer frame's data field.
 #[derive(Clone, Copy, Debug, PartialEq, Eq)]
 pub struct SegmentHeader {
+    // The fields in their order. The method of the same name describes each field.
     flags: u8,
     map: u8,
 }
@@ -30,8 +31,8 @@ impl Model for SegmentHeader {
 }
 
 impl SegmentHeader {
-    /// The header with these fields. `None` exactly where a field is out of the range of its bits:
-    /// `flags` 0 to 3, `map` 0 to 63.
+    /// The header with these fields, or `None` where a field is out of its range. The range of
+    /// `flags` is 0 to 3, and of `map` 0 to 63.
     pub fn new(flags: u8, map: u8) -> Option<SegmentHeader>
         ensures { let fields : SegmentFields = record {
           flags = flags;
@@ -45,9 +46,9 @@ impl SegmentHeader {
         Some(SegmentHeader { flags, map })
     }
 
-    /// The header of a segment on the MAP `map`, 0 to 63. `first` and `last` say whether the
-    /// segment is the first one and the last one of its service data unit. A segment that is both
-    /// has sequence flags 3, no segmentation.
+    /// The header of a segment on the MAP `map`, 0 to 63. `first` says whether the segment is the
+    /// first one of its service data unit, and `last` whether it is the last one. The sequence
+    /// flags of a segment that is both are 3, no segmentation.
     pub fn of_segment(first: bool, last: bool, map: u8) -> SegmentHeader
         requires { map ≤ 63 }
         ensures { let fields : SegmentFields = record {
@@ -98,6 +99,7 @@ impl SegmentHeader {
         // No other octet does.
         ensures only { (octets : List ℕ) → length octets ≡ 1 → IsOctets octets
             → segment_header octets ≡ self.now → octets ≡ result }
+        // The octet is the two fields, one after another.
         ensures octets { result ≡ segment_octets self.now }
     {
         let number = pack(&[(2, self.flags as u64), (6, self.map as u64)]);

@@ -1,14 +1,15 @@
-//! Why a frame format is refused.
+//! Why frame lengths are refused.
 use thiserror::Error;
 
-/// Why a managed format of transfer frames is refused.
+/// Why the frame length that is managed for a physical channel is refused.
 #[derive(Clone, Copy, Debug, PartialEq, Eq, Error)]
 pub enum ShapeFault {
-    /// The TM frame length is outside 32 to 2048 octets. These bounds are this project's.
+    /// The length of TM transfer frames is outside 32 to 2048 octets. Both bounds are this
+    /// project's choice.
     #[error("tm length")]
     TmLength,
-    /// The greatest TC frame length is outside 16 to 1024 octets. CCSDS 232.0-B has 1024; the bound
-    /// of 16 is this project's.
+    /// The greatest length of TC transfer frames is outside 16 to 1024 octets. The bound of 1024 is
+    /// that of CCSDS 232.0-B, and the bound of 16 is this project's choice.
     #[error("tc length")]
     TcLength,
 }

@@ -10,6 +10,7 @@ use std::marker::Model;
 /// The TC transfer frame primary header of CCSDS 232.0-B, five octets.
 #[derive(Clone, Copy, Debug, PartialEq, Eq)]
 pub struct TcHeader {
+    // The fields in their order. The method of the same name describes each field.
     version: u8,
     bypass: bool,
     command: bool,
@@ -35,8 +36,9 @@ impl Model for TcHeader {
 }
 
 impl TcHeader {
-    /// The header with these fields. `None` exactly where a field is out of the range of its bits:
-    /// `version` and `spare` 0 to 3, `spacecraft` and `length` 0 to 1023, `vc` 0 to 63.
+    /// The header with these fields, or `None` where a field is out of its range. The range of
+    /// `version` and `spare` is 0 to 3, of `spacecraft` and `length` 0 to 1023, and of `vc` 0 to
+    /// 63. Any `ns` is in range.
     pub fn new(
         version: u8,
         bypass: bool,
@@ -77,8 +79,8 @@ impl TcHeader {
     /// The header of a frame of type AD: version 0, bypass flag 0, control command flag 0 and spare
     /// bits 0.
     ///
-    /// `spacecraft` is 0 to 1023 and `vc` 0 to 63. `length` is the octets of the frame minus 1, 0
-    /// to 1023. `ns` is the frame sequence number N(S).
+    /// `spacecraft` is 0 to 1023 and `vc` 0 to 63. `length` is the number of octets of the frame
+    /// minus 1, 0 to 1023. `ns` is the frame sequence number N(S), 0 to 255.
     pub fn of_ad(spacecraft: u16, vc: u8, length: u16, ns: u8) -> TcHeader
         requires spacecraft { spacecraft ≤ 1023 }
         requires vc { vc ≤ 63 }
@@ -97,8 +99,8 @@ impl TcHeader {
         }
     }
 
-    /// Reads the header from its five octets. All octets are a header; a TC transfer frame's has
-    /// version 0.
+    /// Reads the header from its five octets. Any five octets are read: the version, 0 for a TC
+    /// transfer frame, isn't checked.
     pub fn read(octets: &[u8; 5]) -> TcHeader
         ensures { result ≡ tc_header octets.now }
     {
@@ -123,14 +125,16 @@ impl TcHeader {
         self.version
     }
 
-    /// Bypass flag: whether the frame bypasses the frame acceptance checks of FARM-1 (Type-B).
+    /// Bypass flag: true where the frame bypasses the frame acceptance checks of FARM-1 (Type-B),
+    /// false where FARM-1 makes these checks (Type-A).
     pub fn bypass(&self) -> bool
         ensures { result ≡ self.now.bypass }
     {
         self.bypass
     }
 
-    /// Control command flag: whether the frame carries a control command (Type-C) or data (Type-D).
+    /// Control command flag: true where the frame carries a control command (Type-C), false where
+    /// the frame carries data (Type-D).
     pub fn command(&self) -> bool
         ensures { result ≡ self.now.command }
     {
@@ -161,7 +165,7 @@ impl TcHeader {
         self.vc
     }
 
-    /// Frame length field, 0 to 1023: the octets of the frame, minus 1.
+    /// Frame length field, 0 to 1023: the number of octets of the frame, minus 1.
     pub fn length(&self) -> u16
         ensures value { result ≡ self.now.length }
         ensures fits { result < 2 ^ 10 }
@@ -180,9 +184,10 @@ impl TcHeader {
     pub fn write(&self) -> [u8; 5]
         // The octets read back as this header.
         ensures reads_back { tc_header result ≡ self.now }
-        // No other octets do.
+        // No other five octets do.
         ensures only { (octets : List ℕ) → length octets ≡ 5 → IsOctets octets
             → tc_header octets ≡ self.now → octets ≡ result }
+        // The octets are the fields, one after another.
         ensures octets { result ≡ tc_octets self.now }
     {
         let number = pack(&[

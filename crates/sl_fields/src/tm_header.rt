@@ -11,6 +11,7 @@ use std::marker::Model;
 /// The TM transfer frame primary header of CCSDS 132.0-B, six octets.
 #[derive(Clone, Copy, Debug, PartialEq, Eq)]
 pub struct TmHeader {
+    // The fields in their order. The method of the same name describes each field.
     version: u8,
     spacecraft: u16,
     vc: u8,
@@ -39,8 +40,9 @@ impl Model for TmHeader {
 }
 
 impl TmHeader {
-    /// The header with these fields. `None` exactly where a field is out of the range of its bits:
-    /// `version` 0 to 3, `spacecraft` 0 to 1023, `vc` 0 to 7, `segment` 0 to 3, `first` 0 to 2047.
+    /// The header with these fields, or `None` where a field is out of its range. The range of
+    /// `version` and `segment` is 0 to 3, of `spacecraft` 0 to 1023, of `vc` 0 to 7, and of `first`
+    /// 0 to 2047. Any `mc` and `vcc` are in range.
     pub fn new(
         version: u8,
         spacecraft: u16,
@@ -90,9 +92,9 @@ impl TmHeader {
     /// The header of a frame of packets: version 0, no operational control field, no secondary
     /// header, synchronisation flag 0, packet order flag 0 and segment length identifier 3.
     ///
-    /// `spacecraft` is 0 to 1023 and `vc` 0 to 7; `mc` and `vcc` are the master and the virtual
-    /// channel frame count. `first` is the first header pointer, 0 to 2047: 2046 for an idle frame,
-    /// 2047 where no packet starts in the frame.
+    /// `spacecraft` is 0 to 1023 and `vc` 0 to 7. `mc` is the master channel frame count and `vcc`
+    /// the virtual channel frame count, both 0 to 255. `first` is the first header pointer, 0 to
+    /// 2047: 2046 where the frame has only idle data, 2047 where no packet starts in the frame.
     pub fn of_packets(spacecraft: u16, vc: u8, mc: u8, vcc: u8, first: u16) -> TmHeader
         requires spacecraft { spacecraft ≤ 1023 }
         requires vc { vc ≤ 7 }
@@ -114,8 +116,8 @@ impl TmHeader {
         }
     }
 
-    /// Reads the header from its six octets. All octets are a header; a TM transfer frame's has
-    /// version 0.
+    /// Reads the header from its six octets. Any six octets are read: the version, 0 for a TM
+    /// transfer frame, isn't checked.
     pub fn read(octets: &[u8; 6]) -> TmHeader
         ensures { result ≡ tm_header octets.now }
     {
@@ -187,21 +189,22 @@ impl TmHeader {
         self.secondary
     }
 
-    /// Synchronisation flag: false where the data field has packets or only idle data.
+    /// Synchronisation flag: false where the data field has packets or only idle data, true where
+    /// the data field has other data.
     pub fn sync(&self) -> bool
         ensures { result ≡ self.now.sync }
     {
         self.sync
     }
 
-    /// Packet order flag. CCSDS 132.0-B has it 0 in a frame of packets.
+    /// Packet order flag: false in a frame of packets, by CCSDS 132.0-B.
     pub fn order(&self) -> bool
         ensures { result ≡ self.now.order }
     {
         self.order
     }
 
-    /// Segment length identifier, 0 to 3. CCSDS 132.0-B has it 3 in a frame of packets.
+    /// Segment length identifier, 0 to 3: 3 in a frame of packets, by CCSDS 132.0-B.
     pub fn segment(&self) -> u8
         ensures value { result ≡ self.now.segment }
         ensures fits { result < 2 ^ 2 }
@@ -209,8 +212,9 @@ impl TmHeader {
         self.segment
     }
 
-    /// First header pointer, 0 to 2047: the offset in the data field at which the first packet
-    /// starts, 2046 for only idle data, 2047 where no packet starts.
+    /// First header pointer, 0 to 2047: the offset in octets from the start of the data field to
+    /// the first packet that starts there, 2046 where the frame has only idle data, 2047 where no
+    /// packet starts in the frame.
     pub fn first(&self) -> u16
         ensures value { result ≡ self.now.first }
         ensures fits { result < 2 ^ 11 }
@@ -222,9 +226,10 @@ impl TmHeader {
     pub fn write(&self) -> [u8; 6]
         // The octets read back as this header.
         ensures reads_back { tm_header result ≡ self.now }
-        // No other octets do.
+        // No other six octets do.
         ensures only { (octets : List ℕ) → length octets ≡ 6 → IsOctets octets
             → tm_header octets ≡ self.now → octets ≡ result }
+        // The octets are the fields, one after another.
         ensures octets { result ≡ tm_octets self.now }
     {
         let number = pack(&[

@@ -5,7 +5,7 @@ use Rattle.std.specs.List.{AllByRecursion}
 use Rattle.std.specs.Vec.{vec_items}
 use Rattle.std.specs.declared.vec.Vec.{Vec}
 use Rattle.sl_fields.proofs.ListLemmas.{each-append, each-at, each-replicate, each-set, each-take}
-use Rattle.sl_packet.specs.Delivered.{channel_count, no_lists, IsDeliverable, with_packet}
+use Rattle.sl_packet.specs.Delivered.{channel_count, empty_lists, IsDeliverable, with_packet}
 use Rattle.sl_packet.specs.KeptLists.{with_empty_lists, IsGrown}
 use Rattle.sl_packet.proofs.PaddedLemmas.{get_or-with_empty_lists}
 
@@ -74,16 +74,16 @@ filled_due n k kept empty lists none is all =
     let after : AllByRecursion AllDeliverable empty = subst (AllByRecursion AllDeliverable) (sym none) (each-replicate AllDeliverable k [] tt) in
     subst (AllByRecursion AllDeliverable) (sym is) (each-take AllDeliverable n (kept ++ empty) (each-append AllDeliverable kept empty all after))
 
-no_lists_are : no_lists ≡ replicate channel_count []
-unfolding no_lists
-no_lists_are = refl
+empty_lists_are : empty_lists ≡ replicate channel_count []
+unfolding empty_lists
+empty_lists_are = refl
 
-with_empty_lists_are : (kept : List (List (List ℕ))) → with_empty_lists kept ≡ take channel_count (kept ++ no_lists)
+with_empty_lists_are : (kept : List (List (List ℕ))) → with_empty_lists kept ≡ take channel_count (kept ++ empty_lists)
 unfolding with_empty_lists
 with_empty_lists_are kept = refl
 
 pub all_due : (kept : List (List (List ℕ))) → AllByRecursion AllDeliverable kept → AllByRecursion AllDeliverable (with_empty_lists kept)
-all_due kept all = filled_due channel_count channel_count kept no_lists (with_empty_lists kept) no_lists_are (with_empty_lists_are kept) all
+all_due kept all = filled_due channel_count channel_count kept empty_lists (with_empty_lists kept) empty_lists_are (with_empty_lists_are kept) all
 
 pub grown_due : (old new : List (List (List ℕ))) → IsGrown old new → AllByRecursion AllDeliverable old → AllByRecursion AllDeliverable new
 grown_due old new grown all =

@@ -11,5 +11,6 @@ pub mod PacketLemmas
 pub mod PacketsLemmas
 pub mod PaddedLemmas
 pub mod PartialFacts
+pub mod SamePackets
 pub mod StoppingLemmas
 pub mod WithoutIdleLemmas

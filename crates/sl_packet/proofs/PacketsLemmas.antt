@@ -4,7 +4,7 @@ use Rattle.std.specs.List.{AllByRecursion, concat}
 use Rattle.std.proofs.lemmas.List.{drop-drop, drop_all, drop_at, take_at, take-append-drop, length-take-le}
 use Rattle.sl_packet.specs.Packet.{IsPacket}
 use Rattle.sl_packet.specs.Front.{Front, OtherVersion, Incomplete, WholePacket, front}
-use Rattle.sl_packet.specs.Packets.{whole_at, packet_passed, packets_from, packets_of, rest_of, ArePacketsOf, EachHasPackets, HasPacketsOnce, OthersArePrefixes}
+use Rattle.sl_packet.specs.Packets.{whole_at, octets_passed, packets_from, packets_of, rest_of, ArePacketsOf, EachHasPackets, HasPacketsOnce, OthersArePrefixes}
 use Rattle.sl_packet.proofs.FrontLemmas.{whole_front, whole_is_a_packet, packet_is_whole}
 
 packets_from-drop : (skip : ℕ) (octets : List ℕ) → packets_from skip octets ≡ packets_of (drop skip octets)
@@ -18,7 +18,7 @@ packets_of-whole [] len h = absurd (cc)
 packets_of-whole (octet ∷ octets) zero h = absurd (let w = whole_front (octet ∷ octets) zero h in omega arith)
 packets_of-whole (octet ∷ octets) (suc len) h =
     let one_less : suc len - 1 ≡ len = omega arith in
-    ap (λ f. whole_at f (octet ∷ octets) ++ packets_from (packet_passed f (octet ∷ octets)) octets) h
+    ap (λ f. whole_at f (octet ∷ octets) ++ packets_from (octets_passed f (octet ∷ octets)) octets) h
     ∙ ap (λ k. take (suc len) (octet ∷ octets) ∷ packets_from k octets) one_less
     ∙ ap (λ packets. take (suc len) (octet ∷ octets) ∷ packets) (packets_from-drop len octets)
 
@@ -31,7 +31,7 @@ rest_of-whole octets len h =
     ∙ ap (λ n. drop n octets) long ∙ sym (drop-drop (length (concat later)) len octets)
 
 -- where the front isn't whole, there are no packets
-none_at : (f : Front) (octets after : List ℕ) → ((len : ℕ) → f ≡ WholePacket len → ⊥) → whole_at f octets ++ packets_from (packet_passed f octets) after ≡ packets_from (length octets) after
+none_at : (f : Front) (octets after : List ℕ) → ((len : ℕ) → f ≡ WholePacket len → ⊥) → whole_at f octets ++ packets_from (octets_passed f octets) after ≡ packets_from (length octets) after
 none_at OtherVersion octets after h = refl
 none_at Incomplete octets after h = refl
 none_at (WholePacket len) octets after h = absurd (h len refl)

@@ -2,7 +2,7 @@
 use Rattle.std.proofs.Common.{◌≡◌, ℕ, ◌+◌, ◌-◌, ◌<◌, ◌≤◌, List, [], ◌∷◌, ◌++◌, length, take, replicate, get_or, set, inl, inr, sym, ◌∙◌, ap, arith, append_assoc, length-append}
 use Rattle.std.proofs.lemmas.Bool.{cases_lt}
 use Rattle.std.proofs.lemmas.List.{length-replicate, take-replicate, replicate-append-replicate, set-append_left, get_or-take, get_or_past, length-take, length-take-le}
-use Rattle.sl_packet.specs.Delivered.{channel_count, no_lists, with_packet}
+use Rattle.sl_packet.specs.Delivered.{channel_count, empty_lists, with_packet}
 use Rattle.sl_packet.proofs.Filling.{take_filled, get_or_filled, take_set}
 use Rattle.sl_packet.specs.KeptLists.{with_empty_lists, IsGrown}
 
@@ -41,24 +41,24 @@ module _ (n : ℕ) where
 
 -- ---- the 4,096 channels
 
-pub padded_none : with_empty_lists [] ≡ no_lists
-unfolding with_empty_lists no_lists filled
+pub padded_none : with_empty_lists [] ≡ empty_lists
+unfolding with_empty_lists empty_lists filled
 padded_none = filled_none channel_count
 
 pub length-with_empty_lists : (lists : List (List (List ℕ))) → length (with_empty_lists lists) ≡ channel_count
-unfolding with_empty_lists no_lists filled
+unfolding with_empty_lists empty_lists filled
 length-with_empty_lists lists = length-filled channel_count lists
 
 pub padded_grown : (old new : List (List (List ℕ))) → IsGrown old new → with_empty_lists new ≡ with_empty_lists old
-unfolding with_empty_lists no_lists filled
+unfolding with_empty_lists empty_lists filled
 padded_grown old new h = ap with_empty_lists h ∙ filled_more channel_count old (length new - length old)
 
 pub get_or-with_empty_lists : (lists : List (List (List ℕ))) (i : ℕ) → length lists ≤ channel_count → get_or (with_empty_lists lists) i [] ≡ get_or lists i []
-unfolding with_empty_lists no_lists filled
+unfolding with_empty_lists empty_lists filled
 get_or-with_empty_lists lists i fit = get_or-filled channel_count lists i fit
 
 pub with_empty_lists-set : (lists : List (List (List ℕ))) (i : ℕ) (list : List (List ℕ)) → i < length lists → with_empty_lists (set lists i list) ≡ set (with_empty_lists lists) i list
-unfolding with_empty_lists no_lists filled
+unfolding with_empty_lists empty_lists filled
 with_empty_lists-set lists i list h = filled-set channel_count lists i list h
 
 pub padded_with_packet : (old grown : List (List (List ℕ))) (channel : ℕ) (packet : List ℕ) → IsGrown old grown → channel < length grown → length grown ≤ channel_count → with_empty_lists (with_packet grown channel packet) ≡ with_packet (with_empty_lists old) channel packet

@@ -1,4 +1,5 @@
--- Delivered packets: a list for each channel, the count of refused packets, and for how many lists there is memory.
+-- Delivered packets: a list for each channel, the count of refused packets, and for how many lists
+-- there is memory.
 use Rattle.std.specs.Prelude.{◌≡◌, ◌≢◌, ℕ, ◌<◌, ◌≤◌, List, [], ◌∷◌, ◌++◌, replicate, false}
 use Rattle.std.specs.List.{slice_index_or, slice_set}
 use Rattle.sl_packet.specs.Packet.{IsPacket, is_idle_packet}
@@ -7,9 +8,11 @@ use Rattle.sl_packet.specs.Packet.{IsPacket, is_idle_packet}
 abbrev pub channel_count : ℕ
 channel_count = 4096
 
+-- what a store of delivered packets stands for
 pub record PacketLists : Type 0 where
   -- a list of packets for each channel
   pub lists : List (List (List ℕ))
+  -- the count of refused packets
   pub failures : ℕ
   -- for how many lists there is memory
   pub capacity : ℕ
@@ -18,7 +21,7 @@ pub record PacketLists : Type 0 where
 abbrev pub list_at : PacketLists → ℕ → List (List ℕ)
 list_at d channel = slice_index_or d.lists channel []
 
--- the lists with a packet added to that of a channel
+-- the lists, with a packet added to the end of one channel's list
 abbrev pub with_packet : List (List (List ℕ)) → ℕ → List ℕ → List (List (List ℕ))
 with_packet lists channel packet = slice_set lists channel (slice_index_or lists channel [] ++ packet ∷ [])
 
@@ -26,11 +29,11 @@ with_packet lists channel packet = slice_set lists channel (slice_index_or lists
 abbrev pub AddsPacket : PacketLists → ℕ → List ℕ → PacketLists → Type 0
 AddsPacket old channel packet new = new.lists ≡ with_packet old.lists channel packet
 
--- the lists of a store without packets
-unfoldable pub no_lists : List (List (List ℕ))
-no_lists = replicate channel_count []
+-- the lists of a store without packets: an empty list for each channel
+unfoldable pub empty_lists : List (List (List ℕ))
+empty_lists = replicate channel_count []
 
--- a packet that may be delivered: a packet that isn't idle
+-- octets that may be delivered: a packet that isn't idle
 abbrev pub IsDeliverable : List ℕ → Type 0
 IsDeliverable packet = IsPacket packet × (is_idle_packet packet ≡ false)
 
@@ -38,7 +41,7 @@ IsDeliverable packet = IsPacket packet × (is_idle_packet packet ≡ false)
 abbrev pub HasNone : PacketLists → ℕ → ℕ → Type 0
 HasNone d from to = (channel : ℕ) → from ≤ channel → channel < to → list_at d channel ≡ []
 
--- the least channel with packets, from `from` on
+-- `channel` is the least channel with packets, from `from` on
 pub record IsLeast (d : PacketLists) (from channel : ℕ) : Type 0 where
   pub after : from ≤ channel
   pub inside : channel < channel_count

@@ -1,27 +1,29 @@
--- What octets begin with: a space packet, CCSDS 133.0-B, or a part of one, or something else.
+-- The front of octets, which is what they begin with: a space packet, CCSDS 133.0-B, or a part of
+-- one, or something else.
 use Rattle.std.specs.Prelude.{◌≡◌, ℕ, ◌≤◌, ◌==◌, ◌&&◌, nat_lt, Bool, not, if◌then◌else◌, List, ◌++◌, length, take, Option, None, Some}
 use Rattle.sl_packet.specs.Packet.{version_of, stated_packet_len, IsPacket}
 
 pub data Front : Type 0 where
-  -- the first octet has another version than 0
+  -- a foreign front: the first octet has another version than 0
   OtherVersion : Front
-  -- a packet of version 0 may begin here, but isn't there whole
+  -- an incomplete front: no whole packet is here, but further octets can make one
   Incomplete : Front
-  -- a packet of this number of octets
+  -- a whole front: a packet of this number of octets
   WholePacket : (len : ℕ) → Front
 
--- whether there is a first octet, and it has another version than 0
+-- whether the front is foreign: there is a first octet, and it has another version than 0
 abbrev pub is_foreign : List ℕ → Bool
 is_foreign octets = nat_lt 0 (length octets) && not (version_of octets == 0)
 
--- The front of octets. Fewer than six octets are no header; they are also fewer than any header states.
+-- The front of octets. Fewer than six octets have no header. They are never whole, since the stated
+-- length is 7 or more whatever they are.
 abbrev pub front : List ℕ → Front
 front octets =
     if is_foreign octets then OtherVersion
     else if nat_lt (length octets) (stated_packet_len octets) then Incomplete
     else WholePacket (stated_packet_len octets)
 
--- the packet of a front, if it is whole
+-- the packet that octets with this front begin with, if the front is whole
 abbrev pub packet_at : Front → List ℕ → Option (List ℕ)
 packet_at OtherVersion octets = None
 packet_at Incomplete octets = None
@@ -41,7 +43,7 @@ WholeIsAPacket = (octets : List ℕ) (len : ℕ) → front octets ≡ WholePacke
 abbrev pub APacketIsWhole : Type 0
 APacketIsWhole = (packet more : List ℕ) → IsPacket packet → front (packet ++ more) ≡ WholePacket (length packet)
 
--- Octets of another version begin no packet, whatever follows.
+-- Octets with a foreign front begin with no packet, whatever follows.
 abbrev pub ForeignIsNoPacket : Type 0
 ForeignIsNoPacket = (octets more packet rest : List ℕ) → front octets ≡ OtherVersion → octets ++ more ≡ packet ++ rest → IsPacket packet → ⊥
 

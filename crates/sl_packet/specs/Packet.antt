@@ -11,8 +11,9 @@ version_of octets = field 1 0 3 (take 1 octets)
 abbrev pub apid_of : List ℕ → ℕ
 apid_of octets = field 2 5 11 (take 2 octets)
 
--- The length of a packet with this header: six octets of the header, and one more than the packet data length. Fewer
--- than six octets state their number, read as a header; a packet is always longer than that.
+-- The length of a packet with this header: six octets of the header, and one more than the packet
+-- data length. Fewer than six octets have no header. The stated length then means nothing, but is 7
+-- or more, and so more than there are.
 abbrev pub stated_packet_len : List ℕ → ℕ
 stated_packet_len octets = 7 + (packet_header (take 6 octets)).length
 
@@ -21,7 +22,8 @@ pub record IsPacket (packet : List ℕ) : Type 0 where
   pub version : version_of packet ≡ 0
   pub len : length packet ≡ stated_packet_len packet
 
--- Two octets or more begin an idle packet where their APID is 2047. No other field decides this.
+-- Whether octets begin like an idle packet: there are two or more, and their APID is 2047. No other
+-- field decides this.
 abbrev pub is_idle_packet : List ℕ → Bool
 is_idle_packet octets = nat_lt 1 (length octets) && (apid_of octets == 2047)
 
@@ -36,7 +38,7 @@ abbrev pub OnePacketIsPrefix : Type 0
 OnePacketIsPrefix =
     (p q p' q' : List ℕ) → IsPacket p → IsPacket q → p ++ p' ≡ q ++ q' → p ≡ q
 
--- The version and the APID are fields of the primary header.
+-- Of six octets or more, the version and the APID are fields of the primary header.
 abbrev pub HeaderFieldsStandFirst : Type 0
 HeaderFieldsStandFirst =
     (octets : List ℕ) → IsOctets octets → 6 ≤ length octets

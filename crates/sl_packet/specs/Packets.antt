@@ -8,8 +8,8 @@ use Rattle.sl_packet.specs.Front.{Front, OtherVersion, Incomplete, WholePacket, 
 
 -- ---- the packets at the front
 
--- The packets at the front of octets: they lie end to end from the first octet on, up to the first offset at which no
--- packet begins. The octets from this offset on are left.
+-- The packets at the front of octets: they lie end to end from the first octet on, up to the first
+-- offset at which no whole packet begins. The octets from this offset on are left.
 pub record ArePacketsOf (octets : List ℕ) (packets : List (List ℕ)) (rest : List ℕ) : Type 0 where
   pub end_to_end : octets ≡ concat packets ++ rest
   pub each : AllByRecursion IsPacket packets
@@ -17,9 +17,9 @@ pub record ArePacketsOf (octets : List ℕ) (packets : List (List ℕ)) (rest : 
 
 -- ---- the packets at the front, as functions of the octets
 
--- The law `octets_have_packets` says that `packets_of` and `rest_of` are the packets and the octets that are left,
--- and that there are no others. The law `front_packets_are_longest` says that no list of packets end to end at the
--- front is longer.
+-- The law `octets_have_packets` says that `packets_of` and `rest_of` are the packets and the octets
+-- that are left, and that there are no others. The law `front_packets_are_longest` says that no
+-- list of packets end to end at the front is longer.
 
 -- the packet of a front, as a list of one or none
 abbrev pub whole_at : Front → List ℕ → List (List ℕ)
@@ -27,18 +27,19 @@ whole_at OtherVersion octets = []
 whole_at Incomplete octets = []
 whole_at (WholePacket len) octets = take len octets ∷ []
 
--- how many octets after the first one are passed over: the rest of the packet, or all
-abbrev pub packet_passed : Front → List ℕ → ℕ
-packet_passed OtherVersion octets = length octets
-packet_passed Incomplete octets = length octets
-packet_passed (WholePacket len) octets = len - 1
+-- how many octets after the first one are passed over: the rest of the packet, or all octets
+abbrev pub octets_passed : Front → List ℕ → ℕ
+octets_passed OtherVersion octets = length octets
+octets_passed Incomplete octets = length octets
+octets_passed (WholePacket len) octets = len - 1
 
--- the packets from the front on, after `skip` octets that belong to the packet before
+-- The packets that lie end to end after the first `skip` octets, which belong to the packet before.
+-- The recursion goes over the octets one by one.
 abbrev pub packets_from : ℕ → List ℕ → List (List ℕ)
 packets_from skip [] = []
 packets_from (suc skip) (octet ∷ octets) = packets_from skip octets
 packets_from zero (octet ∷ octets) =
-    whole_at (front (octet ∷ octets)) (octet ∷ octets) ++ packets_from (packet_passed (front (octet ∷ octets)) (octet ∷ octets)) octets
+    whole_at (front (octet ∷ octets)) (octet ∷ octets) ++ packets_from (octets_passed (front (octet ∷ octets)) (octet ∷ octets)) octets
 
 -- the packets at the front of octets
 abbrev pub packets_of : List ℕ → List (List ℕ)
@@ -64,33 +65,35 @@ without_idle packets = filter (λ packet. not (is_idle_packet packet)) packets
 abbrev pub EachHasPackets : Type 0
 EachHasPackets = (octets : List ℕ) → ArePacketsOf octets (packets_of octets) (rest_of octets)
 
--- No other packets and octets are the packets at the front and the octets that are left.
+-- If octets are these packets at the front and this rest, then the functions give these packets and
+-- this rest.
 abbrev pub HasPacketsOnce : Type 0
 HasPacketsOnce =
     (octets : List ℕ) (packets : List (List ℕ)) (rest : List ℕ) → ArePacketsOf octets packets rest
     → (packets_of octets ≡ packets) × (rest_of octets ≡ rest)
 
--- Every list of packets that are end to end a prefix of the octets is a prefix of the octets' packets.
+-- Every list of packets that lie end to end at the front of the octets is a prefix of the list that
+-- `packets_of` gives.
 abbrev pub OthersArePrefixes : Type 0
 OthersArePrefixes =
     (octets more : List ℕ) (others : List (List ℕ)) → octets ≡ concat others ++ more → AllByRecursion IsPacket others
     → (later : List (List ℕ)) × (packets_of octets ≡ others ++ later)
 
--- ---- one after another
+-- ---- what a call of `next` yields
 
--- The packets before are the given packet and then the packets now. Or none is given, and there are none before and
--- now.
+-- Where a packet is given, the packets of the old octets are this packet and then the packets of
+-- the new octets. Where none is given, the old octets and the new ones have no packets.
 abbrev pub GivesFirst : List ℕ → Option (Bor (List ℕ)) → List ℕ → Type 0
 GivesFirst = YieldsFirstBy (λ packet. packet.now) packets_of
 
--- The packet at the front of the octets is given, and the octets after it are left. Or none is given, and all octets
--- are left. A `Bor` is octets that are lent, and `now` says which. `IfSome` speaks of a given packet, `IfNone` of
--- none.
+-- The packet at the front of the old octets is given, and the octets after it are the new ones.
+-- Where no packet is there, none is given, and all octets are left. A `Bor` is a slice that is
+-- lent, and `now` is its octets.
 pub record GivesPacket (old : List ℕ) (given : Option (Bor (List ℕ))) (new : List ℕ) : Type 0 where
   pub packets : GivesFirst old given new
   pub first : option_map (λ packet. packet.now) given ≡ first_packet_of old
   pub taken : IfSome given (λ packet. old ≡ packet.now ++ new)
   pub unchanged : IfNone given (new ≡ old)
-  -- the octets that are left in the end stay the same, and where none is given they are the octets that are left now
+  -- what is left in the end stays the same; where no packet is given, it is what is left now
   pub same_rest : rest_of new ≡ rest_of old
   pub all_given : IfNone given (new ≡ rest_of old)

@@ -1,4 +1,4 @@
--- What octets lack to be a space packet, CCSDS 133.0-B.
+-- What octets lack for a whole space packet, CCSDS 133.0-B, at their front.
 use Rattle.std.specs.Prelude.{◌≡◌, ◌↔◌, ℕ, ◌+◌, ◌-◌, nat_lt, if◌then◌else◌, List, ◌++◌, length}
 use Rattle.sl_packet.specs.Packet.{IsPacket, stated_packet_len}
 use Rattle.sl_packet.specs.Front.{front, is_foreign}
@@ -6,8 +6,9 @@ use Rattle.sl_packet.specs.Front as fronts
 use Rattle.sl_packet.specs.declared.partial.Need.{Need}
 use Rattle.sl_packet.specs.declared.partial.Need.TheVariants.{Foreign, Header, Octets, Whole}
 
--- The need of octets. Octets of another version than 0 are foreign. Fewer than six octets lack the rest of a header.
--- Six octets or more lack the rest of the octets that their header states, or nothing.
+-- The need of octets. Octets of another version than 0 are foreign. Fewer than six octets lack the
+-- rest of a header. Six octets or more lack the rest of the octets that their header states, or
+-- nothing.
 abbrev pub need_of : List ℕ → Need
 need_of octets =
     if is_foreign octets then Foreign
@@ -25,10 +26,10 @@ ForeignIsForeign = (octets : List ℕ) → need_of octets ≡ Foreign ↔ (front
 abbrev pub WholeIsWhole : Type 0
 WholeIsWhole = (octets : List ℕ) (n : ℕ) → need_of octets ≡ Whole n ↔ (front octets ≡ fronts.WholePacket n)
 
--- With the wanted octets, an incomplete header has six.
+-- Where the need is `Header k`, the octets and `k` further ones are the six octets of a header.
 abbrev pub HeaderHasSixOctets : Type 0
 HeaderHasSixOctets = (octets : List ℕ) (k : ℕ) → need_of octets ≡ Header k → length octets + k ≡ 6
 
--- With as many octets as are wanted, whatever their values, the octets are a packet.
+-- Where the need is `Octets n`, the octets and any `n` further ones are a packet.
 abbrev pub OctetsMakeAPacket : Type 0
 OctetsMakeAPacket = (octets more : List ℕ) (n : ℕ) → need_of octets ≡ Octets n → length more ≡ n → IsPacket (octets ++ more)

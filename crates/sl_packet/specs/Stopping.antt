@@ -1,4 +1,6 @@
--- How packets are handed over to a sink, and how the handing over stops.
+-- How packets are handed over to a sink, and how far where the handing over stops with a
+-- `FlowFault`. The contracts of the crates that take packets out of frames cite these definitions.
+-- No contract of this crate does.
 use Rattle.std.specs.Prelude.{◌≡◌, ℕ, List, ◌++◌, length, Result, OnOk, IfOk, IfErr}
 use Rattle.sl_packet.specs.Packets.{only_idle, without_idle}
 use Rattle.sl_packet.specs.Sink.{TakesAll, StopsTaking, one_more}
@@ -6,15 +8,15 @@ use Rattle.sl_packet.specs.declared.flow_fault.FlowFault.{FlowFault}
 use Rattle.sl_packet.specs.declared.flow_fault.FlowFault.TheVariants.{Memory, Sink, Failed}
 use Rattle.sl_packet.specs.declared.sink.SinkFault.{SinkFault}
 
--- The sink's count of refused packets after a fault: one more where the sink refused a packet, unless the count was
--- at its greatest, and the same as before otherwise.
+-- The sink's count of refused packets after a fault: one more where the sink refused a packet,
+-- unless the count was at its greatest, and the same as before otherwise.
 abbrev pub CountsFault : {S : Type 0} → (S → ℕ) → S → FlowFault → S → Type 0
 CountsFault failures old Memory new = failures new ≡ failures old
 CountsFault failures old (Sink fault) new = failures new ≡ one_more (failures old)
 CountsFault failures old Failed new = failures new ≡ failures old
 
 module _ {S : Type 0} (taking : S → ℕ → List ℕ → S → Type 0) where
-  -- the first packets of the list were accepted, and the others not handed over
+  -- the sink accepted the first packets of the list, and the others weren't handed over
   pub record TakesSome (old : S) (channel : ℕ) (packets : List (List ℕ)) (new : S) : Type 0 where
     pub accepted : List (List ℕ)
     pub later : List (List ℕ)
@@ -22,15 +24,18 @@ module _ {S : Type 0} (taking : S → ℕ → List ℕ → S → Type 0) where
     pub takes : TakesAll taking old channel accepted new
 
   module _ (failing : S → ℕ → List ℕ → SinkFault → S → Type 0) (failures : S → ℕ) where
-    -- The handing over stopped with a fault. Where memory was refused, the sink accepted the first packets of the
-    -- list and refused none. Where the sink refused a packet, it accepted the packets before this one.
+    -- The handing over stopped with a fault. Where memory was refused, the sink accepted the first
+    -- packets of the list and refused none. Where the sink refused a packet, it accepted the
+    -- packets before this one. No handing over stops with `Failed`, since a call that returns
+    -- `Failed` hands over nothing.
     abbrev pub IsStopped : S → ℕ → List (List ℕ) → FlowFault → S → Type 0
     IsStopped old channel packets Memory new = TakesSome old channel packets new × (failures new ≡ failures old)
     IsStopped old channel packets (Sink fault) new = StopsTaking taking failing old channel packets fault new × (failures new ≡ one_more (failures old))
     IsStopped old channel packets Failed new = ⊥
 
-    -- A step hands over the packets that end with it, in order and without idle packets, and counts both kinds. At a
-    -- fault it stopped among them. Only contracts of private functions cite this record.
+    -- A step has the packets `ended` to hand over, idle ones included. On Ok it has handed over
+    -- those that aren't idle, in order, and has counted both kinds (`counts`). At a fault
+    -- `IsStopped` says how far the step came. Only contracts of private functions cite this record.
     pub record HandsOver {X : Type 0} (counts : X → ℕ × ℕ) (old : S) (channel : ℕ) (ended : List (List ℕ)) (result : Result X FlowFault) (new : S) : Type 0 where
       pub accepted : OnOk result (TakesAll taking old channel (without_idle ended) new)
       pub kept : OnOk result (failures new ≡ failures old)

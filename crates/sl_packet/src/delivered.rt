@@ -1,9 +1,9 @@
-//! Delivered packets that are kept.
+//! The store of delivered packets.
 ghost use Rattle.std.specs.Prelude.{◌≡◌, ◌≤◌, ◌<◌, ◌+◌, max, [], map, length, IfSome, IfNone};
 ghost use Rattle.std.specs.Prelude.{IsTrue, ◌↔◌, OnOk, OnErr};
 ghost use Rattle.std.specs.List.{AllByRecursion};
 ghost use Rattle.std.specs.Vec.{vec_items, vec_len};
-ghost use Rattle.sl_packet.specs.Delivered.{AddsPacket, list_at, with_packet, no_lists, HasNone};
+ghost use Rattle.sl_packet.specs.Delivered.{AddsPacket, list_at, with_packet, empty_lists, HasNone};
 ghost use Rattle.sl_packet.specs.Delivered.{IsLeast, IsDeliverable, FitsTm, channel_count};
 ghost use Rattle.sl_packet.specs.KeptLists.{lists_in, with_empty_lists, IsGrown};
 
@@ -19,7 +19,9 @@ use std::marker::Model;
 #[derive(Debug, Drop)]
 pub struct Delivered {
     alloc: Global,
+    // The packets of each channel, from channel 0 on. A channel beyond the last list has none.
     lists: Vec<Vec<Vec<u8>>>,
+    // The count of refused packets. Clauses speak of this count, and no call reports it.
     failures: u64,
 }
 
@@ -39,7 +41,7 @@ impl Delivered {
     /// A store without a packet on any channel. It holds no memory yet; later it asks for memory
     /// only for a packet that it is handed.
     pub fn new(alloc: Global) -> Delivered
-        ensures lists { result.lists ≡ no_lists }
+        ensures lists { result.lists ≡ empty_lists }
         ensures failures { result.failures ≡ 0 }
         ensures memory { result.capacity ≡ 0 }
     {
@@ -53,8 +55,11 @@ impl Delivered {
     /// The packets of a channel, in the order of their delivery. The list is empty for a channel
     /// above 4095.
     pub fn list(&self, channel: u16) -> &[Vec<u8>]
+        // The packets are those of the channel, and there are none above channel 4095.
         ensures packets { map vec_items result.now ≡ list_at self.now channel }
         ensures none_above { 4095 < channel → list_at self.now channel ≡ [] }
+
+        // Each store has 4,096 lists, and each packet in them is whole and isn't idle.
         ensures channels { length self.now.lists ≡ channel_count }
         ensures deliverable { AllByRecursion IsDeliverable (list_at self.now channel) }
         ensures each_deliverable { AllByRecursion (AllByRecursion IsDeliverable) self.now.lists }
@@ -71,9 +76,9 @@ impl Delivered {
         ensures some { IfSome result (λ least. IsLeast self.now channel least) }
         ensures none { IfNone result (HasNone self.now channel channel_count) }
     {
-        for least in channel..4096 {
-            if !self.list(least).is_empty() {
-                return Some(least);
+        for candidate in channel..4096 {
+            if !self.list(candidate).is_empty() {
+                return Some(candidate);
             }
         }
         None
@@ -86,6 +91,20 @@ impl Delivered {
     {
         self.at_or_above(8).is_none()
     }
+
+    /// Whether both stores have the same packets, in the same order, on each channel.
+    pub fn has_same_packets(&self, other: &Delivered) -> bool
+        ensures { IsTrue result ↔ (self.now.lists ≡ other.now.lists) }
+    {
+        // From this channel on, neither store keeps a list.
+        let end = self.lists.len().max(other.lists.len());
+        for channel in 0..end as u16 {
+            if !are_same(self.list(channel), other.list(channel)) {
+                return false;
+            }
+        }
+        true
+    }
 }
 
 impl PacketSink for Delivered {
@@ -93,6 +112,7 @@ impl PacketSink for Delivered {
 
     ghost taking = { AddsPacket };
 
+    // A packet is refused only where memory is refused, and then all lists stay.
     ghost failing = { λ old channel packet fault new. (fault ≡ Memory) × (new.lists ≡ old.lists) };
 
     ghost failures = { λ delivered. delivered.failures };
@@ -107,7 +127,15 @@ impl PacketSink for Delivered {
     }
 }
 
+// Whether packets are the same, in the same order.
+fn are_same(packets: &[Vec<u8>], others: &[Vec<u8>]) -> bool
+    ensures { IsTrue result ↔ (map vec_items packets.now ≡ map vec_items others.now) }
+{
+    packets == others
+}
+
 // Adds a packet to the list of a channel. Where memory is refused, all lists stay as they were.
+// Empty lists may then have been added for channels without a list.
 fn add(
     alloc: Global,
     lists: &mut Vec<Vec<Vec<u8>>>,
@@ -116,10 +144,14 @@ fn add(
 ) -> Result<(), AllocError>
     requires channel { channel < channel_count }
     requires fit { length (lists_in lists.old) ≤ channel_count }
+    // A channel without a list counts as one with an empty list. The packet is added to the list of
+    // its channel. Where memory is refused, each list stays.
     ensures added { OnOk result (with_empty_lists (lists_in lists.new)
         ≡ with_packet (with_empty_lists (lists_in lists.old)) channel packet.now) }
     ensures refused { OnErr result (with_empty_lists (lists_in lists.new)
         ≡ with_empty_lists (lists_in lists.old)) }
+
+    // No list is beyond channel 4095, and each packet in the lists is whole and isn't idle.
     ensures fit { length (lists_in lists.new) ≤ channel_count }
     ensures deliverable { AllByRecursion (AllByRecursion IsDeliverable) (lists_in lists.old)
         → IsDeliverable packet.now
@@ -131,7 +163,8 @@ fn add(
     Ok(())
 }
 
-// Adds empty lists, up to the list of a channel.
+// Adds empty lists, up to the channel's list and no further. Where memory is refused, some of them
+// may have been added.
 fn grow_to(alloc: Global, lists: &mut Vec<Vec<Vec<u8>>>, channel: usize) -> Result<(), AllocError>
     ensures reached { OnOk result (channel < vec_len lists.new) }
     ensures grown { IsGrown (lists_in lists.old) (lists_in lists.new) }

@@ -14,15 +14,16 @@ pub fn packets_are_prefix_free()
     ensures one { OnePacketIsPrefix }
 {}
 
-/// The version and the APID are fields of the primary header, although they are read from the first
-/// two octets alone.
+/// The version is read from the first octet alone, and the APID from the first two. Of six octets
+/// or more, they are the fields of the primary header.
 pub fn header_fields_stand_first()
     ensures { HeaderFieldsStandFirst }
 {}
 
-/// The front of octets decides which packet they begin with. With a whole front the octets begin
-/// with a packet, and only then. With a foreign front no packet begins here, whatever follows. With
-/// an incomplete front some further octets make a packet.
+/// The front of octets is whole, foreign or incomplete. Octets begin with a packet exactly where
+/// their front is whole. A whole front states the packet's length. Octets with a foreign front,
+/// where the first octet has another version than 0, begin with no packet, whatever follows. Octets
+/// with an incomplete front become a packet with some further octets.
 pub fn fronts_tell_packets()
     ensures whole { WholeIsAPacket }
     ensures only_whole { APacketIsWhole }
@@ -31,7 +32,8 @@ pub fn fronts_tell_packets()
 {}
 
 /// The need of octets agrees with their front: the need is foreign or whole exactly where the front
-/// is. The wanted octets complete the header, or complete the packet whatever their values are.
+/// is. The number of `Header` is how many octets complete the header. The number of `Octets` is how
+/// many octets complete the packet, whatever their values are.
 pub fn needs_tell_packets()
     ensures foreign { ForeignIsForeign }
     ensures whole { WholeIsWhole }
@@ -39,20 +41,21 @@ pub fn needs_tell_packets()
     ensures octets { OctetsMakeAPacket }
 {}
 
-/// Octets begin with packets end to end, up to the first offset at which no packet begins, in one
-/// way.
+/// Octets can be divided in exactly one way into packets that lie end to end and a rest that begins
+/// with no whole packet.
 pub fn octets_have_packets()
     ensures each { EachHasPackets }
     ensures once { HasPacketsOnce }
 {}
 
-/// The list of the packets at the front is the longest. Every list of packets that are end to end a
-/// prefix of the octets is a prefix of this list.
+/// Every list of packets that lie end to end at the front of octets is a prefix of the list of
+/// [`octets_have_packets`]. So no list is longer.
 pub fn front_packets_are_longest()
     ensures { OthersArePrefixes }
 {}
 
-/// The idle packet of 7 to 65,542 octets is a packet, is idle, and has this length.
+/// For each length from 7 to 65,542 octets, the idle packet of this length is a packet, is idle and
+/// has this length.
 pub fn idle_packets_are_idle()
     ensures { IdlePacketsAreIdle }
 {}

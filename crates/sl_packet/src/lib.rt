@@ -1,7 +1,10 @@
 //! Space packets of CCSDS 133.0-B: how packets are found at the front of octets, how they are
-//! handed to a sink, and how they are kept.
+//! handed to a sink, and how they are kept. The crate also says what octets lack for a packet,
+//! collects packets that come in parts, and makes idle packets.
 //!
-//! The version and the length alone decide what a packet is; what a packet carries isn't looked at.
+//! A packet has version 0 and the length that its header states. No other field decides whether
+//! octets are a packet, and the packet data field isn't looked at.
+//!
 //! No packet is a proper prefix of another packet ([`laws`]), so octets begin with at most one
 //! packet.
 #![tactic(auto)]

@@ -6,8 +6,9 @@ ghost use Rattle.sl_packet.specs.Partial.{need_of};
 use crate::partial::Need;
 use sl_fields::PacketHeader;
 
-/// The space packet (CCSDS 133.0-B) that is a prefix of the octets: version 0 and 7 to 65,542
-/// octets, as its header states. `None` exactly where no packet is a prefix.
+/// The space packet (CCSDS 133.0-B) that is a prefix of the octets. Its version is 0, and its
+/// length is the one that its header states, 7 to 65,542 octets. `None` exactly where no packet is
+/// a prefix.
 pub fn first_packet<'a>(octets: &'a [u8]) -> Option<&'a [u8]>
     ensures { option_map (λ packet. packet.now) result ≡ first_packet_of octets.now }
 {
@@ -15,13 +16,17 @@ pub fn first_packet<'a>(octets: &'a [u8]) -> Option<&'a [u8]>
     if header.version() != 0 {
         return None;
     }
+    // The length field states one less than the octets after the six octets of the header.
     octets.get(..7 + usize::from(header.length()))
 }
 
-/// What the octets lack to begin with a whole space packet (CCSDS 133.0-B). `Foreign` exactly where
-/// the first octet has another version than 0. Otherwise `Header` with the number of octets that a
-/// header of six octets lacks, `Octets` with the number of octets that the header states and that
-/// aren't there, or `Whole` with the length of the packet.
+/// What the octets lack for a whole space packet (CCSDS 133.0-B) at their front. The first case
+/// that holds decides:
+///
+/// - `Foreign`: the first octet has another version than 0.
+/// - `Header(n)`: there are fewer than six octets. The primary header lacks `n` octets.
+/// - `Octets(n)`: there are fewer octets than the header states. The packet lacks `n` octets.
+/// - `Whole(n)`: the octets begin with a packet of `n` octets.
 pub fn need(octets: &[u8]) -> Need
     ensures { result ≡ need_of octets.now }
 {
@@ -39,7 +44,8 @@ pub fn need(octets: &[u8]) -> Need
     }
 }
 
-// Whether there is a first octet, and it has another version than 0.
+// Whether there is a first octet, and it has another version than 0. The version is the first three
+// bits of the octet.
 fn is_foreign(octets: &[u8]) -> bool
     ensures { result ≡ is_foreign octets.now }
 {

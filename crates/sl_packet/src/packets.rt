@@ -16,6 +16,7 @@ pub struct Packets<'a> {
 impl<'a> Model for Packets<'a> {
     ghost use Rattle.std.specs.Prelude.{ℕ, List};
 
+    // An iterator stands for the octets that are left, after the packets that it has yielded.
     ghost Value = { List ℕ };
 
     ghost use Rattle.sl_packet.specs.PacketsModel.{octets_left};
@@ -24,15 +25,15 @@ impl<'a> Model for Packets<'a> {
 }
 
 impl<'a> Packets<'a> {
-    /// The packets at the front of these octets.
+    /// The packets at the front of these octets. All octets are left.
     pub fn new(octets: &'a [u8]) -> Packets<'a>
         ensures { result ≡ octets.now }
     {
         Packets { rest: octets }
     }
 
-    /// The octets after the packets that were yielded so far. Once the iterator has ended, no
-    /// packet begins with these octets.
+    /// The octets that are left, after the packets that were yielded so far. Once the iterator has
+    /// ended, these octets begin with no whole packet.
     pub fn rest(&self) -> &'a [u8]
         ensures { result.now ≡ self.now }
     {
@@ -43,11 +44,14 @@ impl<'a> Packets<'a> {
 impl<'a> Iterator for Packets<'a> {
     type Item = &'a [u8];
 
+    // What a call of `next` yields, and which octets are left then.
     ghost next_gives = { GivesPacket };
 
+    // No more packets are yielded than lie at the front of the octets that are left.
     ghost remaining = { item_count packets_of };
 
-    /// The packet at the front of the remaining octets, if there is one.
+    /// The packet at the front of the octets that are left. `None` exactly where no whole packet is
+    /// there; all octets are then left.
     fn next(&mut self) -> Option<&'a [u8]> {
         let packet = first_packet(self.rest)?;
         self.rest = &self.rest[packet.len()..];

@@ -1,6 +1,6 @@
-//! How much of a packet has come.
+//! What octets lack for a whole packet.
 
-/// What octets lack to begin with a whole space packet (CCSDS 133.0-B).
+/// What octets lack for a whole space packet (CCSDS 133.0-B) at their front.
 #[derive(Clone, Copy, Debug, PartialEq, Eq)]
 pub enum Need {
     /// The first octet has another version than 0.
@@ -9,6 +9,6 @@ pub enum Need {
     Header(u32),
     /// The primary header is complete, and the packet lacks this number of octets, 1 to 65,536.
     Octets(u32),
-    /// A whole packet of this number of octets, 7 to 65,542.
+    /// Nothing: the octets begin with a packet of this number of octets, 7 to 65,542.
     Whole(u32),
 }

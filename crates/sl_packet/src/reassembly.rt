@@ -4,20 +4,25 @@ ghost use Rattle.std.specs.Vec.{vec_capacity, vec_len};
 
 use std::alloc::AllocError;
 
-/// The octets of the longest packet, and of the longest service data unit.
+/// The length of the longest packet in octets: 6 of its header and 65,536 of its data. Service data
+/// units that are put together have the same bound, by this project's choice.
 const MOST_OCTETS: usize = 65542;
 
-/// Adds a part to the octets so far. With the part they have 65,542 octets at most, the length of
-/// the longest packet.
+/// Adds a part of a packet or of a service data unit to the octets so far. The caller sees to it
+/// that the octets so far and the part are 65,542 octets together at most, the length of the
+/// longest packet.
 ///
 /// Memory is refused only where the capacity has no room for the part, and then nothing is added.
-/// By reading, the capacity becomes twice what it was, or what is needed where this is more, and
-/// 65,542 at most.
+/// How the capacity grows is known from reading the code, not from a clause: it becomes twice what
+/// it was, or what is needed where this is more, and 65,542 at most.
 #[inline(always)]
 pub fn add_part(octets: &mut Vec<u8>, part: &[u8]) -> Result<(), AllocError>
     requires { vec_len octets.old + length part.now ≤ 65542 }
+    // The part is added. Where memory is refused, nothing is added.
     ensures added { OnOk result (octets.new.items ≡ octets.old.items ++ part.now) }
     ensures unchanged { OnErr result (octets.new.items ≡ octets.old.items) }
+
+    // Memory is refused only where there is no room. The capacity never becomes smaller.
     ensures full { OnErr result (vec_capacity octets.old < vec_len octets.old + length part.now) }
     ensures capacity { vec_capacity octets.old ≤ vec_capacity octets.new }
 {
@@ -27,7 +32,8 @@ pub fn add_part(octets: &mut Vec<u8>, part: &[u8]) -> Result<(), AllocError>
     octets.extend_from_slice(part)
 }
 
-// Makes room for `more` octets.
+// Makes room for `more` octets where there is none. The octets stay, and the capacity becomes no
+// greater than 65,542.
 #[cold]
 fn grow(octets: &mut Vec<u8>, more: usize) -> Result<(), AllocError>
     requires full { vec_capacity octets.old < vec_len octets.old + more }
@@ -42,7 +48,7 @@ fn grow(octets: &mut Vec<u8>, more: usize) -> Result<(), AllocError>
     octets.reserve_exact(doubled.max(wanted) - octets.len())
 }
 
-/// Clears octets that are given up, and gives their memory back.
+/// Clears octets that are given up, and gives all their memory back: the capacity is 0.
 #[cold]
 pub fn give_back(octets: &mut Vec<u8>)
     ensures none { octets.new.items ≡ [] }

@@ -12,7 +12,7 @@ use thiserror::Error;
 /// Why a sink refused a packet.
 #[derive(Clone, Copy, Debug, PartialEq, Eq, Error)]
 pub enum SinkFault {
-    /// Memory was refused.
+    /// The sink was refused memory.
     #[error("memory")]
     Memory,
     /// The sink's own writer failed.
@@ -23,16 +23,21 @@ pub enum SinkFault {
     Refused,
 }
 
-/// A destination of delivered space packets (CCSDS 133.0-B), each on a channel from 0 to 4095. An
-/// implementation states what accepting a packet does to it (`taking`), what refusing does
+/// A destination of delivered space packets (CCSDS 133.0-B), each on a channel from 0 to 4095. For
+/// packets from TM frames the channel is the virtual channel, 0 to 7. For packets from TC frames
+/// the channel is 64 times the virtual channel, plus the MAP of a segment header if there is one.
+///
+/// An implementation states what accepting a packet does to it (`taking`), what refusing does
 /// (`failing`), and its count of refused packets (`failures`).
 pub trait PacketSink {
     ghost use Rattle.sl_packet.specs.declared.sink.SinkFault.{SinkFault};
 
-    /// The sink before and after it accepted a packet on a channel.
+    /// How accepting a packet changes the sink: a relation between the sink before, the channel,
+    /// the packet and the sink after.
     ghost taking: { Self → ℕ → List ℕ → Self → Type 0 };
 
-    /// The sink before and after it refused a packet on a channel, with this fault.
+    /// How refusing a packet changes the sink: a relation between the sink before, the channel, the
+    /// packet, the fault and the sink after.
     ghost failing: { Self → ℕ → List ℕ → SinkFault → Self → Type 0 };
 
     /// The count of refused packets, which stops at 2^64 - 1.
@@ -57,14 +62,14 @@ pub trait PacketSink {
         ensures counted { OnErr result (failures self.new ≡ one_more (failures self.old)) };
 }
 
-/// The result of handing the packets of some octets to a sink.
+/// The result of handing a sink the packets at the front of octets, where it refused none.
 #[derive(Clone, Copy, Debug)]
 pub struct HandedOver<'a> {
     /// The number of packets that the sink accepted.
     pub packets: usize,
-    /// The number of idle packets, which the sink isn't handed.
+    /// The number of idle packets, which weren't handed to the sink.
     pub idle: usize,
-    /// The octets after the last packet.
+    /// The octets after the last packet, idle or not. They begin with no whole packet.
     pub remainder: &'a [u8],
 }
 
@@ -72,9 +77,9 @@ pub struct HandedOver<'a> {
 /// idle packets, on the channel `channel`, 0 to 4095.
 ///
 /// On `Ok` the sink has accepted all of them, and its count of refused packets stays. On an error
-/// the sink has accepted the packets before the refused one and refused this one with this fault,
-/// and no later packet was handed over. The sink's count of refused packets has then risen by one,
-/// unless it was 2^64 - 1.
+/// the sink has refused one of the packets with this fault. It has accepted the packets before this
+/// one, and no later packet was handed over. How many the sink accepted isn't reported. The sink's
+/// count of refused packets has then risen by one, unless it was 2^64 - 1.
 pub fn hand_over<'a, S: PacketSink>(
     sink: &mut S,
     channel: u16,

@@ -83,7 +83,7 @@ long_with held flags octets = continues_by flags && exceeds_limit (option_map le
 
 -- the report where no service data unit ends and no anomaly is
 abbrev pub quiet_report : StepReport
-quiet_report = record { verdict = Accept; packets = 0; idle = 0; stray = false; dropped = None; long = false; tail = 0 }
+quiet_report = record { verdict = Accept; map = 0; packets = 0; idle = 0; stray = false; dropped = None; long = false; tail = 0 }
 
 -- the report on a service data unit
 abbrev pub unit_report : List ℕ → StepReport

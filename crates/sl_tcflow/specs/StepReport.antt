@@ -5,6 +5,8 @@ use Rattle.sl_cop.specs.declared.verdict.Verdict.{Verdict}
 -- the report on one frame
 pub record StepReport : Type 0 where
   pub verdict : Verdict
+  -- the MAP of the frame's unit, 0 where the frame carries none
+  pub map : ℕ
   -- how many packets end with the frame's unit, idle packets left out
   pub packets : ℕ
   -- how many idle packets end with the frame's unit

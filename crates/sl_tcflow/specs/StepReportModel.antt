@@ -5,6 +5,7 @@ use Rattle.sl_tcflow.specs.declared.report.TcStep.TheInside.{Inside}
 abbrev pub report_of : Inside → StepReport
 report_of s = record {
   verdict = s.verdict;
+  map = s.map;
   packets = s.packets;
   idle = s.idle;
   stray = s.stray;
@@ -16,6 +17,7 @@ report_of s = record {
 abbrev pub inside_of : StepReport → Inside
 inside_of r = record {
   verdict = r.verdict;
+  map = r.map;
   packets = r.packets;
   idle = r.idle;
   stray = r.stray;

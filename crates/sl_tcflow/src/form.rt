@@ -25,8 +25,8 @@ use std::marker::Model;
 /// own at most, and each but the last carries 8 octets of the packet at least.
 pub const PIECE_ROOM: usize = 131_091;
 
-// The number after that of the last channel.
-const CHANNELS: u16 = 4096;
+/// The number after that of the last channel.
+pub const CHANNELS: u16 = 4096;
 
 /// The normal form of delivered packets, made piece by piece: frames of CCSDS 232.0-B of type AD in
 /// this project's own order (docs/normal-form.md). Clauses see the form as the octets that are
@@ -142,9 +142,10 @@ impl<'d> TcForm<'d> {
         let heading = Heading {
             spacecraft: self.spacecraft,
             channel: place.channel,
+            plain,
             ns: place.ns,
         };
-        let ns = push_piece(form, &self.shape, heading, plain, packet)?;
+        let ns = push_piece(form, &self.shape, heading, packet)?;
         let from = Place {
             channel: place.channel,
             framed: place.framed + 1,
@@ -175,26 +176,24 @@ fn packet_at(delivered: &Delivered, place: Place) -> Option<&[u8]>
     Some(packet.as_slice())
 }
 
-// Adds the frames of a packet, on a virtual channel without segment headers (`plain`) or with them.
-// Answers the N(S) of the next frame.
+// Adds the frames of a packet, and answers the N(S) of the next frame.
 fn push_piece(
     form: &mut Vec<u8>,
     shape: &TcShape,
     heading: Heading,
-    plain: bool,
     packet: &[u8],
 ) -> Result<u8, AllocError>
     requires spacecraft { heading.spacecraft ≤ 1023 }
     requires channel { heading.channel < channel_count }
     requires deliverable { IsDeliverable packet.now }
-    requires short { plain ≡ true → length packet.now ≤ plain_room_of shape.now }
+    requires short { heading.plain ≡ true → length packet.now ≤ plain_room_of shape.now }
     // The frames are the piece of the packet, and N(S) rises by one for each.
-    ensures frames { OnOk result (form.new.items ≡ form.old.items
-        ++ piece_of shape.now heading.spacecraft plain heading.channel heading.ns packet.now) }
+    ensures frames { OnOk result (form.new.items ≡ form.old.items ++ piece_of
+        shape.now heading.spacecraft heading.plain heading.channel heading.ns packet.now) }
     ensures next { IfOk result (λ next. next
-        ≡ ns_after shape.now plain heading.channel heading.ns packet.now) }
-    ensures some { 0 < length
-        (piece_of shape.now heading.spacecraft plain heading.channel heading.ns packet.now) }
+        ≡ ns_after shape.now heading.plain heading.channel heading.ns packet.now) }
+    ensures some { 0 < length (piece_of
+        shape.now heading.spacecraft heading.plain heading.channel heading.ns packet.now) }
     ensures most { OnOk result (vec_len form.new ≤ vec_len form.old + piece_room) }
 
     // Memory is refused only where there is no room for a piece, and then nothing is added.
@@ -203,7 +202,7 @@ fn push_piece(
     ensures full { OnErr result (vec_capacity form.old < vec_len form.old + piece_room) }
 {
     let start = form.len();
-    if plain {
+    if heading.plain {
         let vc = (heading.channel / 64) as u8;
         push_tc_plain(form, shape, heading.spacecraft, vc, heading.ns, packet)?;
         return Ok(heading.ns.wrapping_add(1));

@@ -10,17 +10,20 @@ use sl_fields::SegmentHeader;
 use sl_tcframe::{TcShape, push_tc};
 use std::alloc::AllocError;
 
-/// The values in the headers of a packet's frames.
+/// What the frames of a packet have in common, and the N(S) of the first frame.
 #[derive(Clone, Copy)]
 pub(crate) struct Heading {
     pub(crate) spacecraft: u16,
     /// The channel of the packet: 64 times its virtual channel plus its MAP.
     pub(crate) channel: u16,
+    /// Whether the virtual channel has no segment headers.
+    pub(crate) plain: bool,
     /// The N(S) of the first frame.
     pub(crate) ns: u8,
 }
 
-// Adds the frames of a packet, and answers the N(S) of the next frame.
+// Adds the frames of a packet on a virtual channel with segment headers. Answers the N(S) of the
+// next frame.
 pub(crate) fn push_packet(
     form: &mut Vec<u8>,
     shape: &TcShape,
@@ -29,8 +32,8 @@ pub(crate) fn push_packet(
 ) -> Result<u8, AllocError>
     requires spacecraft { heading.spacecraft ≤ 1023 }
     requires channel { heading.channel < channel_count }
-    // The frames are those of the packet on a virtual channel with segment headers, and N(S) rises
-    // by one for each.
+    requires segments { heading.plain ≡ false }
+    // The frames are those of the packet, and N(S) rises by one for each.
     ensures frames { OnOk result (form.new.items ≡ form.old.items
         ++ piece_of shape.now heading.spacecraft false heading.channel heading.ns packet.now) }
     ensures next { IfOk result (λ next. next

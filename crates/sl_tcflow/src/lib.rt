@@ -5,6 +5,7 @@
 //! normal form is this project's own.
 #![tactic(auto)]
 
+mod farms;
 mod fits;
 mod form;
 mod frames;
@@ -17,6 +18,7 @@ mod report;
 mod segment;
 mod series_store;
 
+pub use farms::Farms;
 pub use fits::fits_tc;
 pub use form::{PIECE_ROOM, TcForm};
 pub use receiver::Receiver;

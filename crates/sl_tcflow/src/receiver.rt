@@ -1,30 +1,31 @@
 //! Packets from the frames that FARM-1 accepts.
-ghost use Rattle.std.specs.Prelude.{◌≡◌, ◌≢◌, ◌≤◌, ◌<◌, ◌++◌, ◌∷◌, [], ℕ, Bool, List, length};
-ghost use Rattle.std.specs.Prelude.{is_some, OnOk, IfOk, IfErr, IfSome, IfNone, Err};
+ghost use Rattle.std.specs.Prelude.{◌≡◌, ◌≢◌, ◌≤◌, ◌<◌, ◌+◌, ◌++◌, ◌∷◌, [], ℕ, Bool, List};
+ghost use Rattle.std.specs.Prelude.{length, is_some, OnOk, IfOk, IfErr, IfSome, IfNone, None, Err};
 ghost use Rattle.sl_cop.specs.FarmClcw.{clcw_of};
 ghost use Rattle.sl_packet.specs.Packets.{only_idle, without_idle};
 ghost use Rattle.sl_packet.specs.Sink.{TakesAll};
 ghost use Rattle.sl_packet.specs.Stopping.{CountsFault, HandsOver, IsStopped};
 ghost use Rattle.sl_tcframe.specs.TcContent.{content};
 ghost use Rattle.sl_tcframe.specs.TcFrame.{TcView, IsContent};
-ghost use Rattle.sl_tcflow.specs.AcceptedUnit.{event_of, unit_by};
+ghost use Rattle.sl_tcflow.specs.AcceptedUnit.{unit_by};
 ghost use Rattle.sl_tcflow.specs.Anomaly.{IsReportedOf, dropped_by, held_of, long_by, stray_by};
 ghost use Rattle.sl_tcflow.specs.Anomaly.{tail_by};
 ghost use Rattle.sl_tcflow.specs.Incomplete.{incomplete_of};
 ghost use Rattle.sl_tcflow.specs.Receiving.{ForProcessed, HasProcessed, IsFailed, HasFailedAfter};
-ghost use Rattle.sl_tcflow.specs.Receiving.{HaveStepped, ForIncomplete, IsIncompleteAround};
-ghost use Rattle.sl_tcflow.specs.Receiving.{AreIncomplete, map_of, ended_by, farm_of, unit_channel};
-ghost use Rattle.sl_tcflow.specs.Receiving.{verdict_on};
+ghost use Rattle.sl_tcflow.specs.Receiving.{ForIncomplete, IsIncompleteAround};
+ghost use Rattle.sl_tcflow.specs.Receiving.{AreIncomplete, channel_at, map_by, map_of, ended_by};
+ghost use Rattle.sl_tcflow.specs.Receiving.{farm_of, unit_channel, verdict_on};
 ghost use Rattle.sl_tcflow.specs.Reception.{segments_of};
 ghost use Rattle.sl_tcflow.specs.ReceptionParameters.{ReceptionParameters};
 ghost use Rattle.sl_tcflow.specs.Series.{header_at, segment_in};
 ghost use Rattle.sl_tcflow.specs.StepReport.{counts_of};
 
+use crate::farms::Farms;
 use crate::report::{EMPTY_STEP, TcStep};
 use crate::segment::segment_of;
 use crate::series_store::SeriesStore;
-use sl_cop::{Farm, FarmEvent, Starts, Verdict, Window};
-use sl_fields::Clcw;
+use sl_cop::{Starts, Verdict, Window};
+use sl_fields::{Clcw, SegmentHeader, front};
 use sl_packet::{FlowFault, PacketSink};
 use sl_tcframe::{TcContent, TcFrame, VcSet};
 use std::alloc::Global;
@@ -35,7 +36,7 @@ use std::marker::Model;
 /// make one list, in the order of their acceptance; this is this project's choice.
 #[derive(Drop)]
 pub struct Receiver {
-    farms: [Farm; 64],
+    farms: Farms,
     plain: VcSet,
     series: SeriesStore,
     has_failed: bool,
@@ -62,7 +63,7 @@ impl Receiver {
         ensures memory { result.series.capacity ≡ 0 }
     {
         Receiver {
-            farms: farms_at_start(window, starts),
+            farms: Farms::new(window, starts),
             plain,
             series: SeriesStore::new(alloc),
             has_failed: false,
@@ -94,6 +95,10 @@ impl Receiver {
             HasProcessed r self.new (views ++ frame.now ∷ []))) }
         ensures verdict { IfOk result (λ step. ForProcessed self.old (λ r views.
             step.verdict ≡ verdict_on r views frame.now)) }
+
+        // The MAP of the frame's unit.
+        ensures map { IfOk result (λ step. ForProcessed self.old (λ r views.
+            step.map ≡ map_by r frame.now)) }
 
         // The packets that end with the frame's unit were accepted and counted, and the sink
         // refused none.
@@ -141,14 +146,17 @@ impl Receiver {
         }
         // A fault leaves the flag set.
         self.has_failed = true;
-        let verdict = step(&mut self.farms, frame);
+        let verdict = self.farms.step(frame);
         let plain = self.plain.has(frame.vc());
         let reported = match take(&mut self.series, plain, verdict, frame, sink) {
             Ok(step) => step,
             Err(flow) => return Err(flow),
         };
         self.has_failed = false;
-        Ok(reported)
+        Ok(TcStep {
+            map: map_in(plain, &frame.content()),
+            ..reported
+        })
     }
 
     /// The Communications Link Control Word (CCSDS 232.0-B) of the virtual channel `vc`, 0 to 63:
@@ -162,7 +170,7 @@ impl Receiver {
             → HasFailedAfter r self.now views
             → result ≡ clcw_of vc (farm_of r vc views).state }
     {
-        self.farms[usize::from(vc)].clcw(vc)
+        self.farms.clcw(vc)
     }
 
     /// The number of octets so far of the series that is incomplete on the virtual channel `vc` and
@@ -188,39 +196,39 @@ impl Receiver {
     {
         self.series.held(vc, map).is_some()
     }
-}
 
-// FARM-1 of each virtual channel before its first frame.
-fn farms_at_start(window: Window, starts: &Starts) -> [Farm; 64]
-    ensures { (r : ReceptionParameters) → r.window ≡ window → r.starts ≡ starts.now
-        → HaveStepped r result [] }
-{
-    let mut farms = [Farm::new(window, 0); 64];
-    for vc in 0..64 {
-        farms[usize::from(vc)] = Farm::new(window, starts.start(vc));
+    /// The least channel from which on no series is incomplete, 0 to 4096: a channel is 64 times
+    /// the virtual channel plus the MAP. The answer is 0 where no series is incomplete at all.
+    /// After a fault only the bound holds.
+    pub fn none_open_from(&self) -> u16
+        ensures most { result ≤ 4096 }
+        ensures none { ForProcessed self.now (λ r views. (vc map : ℕ) → vc ≤ 63 → map ≤ 63
+            → result ≤ channel_at vc map → incomplete_of (segments_of r vc map views) ≡ None) }
+
+        // A series is incomplete on the channel before the answer, if there is one.
+        ensures least { ForProcessed self.now (λ r views. (vc map : ℕ) → vc ≤ 63 → map ≤ 63
+            → result ≡ channel_at vc map + 1
+            → incomplete_of (segments_of r vc map views) ≢ None) }
+    {
+        self.series.none_open_from()
     }
-    farms
 }
 
-// Steps FARM-1 of a frame's virtual channel.
-fn step(farms: &mut [Farm; 64], frame: &TcFrame) -> Verdict
-    ensures verdict { (r : ReceptionParameters) (views : List TcView)
-        → HaveStepped r farms.old views → result ≡ verdict_on r views frame.now }
-    ensures farms { (r : ReceptionParameters) (views : List TcView)
-        → HaveStepped r farms.old views → HaveStepped r farms.new (views ++ frame.now ∷ []) }
+// The MAP of the unit that a frame carries, on a virtual channel without segment headers (`plain`)
+// or with them. 0 where the frame carries none.
+#[inline(always)]
+fn map_in(plain: bool, carried: &TcContent) -> u8
+    requires { IsContent (content carried.now) }
+    ensures { result ≡ map_of plain (content carried.now) }
 {
-    farms[usize::from(frame.vc())].step(event_in(&frame.content()))
-}
-
-// The event that a frame is to FARM-1.
-fn event_in(carried: &TcContent) -> FarmEvent
-    ensures { result ≡ event_of (content carried.now) }
-{
+    if plain {
+        return 0;
+    }
     match *carried {
-        TcContent::Ad { ns, .. } => FarmEvent::Ad(ns),
-        TcContent::Bd { .. } => FarmEvent::Bd,
-        TcContent::Unlock => FarmEvent::Unlock,
-        TcContent::SetVr(vr) => FarmEvent::SetVr(vr),
+        TcContent::Ad { unit, .. } | TcContent::Bd { unit } => {
+            SegmentHeader::read(front::<1>(unit).0).map()
+        }
+        TcContent::Unlock | TcContent::SetVr(_) => 0,
     }
 }
 

@@ -4,12 +4,13 @@ ghost use Rattle.std.specs.Prelude.{◌≡◌};
 use sl_cop::Verdict;
 use std::marker::Model;
 
-/// The report of a [`Receiver`](crate::Receiver) on one frame. Where the frame's unit isn't
-/// accepted, or the frame carries none, only the verdict says something: all else is false, `None`
-/// or 0.
+/// The report of a [`Receiver`](crate::Receiver) on one frame: the verdict on it, the MAP of its
+/// unit, and what the unit brought. Where the unit isn't accepted, or the frame carries none, it
+/// brought nothing: all but the verdict and the MAP is false, `None` or 0.
 #[derive(Clone, Copy, Debug, PartialEq, Eq)]
 pub struct TcStep {
     pub(crate) verdict: Verdict,
+    pub(crate) map: u8,
     pub(crate) packets: u32,
     pub(crate) idle: u32,
     pub(crate) stray: bool,
@@ -21,6 +22,7 @@ pub struct TcStep {
 /// The report on an accepted frame whose unit ends no service data unit and has no anomaly.
 pub(crate) const EMPTY_STEP: TcStep = TcStep {
     verdict: Verdict::Accept,
+    map: 0,
     packets: 0,
     idle: 0,
     stray: false,
@@ -47,6 +49,14 @@ impl TcStep {
         ensures { result ≡ self.now.verdict }
     {
         self.verdict
+    }
+
+    /// The multiplexer access point identifier (MAP) of the frame's unit, 0 to 63, and 0 where the
+    /// frame carries no unit.
+    pub fn map(&self) -> u8
+        ensures { result ≡ self.now.map }
+    {
+        self.map
     }
 
     /// The number of packets of the service data unit that ends with the frame's unit, idle packets

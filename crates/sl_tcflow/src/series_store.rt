@@ -1,5 +1,5 @@
 //! The series that are incomplete on the MAPs of all virtual channels.
-ghost use Rattle.std.specs.Prelude.{◌≡◌, ◌≢◌, ◌⊎◌, ◌≤◌, ◌<◌, [], None, option_map, ℕ, length, OnOk};
+ghost use Rattle.std.specs.Prelude.{◌≡◌, ◌≢◌, ◌⊎◌, ◌≤◌, ◌<◌, ◌+◌, [], None, option_map, ℕ, length, OnOk};
 ghost use Rattle.std.specs.Prelude.{IfOk, IfErr, IfSome};
 ghost use Rattle.std.specs.Vec.{vec_len};
 ghost use Rattle.sl_packet.specs.Stopping.{HandsOver};
@@ -8,6 +8,7 @@ ghost use Rattle.sl_tcflow.specs.Placed.{at, IsPlaced};
 ghost use Rattle.sl_tcflow.specs.Receiving.{channel_at};
 ghost use Rattle.sl_tcflow.specs.StepReport.{counts_of};
 
+use crate::form::CHANNELS;
 use crate::incomplete::Incomplete;
 use crate::report::TcStep;
 use crate::segment::{FIRST, Segment};
@@ -59,6 +60,21 @@ impl SeriesStore {
             Some(series) => series.held(),
             None => None,
         }
+    }
+
+    /// The least channel from which on no series is incomplete, 0 to 4096.
+    pub fn none_open_from(&self) -> u16
+        ensures most { result ≤ 4096 }
+        ensures none { (channel : ℕ) → channel ≤ 4095 → result ≤ channel
+            → at self.now.list channel ≡ None }
+        ensures least { (channel : ℕ) → result ≡ channel + 1
+            → at self.now.list channel ≢ None }
+    {
+        let mut from = self.list.len().min(usize::from(CHANNELS));
+        while 0 < from && self.list[from - 1].held().is_none() {
+            from -= 1;
+        }
+        from as u16
     }
 
     /// Takes the next segment of a channel.

@@ -45,7 +45,14 @@ pub fn push_tc(
     ensures full { OnErr result (vec_capacity out.old
         < vec_len out.old + ad_len shape.now (1 + length octets.now)) }
 {
-    push_unit(out, shape, spacecraft, vc, ns, &header.write(), octets)
+    let frame = AdFrame {
+        spacecraft,
+        vc,
+        ns,
+        segment: &header.write(),
+        octets,
+    };
+    push_ad(out, shape, &frame)
 }
 
 /// Adds a TC transfer frame (CCSDS 232.0-B) of type AD without a segment header to `out`, for a
@@ -78,35 +85,54 @@ pub fn push_tc_plain(
     ensures full { OnErr result (vec_capacity out.old
         < vec_len out.old + ad_len shape.now (length octets.now)) }
 {
-    push_unit(out, shape, spacecraft, vc, ns, &[], octets)
+    let plain = AdFrame {
+        spacecraft,
+        vc,
+        ns,
+        segment: &[],
+        octets,
+    };
+    push_ad(out, shape, &plain)
 }
 
-// Adds a frame of type AD. Its data field is `segment`, a segment header or nothing, and then
-// `octets`.
-fn push_unit<const N: usize>(
-    out: &mut Vec<u8>,
-    shape: &TcShape,
+// What a frame of type AD is made from: the values of its header, and its data field in two parts.
+#[derive(Clone, Copy)]
+struct AdFrame<'a> {
     spacecraft: u16,
     vc: u8,
     ns: u8,
-    segment: &[u8; N],
-    octets: &[u8],
-) -> Result<(), AllocError>
-    requires spacecraft { spacecraft ≤ 1023 }
-    requires vc { vc ≤ 63 }
-    requires unit { length segment.now + length octets.now ≤ 1 + segment_room_of shape.now }
+    // A segment header, or nothing.
+    segment: &'a [u8],
+    octets: &'a [u8],
+}
+
+// Adds a frame of type AD.
+#[inline(always)]
+fn push_ad(out: &mut Vec<u8>, shape: &TcShape, frame: &AdFrame) -> Result<(), AllocError>
+    requires spacecraft { frame.now.spacecraft ≤ 1023 }
+    requires vc { frame.now.vc ≤ 63 }
+    requires unit { length frame.now.segment.now + length frame.now.octets.now
+        ≤ 1 + segment_room_of shape.now }
     // The frame is added.
     ensures added { OnOk result (out.new.items ≡ out.old.items
-        ++ ad_frame shape.now spacecraft vc ns (segment.now ++ octets.now)) }
-    ensures len { OnOk result (vec_len out.new
-        ≡ vec_len out.old + ad_len shape.now (length segment.now + length octets.now)) }
+        ++ ad_frame shape.now frame.now.spacecraft frame.now.vc frame.now.ns
+        (frame.now.segment.now ++ frame.now.octets.now)) }
+    ensures len { OnOk result (vec_len out.new ≡ vec_len out.old
+        + ad_len shape.now (length frame.now.segment.now + length frame.now.octets.now)) }
 
     // Memory is refused only where `out` had no room for the frame, and then nothing is added.
     ensures unchanged { OnErr result (out.new.items ≡ out.old.items) }
     ensures capacity { vec_capacity out.old ≤ vec_capacity out.new }
-    ensures full { OnErr result (vec_capacity out.old
-        < vec_len out.old + ad_len shape.now (length segment.now + length octets.now)) }
+    ensures full { OnErr result (vec_capacity out.old < vec_len out.old
+        + ad_len shape.now (length frame.now.segment.now + length frame.now.octets.now)) }
 {
+    let AdFrame {
+        spacecraft,
+        vc,
+        ns,
+        segment,
+        octets,
+    } = *frame;
     let start = out.len();
     let len = frame_len(shape, segment.len() + octets.len());
     out.reserve(usize::from(len))?;

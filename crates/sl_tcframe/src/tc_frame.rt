@@ -85,7 +85,7 @@ impl<'a> TcFrame<'a> {
     {
         let (header, behind) = split_header(octets);
         let field = without_fecf(shape.fecf, behind);
-        if let Some(reason) = early_skip_of(shape, &header, spacecraft, octets, field) {
+        if let Some(reason) = early_skip_of(shape, &header, spacecraft, octets) {
             return Err(reason);
         }
         match content_under(&header, field) {
@@ -125,17 +125,16 @@ fn split_header(octets: &[u8]) -> (TcHeader, &[u8])
     (TcHeader::read(header), behind)
 }
 
-// The first reason to skip a frame under this header with this data field, apart from `Command`.
+// The first reason to skip the octets of a frame under this header, apart from `Command`.
 #[inline(always)]
 fn early_skip_of(
     shape: &TcShape,
     header: &TcHeader,
     spacecraft: u16,
     octets: &[u8],
-    field: &[u8],
 ) -> Option<TcSkip>
     requires header { header.now ≡ tc_header_of octets.now }
-    requires field { field.now ≡ (tc_parts_of shape.now octets.now).field }
+    requires cut { is_cut shape.now octets.now ≡ true }
     ensures { result ≡ early_reason shape.now spacecraft octets.now }
 {
     if shape.fecf && !fecf_good(octets) {
@@ -153,7 +152,7 @@ fn early_skip_of(
     if !header.bypass() && header.command() {
         return Some(TcSkip::Kind);
     }
-    if field.is_empty() {
+    if octets.len() == usize::from(shape.least()) {
         return Some(TcSkip::Empty);
     }
     None

@@ -14,6 +14,7 @@ ghost use Rattle.sl_tmflow.specs.PacketStart.{whole_packets};
 ghost use Rattle.sl_tmflow.specs.StepReport.{counts_of};
 
 use crate::hand_over::{hand, hand_packet};
+use crate::packet_octets::PacketOctets;
 use crate::pointer::{Progress, add_field};
 use crate::report::{EMPTY_STEP, TmStep};
 use sl_packet::{FlowFault, Need, PacketSink, add_part, give_back, need};
@@ -127,7 +128,8 @@ impl Channel {
         }
         match frame.field() {
             TmField::Packets { first, octets } => {
-                self.join(first, octets, u16::from(frame.vc()), sink)
+                let field = PacketOctets { first, octets };
+                self.join(&field, u16::from(frame.vc()), sink)
             }
             TmField::Idle => Ok(EMPTY_STEP),
             TmField::Opaque => Ok(self.break_off()),
@@ -165,30 +167,30 @@ impl Channel {
     // Goes on with the incomplete packet in the data field of a frame of packets.
     fn join<S: PacketSink>(
         &mut self,
-        first: Option<u16>,
-        octets: &[u8],
+        field: &PacketOctets,
         vc: u16,
         sink: &mut S,
     ) -> Result<TmStep, FlowFault>
         requires vc { vc ≤ 7 }
-        requires short { length octets.now ≤ 2042 }
+        requires short { length field.now.octets.now ≤ 2042 }
         // The packet goes on with all octets of the field, or isn't kept.
         ensures count { self.new.state.count ≡ self.old.state.count }
-        ensures held { OnOk result (self.new.state.held
-            ≡ kept_of (field_step self.old.state.held (Packets first octets.now))
-            (self.old.state.held ++ octets.now)) }
+        ensures held { OnOk result (self.new.state.held ≡ kept_of
+            (field_step self.old.state.held (Packets field.now.first field.now.octets.now))
+            (self.old.state.held ++ field.now.octets.now)) }
 
         // Where the packet ends, the sink is handed it. Where the packet is broken off, its octets
         // before the field are counted.
-        ensures hands_over { HandsOver S.taking S.failing S.failures counts_of
-            sink.old vc (ended (field_step self.old.state.held (Packets first octets.now)))
+        ensures hands_over { HandsOver S.taking S.failing S.failures counts_of sink.old vc
+            (ended (field_step self.old.state.held (Packets field.now.first field.now.octets.now)))
             result sink.new }
         ensures few { IfOk result (λ step. step.packets + step.idle ≤ 1) }
         ensures dropped { IfOk result (λ step. step.dropped ≡ length (lost_of
-            (field_step self.old.state.held (Packets first octets.now)) self.old.state.held)) }
+            (field_step self.old.state.held (Packets field.now.first field.now.octets.now))
+            self.old.state.held)) }
     {
         let before = self.held.len();
-        let progress = match add_field(&mut self.held, first, octets) {
+        let progress = match add_field(&mut self.held, field) {
             Ok(progress) => progress,
             Err(_) => return Err(FlowFault::Memory),
         };

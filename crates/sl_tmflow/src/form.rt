@@ -14,6 +14,7 @@ ghost use Rattle.sl_tmflow.specs.FormLeft.{filled_up, passed};
 ghost use Rattle.sl_tmflow.specs.NormalForm.{fill_of, filling};
 ghost use Rattle.sl_tmflow.specs.Recording.{tm_lists};
 
+use crate::packet_octets::PacketOctets;
 use sl_packet::{Delivered, push_idle};
 use sl_tmframe::{TmShape, push_tm};
 use std::alloc::{AllocError, Global};
@@ -288,10 +289,18 @@ fn add(
     }
     let (head, rest) = packet.split_at(wanted);
     octets.extend_from_slice(head)?;
-    let pushed = push_fields(form, shape, heading, Some(start), octets.as_slice());
+    let whole = PacketOctets {
+        first: Some(start),
+        octets: octets.as_slice(),
+    };
+    let pushed = push_fields(form, shape, heading, &whole);
     octets.clear();
     pushed?;
-    push_fields(form, shape, heading.after(1), None, rest)?;
+    let later = PacketOctets {
+        first: None,
+        octets: rest,
+    };
+    push_fields(form, shape, heading.after(1), &later)?;
     octets.extend_from_slice(&rest[rest.len() - rest.len() % room..])?;
     Ok(rest.len() / room + 1)
 }
@@ -327,7 +336,11 @@ fn fill(
     let room = usize::from(shape.room());
     fill_up(octets, room)?;
     let frames = octets.len() / room;
-    let pushed = push_fields(form, shape, heading, Some(start), octets.as_slice());
+    let whole = PacketOctets {
+        first: Some(start),
+        octets: octets.as_slice(),
+    };
+    let pushed = push_fields(form, shape, heading, &whole);
     octets.clear();
     pushed?;
     Ok(frames)
@@ -365,33 +378,32 @@ fn fill_len(room: usize, len: usize) -> usize
     missing + room
 }
 
-// Adds a frame for each data field at the front of the octets. The first frame has this first
-// header pointer, and no packet starts in the other frames.
+// Adds a frame for each data field at the front of the octets. The first packet start is that of
+// the first frame, and no packet starts in the other frames.
 fn push_fields(
     form: &mut Vec<u8>,
     shape: &TmShape,
     heading: Heading,
-    first: Option<u16>,
-    octets: &[u8],
+    packets: &PacketOctets,
 ) -> Result<(), AllocError>
     requires spacecraft { heading.spacecraft ≤ 1023 }
     requires vc { heading.vc ≤ 7 }
-    requires first { IfSome first (λ first. first < field_room_of shape.now) }
+    requires first { IfSome packets.now.first (λ first. first < field_room_of shape.now) }
     // A frame is added for each data field that the octets fill.
-    ensures frames { OnOk result (form.new.items
-        ≡ form.old.items ++ frames_of shape.now heading first octets.now) }
+    ensures frames { OnOk result (form.new.items ≡ form.old.items
+        ++ frames_of shape.now heading packets.now.first packets.now.octets.now) }
     ensures size { OnOk result (vec_len form.new
-        ≡ vec_len form.old + frames_len shape.now octets.now) }
+        ≡ vec_len form.old + frames_len shape.now packets.now.octets.now) }
 
     // Memory is refused only where there is no room for these frames, and none is given back.
     ensures full { OnErr result (vec_capacity form.old
-        < vec_len form.old + frames_len shape.now octets.now) }
+        < vec_len form.old + frames_len shape.now packets.now.octets.now) }
     ensures capacity { vec_capacity form.old ≤ vec_capacity form.new }
 {
     let room = usize::from(shape.room());
     let mut heading = heading;
-    let mut first = first;
-    let mut left = octets;
+    let mut first = packets.first;
+    let mut left = packets.octets;
     while left.len() >= room {
         let (field, later) = left.split_at(room);
         let Heading {

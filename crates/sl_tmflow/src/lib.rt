@@ -10,6 +10,7 @@ mod extractor;
 mod form;
 mod hand_over;
 pub mod laws;
+mod packet_octets;
 mod pointer;
 mod reframe;
 mod report;

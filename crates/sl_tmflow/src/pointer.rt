@@ -5,6 +5,7 @@ ghost use Rattle.sl_tmframe.specs.TmFrame.{Packets};
 ghost use Rattle.sl_tmflow.specs.Delivery.{agreeing_pointer, field_step, front_step};
 ghost use Rattle.sl_tmflow.specs.Progress.{IsEnough, progress_step};
 
+use crate::packet_octets::PacketOctets;
 use sl_packet::laws::needs_tell_packets;
 use sl_packet::{Need, add_part, need};
 use std::alloc::AllocError;
@@ -21,25 +22,21 @@ pub(crate) enum Progress {
 }
 
 /// Adds the first octets of a data field to an incomplete packet, as many as the packet needs, and
-/// answers what the frame with this field and this pointer does to the packet.
+/// answers what the frame with this field does to the packet.
 #[inline(always)]
-pub(crate) fn add_field(
-    held: &mut Vec<u8>,
-    first: Option<u16>,
-    field: &[u8],
-) -> Result<Progress, AllocError>
+pub(crate) fn add_field(held: &mut Vec<u8>, field: &PacketOctets) -> Result<Progress, AllocError>
     requires held { length held.old.items ≤ 65541 }
-    requires short { length field.now ≤ 2042 }
+    requires short { length field.now.octets.now ≤ 2042 }
     // The answer depends on all octets of the packet so far.
     ensures step { IfOk result (λ progress. progress_step progress held.new.items
-        ≡ field_step held.old.items (Packets first field.now)) }
+        ≡ field_step held.old.items (Packets field.now.first field.now.octets.now)) }
     ensures inside { IfOk result (λ progress.
         (len : ℕ) → progress ≡ Progress.Ends len → len ≤ length held.new.items) }
 
     // The whole field was added where the packet goes on, and the octets before it are as they
     // were.
     ensures all { IfOk result (λ progress.
-        progress ≡ Progress.Continues → held.new.items ≡ held.old.items ++ field.now) }
+        progress ≡ Progress.Continues → held.new.items ≡ held.old.items ++ field.now.octets.now) }
     ensures most { IfOk result (λ progress.
         progress ≡ Progress.Continues → length held.new.items ≤ 65541) }
     ensures before { IfOk result (λ _.
@@ -47,9 +44,10 @@ pub(crate) fn add_field(
     ensures unchanged { OnErr result (held.new.items ≡ held.old.items) }
 {
     let before = held.len();
-    let part = wanted(held.as_slice(), field);
+    let octets = field.octets;
+    let part = wanted(held.as_slice(), octets);
     add_part(held, part)?;
-    Ok(progress_in(held.as_slice(), before, field, first))
+    Ok(progress_in(held.as_slice(), before, field))
 }
 
 // The first octets of a data field, as many as the incomplete packet needs. These are all octets of
@@ -68,23 +66,24 @@ fn wanted<'a>(held: &[u8], field: &'a [u8]) -> &'a [u8]
     }
 }
 
-// Whether the incomplete packet ends, continues or breaks in this frame: `octets` are all of its
-// octets so far, the first `before` of them from earlier frames, and `first` is the frame's
-// pointer.
-fn progress_in(octets: &[u8], before: usize, field: &[u8], first: Option<u16>) -> Progress
-    requires { before + length field.now < 2 ^ 64 }
+// Whether the incomplete packet ends, continues or breaks in the frame with this field. `octets`
+// are all octets of the packet so far, the first `before` of them from earlier frames.
+fn progress_in(octets: &[u8], before: usize, field: &PacketOctets) -> Progress
+    requires { before + length field.now.octets.now < 2 ^ 64 }
     ensures step { progress_step result octets.now
-        ≡ front_step first before field.now octets.now (front octets.now) }
+        ≡ front_step field.now.first before field.now.octets.now octets.now (front octets.now) }
     ensures inside { (len : ℕ) → result ≡ Progress.Ends len → len ≤ length octets.now }
     ensures short { result ≡ Progress.Continues → length octets.now ≤ 65541 }
 {
+    let pointer = field.first;
+    let field = field.octets;
     match need(octets) {
         Need::Foreign => Progress::Breaks,
-        Need::Header(_) | Need::Octets(_) if first.is_some() => Progress::Breaks,
+        Need::Header(_) | Need::Octets(_) if pointer.is_some() => Progress::Breaks,
         Need::Header(_) | Need::Octets(_) => Progress::Continues,
         Need::Whole(len) => {
             let len = len as usize;
-            if first.map(usize::from) == agreeing_pointer(len, before, field) {
+            if pointer.map(usize::from) == agreeing_pointer(len, before, field) {
                 Progress::Ends(len)
             } else {
                 Progress::Breaks

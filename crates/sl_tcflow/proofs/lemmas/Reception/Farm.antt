@@ -42,7 +42,7 @@ abbrev farm_with : ReceptionParameters → ℕ → List TcView → FarmView
 farm_with r vc channel = record { window = r.window; state = farm_after r.window (initial_vr r vc) channel }
 
 -- FARM-1 of a virtual channel after one more frame of this channel
-farm_next : (r : ReceptionParameters) (views : List TcView) (next : TcView)
+pub farm_next : (r : ReceptionParameters) (views : List TcView) (next : TcView)
     → (farm_of r next.vc (views ++ next ∷ [])).state ≡ (farm_step r.window (farm_of r next.vc views).state (event_of next.content)).1
 farm_next r views next =
     ap (farm_after r.window (initial_vr r next.vc)) (same_channel next.vc views next refl)

@@ -7,8 +7,8 @@ use Rattle.sl_tmflow.proofs.form.push_fields.Given as goal
 
 abbrev pub invariant-loop-left : goal.invariant-loop-left
 invariant-loop-left l =
-    IsPushing l.shape l.heading (l.initial.form.items ++ frames_of l.shape l.initial.heading l.initial.first l.octets)
-    (vec_len l.initial.form + frames_len l.shape l.octets) l.first l.left l.form.items (vec_len l.form)
+    IsPushing l.shape l.heading (l.initial.form.items ++ frames_of l.shape l.initial.heading l.initial.packets.first l.initial.packets.octets.now)
+    (vec_len l.initial.form + frames_len l.shape l.initial.packets.octets.now) l.first l.left l.form.items (vec_len l.form)
     × ((vec_capacity l.initial.form ≤ vec_capacity l.form) × (IfSome l.first (λ first. first < field_room_of l.shape)
     × ((l.heading.spacecraft ≤ 1023) × (l.heading.vc ≤ 7))))
 

@@ -11,4 +11,4 @@ hand_packet-outcome-requires-clause-packet g c =
     let packet = take c.in-Ends.len all in
     let step = sym c.in-Ok.ensures.step ∙ ap (λ it. progress_step it all) c.in-Ends.is in
     subst (λ l. IsPacket (take c.in-Ends.len l)) (sym c.as_slice.ensures.value)
-    (field_ends c.self.inside.held.items (Packets c.args.first c.args.octets.now) packet step).is_packet
+    (field_ends c.self.inside.held.items (Packets c.args.field.now.first c.args.field.now.octets.now) packet step).is_packet

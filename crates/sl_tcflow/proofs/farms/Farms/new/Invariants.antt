@@ -1,5 +1,5 @@
 use Rattle.sl_tcflow.proofs.lemmas.Reception.Farm.{AreSet}
-use Rattle.sl_tcflow.proofs.receiver.farms_at_start.Given as goal
+use Rattle.sl_tcflow.proofs.farms.Farms.new.Given as goal
 
 abbrev pub invariant-loop-vc : goal.invariant-loop-vc
 invariant-loop-vc l = AreSet l.window l.starts l.vc l.farms

@@ -1,0 +1,10 @@
+//! Octets of packets with the place of their first packet start.
+
+/// Octets of the data fields of frames of packets, and the offset in them at which the first packet
+/// starts, or `None` where no packet starts in them. For one data field the offset is the frame's
+/// first header pointer.
+#[derive(Clone, Copy)]
+pub(crate) struct PacketOctets<'a> {
+    pub(crate) first: Option<u16>,
+    pub(crate) octets: &'a [u8],
+}

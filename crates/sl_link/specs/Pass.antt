@@ -7,7 +7,7 @@ use Rattle.std.specs.List.{concat}
 use Rattle.sl_link.specs.declared.link.counted.Counted.{Counted}
 use Rattle.sl_link.specs.declared.link.fault.LinkFault.{LinkFault}
 use Rattle.sl_link.specs.declared.link.fault.LinkFault.TheVariants.{Read, TooLong, Memory, Write}
-use Rattle.sl_link.specs.Link.Counted.{faults_of, HasFailed}
+use Rattle.sl_link.specs.Link.Counted.{faults_of, HadOneFault}
 use Rattle.sl_link.specs.Link.Managed.{Parameters}
 use Rattle.sl_link.specs.Io.Streams.{Reads, IsRead}
 
@@ -80,7 +80,7 @@ pub record PassesOver {R : Type 0} (remaining : R → Option (List ℕ)) (reader
 
 -- the cause of a fault of reading is there
 abbrev pub IsReadersFault : {R : Type 0} → Counted R → Counted R → ℕ → ℕ → List ℕ → LinkFault → Type 0
-IsReadersFault old new limit buffer octets Read = HasFailed old new × (length octets ≤ limit)
+IsReadersFault old new limit buffer octets Read = HadOneFault old new × (length octets ≤ limit)
 IsReadersFault old new limit buffer octets TooLong =
     (faults_of new ≡ faults_of old) × (limit < length octets) × (length octets ≤ limit + buffer)
 IsReadersFault old new limit buffer octets Memory = ⊥

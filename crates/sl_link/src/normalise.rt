@@ -8,11 +8,11 @@ ghost use Rattle.sl_link.specs.Kind.Tc.{MayWantMemoryTc, tc_counts};
 ghost use Rattle.sl_link.specs.Kind.Tm.{MayWantMemoryTm, tm_counts};
 ghost use Rattle.sl_link.specs.Link.Managed.{tc_format};
 ghost use Rattle.sl_link.specs.Normalise.Form.{StopsForm};
-ghost use Rattle.sl_link.specs.Normalise.Store.{IsRefused, KeepsAll, form_text};
+ghost use Rattle.sl_link.specs.Normalise.Store.{IsRefused, KeepsAll, StopsKeeping, form_text};
 ghost use Rattle.sl_link.specs.Normalise.Tc.{tc_normal_form, tc_packets};
 ghost use Rattle.sl_link.specs.Normalise.Tm.{tm_normal_form, tm_packets};
 ghost use Rattle.sl_link.specs.Tally.{listing_counts};
-ghost use Rattle.sl_link.specs.Io.Streams.{IsRead, KeepsPackets, Stops, StopsReadingAll};
+ghost use Rattle.sl_link.specs.Io.Streams.{IsRead, KeepsPackets, Stops};
 ghost use Rattle.sl_link.specs.Io.Streams.{Translates, TranslatesAndCounts, WritesText};
 ghost use Rattle.sl_link.specs.Verbs.Listing.{WantedMemory};
 ghost use Rattle.sl_link.specs.Pass.{chunk_size};
@@ -72,8 +72,7 @@ pub fn normalise_tm<R: Read, W: Write>(
         (MayWantMemoryTm managed.now)) }
 {
     let mut framer = TmFramer::new(&managed.tm);
-    let extractor = Extractor::new(alloc);
-    normalise(alloc, managed, &mut framer, extractor, reader, writer)
+    normalise::<Extractor, TmFramer, R, W>(alloc, managed, &mut framer, reader, writer)
 }
 
 /// Reads a recording of TC transfer frames to its end, and then writes the normal form of the packets that its
@@ -113,8 +112,7 @@ pub fn normalise_tc<R: Read, W: Write>(
         (MayWantMemoryTc managed.now)) }
 {
     let mut framer = TcFramer::new(&managed.tc);
-    let receiver = Receiver::new(alloc, managed.window, &managed.starts, managed.plain);
-    normalise(alloc, managed, &mut framer, receiver, reader, writer)
+    normalise::<Receiver, TcFramer, R, W>(alloc, managed, &mut framer, reader, writer)
 }
 
 /// The normal form of the packets of a kind of frames.
@@ -194,7 +192,6 @@ fn normalise<D: Formed, F: Framer, R: Read, W: Write>(
     alloc: Global,
     managed: &Managed,
     framer: &mut F,
-    delivery: D,
     reader: &mut Counted<R>,
     writer: &mut Counted<W>,
 ) -> Result<Totals, LinkFault>
@@ -202,7 +199,6 @@ fn normalise<D: Formed, F: Framer, R: Read, W: Write>(
     requires same { (frame : List ℕ) → F.is_frame managed.now frame → D.is_frame managed.now frame }
     requires frames { (recording : List ℕ) → F.frames_of managed.now recording
         ≡ (D.kind managed.now).frames_of recording }
-    requires begun { D.has_processed delivery managed.now [] }
     ensures normal_form { OnOk result (Translates R.remaining W.contents reader.old reader.new
         writer.old writer.new (form_text (D.kind managed.now) (D.form_of managed.now))
         managed.now.max_octets) }
@@ -222,7 +218,7 @@ fn normalise<D: Formed, F: Framer, R: Read, W: Write>(
         → WantedMemory R.remaining reader.old reader.new (D.kind managed.now).frames_of
         (MayWantMemory (D.kind managed.now) (D.wants_memory managed.now))) }
 {
-    let (delivered, totals) = deliver(alloc, managed, framer, delivery, reader)?;
+    let (delivered, totals) = deliver::<D, F, R>(alloc, managed, framer, reader)?;
     D::write(alloc, managed, &delivered, writer)?;
     Ok(totals)
 }
@@ -232,26 +228,21 @@ pub fn deliver<D: Delivery, F: Framer, R: Read>(
     alloc: Global,
     managed: &Managed,
     framer: &mut F,
-    delivery: D,
     reader: &mut Counted<R>,
 ) -> Result<(Delivered, Totals), LinkFault>
     requires none { F.waits framer.old managed.now [] }
     requires same { (frame : List ℕ) → F.is_frame managed.now frame → D.is_frame managed.now frame }
     requires frames { (recording : List ℕ) → F.frames_of managed.now recording
         ≡ (D.kind managed.now).frames_of recording }
-    requires begun { D.has_processed delivery managed.now [] }
     ensures all { IfOk result (λ kept. KeepsAll R.remaining reader.old reader.new
         (D.kind managed.now) managed.now.max_octets kept.0.lists kept.1) }
-    ensures fault { IfErr result (StopsReadingAll R.remaining reader.old reader.new
-        managed.now.max_octets chunk_size) }
-    ensures memory { IfErr result (λ fault. fault ≡ LinkFault.Memory
-        → WantedMemory R.remaining reader.old reader.new (D.kind managed.now).frames_of
-        (MayWantMemory (D.kind managed.now) (D.wants_memory managed.now))) }
+    ensures stopped { IfErr result (StopsKeeping R.remaining reader.old reader.new
+        (D.kind managed.now) (D.wants_memory managed.now) managed.now.max_octets chunk_size) }
 {
     let mut buffer = [0; CHUNK_SIZE];
     let mut store = Store {
         managed: *managed,
-        delivery,
+        delivery: D::begin(alloc, managed),
         so_far: Tally::new(),
         delivered: Delivered::new(alloc),
     };

@@ -1,5 +1,5 @@
 //! A recording that is read once, chunk by chunk, and handed over frame by frame.
-ghost use Rattle.std.specs.Prelude.{◌≡◌, ◌+◌, ◌^◌, ◌<◌, ◌++◌, [], ℕ, List, length, IfOk, IfErr, OnOk};
+ghost use Rattle.std.specs.Prelude.{◌+◌, ◌^◌, ◌<◌, ◌++◌, [], ℕ, List, length, IfOk, IfErr, OnOk};
 ghost use Rattle.std.specs.List.{concat};
 ghost use Rattle.sl_link.specs.Pass.{PassesOver, StopsPassing, TakesChunk, StopsInChunk};
 
@@ -45,13 +45,13 @@ pub fn read_recording<F: Framer, S: FrameSink, R: Read>(
             return Ok(octets);
         }
         octets += taken as u64;
-        hand_over(managed, framer, sink, &buffer[..taken])?;
+        deliver_chunk(managed, framer, sink, &buffer[..taken])?;
         sink.pause()?;
     }
 }
 
 // Hands over the frames that a chunk completes.
-fn hand_over<F: Framer, S: FrameSink>(
+fn deliver_chunk<F: Framer, S: FrameSink>(
     managed: &Managed,
     framer: &mut F,
     sink: &mut S,

@@ -4,7 +4,7 @@ ghost use Rattle.std.specs.Io.KnownBytes.{Keeps};
 ghost use Rattle.clap.specs.Words.{kind_of};
 ghost use Rattle.sl_link.specs.Program.Answer.{EndsAsHelp, MayLackMemory, WithAnswer, WithText};
 ghost use Rattle.sl_link.specs.Program.CommandLine.{AreRefused};
-ghost use Rattle.sl_link.specs.Link.Counted.{stream_of, faults_of, HasFailed};
+ghost use Rattle.sl_link.specs.Link.Counted.{stream_of, faults_of, HadOneFault};
 ghost use Rattle.sl_link.specs.Io.Streams.{StopsWriting, WritesText};
 ghost use Rattle.sl_link.specs.Program.Run.{AsksForRefusedParameter, HasMetAnomalies, HasStopped, HasSucceeded};
 ghost use Rattle.sl_link.specs.Program.Run.{HasWritten, IsStoppedBy, WithAsked};
@@ -17,8 +17,8 @@ use crate::link::counted::Counted;
 use crate::link::fault::LinkFault;
 use crate::link::managed::Managed;
 use crate::link::totals::Totals;
+use crate::listings::{check_tc, check_tm, packets_tc, packets_tm, show_tc, show_tm};
 use crate::normalise::{normalise_tc, normalise_tm};
-use crate::verbs::{check_tc, check_tm, packets_tc, packets_tm, show_tc, show_tm};
 use clap::Error;
 use clap::error::ErrorKind;
 use command_line::{Asked, Engine, parse};
@@ -179,7 +179,7 @@ fn flush<W: Write>(writer: &mut Counted<W>) -> Result<(), LinkFault>
     ensures kept { Keeps (W.contents (stream_of writer.old)) (W.contents (stream_of writer.new)) }
     ensures ok { OnOk result (faults_of writer.new ≡ faults_of writer.old) }
     ensures fault { IfErr result (λ fault. (fault ≡ LinkFault.Write)
-        × HasFailed writer.old writer.new) }
+        × HadOneFault writer.old writer.new) }
 {
     match writer.flush() {
         Ok(()) => Ok(()),

@@ -1,7 +1,118 @@
 //! Whether two recordings deliver the same packets.
-mod lists;
-mod tc;
-mod tm;
+ghost use Rattle.std.specs.Prelude.{◌≡◌, ◌⊎◌, [], ℕ, List, IfOk, IfErr};
+ghost use Rattle.sl_tcframe.specs.TcDelimited.{tc_frames_of};
+ghost use Rattle.sl_tmframe.specs.TmDelimited.{tm_frames_of};
+ghost use Rattle.sl_link.specs.Kind.Delivery.{AreDelivered, MayWantMemory, packets_of};
+ghost use Rattle.sl_link.specs.Kind.Tc.{MayWantMemoryTc};
+ghost use Rattle.sl_link.specs.Kind.Tm.{MayWantMemoryTm};
+ghost use Rattle.sl_link.specs.Link.Managed.{tc_format};
+ghost use Rattle.sl_link.specs.Normalise.Tc.{tc_packets};
+ghost use Rattle.sl_link.specs.Normalise.Tm.{tm_packets};
+ghost use Rattle.sl_link.specs.Pass.{chunk_size};
+ghost use Rattle.sl_link.specs.Same.{StopsComparing, ComparesPackets};
+ghost use Rattle.sl_link.specs.Verbs.Listing.{WantedMemory};
 
-pub use tc::same_packets_tc;
-pub use tm::same_packets_tm;
+use crate::kind::Delivery;
+use crate::link::counted::Counted;
+use crate::link::fault::LinkFault;
+use crate::link::managed::Managed;
+use crate::normalise::deliver;
+use crate::pass::Framer;
+use sl_tcflow::Receiver;
+use sl_tcframe::TcFramer;
+use sl_tmflow::Extractor;
+use sl_tmframe::TmFramer;
+use std::alloc::Global;
+use std::io::Read;
+
+/// Reads two recordings of TM transfer frames to their ends, one after the other, and reports whether both deliver the same
+/// packets on each virtual channel, idle packets left out. So the answer is true exactly where the normal forms of both are
+/// equal octet for octet. The call keeps the packets of both recordings, one frame at most, and the packet that is
+/// incomplete on each virtual channel.
+///
+/// The fault is `Read` where a reader had one, and `TooLong` where more octets came from a reader than the managed limit.
+/// The fault is `Memory` where memory was refused, which is wanted only where a packet is incomplete on the virtual channel
+/// of a frame, before the frame or after it, or was delivered. After a fault of the first recording nothing is read of the
+/// other one.
+pub fn same_packets_tm<A: Read, B: Read>(
+    alloc: Global,
+    managed: &Managed,
+    one: &mut Counted<A>,
+    other: &mut Counted<B>,
+) -> Result<bool, LinkFault>
+    // Both recordings are read to their ends, and the answer is true exactly where their packets are the same.
+    ensures same { IfOk result (ComparesPackets A.remaining B.remaining one.old one.new other.old
+        other.new (tm_packets managed.now) managed.now.max_octets) }
+    // After a fault its cause is there, at one of the recordings.
+    ensures fault { IfErr result (StopsComparing A.remaining B.remaining one.old one.new other.old
+        other.new managed.now.max_octets chunk_size) }
+    // Memory is refused only where a packet is incomplete around a frame of one recording, or was delivered.
+    ensures memory { IfErr result (λ fault. fault ≡ LinkFault.Memory
+        → WantedMemory A.remaining one.old one.new (tm_frames_of managed.now.tm_length)
+        (MayWantMemoryTm managed.now) ⊎ WantedMemory B.remaining other.old other.new
+        (tm_frames_of managed.now.tm_length) (MayWantMemoryTm managed.now)) }
+{
+    let framers = (TmFramer::new(&managed.tm), TmFramer::new(&managed.tm));
+    same_packets::<Extractor, TmFramer, A, B>(alloc, managed, framers, one, other)
+}
+
+/// Reads two recordings of TC transfer frames to their ends, one after the other, and reports whether FARM-1 lets the same
+/// packets of both through on each virtual channel and MAP, idle packets left out. So the answer is true exactly where the
+/// normal forms of both are equal octet for octet. The call keeps the packets of both recordings, one frame at most, and
+/// the series that is incomplete on each MAP.
+///
+/// The fault is `Read` where a reader had one, and `TooLong` where more octets came from a reader than the managed limit.
+/// The fault is `Memory` where memory was refused, which is wanted only where a frame's unit is accepted and a series is
+/// incomplete on its MAP, before the frame or after it, or where a packet was delivered. After a fault of the first
+/// recording nothing is read of the other one.
+pub fn same_packets_tc<A: Read, B: Read>(
+    alloc: Global,
+    managed: &Managed,
+    one: &mut Counted<A>,
+    other: &mut Counted<B>,
+) -> Result<bool, LinkFault>
+    // Both recordings are read to their ends, and the answer is true exactly where their packets are the same.
+    ensures same { IfOk result (ComparesPackets A.remaining B.remaining one.old one.new other.old
+        other.new (tc_packets managed.now) managed.now.max_octets) }
+    // After a fault its cause is there, at one of the recordings.
+    ensures fault { IfErr result (StopsComparing A.remaining B.remaining one.old one.new other.old
+        other.new managed.now.max_octets chunk_size) }
+    // Memory is refused only where a series is incomplete around a frame of one recording, or a packet was
+    // delivered.
+    ensures memory { IfErr result (λ fault. fault ≡ LinkFault.Memory
+        → WantedMemory A.remaining one.old one.new (tc_frames_of (tc_format managed.now))
+        (MayWantMemoryTc managed.now) ⊎ WantedMemory B.remaining other.old other.new
+        (tc_frames_of (tc_format managed.now)) (MayWantMemoryTc managed.now)) }
+{
+    let framers = (TcFramer::new(&managed.tc), TcFramer::new(&managed.tc));
+    same_packets::<Receiver, TcFramer, A, B>(alloc, managed, framers, one, other)
+}
+
+// Reads two recordings to their ends, one after the other, and reports whether both deliver the same packets.
+fn same_packets<D: Delivery, F: Framer + Drop, A: Read, B: Read>(
+    alloc: Global,
+    managed: &Managed,
+    framers: (F, F),
+    one: &mut Counted<A>,
+    other: &mut Counted<B>,
+) -> Result<bool, LinkFault>
+    requires delivered { AreDelivered (D.kind managed.now) }
+    requires none { F.waits framers.0 managed.now [] × F.waits framers.1 managed.now [] }
+    requires same { (frame : List ℕ) → F.is_frame managed.now frame → D.is_frame managed.now frame }
+    requires frames { (recording : List ℕ) → F.frames_of managed.now recording
+        ≡ (D.kind managed.now).frames_of recording }
+    ensures same { IfOk result (ComparesPackets A.remaining B.remaining one.old one.new other.old
+        other.new (packets_of (D.kind managed.now)) managed.now.max_octets) }
+    ensures fault { IfErr result (StopsComparing A.remaining B.remaining one.old one.new other.old
+        other.new managed.now.max_octets chunk_size) }
+    ensures memory { IfErr result (λ fault. fault ≡ LinkFault.Memory
+        → WantedMemory A.remaining one.old one.new (D.kind managed.now).frames_of
+        (MayWantMemory (D.kind managed.now) (D.wants_memory managed.now))
+        ⊎ WantedMemory B.remaining other.old other.new (D.kind managed.now).frames_of
+        (MayWantMemory (D.kind managed.now) (D.wants_memory managed.now))) }
+{
+    let (mut framer, mut other_framer) = framers;
+    let (kept, _) = deliver::<D, F, A>(alloc, managed, &mut framer, one)?;
+    let (others, _) = deliver::<D, F, B>(alloc, managed, &mut other_framer, other)?;
+    Ok(kept.has_same_packets(&others))
+}

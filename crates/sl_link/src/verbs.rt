@@ -2,13 +2,13 @@
 ghost use Rattle.std.specs.Prelude.{◌≡◌, ◌+◌, ◌-◌, ◌^◌, ◌<◌, ◌≤◌, ◌++◌, ◌∷◌, [], ℕ, List, length, IfOk, IfErr, OnOk};
 ghost use Rattle.std.specs.List.{concat};
 ghost use Rattle.sl_link.specs.Io.Streams.{AddsText, Translates, TranslatesAndCounts, Stops};
-ghost use Rattle.sl_link.specs.Verbs.Listing.{lines_from, counts_of, text_of};
+ghost use Rattle.sl_link.specs.Verbs.Listing.{lines_from, counts_of, listing_text};
 ghost use Rattle.sl_link.specs.Verbs.Listing.{StopsListingFrames, WantedMemory, ListsFrames};
 ghost use Rattle.sl_link.specs.Pass.{PassesOver, StopsPassing};
 
-mod check;
-mod packets;
-mod show;
+pub mod check;
+pub mod packets;
+pub mod show;
 
 use crate::io::lines::Lines;
 use crate::io::room::flush;
@@ -17,9 +17,6 @@ use crate::link::fault::LinkFault;
 use crate::link::managed::Managed;
 use crate::link::totals::Totals;
 use crate::pass::{FrameSink, Framer, read_recording};
-pub use check::{check_tc, check_tm};
-pub use packets::{packets_tc, packets_tm};
-pub use show::{show_tc, show_tm};
 use std::io::{Read, Write};
 
 /// What is listed of each frame of a kind, and what it is told by.
@@ -136,13 +133,13 @@ pub fn list<F: Framer, V: Verb, R: Read, W: Write>(
     requires same { (frame : List ℕ) → F.is_frame managed.now frame → V.is_frame managed.now frame }
     requires begun { V.has_listed verb.old managed.now [] }
     ensures listing { OnOk result (Translates R.remaining W.contents reader.old reader.new
-        writer.old writer.new (text_of (F.frames_of managed.now) (V.listing managed.now))
+        writer.old writer.new (listing_text (F.frames_of managed.now) (V.listing managed.now))
         managed.now.max_octets) }
     ensures totals { IfOk result (TranslatesAndCounts R.remaining W.contents reader.old reader.new
-        writer.old writer.new (text_of (F.frames_of managed.now) (V.listing managed.now))
+        writer.old writer.new (listing_text (F.frames_of managed.now) (V.listing managed.now))
         (counts_of (F.frames_of managed.now) (V.listing managed.now)) managed.now.max_octets) }
     ensures fault { IfErr result (Stops R.remaining W.contents reader.old reader.new
-        writer.old writer.new (text_of (F.frames_of managed.now) (V.listing managed.now))
+        writer.old writer.new (listing_text (F.frames_of managed.now) (V.listing managed.now))
         managed.now.max_octets (length buffer.old)) }
     ensures memory { IfErr result (λ fault. fault ≡ LinkFault.Memory
         → WantedMemory R.remaining reader.old reader.new (F.frames_of managed.now)

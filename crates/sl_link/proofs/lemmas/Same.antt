@@ -1,27 +1,40 @@
--- Packets that are the same on each channel.
-use Rattle.std.proofs.Common.{◌≡◌, ◌↔◌, ℕ, ◌<◌, List, [], ◌∷◌, length, map, take, get_or, Bool, ◌&&◌, Decides, refl, ap, sym, ◌∙◌, arith}
-use Rattle.std.specs.Prelude.{bytes_eq}
-use Rattle.std.specs.Cmp.Lexicographic.{pointwise}
-use Rattle.std.specs.Vec.{vec_items}
-use Rattle.std.specs.declared.vec.Vec.{Vec}
-use Rattle.std.proofs.lemmas.List.{get_or-take}
-use Rattle.std.proofs.lemmas.Slice.Eq.{bytes_eq-Decides, slice_eq-Decides}
+-- Recordings whose packets are kept and compared.
+use Rattle.std.proofs.Common.{◌≡◌, ◌↔◌, ℕ, List, [], get_or, take, Option, inl, inr, ap, subst, sym, ◌∙◌}
+use Rattle.std.proofs.lemmas.Bool.{cases_lt}
+use Rattle.std.proofs.lemmas.List.{ext_get_or, get_or-take}
+use Rattle.sl_link.specs.declared.link.counted.Counted.{Counted}
+use Rattle.sl_link.specs.declared.link.fault.LinkFault.{LinkFault}
+use Rattle.sl_link.specs.declared.link.fault.LinkFault.TheVariants.{Read, TooLong, Memory, Write}
+use Rattle.sl_link.specs.Io.Streams.{IsReadingAllFault, StopsReadingAll}
+use Rattle.sl_link.specs.Kind.Delivery.{AreDelivered, AreKept, Kind, lists_in}
+use Rattle.sl_link.specs.Normalise.Store.{StopsKeeping}
+use Rattle.sl_link.specs.Pass.{IsReadersFault}
+use Rattle.sl_link.proofs.lemmas.Kind.Delivery.{all_kept}
 
-module _ {X : Type 0} where
-  -- vectors are compared as their items are
-  items_compared : (xs ys : List (Vec ℕ X)) → pointwise (λ (x : Vec ℕ X) (y : Vec ℕ X). bytes_eq x.items y.items) xs ys ≡ pointwise bytes_eq (map vec_items xs) (map vec_items ys)
-  items_compared [] [] = refl
-  items_compared [] (y ∷ ys) = refl
-  items_compared (x ∷ xs) [] = refl
-  items_compared (x ∷ xs) (y ∷ ys) = ap (λ rest. bytes_eq x.items y.items && rest) (items_compared xs ys)
+-- what is kept is the same exactly where the packets are: past the last channel there are none
+pub same_kept : (k : Kind) → AreDelivered k → (frames others : List (List ℕ)) (lists kept : List (List (List ℕ))) → AreKept k frames lists → AreKept k others kept
+    → {P : Type 0} → (P ↔ (lists ≡ kept)) → P ↔ (lists_in k frames ≡ lists_in k others)
+same_kept k laws frames others lists kept one other reported =
+    let mine = all_kept k laws frames lists one in
+    let its = all_kept k laws others kept other in (
+      λ p. sym mine ∙ ap (take k.limit) (reported.0 p) ∙ its,
+      λ same. reported.1 (ext_get_or [] lists kept (one.size ∙ sym other.size) (λ channel inside.
+          elim (cases_lt channel k.limit) [
+            | inl below ↦ sym (get_or-take k.limit lists channel [] below) ∙ ap (λ l. get_or l channel []) (mine ∙ same ∙ sym its) ∙ get_or-take k.limit kept channel [] below
+            | inr past ↦ one.none_past channel past ∙ sym (other.none_past channel past)
+          ])),
+    )
 
-  pub same_items : (xs ys : List (Vec ℕ X)) (r : Bool) → r ≡ pointwise (λ (x : Vec ℕ X) (y : Vec ℕ X). bytes_eq x.items y.items) xs ys → Decides r (map vec_items xs ≡ map vec_items ys)
-  same_items xs ys r e = slice_eq-Decides bytes_eq-Decides (map vec_items xs) (map vec_items ys) r (e ∙ items_compared xs ys)
+module _ {R : Type 0} (remaining : R → Option (List ℕ)) (reader reader' : Counted R) (k : Kind) (wants_memory : List (List ℕ) → Type 0) (limit buffer : ℕ) where
+  reading_caused : (octets : List ℕ) (fault : LinkFault) → IsReadersFault reader reader' limit buffer octets fault → IsReadingAllFault reader reader' limit buffer octets fault
+  reading_caused octets Read cause = cause
+  reading_caused octets TooLong cause = cause
+  reading_caused octets Memory cause = absurd cause
+  reading_caused octets Write cause = absurd cause
 
--- lists that are the same up to an index are so at each below it
-pub same_at : {X : Type 0} (xs ys : List X) (n i : ℕ) (d : X) → i < n → take n xs ≡ take n ys → get_or xs i d ≡ get_or ys i d
-same_at xs ys n i d below same = sym (get_or-take n xs i d below) ∙ ap (λ l. get_or l i d) same ∙ get_or-take n ys i d below
-
--- what is reported of some values is reported of their equals
-pub same_of : {X P : Type 0} (x x' y y' : X) → x ≡ y → x' ≡ y' → (P ↔ (x ≡ x')) → P ↔ (y ≡ y')
-same_of x x' y y' e e' reported = (λ p. sym e ∙ reported.0 p ∙ e', λ same. reported.1 (e ∙ same ∙ sym e'))
+  -- a fault of the reader, or memory was refused
+  pub stops_reading : (fault : LinkFault) → StopsKeeping remaining reader reader' k wants_memory limit buffer fault → StopsReadingAll remaining reader reader' limit buffer fault
+  stops_reading fault s = elim s.cause [
+    | inl at ↦ record { octets = s.octets; read = s.read; cause = reading_caused s.octets fault at.cause }
+    | inr at ↦ subst (StopsReadingAll remaining reader reader' limit buffer) (sym at.at.0) (record { octets = s.octets; read = s.read; cause = (at.no_fault, at.within) })
+  ]

@@ -1,5 +1,4 @@
 pub mod Check
 pub mod Lister
 pub mod Packets
-pub mod Show
 pub mod Whole

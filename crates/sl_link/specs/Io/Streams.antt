@@ -5,7 +5,7 @@ use Rattle.std.specs.Io.KnownBytes.{Consumes, IsAtEnd, Appends}
 use Rattle.sl_link.specs.declared.link.counted.Counted.{Counted}
 use Rattle.sl_link.specs.declared.link.fault.LinkFault.{LinkFault}
 use Rattle.sl_link.specs.declared.link.fault.LinkFault.TheVariants.{Read, TooLong, Memory, Write}
-use Rattle.sl_link.specs.Link.Counted.{stream_of, faults_of, HasFailed}
+use Rattle.sl_link.specs.Link.Counted.{stream_of, faults_of, HadOneFault}
 use Rattle.sl_link.specs.Link.Totals.{Counts}
 
 module _ {R : Type 0} (remaining : R → Option (List ℕ)) where
@@ -42,7 +42,7 @@ pub record ReadsSome {R : Type 0} (remaining : R → Option (List ℕ)) (old new
 
 -- the cause of a fault of reading is there
 abbrev pub IsReadFault : {R : Type 0} → Counted R → Counted R → ℕ → List ℕ → LinkFault → Type 0
-IsReadFault old new limit octets Read = HasFailed old new × (octets ≡ [])
+IsReadFault old new limit octets Read = HadOneFault old new × (octets ≡ [])
 IsReadFault old new limit octets TooLong = (faults_of new ≡ faults_of old) × (limit < length octets)
 IsReadFault old new limit octets Memory = ⊥
 IsReadFault old new limit octets Write = ⊥
@@ -65,7 +65,7 @@ pub record ReadsAll {R : Type 0} (remaining : R → Option (List ℕ)) (old new 
 
 -- the cause of a fault of reading, or of keeping what was read, is there
 abbrev pub IsReadingAllFault : {R : Type 0} → Counted R → Counted R → ℕ → ℕ → List ℕ → LinkFault → Type 0
-IsReadingAllFault old new limit buffer octets Read = HasFailed old new × (length octets ≤ limit)
+IsReadingAllFault old new limit buffer octets Read = HadOneFault old new × (length octets ≤ limit)
 IsReadingAllFault old new limit buffer octets TooLong =
     (faults_of new ≡ faults_of old) × (limit < length octets) × (length octets ≤ limit + buffer)
 IsReadingAllFault old new limit buffer octets Memory = (faults_of new ≡ faults_of old) × (length octets ≤ limit)
@@ -96,14 +96,14 @@ pub record StopsWriting {W : Type 0} (contents : W → Option (List ℕ)) (old n
     (fault : LinkFault) : Type 0 where
   pub front : WritesPrefix contents old new text
   pub is_write : fault ≡ Write
-  pub cause : HasFailed old new
+  pub cause : HadOneFault old new
 
 -- the cause of a fault of writing, or of keeping what is to be written, is there
 abbrev pub IsListingFault : {W : Type 0} → Counted W → Counted W → LinkFault → Type 0
 IsListingFault old new Read = ⊥
 IsListingFault old new TooLong = ⊥
 IsListingFault old new Memory = faults_of new ≡ faults_of old
-IsListingFault old new Write = HasFailed old new
+IsListingFault old new Write = HadOneFault old new
 
 -- a prefix of the text was written, and then memory was refused or the writer failed
 pub record StopsListing {W : Type 0} (contents : W → Option (List ℕ)) (old new : Counted W) (text : List ℕ)
@@ -147,14 +147,14 @@ module _ {R W : Type 0} (remaining : R → Option (List ℕ)) (contents : W → 
   -- memory was refused can't be told by a clause.
   abbrev pub IsCaused : Counted R → Counted R → Counted W → Counted W → ℕ → ℕ → List ℕ → LinkFault → Type 0
   IsCaused reader reader' writer writer' limit buffer octets Read =
-      HasFailed reader reader' × (faults_of writer' ≡ faults_of writer) × (length octets ≤ limit)
+      HadOneFault reader reader' × (faults_of writer' ≡ faults_of writer) × (length octets ≤ limit)
   IsCaused reader reader' writer writer' limit buffer octets TooLong =
       (faults_of reader' ≡ faults_of reader) × (faults_of writer' ≡ faults_of writer)
       × (limit < length octets) × (length octets ≤ limit + buffer)
   IsCaused reader reader' writer writer' limit buffer octets Memory =
       (faults_of reader' ≡ faults_of reader) × (faults_of writer' ≡ faults_of writer) × (length octets ≤ limit)
   IsCaused reader reader' writer writer' limit buffer octets Write =
-      HasFailed writer writer' × (faults_of reader' ≡ faults_of reader) × (length octets ≤ limit)
+      HadOneFault writer writer' × (faults_of reader' ≡ faults_of reader) × (length octets ≤ limit)
 
   -- Octets were read and a prefix of their text was written, and then a fault came, whose cause is there.
   pub record Stops (reader reader' : Counted R) (writer writer' : Counted W) (text : List ℕ → List ℕ) (limit buffer : ℕ)

@@ -12,8 +12,8 @@ abbrev pub faults_of : {T : Type 0} → Counted T → ℕ
 faults_of c = c.faults
 
 -- one fault came: the count rose by one, unless it was at its greatest
-abbrev pub HasFailed : {T : Type 0} → Counted T → Counted T → Type 0
-HasFailed old new = faults_of new ≡ one_more (faults_of old)
+abbrev pub HadOneFault : {T : Type 0} → Counted T → Counted T → Type 0
+HadOneFault old new = faults_of new ≡ one_more (faults_of old)
 
 -- a write that failed, or took nothing of one or more octets
 abbrev pub is_write_fault : {E : Type 0} → Result ℕ E → List ℕ → Bool

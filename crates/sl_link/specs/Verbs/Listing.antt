@@ -28,8 +28,8 @@ listing line last frames_of recording = lines_from line [] (frames_of recording)
     ++ last (frames_of recording) (rest_after (frames_of recording) recording)
 
 -- the text of a recording, and its counts
-abbrev pub text_of : (List ℕ → List (List ℕ)) → Listing → List ℕ → List ℕ
-text_of frames_of l = listing l.line l.last frames_of
+abbrev pub listing_text : (List ℕ → List (List ℕ)) → Listing → List ℕ → List ℕ
+listing_text frames_of l = listing l.line l.last frames_of
 
 abbrev pub counts_of : (List ℕ → List (List ℕ)) → Listing → List ℕ → Counts
 counts_of frames_of l = listing_counts l.counts frames_of

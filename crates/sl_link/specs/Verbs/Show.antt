@@ -1,6 +1,4 @@
 -- What `show` lists.
-pub mod Farms
-pub mod ListedTc
-pub mod ListedTm
+pub mod Shown
 pub mod Tc
 pub mod Tm

@@ -63,7 +63,7 @@ impl Lines {
     }
 
     /// There may be no room for one line more.
-    pub fn is_full(&self) -> bool
+    pub fn lacks_room_for_a_frame(&self) -> bool
         ensures { result ≡ nat_lt lines_size (length self.now + reserve) }
     {
         self.len + RESERVE > LINES_SIZE
@@ -114,7 +114,7 @@ impl Lines {
         ensures long { length self.new ≤ length self.old + 20 }
     {
         match u8::try_from(number) {
-            Ok(small) => self.push_octet(small),
+            Ok(small) => self.push_small_number(small),
             Err(_) => self.push_long(number),
         }
     }
@@ -168,7 +168,7 @@ impl Lines {
 
     /// Adds a number of one octet in decimal. Most numbers of a listing are such, and this is faster.
     #[inline(always)]
-    pub fn push_octet(&mut self, number: u8)
+    pub fn push_small_number(&mut self, number: u8)
         requires { HasRoomFor 4 self.old }
         ensures text { self.new ≡ self.old ++ decimal number }
         ensures short { length self.new ≤ length self.old + 3 }
@@ -179,7 +179,7 @@ impl Lines {
 
     /// Adds octets in hexadecimal.
     #[inline(always)]
-    pub fn push_hexadecimal(&mut self, octets: &[u8])
+    pub fn push_hex(&mut self, octets: &[u8])
         requires { HasRoomFor (2 * length octets.now) self.old }
         ensures { self.new ≡ self.old ++ encode_lower octets.now }
     {
@@ -190,7 +190,7 @@ impl Lines {
 
     /// Adds a word in hexadecimal.
     #[inline(always)]
-    pub fn push_hex(&mut self, word: &[u8; 4])
+    pub fn push_hex_word(&mut self, word: &[u8; 4])
         requires { HasRoomFor 8 self.old }
         ensures text { self.new ≡ self.old ++ encode_lower word.now }
         ensures len { length self.new ≡ length self.old + 8 }

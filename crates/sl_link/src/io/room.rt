@@ -17,7 +17,7 @@ pub fn make_room<W: Write>(writer: &mut Counted<W>, lines: &mut Lines) -> Result
     ensures room { OnOk result (HasRoom lines.new) }
     ensures fault { IfErr result (StopsWriting W.contents writer.old writer.new lines.old) }
 {
-    if !lines.is_full() {
+    if !lines.lacks_room_for_a_frame() {
         return Ok(());
     }
     flush(writer, lines)?;
@@ -36,7 +36,7 @@ pub fn flush<W: Write>(writer: &mut Counted<W>, lines: &mut Lines) -> Result<(),
 }
 
 /// Adds the line of a remainder at this offset, with its number of octets.
-pub fn rest_line(lines: &mut Lines, offset: u64, octets: u64)
+pub fn remainder_line(lines: &mut Lines, offset: u64, octets: u64)
     requires { HasRoom lines.old }
     ensures text { lines.new ≡ lines.old ++ line_at offset (codes " rest " ++ decimal octets) }
     ensures short { length lines.new ≤ length lines.old + 50 }

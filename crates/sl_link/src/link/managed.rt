@@ -122,8 +122,8 @@ impl Managed {
 
     /// The spacecraft identifier, 0 to 1023.
     ///
-    /// Every `Managed` meets the premise of the [`laws`](crate::laws): none of its parameters is refused, and the
-    /// initial V(R) of each virtual channel is one octet.
+    /// Every `Managed` meets the premise of the [`laws`](crate::laws) on normal forms: none of its parameters is refused,
+    /// and the initial V(R) of each virtual channel is one octet.
     pub fn spacecraft(&self) -> u16
         ensures value { result ≡ self.now.spacecraft }
         ensures accepted { AreAccepted self.now }

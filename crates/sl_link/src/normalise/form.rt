@@ -1,5 +1,5 @@
 //! A normal form that is written piece by piece.
-ghost use Rattle.std.specs.Prelude.{◌≡◌, ◌≤◌, [], ℕ, List, IfErr, OnOk, length, vec_len};
+ghost use Rattle.std.specs.Prelude.{◌≡◌, ◌≤◌, [], ℕ, List, IfErr, OnOk, vec_len};
 ghost use Rattle.std.specs.Vec.{vec_capacity};
 ghost use Rattle.sl_link.specs.Io.Streams.{AddsText, StopsWriting, WritesText};
 ghost use Rattle.sl_link.specs.Normalise.Form.{StopsForm};

@@ -1,16 +1,8 @@
 //! The packets of a recording as lines.
-ghost use Rattle.std.specs.Prelude.{◌≡◌, ℕ, ◌++◌, ◌∷◌, [], List, IfOk, IfErr, OnOk};
-ghost use Rattle.sl_tcframe.specs.TcDelimited.{tc_frames_of};
-ghost use Rattle.sl_tmframe.specs.TmDelimited.{tm_frames_of};
-ghost use Rattle.sl_link.specs.Kind.Delivery.{Brings};
-ghost use Rattle.sl_link.specs.Kind.Tc.{WantsMemoryTc, tc_counts};
-ghost use Rattle.sl_link.specs.Kind.Tm.{WantsMemoryTm, tm_counts};
-ghost use Rattle.sl_link.specs.Link.Managed.{tc_format};
-ghost use Rattle.sl_link.specs.Verbs.Packets.Tc.{packets_tc_text};
-ghost use Rattle.sl_link.specs.Verbs.Packets.Tm.{packets_tm_text};
-ghost use Rattle.sl_link.specs.Io.Streams.{AddsText, Stops, Translates, TranslatesAndCounts};
-ghost use Rattle.sl_link.specs.Verbs.Listing.{StopsListingFrames, WantedMemory};
-ghost use Rattle.sl_link.specs.Pass.{chunk_size};
+ghost use Rattle.std.specs.Prelude.{ℕ, ◌++◌, ◌∷◌, [], List, IfOk, IfErr, OnOk};
+ghost use Rattle.sl_link.specs.Kind.Delivery.{Brings, HasHandedOver};
+ghost use Rattle.sl_link.specs.Io.Streams.{AddsText};
+ghost use Rattle.sl_link.specs.Verbs.Listing.{StopsListingFrames};
 
 mod lines;
 mod printer;
@@ -21,91 +13,13 @@ use crate::link::counted::Counted;
 use crate::link::fault::{LinkFault, of_flow};
 use crate::link::managed::Managed;
 use crate::link::totals::Totals;
-use crate::pass::CHUNK_SIZE;
 use crate::tally::{FrameReport, Tally};
+use crate::verbs::Verb;
 use crate::verbs::packets::printer::{ChannelKind, Printer};
-use crate::verbs::{Verb, list};
 use sl_tcflow::Receiver;
-use sl_tcframe::TcFramer;
 use sl_tmflow::Extractor;
-use sl_tmframe::TmFramer;
 use std::alloc::Global;
-use std::io::{Read, Write};
-
-/// Reads a recording of TM transfer frames to its end, and writes a line for each packet that its frames deliver, in
-/// the order of the frames in which they end (docs/listings.md). It keeps one frame at most, and the packet that is
-/// incomplete on each virtual channel.
-///
-/// The fault is `Read` where the reader had one, `TooLong` where more octets came than the managed limit, `Memory`
-/// where memory was refused, which is wanted only where a packet is incomplete on the virtual channel of a frame,
-/// before the frame or after it, and `Write` where the writer had one.
-pub fn packets_tm<R: Read, W: Write>(
-    alloc: Global,
-    managed: &Managed,
-    reader: &mut Counted<R>,
-    writer: &mut Counted<W>,
-) -> Result<Totals, LinkFault>
-    // All is read, and its listing is written and nothing else.
-    ensures listing { OnOk result (Translates R.remaining W.contents reader.old reader.new
-        writer.old writer.new (packets_tm_text managed.now) managed.now.max_octets) }
-    // The totals are those of what was read.
-    ensures totals { IfOk result (TranslatesAndCounts R.remaining W.contents reader.old reader.new
-        writer.old writer.new (packets_tm_text managed.now) (tm_counts managed.now)
-        managed.now.max_octets) }
-    // After a fault, whose cause is there, a prefix of the listing of what was read is written.
-    ensures fault { IfErr result (Stops R.remaining W.contents reader.old reader.new
-        writer.old writer.new (packets_tm_text managed.now) managed.now.max_octets chunk_size) }
-    // Memory is refused only where, around some frame of what was read, a packet is incomplete on its virtual channel.
-    ensures memory { IfErr result (λ fault. fault ≡ LinkFault.Memory
-        → WantedMemory R.remaining reader.old reader.new (tm_frames_of managed.now.tm_length)
-        (WantsMemoryTm managed.now)) }
-{
-    let mut buffer = [0; CHUNK_SIZE];
-    let mut framer = TmFramer::new(&managed.tm);
-    let mut verb = Packets {
-        delivery: Extractor::new(alloc),
-        so_far: Tally::new(),
-    };
-    list(managed, &mut framer, &mut verb, reader, writer, &mut buffer)
-}
-
-/// Reads a recording of TC transfer frames to its end, and writes a line for each packet that its frames deliver, in
-/// the order of the frames whose accepted units end the series that they are of (docs/listings.md). It keeps one frame
-/// at most, the FARM-1 of 64 virtual channels, and the series that is incomplete on each MAP.
-///
-/// The fault is `Read` where the reader had one, `TooLong` where more octets came than the managed limit, `Memory`
-/// where memory was refused, which is wanted only where the unit of a frame is accepted and a series is incomplete on
-/// its MAP, before the frame or after it, and `Write` where the writer had one.
-pub fn packets_tc<R: Read, W: Write>(
-    alloc: Global,
-    managed: &Managed,
-    reader: &mut Counted<R>,
-    writer: &mut Counted<W>,
-) -> Result<Totals, LinkFault>
-    // All is read, and its listing is written and nothing else.
-    ensures listing { OnOk result (Translates R.remaining W.contents reader.old reader.new
-        writer.old writer.new (packets_tc_text managed.now) managed.now.max_octets) }
-    // The totals are those of what was read.
-    ensures totals { IfOk result (TranslatesAndCounts R.remaining W.contents reader.old reader.new
-        writer.old writer.new (packets_tc_text managed.now) (tc_counts managed.now)
-        managed.now.max_octets) }
-    // After a fault, whose cause is there, a prefix of the listing of what was read is written.
-    ensures fault { IfErr result (Stops R.remaining W.contents reader.old reader.new
-        writer.old writer.new (packets_tc_text managed.now) managed.now.max_octets chunk_size) }
-    // Memory is refused only where the unit of some frame of what was read is accepted, and a series is incomplete
-    // around it on its MAP.
-    ensures memory { IfErr result (λ fault. fault ≡ LinkFault.Memory
-        → WantedMemory R.remaining reader.old reader.new (tc_frames_of (tc_format managed.now))
-        (WantsMemoryTc managed.now)) }
-{
-    let mut buffer = [0; CHUNK_SIZE];
-    let mut framer = TcFramer::new(&managed.tc);
-    let mut verb = Packets {
-        delivery: Receiver::new(alloc, managed.window, &managed.starts, managed.plain),
-        so_far: Tally::new(),
-    };
-    list(managed, &mut framer, &mut verb, reader, writer, &mut buffer)
-}
+use std::io::Write;
 
 /// How the packets of a kind of frames are listed.
 pub trait Printed: Delivery {
@@ -140,11 +54,24 @@ impl Printed for Receiver {
     }
 }
 
-// Lists the packets that end in the frames.
+/// Lists the packets that end in the frames.
 #[derive(Drop)]
-struct Packets<D: Printed> {
+pub struct Packets<D: Printed> {
     delivery: D,
     so_far: Tally,
+}
+
+impl<D: Printed> Packets<D> {
+    /// No packets yet.
+    pub fn begin(alloc: Global, managed: &Managed) -> Packets<D>
+        ensures { HasHandedOver (D.kind managed.now) (D.has_processed result.delivery managed.now)
+            [] result.so_far }
+    {
+        Packets {
+            delivery: D::begin(alloc, managed),
+            so_far: Tally::new(),
+        }
+    }
 }
 
 impl<D: Printed> Verb for Packets<D> {

@@ -1,9 +1,83 @@
 //! The frames of a recording as lines.
-mod farms;
+ghost use Rattle.std.specs.Prelude.{[]};
+ghost use Rattle.sl_link.specs.Verbs.Show.Shown.{HasShown};
+
 pub mod lines_tc;
 pub mod lines_tm;
-mod tc;
-mod tm;
+pub mod shown;
 
-pub use tc::show_tc;
-pub use tm::show_tm;
+use crate::io::lines::Lines;
+use crate::io::room::{make_room, remainder_line};
+use crate::link::counted::Counted;
+use crate::link::fault::LinkFault;
+use crate::link::managed::Managed;
+use crate::link::totals::Totals;
+use crate::tally::{FrameReport, SKIPPED, Tally};
+use crate::verbs::Verb;
+use crate::verbs::show::shown::Shown;
+use std::io::Write;
+
+/// Lists the frames.
+#[derive(Drop)]
+pub struct Show<S: Shown> {
+    so_far: Tally,
+    shown: S,
+}
+
+impl<S: Shown> Show<S> {
+    /// No frame yet.
+    pub fn begin(managed: &Managed) -> Show<S>
+        ensures { HasShown (S.is_skipped managed.now) (S.has_shown result.shown managed.now) []
+            result.so_far }
+    {
+        Show {
+            so_far: Tally::new(),
+            shown: S::begin(managed),
+        }
+    }
+}
+
+impl<S: Shown> Verb for Show<S> {
+    ghost use Rattle.sl_link.specs.Verbs.Show.Shown.{HasShown, show_listing};
+
+    ghost is_frame = { S.is_frame };
+
+    ghost listing = { λ p. show_listing (S.is_skipped p) (S.line p) };
+
+    ghost has_listed = { λ verb p frames. HasShown (S.is_skipped p) (S.has_shown verb.shown p)
+        frames verb.so_far };
+
+    ghost wants_memory = { λ p frames. ⊥ };
+
+    fn frame<W: Write>(
+        &mut self,
+        managed: &Managed,
+        frame: &[u8],
+        writer: &mut Counted<W>,
+        lines: &mut Lines,
+    ) -> Result<(), LinkFault> {
+        make_room(writer, lines)?;
+        let is_skipped = self.shown.show(managed, frame, self.so_far.octets, lines);
+        let report = FrameReport {
+            is_skipped,
+            ..SKIPPED
+        };
+        self.so_far.add(frame.len() as u64, report);
+        Ok(())
+    }
+
+    fn finish<W: Write>(
+        &self,
+        _managed: &Managed,
+        octets: u64,
+        writer: &mut Counted<W>,
+        lines: &mut Lines,
+    ) -> Result<Totals, LinkFault> {
+        make_room(writer, lines)?;
+        let rest = octets - self.so_far.octets;
+        if rest > 0 {
+            remainder_line(lines, self.so_far.octets, rest);
+        }
+        Ok(self.so_far.totals(rest, 0))
+    }
+}

@@ -7,7 +7,7 @@ use Rattle.sl_link.specs.declared.link.fault.LinkFault.{LinkFault}
 use Rattle.sl_link.specs.declared.link.fault.LinkFault.TheVariants.{Read, TooLong, Memory, Write}
 use Rattle.sl_link.specs.Link.Counted.{stream_of, faults_of}
 use Rattle.sl_link.specs.Io.Streams.{AddsText, IsListingFault, StopsListing, StopsWriting, WritesText}
-use Rattle.sl_link.proofs.lemmas.Io.Faults.{HasFailed-since, split_front}
+use Rattle.sl_link.proofs.lemmas.Io.Faults.{HadOneFault-since, split_front}
 
 module _ {W : Type 0} (contents : W → Option (List ℕ)) where
   pub AddsText-trans : (old mid new : Counted W) (pending pending' pending'' text more : List ℕ)
@@ -54,7 +54,7 @@ module _ {W : Type 0} (contents : W → Option (List ℕ)) where
   since old mid new Read kept cause = cause
   since old mid new TooLong kept cause = cause
   since old mid new Memory kept cause = cause ∙ kept
-  since old mid new Write kept cause = HasFailed-since old mid new kept cause
+  since old mid new Write kept cause = HadOneFault-since old mid new kept cause
 
   -- a fault after a text was added, with more of the text to come
   pub stops_later : (old mid new : Counted W) (pending pending' text next more whole : List ℕ) (fault : LinkFault)

@@ -9,12 +9,12 @@ use Rattle.sl_fields.proofs.ListLemmas.{concat-push}
 use Rattle.sl_packet.specs.declared.flow_fault.FlowFault.{FlowFault}
 use Rattle.sl_packet.specs.declared.flow_fault.FlowFault.TheVariants.{Memory}
 use Rattle.sl_packet.specs.declared.sink.SinkFault.{SinkFault}
-use Rattle.sl_packet.specs.Delivered.{AddsPacket, PacketLists, channel_count, no_lists}
+use Rattle.sl_packet.specs.Delivered.{AddsPacket, PacketLists, empty_lists}
 use Rattle.sl_packet.specs.Packet.{is_idle_packet}
 use Rattle.sl_packet.specs.Packets.{only_idle, without_idle}
 use Rattle.sl_packet.specs.Sink.{TakesAll}
 use Rattle.sl_packet.specs.Stopping.{IsStopped}
-use Rattle.sl_packet.proofs.DeliveredLemmas.{length-no_lists, list_at-no_lists, list_at-with_packet}
+use Rattle.sl_packet.proofs.DeliveredLemmas.{length-empty_lists, list_at-empty_lists, list_at-with_packet}
 use Rattle.sl_link.specs.declared.tally.FrameReport.{FrameReport}
 use Rattle.sl_link.specs.declared.tally.Tally.{Tally}
 use Rattle.sl_link.specs.Kind.Delivery.{AreDelivered, AreKept, Brings, Delivers, StopsDelivering, HasDelivered, HasHandedOver, IsReport, IsWithin, Kind, count_of, counted, idle_in, lists_in, packets_in, with_frame, with_packets}
@@ -178,12 +178,12 @@ takes_all (packet ∷ packets) old new channel inside t =
     ∙ set-set old.lists channel one (one ++ packets) ∙ ap (slice_set old.lists channel) (append_assoc before (packet ∷ []) packets)
 
 module _ (k : Kind) (laws : AreDelivered k) where
-  pub none_kept : (lists : List (List (List ℕ))) → lists ≡ no_lists → AreKept k [] lists
+  pub none_kept : (lists : List (List (List ℕ))) → lists ≡ empty_lists → AreKept k [] lists
   none_kept lists none =
       record {
-        size = ap length none ∙ length-no_lists;
-        each = λ channel below. ap (λ l. slice_index_or {A = List (List ℕ)} l channel []) none ∙ list_at-no_lists channel ∙ sym (ap without_idle (laws.none channel));
-        none_past = λ channel past. ap (λ l. slice_index_or {A = List (List ℕ)} l channel []) none ∙ list_at-no_lists channel;
+        size = ap length none ∙ length-empty_lists;
+        each = λ channel below. ap (λ l. slice_index_or {A = List (List ℕ)} l channel []) none ∙ list_at-empty_lists channel ∙ sym (ap without_idle (laws.none channel));
+        none_past = λ channel past. ap (λ l. slice_index_or {A = List (List ℕ)} l channel []) none ∙ list_at-empty_lists channel;
       }
 
   -- one frame more

@@ -1,5 +1,5 @@
 -- What TM frames deliver, as a kind.
-use Rattle.std.proofs.Common.{◌≡◌, ◌≢◌, ℕ, ◌+◌, ◌-◌, ◌*◌, ◌/◌, ◌^◌, ◌<◌, ◌≤◌, ◌==◌, Bool, true, false, Option, Some, None, List, [], ◌∷◌, ◌++◌, length, take, drop, Result, Ok, Err, inl, inr, refl, sym, ◌∙◌, ap, subst, arith, append-nil, length-append, length-drop, if◌then◌else◌}
+use Rattle.std.proofs.Common.{◌≡◌, ◌≢◌, ℕ, ◌-◌, ◌*◌, ◌/◌, ◌^◌, ◌<◌, ◌≤◌, ◌==◌, Bool, true, false, Option, Some, None, List, [], ◌∷◌, ◌++◌, length, take, drop, Result, Ok, Err, inl, inr, refl, sym, ◌∙◌, ap, subst, arith, append-nil, length-append, length-drop, if◌then◌else◌}
 use Rattle.std.specs.List.{concat}
 use Rattle.std.specs.Result.{result_ok}
 use Rattle.std.proofs.lemmas.Bool.Decides.{eqb_tells}
@@ -17,7 +17,7 @@ use Rattle.sl_tmflow.specs.Extraction.{ExtractorState, HasProcessed}
 use Rattle.sl_tmflow.specs.Recording.{packets_of_channel}
 use Rattle.sl_tmflow.proofs.lemmas.Delivery.Push.{ended_few, packets_of_channel_step}
 use Rattle.sl_link.specs.Kind.Tm.{HasProcessedTm, WantsMemoryTm, as_read, ended_in, is_incomplete_around, tm_kind, vc_of}
-use Rattle.sl_link.specs.Kind.Delivery.{AreDelivered, IsWithin, idle_in, packets_in, with_frame}
+use Rattle.sl_link.specs.Kind.Delivery.{AreDelivered, with_frame}
 use Rattle.sl_link.specs.Link.Managed.{Parameters, tm_format}
 use Rattle.sl_link.proofs.lemmas.Kind.Delivery.{idle_more, none_within, packets_more, views_step}
 

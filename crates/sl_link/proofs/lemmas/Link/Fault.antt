@@ -16,10 +16,10 @@ never_failed has_failed result fault is left working e = absurd (let failed = le
 
 -- a sink that refuses none leaves memory alone
 pub memory_alone : {S : Type 0} (taking : S → ℕ → List ℕ → S → Type 0) (failures : S → ℕ) (packets : List (List ℕ)) (old new : S) (channel : ℕ) (fault : FlowFault)
-    → fault ≢ flow.Failed → IsStopped taking (λ old channel packet fault new. ⊥) failures old channel packets fault new → fault ≡ flow.Memory
-memory_alone taking failures packets old new channel flow.Memory ne stopped = refl
-memory_alone taking failures packets old new channel (flow.Sink fault) ne stopped = absurd stopped.0.fails
-memory_alone taking failures packets old new channel flow.Failed ne stopped = absurd (ne refl)
+    → IsStopped taking (λ old channel packet fault new. ⊥) failures old channel packets fault new → fault ≡ flow.Memory
+memory_alone taking failures packets old new channel flow.Memory stopped = refl
+memory_alone taking failures packets old new channel (flow.Sink fault) stopped = absurd stopped.0.fails
+memory_alone taking failures packets old new channel flow.Failed stopped = absurd stopped
 
 -- ---- the store of delivered packets
 

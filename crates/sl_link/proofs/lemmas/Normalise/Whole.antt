@@ -1,47 +1,21 @@
 -- A recording that is read whole, and a text of it that is written after that.
-use Rattle.std.proofs.Common.{◌≡◌, ℕ, List, [], Option, refl, sym, subst}
-use Rattle.std.proofs.KnownBytes.{Appends-nil}
+use Rattle.std.proofs.Common.{◌≡◌, ℕ, List, Option, refl, sym, subst}
 use Rattle.sl_link.specs.declared.link.counted.Counted.{Counted}
 use Rattle.sl_link.specs.declared.link.fault.LinkFault.{LinkFault}
 use Rattle.sl_link.specs.declared.link.fault.LinkFault.TheVariants.{Read, TooLong, Memory, Write}
-use Rattle.sl_link.specs.Link.Counted.{stream_of}
-use Rattle.sl_link.specs.Io.Streams.{KeepsPackets, ReadsAll, StopsReadingAll, IsReadingAllFault, IsCaused, WritesPrefix, WritesText, StopsWriting, Translates, TranslatesAndCounts, Stops}
+use Rattle.sl_link.specs.Io.Streams.{KeepsPackets, ReadsAll, WritesPrefix, WritesText, StopsWriting, Translates, TranslatesAndCounts, Stops}
 use Rattle.sl_link.specs.Link.Totals.{Counts}
 use Rattle.sl_link.specs.Normalise.Form.{StopsForm}
+use Rattle.sl_link.proofs.lemmas.Normalise.Storing.{nothing_written}
 use Rattle.sl_link.proofs.lemmas.Io.Faults.{caused_writing}
 
 module _ {R W : Type 0} (remaining : R → Option (List ℕ)) (contents : W → Option (List ℕ)) (reader reader' : Counted R) (text : List ℕ → List ℕ) (limit buffer : ℕ) where
-  caused : (writer : Counted W) (octets : List ℕ) (fault : LinkFault) → IsReadingAllFault reader reader' limit buffer octets fault → IsCaused remaining contents reader reader' writer writer limit buffer octets fault
-  caused writer octets Read cause = (cause.0, refl, cause.1)
-  caused writer octets TooLong cause = (cause.0, refl, cause.1, cause.2)
-  caused writer octets Memory cause = (cause.0, refl, cause.1)
-  caused writer octets Write cause = absurd cause
-
-  nothing_written : (writer : Counted W) (octets : List ℕ) → WritesPrefix contents writer writer (text octets)
-  nothing_written writer octets =
-      record {
-        written = [];
-        missing = text octets;
-        front = refl;
-        writes = Appends-nil (contents (stream_of writer));
-      }
-
-  -- a fault before anything was written
-  pub stops_at_reading : (writer : Counted W) (fault : LinkFault) → StopsReadingAll remaining reader reader' limit buffer fault → Stops remaining contents reader reader' writer writer text limit buffer fault
-  stops_at_reading writer fault s =
-      record {
-        octets = s.octets;
-        read = s.read;
-        written = nothing_written writer s.octets;
-        cause = caused writer s.octets fault s.cause;
-      }
-
   pub stops_for_memory : (writer : Counted W) (octets : List ℕ) (fault : LinkFault) → ReadsAll remaining reader reader' limit octets → fault ≡ Memory → Stops remaining contents reader reader' writer writer text limit buffer fault
   stops_for_memory writer octets fault r is_memory =
       subst (λ f. Stops remaining contents reader reader' writer writer text limit buffer f) (sym is_memory) (record {
         octets = octets;
         read = r.read;
-        written = nothing_written writer octets;
+        written = nothing_written contents writer (text octets);
         cause = (r.no_fault, refl, r.within);
       })
 

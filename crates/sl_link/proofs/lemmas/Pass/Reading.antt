@@ -10,7 +10,7 @@ use Rattle.sl_link.specs.Link.Counted.{stream_of, faults_of}
 use Rattle.sl_link.specs.Io.Streams.{Reads, IsRead, StopsReading, IsReadFault}
 use Rattle.sl_link.specs.Pass.{TakesChunk, StopsInChunk, PassesOver, StopsPassing, IsReadersFault}
 use Rattle.std.proofs.lemmas.List.Folds.{concat-append}
-use Rattle.sl_link.proofs.lemmas.Io.Faults.{HasFailed-since}
+use Rattle.sl_link.proofs.lemmas.Io.Faults.{HadOneFault-since}
 
 module _ {R F S : Type 0} (remaining : R → Option (List ℕ)) (is_frame : List ℕ → Type 0) (waits : F → List ℕ → Type 0) (frames_of : List ℕ → List (List ℕ)) (took : S → S → List (List ℕ) → Type 0) (reader : Counted R) (start : S) (limit : ℕ) where
   -- this number of octets was read, and their frames were taken
@@ -109,7 +109,7 @@ module _ {R F S : Type 0} (remaining : R → Option (List ℕ)) (is_frame : List
     module _ (stopped : S → S → List (List ℕ) → LinkFault → Type 0) (room : ℕ) where
       caused : (reader' : Counted R) (buffer octets : List ℕ) (fault : LinkFault) → length buffer ≡ room → length octets ≤ length buffer → IsReadFault mid reader' (limit - n) octets fault → IsReadersFault reader reader' limit room (s.octets ++ octets) fault
       caused reader' buffer octets Read fits inside cause =
-          (HasFailed-since reader mid reader' s.no_fault cause.0, omega (arith, s.size, s.allowed, length-append s.octets octets, ap length cause.1))
+          (HadOneFault-since reader mid reader' s.no_fault cause.0, omega (arith, s.size, s.allowed, length-append s.octets octets, ap length cause.1))
       caused reader' buffer octets TooLong fits inside cause =
           (cause.0 ∙ s.no_fault, omega (arith, cause.1, s.size, s.allowed, length-append s.octets octets), omega (arith, fits, inside, s.size, s.allowed, length-append s.octets octets))
       caused reader' buffer octets Memory fits inside cause = absurd cause

@@ -6,7 +6,7 @@ use Rattle.std.proofs.lemmas.List.Elements.{All-append, All-nil}
 use Rattle.sl_fields.specs.Field.{IsOctets}
 use Rattle.sl_tcframe.specs.TcDelimited.{front_len, tc_frames_of}
 use Rattle.sl_tcframe.specs.TcFrame.{is_cut}
-use Rattle.sl_tcframe.specs.TcFraming.{BelowLeast, HasTaken, IsRest, IsStuck, TcFraming, WholeFrame, YieldsFrame, YieldsNone, after_call}
+use Rattle.sl_tcframe.specs.TcFraming.{HasTaken, IsRest, IsStuck, TcFraming, WholeFrame, YieldsFrame, YieldsNone, after_call}
 use Rattle.sl_tcframe.proofs.ChunkLemmas.{below_again, less_than_whole, none_below, pause_parts, pause_rest, rest_is_no_frame}
 use Rattle.sl_tcframe.proofs.DelimitedLemmas.{frames_of-none}
 use Rattle.sl_tcframe.proofs.FramingLemmas.{below_is_not_whole, below_stays, fits_rest, front_tells}

@@ -15,7 +15,7 @@ use Rattle.sl_link.specs.declared.program.command_line.Engine.TheVariants.{ShowT
 use Rattle.sl_link.specs.declared.program.command_line.Asked.{Asked}
 use Rattle.sl_link.specs.Program.Answer.{EndsAsHelp, WithAnswer, WithText, version_line}
 use Rattle.sl_link.specs.Program.CommandLine.{AskForHelp, AskForVersion, IsRefusal, managed_asked}
-use Rattle.sl_link.specs.Link.Counted.{stream_of, faults_of, HasFailed}
+use Rattle.sl_link.specs.Link.Counted.{stream_of, faults_of, HadOneFault}
 use Rattle.sl_link.specs.Pass.{chunk_size}
 use Rattle.sl_link.specs.Program.Engine.{text_of, counts_of, is_check}
 use Rattle.sl_link.specs.Link.Managed.{Parameters}
@@ -52,7 +52,7 @@ check_met NormaliseTc p octets some = absurd (some refl)
 module _ {R W : Type 0} (remaining : R → Option (List ℕ)) (contents : W → Option (List ℕ)) where
   -- where the flush fails, all of the text is in its place, but the writer had a fault
   pub stopped_flushing : (reader reader' : Counted R) (writer mid writer' : Counted W) (asked : Asked) (managed : Parameters) (totals : Counts) (fault : LinkFault)
-      → HasWritten remaining contents reader reader' writer mid asked managed totals → Keeps (contents (stream_of mid)) (contents (stream_of writer')) → fault ≡ Write → HasFailed mid writer'
+      → HasWritten remaining contents reader reader' writer mid asked managed totals → Keeps (contents (stream_of mid)) (contents (stream_of writer')) → fault ≡ Write → HadOneFault mid writer'
       → IsStoppedBy remaining contents reader reader' writer writer' asked managed fault
   stopped_flushing reader reader' writer mid writer' asked managed totals fault counted kept is_write failed =
       let t = counted.translated in

@@ -1,6 +1,5 @@
-pub mod EndTc
-pub mod EndTm
+pub mod End
 pub mod FewTc
-pub mod IncompleteTc
-pub mod IncompleteTm
+pub mod FewTm
 pub mod Lines
+pub mod Open

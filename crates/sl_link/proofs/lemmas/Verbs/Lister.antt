@@ -1,5 +1,5 @@
 -- A listing that grows frame by frame.
-use Rattle.std.proofs.Common.{◌≡◌, ℕ, List, [], ◌∷◌, ◌++◌, Option, sym, ◌∙◌, ap, subst, append_assoc, append-nil}
+use Rattle.std.proofs.Common.{◌≡◌, ℕ, List, [], ◌∷◌, ◌++◌, Option, refl, sym, ◌∙◌, ap, subst, append_assoc, append-nil}
 use Rattle.std.specs.Prelude.{Result, Ok, Err, OnOk, IfErr}
 use Rattle.std.proofs.KnownBytes.{Appends-trans}
 use Rattle.sl_link.specs.declared.link.counted.Counted.{Counted}
@@ -8,6 +8,7 @@ use Rattle.sl_link.specs.declared.link.fault.LinkFault.TheVariants.{Memory, Writ
 use Rattle.sl_link.specs.Link.Counted.{stream_of}
 use Rattle.sl_link.specs.Io.Streams.{AddsText, WritesText, StopsWriting}
 use Rattle.sl_link.specs.Verbs.Listing.{lines_from, StopsListingFrames}
+use Rattle.sl_link.proofs.lemmas.Io.Streams.{AddsText-nil}
 use Rattle.sl_link.proofs.lemmas.Io.Adding.{AddsText-trans, stops_later, stops_waiting, stops_at_writer}
 
 pub both_ok : {T E P Q X : Type 0} (r : Result T E) → OnOk r P → OnOk r Q → (P → Q → X) → OnOk r X
@@ -32,6 +33,9 @@ module _ {X : Type 0} (line : List (List ℕ) → List ℕ → List X) where
   pub lines_from-last : (xs : List (List ℕ)) (x : List ℕ) → lines_from line [] (xs ++ x ∷ []) ≡ lines_from line [] xs ++ line xs x
   lines_from-last xs x = lines_from-append [] xs (x ∷ []) ∙ ap (λ l. lines_from line [] xs ++ l) (append-nil (line xs x))
 
+write_not_memory : (fault : LinkFault) → fault ≡ Write → fault ≡ Memory → ⊥
+write_not_memory fault e h = absurd (cc)
+
 module _ {W : Type 0} (contents : W → Option (List ℕ)) (line : List (List ℕ) → List ℕ → List ℕ) (old mid new : Counted W) (pending pending' : List ℕ) (frames : List (List ℕ)) (a : AddsText contents old mid pending pending' (lines_from line [] frames)) where
   pub frame_added : (pending'' frame : List ℕ) → AddsText contents mid new pending' pending'' (line frames frame) → AddsText contents old new pending pending'' (lines_from line [] (frames ++ frame ∷ []))
   frame_added pending'' frame b =
@@ -54,9 +58,6 @@ module _ {W : Type 0} (contents : W → Option (List ℕ)) (line : List (List �
     memory = s.memory;
   }
 
-  write_not_memory : (fault : LinkFault) → fault ≡ Write → fault ≡ Memory → ⊥
-  write_not_memory fault e h = absurd (cc)
-
   pub flush_stopped : (wants_memory : Type 0) (fault : LinkFault) → StopsWriting contents mid new pending' fault
       → StopsListingFrames contents old new (pending ++ lines_from line [] frames) wants_memory fault
   flush_stopped wants_memory fault s = record {
@@ -64,3 +65,11 @@ module _ {W : Type 0} (contents : W → Option (List ℕ)) (line : List (List �
         (ap (λ l. pending ++ l) (append-nil (lines_from line [] frames)));
     memory = λ h. absurd (write_not_memory fault s.is_write h);
   }
+
+-- a fault of writing what waits, with more to come
+pub stops_before : {W : Type 0} (contents : W → Option (List ℕ)) (old new : Counted W) (pending more : List ℕ) (wants_memory : Type 0) (fault : LinkFault)
+    → StopsWriting contents old new pending fault → StopsListingFrames contents old new (pending ++ more) wants_memory fault
+stops_before contents old new pending more wants_memory fault s = record {
+  front = stops_waiting contents old old new pending pending [] more _ fault (AddsText-nil contents old pending) (stops_at_writer contents old new pending fault s) refl;
+  memory = λ e. absurd (write_not_memory fault s.is_write e);
+}

@@ -1,20 +1,29 @@
 use Rattle.std.proofs.Common.{◌≤◌, ◌-◌, ◌∙◌, [], ap₂, arith, length, refl, subst}
 use Rattle.std.specs.List.{concat}
+use Rattle.std.proofs.lemmas.Result.{err_from_is_err_and}
 use Rattle.sl_link.specs.Kind.Delivery.{AreKept, counted}
 use Rattle.sl_link.proofs.lemmas.Kind.Delivery.{none_handed, none_kept, handed_totals}
+use Rattle.sl_link.proofs.lemmas.Normalise.Storing.{stops_keeping}
 use Rattle.sl_link.proofs.normalise.deliver.Goals as goal
 
 pub read_recording-requires-clause-begun : goal.read_recording-requires-clause-begun
 read_recording-requires-clause-begun g c =
     let p = c.args.managed.now in
     let k = g.D.Delivery.kind p in
-    let had = c.requires.begun in
+    let had = c.begin.ensures in
     let laws = (g.met.D.Delivery.within _ p [] had).delivered in
-    let none = g.D.Delivery.has_processed c.args.delivery p in (
+    let none = g.D.Delivery.has_processed c.begin.result p in (
       refl,
       none_handed k laws none none _ had c.new.ensures.octets c.new.ensures.frames c.new.ensures.skipped c.new.ensures.packets c.new.ensures.idle c.new.ensures.anomalies,
       none_kept k laws _ c.new-2.ensures.lists,
     )
+
+pub returns-in_err-octets-clause-stopped : goal.returns-in_err-octets-clause-stopped
+returns-in_err-octets-clause-stopped g c =
+    let p = c.args.managed.now in
+    let out = err_from_is_err_and c.from_residual.result c.from_residual.ensures.1 in
+    rw (out.1, out.2) (stops_keeping g.R.Read.remaining c.args.reader.now c.read_recording.new.reader (g.D.Delivery.kind p) (g.D.Delivery.wants_memory p) _ 65536
+    (g.F.Framer.frames_of p) _ c.requires.frames _ c.in_err-octets.ensures.fault)
 
 pub returns-clause-all : goal.returns-clause-all
 returns-clause-all g c =

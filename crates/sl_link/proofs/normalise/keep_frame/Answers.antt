@@ -1,4 +1,4 @@
-use Rattle.std.proofs.Common.{◌+◌, ◌++◌, ◌∷◌, ◌∙◌, [], arith, inl, inr}
+use Rattle.std.proofs.Common.{◌∙◌, arith, inl, inr}
 use Rattle.sl_link.proofs.lemmas.Kind.Delivery.{packets_more}
 use Rattle.sl_link.proofs.lemmas.Link.Fault.{memory_refused, wanted_or_some}
 use Rattle.sl_link.proofs.normalise.keep_frame.Goals as goal

@@ -4,8 +4,8 @@ use Rattle.sl_link.specs.Kind.Delivery.{MayWantMemory, counted, packets_of}
 use Rattle.sl_link.specs.Normalise.Store.{form_text}
 use Rattle.sl_link.specs.Tally.{listing_counts}
 use Rattle.sl_link.proofs.lemmas.Normalise.Form.{nothing_of_form, wanted_for_form}
-use Rattle.sl_link.proofs.lemmas.Normalise.Whole.{counts_whole, keeps_packets, stops_at_form, stops_at_reading, translates_whole}
-use Rattle.sl_link.proofs.lemmas.Normalise.Storing.{wanted_at_end}
+use Rattle.sl_link.proofs.lemmas.Normalise.Whole.{counts_whole, keeps_packets, stops_at_form, translates_whole}
+use Rattle.sl_link.proofs.lemmas.Normalise.Storing.{not_writing, stops_at_reading, wanted_at_end, wanted_keeping}
 use Rattle.sl_link.proofs.normalise.normalise.Goals as goal
 
 pub write-requires : goal.write-requires
@@ -14,8 +14,22 @@ write-requires g c = (c.in_ok-delivered.ensures.all.octets, c.in_ok-delivered.en
 pub returns-in_err-delivered-clause-fault : goal.returns-in_err-delivered-clause-fault
 returns-in_err-delivered-clause-fault g c =
     let p = c.args.managed.now in
+    let k = g.D.Delivery.kind p in
     let out = err_from_is_err_and c.from_residual.result c.from_residual.ensures.1 in
-    rw (out.1, out.2) (stops_at_reading g.R.Read.remaining g.W.Write.contents c.args.reader.now c.deliver.new.reader (form_text (g.D.Delivery.kind p) (g.D.Formed.form_of p)) _ 65536 c.args.writer.now _ c.in_err-delivered.ensures.fault)
+    rw (out.1, out.2) (stops_at_reading g.R.Read.remaining c.args.reader.now c.deliver.new.reader k (g.D.Delivery.wants_memory p) _ 65536 _ c.in_err-delivered.ensures.stopped
+    g.W.Write.contents c.args.writer.now (form_text k (g.D.Formed.form_of p)))
+
+pub returns-in_err-delivered-clause-all_read : goal.returns-in_err-delivered-clause-all_read
+returns-in_err-delivered-clause-all_read g c =
+    let p = c.args.managed.now in
+    let out = err_from_is_err_and c.from_residual.result c.from_residual.ensures.1 in
+    rw (out.1, out.2) (λ e. absurd (not_writing g.R.Read.remaining c.args.reader.now c.deliver.new.reader (g.D.Delivery.kind p) (g.D.Delivery.wants_memory p) _ 65536 _ c.in_err-delivered.ensures.stopped e))
+
+pub returns-in_err-delivered-clause-memory : goal.returns-in_err-delivered-clause-memory
+returns-in_err-delivered-clause-memory g c =
+    let p = c.args.managed.now in
+    let out = err_from_is_err_and c.from_residual.result c.from_residual.ensures.1 in
+    rw (out.1, out.2) (wanted_keeping g.R.Read.remaining c.args.reader.now c.deliver.new.reader (g.D.Delivery.kind p) (g.D.Delivery.wants_memory p) _ 65536 _ c.in_err-delivered.ensures.stopped)
 
 pub returns-in_err-write-clause-fault : goal.returns-in_err-write-clause-fault
 returns-in_err-write-clause-fault g c =

@@ -27,8 +27,8 @@ returns-then-taken-eq0-clause-all g c =
     passed_over g.R.Read.remaining (g.F.Framer.is_frame p) (λ f. g.F.Framer.waits f p) (g.F.Framer.frames_of p) g.S.FrameSink.took c.args.reader.now c.args.sink.now p.max_octets c.loop-taken.reader c.loop-taken.framer c.loop-taken.sink c.loop-taken.octets c.loop-taken.invariant
     c.read_some.new.reader (rw c.if-taken-eq0.true at came.read) (came.to_end c.if-taken-eq0.true (omega (arith, c.requires.room, c.read_some.auto.buffer, c.loop-taken.auto.buffer))) came.no_fault
 
-pub hand_over-requires : goal.hand_over-requires
-hand_over-requires g c =
+pub deliver_chunk-requires : goal.deliver_chunk-requires
+deliver_chunk-requires g c =
     let p = c.args.managed.now in
     let s = c.loop-taken.invariant in
     let came = c.in_ok-taken.ensures.came in
@@ -38,8 +38,8 @@ hand_over-requires g c =
     let allowed : c.in_ok-taken.taken ≤ p.max_octets - c.loop-taken.octets = omega (arith, came.allowed, limit) in
     record { ready = (c.args.sink.now, s.frames, s.rest, s.waiting, s.taken, c.requires.same, fits g.R.Read.remaining (g.F.Framer.is_frame p) (λ f. g.F.Framer.waits f p) (g.F.Framer.frames_of p) g.S.FrameSink.took c.args.reader.now c.args.sink.now p.max_octets c.loop-taken.reader c.loop-taken.framer c.loop-taken.sink c.loop-taken.octets s c.in_ok-taken.taken chunk size (omega (arith, came.allowed, s.allowed, limit))) }
 
-pub returns-in_err-hand_over-clause-fault : goal.returns-in_err-hand_over-clause-fault
-returns-in_err-hand_over-clause-fault g c =
+pub returns-in_err-deliver_chunk-clause-fault : goal.returns-in_err-deliver_chunk-clause-fault
+returns-in_err-deliver_chunk-clause-fault g c =
     let p = c.args.managed.now in
     let s = c.loop-taken.invariant in
     let came = c.in_ok-taken.ensures.came in
@@ -47,9 +47,9 @@ returns-in_err-hand_over-clause-fault g c =
     let size = length-take-le c.in_ok-taken.taken c.read_some.new.buffer came.inside in
     let chunk = take c.in_ok-taken.taken c.read_some.new.buffer in
     let allowed : c.in_ok-taken.taken ≤ p.max_octets - c.loop-taken.octets = omega (arith, came.allowed, limit) in
-    let out = err_from_is_err_and c.from_residual-in_err-hand_over.result c.from_residual-in_err-hand_over.ensures.1 in
+    let out = err_from_is_err_and c.from_residual-in_err-deliver_chunk.result c.from_residual-in_err-deliver_chunk.ensures.1 in
     rw (out.1, out.2) (stops_in_chunk g.R.Read.remaining (g.F.Framer.is_frame p) (λ f. g.F.Framer.waits f p) (g.F.Framer.frames_of p) g.S.FrameSink.took c.args.reader.now c.args.sink.now p.max_octets c.loop-taken.reader c.loop-taken.framer c.loop-taken.sink c.loop-taken.octets s g.S.FrameSink.stopped (length c.args.buffer.now)
-    c.read_some.new.reader c.hand_over.new.sink chunk c.in_ok-taken.taken _ came.read came.no_fault (sym size) allowed (c.in_err-hand_over.ensures.fault c.args.sink.now s.frames s.rest s.waiting s.taken))
+    c.read_some.new.reader c.deliver_chunk.new.sink chunk c.in_ok-taken.taken _ came.read came.no_fault (sym size) allowed (c.in_err-deliver_chunk.ensures.fault c.args.sink.now s.frames s.rest s.waiting s.taken))
 
 pub returns-in_err-pause-clause-fault : goal.returns-in_err-pause-clause-fault
 returns-in_err-pause-clause-fault g c =
@@ -61,9 +61,9 @@ returns-in_err-pause-clause-fault g c =
     let chunk = take c.in_ok-taken.taken c.read_some.new.buffer in
     let allowed : c.in_ok-taken.taken ≤ p.max_octets - c.loop-taken.octets = omega (arith, came.allowed, limit) in
     let out = err_from_is_err_and c.from_residual-in_err-pause.result c.from_residual-in_err-pause.ensures.1 in
-    let next = passing_next g.R.Read.remaining (g.F.Framer.is_frame p) (λ f. g.F.Framer.waits f p) (g.F.Framer.frames_of p) g.S.FrameSink.took c.args.reader.now c.args.sink.now p.max_octets c.loop-taken.reader c.loop-taken.framer c.loop-taken.sink c.loop-taken.octets s c.read_some.new.reader c.hand_over.new.framer c.hand_over.new.sink chunk c.in_ok-taken.taken came.read came.no_fault (sym size) allowed
-    (c.in_ok-hand_over.ensures.taken c.args.sink.now s.frames s.rest s.waiting s.taken) in
-    rw (out.1, out.2) (stops_pausing g.R.Read.remaining (g.F.Framer.is_frame p) (λ f. g.F.Framer.waits f p) (g.F.Framer.frames_of p) g.S.FrameSink.took c.args.reader.now c.args.sink.now p.max_octets c.read_some.new.reader c.hand_over.new.framer c.hand_over.new.sink (c.loop-taken.octets + c.in_ok-taken.taken) next g.S.FrameSink.stopped (length c.args.buffer.now) c.pause.new.self _ (c.in_err-pause.ensures.fault c.args.sink.now next.frames next.taken))
+    let next = passing_next g.R.Read.remaining (g.F.Framer.is_frame p) (λ f. g.F.Framer.waits f p) (g.F.Framer.frames_of p) g.S.FrameSink.took c.args.reader.now c.args.sink.now p.max_octets c.loop-taken.reader c.loop-taken.framer c.loop-taken.sink c.loop-taken.octets s c.read_some.new.reader c.deliver_chunk.new.framer c.deliver_chunk.new.sink chunk c.in_ok-taken.taken came.read came.no_fault (sym size) allowed
+    (c.in_ok-deliver_chunk.ensures.taken c.args.sink.now s.frames s.rest s.waiting s.taken) in
+    rw (out.1, out.2) (stops_pausing g.R.Read.remaining (g.F.Framer.is_frame p) (λ f. g.F.Framer.waits f p) (g.F.Framer.frames_of p) g.S.FrameSink.took c.args.reader.now c.args.sink.now p.max_octets c.read_some.new.reader c.deliver_chunk.new.framer c.deliver_chunk.new.sink (c.loop-taken.octets + c.in_ok-taken.taken) next g.S.FrameSink.stopped (length c.args.buffer.now) c.pause.new.self _ (c.in_err-pause.ensures.fault c.args.sink.now next.frames next.taken))
 
 pub loop-taken-preserved : goal.loop-taken-preserved
 loop-taken-preserved g c =
@@ -74,6 +74,6 @@ loop-taken-preserved g c =
     let size = length-take-le c.in_ok-taken.taken c.read_some.new.buffer came.inside in
     let chunk = take c.in_ok-taken.taken c.read_some.new.buffer in
     let allowed : c.in_ok-taken.taken ≤ p.max_octets - c.loop-taken.octets = omega (arith, came.allowed, limit) in
-    let next = passing_next g.R.Read.remaining (g.F.Framer.is_frame p) (λ f. g.F.Framer.waits f p) (g.F.Framer.frames_of p) g.S.FrameSink.took c.args.reader.now c.args.sink.now p.max_octets c.loop-taken.reader c.loop-taken.framer c.loop-taken.sink c.loop-taken.octets s c.read_some.new.reader c.hand_over.new.framer c.hand_over.new.sink chunk c.in_ok-taken.taken came.read came.no_fault (sym size) allowed
-    (c.in_ok-hand_over.ensures.taken c.args.sink.now s.frames s.rest s.waiting s.taken) in
-    passing_paused g.R.Read.remaining (g.F.Framer.is_frame p) (λ f. g.F.Framer.waits f p) (g.F.Framer.frames_of p) g.S.FrameSink.took c.args.reader.now c.args.sink.now p.max_octets c.read_some.new.reader c.hand_over.new.framer c.hand_over.new.sink (c.loop-taken.octets + c.in_ok-taken.taken) next c.pause.new.self (c.in_ok-pause.ensures.taken c.args.sink.now next.frames next.taken)
+    let next = passing_next g.R.Read.remaining (g.F.Framer.is_frame p) (λ f. g.F.Framer.waits f p) (g.F.Framer.frames_of p) g.S.FrameSink.took c.args.reader.now c.args.sink.now p.max_octets c.loop-taken.reader c.loop-taken.framer c.loop-taken.sink c.loop-taken.octets s c.read_some.new.reader c.deliver_chunk.new.framer c.deliver_chunk.new.sink chunk c.in_ok-taken.taken came.read came.no_fault (sym size) allowed
+    (c.in_ok-deliver_chunk.ensures.taken c.args.sink.now s.frames s.rest s.waiting s.taken) in
+    passing_paused g.R.Read.remaining (g.F.Framer.is_frame p) (λ f. g.F.Framer.waits f p) (g.F.Framer.frames_of p) g.S.FrameSink.took c.args.reader.now c.args.sink.now p.max_octets c.read_some.new.reader c.deliver_chunk.new.framer c.deliver_chunk.new.sink (c.loop-taken.octets + c.in_ok-taken.taken) next c.pause.new.self (c.in_ok-pause.ensures.taken c.args.sink.now next.frames next.taken)

@@ -1,6 +1,6 @@
 -- What is amiss in a TC recording, as `check tc` lists it: a line for each, and then the totals.
-use Rattle.std.specs.Prelude.{ℕ, ◌+◌, ◌/◌, ◌%◌, ◌==◌, Bool, if◌then◌else◌, List, [], ◌∷◌, ◌++◌}
-use Rattle.std.specs.Prelude.{length, flat_map, codes, decimal, Option, None, Some, Result, Ok, Err}
+use Rattle.std.specs.Prelude.{ℕ, ◌/◌, ◌%◌, ◌==◌, Bool, if◌then◌else◌, List, [], ◌∷◌, ◌++◌}
+use Rattle.std.specs.Prelude.{length, codes, decimal, Option, None, Some, Result, Ok, Err}
 use Rattle.std.specs.List.{concat}
 use Rattle.sl_cop.specs.declared.verdict.Verdict.{Verdict}
 use Rattle.sl_cop.specs.declared.verdict.Verdict.TheVariants.{Accept, Early, Late, Outside, Refused, Command}
@@ -13,14 +13,13 @@ use Rattle.sl_tcflow.specs.Incomplete.{incomplete_of}
 use Rattle.sl_tcflow.specs.Receiving.{map_by, verdict_on}
 use Rattle.sl_tcflow.specs.Reception.{segments_of}
 use Rattle.sl_tcflow.specs.ReceptionParameters.{ReceptionParameters}
-use Rattle.sl_tcflow.specs.Recording.{map_channels}
-use Rattle.sl_link.specs.Verbs.Check.Lines.{remainder_amiss, totals_line, with_anomalies}
-use Rattle.sl_link.specs.Kind.Tc.{as_read, tc_counted}
+use Rattle.sl_link.specs.Verbs.Check.Lines.{check_listing}
+use Rattle.sl_link.specs.Kind.Tc.{as_read, tc_kind}
 use Rattle.sl_link.specs.Io.Line.{line_at}
 use Rattle.sl_link.specs.Link.Managed.{Parameters, reception_of, tc_format}
 use Rattle.sl_link.specs.Verbs.Show.Tc.{tc_skip_word, verdict_word}
 use Rattle.sl_link.specs.Link.Totals.{Counts}
-use Rattle.sl_link.specs.Verbs.Listing.{Listing, counts_of, lines_from, text_of}
+use Rattle.sl_link.specs.Verbs.Listing.{Listing, counts_of, listing_text}
 
 -- ---- a frame
 
@@ -94,34 +93,15 @@ open_on r offset views channel =
     incomplete_amiss offset (channel / 64) (channel % 64)
     (incomplete_of (segments_of r (channel / 64) (channel % 64) views))
 
--- those of all virtual channels and MAPs, at the end of the recording
-abbrev pub tc_incomplete : ReceptionParameters → ℕ → List TcView → List (List ℕ)
-tc_incomplete r offset views = flat_map (open_on r offset views) map_channels
+abbrev pub tc_open : Parameters → ℕ → List (List ℕ) → ℕ → List (List ℕ)
+tc_open p offset frames = open_on (reception_of p) offset (views_of (tc_format p) p.spacecraft frames)
 
--- the lines after frames, by how many octets the remainder has
-abbrev pub tc_end_amiss : Parameters → List (List ℕ) → ℕ → List (List ℕ)
-tc_end_amiss p frames rest =
-    remainder_amiss (length (concat frames)) rest
-    ++ tc_incomplete (reception_of p) (length (concat frames) + rest) (views_of (tc_format p) p.spacecraft frames)
-
--- what is counted: each line is one of what is amiss
-abbrev pub check_tc_counted : Parameters → List (List ℕ) → ℕ → Counts
-check_tc_counted p frames rest =
-    with_anomalies (tc_counted p frames rest)
-    (length (lines_from (tc_amiss_after p) [] frames) + length (tc_end_amiss p frames rest))
-
--- the listing: the lines of each frame, those after the last one, and the totals
 abbrev pub check_tc_listing : Parameters → Listing
-check_tc_listing p =
-    record {
-      line = λ before frame. concat (tc_amiss_after p before frame);
-      last = λ frames rest. concat (tc_end_amiss p frames rest) ++ totals_line (check_tc_counted p frames rest);
-      counts = check_tc_counted p;
-    }
+check_tc_listing p = check_listing (tc_kind p) (tc_amiss_after p) (tc_open p)
 
 -- the text of a recording
 abbrev pub check_tc_text : Parameters → List ℕ → List ℕ
-check_tc_text p = text_of (tc_frames_of (tc_format p)) (check_tc_listing p)
+check_tc_text p = listing_text (tc_frames_of (tc_format p)) (check_tc_listing p)
 
 -- and what is counted in it
 abbrev pub check_tc_counts : Parameters → List ℕ → Counts

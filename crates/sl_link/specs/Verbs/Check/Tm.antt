@@ -1,6 +1,6 @@
 -- What is amiss in a TM recording, as `check tm` lists it: a line for each, and then the totals.
-use Rattle.std.specs.Prelude.{ℕ, Bool, ◌+◌, ◌==◌, if◌then◌else◌, List, [], ◌∷◌, ◌++◌, length}
-use Rattle.std.specs.Prelude.{map, flat_map, codes, decimal, Option, None, Some, Result, Ok, Err}
+use Rattle.std.specs.Prelude.{ℕ, Bool, ◌==◌, if◌then◌else◌, List, [], ◌∷◌, ◌++◌, length}
+use Rattle.std.specs.Prelude.{map, codes, decimal, Option, None, Some, Result, Ok, Err}
 use Rattle.std.specs.List.{concat}
 use Rattle.sl_tmframe.specs.declared.tm_frame.TmSkip.{TmSkip}
 use Rattle.sl_tmframe.specs.TmDelimited.{tm_frames_of}
@@ -8,14 +8,13 @@ use Rattle.sl_tmframe.specs.TmFrame.{TmView, DataField, Packets, Idle, Opaque}
 use Rattle.sl_tmflow.specs.Anomaly.{dropped_of, foreign_of, gap_of}
 use Rattle.sl_tmflow.specs.Channel.{channel_of, views_of}
 use Rattle.sl_tmflow.specs.Incomplete.{incomplete_of}
-use Rattle.sl_tmflow.specs.Recording.{virtual_channels}
-use Rattle.sl_link.specs.Verbs.Check.Lines.{remainder_amiss, totals_line, with_anomalies}
-use Rattle.sl_link.specs.Kind.Tm.{as_read, tm_counted}
+use Rattle.sl_link.specs.Verbs.Check.Lines.{check_listing}
+use Rattle.sl_link.specs.Kind.Tm.{as_read, tm_kind}
 use Rattle.sl_link.specs.Io.Line.{line_at}
 use Rattle.sl_link.specs.Link.Managed.{Parameters, tm_format}
 use Rattle.sl_link.specs.Verbs.Show.Tm.{tm_skip_word}
 use Rattle.sl_link.specs.Link.Totals.{Counts}
-use Rattle.sl_link.specs.Verbs.Listing.{Listing, counts_of, lines_from, text_of}
+use Rattle.sl_link.specs.Verbs.Listing.{Listing, counts_of, listing_text}
 
 -- ---- a frame
 
@@ -65,38 +64,19 @@ abbrev pub tm_amiss_after : Parameters → List (List ℕ) → List ℕ → List
 tm_amiss_after p before frame =
     tm_amiss (length (concat before)) (views_of (tm_format p) p.spacecraft before) (as_read p frame)
 
--- the packets that are incomplete after the last frame of their virtual channels, at the end of the recording
-abbrev pub tm_incomplete : ℕ → List TmView → List (List ℕ)
-tm_incomplete offset views =
-    flat_map (λ vc. map (λ octets. line_at offset
+-- the packet that is incomplete after the last frame of a virtual channel, if one is, at the end of the recording
+abbrev pub tm_open : Parameters → ℕ → List (List ℕ) → ℕ → List (List ℕ)
+tm_open p offset frames vc =
+    map (λ octets. line_at offset
     (codes " open vc " ++ decimal vc ++ codes " octets " ++ decimal (length octets)))
-    (incomplete_of (channel_of vc views)))
-    virtual_channels
+    (incomplete_of (channel_of vc (views_of (tm_format p) p.spacecraft frames)))
 
--- the lines after frames, by how many octets the remainder has
-abbrev pub tm_end_amiss : Parameters → List (List ℕ) → ℕ → List (List ℕ)
-tm_end_amiss p frames rest =
-    remainder_amiss (length (concat frames)) rest
-    ++ tm_incomplete (length (concat frames) + rest) (views_of (tm_format p) p.spacecraft frames)
-
--- what is counted: each line is one of what is amiss
-abbrev pub check_tm_counted : Parameters → List (List ℕ) → ℕ → Counts
-check_tm_counted p frames rest =
-    with_anomalies (tm_counted p frames rest)
-    (length (lines_from (tm_amiss_after p) [] frames) + length (tm_end_amiss p frames rest))
-
--- the listing: the lines of each frame, those after the last one, and the totals
 abbrev pub check_tm_listing : Parameters → Listing
-check_tm_listing p =
-    record {
-      line = λ before frame. concat (tm_amiss_after p before frame);
-      last = λ frames rest. concat (tm_end_amiss p frames rest) ++ totals_line (check_tm_counted p frames rest);
-      counts = check_tm_counted p;
-    }
+check_tm_listing p = check_listing (tm_kind p) (tm_amiss_after p) (tm_open p)
 
 -- the text of a recording
 abbrev pub check_tm_text : Parameters → List ℕ → List ℕ
-check_tm_text p = text_of (tm_frames_of p.tm_length) (check_tm_listing p)
+check_tm_text p = listing_text (tm_frames_of p.tm_length) (check_tm_listing p)
 
 -- and what is counted in it
 abbrev pub check_tm_counts : Parameters → List ℕ → Counts

@@ -12,7 +12,7 @@ use Rattle.sl_tcflow.specs.ReceptionParameters.{ReceptionParameters}
 use Rattle.sl_link.specs.Kind.Tc.{as_read, tc_counted}
 use Rattle.sl_link.specs.Link.Managed.{Parameters, reception_of, tc_format}
 use Rattle.sl_link.specs.Verbs.Packets.Line.{packet_line}
-use Rattle.sl_link.specs.Verbs.Listing.{Listing, text_of}
+use Rattle.sl_link.specs.Verbs.Listing.{Listing, listing_text}
 
 -- a virtual channel and a MAP
 abbrev pub channel_text : ℕ → ℕ → List ℕ
@@ -39,4 +39,4 @@ packets_tc_listing p =
 
 -- the text of a recording
 abbrev pub packets_tc_text : Parameters → List ℕ → List ℕ
-packets_tc_text p = text_of (tc_frames_of (tc_format p)) (packets_tc_listing p)
+packets_tc_text p = listing_text (tc_frames_of (tc_format p)) (packets_tc_listing p)

@@ -10,7 +10,7 @@ use Rattle.sl_tmflow.specs.Extraction.{ended_by}
 use Rattle.sl_link.specs.Kind.Tm.{as_read, tm_counted}
 use Rattle.sl_link.specs.Link.Managed.{Parameters, tm_format}
 use Rattle.sl_link.specs.Verbs.Packets.Line.{packet_line}
-use Rattle.sl_link.specs.Verbs.Listing.{Listing, text_of}
+use Rattle.sl_link.specs.Verbs.Listing.{Listing, listing_text}
 
 -- a virtual channel
 abbrev pub channel_text : ℕ → List ℕ
@@ -35,4 +35,4 @@ packets_tm_listing p =
 
 -- the text of a recording
 abbrev pub packets_tm_text : Parameters → List ℕ → List ℕ
-packets_tm_text p = text_of (tm_frames_of p.tm_length) (packets_tm_listing p)
+packets_tm_text p = listing_text (tm_frames_of p.tm_length) (packets_tm_listing p)

@@ -1,5 +1,5 @@
 -- The listing of a TC recording's frames, a line for each, and then its remainder.
-use Rattle.std.specs.Prelude.{ℕ, ◌+◌, ◌-◌, ◌==◌, Bool, if◌then◌else◌, List, [], ◌∷◌}
+use Rattle.std.specs.Prelude.{ℕ, ◌-◌, ◌==◌, Bool, if◌then◌else◌, List}
 use Rattle.std.specs.Prelude.{◌++◌, length, codes, decimal, Result, Ok, Err, is_err}
 use Rattle.std.specs.List.{concat}
 use Rattle.hex.specs.Hex.{encode_lower}
@@ -17,11 +17,11 @@ use Rattle.sl_tcframe.specs.VcSet.{has_vc}
 use Rattle.sl_tcflow.specs.AcceptedUnit.{event_of, views_of}
 use Rattle.sl_tcflow.specs.Receiving.{farm_of}
 use Rattle.sl_tcflow.specs.Series.{header_at}
-use Rattle.sl_link.specs.Io.Line.{line_at, remainder_line}
+use Rattle.sl_link.specs.Io.Line.{line_at}
 use Rattle.sl_link.specs.Link.Managed.{Parameters, reception_of, tc_format}
 use Rattle.sl_link.specs.Link.Totals.{Counts}
-use Rattle.sl_link.specs.Tally.{counts_with, skipped_in}
-use Rattle.sl_link.specs.Verbs.Listing.{Listing, counts_of, text_of}
+use Rattle.sl_link.specs.Verbs.Show.Shown.{show_listing}
+use Rattle.sl_link.specs.Verbs.Listing.{Listing, counts_of, listing_text}
 
 -- why a frame is skipped
 abbrev pub tc_skip_word : TcSkip → List ℕ
@@ -93,27 +93,17 @@ tc_line p before frame =
     line_at (length (concat before)) (tc_frame_text p.plain (farm_view p before)
     (tc_frame (tc_format p) p.spacecraft frame))
 
--- how many frames are skipped
-abbrev pub tc_skipped_of : Parameters → List (List ℕ) → ℕ
-tc_skipped_of p = skipped_in (λ frame. is_err (tc_frame (tc_format p) p.spacecraft frame))
-
--- what is counted in frames, and a remainder of this many octets
-abbrev pub show_tc_counted : Parameters → List (List ℕ) → ℕ → Counts
-show_tc_counted p frames rest =
-    counts_with (length (concat frames) + rest) (length frames) (tc_skipped_of p frames) rest 0 0 0
+-- a frame is skipped
+abbrev pub tc_is_skipped : Parameters → List ℕ → Bool
+tc_is_skipped p frame = is_err (tc_frame (tc_format p) p.spacecraft frame)
 
 -- the listing: a line for each frame, and one for a remainder
 abbrev pub show_tc_listing : Parameters → Listing
-show_tc_listing p =
-    record {
-      line = tc_line p;
-      last = λ frames rest. remainder_line (length (concat frames)) rest;
-      counts = show_tc_counted p;
-    }
+show_tc_listing p = show_listing (tc_is_skipped p) (tc_line p)
 
 -- the text of a recording
 abbrev pub show_tc_text : Parameters → List ℕ → List ℕ
-show_tc_text p = text_of (tc_frames_of (tc_format p)) (show_tc_listing p)
+show_tc_text p = listing_text (tc_frames_of (tc_format p)) (show_tc_listing p)
 
 -- and what is counted in it
 abbrev pub show_tc_counts : Parameters → List ℕ → Counts

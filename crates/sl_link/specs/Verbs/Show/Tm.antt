@@ -1,5 +1,5 @@
 -- The listing of a TM recording's frames, a line for each, and then its remainder.
-use Rattle.std.specs.Prelude.{ℕ, ◌+◌, if◌then◌else◌, List, [], ◌∷◌, ◌++◌, length, codes}
+use Rattle.std.specs.Prelude.{ℕ, Bool, if◌then◌else◌, List, [], ◌++◌, length, codes}
 use Rattle.std.specs.Prelude.{decimal, Option, None, Some, Result, Ok, Err, is_err}
 use Rattle.std.specs.List.{concat}
 use Rattle.hex.specs.Hex.{encode_lower}
@@ -7,13 +7,13 @@ use Rattle.sl_fields.specs.Field.{flag, bit_of}
 use Rattle.sl_fields.specs.Clcw.{ClcwFields, clcw_word}
 use Rattle.sl_tmframe.specs.declared.tm_frame.TmSkip.{TmSkip}
 use Rattle.sl_tmframe.specs.declared.tm_frame.TmSkip.TheVariants.{Fecf, Version, Spacecraft}
-use Rattle.sl_tmframe.specs.TmFrame.{TmFormat, TmView, DataField, Packets, Idle, Opaque, tm_frame}
+use Rattle.sl_tmframe.specs.TmFrame.{TmView, DataField, Packets, Idle, Opaque, tm_frame}
 use Rattle.sl_tmframe.specs.TmDelimited.{tm_frames_of}
-use Rattle.sl_link.specs.Io.Line.{line_at, remainder_line}
+use Rattle.sl_link.specs.Io.Line.{line_at}
 use Rattle.sl_link.specs.Link.Managed.{Parameters, tm_format}
 use Rattle.sl_link.specs.Link.Totals.{Counts}
-use Rattle.sl_link.specs.Tally.{counts_with, skipped_in}
-use Rattle.sl_link.specs.Verbs.Listing.{Listing, counts_of, text_of}
+use Rattle.sl_link.specs.Verbs.Show.Shown.{show_listing}
+use Rattle.sl_link.specs.Verbs.Listing.{Listing, counts_of, listing_text}
 
 -- why a frame is skipped
 abbrev pub tm_skip_word : TmSkip → List ℕ
@@ -66,28 +66,21 @@ tm_frame_text (Err reason) = codes " skip " ++ tm_skip_word reason
 
 -- ---- a recording
 
--- how many frames are skipped
-abbrev pub tm_skipped_of : TmFormat → ℕ → List (List ℕ) → ℕ
-tm_skipped_of format spacecraft = skipped_in (λ frame. is_err (tm_frame format spacecraft frame))
+-- a frame is skipped
+abbrev pub tm_is_skipped : Parameters → List ℕ → Bool
+tm_is_skipped p frame = is_err (tm_frame (tm_format p) p.spacecraft frame)
 
--- what is counted in frames, and a remainder of this many octets
-abbrev pub show_tm_counted : Parameters → List (List ℕ) → ℕ → Counts
-show_tm_counted p frames rest = counts_with (length (concat frames) + rest) (length frames)
-    (tm_skipped_of (tm_format p) p.spacecraft frames) rest 0 0 0
+-- the line of a frame that comes after these frames, at its offset
+abbrev pub tm_line : Parameters → List (List ℕ) → List ℕ → List ℕ
+tm_line p before frame = line_at (length (concat before)) (tm_frame_text (tm_frame (tm_format p) p.spacecraft frame))
 
 -- the listing: a line for each frame at its offset, and one for a remainder
 abbrev pub show_tm_listing : Parameters → Listing
-show_tm_listing p =
-    record {
-      line = λ before frame. line_at (length (concat before))
-          (tm_frame_text (tm_frame (tm_format p) p.spacecraft frame));
-      last = λ frames rest. remainder_line (length (concat frames)) rest;
-      counts = show_tm_counted p;
-    }
+show_tm_listing p = show_listing (tm_is_skipped p) (tm_line p)
 
 -- the text of a recording
 abbrev pub show_tm_text : Parameters → List ℕ → List ℕ
-show_tm_text p = text_of (tm_frames_of p.tm_length) (show_tm_listing p)
+show_tm_text p = listing_text (tm_frames_of p.tm_length) (show_tm_listing p)
 
 -- and what is counted in it
 abbrev pub show_tm_counts : Parameters → List ℕ → Counts

@@ -1,9 +1,6 @@
 //! The lines of what is amiss in a TC recording.
 ghost use Rattle.std.specs.Prelude.{◌≡◌, ◌+◌, ◌≤◌, ◌++◌, length, codes, decimal};
 ghost use Rattle.std.specs.List.{concat};
-ghost use Rattle.sl_tcframe.specs.TcContent.{content};
-ghost use Rattle.sl_tcframe.specs.TcFrame.{IsContent};
-ghost use Rattle.sl_tcflow.specs.Receiving.{map_of};
 ghost use Rattle.sl_link.specs.Verbs.Check.Tc.{discarded_amiss, dropped_amiss, map_text, tail_amiss, verdict_amiss};
 ghost use Rattle.sl_link.specs.Verbs.Check.CheckingTc.{is_quiet, told_amiss, view_amiss};
 ghost use Rattle.sl_link.specs.Io.Line.{line_at};
@@ -11,7 +8,7 @@ ghost use Rattle.sl_link.specs.Verbs.Show.Tc.{tc_skip_word, verdict_word};
 ghost use Rattle.sl_link.specs.Io.Room.{HasRoom, HasRoomFor};
 
 use crate::io::lines::Lines;
-use crate::verbs::show::lines_tc::{push_skip, split_unit};
+use crate::verbs::show::lines_tc::push_skip;
 use sl_cop::Verdict;
 use sl_tcflow::TcStep;
 use sl_tcframe::{TcContent, TcFrame, TcSkip};
@@ -26,25 +23,18 @@ pub fn skip_line(lines: &mut Lines, offset: u64, reason: TcSkip)
     lines.push(b"\n");
 }
 
-/// Adds the lines of what is amiss with a frame that is read, on a virtual channel without segment headers or with
-/// them, and answers how many they are.
+/// Adds the lines of what is amiss with a frame that is read, and answers how many they are.
 #[inline(always)]
-pub fn amiss_lines(
-    lines: &mut Lines,
-    offset: u64,
-    plain: bool,
-    view: &TcFrame,
-    step: &TcStep,
-) -> u64
+pub fn amiss_lines(lines: &mut Lines, offset: u64, view: &TcFrame, step: &TcStep) -> u64
     requires { HasRoom lines.old }
-    ensures text { lines.new ≡ lines.old ++ concat (view_amiss plain offset view.now step.now) }
-    ensures number { result ≡ length (view_amiss plain offset view.now step.now) }
+    ensures text { lines.new ≡ lines.old ++ concat (view_amiss offset view.now step.now) }
+    ensures number { result ≡ length (view_amiss offset view.now step.now) }
     ensures few { result ≤ 5 }
 {
     if is_quiet(step) {
         return 0;
     }
-    step_lines(lines, offset, plain, view, step)
+    step_lines(lines, offset, view, step)
 }
 
 // Whether nothing is amiss, as with most frames.
@@ -61,34 +51,20 @@ fn is_quiet(step: &TcStep) -> bool
 
 // The lines of what is amiss, in their order.
 #[inline(always)]
-fn step_lines(lines: &mut Lines, offset: u64, plain: bool, view: &TcFrame, step: &TcStep) -> u64
+fn step_lines(lines: &mut Lines, offset: u64, view: &TcFrame, step: &TcStep) -> u64
     requires { HasRoom lines.old }
-    ensures text { lines.new ≡ lines.old ++ concat (view_amiss plain offset view.now step.now) }
-    ensures number { result ≡ length (view_amiss plain offset view.now step.now) }
+    ensures text { lines.new ≡ lines.old ++ concat (view_amiss offset view.now step.now) }
+    ensures number { result ≡ length (view_amiss offset view.now step.now) }
     ensures few { result ≤ 5 }
 {
     let vc = view.vc();
-    let map = map_in(plain, &view.content());
+    let map = step.map();
     let discarded = verdict_lines(lines, offset, view, step.verdict());
-    let stray = told_lines(lines, offset, b" stray", vc, map, step.stray());
+    let stray = flag_lines(lines, offset, b" stray", vc, map, step.stray());
     let dropped = dropped_lines(lines, offset, vc, map, step.dropped());
-    let long = told_lines(lines, offset, b" long", vc, map, step.long());
+    let long = flag_lines(lines, offset, b" long", vc, map, step.long());
     let tail = tail_lines(lines, offset, vc, map, step.tail());
     discarded + stray + dropped + long + tail
-}
-
-// The MAP of a frame's unit, if it carries one.
-fn map_in(plain: bool, carried: &TcContent) -> u8
-    requires { IsContent (content carried.now) }
-    ensures { result ≡ map_of plain (content carried.now) }
-{
-    if plain {
-        return 0;
-    }
-    match *carried {
-        TcContent::Ad { unit, .. } | TcContent::Bd { unit } => split_unit(unit).0.map(),
-        TcContent::Unlock | TcContent::SetVr(_) => 0,
-    }
 }
 
 // FARM-1 answers this verdict.
@@ -135,9 +111,9 @@ fn discarded_line(lines: &mut Lines, offset: u64, vc: u8, verdict: Verdict, ns: 
     lines.push_number(offset);
     push_verdict(lines, verdict);
     lines.push(b" vc ");
-    lines.push_octet(vc);
+    lines.push_small_number(vc);
     lines.push(b" ad ");
-    lines.push_octet(ns);
+    lines.push_small_number(ns);
     lines.push(b"\n");
 }
 
@@ -157,7 +133,7 @@ fn push_verdict(lines: &mut Lines, verdict: Verdict)
 }
 
 // This is told of a virtual channel and a MAP, if it holds.
-fn told_lines(lines: &mut Lines, offset: u64, what: &[u8], vc: u8, map: u8, holds: bool) -> u64
+fn flag_lines(lines: &mut Lines, offset: u64, what: &[u8], vc: u8, map: u8, holds: bool) -> u64
     requires room { HasRoomFor 96 lines.old }
     requires what { length what.now ≤ 6 }
     ensures text { lines.new ≡ lines.old ++ concat (told_amiss offset what.now vc map holds) }
@@ -216,15 +192,15 @@ pub fn open_line(lines: &mut Lines, offset: u64, vc: u8, map: u8, octets: u32)
 }
 
 // What became of octets of a virtual channel and a MAP, and how many they are.
-fn octets_line(lines: &mut Lines, offset: u64, fate: &[u8], vc: u8, map: u8, octets: u32)
-    requires room { HasRoomFor (63 + length fate.now) lines.old }
-    requires fate { length fate.now ≤ 8 }
-    ensures text { lines.new ≡ lines.old ++ line_at offset (fate.now ++ map_text vc map
+fn octets_line(lines: &mut Lines, offset: u64, event: &[u8], vc: u8, map: u8, octets: u32)
+    requires room { HasRoomFor (63 + length event.now) lines.old }
+    requires event { length event.now ≤ 8 }
+    ensures text { lines.new ≡ lines.old ++ line_at offset (event.now ++ map_text vc map
         ++ codes " octets " ++ decimal octets) }
-    ensures short { length lines.new ≤ length lines.old + (54 + length fate.now) }
+    ensures short { length lines.new ≤ length lines.old + (54 + length event.now) }
 {
     lines.push_number(offset);
-    lines.push_text(fate);
+    lines.push_text(event);
     push_map(lines, vc, map);
     lines.push(b" octets ");
     push_count(lines, octets);
@@ -246,7 +222,7 @@ fn push_map(lines: &mut Lines, vc: u8, map: u8)
     ensures short { length lines.new ≤ length lines.old + 15 }
 {
     lines.push(b" vc ");
-    lines.push_octet(vc);
+    lines.push_small_number(vc);
     lines.push(b" map ");
-    lines.push_octet(map);
+    lines.push_small_number(map);
 }

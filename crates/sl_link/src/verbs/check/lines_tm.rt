@@ -74,11 +74,11 @@ fn push_gap(lines: &mut Lines, view: &TmFrame, expected: u8)
     ensures short { length lines.new ≤ length lines.old + 34 }
 {
     lines.push(b" gap vc ");
-    lines.push_octet(view.vc());
+    lines.push_small_number(view.vc());
     lines.push(b" expected ");
-    lines.push_octet(expected);
+    lines.push_small_number(expected);
     lines.push(b" found ");
-    lines.push_octet(view.vc_count());
+    lines.push_small_number(view.vc_count());
 }
 
 // An incomplete packet is broken off, of which these octets had come.
@@ -98,7 +98,7 @@ fn dropped_lines(lines: &mut Lines, offset: u64, vc: u8, octets: u32) -> u64
 
 /// Adds the line of a packet that is incomplete after the last frame of its virtual channel, where there is one, and
 /// answers how many lines that is: one or none.
-pub fn held_lines(lines: &mut Lines, offset: u64, vc: u8, octets: u32) -> u64
+pub fn open_lines(lines: &mut Lines, offset: u64, vc: u8, octets: u32) -> u64
     requires { HasRoomFor 196 lines.old }
     ensures text { lines.new ≡ lines.old ++ concat (held_amiss offset vc octets) }
     ensures number { result ≡ length (held_amiss offset vc octets) }
@@ -113,16 +113,16 @@ pub fn held_lines(lines: &mut Lines, offset: u64, vc: u8, octets: u32) -> u64
 }
 
 // What became of an incomplete packet, and how many octets of it had come.
-fn octets_line(lines: &mut Lines, offset: u64, fate: &[u8], vc: u8, octets: u32)
+fn octets_line(lines: &mut Lines, offset: u64, event: &[u8], vc: u8, octets: u32)
     requires room { HasRoomFor 196 lines.old }
-    requires fate { length fate.now ≤ 12 }
-    ensures text { lines.new ≡ lines.old ++ line_at offset (fate.now ++ decimal vc
+    requires event { length event.now ≤ 12 }
+    ensures text { lines.new ≡ lines.old ++ line_at offset (event.now ++ decimal vc
         ++ codes " octets " ++ decimal octets) }
     ensures short { length lines.new ≤ length lines.old + 64 }
 {
     lines.push_number(offset);
-    lines.push_text(fate);
-    lines.push_octet(vc);
+    lines.push_text(event);
+    lines.push_small_number(vc);
     lines.push(b" octets ");
     lines.push_number(u64::from(octets));
     lines.push(b"\n");
@@ -170,6 +170,6 @@ fn vc_line(lines: &mut Lines, offset: u64, what: &[u8], vc: u8)
 {
     lines.push_number(offset);
     lines.push_text(what);
-    lines.push_octet(vc);
+    lines.push_small_number(vc);
     lines.push(b"\n");
 }

@@ -61,7 +61,7 @@ fn push_header(lines: &mut Lines, header: &PacketHeader)
     lines.push(b" apid ");
     lines.push_number(u64::from(header.apid()));
     lines.push(b" type ");
-    lines.push_octet(header.kind());
+    lines.push_small_number(header.kind());
     push_numbers(lines, header);
 }
 
@@ -73,7 +73,7 @@ fn push_numbers(lines: &mut Lines, header: &PacketHeader)
     lines.push(b" secondary ");
     push_flag(lines, header.secondary());
     lines.push(b" flags ");
-    lines.push_octet(header.flags());
+    lines.push_small_number(header.flags());
     lines.push(b" count ");
     lines.push_number(u64::from(header.count()));
 }
@@ -93,7 +93,7 @@ fn push_octets<W: Write>(
     while !left.is_empty() {
         make_room(writer, lines)?;
         let (part, after) = left.split_at(left.len().min(lines.room() / 2));
-        lines.push_hexadecimal(part);
+        lines.push_hex(part);
         left = after;
     }
     Ok(())

@@ -1,20 +1,22 @@
 //! The lines of a TC recording's listing.
-ghost use Rattle.std.specs.Prelude.{◌≡◌, ◌+◌, ◌≤◌, ◌<◌, ◌-◌, ◌++◌, codes, decimal, length};
+ghost use Rattle.std.specs.Prelude.{◌≡◌, ◌+◌, ◌≤◌, ◌<◌, ◌-◌, ◌++◌, ◌∷◌, [], List, codes, decimal, length};
 ghost use Rattle.sl_tcframe.specs.TcContent.{content};
-ghost use Rattle.sl_tcframe.specs.TcFrame.{IsContent};
+ghost use Rattle.sl_tcframe.specs.TcFrame.{IsContent, TcView};
 ghost use Rattle.sl_cop.specs.Farm.{farm_step};
 ghost use Rattle.sl_tcflow.specs.AcceptedUnit.{event_of};
+ghost use Rattle.sl_tcflow.specs.Receiving.{HaveStepped, farm_of};
+ghost use Rattle.sl_tcflow.specs.ReceptionParameters.{ReceptionParameters};
 ghost use Rattle.sl_tcflow.specs.Series.{header_at};
+ghost use Rattle.sl_link.specs.Kind.Delivery.{with_frame};
 ghost use Rattle.sl_link.specs.Io.Line.{line_at};
 ghost use Rattle.sl_link.specs.Verbs.Show.Tc.{tc_skip_word, flags_word, unit_text, content_text};
 ghost use Rattle.sl_link.specs.Verbs.Show.Tc.{verdict_word, step_text, tc_view_text, tc_frame_text};
-ghost use Rattle.sl_link.specs.Verbs.Show.Farms.{farm_at, farm_states, farms_after, farms_with};
 ghost use Rattle.sl_link.specs.Io.Room.{HasRoom, HasRoomFor};
 
 use crate::io::lines::Lines;
-use crate::verbs::show::farms::Farms;
-use sl_cop::{FarmEvent, Verdict};
+use sl_cop::Verdict;
 use sl_fields::{SegmentHeader, front};
+use sl_tcflow::Farms;
 use sl_tcframe::{TcContent, TcFrame, TcSkip, VcSet};
 
 /// Adds the line of a frame at this offset, which FARM-1 of its virtual channel takes unless it is skipped. The frames
@@ -27,9 +29,11 @@ pub fn tc_frame_line(
     read: &Result<TcFrame, TcSkip>,
 )
     requires { HasRoom lines.old }
-    ensures line { lines.new ≡ lines.old
-        ++ line_at offset (tc_frame_text plain.now (farm_at farms.old) read.now) }
-    ensures farms { farms.new ≡ farms_after farms.old read.now }
+    ensures line { (r : ReceptionParameters) (views : List TcView) → HaveStepped r farms.old views
+        → lines.new ≡ lines.old ++ line_at offset (tc_frame_text plain.now
+        (λ vc. farm_of r vc views) read.now) }
+    ensures farms { (r : ReceptionParameters) (views : List TcView) → HaveStepped r farms.old views
+        → HaveStepped r farms.new (with_frame views read.now) }
 {
     lines.push_number(offset);
     match read {
@@ -59,43 +63,31 @@ pub fn push_skip(lines: &mut Lines, reason: TcSkip)
 
 fn push_view(lines: &mut Lines, plain: bool, farms: &mut Farms, frame: &TcFrame)
     requires { HasRoomFor 236 lines.old }
-    ensures text { lines.new ≡ lines.old
-        ++ tc_view_text plain (farm_at farms.old frame.now.vc) frame.now }
-    ensures farms { farms.new ≡ farms_with farms.old frame.now.vc (event_of frame.now.content) }
+    ensures text { (r : ReceptionParameters) (views : List TcView) → HaveStepped r farms.old views
+        → lines.new ≡ lines.old ++ tc_view_text plain (farm_of r frame.now.vc views) frame.now }
+    ensures farms { (r : ReceptionParameters) (views : List TcView) → HaveStepped r farms.old views
+        → HaveStepped r farms.new (views ++ frame.now ∷ []) }
     ensures short { length lines.new ≤ length lines.old + 120 }
 {
-    let content = frame.content();
     lines.push(b" frame vc ");
-    lines.push_octet(frame.vc());
-    push_content(lines, plain, content);
-    push_step(lines, farms, frame.vc(), event(&content));
+    lines.push_small_number(frame.vc());
+    push_content(lines, plain, frame.content());
+    push_step(lines, farms, frame);
 }
 
-// What a frame is to FARM-1.
-fn event(carried: &TcContent) -> FarmEvent
-    ensures { result ≡ event_of (content carried.now) }
-{
-    match *carried {
-        TcContent::Ad { ns, .. } => FarmEvent::Ad(ns),
-        TcContent::Bd { .. } => FarmEvent::Bd,
-        TcContent::Unlock => FarmEvent::Unlock,
-        TcContent::SetVr(vr) => FarmEvent::SetVr(vr),
-    }
-}
-
-// Takes a frame of the virtual channel, and adds what became of it and the CLCW after it.
-fn push_step(lines: &mut Lines, farms: &mut Farms, vc: u8, event: FarmEvent)
-    requires room { HasRoomFor 136 lines.old }
-    requires vc { vc ≤ 63 }
-    ensures text { lines.new ≡ lines.old
-        ++ (codes " " ++ step_text vc (farm_step (farm_at farms.old vc).window
-        (farm_states farms.old vc) event)) }
-    ensures farms { farms.new ≡ farms_with farms.old vc event }
+// Takes a frame of its virtual channel, and adds what became of it and the CLCW after it.
+fn push_step(lines: &mut Lines, farms: &mut Farms, frame: &TcFrame)
+    requires { HasRoomFor 136 lines.old }
+    ensures text { (r : ReceptionParameters) (views : List TcView) → HaveStepped r farms.old views
+        → lines.new ≡ lines.old ++ (codes " " ++ step_text frame.now.vc
+        (farm_step r.window (farm_of r frame.now.vc views).state (event_of frame.now.content))) }
+    ensures farms { (r : ReceptionParameters) (views : List TcView) → HaveStepped r farms.old views
+        → HaveStepped r farms.new (views ++ frame.now ∷ []) }
     ensures short { length lines.new ≤ length lines.old + 24 }
 {
-    let verdict = farms.step(vc, event);
+    let verdict = farms.step(frame);
     push_verdict(lines, verdict);
-    lines.push_hex(&farms.clcw(vc).write());
+    lines.push_hex_word(&farms.clcw(frame.vc()).write());
 }
 
 // Nearly all are accepted, so each text is pushed where it is known. Of the sequence flags nothing is known before,
@@ -124,7 +116,7 @@ fn push_content(lines: &mut Lines, plain: bool, carried: TcContent)
     match carried {
         TcContent::Ad { ns, unit } => {
             lines.push(b" ad ");
-            lines.push_octet(ns);
+            lines.push_small_number(ns);
             push_unit(lines, plain, unit);
         }
         TcContent::Bd { unit } => {
@@ -134,7 +126,7 @@ fn push_content(lines: &mut Lines, plain: bool, carried: TcContent)
         TcContent::Unlock => lines.push(b" unlock"),
         TcContent::SetVr(vr) => {
             lines.push(b" setvr ");
-            lines.push_octet(vr);
+            lines.push_small_number(vr);
         }
     }
 }
@@ -152,7 +144,7 @@ fn push_unit(lines: &mut Lines, plain: bool, unit: &[u8])
     }
     let (header, octets) = split_unit(unit);
     push_flags(lines, header.flags());
-    lines.push_octet(header.map());
+    lines.push_small_number(header.map());
     lines.push(b" octets ");
     push_octet_count(lines, octets.len());
 }
@@ -164,14 +156,14 @@ fn push_octet_count(lines: &mut Lines, octets: usize)
     ensures short { length lines.new ≤ length lines.old + 20 }
 {
     if octets < 256 {
-        lines.push_octet(octets as u8);
+        lines.push_small_number(octets as u8);
     } else {
         lines.push_number(octets as u64);
     }
 }
 
-/// The segment header of a unit, and the octets after it.
-pub fn split_unit(unit: &[u8]) -> (SegmentHeader, &[u8])
+// The segment header of a unit, and the octets after it.
+fn split_unit(unit: &[u8]) -> (SegmentHeader, &[u8])
     requires { 0 < length unit.now }
     ensures header { result.0 ≡ header_at unit.now }
     ensures octets { length result.1.now ≡ length unit.now - 1 }

@@ -55,11 +55,11 @@ fn push_counts(lines: &mut Lines, frame: &TmFrame)
     ensures short { length lines.new ≤ length lines.old + 28 }
 {
     lines.push(b" frame vc ");
-    lines.push_octet(frame.vc());
+    lines.push_small_number(frame.vc());
     lines.push(b" mc ");
-    lines.push_octet(frame.mc_count());
+    lines.push_small_number(frame.mc_count());
     lines.push(b" vcc ");
-    lines.push_octet(frame.vc_count());
+    lines.push_small_number(frame.vc_count());
 }
 
 fn push_field(lines: &mut Lines, field: TmField)
@@ -99,10 +99,10 @@ fn push_word(lines: &mut Lines, word: &[u8; 4])
     let clcw = Clcw::read(word);
     if clcw.word() == 1 {
         lines.push(b" ocf ");
-        lines.push_hex(word);
+        lines.push_hex_word(word);
     } else {
         lines.push(b" clcw ");
-        lines.push_hex(word);
+        lines.push_hex_word(word);
         push_clcw(lines, &clcw);
     }
 }
@@ -113,7 +113,7 @@ fn push_clcw(lines: &mut Lines, clcw: &Clcw)
     ensures short { length lines.new ≤ length lines.old + 60 }
 {
     lines.push(b" vc ");
-    lines.push_octet(clcw.vc());
+    lines.push_small_number(clcw.vc());
     lines.push(b" lockout ");
     push_flag(lines, clcw.lockout());
     lines.push(b" wait ");
@@ -121,9 +121,9 @@ fn push_clcw(lines: &mut Lines, clcw: &Clcw)
     lines.push(b" retransmit ");
     push_flag(lines, clcw.retransmit());
     lines.push(b" farmb ");
-    lines.push_octet(clcw.farm_b());
+    lines.push_small_number(clcw.farm_b());
     lines.push(b" vr ");
-    lines.push_octet(clcw.report());
+    lines.push_small_number(clcw.report());
 }
 
 /// Adds a flag as 0 or 1.

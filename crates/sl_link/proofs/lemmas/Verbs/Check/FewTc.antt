@@ -1,28 +1,29 @@
 -- The lines of what is amiss in TC frames are few: fewer for each frame than its octets, and after the last one, for the
 -- series that are incomplete, no more than frames.
-use Rattle.std.proofs.Common.{◌≡◌, ℕ, ◌+◌, ◌/◌, ◌%◌, ◌==◌, ◌<◌, ◌≤◌, Bool, true, false, if◌then◌else◌, List, [], ◌∷◌, ◌++◌, length, map, Option, None, Some, Result, Ok, Err, refl, sym, ◌∙◌, ap, subst, arith, append_assoc, append-nil, length-append}
-use Rattle.std.specs.Prelude.{flat_map}
+use Rattle.std.proofs.Common.{◌≡◌, ◌≢◌, ℕ, ◌+◌, ◌/◌, ◌%◌, ◌==◌, ◌<◌, ◌≤◌, Bool, true, false, if◌then◌else◌, List, [], ◌∷◌, ◌++◌, length, map, Option, None, Some, Result, Ok, Err, refl, sym, ◌∙◌, ap, arith, codes, decimal, length-append}
+use Rattle.std.specs.Prelude.{flat_map, is_some, option_map, unwrap_or}
 use Rattle.sl_cop.specs.declared.verdict.Verdict.{Verdict}
 use Rattle.sl_cop.specs.declared.verdict.Verdict.TheVariants.{Accept, Early, Late, Outside, Refused, Command}
 use Rattle.sl_tcframe.specs.declared.tc_frame.TcSkip.{TcSkip}
 use Rattle.sl_tcframe.specs.TcFrame.{TcView, Content, Ad, Bd, Unlock, SetVr, is_cut}
 use Rattle.sl_tcframe.proofs.PartLemmas.{cut_facts}
 use Rattle.sl_tcflow.specs.AcceptedUnit.{unit_by, views_of}
-use Rattle.sl_tcflow.specs.Anomaly.{dropped_of, long_of, of_segment, stray_of, tail_of}
+use Rattle.sl_tcflow.specs.Anomaly.{dropped_by, dropped_of, long_by, long_of, of_segment, stray_by, stray_of, tail_by, tail_of}
 use Rattle.sl_tcflow.specs.Incomplete.{incomplete_of}
-use Rattle.sl_tcflow.specs.Receiving.{map_by, unit_channel, verdict_on}
-use Rattle.sl_tcflow.specs.Recording.{map_channels}
+use Rattle.sl_tcflow.specs.Receiving.{map_by, verdict_on}
 use Rattle.sl_tcflow.specs.Reception.{segments_of}
 use Rattle.sl_tcflow.specs.ReceptionParameters.{ReceptionParameters, is_plain}
 use Rattle.sl_tcflow.specs.Series.{segment_in}
 use Rattle.sl_tcflow.proofs.lemmas.Reception.Channel.{incomplete_other}
-use Rattle.sl_link.specs.Verbs.Check.Tc.{discarded_amiss, dropped_amiss, incomplete_amiss, long_amiss, open_on, stray_amiss, tail_amiss, tc_amiss, tc_incomplete, verdict_amiss}
-use Rattle.sl_link.specs.Kind.Tc.{as_read, channel_of}
-use Rattle.sl_link.specs.Kind.Delivery.{count_of, with_frame}
+use Rattle.sl_tcflow.specs.StepReport.{StepReport}
+use Rattle.sl_link.specs.Verbs.Check.CheckingTc.{view_amiss}
+use Rattle.sl_link.specs.Verbs.Check.Tc.{discarded_amiss, dropped_amiss, incomplete_amiss, long_amiss, map_text, open_on, stray_amiss, tail_amiss, tc_amiss, tc_open, verdict_amiss}
+use Rattle.sl_link.specs.Kind.Tc.{as_read, channel_of, tc_kind}
+use Rattle.sl_link.specs.Io.Line.{line_at}
+use Rattle.sl_link.specs.Kind.Delivery.{with_frame}
 use Rattle.sl_link.specs.Link.Managed.{Parameters, reception_of, tc_format}
-use Rattle.sl_packet.specs.Delivered.{channel_count}
-use Rattle.sl_link.proofs.lemmas.Kind.Channels.{items_change, no_items}
-use Rattle.sl_link.proofs.lemmas.Kind.Tc.{channels_are, small_channel, views_next}
+use Rattle.sl_link.proofs.lemmas.Kind.Tc.{tc_delivered, views_next}
+use Rattle.sl_link.proofs.lemmas.Verbs.Check.Open as few
 
 -- ---- the lines of a frame are few
 
@@ -92,6 +93,12 @@ four_lines r offset views (Err reason) = omega arith
 four_lines r offset views (Ok view) =
     few_by offset view.vc (map_by r view) (segments_of r view.vc (map_by r view) views) (is_plain r view.vc) (verdict_on r views view) view.content
 
+-- the lines by what a receiver made of the frame
+pub told_by : (r : ReceptionParameters) (offset : ℕ) (views : List TcView) (view : TcView) (step : StepReport) → step.map ≡ map_by r view → step.verdict ≡ verdict_on r views view
+    → step.stray ≡ stray_by r views view → step.dropped ≡ dropped_by r views view → step.long ≡ long_by r views view → step.tail ≡ tail_by r views view
+    → tc_amiss r offset views (Ok view) ≡ view_amiss offset view step
+told_by r offset views view step map verdict stray dropped long tail = rw (map, verdict, stray, dropped, long, tail) refl
+
 -- they are fewer than its octets
 pub few_lines : (p : Parameters) (frame : List ℕ) (offset : ℕ) (views : List TcView) → is_cut (tc_format p) frame ≡ true
     → length (tc_amiss (reception_of p) offset views (as_read p frame)) < length frame
@@ -101,45 +108,43 @@ few_lines p frame offset views cut =
 
 -- ---- the series that are incomplete
 
-flat_count : (f : ℕ → List (List ℕ)) (xs : List ℕ) → length (flat_map f xs) ≡ count_of (map f xs)
-flat_count f [] = refl
-flat_count f (x ∷ xs) = length-append (f x) (flat_map f xs) ∙ ap (λ n. length (f x) + n) (flat_count f xs)
-
 one_open : (offset vc mid : ℕ) (held : Option (List ℕ)) → length (incomplete_amiss offset vc mid held) ≤ 1
 one_open offset vc mid None = omega arith
 one_open offset vc mid (Some octets) = omega arith
 
-module _ (r : ReceptionParameters) (offset : ℕ) where
-  open_none : length (tc_incomplete r offset []) ≡ 0
-  open_none = flat_count (open_on r offset []) map_channels ∙ no_items channel_count map_channels (channels_are channel_count refl) (open_on r offset []) (λ channel. refl)
+-- the line of a series that is incomplete with this many octets so far
+abbrev open_line : ℕ → ℕ → ℕ → ℕ → List ℕ
+open_line offset vc mid octets = line_at offset (codes " open" ++ map_text vc mid ++ codes " octets " ++ decimal octets)
 
-  -- a frame opens at most one more
-  open_next : (views : List TcView) (read : Result TcView TcSkip) → channel_of r read < channel_count
-      → length (tc_incomplete r offset (with_frame views read)) ≤ length (tc_incomplete r offset views) + 1
-  open_next views (Err reason) range = omega arith
-  open_next views (Ok view) range =
-      let at = unit_channel r view in
-      let old = open_on r offset views in
-      let new = open_on r offset (views ++ view ∷ []) in
-      let change = items_change channel_count map_channels (channels_are channel_count refl) old new at range (λ i other. ap (λ held. length (incomplete_amiss offset (i / 64) (i % 64) held)) (incomplete_other r views view i other)) in
-      let one : length (new at) ≤ 1 = one_open offset (at / 64) (at % 64) (incomplete_of (segments_of r (at / 64) (at % 64) (views ++ view ∷ []))) in
-      omega (arith, change, one, flat_count old map_channels, flat_count new map_channels)
+line_by : (offset vc mid : ℕ) (held : Option (List ℕ))
+    → (if is_some held then open_line offset vc mid (unwrap_or (option_map length held) 0) ∷ [] else []) ≡ incomplete_amiss offset vc mid held
+line_by offset vc mid None = refl
+line_by offset vc mid (Some octets) = refl
 
-module _ (p : Parameters) (offset : ℕ) where
-  -- the series that are incomplete after these frames are no more than they
-  abbrev AreFew : List (List ℕ) → Type 0
-  AreFew frames = length (tc_incomplete (reception_of p) offset (views_of (tc_format p) p.spacecraft frames)) ≤ length frames
+-- the lines of a channel, by whether a series is incomplete there, and by its octets
+pub none_is : (offset vc mid : ℕ) (held : Option (List ℕ)) → false ≡ is_some held → [] ≡ incomplete_amiss offset vc mid held
+none_is offset vc mid held closed =
+    ap (λ (b : Bool). if◌then◌else◌ {A = List (List ℕ)} b (open_line offset vc mid (unwrap_or (option_map length held) 0) ∷ []) []) closed ∙ line_by offset vc mid held
 
-  few_next : (frames : List (List ℕ)) (frame : List ℕ) → AreFew frames → AreFew (frames ++ frame ∷ [])
-  few_next frames frame few =
-      let seen = views_of (tc_format p) p.spacecraft frames in
-      let next = ap (λ views. length (tc_incomplete (reception_of p) offset views)) (views_next (tc_format p) p.spacecraft frames frame) in
-      omega (arith, few, next, open_next (reception_of p) offset seen (as_read p frame) (small_channel p frame), length-append frames (frame ∷ []))
+pub one_is : (offset vc mid octets : ℕ) (held : Option (List ℕ)) → true ≡ is_some held → octets ≡ unwrap_or (option_map length held) 0
+    → open_line offset vc mid octets ∷ [] ≡ incomplete_amiss offset vc mid held
+one_is offset vc mid octets held opened has =
+    ap (λ (n : ℕ). open_line offset vc mid n ∷ []) has
+    ∙ ap (λ (b : Bool). if◌then◌else◌ {A = List (List ℕ)} b (open_line offset vc mid (unwrap_or (option_map length held) 0) ∷ []) []) opened
+    ∙ line_by offset vc mid held
 
-  few_from : (before frames : List (List ℕ)) → AreFew before → AreFew (before ++ frames)
-  few_from before [] few = subst AreFew (sym (append-nil before)) few
-  few_from before (frame ∷ frames) few =
-      subst AreFew (append_assoc before (frame ∷ []) frames) (few_from (before ++ frame ∷ []) frames (few_next before frame few))
+-- a frame of another channel leaves it
+open_other : (p : Parameters) (offset : ℕ) (views : List TcView) (read : Result TcView TcSkip) (channel : ℕ) → channel_of (reception_of p) read ≢ channel
+    → length (open_on (reception_of p) offset (with_frame views read) channel) ≡ length (open_on (reception_of p) offset views channel)
+open_other p offset views (Err reason) channel other = refl
+open_other p offset views (Ok view) channel other =
+    ap (λ held. length (incomplete_amiss offset (channel / 64) (channel % 64) held)) (incomplete_other (reception_of p) views view channel (λ e. other (sym e)))
 
-  pub few_open : (frames : List (List ℕ)) → AreFew frames
-  few_open frames = few_from [] frames (omega (arith, open_none (reception_of p) offset))
+pub few_open : (p : Parameters) (offset : ℕ) (frames : List (List ℕ)) → length (flat_map (tc_open p offset frames) (tc_kind p).channels) ≤ length frames
+few_open p offset frames =
+    few.few_open (tc_kind p) (tc_delivered p) (tc_open p offset) (λ channel. refl)
+    (λ before channel. one_open offset (channel / 64) (channel % 64) (incomplete_of (segments_of (reception_of p) (channel / 64) (channel % 64) (views_of (tc_format p) p.spacecraft before))))
+    (λ before frame channel other.
+    ap (λ views. length (open_on (reception_of p) offset views channel)) (views_next (tc_format p) p.spacecraft before frame)
+    ∙ open_other p offset (views_of (tc_format p) p.spacecraft before) (as_read p frame) channel other)
+    frames

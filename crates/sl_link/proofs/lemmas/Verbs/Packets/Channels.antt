@@ -1,5 +1,5 @@
 -- The packets of a listing, channel by channel: each has those that the recording delivers there.
-use Rattle.std.proofs.Common.{◌≡◌, ◌≢◌, ℕ, ◌<◌, ◌≤◌, ◌==◌, true, false, List, [], ◌∷◌, ◌++◌, map, inl, inr, refl, sym, ◌∙◌, ap, ap₂, arith, append_assoc, append-nil, not}
+use Rattle.std.proofs.Common.{◌≡◌, ℕ, ◌≤◌, ◌==◌, true, false, List, [], ◌∷◌, ◌++◌, map, inl, inr, refl, sym, ◌∙◌, ap, ap₂, arith, append_assoc, append-nil, not}
 use Rattle.std.specs.List.{concat, filter, slice_index_or, range_with_len}
 use Rattle.std.proofs.lemmas.Bool.Decides.{eqb_tells, leb_tells}
 use Rattle.std.proofs.lemmas.List.{map-append, get_or_past}
@@ -12,7 +12,7 @@ use Rattle.sl_link.specs.declared.verbs.packets.printer.ChannelKind.{ChannelKind
 use Rattle.sl_link.specs.Kind.Delivery.{AreDelivered, Kind, lists_in, packets_of}
 use Rattle.sl_link.specs.Verbs.Packets.Listed.{ListedPacket, ListsPackets, line_of, packets_listed_on}
 use Rattle.sl_link.specs.Verbs.Packets.Printed.{ArePrinted, lines_on, packets_listing}
-use Rattle.sl_link.specs.Verbs.Listing.{lines_from, text_of}
+use Rattle.sl_link.specs.Verbs.Listing.{lines_from, listing_text}
 
 -- packets, all on one channel
 abbrev listed_at : ℕ → List (List ℕ) → List ListedPacket
@@ -113,7 +113,7 @@ module _ (k : Kind) where
 
     -- So, of a whole recording, each list has its channel's packets.
     pub packets_are_listed : (kind : ChannelKind) (lines : List (List ℕ) → List ℕ → List ℕ) → ArePrinted k kind lines → (recording : List ℕ)
-        → ListsPackets kind (packets_of k recording) (text_of k.frames_of (packets_listing k lines) recording)
+        → ListsPackets kind (packets_of k recording) (listing_text k.frames_of (packets_listing k lines) recording)
     packets_are_listed kind lines printed recording =
         let frames = k.frames_of recording in
         record {

@@ -1,5 +1,5 @@
 -- The listings of packets, TM and TC, have the packets that a recording delivers.
-use Rattle.std.proofs.Common.{◌≡◌, ◌/◌, ◌%◌, ℕ, List, map, Result, Ok, Err, refl, sym, ap₂, arith}
+use Rattle.std.proofs.Common.{◌≡◌, ◌/◌, ◌%◌, List, map, Result, Ok, Err, refl, sym, ap₂, arith}
 use Rattle.std.specs.List.{concat}
 use Rattle.sl_packet.specs.Packets.{without_idle}
 use Rattle.sl_tcframe.specs.declared.tc_frame.TcSkip.{TcSkip}

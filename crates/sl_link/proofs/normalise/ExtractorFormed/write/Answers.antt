@@ -2,7 +2,7 @@ use Rattle.std.proofs.Common.{◌≡◌, ◌∙◌, List, [], ℕ, ap, subst, sy
 use Rattle.std.specs.List.{slice_index_or}
 use Rattle.sl_tmflow.specs.FormLeft.{HasPackets}
 use Rattle.sl_link.specs.Io.Streams.{WritesText}
-use Rattle.sl_link.specs.Kind.Delivery.{AreKept, packets_of}
+use Rattle.sl_link.specs.Kind.Delivery.{AreKept}
 use Rattle.sl_link.specs.Kind.Tm.{tm_kind}
 use Rattle.sl_link.specs.Link.Managed.{Parameters}
 use Rattle.sl_link.specs.Link.ManagedModel.{parameters_of}

@@ -1,6 +1,5 @@
 use Rattle.std.proofs.Common.{◌≡◌, ◌≢◌, ◌∙◌, List, [], ℕ, ap, refl, subst, sym, take, length, arith}
 use Rattle.std.proofs.lemmas.List.{take_all}
-use Rattle.sl_packet.specs.Delivered.{channel_count}
 use Rattle.sl_tcflow.specs.FitsTc.{FitsTc}
 use Rattle.sl_tcflow.proofs.lemmas.Form.Left.{none_at_all}
 use Rattle.sl_tcflow.proofs.lemmas.Reception.PlainRecording.{recorded_lists_fit}

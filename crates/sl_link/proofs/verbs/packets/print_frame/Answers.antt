@@ -1,4 +1,4 @@
-use Rattle.std.proofs.Common.{rules, ◌∙◌, sym}
+use Rattle.std.proofs.Common.{rules, sym}
 use Rattle.sl_link.proofs.lemmas.Verbs.Packets.Printer.{all_printed, memory_stops, stops_printing}
 use Rattle.sl_link.proofs.verbs.packets.print_frame.Goals as goal
 

@@ -18,5 +18,5 @@ loop-left-preserved g c =
     let left = c.loop-left.left.now in
     let parts : left ≡ c.split_at.result.0.now ++ c.split_at.result.1.now =
     rw (c.split_at.ensures.front, c.split_at.ensures.back) (sym (take-append-drop c.min.result left)) in
-    pushing_next g.W.Write.contents c.args.writer.now c.loop-left.writer c.make_room.new.writer c.args.lines.now c.loop-left.lines c.make_room.new.lines c.push_hexadecimal.new.self
-    c.args.octets.now left c.split_at.result.0.now c.split_at.result.1.now c.loop-left.invariant parts c.in_ok-make_room.ensures.kept c.push_hexadecimal.ensures
+    pushing_next g.W.Write.contents c.args.writer.now c.loop-left.writer c.make_room.new.writer c.args.lines.now c.loop-left.lines c.make_room.new.lines c.push_hex.new.self
+    c.args.octets.now left c.split_at.result.0.now c.split_at.result.1.now c.loop-left.invariant parts c.in_ok-make_room.ensures.kept c.push_hex.ensures

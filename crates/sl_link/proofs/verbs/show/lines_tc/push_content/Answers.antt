@@ -12,6 +12,6 @@ pub returns-in-Ad-clause-text : goal.returns-in-Ad-clause-text
 returns-in-Ad-clause-text c =
     let unit = unit_text c.args.plain c.in-Ad.unit.now in
     c.push_unit.ensures.text
-    ∙ ap (λ (lines : List ℕ). lines ++ unit) (c.push_octet.ensures.text ∙ ap (λ (lines : List ℕ). lines ++ decimal c.in-Ad.ns) c.push.ensures)
+    ∙ ap (λ (lines : List ℕ). lines ++ unit) (c.push_small_number.ensures.text ∙ ap (λ (lines : List ℕ). lines ++ decimal c.in-Ad.ns) c.push.ensures)
     ∙ three c.args.lines.now (codes " ad ") (decimal c.in-Ad.ns) unit
     ∙ ap (λ (carried : TcContent). c.args.lines.now ++ 32 ∷ content_text c.args.plain (content carried)) (sym c.in-Ad.is)

@@ -1,3 +1,0 @@
-pub mod Farms
-pub mod Tc
-pub mod Tm

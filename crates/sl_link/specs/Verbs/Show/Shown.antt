@@ -1,0 +1,26 @@
+-- The listing of the frames of a recording, whatever kind they are.
+use Rattle.std.specs.Prelude.{ℕ, ◌+◌, Bool, List, length}
+use Rattle.std.specs.List.{concat}
+use Rattle.sl_link.specs.declared.tally.Tally.{Tally}
+use Rattle.sl_link.specs.Io.Line.{remainder_line}
+use Rattle.sl_link.specs.Link.Totals.{Counts}
+use Rattle.sl_link.specs.Tally.{HasCountedAlone, counts_with, skipped_in}
+use Rattle.sl_link.specs.Verbs.Listing.{Listing}
+
+-- what is counted in frames, and a remainder of this many octets
+abbrev pub show_counted : (List ℕ → Bool) → List (List ℕ) → ℕ → Counts
+show_counted is_skipped frames rest = counts_with (length (concat frames) + rest) (length frames) (skipped_in is_skipped frames) rest 0 0 0
+
+-- the listing: a line for each frame, and one for a remainder
+abbrev pub show_listing : (List ℕ → Bool) → (List (List ℕ) → List ℕ → List ℕ) → Listing
+show_listing is_skipped line =
+    record {
+      line = line;
+      last = λ frames rest. remainder_line (length (concat frames)) rest;
+      counts = show_counted is_skipped;
+    }
+
+-- These frames were shown and counted. Contracts of private functions alone cite this.
+pub record HasShown (is_skipped : List ℕ → Bool) (had : List (List ℕ) → Type 0) (frames : List (List ℕ)) (t : Tally) : Type 0 where
+  pub shown : had frames
+  pub counted : HasCountedAlone (skipped_in is_skipped) frames t

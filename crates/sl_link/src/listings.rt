@@ -1,0 +1,228 @@
+//! The listings of recordings.
+ghost use Rattle.std.specs.Prelude.{◌≡◌, ◌≢◌, IfOk, IfErr, OnOk, Err};
+ghost use Rattle.sl_tcframe.specs.TcDelimited.{tc_frames_of};
+ghost use Rattle.sl_tmframe.specs.TmDelimited.{tm_frames_of};
+ghost use Rattle.sl_link.specs.Kind.Tc.{WantsMemoryTc, tc_counts};
+ghost use Rattle.sl_link.specs.Kind.Tm.{WantsMemoryTm, tm_counts};
+ghost use Rattle.sl_link.specs.Link.Managed.{tc_format};
+ghost use Rattle.sl_link.specs.Verbs.Check.Tc.{check_tc_counts, check_tc_text};
+ghost use Rattle.sl_link.specs.Verbs.Check.Tm.{check_tm_counts, check_tm_text};
+ghost use Rattle.sl_link.specs.Verbs.Packets.Tc.{packets_tc_text};
+ghost use Rattle.sl_link.specs.Verbs.Packets.Tm.{packets_tm_text};
+ghost use Rattle.sl_link.specs.Verbs.Show.Tc.{show_tc_counts, show_tc_text};
+ghost use Rattle.sl_link.specs.Verbs.Show.Tm.{show_tm_counts, show_tm_text};
+ghost use Rattle.sl_link.specs.Io.Streams.{Stops, Translates, TranslatesAndCounts};
+ghost use Rattle.sl_link.specs.Verbs.Listing.{WantedMemory};
+ghost use Rattle.sl_link.specs.Pass.{chunk_size};
+
+use crate::link::counted::Counted;
+use crate::link::fault::LinkFault;
+use crate::link::managed::Managed;
+use crate::link::totals::Totals;
+use crate::pass::CHUNK_SIZE;
+use crate::verbs::check::Check;
+use crate::verbs::list;
+use crate::verbs::packets::Packets;
+use crate::verbs::show::Show;
+use crate::verbs::show::shown::TmFrames;
+use sl_tcflow::{Farms, Receiver};
+use sl_tcframe::TcFramer;
+use sl_tmflow::Extractor;
+use sl_tmframe::TmFramer;
+use std::alloc::Global;
+use std::io::{Read, Write};
+
+/// Reads a recording of TM transfer frames to its end and writes a line for each frame, and one for a
+/// remainder. It keeps one frame at most and takes no memory.
+///
+/// The fault is `Read` where the reader had one, `TooLong` where more octets came than the managed limit, and `Write`
+/// where the writer had one.
+pub fn show_tm<R: Read, W: Write>(
+    managed: &Managed,
+    reader: &mut Counted<R>,
+    writer: &mut Counted<W>,
+) -> Result<Totals, LinkFault>
+    // All is read, and its listing is written and nothing else.
+    ensures listing { OnOk result (Translates R.remaining W.contents reader.old reader.new
+        writer.old writer.new (show_tm_text managed.now) managed.now.max_octets) }
+    // The totals are those of what was read.
+    ensures totals { IfOk result (TranslatesAndCounts R.remaining W.contents reader.old reader.new
+        writer.old writer.new (show_tm_text managed.now) (show_tm_counts managed.now)
+        managed.now.max_octets) }
+    // After a fault, whose cause is there, a prefix of the listing of what was read is written.
+    ensures fault { IfErr result (Stops R.remaining W.contents reader.old reader.new
+        writer.old writer.new (show_tm_text managed.now) managed.now.max_octets chunk_size) }
+    ensures no_memory { result ≢ Err LinkFault.Memory }
+{
+    let mut buffer = [0; CHUNK_SIZE];
+    let mut framer = TmFramer::new(&managed.tm);
+    let mut verb = Show::<TmFrames>::begin(managed);
+    list(managed, &mut framer, &mut verb, reader, writer, &mut buffer)
+}
+
+/// Reads a recording of TC transfer frames (CCSDS 232.0-B) to its end and writes a line for each frame, with
+/// what FARM-1 of its virtual channel makes of it and the CLCW after it, and one for a remainder: a last frame
+/// that isn't whole, or all octets from the first stated length on that no frame can have.
+///
+/// It keeps one frame at most and the FARM-1 of 64 virtual channels, and takes no memory: a fault is
+/// `Read`, `TooLong` or `Write`.
+pub fn show_tc<R: Read, W: Write>(
+    managed: &Managed,
+    reader: &mut Counted<R>,
+    writer: &mut Counted<W>,
+) -> Result<Totals, LinkFault>
+    // All is read, and its listing is written and nothing else.
+    ensures listing { OnOk result (Translates R.remaining W.contents reader.old reader.new
+        writer.old writer.new (show_tc_text managed.now) managed.now.max_octets) }
+    // The totals are those of what was read.
+    ensures totals { IfOk result (TranslatesAndCounts R.remaining W.contents reader.old reader.new
+        writer.old writer.new (show_tc_text managed.now) (show_tc_counts managed.now)
+        managed.now.max_octets) }
+    // After a fault, whose cause is there, a prefix of the listing of what was read is written.
+    ensures fault { IfErr result (Stops R.remaining W.contents reader.old reader.new
+        writer.old writer.new (show_tc_text managed.now) managed.now.max_octets chunk_size) }
+    ensures no_memory { result ≢ Err LinkFault.Memory }
+{
+    let mut buffer = [0; CHUNK_SIZE];
+    let mut framer = TcFramer::new(&managed.tc);
+    let mut verb = Show::<Farms>::begin(managed);
+    list(managed, &mut framer, &mut verb, reader, writer, &mut buffer)
+}
+
+/// Reads a recording of TM transfer frames to its end, and writes a line for each thing that is amiss in it, and
+/// then one of its totals (docs/listings.md). It keeps one frame at most, and the packet that is incomplete on each
+/// virtual channel.
+///
+/// The fault is `Read` where the reader had one, `TooLong` where more octets came than the managed limit, `Memory`
+/// where memory was refused, which is wanted only where a packet is incomplete on the virtual channel of a frame, before
+/// the frame or after it, and `Write` where the writer had one.
+pub fn check_tm<R: Read, W: Write>(
+    alloc: Global,
+    managed: &Managed,
+    reader: &mut Counted<R>,
+    writer: &mut Counted<W>,
+) -> Result<Totals, LinkFault>
+    // All is read, and its listing is written and nothing else.
+    ensures listing { OnOk result (Translates R.remaining W.contents reader.old reader.new
+        writer.old writer.new (check_tm_text managed.now) managed.now.max_octets) }
+    // The totals are those of what was read.
+    ensures totals { IfOk result (TranslatesAndCounts R.remaining W.contents reader.old reader.new
+        writer.old writer.new (check_tm_text managed.now) (check_tm_counts managed.now)
+        managed.now.max_octets) }
+    // After a fault, whose cause is there, a prefix of the listing of what was read is written.
+    ensures fault { IfErr result (Stops R.remaining W.contents reader.old reader.new
+        writer.old writer.new (check_tm_text managed.now) managed.now.max_octets chunk_size) }
+    // Memory is refused only where, around some frame of what was read, a packet is incomplete on its virtual channel.
+    ensures memory { IfErr result (λ fault. fault ≡ LinkFault.Memory
+        → WantedMemory R.remaining reader.old reader.new (tm_frames_of managed.now.tm_length)
+        (WantsMemoryTm managed.now)) }
+{
+    let mut buffer = [0; CHUNK_SIZE];
+    let mut framer = TmFramer::new(&managed.tm);
+    let mut verb = Check::<Extractor>::begin(alloc, managed);
+    list(managed, &mut framer, &mut verb, reader, writer, &mut buffer)
+}
+
+/// Reads a recording of TC transfer frames to its end, and writes a line for each thing that is amiss in it, and
+/// then one of its totals (docs/listings.md). It keeps one frame at most, the FARM-1 of 64 virtual channels, and the
+/// series that is incomplete on each MAP.
+///
+/// The fault is `Read` where the reader had one, `TooLong` where more octets came than the managed limit, `Memory`
+/// where memory was refused, which is wanted only where the unit of a frame is accepted and a series is incomplete on
+/// its MAP, before the frame or after it, and `Write` where the writer had one.
+pub fn check_tc<R: Read, W: Write>(
+    alloc: Global,
+    managed: &Managed,
+    reader: &mut Counted<R>,
+    writer: &mut Counted<W>,
+) -> Result<Totals, LinkFault>
+    // All is read, and its listing is written and nothing else.
+    ensures listing { OnOk result (Translates R.remaining W.contents reader.old reader.new
+        writer.old writer.new (check_tc_text managed.now) managed.now.max_octets) }
+    // The totals are those of what was read.
+    ensures totals { IfOk result (TranslatesAndCounts R.remaining W.contents reader.old reader.new
+        writer.old writer.new (check_tc_text managed.now) (check_tc_counts managed.now)
+        managed.now.max_octets) }
+    // After a fault, whose cause is there, a prefix of the listing of what was read is written.
+    ensures fault { IfErr result (Stops R.remaining W.contents reader.old reader.new
+        writer.old writer.new (check_tc_text managed.now) managed.now.max_octets chunk_size) }
+    // Memory is refused only where the unit of some frame of what was read is accepted, and a series is incomplete
+    // around it on its MAP.
+    ensures memory { IfErr result (λ fault. fault ≡ LinkFault.Memory
+        → WantedMemory R.remaining reader.old reader.new (tc_frames_of (tc_format managed.now))
+        (WantsMemoryTc managed.now)) }
+{
+    let mut buffer = [0; CHUNK_SIZE];
+    let mut framer = TcFramer::new(&managed.tc);
+    let mut verb = Check::<Receiver>::begin(alloc, managed);
+    list(managed, &mut framer, &mut verb, reader, writer, &mut buffer)
+}
+
+/// Reads a recording of TM transfer frames to its end, and writes a line for each packet that its frames deliver, in
+/// the order of the frames in which they end (docs/listings.md). It keeps one frame at most, and the packet that is
+/// incomplete on each virtual channel.
+///
+/// The fault is `Read` where the reader had one, `TooLong` where more octets came than the managed limit, `Memory`
+/// where memory was refused, which is wanted only where a packet is incomplete on the virtual channel of a frame, before
+/// the frame or after it, and `Write` where the writer had one.
+pub fn packets_tm<R: Read, W: Write>(
+    alloc: Global,
+    managed: &Managed,
+    reader: &mut Counted<R>,
+    writer: &mut Counted<W>,
+) -> Result<Totals, LinkFault>
+    // All is read, and its listing is written and nothing else.
+    ensures listing { OnOk result (Translates R.remaining W.contents reader.old reader.new
+        writer.old writer.new (packets_tm_text managed.now) managed.now.max_octets) }
+    // The totals are those of what was read.
+    ensures totals { IfOk result (TranslatesAndCounts R.remaining W.contents reader.old reader.new
+        writer.old writer.new (packets_tm_text managed.now) (tm_counts managed.now)
+        managed.now.max_octets) }
+    // After a fault, whose cause is there, a prefix of the listing of what was read is written.
+    ensures fault { IfErr result (Stops R.remaining W.contents reader.old reader.new
+        writer.old writer.new (packets_tm_text managed.now) managed.now.max_octets chunk_size) }
+    // Memory is refused only where, around some frame of what was read, a packet is incomplete on its virtual channel.
+    ensures memory { IfErr result (λ fault. fault ≡ LinkFault.Memory
+        → WantedMemory R.remaining reader.old reader.new (tm_frames_of managed.now.tm_length)
+        (WantsMemoryTm managed.now)) }
+{
+    let mut buffer = [0; CHUNK_SIZE];
+    let mut framer = TmFramer::new(&managed.tm);
+    let mut verb = Packets::<Extractor>::begin(alloc, managed);
+    list(managed, &mut framer, &mut verb, reader, writer, &mut buffer)
+}
+
+/// Reads a recording of TC transfer frames to its end, and writes a line for each packet that its frames deliver, in
+/// the order of the frames whose accepted units end the series that they are of (docs/listings.md). It keeps one frame at
+/// most, the FARM-1 of 64 virtual channels, and the series that is incomplete on each MAP.
+///
+/// The fault is `Read` where the reader had one, `TooLong` where more octets came than the managed limit, `Memory`
+/// where memory was refused, which is wanted only where the unit of a frame is accepted and a series is incomplete on
+/// its MAP, before the frame or after it, and `Write` where the writer had one.
+pub fn packets_tc<R: Read, W: Write>(
+    alloc: Global,
+    managed: &Managed,
+    reader: &mut Counted<R>,
+    writer: &mut Counted<W>,
+) -> Result<Totals, LinkFault>
+    // All is read, and its listing is written and nothing else.
+    ensures listing { OnOk result (Translates R.remaining W.contents reader.old reader.new
+        writer.old writer.new (packets_tc_text managed.now) managed.now.max_octets) }
+    // The totals are those of what was read.
+    ensures totals { IfOk result (TranslatesAndCounts R.remaining W.contents reader.old reader.new
+        writer.old writer.new (packets_tc_text managed.now) (tc_counts managed.now)
+        managed.now.max_octets) }
+    // After a fault, whose cause is there, a prefix of the listing of what was read is written.
+    ensures fault { IfErr result (Stops R.remaining W.contents reader.old reader.new
+        writer.old writer.new (packets_tc_text managed.now) managed.now.max_octets chunk_size) }
+    // Memory is refused only where the unit of some frame of what was read is accepted, and a series is incomplete
+    // around it on its MAP.
+    ensures memory { IfErr result (λ fault. fault ≡ LinkFault.Memory
+        → WantedMemory R.remaining reader.old reader.new (tc_frames_of (tc_format managed.now))
+        (WantsMemoryTc managed.now)) }
+{
+    let mut buffer = [0; CHUNK_SIZE];
+    let mut framer = TcFramer::new(&managed.tc);
+    let mut verb = Packets::<Receiver>::begin(alloc, managed);
+    list(managed, &mut framer, &mut verb, reader, writer, &mut buffer)
+}

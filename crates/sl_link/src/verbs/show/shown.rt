@@ -1,0 +1,101 @@
+//! How a frame of a kind, TM or TC, is shown.
+ghost use Rattle.std.specs.Prelude.{◌≡◌, ◌<◌, ◌++◌, ◌∷◌, [], ℕ, Bool, List, length};
+ghost use Rattle.std.specs.List.{concat};
+ghost use Rattle.sl_link.specs.Io.Room.{HasRoom};
+
+use crate::io::lines::Lines;
+use crate::link::managed::Managed;
+use crate::verbs::show::lines_tc::tc_frame_line;
+use crate::verbs::show::lines_tm::tm_frame_line;
+use sl_tcflow::Farms;
+use sl_tcframe::TcFrame;
+use sl_tmframe::TmFrame;
+
+/// How a frame of a kind is shown.
+pub trait Shown: Drop {
+    ghost use Rattle.sl_link.specs.Link.Managed.{Parameters};
+
+    /// Octets are a frame.
+    ghost is_frame: { Parameters → List ℕ → Type 0 };
+
+    /// A frame is skipped.
+    ghost is_skipped: { Parameters → List ℕ → Bool };
+
+    /// The line of a frame that comes after others.
+    ghost line: { Parameters → List (List ℕ) → List ℕ → List ℕ };
+
+    /// These frames have been shown.
+    ghost has_shown: { Self → Parameters → List (List ℕ) → Type 0 };
+
+    /// No frame has been shown.
+    fn begin(managed: &Managed) -> Self
+        ensures { has_shown result managed.now [] };
+
+    /// Adds the line of the next frame, at its offset, and answers whether the frame is skipped.
+    fn show(&mut self, managed: &Managed, frame: &[u8], offset: u64, lines: &mut Lines) -> bool
+        requires before { (before : List (List ℕ)) × has_shown self.old managed.now before
+            × is_frame managed.now frame.now }
+        requires room { HasRoom lines.old }
+        ensures skipped { result ≡ is_skipped managed.now frame.now }
+        ensures some { 0 < length frame.now }
+        ensures line { (before : List (List ℕ)) → has_shown self.old managed.now before
+            → offset ≡ length (concat before)
+            → lines.new ≡ lines.old ++ line managed.now before frame.now }
+        ensures shown { (before : List (List ℕ)) → has_shown self.old managed.now before
+            → has_shown self.new managed.now (before ++ frame.now ∷ []) };
+}
+
+/// TM frames: of the frames before one nothing is kept.
+#[derive(Drop)]
+pub struct TmFrames;
+
+impl Shown for TmFrames {
+    ghost use Rattle.std.specs.Prelude.{⊤};
+    ghost use Rattle.sl_link.specs.Pass.Tm.{is_tm_frame};
+    ghost use Rattle.sl_link.specs.Verbs.Show.Tm.{tm_is_skipped, tm_line};
+
+    ghost is_frame = { is_tm_frame };
+
+    ghost is_skipped = { tm_is_skipped };
+
+    ghost line = { tm_line };
+
+    ghost has_shown = { λ frames p before. ⊤ };
+
+    fn begin(_managed: &Managed) -> TmFrames {
+        TmFrames
+    }
+
+    fn show(&mut self, managed: &Managed, frame: &[u8], offset: u64, lines: &mut Lines) -> bool {
+        let read = TmFrame::read(&managed.tm, managed.spacecraft, frame);
+        tm_frame_line(lines, offset, &read);
+        read.is_err()
+    }
+}
+
+impl Shown for Farms {
+    ghost use Rattle.sl_link.specs.Pass.Tc.{is_tc_frame};
+    ghost use Rattle.sl_tcflow.specs.AcceptedUnit.{views_of};
+    ghost use Rattle.sl_tcflow.specs.Receiving.{HaveStepped};
+    ghost use Rattle.sl_link.specs.Link.Managed.{reception_of, tc_format};
+    ghost use Rattle.sl_link.specs.Verbs.Show.Tc.{tc_is_skipped, tc_line};
+
+    ghost is_frame = { is_tc_frame };
+
+    ghost is_skipped = { tc_is_skipped };
+
+    ghost line = { tc_line };
+
+    ghost has_shown = { λ farms p before. HaveStepped (reception_of p) farms
+        (views_of (tc_format p) p.spacecraft before) };
+
+    fn begin(managed: &Managed) -> Farms {
+        Farms::new(managed.window, &managed.starts)
+    }
+
+    fn show(&mut self, managed: &Managed, frame: &[u8], offset: u64, lines: &mut Lines) -> bool {
+        let read = TcFrame::read(&managed.tc, managed.spacecraft, frame);
+        tc_frame_line(lines, offset, &managed.plain, self, &read);
+        read.is_err()
+    }
+}

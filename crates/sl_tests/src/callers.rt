@@ -1,5 +1,7 @@
 //! Callers whose own contract is what the laws of FARM-1 promise, of a FARM-1 and a window that they
 //! are lent: nothing is known of how these were made.
+mod extractor;
+
 ghost use Rattle.std.specs.Prelude.{◌≡◌, [], ◌∷◌, List};
 ghost use Rattle.sl_cop.specs.Farm.{FarmState, IsRun, IsStep, farm_start};
 ghost use Rattle.sl_cop.specs.declared.verdict.Verdict as specs;

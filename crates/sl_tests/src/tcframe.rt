@@ -205,17 +205,5 @@ fn nothing_but_the_managed_length_makes_a_frame_too_long(rt: HostRuntime) {
 
 // Whether a frame carries the same as this, with the same octets of the unit.
 fn carries(frame: &TcFrame, content: &TcContent) -> bool {
-    match (frame.content(), content) {
-        (
-            TcContent::Ad { ns, unit },
-            TcContent::Ad {
-                ns: other,
-                unit: octets,
-            },
-        ) => { ns == *other && unit == *octets }
-        (TcContent::Bd { unit }, TcContent::Bd { unit: octets }) => unit == *octets,
-        (TcContent::Unlock, TcContent::Unlock) => true,
-        (TcContent::SetVr(vr), TcContent::SetVr(value)) => vr == *value,
-        _ => false,
-    }
+    frame.content() == *content
 }

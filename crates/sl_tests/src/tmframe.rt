@@ -1,5 +1,6 @@
 //! Frames of known octets, as they are read and written. The headers follow from the table of bits; the error
 //! control fields are known from outside.
+mod field;
 mod framer;
 
 ghost use Rattle.std.specs.Prelude.{IfSome, IsTrue, ◌<◌};
@@ -218,10 +219,11 @@ fn view(frame: &TmFrame) -> View {
 
 // Whether a frame has octets of packets, these, and the first packet starts there.
 fn has_packets(frame: &TmFrame, start: Option<u16>, field: &[u8]) -> bool {
-    match frame.field() {
-        TmField::Packets { first, octets } => first == start && octets == field,
-        _ => false,
-    }
+    let packets = TmField::Packets {
+        first: start,
+        octets: field,
+    };
+    frame.field() == packets
 }
 
 // Whether this is read of a frame of a format with error control or without.

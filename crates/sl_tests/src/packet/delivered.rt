@@ -2,7 +2,7 @@
 ghost use Rattle.std.specs.Prelude.{◌≡◌, ◌++◌};
 
 use super::{OCTETS, REST};
-use crate::support::packets::{at_or_above, fits_tm, hand, has, none};
+use crate::support::packets::{at_or_above, fits_tm, hand, has, have_same, none};
 use crate::support::recordings::{LEAST, TELEMETRY};
 use crate::support::rows::{Stop, holds, passes};
 use sl_packet::{Delivered, PacketSink, SinkFault, first_packet, is_idle};
@@ -38,16 +38,20 @@ fn kept(alloc: Global) -> Result<Delivered, SinkFault> {
     Ok(delivered)
 }
 
-// Each channel has its packets, and is found. Without any packets there is none.
+// Each channel has its packets, and is found. Without any packets there is none. A store that was
+// handed the same packets has the same, and an empty one hasn't.
 fn are_kept(rt: &impl Abort, alloc: Global) -> Result<bool, Stop> {
     let delivered = kept(alloc)?;
+    let empty = none(alloc);
     for (channel, packets) in &KEPT {
         holds(rt, channel, has(&delivered, *channel, packets));
     }
     for (channel, least) in &AT_OR_ABOVE {
         holds(rt, channel, at_or_above(&delivered, *channel) == *least);
     }
-    Ok(at_or_above(&none(alloc), 0).is_none())
+    holds(rt, &"the same", have_same(&delivered, &kept(alloc)?));
+    holds(rt, &"other packets", !have_same(&delivered, &empty));
+    Ok(at_or_above(&empty, 0).is_none())
 }
 
 #[test]

@@ -73,6 +73,11 @@ pub fn at_or_above(delivered: &Delivered, channel: u16) -> Option<u16> {
     delivered.at_or_above(channel)
 }
 
+/// Whether both have the same packets on each channel.
+pub fn have_same(delivered: &Delivered, other: &Delivered) -> bool {
+    delivered.has_same_packets(other)
+}
+
 /// Whether each channel that has packets is a virtual channel of telemetry.
 pub fn fits_tm(delivered: &Delivered) -> bool {
     delivered.fits_tm()

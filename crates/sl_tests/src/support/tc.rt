@@ -6,7 +6,7 @@ use super::packets::delivered_of;
 use super::rows::Stop;
 use sl_cop::{Starts, Verdict};
 use sl_packet::{Delivered, FlowFault, PacketSink};
-use sl_tcflow::{Receiver, TcStep, fits_tc, reframe_tc};
+use sl_tcflow::{Farms, Receiver, TcStep, fits_tc, reframe_tc};
 use sl_tcframe::{TcFrame, TcShape, TcSkip, VcSet};
 use std::alloc::Global;
 
@@ -60,6 +60,12 @@ pub fn receiver(alloc: Global, vr: u8) -> Result<Receiver, Stop> {
 pub fn receiver_with(alloc: Global, starts: &Starts, plain: VcSet) -> Result<Receiver, Stop> {
     let window = cop::window(10).ok_or(Stop::Absent)?;
     Ok(Receiver::new(alloc, window, starts, plain))
+}
+
+/// FARM-1 of each virtual channel, with a window of 10 and this V(R).
+pub fn farms(vr: u8) -> Result<Farms, Stop> {
+    let window = cop::window(10).ok_or(Stop::Absent)?;
+    Ok(Farms::new(window, &cop::all(vr)))
 }
 
 /// What a receiver answers to a frame of spacecraft 1.

@@ -7,7 +7,7 @@ use super::{
 use crate::support::packets::{has, longest, none};
 use crate::support::recordings::{LEAST, LONGER};
 use crate::support::rows::{Stop, passes};
-use crate::support::tc::{amiss, held, receiver};
+use crate::support::tc::{amiss, held, receiver, step_of};
 use sl_packet::Delivered;
 use sl_tcflow::Receiver;
 use std::alloc::Global;
@@ -24,6 +24,9 @@ const WITH_TAIL: [u8; 14] = [
 
 // A last segment of one octet, in a frame of type BD.
 const LAST_BYPASSING: [u8; 7] = [0x20, 0x01, 0x00, 0x06, 0x00, 0x80, 0x33];
+
+// A first segment without octets on virtual channel 63 and MAP 63, in a frame of type BD.
+const FIRST_ON_LAST: [u8; 6] = [0x20, 0x01, 0xFC, 0x05, 0x00, 0x7F];
 
 // A frame; what is amiss with its unit; and a virtual channel, a MAP, and what is held there after it.
 type Frame<'a> = (
@@ -105,6 +108,39 @@ fn is_series(
 fn what_is_amiss_is_told(rt: HostRuntime) {
     for (name, frames, packets) in &SERIES {
         passes(&rt, name, is_series(&rt, rt.alloc(), frames, *packets));
+    }
+}
+
+// Frames one after another, and the channel from which on no series is incomplete then.
+static OPEN: [(&[&[u8]], u16); 8] = [
+    (&[], 0),
+    (&[&EMPTY_FIRST], 1),
+    (&[STRAY_ON_1], 0),
+    (&[STRAY_ON_1, FIRST_ON_1, FIRST_ON_2, LAST_ON_1], 3),
+    (&[&FIRST_ON_LAST], 4096),
+    (&[STRAY_ON_1, FIRST_ON_1, FIRST_OF_3], 321),
+    (
+        &[STRAY_ON_1, FIRST_ON_1, FIRST_OF_3, MIDDLE_OF_3, LAST_OF_3],
+        2,
+    ),
+    (&[FIRST_OF_3, MIDDLE_OF_3, LAST_OF_3], 0),
+];
+
+// Whether that is so of frames.
+fn is_none_open_from(alloc: Global, frames: &[&[u8]], channel: u16) -> Result<bool, Stop> {
+    let mut receiver = receiver(alloc, 0)?;
+    let mut delivered = none(alloc);
+    for frame in frames {
+        step_of(&mut receiver, frame, &mut delivered)?;
+    }
+    Ok(receiver.none_open_from() == channel)
+}
+
+#[test]
+fn no_series_is_open_from_a_channel_on(rt: HostRuntime) {
+    for row in &OPEN {
+        let (frames, channel) = *row;
+        passes(&rt, row, is_none_open_from(rt.alloc(), frames, channel));
     }
 }
 

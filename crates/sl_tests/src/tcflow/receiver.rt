@@ -3,14 +3,17 @@ use super::{
     AGAIN_ON_2, FIRST_OF_3, FIRST_ON_1, FIRST_ON_2, LAST_OF_3, LAST_ON_1, LAST_ON_2, MIDDLE_OF_3,
     STRAY_ON_1,
 };
+use crate::support::cop;
 use crate::support::packets::{Packets, are_all, none};
 use crate::support::recordings::{COMMAND, LEAST, LONGER, TC_FRAME};
 use crate::support::rows::{Stop, passes};
 use crate::support::sinks::Counts;
-use crate::support::tc::{clcw, received, receiver};
+use crate::support::tc::{
+    clcw, farms, frame, received, receiver, receiver_with, set_of, shape, step_of,
+};
 use sl_cop::Verdict;
 use sl_packet::Delivered;
-use sl_tcflow::Receiver;
+use sl_tcflow::{Farms, Receiver};
 use std::alloc::Global;
 use std::process::Abort;
 
@@ -169,6 +172,66 @@ fn is_so(rt: &impl Abort, alloc: Global, case: &Case) -> Result<bool, Stop> {
         passes(rt, row, brings(&mut receiver, &mut delivered, row));
     }
     Ok(are_all(&delivered, packets) && report(&receiver, words))
+}
+
+// Whether FARM-1 of its virtual channel gives a frame its verdict.
+fn is_stepped(farms: &mut Farms, row: &Frame) -> Result<bool, Stop> {
+    let (octets, (verdict, _, _)) = row;
+    let shape = shape(1024, false)?;
+    let frame = frame(&shape, octets)?;
+    Ok(farms.step(&frame) == *verdict)
+}
+
+fn farms_report(farms: &Farms, words: &[Word]) -> bool {
+    for (vc, word) in words {
+        if *vc > 63 || farms.clcw(*vc).write() != *word {
+            return false;
+        }
+    }
+    true
+}
+
+// Whether the same holds of the FARM-1s alone.
+fn is_so_of_farms(rt: &impl Abort, case: &Case) -> Result<bool, Stop> {
+    let (_, vr, frames, _, words) = case;
+    let mut farms = farms(*vr)?;
+    for row in *frames {
+        passes(rt, row, is_stepped(&mut farms, row));
+    }
+    Ok(farms_report(&farms, words))
+}
+
+#[test]
+fn frames_step_farms(rt: HostRuntime) {
+    for case in &CASES {
+        passes(&rt, &case.0, is_so_of_farms(&rt, case));
+    }
+}
+
+// A frame on virtual channel 0, whether the channel has no segment headers, and the MAP of the frame's unit.
+type Mapped<'a> = (&'a [u8], bool, u8);
+
+static MAPS: [Mapped; 5] = [
+    (FIRST_ON_1, false, 1),
+    (LAST_ON_2, false, 2),
+    (FIRST_ON_1, true, 0),
+    (&UNLOCK, false, 0),
+    (&SET_VR_5, true, 0),
+];
+
+fn has_map(alloc: Global, row: &Mapped) -> Result<bool, Stop> {
+    let (frame, is_plain, map) = row;
+    let plain: &[u8] = if *is_plain { &[0] } else { &[] };
+    let mut receiver = receiver_with(alloc, &cop::all(0), set_of(plain))?;
+    let step = step_of(&mut receiver, frame, &mut Counts { packets: 0 })?;
+    Ok(step.map() == *map)
+}
+
+#[test]
+fn steps_name_maps(rt: HostRuntime) {
+    for row in &MAPS {
+        passes(&rt, row, has_map(rt.alloc(), row));
+    }
 }
 
 #[test]

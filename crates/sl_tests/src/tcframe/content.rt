@@ -1,7 +1,7 @@
 //! What frames carry.
 use super::carries;
 use crate::support::recordings::TC_FRAME;
-use crate::support::rows::{Stop, passes};
+use crate::support::rows::{Stop, holds, passes};
 use crate::support::tc::{frame, shape};
 use sl_tcframe::TcContent;
 
@@ -99,6 +99,87 @@ static WITH_FECF: [(&[u8], u8, TcContent); 4] = [
     ),
 ];
 
+// Two contents, and whether they are equal.
+static COMPARED: [(TcContent, TcContent, bool); 14] = [
+    // The same, with the octets of the unit at another place.
+    (
+        TcContent::Ad { ns: 4, unit: UNIT },
+        TcContent::Ad {
+            ns: 4,
+            unit: &[0xC0, 0x00],
+        },
+        true,
+    ),
+    (
+        TcContent::Bd { unit: UNIT },
+        TcContent::Bd {
+            unit: &[0xC0, 0x00],
+        },
+        true,
+    ),
+    (TcContent::Unlock, TcContent::Unlock, true),
+    (TcContent::SetVr(5), TcContent::SetVr(5), true),
+    // Another N(S), another octet of the unit, and one octet less.
+    (
+        TcContent::Ad { ns: 4, unit: UNIT },
+        TcContent::Ad { ns: 5, unit: UNIT },
+        false,
+    ),
+    (
+        TcContent::Ad { ns: 4, unit: UNIT },
+        TcContent::Ad {
+            ns: 4,
+            unit: &[0xC0, 0x01],
+        },
+        false,
+    ),
+    (
+        TcContent::Ad { ns: 4, unit: UNIT },
+        TcContent::Ad {
+            ns: 4,
+            unit: &[0xC0],
+        },
+        false,
+    ),
+    (
+        TcContent::Bd { unit: UNIT },
+        TcContent::Bd {
+            unit: &[0xC1, 0x00],
+        },
+        false,
+    ),
+    (
+        TcContent::Bd { unit: UNIT },
+        TcContent::Bd { unit: WHOLE },
+        false,
+    ),
+    // Another value to set.
+    (TcContent::SetVr(5), TcContent::SetVr(6), false),
+    // Another type, and another control command.
+    (
+        TcContent::Ad { ns: 0, unit: UNIT },
+        TcContent::Bd { unit: UNIT },
+        false,
+    ),
+    (TcContent::Bd { unit: &[0x00] }, TcContent::Unlock, false),
+    (TcContent::Unlock, TcContent::SetVr(0), false),
+    (
+        TcContent::SetVr(0),
+        TcContent::Ad {
+            ns: 0,
+            unit: &[0x82, 0x00, 0x00],
+        },
+        false,
+    ),
+];
+
+// Whether two contents are equal, or are not, whichever stands first.
+fn compare(left: &TcContent, right: &TcContent, equal: bool) -> bool {
+    let are_equal = (*left == *right, *right == *left);
+    let differ = (*left != *right, *right != *left);
+    are_equal == (equal, equal) && differ == (!equal, !equal)
+}
+
 // Whether a frame of at most 16 octets is on this virtual channel and carries this.
 fn is_read(fecf: bool, octets: &[u8], vc: u8, content: &TcContent) -> Result<bool, Stop> {
     let shape = shape(16, fecf)?;
@@ -113,5 +194,12 @@ fn frames_and_what_they_carry(rt: HostRuntime) {
     }
     for (octets, vc, content) in &WITH_FECF {
         passes(&rt, octets, is_read(true, octets, *vc, content));
+    }
+}
+
+#[test]
+fn contents_are_equal_in_each_field_or_not(rt: HostRuntime) {
+    for (left, right, equal) in &COMPARED {
+        holds(&rt, &(left, right), compare(left, right, *equal));
     }
 }

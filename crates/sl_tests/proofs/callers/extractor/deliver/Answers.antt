@@ -1,0 +1,22 @@
+use Rattle.std.proofs.Common.{◌+◌, ◌∷◌, ◌∙◌, arith, ap, drop, sym}
+use Rattle.std.proofs.lemmas.List.{drop_all, drop_more}
+use Rattle.sl_tests.proofs.Handing.{all_handed, hands_next, none_handed}
+use Rattle.sl_tests.proofs.callers.extractor.deliver.Goals as goal
+
+pub loop-frame-init : goal.loop-frame-init
+loop-frame-init c = none_handed c.args.frames.now c.new-extractor.result c.new-delivered.result.lists c.new-extractor.ensures.processed c.new-delivered.ensures.lists
+
+pub loop-frame-preserved : goal.loop-frame-preserved
+loop-frame-preserved c =
+    let frames = c.args.frames.now in
+    let at = c.loop-frame.frame-index in
+    let view = c.frame-item.result in
+    let is = drop_more frames at view (omega (arith, c.loop-frame-test.true)) ∙ ap (λ v. v ∷ drop (at + 1) frames) (sym c.frame-item.is) in
+    hands_next frames (drop at frames) (drop (at + 1) frames) view c.loop-frame.extractor c.frame.new.self c.loop-frame.delivered c.frame.new.sink is
+    (omega (arith, c.vc.ensures.value, c.vc.ensures.fits)) c.in_ok-frame.ensures.processed c.in_ok-frame.ensures.accepted c.loop-frame.invariant
+
+pub returns : goal.returns
+returns c =
+    let frames = c.args.frames.now in
+    let at = c.loop-frame.frame-index in
+    all_handed frames (drop at frames) c.loop-frame.extractor c.loop-frame.delivered.lists (drop_all at frames (omega (arith, c.loop-frame-test.false))) c.tm_packets_are_handed_over.ensures c.loop-frame.invariant

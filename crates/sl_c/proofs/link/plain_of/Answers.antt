@@ -1,4 +1,4 @@
-use Rattle.std.proofs.Common.{◌≡◌, ℕ, ◌-◌, ◌<◌, length, arith, ◌∙◌}
+use Rattle.std.proofs.Common.{ℕ, ◌-◌, ◌<◌, length, arith, ◌∙◌}
 use Rattle.sl_c.proofs.LinkLemmas.{none_set, not_set_here, set_here}
 use Rattle.sl_c.proofs.link.plain_of.Goals as goal
 use Rattle.sl_c.proofs.link.plain_of.Goals.{then-flags-vc, else-flags-vc}

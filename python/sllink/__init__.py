@@ -8,8 +8,8 @@
 
 A recording is a path, an open file descriptor, or a binary file object. Options are an Options or a sequence of words
 as they stand on the command line of the program. The program is the one of the keyword `program`, else $SLLINK, else
-sllink on the PATH, else the one that is built in the repository. Where it is a Library, that reads the recording in
-this process.
+`sllink` on the PATH, else the one installed with this module or built in the repository. Where it is a Library, that
+reads the recording in this process.
 
 OSError: the recording can't be opened, or the output not written. SllinkError: the program refused something or
 stopped. What came before it is the beginning of the listing.

@@ -4,8 +4,9 @@ comes next.
     python3 -m sllink tm|tc RECORDING --scid N [OPTION..]
 
 The options are those of sllink. Status: 0; 1 with one line on the standard error where no packet is delivered, since an
-option may be wrong; 2 with one line where the recording can't be read or sllink refuses something or stops. The program is $SLLINK, else `sllink` on the PATH, else the one that is built in the
-repository.
+option may be wrong; 2 with one line where the recording can't be read or sllink refuses something or stops.
+
+The program is $SLLINK, else `sllink` on the PATH, else the one installed with this module or built in the repository.
 """
 
 from typing import List

@@ -2,7 +2,7 @@
 
     python3 -m unittest discover -s python/tests
 
-The program is $SLLINK, else sllink on the PATH, else the one that is built in the repository.
+The program is the one that `find_program` finds.
 """
 
 import copy

@@ -19,6 +19,6 @@ number_of Counter = 10
 number_of Event = 11
 number_of VirtualChannel = 12
 
--- the number that a call gave back says this
+-- the number that a call answers stands for this answer
 abbrev pub Says : ℕ → Answer → Type 0
 Says n answer = n ≡ number_of answer

@@ -9,7 +9,7 @@ use Rattle.sl_c.specs.declared.answer.Answer.{Answer}
 use Rattle.sl_c.specs.declared.answer.Answer.TheVariants.{Window, Counter}
 use Rattle.sl_c.specs.declared.farm.FarmFields.{FarmFields}
 
--- its state
+-- the state of a FARM-1 that C keeps
 abbrev pub state_of : FarmFields → FarmState
 state_of f = record { vr = f.vr; lockout = f.lockout; retransmit = f.retransmit; farm_b = f.farm_b }
 
@@ -18,12 +18,13 @@ pub record IsFarm (f : FarmFields) : Type 0 where
   pub window : IsWidth f.window
   pub counter : f.farm_b ≤ 3
 
--- it is none, for the first of these reasons that holds
+-- what C keeps is no FARM-1, for the first of these reasons that holds
 pub record IsNoFarm (f : FarmFields) (answer : Answer) : Type 0 where
   pub window : (IsWidth f.window → ⊥) → answer ≡ Window
   pub counter : IsWidth f.window → (3 < f.farm_b) × (answer ≡ Counter)
 
--- the event with this number: a frame of type AD with its N(S), a frame of type BD, Unlock, or Set V(R) with its value
+-- the event with this number, none where there is no such event: a frame of type AD with its N(S),
+-- a frame of type BD, Unlock, or Set V(R) with its value
 abbrev pub event_of : ℕ → ℕ → Option FarmEvent
 event_of event number =
     if event == 0 then Some (Ad number)
@@ -32,6 +33,7 @@ event_of event number =
     else if event == 3 then Some (SetVr number)
     else None
 
+-- the number of a verdict
 abbrev pub number_of_verdict : Verdict → ℕ
 number_of_verdict Accept = 0
 number_of_verdict Early = 1

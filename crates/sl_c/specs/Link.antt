@@ -38,7 +38,8 @@ abbrev pub reading_under : ℕ → Result Parameters ManagedFault → Result Par
 reading_under octets (Ok p) = if nat_lt p.max_octets octets then Err TooLong else Ok p
 reading_under octets (Err refused) = Err (refusal_of refused)
 
--- the same of what C gives: the first parameter that is refused is answered, or else more octets than the limit
+-- the parameters that C gives, for recordings of `octets` octets: the first that is refused is
+-- answered, else that the recordings are over the limit
 abbrev pub reading_of : ManagedFields → ℕ → Result Parameters Answer
 reading_of m octets = reading_under octets (managed_of (parameters_of m))
 

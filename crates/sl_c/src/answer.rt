@@ -21,7 +21,7 @@ pub enum Answer {
     TooLong,
     /// Memory was refused.
     Memory,
-    /// All is done, but what was lent is too small for the whole text.
+    /// All is done, but only the front of the text was written: there was no room for the whole text.
     Room,
     /// A field of a header is out of the range of its bits.
     Field,

@@ -9,7 +9,8 @@ ghost use Rattle.sl_c.specs.Farm.{IsFarm, IsNoFarm, event_of, number_of_verdict,
 use crate::answer::Answer;
 use sl_cop::{Farm, FarmEvent, Verdict, Window};
 
-/// A FARM-1: the width of its window, V(R), the Lockout flag, the Retransmit flag and the FARM-B counter.
+/// A FARM-1: the width of its window, even, 2 to 254; V(R); the Lockout flag; the Retransmit flag; and the FARM-B
+/// counter, 0 to 3. C may write other values, under which a step and a CLCW are refused.
 #[repr(C)]
 #[derive(Clone, Copy)]
 pub struct FarmFields {
@@ -21,6 +22,7 @@ pub struct FarmFields {
 }
 
 /// Makes a FARM-1 in the open state, with a window of this width, this V(R), Retransmit flag 0 and FARM-B counter 0.
+/// The answer is `Done`. Where the width is 0 or odd the answer is `Window`, and nothing is written.
 #[unsafe(no_mangle)]
 pub extern "C" fn sllink_farm_new(farm: &mut FarmFields, window: u8, vr: u8) -> u32
     ensures made { IsWidth window → Says result Answer.Done
@@ -36,7 +38,13 @@ pub extern "C" fn sllink_farm_new(farm: &mut FarmFields, window: u8, vr: u8) -> 
     }
 }
 
-/// Takes the next frame of the virtual channel, and answers what becomes of it.
+/// Takes the next frame of the virtual channel: writes FARM-1's verdict on the frame to `verdict`, and the state
+/// after the frame to `farm`. The answer is `Done`. Where `farm` is no FARM-1 the answer is `Window` or `Counter`,
+/// and where there is no such event `Event`. Nothing is written then.
+///
+/// The event is 0 for a frame of type AD, whose N(S) is `number`; 1 for a frame of type BD; 2 for
+/// Unlock; and 3 for Set V(R) to `number`. The verdict is 0 for `Accept`, and 1 to 5 for `Early`,
+/// `Late`, `Outside`, `Refused` and `Command`.
 #[unsafe(no_mangle)]
 pub extern "C" fn sllink_farm_step(
     farm: &mut FarmFields,
@@ -70,7 +78,9 @@ pub extern "C" fn sllink_farm_step(
     }
 }
 
-/// The CLCW that reports the state, for the virtual channel 0 to 63, as its four octets.
+/// Writes the CLCW that reports the state, for the virtual channel 0 to 63, as its four octets. The
+/// answer is `Done`. Where `farm` is no FARM-1 the answer is `Window` or `Counter`, and where `vc`
+/// is over 63 `VirtualChannel`. Nothing is written then.
 #[unsafe(no_mangle)]
 pub extern "C" fn sllink_farm_clcw(farm: &FarmFields, vc: u8, clcw: &mut [u8; 4]) -> u32
     // The word of the state,
@@ -93,7 +103,7 @@ pub extern "C" fn sllink_farm_clcw(farm: &FarmFields, vc: u8, clcw: &mut [u8; 4]
     Answer::Done.number()
 }
 
-/// V(R), which is the N(S) that is expected next.
+/// V(R), which is the N(S) of the frame that is expected next. The other fields aren't looked at.
 #[unsafe(no_mangle)]
 pub extern "C" fn sllink_farm_vr(farm: &FarmFields) -> u8
     ensures { result ≡ (state_of farm.now).vr }

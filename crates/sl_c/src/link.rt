@@ -11,8 +11,8 @@ use sl_tcframe::VcSet;
 /// How many virtual channels of TC frames there are.
 const VIRTUAL_CHANNELS: usize = 64;
 
-/// The managed parameters of a link. `vr` has the initial V(R) of each virtual channel of TC frames, and `plain` whether
-/// the frames of a virtual channel have no segment headers.
+/// The managed parameters of a link, in the ranges of [`Managed::new`]. `vr` has the initial V(R) of each virtual
+/// channel of TC frames, and `plain` whether the frames of a virtual channel have no segment headers.
 #[repr(C)]
 #[derive(Clone, Copy)]
 pub struct ManagedFields {
@@ -27,7 +27,7 @@ pub struct ManagedFields {
     pub limit: u64,
 }
 
-/// What is counted in a recording.
+/// What is counted in a recording, as [`Totals`] has it.
 #[repr(C)]
 #[derive(Clone, Copy)]
 pub struct TotalsFields {
@@ -40,11 +40,12 @@ pub struct TotalsFields {
     pub anomalies: u64,
 }
 
-/// The managed parameters for recordings of this many octets at most, or why they can't be read: the first parameter that
-/// is refused, or more octets than the limit.
+/// The managed parameters, where recordings of at most `octets` octets are to be read. Or why they aren't read: the
+/// answer for the first parameter that is refused, or `TooLong` where `octets` is over the limit.
 pub fn managed_for(fields: &ManagedFields, octets: usize) -> Result<Managed, Answer>
     ensures { result ≡ reading_of fields.now octets }
 {
+    // V(R) is 0 here, and that of each virtual channel is set below.
     let managed = match Managed::new(
         fields.spacecraft,
         fields.tm_length,
@@ -83,6 +84,7 @@ pub fn totals_fields(totals: &Totals) -> TotalsFields
     }
 }
 
+// The answer where a managed parameter is refused.
 fn refusal(fault: ManagedFault) -> Answer
     ensures { result ≡ refusal_of fault }
 {
@@ -95,7 +97,7 @@ fn refusal(fault: ManagedFault) -> Answer
     }
 }
 
-// The virtual channels whose flag is set.
+// The virtual channels whose flag is set, from the last flag to the first: a number is put before greater ones.
 fn plain_of(flags: &[bool; 64]) -> VcSet
     ensures { result ≡ numbers_from 0 flags.now }
 {
@@ -109,7 +111,7 @@ fn plain_of(flags: &[bool; 64]) -> VcSet
     plain
 }
 
-// These initial V(R).
+// The initial V(R) of each virtual channel, as `Starts` has them.
 fn starts_of(vrs: &[u8; 64]) -> Starts
     ensures { result ≡ vrs.now }
 {

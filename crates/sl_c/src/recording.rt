@@ -1,4 +1,9 @@
 //! The engines, over a recording in memory.
+//!
+//! Each call makes the text of a recording: it writes as much of the front of the text as fits to
+//! `output`, the size of the whole text in octets to `size`, and what was counted to `totals`. The
+//! answer is `Done`, or `Room` where the text is longer than `output`. Under any other answer, a
+//! refused parameter, `TooLong` or `Memory`, nothing is written.
 ghost use Rattle.std.specs.Prelude.{◌≡◌, ◌++◌, ◌<◌, ◌≤◌, length, take, drop, IfOk, IfSome};
 ghost use Rattle.sl_link.specs.Io.Streams.{TranslatesAndCounts};
 ghost use Rattle.sl_link.specs.Kind.Tc.{tc_counts};
@@ -23,7 +28,7 @@ use sl_link::{
 use std::alloc::Global;
 use std::io::{Read, Write};
 
-/// What is made of a recording.
+/// What is made of a recording: the verb, and the kind of the frames.
 #[derive(Clone, Copy)]
 pub enum Engine {
     ShowTm,
@@ -60,7 +65,7 @@ pub extern "C" fn sllink_show_tm(
     )
 }
 
-/// Lists the frames of a recording of TC transfer frames, with what FARM-1 makes of each.
+/// Lists the frames of a recording of TC transfer frames, with FARM-1's verdict on each and the CLCW after it.
 #[unsafe(no_mangle)]
 pub extern "C" fn sllink_show_tc(
     alloc: Global,
@@ -132,7 +137,7 @@ pub extern "C" fn sllink_check_tc(
     )
 }
 
-/// Lists the packets that a recording of TM transfer frames delivers.
+/// Lists the packets that a recording of TM transfer frames delivers, idle ones left out.
 #[unsafe(no_mangle)]
 pub extern "C" fn sllink_packets_tm(
     alloc: Global,
@@ -156,7 +161,7 @@ pub extern "C" fn sllink_packets_tm(
     )
 }
 
-/// Lists the packets that a recording of TC transfer frames delivers.
+/// Lists the packets that a recording of TC transfer frames delivers, idle ones left out.
 #[unsafe(no_mangle)]
 pub extern "C" fn sllink_packets_tc(
     alloc: Global,
@@ -255,7 +260,8 @@ fn give_text(
     }
 }
 
-// Copies as much of a text as there is room for, and answers whether that is all of it.
+// Copies as much of the front of a text as there is room for. The answer is `Done` where that is
+// all of the text, and else `Room`.
 fn lend(text: &[u8], output: &mut [u8]) -> u32
     ensures front { output.new ≡ take (length output.old) text.now
         ++ drop (length text.now) output.old }
@@ -270,7 +276,8 @@ fn lend(text: &[u8], output: &mut [u8]) -> u32
     Answer::Done.number()
 }
 
-// The text that an engine makes of a recording, and what it counts; none where memory was refused.
+// The text that an engine makes of a recording, and what it counts, or `None` where memory was refused. There is no
+// other fault: the reader and the writer are memory, and the recording is within the limit.
 fn read_whole(
     alloc: Global,
     engine: Engine,
@@ -290,7 +297,7 @@ fn read_whole(
     }
 }
 
-// What an engine does.
+// Runs an engine.
 fn run<R: Read, W: Write>(
     alloc: Global,
     engine: Engine,

@@ -10,8 +10,9 @@ use crate::link::{ManagedFields, managed_for};
 use sl_link::{Counted, LinkFault, same_packets_tc, same_packets_tm};
 use std::alloc::Global;
 
-/// Reports whether two recordings of TM transfer frames deliver the same packets on each virtual channel, idle packets
-/// left out.
+/// Writes to `same` whether two recordings of TM transfer frames deliver the same packets on each
+/// virtual channel, idle packets left out. The answer is `Done`. Under any other, a refused
+/// parameter, `TooLong` or `Memory`, nothing is written.
 #[unsafe(no_mangle)]
 pub extern "C" fn sllink_same_packets_tm(
     alloc: Global,
@@ -34,8 +35,9 @@ pub extern "C" fn sllink_same_packets_tm(
     )
 }
 
-/// Reports whether FARM-1 lets the same packets of two recordings of TC transfer frames through on each virtual channel
-/// and MAP, idle packets left out.
+/// Writes to `same` whether FARM-1 lets the same packets of two recordings of TC transfer frames
+/// through on each virtual channel and MAP, idle packets left out. The answer is `Done`. Under any
+/// other, a refused parameter, `TooLong` or `Memory`, nothing is written.
 #[unsafe(no_mangle)]
 pub extern "C" fn sllink_same_packets_tc(
     alloc: Global,
@@ -58,7 +60,8 @@ pub extern "C" fn sllink_same_packets_tc(
     )
 }
 
-// Hands out what was found. A reader of octets in memory has no fault, and neither recording is over the limit.
+// Writes what was found, and answers `Done`. After a fault the answer is `Memory`: the readers are
+// memory, and neither recording is over the limit, so there is no other fault.
 fn hand_out(found: Result<bool, LinkFault>, same: &mut bool) -> u32
     ensures found { IfOk found (λ is_same. Says result Answer.Done × (same.new ≡ is_same)) }
     ensures refused { OnErr found (Says result Answer.Memory × (same.new ≡ same.old)) }

@@ -1,6 +1,7 @@
--- What FARM-1, CCSDS 232.1-B, accepts of a list of elements that arrive one after another. Each
--- element is an event with a verdict, and carries a list: that of the element's frame data unit, or
--- the empty list.
+-- What FARM-1, CCSDS 232.1-B, accepts of elements, such as frames, that arrive one after another.
+-- The verdicts on the elements stand in a list of their own, in the same order. Each element
+-- carries a list: what stands for its frame data unit, or the empty list where the element has
+-- none.
 use Rattle.std.specs.Prelude.{List, [], ◌∷◌, ◌++◌}
 use Rattle.sl_cop.specs.declared.verdict.Verdict.{Verdict}
 use Rattle.sl_cop.specs.declared.verdict.Verdict.TheVariants.{Accept}

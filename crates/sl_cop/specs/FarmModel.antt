@@ -18,7 +18,8 @@ pub record IsWindow (w : window.Inside) : Type 0 where
 abbrev pub window_of : ℕ → window.Inside
 window_of w = record { width = w }
 
--- the width of the window and the state of a `Farm`; the field `window` is already that width
+-- The width of the window and the state of a `Farm`. The field `window` is a number here, since a
+-- `Window` stands for its width.
 abbrev pub view_of : farm.Inside → FarmView
 view_of f =
     record {

@@ -31,7 +31,7 @@ event_at vr UnlockCommand = Unlock
 abbrev pub events_at : ℕ → List Arrival → List FarmEvent
 events_at vr arrivals = map (event_at vr) arrivals
 
--- the list of one index at a copy, and the empty list at another arrival
+-- the index of a copy, as a list of one; the empty list where the arrival is no copy
 abbrev pub index_of : Arrival → List ℕ
 index_of (Copy index) = index ∷ []
 index_of OfTypeBd = []
@@ -65,8 +65,8 @@ AtEachMoment {A = A} arrivals holds = (before after : List A) → arrivals ≡ b
 abbrev pub OfEachCopy : List Arrival → (List Arrival → ℕ → Type 0) → Type 0
 OfEachCopy arrivals holds = (before after : List Arrival) (index : ℕ) → arrivals ≡ before ++ Copy index ∷ after → holds before index
 
--- An index is near: less than 256 before or after the expected index. So an index other than the
--- expected one has another N(S).
+-- An index is near: less than 256 before or after the expected index. So a near index other than
+-- the expected one has another N(S).
 abbrev pub IsNear : ℕ → ℕ → Type 0
 IsNear expected index = (expected < index + 256) × (index < expected + 256)
 

@@ -22,8 +22,8 @@ abbrev pub vr_of : List Item → ℕ → ℕ → ℕ
 vr_of [] vc own = own
 vr_of (item ∷ items) vc own = if vc == item.vc then item.vr else vr_of items vc own
 
--- The initial V(R) of the virtual channels from `vc` on: the value that the items name for the
--- virtual channel, or the virtual channel's own value, which the list has.
+-- The initial V(R) of the virtual channels from `vc` on. The list has their own values. A virtual
+-- channel that the items name has the value of the items, and each other one has its own value.
 unfoldable pub over_from : ℕ → List ℕ → List Item → List ℕ
 over_from vc [] items = []
 over_from vc (own ∷ starts) items = vr_of items vc own ∷ over_from (suc vc) starts items
@@ -62,9 +62,8 @@ pub record Lists (least : ℕ) (text : List ℕ) (items : List Item) : Type 0 wh
   pub rising : AreItems least items
   pub written : text ≡ items_text items
 
--- The values `starts` are the values `before` with the items that the text lists over them: each
--- virtual channel that the text names has the named V(R), and each other one has its V(R) of
--- `before`.
+-- The values `starts` are the values `before` after the changes that the text lists. Each virtual
+-- channel that the text names has the named V(R), and each other one has its V(R) of `before`.
 pub record AreNamed (least : ℕ) (text before starts : List ℕ) : Type 0 where
   pub items : List Item
   pub listed : Lists least text items

@@ -195,7 +195,7 @@ impl Farm {
             }
             Verdict::Early => self.retransmit = true,
             Verdict::Outside => self.lockout = true,
-            // A late frame changes nothing. The other two aren't verdicts of the open state.
+            // A late frame changes nothing. `open_verdict` never answers the other two.
             Verdict::Late | Verdict::Refused | Verdict::Command => {}
         }
         verdict

@@ -27,8 +27,9 @@ pub fn events_have_one_run()
 {}
 
 /// A run over a list of events and one more event is a run over the list and then one step. The
-/// definitions `verdicts_of` and `state_after`, the verdicts and the last state of a run, go on by
-/// the same step.
+/// definitions `verdicts_of` and `state_after` are the verdicts and the last state of a run. For
+/// one more event the first has the verdict of this step as its last one, and the second is the
+/// state after this step.
 pub fn runs_go_on_by_a_step()
     ensures go_on { RunsGoOn }
     ensures end_in { RunsEndInAStep }
@@ -60,11 +61,11 @@ pub fn vr_has_a_cause()
 /// arrive in any order, and may be lost or repeated. Frames of type BD and Unlock may arrive among
 /// the copies, and Set V(R) doesn't arrive.
 ///
-/// A copy is near where its frame was sent less than 256 frames before or after the frame that is
-/// expected at the copy's arrival. Where all copies are near, the accepted copies are those of the
-/// first frames that were sent: in order, each frame once, and none left out. V(R) is then at each
-/// moment the initial V(R) plus the number of accepted frames of type AD, modulo 256. Both hold for
-/// every width of the window.
+/// At a copy's arrival one frame is expected. The copy is called near if its own frame was sent
+/// less than 256 frames before or after the expected frame. Where all copies are near, the accepted
+/// copies are those of the first frames that were sent: in order, each frame once, and none left
+/// out. V(R) is then at each moment the initial V(R) plus the number of accepted frames of type AD,
+/// modulo 256. Both hold for every width of the window.
 ///
 /// Where PW and NW together are at most 256, and each copy is in the window at its arrival, all
 /// copies are near, the Lockout flag is never set, and each copy of the expected frame is accepted.

@@ -61,8 +61,8 @@ impl Starts {
         self.vrs[usize::from(vc)]
     }
 
-    /// The same values with those that the text names. The other virtual channels keep their
-    /// values.
+    /// The values after the changes that the text lists. Each virtual channel that the text doesn't
+    /// name keeps its value.
     ///
     /// The text is one or more items `v:x`, joined by single commas, as `0:0,63:255`: a virtual
     /// channel `v`, 0 to 63, and its initial V(R) `x`, 0 to 255, both in decimal without leading
@@ -82,8 +82,8 @@ impl Starts {
     }
 }
 
-// The same values with those that the text names, a text as in `Starts::read`. `None` also where
-// the text names a virtual channel below `least`.
+// The values after the changes that the text lists. `Starts::read` says which form the text has.
+// `None` also where the text names a virtual channel below `least`.
 fn read_from(starts: &Starts, text: &str, least: u8) -> Option<Starts>
     ensures listed { IfSome result (λ named. AreNamed least text.now starts.now named) }
     ensures every { (items : List Item) → Lists least text.now items → result

@@ -2,7 +2,7 @@
 use Rattle.std.specs.Prelude.{ℕ, ◌^◌, ◌<◌, Bool, false, List, [], ◌∷◌}
 use Rattle.sl_fields.specs.Field.{bit_of, field, flag, octets_of}
 
--- the fields of the word, in their order
+-- The fields of the CLCW, in their order. The field `word` is the control word type, one bit.
 pub record ClcwFields : Type 0 where
   pub word : ℕ
   pub version : ℕ

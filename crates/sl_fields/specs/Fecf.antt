@@ -15,7 +15,7 @@ octet_bits octet =
 abbrev pub bits_of : List ℕ → List Bool
 bits_of octets = flat_map octet_bits octets
 
--- the number of the bits in base 2, the first bit the most significant
+-- the bits read as one number in base 2, the first bit the most significant
 abbrev pub bits_number : List Bool → ℕ
 bits_number [] = 0
 bits_number (b ∷ bits) = bit_of b * 2 ^ length bits + bits_number bits
@@ -59,9 +59,9 @@ remainder bits = divided (length bits - 16) bits
 abbrev pub preset : List Bool → List Bool
 preset bits = map not (take 16 bits) ++ drop 16 bits
 
--- What the register of a division bit by bit holds after a message, given as its bits. Sixteen
--- zeros are put after the bits, the first sixteen bits of this list are inverted, and the list is
--- divided: the remainder, as a number.
+-- The remainder, as a number, of a message that is given as its bits. Sixteen zeros are put after
+-- the bits, the first sixteen bits of this list are inverted, and the list is divided. A register
+-- that is preset to all ones and divides bit by bit holds this number after the message.
 unfoldable pub register_of : List Bool → ℕ
 register_of bits = bits_number (remainder (preset (bits ++ replicate 16 false)))
 

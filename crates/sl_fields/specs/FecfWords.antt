@@ -6,12 +6,12 @@ use Rattle.std.specs.List.{range_with_len}
 use Rattle.sl_fields.specs.Field.{number_of}
 use Rattle.sl_fields.specs.Fecf.{octet_bits, bits_number, remainder}
 
--- The word of an octet that `later` more octets follow: the remainder, without preset, of the
--- octet's eight bits, eight zeros for each later octet, and sixteen zeros.
+-- The word of an octet, where `later` more octets come after the octet: the remainder, without
+-- preset, of the octet's eight bits, eight zeros for each later octet, and sixteen zeros.
 unfoldable pub word_of : ℕ → ℕ → ℕ
 word_of later octet = bits_number (remainder (octet_bits octet ++ replicate (8 * later + 16) false))
 
--- the words of the octets 0 to 255 that `later` more octets follow
+-- the words of the octets 0 to 255, where `later` more octets come after the octet
 abbrev pub words_of : ℕ → List ℕ
 words_of later = map (word_of later) (range_with_len 0 256)
 
@@ -25,6 +25,7 @@ words_sum (octet ∷ octets) = bit_xor (word_of (length octets) octet) (words_su
 abbrev pub AreWords : List (List ℕ) → Type 0
 AreWords table = map number_of table ≡ words_of 0
 
--- The sixteen tables have the words of the octets that 0 to 15 more octets follow, in this order.
+-- There are sixteen tables of the words of the octets 0 to 255, in this order: the first for no
+-- later octet, the second for one later octet, and so on up to fifteen.
 abbrev pub AreSliceWords : List (List ℕ) → Type 0
 AreSliceWords tables = tables ≡ map words_of (range_with_len 0 16)

@@ -10,7 +10,7 @@ use Rattle.byteorder.specs.Endian.{big_bytes}
 abbrev pub IsOctets : List ℕ → Type 0
 IsOctets octets = All (λ octet. octet < 256) octets
 
--- the number of octets in base 256, the first octet the most significant
+-- the octets read as one number in base 256, the first octet the most significant
 abbrev pub number_of : List ℕ → ℕ
 number_of [] = 0
 number_of (octet ∷ octets) = octet * 256 ^ length octets + number_of octets

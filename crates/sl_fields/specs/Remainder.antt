@@ -6,8 +6,8 @@ use Rattle.sl_fields.specs.Fecf.{bits_number, fecf_of}
 use Rattle.sl_fields.specs.FecfWords.{word_of}
 
 -- The multiple of the generator by a quotient, which is given as its bits. For each bit of the
--- quotient that is 1, a generator whose first bit stands at this bit is added, without carries. The
--- multiple has sixteen bits more than the quotient.
+-- quotient that is 1, a copy of the generator is added, without carries. The first bit of the copy
+-- stands at this bit. The multiple has sixteen bits more than the quotient.
 abbrev pub multiple : List Bool → List Bool
 multiple [] = replicate 16 false
 multiple (false ∷ quotient) = false ∷ multiple quotient

@@ -1,5 +1,5 @@
--- Whether a managed number is within its bounds. Contracts of crates above cite this file, and none
--- of this crate.
+-- Whether a managed number is outside its bounds. Contracts of the crates above cite this file. No
+-- contract of this crate does.
 use Rattle.std.specs.Prelude.{ℕ, nat_lt, Bool, ◌||◌}
 
 -- whether `n` is below `low` or above `high`

@@ -154,7 +154,7 @@ impl Clcw {
         }
     }
 
-    /// Control word type, 0 or 1: 0 for a CLCW.
+    /// Control word type, the first bit of the word, 0 or 1: 0 for a CLCW.
     pub fn word(&self) -> u8
         ensures value { result ≡ self.now.word }
         ensures fits { result < 2 ^ 1 }
@@ -252,7 +252,8 @@ impl Clcw {
         self.spare_end
     }
 
-    /// Report value, 0 to 255: N(R), the frame sequence number that FARM-1 expects next, its V(R).
+    /// Report value N(R), 0 to 255: the V(R) of FARM-1, which is the frame sequence number that is
+    /// expected next.
     pub fn report(&self) -> u8
         ensures { result ≡ self.now.report }
     {

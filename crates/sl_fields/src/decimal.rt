@@ -1,4 +1,4 @@
-//! Numbers of one octet as decimal text.
+//! Numbers from 0 to 255 as decimal text.
 ghost use Rattle.std.specs.Prelude.{◌≡◌, ◌≤◌, ℕ, IfSome, Some};
 ghost use Rattle.std.specs.Fmt.{decimal};
 

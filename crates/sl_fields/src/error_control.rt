@@ -1,4 +1,4 @@
-//! The frame error control field: computed, checked and left out.
+//! The frame error control field: computed, checked, and cut off the end of a frame.
 //!
 //! The field is the remainder of a division, whose register holds sixteen bits. Each octet of the
 //! message adds a word to the remainder. The word depends on the value of the octet and on the
@@ -170,7 +170,7 @@ fn word(octet: u8) -> [u8; 2]
     WORDS[usize::from(octet)]
 }
 
-// The word of an octet of the message that `later` more octets follow, 0 to 15.
+// The word of an octet of the message, where `later` more octets come after the octet, 0 to 15.
 #[inline(always)]
 fn slice_word(later: usize, octet: u8) -> u16
     requires { later < 16 }

@@ -24,8 +24,8 @@ pub fn fecf_is_a_remainder()
 /// The word of an octet is the remainder of another list of bits: the octet's eight bits, eight
 /// zeros for each later octet of the message, and sixteen zeros. None of them is inverted.
 ///
-/// `WORDS` has the words of a message's last octet, and `SLICES` the words of the octets that 0 to
-/// 15 more octets follow, for each value of the octet.
+/// `WORDS` has, for each value of an octet, the word of this octet at the end of a message.
+/// `SLICES` has the words of this octet where 0 to 15 more octets come after the octet.
 pub fn words_are_remainders()
     ensures word { WordIsRemainder }
     ensures last { AreWords WORDS }

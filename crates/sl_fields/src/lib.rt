@@ -9,8 +9,8 @@
 //! value that its field's bits can't hold.
 //!
 //! The crate also has three things that several crates above use: the first and the last octets of
-//! a slice ([`front`], [`back`]), a number of one octet from text ([`read_decimal`]), and the
-//! reason why frame lengths are refused ([`ShapeFault`]).
+//! a slice ([`front`], [`back`]), a number from 0 to 255 that is read from text ([`read_decimal`]),
+//! and the reason why frame lengths are refused ([`ShapeFault`]).
 #![tactic(auto)]
 
 mod bits;

@@ -1,11 +1,11 @@
 //! The words of the octets of a slice, by which the frame error control field is computed slice by
 //! slice. A slice is sixteen octets of the message.
 
-/// At index `later` the words of an octet that `later` more octets follow, 0 to 15. There, at index
-/// `n`, is the word of the octet `n`: the remainder, by the generator x^16 + x^12 + x^5 + 1 and
+/// `SLICES[later][n]` is the word of the octet `n`, where `later` more octets of the message come
+/// after the octet, 0 to 15. The word is the remainder, by the generator x^16 + x^12 + x^5 + 1 and
 /// without preset, of the octet's eight bits, eight zeros for each later octet, and sixteen zeros.
 ///
-/// The words at index 0 are those of `WORDS`, here as numbers.
+/// The words of `SLICES[0]` are those of `WORDS`, here as numbers.
 pub(crate) static SLICES: [[u16; 256]; 16] = [
     [
         0x0000, 0x1021, 0x2042, 0x3063, 0x4084, 0x50A5, 0x60C6, 0x70E7, 0x8108, 0x9129, 0xA14A,

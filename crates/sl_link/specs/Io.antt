@@ -1,4 +1,4 @@
--- What is written.
+-- Lines of a listing, the buffer that they wait in, and what is read and written.
 pub mod Digits
 pub mod Line
 pub mod Room

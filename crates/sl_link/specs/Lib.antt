@@ -7,6 +7,7 @@ pub mod Program
 pub mod Same
 pub mod Tally
 pub mod Verbs
+-- the definitions of other crates that the public contracts rest on
 pub use Rattle.sl_cop.specs.Farm
 pub use Rattle.sl_cop.specs.FarmClcw
 pub use Rattle.sl_fields.specs.Clcw

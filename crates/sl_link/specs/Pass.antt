@@ -17,17 +17,17 @@ chunk_size = 0x10000
 
 -- ---- framers
 
--- Octets that came after the last frame, and those from the front of a chunk, are a frame.
+-- The octets that waited, `rest`, and those from the front of a chunk are a frame. Of the chunk `left` is left.
 pub record CutsFrame (is_frame : List ℕ → Type 0) (rest chunk left frame : List ℕ) : Type 0 where
   pub parts : rest ++ chunk ≡ frame ++ left
   pub some : length left < length chunk
   pub whole : is_frame frame
 
--- it holds whatever octets came after the last frame, under whichever parameters
+-- `holds` is true whatever octets wait in the framer, and under whichever parameters
 abbrev pub WaitsFor : {F : Type 0} → (F → Parameters → List ℕ → Type 0) → F → (Parameters → List ℕ → Type 0) → Type 0
 WaitsFor waits framer holds = (p : Parameters) (rest : List ℕ) → waits framer p rest → holds p rest
 
--- after a call no octets came after the frame that it answers, and without one all of the chunk did
+-- after a call that lends a frame no octets wait, and after one that lends none the chunk waits too
 abbrev pub WaitsAfter : {F : Type 0} → (F → Parameters → List ℕ → Type 0) → F → Parameters → List ℕ → List ℕ
     → Option (Bor (List ℕ)) → Type 0
 WaitsAfter waits new p rest chunk None = waits new p (rest ++ chunk)
@@ -44,18 +44,18 @@ pub record MayTake {S : Type 0} (took : S → S → List (List ℕ) → Type 0) 
   pub whole : is_frame start frame
   pub fits : length (concat before) + length frame < 2 ^ 64
 
--- it has taken one frame more, whatever it has taken before
+-- the sink has taken one frame more, whatever it had taken before
 abbrev pub TakesFrame : {S : Type 0} → (S → S → List (List ℕ) → Type 0) → S → List ℕ → S → Type 0
 TakesFrame {S} took old frame new = (start : S) (before : List (List ℕ)) → took start old before
     → took start new (before ++ frame ∷ [])
 
--- it stopped at this one
+-- a fault stopped the sink at this frame, whatever it had taken before
 abbrev pub StopsAtFrame : {S : Type 0} → (S → S → List (List ℕ) → Type 0) → (S → S → List (List ℕ) → LinkFault → Type 0)
     → S → List ℕ → S → LinkFault → Type 0
 StopsAtFrame {S} took stopped old frame new fault =
     (start : S) (before : List (List ℕ)) → took start old before → stopped start new (before ++ frame ∷ []) fault
 
--- it has taken the same frames
+-- a pause changes nothing of what the sink has taken, or a fault stopped the sink at the pause
 abbrev pub Pauses : {S : Type 0} → (S → S → List (List ℕ) → Type 0) → S → S → Type 0
 Pauses {S} took old new = (start : S) (before : List (List ℕ)) → took start old before → took start new before
 
@@ -78,7 +78,7 @@ pub record PassesOver {R : Type 0} (remaining : R → Option (List ℕ)) (reader
   pub inside : length (concat (frames_of octets)) ≤ length octets
   pub all : taken (frames_of octets)
 
--- the cause of a fault of reading is there
+-- a fault of reading has its cause
 abbrev pub IsReadersFault : {R : Type 0} → Counted R → Counted R → ℕ → ℕ → List ℕ → LinkFault → Type 0
 IsReadersFault old new limit buffer octets Read = HadOneFault old new × (length octets ≤ limit)
 IsReadersFault old new limit buffer octets TooLong =

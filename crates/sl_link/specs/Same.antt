@@ -5,8 +5,8 @@ use Rattle.sl_link.specs.declared.link.fault.LinkFault.{LinkFault}
 use Rattle.sl_link.specs.Io.Streams.{ReadsAll, StopsReadingAll}
 
 module _ {A B : Type 0} (remaining : A → Option (List ℕ)) (others : B → Option (List ℕ)) where
-  -- Both recordings were read, no more than the limit of each, and the answer is true exactly where their packets are
-  -- the same.
+  -- Both recordings were read, `limit` octets of each at most, and the answer is true exactly where
+  -- their packets are the same.
   pub record ComparesPackets (one one' : Counted A) (other other' : Counted B) (packets : List ℕ → List (List (List ℕ))) (limit : ℕ) (same : Bool) : Type 0 where
     pub first : List ℕ
     pub second : List ℕ
@@ -14,8 +14,8 @@ module _ {A B : Type 0} (remaining : A → Option (List ℕ)) (others : B → Op
     pub second_read : ReadsAll others other other' limit second
     pub reported : IsTrue same ↔ (packets first ≡ packets second)
 
-  -- The cause of a fault is there: of the first recording, and nothing of the second was read; or of the second, and the
-  -- first was read to its end.
+  -- A fault has its cause: at the first recording, and nothing of the second was read; or at the
+  -- second, and the first was read to its end.
   abbrev pub StopsComparing : Counted A → Counted A → Counted B → Counted B → ℕ → ℕ → LinkFault → Type 0
   StopsComparing one one' other other' limit buffer fault =
       (StopsReadingAll remaining one one' limit buffer fault × (other' ≡ other))

@@ -22,21 +22,21 @@ counts_with octets frames skipped rest packets idle anomalies =
       anomalies = anomalies;
     }
 
--- the octets after the frames
+-- how many octets of a recording come after the frames
 abbrev pub rest_after : List (List ℕ) → List ℕ → ℕ
 rest_after frames recording = length recording - length (concat frames)
 
--- what is counted in a recording with these frames
+-- what is counted in a recording, by the counts of frames and a remainder, and the frames of a recording
 abbrev pub listing_counts : (List (List ℕ) → ℕ → Counts) → (List ℕ → List (List ℕ)) → List ℕ → Counts
 listing_counts counts frames_of recording = counts (frames_of recording) (rest_after (frames_of recording) recording)
 
--- these frames were counted, by what tells how many of some frames are skipped
+-- these frames were counted; `skipped_of` gives how many frames of a list are skipped
 pub record HasCounted (skipped_of : List (List ℕ) → ℕ) (counted : List (List ℕ)) (t : Tally) : Type 0 where
   pub octets : t.octets ≡ length (concat counted)
   pub frames : t.frames ≡ length counted
   pub skipped : t.skipped ≡ skipped_of counted
 
--- and no packets or anomalies of them
+-- these frames were counted, and no packets or anomalies of them
 pub record HasCountedAlone (skipped_of : List (List ℕ) → ℕ) (frames : List (List ℕ)) (t : Tally) : Type 0 where
   pub counted : HasCounted skipped_of frames t
   pub packets : t.packets ≡ 0

@@ -1,4 +1,4 @@
-//! What is written: lines, the buffer that they wait in, and the streams.
+//! Lines of a listing, the buffer that they wait in, and single reads and writes of streams.
 pub mod digits;
 pub mod hexadecimal;
 pub mod lines;

@@ -11,7 +11,8 @@ use sl_tmflow::Extractor;
 use sl_tmframe::TmFrame;
 use std::alloc::Global;
 
-/// Delivers the packets of frames of one kind. The frames are given one after another.
+/// Delivers the packets of frames of one kind. The frames are given one after another. A clause
+/// with `before` holds whichever frames were given before.
 pub trait Delivery: Drop {
     ghost use Rattle.sl_link.specs.Link.Managed.{Parameters};
     ghost use Rattle.sl_link.specs.Kind.Delivery.{IsWithin, Kind};
@@ -32,8 +33,8 @@ pub trait Delivery: Drop {
     fn begin(alloc: Global, managed: &Managed) -> Self
         ensures { has_processed result managed.now [] };
 
-    /// Hands a sink the packets that end in the next frame, idle packets left out, and reports on the frame. In a
-    /// skipped frame no packet ends.
+    /// Hands a sink the packets that end in the next frame, idle packets left out, and reports on
+    /// the frame. In a skipped frame no packet ends. The fault is the sink's, or `Memory`.
     fn deliver<S: PacketSink>(
         &mut self,
         managed: &Managed,

@@ -16,14 +16,14 @@ pub fn tc_normal_forms_tell_packets()
     ensures { TcFormsTellPackets }
 {}
 
-/// The listing of the packets of a TM recording is lines of packets, which are, on each virtual channel, exactly those
-/// that the recording delivers there, idle ones left out, in their order.
+/// The packet listing of a TM recording is a line for each of some packets. On each virtual channel these are exactly
+/// the packets that the recording delivers there, in their order, idle ones left out.
 pub fn tm_packets_are_listed()
     ensures { TmPacketsAreListed }
 {}
 
-/// The listing of the packets of a TC recording is lines of packets, which are, on each virtual channel and MAP,
-/// exactly those that the recording delivers there, idle ones left out, in their order.
+/// The packet listing of a TC recording is a line for each of some packets. On each virtual channel and MAP these are
+/// exactly the packets that the recording delivers there, in their order, idle ones left out.
 pub fn tc_packets_are_listed()
     ensures { TcPacketsAreListed }
 {}

@@ -1,5 +1,15 @@
-//! Recordings of a spacecraft's link: the listings of their frames, of what is amiss in them and of their packets, and
-//! the normal form of these.
+//! Engines over recordings of a spacecraft's link, and the command line of the program `sllink`.
+//!
+//! A recording is TM transfer frames (CCSDS 132.0-B) or TC transfer frames (CCSDS 232.0-B) end to end, nothing else.
+//! Its remainder is the octets after the last whole frame. For each of the two kinds of frames there are these calls:
+//!
+//! - `show_` lists the frames, and `check_` what is amiss in them;
+//! - `packets_` lists the packets that the frames deliver;
+//! - `normalise_` writes these packets into new frames in one fixed way, the normal form;
+//! - `same_packets_` reports whether two recordings deliver the same packets.
+//!
+//! A call reads and writes [`Counted`] streams, under the [`Managed`] parameters of the link. It answers what it
+//! counted, its [`Totals`] (`same_packets_` a `bool`), or why it stopped, a [`LinkFault`].
 #![tactic(auto)]
 
 mod io;

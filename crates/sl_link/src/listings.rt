@@ -1,4 +1,4 @@
-//! The listings of recordings.
+//! The listings of recordings. A call has two buffers of 65,536 octets on its stack: for what is read, and for lines.
 ghost use Rattle.std.specs.Prelude.{◌≡◌, ◌≢◌, IfOk, IfErr, OnOk, Err};
 ghost use Rattle.sl_tcframe.specs.TcDelimited.{tc_frames_of};
 ghost use Rattle.sl_tmframe.specs.TmDelimited.{tm_frames_of};
@@ -49,7 +49,7 @@ pub fn show_tm<R: Read, W: Write>(
     ensures totals { IfOk result (TranslatesAndCounts R.remaining W.contents reader.old reader.new
         writer.old writer.new (show_tm_text managed.now) (show_tm_counts managed.now)
         managed.now.max_octets) }
-    // After a fault, whose cause is there, a prefix of the listing of what was read is written.
+    // A fault has its cause (`IsCaused`), and a prefix of the listing of what was read is written.
     ensures fault { IfErr result (Stops R.remaining W.contents reader.old reader.new
         writer.old writer.new (show_tm_text managed.now) managed.now.max_octets chunk_size) }
     ensures no_memory { result ≢ Err LinkFault.Memory }
@@ -60,9 +60,9 @@ pub fn show_tm<R: Read, W: Write>(
     list(managed, &mut framer, &mut verb, reader, writer, &mut buffer)
 }
 
-/// Reads a recording of TC transfer frames (CCSDS 232.0-B) to its end and writes a line for each frame, with
-/// what FARM-1 of its virtual channel makes of it and the CLCW after it, and one for a remainder: a last frame
-/// that isn't whole, or all octets from the first stated length on that no frame can have.
+/// Reads a recording of TC transfer frames (CCSDS 232.0-B) to its end and writes a line for each frame, with what
+/// FARM-1 of its virtual channel makes of it and the CLCW after it, and one for a remainder: a last frame that isn't
+/// whole; or, where a frame states a length that no frame can have, all octets from that frame on.
 ///
 /// It keeps one frame at most and the FARM-1 of 64 virtual channels, and takes no memory: a fault is
 /// `Read`, `TooLong` or `Write`.
@@ -78,7 +78,7 @@ pub fn show_tc<R: Read, W: Write>(
     ensures totals { IfOk result (TranslatesAndCounts R.remaining W.contents reader.old reader.new
         writer.old writer.new (show_tc_text managed.now) (show_tc_counts managed.now)
         managed.now.max_octets) }
-    // After a fault, whose cause is there, a prefix of the listing of what was read is written.
+    // A fault has its cause (`IsCaused`), and a prefix of the listing of what was read is written.
     ensures fault { IfErr result (Stops R.remaining W.contents reader.old reader.new
         writer.old writer.new (show_tc_text managed.now) managed.now.max_octets chunk_size) }
     ensures no_memory { result ≢ Err LinkFault.Memory }
@@ -93,9 +93,9 @@ pub fn show_tc<R: Read, W: Write>(
 /// then one of its totals (docs/listings.md). It keeps one frame at most, and the packet that is incomplete on each
 /// virtual channel.
 ///
-/// The fault is `Read` where the reader had one, `TooLong` where more octets came than the managed limit, `Memory`
-/// where memory was refused, which is wanted only where a packet is incomplete on the virtual channel of a frame, before
-/// the frame or after it, and `Write` where the writer had one.
+/// The fault is `Read` or `Write` where the reader or the writer had one, `TooLong` where more
+/// octets came than the managed limit, and `Memory` where memory was refused. Memory is wanted only
+/// where a packet is incomplete on the virtual channel of a frame, before the frame or after it.
 pub fn check_tm<R: Read, W: Write>(
     alloc: Global,
     managed: &Managed,
@@ -109,10 +109,10 @@ pub fn check_tm<R: Read, W: Write>(
     ensures totals { IfOk result (TranslatesAndCounts R.remaining W.contents reader.old reader.new
         writer.old writer.new (check_tm_text managed.now) (check_tm_counts managed.now)
         managed.now.max_octets) }
-    // After a fault, whose cause is there, a prefix of the listing of what was read is written.
+    // A fault has its cause (`IsCaused`), and a prefix of the listing of what was read is written.
     ensures fault { IfErr result (Stops R.remaining W.contents reader.old reader.new
         writer.old writer.new (check_tm_text managed.now) managed.now.max_octets chunk_size) }
-    // Memory is refused only where, around some frame of what was read, a packet is incomplete on its virtual channel.
+    // Memory is refused only where a packet is incomplete on the virtual channel of a frame, before or after it.
     ensures memory { IfErr result (λ fault. fault ≡ LinkFault.Memory
         → WantedMemory R.remaining reader.old reader.new (tm_frames_of managed.now.tm_length)
         (WantsMemoryTm managed.now)) }
@@ -127,9 +127,9 @@ pub fn check_tm<R: Read, W: Write>(
 /// then one of its totals (docs/listings.md). It keeps one frame at most, the FARM-1 of 64 virtual channels, and the
 /// series that is incomplete on each MAP.
 ///
-/// The fault is `Read` where the reader had one, `TooLong` where more octets came than the managed limit, `Memory`
-/// where memory was refused, which is wanted only where the unit of a frame is accepted and a series is incomplete on
-/// its MAP, before the frame or after it, and `Write` where the writer had one.
+/// The fault is `Read` or `Write` where the reader or the writer had one, `TooLong` where more octets came than the
+/// managed limit, and `Memory` where memory was refused. Memory is wanted only where the unit of a frame is accepted
+/// and a series is incomplete on its MAP, before the frame or after it.
 pub fn check_tc<R: Read, W: Write>(
     alloc: Global,
     managed: &Managed,
@@ -143,11 +143,11 @@ pub fn check_tc<R: Read, W: Write>(
     ensures totals { IfOk result (TranslatesAndCounts R.remaining W.contents reader.old reader.new
         writer.old writer.new (check_tc_text managed.now) (check_tc_counts managed.now)
         managed.now.max_octets) }
-    // After a fault, whose cause is there, a prefix of the listing of what was read is written.
+    // A fault has its cause (`IsCaused`), and a prefix of the listing of what was read is written.
     ensures fault { IfErr result (Stops R.remaining W.contents reader.old reader.new
         writer.old writer.new (check_tc_text managed.now) managed.now.max_octets chunk_size) }
-    // Memory is refused only where the unit of some frame of what was read is accepted, and a series is incomplete
-    // around it on its MAP.
+    // Memory is refused only where the unit of a frame is accepted and a series is incomplete on
+    // its MAP, before the frame or after it.
     ensures memory { IfErr result (λ fault. fault ≡ LinkFault.Memory
         → WantedMemory R.remaining reader.old reader.new (tc_frames_of (tc_format managed.now))
         (WantsMemoryTc managed.now)) }
@@ -162,9 +162,9 @@ pub fn check_tc<R: Read, W: Write>(
 /// the order of the frames in which they end (docs/listings.md). It keeps one frame at most, and the packet that is
 /// incomplete on each virtual channel.
 ///
-/// The fault is `Read` where the reader had one, `TooLong` where more octets came than the managed limit, `Memory`
-/// where memory was refused, which is wanted only where a packet is incomplete on the virtual channel of a frame, before
-/// the frame or after it, and `Write` where the writer had one.
+/// The fault is `Read` or `Write` where the reader or the writer had one, `TooLong` where more
+/// octets came than the managed limit, and `Memory` where memory was refused. Memory is wanted only
+/// where a packet is incomplete on the virtual channel of a frame, before the frame or after it.
 pub fn packets_tm<R: Read, W: Write>(
     alloc: Global,
     managed: &Managed,
@@ -178,10 +178,10 @@ pub fn packets_tm<R: Read, W: Write>(
     ensures totals { IfOk result (TranslatesAndCounts R.remaining W.contents reader.old reader.new
         writer.old writer.new (packets_tm_text managed.now) (tm_counts managed.now)
         managed.now.max_octets) }
-    // After a fault, whose cause is there, a prefix of the listing of what was read is written.
+    // A fault has its cause (`IsCaused`), and a prefix of the listing of what was read is written.
     ensures fault { IfErr result (Stops R.remaining W.contents reader.old reader.new
         writer.old writer.new (packets_tm_text managed.now) managed.now.max_octets chunk_size) }
-    // Memory is refused only where, around some frame of what was read, a packet is incomplete on its virtual channel.
+    // Memory is refused only where a packet is incomplete on the virtual channel of a frame, before or after it.
     ensures memory { IfErr result (λ fault. fault ≡ LinkFault.Memory
         → WantedMemory R.remaining reader.old reader.new (tm_frames_of managed.now.tm_length)
         (WantsMemoryTm managed.now)) }
@@ -193,12 +193,12 @@ pub fn packets_tm<R: Read, W: Write>(
 }
 
 /// Reads a recording of TC transfer frames to its end, and writes a line for each packet that its frames deliver, in
-/// the order of the frames whose accepted units end the series that they are of (docs/listings.md). It keeps one frame at
-/// most, the FARM-1 of 64 virtual channels, and the series that is incomplete on each MAP.
+/// the order of the frames that end the packets' series (docs/listings.md). It keeps one frame at most, the FARM-1 of
+/// 64 virtual channels, and the series of segments that is incomplete on each MAP.
 ///
-/// The fault is `Read` where the reader had one, `TooLong` where more octets came than the managed limit, `Memory`
-/// where memory was refused, which is wanted only where the unit of a frame is accepted and a series is incomplete on
-/// its MAP, before the frame or after it, and `Write` where the writer had one.
+/// The fault is `Read` or `Write` where the reader or the writer had one, `TooLong` where more octets came than the
+/// managed limit, and `Memory` where memory was refused. Memory is wanted only where the unit of a frame is accepted
+/// and a series is incomplete on its MAP, before the frame or after it.
 pub fn packets_tc<R: Read, W: Write>(
     alloc: Global,
     managed: &Managed,
@@ -212,11 +212,11 @@ pub fn packets_tc<R: Read, W: Write>(
     ensures totals { IfOk result (TranslatesAndCounts R.remaining W.contents reader.old reader.new
         writer.old writer.new (packets_tc_text managed.now) (tc_counts managed.now)
         managed.now.max_octets) }
-    // After a fault, whose cause is there, a prefix of the listing of what was read is written.
+    // A fault has its cause (`IsCaused`), and a prefix of the listing of what was read is written.
     ensures fault { IfErr result (Stops R.remaining W.contents reader.old reader.new
         writer.old writer.new (packets_tc_text managed.now) managed.now.max_octets chunk_size) }
-    // Memory is refused only where the unit of some frame of what was read is accepted, and a series is incomplete
-    // around it on its MAP.
+    // Memory is refused only where the unit of a frame is accepted and a series is incomplete on
+    // its MAP, before the frame or after it.
     ensures memory { IfErr result (λ fault. fault ≡ LinkFault.Memory
         → WantedMemory R.remaining reader.old reader.new (tc_frames_of (tc_format managed.now))
         (WantsMemoryTc managed.now)) }

@@ -39,10 +39,10 @@ use std::io::{Read, Write};
 /// frames deliver (docs/normal-form.md). It keeps these packets, one frame at most, and the packet that is incomplete
 /// on each virtual channel.
 ///
-/// The fault is `Read` where the reader had one, `TooLong` where more octets came than the managed limit, and
-/// `Memory` where memory was refused, which is wanted only where a packet is incomplete on the virtual channel of a
-/// frame, before the frame or after it, or was delivered; nothing is written then. Or it is `Write`, where the writer
-/// had one; it then has a prefix of the normal form.
+/// The fault is `Read` or `Write` where the reader or the writer had one, `TooLong` where more octets came than the
+/// managed limit, and `Memory` where memory was refused. Memory is wanted only where a packet is incomplete on the
+/// virtual channel of a frame, before the frame or after it, or where a packet was delivered. After `Write` the
+/// writer has a prefix of the normal form; after another fault nothing was written.
 pub fn normalise_tm<R: Read, W: Write>(
     alloc: Global,
     managed: &Managed,
@@ -59,14 +59,14 @@ pub fn normalise_tm<R: Read, W: Write>(
     // The normal form delivers the packets of the recording.
     ensures packets { OnOk result (KeepsPackets R.remaining W.contents reader.old reader.new
         writer.old writer.new (tm_packets managed.now)) }
-    // After a fault its cause is there, and a prefix of the normal form of what was read is written.
+    // A fault has its cause (`IsCaused`), and a prefix of the normal form of what was read is written.
     ensures fault { IfErr result (Stops R.remaining W.contents reader.old reader.new
         writer.old writer.new (tm_normal_form managed.now) managed.now.max_octets chunk_size) }
-    // Only where the writer failed is anything written, and all is read then.
+    // After a fault something is written only if the writer failed, and then all was read.
     ensures all_read { IfErr result (λ fault. fault ≡ LinkFault.Write
         → IsRead R.remaining reader.new) }
     ensures nothing { IfErr result (λ fault. fault ≢ LinkFault.Write → writer.new ≡ writer.old) }
-    // Memory is refused only where a packet is incomplete around a frame, or was delivered.
+    // Memory is refused only where a packet is incomplete before a frame or after it, or was delivered.
     ensures memory { IfErr result (λ fault. fault ≡ LinkFault.Memory
         → WantedMemory R.remaining reader.old reader.new (tm_frames_of managed.now.tm_length)
         (MayWantMemoryTm managed.now)) }
@@ -79,10 +79,10 @@ pub fn normalise_tm<R: Read, W: Write>(
 /// frames deliver, on each virtual channel and MAP (docs/normal-form.md). It keeps these packets, one frame at most,
 /// and the series that is incomplete on each MAP.
 ///
-/// The fault is `Read` where the reader had one, `TooLong` where more octets came than the managed limit, and
-/// `Memory` where memory was refused, which is wanted only where a frame's unit is accepted and a series is incomplete
-/// on its MAP, before the frame or after it, or where a packet was delivered; nothing is written then. Or it is
-/// `Write`, where the writer had one; it then has a prefix of the normal form.
+/// The fault is `Read` or `Write` where the reader or the writer had one, `TooLong` where more octets came than the
+/// managed limit, and `Memory` where memory was refused. Memory is wanted only where the unit of a frame is accepted
+/// and a series is incomplete on its MAP, before the frame or after it, or where a packet was delivered. After
+/// `Write` the writer has a prefix of the normal form; after another fault nothing was written.
 pub fn normalise_tc<R: Read, W: Write>(
     alloc: Global,
     managed: &Managed,
@@ -99,14 +99,14 @@ pub fn normalise_tc<R: Read, W: Write>(
     // The normal form delivers the packets of the recording.
     ensures packets { OnOk result (KeepsPackets R.remaining W.contents reader.old reader.new
         writer.old writer.new (tc_packets managed.now)) }
-    // After a fault its cause is there, and a prefix of the normal form of what was read is written.
+    // A fault has its cause (`IsCaused`), and a prefix of the normal form of what was read is written.
     ensures fault { IfErr result (Stops R.remaining W.contents reader.old reader.new
         writer.old writer.new (tc_normal_form managed.now) managed.now.max_octets chunk_size) }
-    // Only where the writer failed is anything written, and all is read then.
+    // After a fault something is written only if the writer failed, and then all was read.
     ensures all_read { IfErr result (λ fault. fault ≡ LinkFault.Write
         → IsRead R.remaining reader.new) }
     ensures nothing { IfErr result (λ fault. fault ≢ LinkFault.Write → writer.new ≡ writer.old) }
-    // Memory is refused only where a series is incomplete around a frame, or a packet was delivered.
+    // Memory is refused only where a series is incomplete before a frame or after it, or a packet was delivered.
     ensures memory { IfErr result (λ fault. fault ≡ LinkFault.Memory
         → WantedMemory R.remaining reader.old reader.new (tc_frames_of (tc_format managed.now))
         (MayWantMemoryTc managed.now)) }
@@ -129,6 +129,7 @@ trait Formed: Delivery {
         delivered: &Delivered,
         writer: &mut Counted<W>,
     ) -> Result<(), LinkFault>
+        // The clauses hold for any recording whose packets these are.
         requires { (recording : List ℕ) × AreKept (Self.kind managed.now)
             ((Self.kind managed.now).frames_of recording) delivered.now.lists }
         ensures written { OnOk result ((recording : List ℕ)

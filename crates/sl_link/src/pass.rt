@@ -19,7 +19,7 @@ use std::io::Read;
 /// How many octets are read at once, at most.
 pub const CHUNK_SIZE: usize = 0x10000;
 
-/// Reads a recording to its end and hands over each frame of it. The answer is how many octets were read.
+/// Reads a recording to its end, hands over each frame of it, and answers how many octets were read.
 pub fn read_recording<F: Framer, S: FrameSink, R: Read>(
     managed: &Managed,
     framer: &mut F,
@@ -28,6 +28,7 @@ pub fn read_recording<F: Framer, S: FrameSink, R: Read>(
     buffer: &mut [u8],
 ) -> Result<u64, LinkFault>
     requires room { 0 < length buffer.old }
+    // The framer holds no octets yet, and the sink has taken no frame, but may take each that the framer cuts.
     requires none { F.waits framer.old managed.now [] }
     requires same { (frame : List ℕ) → F.is_frame managed.now frame → S.is_frame sink.old frame }
     requires begun { S.took sink.old sink.old [] }
@@ -50,7 +51,8 @@ pub fn read_recording<F: Framer, S: FrameSink, R: Read>(
     }
 }
 
-// Hands over the frames that a chunk completes.
+// Hands over the frames that a chunk completes. The clauses speak of any past: a sink `start` that
+// has taken the frames `before`, and octets `rest` that wait in the framer.
 fn deliver_chunk<F: Framer, S: FrameSink>(
     managed: &Managed,
     framer: &mut F,

@@ -1,4 +1,4 @@
-//! The whole program.
+//! The program `sllink`, handed its words and its streams.
 ghost use Rattle.std.specs.Prelude.{◌≡◌, ◌≢◌, ◌≤◌, ◌⊎◌, map, string_bytes, OnOk, IfOk, IfErr};
 ghost use Rattle.std.specs.Io.KnownBytes.{Keeps};
 ghost use Rattle.clap.specs.Words.{kind_of};
@@ -62,8 +62,8 @@ Exit status:
 /// - 3: reading or writing failed, the recording has more octets than the limit, or memory was refused, which may
 ///   happen with any words.
 ///
-/// `errors` gets the reason for status 2 or 3 in one line, or the lines in which the command line refuses the words,
-/// as far as it takes them. Its own failures change no status.
+/// `errors` gets the reason for status 2 or 3 in one line, or the command line's own lines where it
+/// refuses the words. Where `errors` fails the reason is cut short, and the status is the same.
 pub fn run<R: Read, W: Write, E: Write>(
     alloc: Global,
     words: &[String],
@@ -81,14 +81,13 @@ pub fn run<R: Read, W: Write, E: Write>(
     // A check that met anomalies has written all of its listing.
     ensures anomalies { result ≡ 1 → WithAsked (map string_bytes words.now)
         (HasMetAnomalies R.remaining W.contents reader.old reader.new writer.old writer.new) }
-    // A refused run has read and written nothing: the words are refused, or a managed parameter that they
-    // ask for is.
+    // A refused run has read and written nothing: the words are refused, or a managed parameter that they ask for is.
     ensures refused { result ≡ 2 → (reader.new ≡ reader.old) × (writer.new ≡ writer.old)
         × (AreRefused (map string_bytes words.now) ⊎ WithAsked (map string_bytes words.now)
         AsksForRefusedParameter) }
-    // After a fault its cause is there, with what the words ask for. Or nothing was read, and nothing was
-    // written unless the words ask for help or the version and the writer failed: no clause can say that
-    // memory was refused, so any words may end like this.
+    // Either a fault stopped the engine that the words ask for, and has its cause. Or nothing was
+    // read, and the writer failed at the text of help or of the version. Or nothing was read or
+    // written, since memory was refused: no clause can say that, so any words may end like this.
     ensures stopped { result ≡ 3 → ((reader.new ≡ reader.old) × ((writer.new ≡ writer.old)
         ⊎ WithAnswer (map string_bytes words.now)
         (λ text. StopsWriting W.contents writer.old writer.new text LinkFault.Write)))
@@ -208,7 +207,7 @@ fn status_of(outcome: &Result<Totals, LinkFault>) -> u8
     }
 }
 
-// Prints help, the version, or why the command line is refused.
+// Writes help, the version, or why the command line is refused, and returns the exit status.
 fn report_refusal<W: Write, E: Write>(
     alloc: Global,
     refusal: &Error,
@@ -223,7 +222,7 @@ fn report_refusal<W: Write, E: Write>(
         × (kind_of refusal.now ≢ ErrorKind.DisplayHelp)
         × (kind_of refusal.now ≢ ErrorKind.DisplayVersion)
         × (kind_of refusal.now ≢ ErrorKind.OutOfMemory) }
-    // Want of memory or a failed write is a fault. Refused words and a failed error output are none.
+    // Want of memory or a failed write is a fault. Refused words and a failed error output are no faults.
     ensures stopped { result ≡ 3
         → ((writer.new ≡ writer.old) × MayLackMemory (kind_of refusal.now))
         ⊎ WithText (kind_of refusal.now)
@@ -243,7 +242,7 @@ fn report_refusal<W: Write, E: Write>(
     }
 }
 
-// The kit's help, with what is said at the end of all help.
+// The help of `clap`, and then what all help ends with.
 fn help_text(alloc: Global, help: &Error) -> Result<String, AllocError>
     ensures { IfOk result (λ text. EndsAsHelp (string_bytes text)) }
 {

@@ -25,15 +25,15 @@ use sl_tmframe::TmFramer;
 use std::alloc::Global;
 use std::io::Read;
 
-/// Reads two recordings of TM transfer frames to their ends, one after the other, and reports whether both deliver the same
-/// packets on each virtual channel, idle packets left out. So the answer is true exactly where the normal forms of both are
-/// equal octet for octet. The call keeps the packets of both recordings, one frame at most, and the packet that is
-/// incomplete on each virtual channel.
+/// Reads two recordings of TM transfer frames to their ends, one after the other, and reports whether both deliver
+/// the same packets on each virtual channel, idle packets left out. So the answer is true exactly where the normal
+/// forms of both are equal octet for octet. The call keeps the packets of both recordings, one frame at most, and the
+/// packet that is incomplete on each virtual channel.
 ///
-/// The fault is `Read` where a reader had one, and `TooLong` where more octets came from a reader than the managed limit.
-/// The fault is `Memory` where memory was refused, which is wanted only where a packet is incomplete on the virtual channel
-/// of a frame, before the frame or after it, or was delivered. After a fault of the first recording nothing is read of the
-/// other one.
+/// The fault is `Read` where a reader had one, `TooLong` where more octets came from a reader than
+/// the managed limit, and `Memory` where memory was refused. Memory is wanted only where a packet
+/// is incomplete on the virtual channel of a frame, before the frame or after it, or where a packet
+/// was delivered. After a fault of the first recording nothing is read of the other one.
 pub fn same_packets_tm<A: Read, B: Read>(
     alloc: Global,
     managed: &Managed,
@@ -43,10 +43,11 @@ pub fn same_packets_tm<A: Read, B: Read>(
     // Both recordings are read to their ends, and the answer is true exactly where their packets are the same.
     ensures same { IfOk result (ComparesPackets A.remaining B.remaining one.old one.new other.old
         other.new (tm_packets managed.now) managed.now.max_octets) }
-    // After a fault its cause is there, at one of the recordings.
+    // A fault has its cause, at the first recording, or at the other once the first was read to its end.
     ensures fault { IfErr result (StopsComparing A.remaining B.remaining one.old one.new other.old
         other.new managed.now.max_octets chunk_size) }
-    // Memory is refused only where a packet is incomplete around a frame of one recording, or was delivered.
+    // Memory is refused only where, in one recording, a packet is incomplete before a frame or
+    // after it, or was delivered.
     ensures memory { IfErr result (λ fault. fault ≡ LinkFault.Memory
         → WantedMemory A.remaining one.old one.new (tm_frames_of managed.now.tm_length)
         (MayWantMemoryTm managed.now) ⊎ WantedMemory B.remaining other.old other.new
@@ -56,13 +57,13 @@ pub fn same_packets_tm<A: Read, B: Read>(
     same_packets::<Extractor, TmFramer, A, B>(alloc, managed, framers, one, other)
 }
 
-/// Reads two recordings of TC transfer frames to their ends, one after the other, and reports whether FARM-1 lets the same
-/// packets of both through on each virtual channel and MAP, idle packets left out. So the answer is true exactly where the
-/// normal forms of both are equal octet for octet. The call keeps the packets of both recordings, one frame at most, and
-/// the series that is incomplete on each MAP.
+/// Reads two recordings of TC transfer frames to their ends, one after the other, and reports whether FARM-1 lets the
+/// same packets of both through on each virtual channel and MAP, idle packets left out. So the answer is true exactly
+/// where the normal forms of both are equal octet for octet. The call keeps the packets of both recordings, one frame
+/// at most, and the series that is incomplete on each MAP.
 ///
-/// The fault is `Read` where a reader had one, and `TooLong` where more octets came from a reader than the managed limit.
-/// The fault is `Memory` where memory was refused, which is wanted only where a frame's unit is accepted and a series is
+/// The fault is `Read` where a reader had one, `TooLong` where more octets came from a reader than the managed limit,
+/// and `Memory` where memory was refused. Memory is wanted only where the unit of a frame is accepted and a series is
 /// incomplete on its MAP, before the frame or after it, or where a packet was delivered. After a fault of the first
 /// recording nothing is read of the other one.
 pub fn same_packets_tc<A: Read, B: Read>(
@@ -74,11 +75,11 @@ pub fn same_packets_tc<A: Read, B: Read>(
     // Both recordings are read to their ends, and the answer is true exactly where their packets are the same.
     ensures same { IfOk result (ComparesPackets A.remaining B.remaining one.old one.new other.old
         other.new (tc_packets managed.now) managed.now.max_octets) }
-    // After a fault its cause is there, at one of the recordings.
+    // A fault has its cause, at the first recording, or at the other once the first was read to its end.
     ensures fault { IfErr result (StopsComparing A.remaining B.remaining one.old one.new other.old
         other.new managed.now.max_octets chunk_size) }
-    // Memory is refused only where a series is incomplete around a frame of one recording, or a packet was
-    // delivered.
+    // Memory is refused only where, in one recording, a series is incomplete before a frame or
+    // after it, or a packet was delivered.
     ensures memory { IfErr result (λ fault. fault ≡ LinkFault.Memory
         → WantedMemory A.remaining one.old one.new (tc_frames_of (tc_format managed.now))
         (MayWantMemoryTc managed.now) ⊎ WantedMemory B.remaining other.old other.new

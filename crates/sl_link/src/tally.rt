@@ -13,7 +13,8 @@ pub struct FrameReport {
     pub anomalies: u64,
 }
 
-/// A skipped frame, whose anomalies aren't looked for.
+/// The report on a skipped frame: no packets, and no anomalies looked for. `show` and `check` begin
+/// their reports with it.
 pub const SKIPPED: FrameReport = FrameReport {
     is_skipped: true,
     packets: 0,
@@ -21,7 +22,8 @@ pub const SKIPPED: FrameReport = FrameReport {
     anomalies: 0,
 };
 
-/// The whole frames so far, and what they brought together. Packets and anomalies are fewer than octets.
+/// The whole frames so far, and what they brought together. Packets and idle packets together are
+/// no more than the octets, and neither are anomalies and frames together.
 #[derive(Clone, Copy)]
 pub struct Tally {
     pub octets: u64,
@@ -55,7 +57,8 @@ impl Tally {
         }
     }
 
-    /// One frame more, of more octets than anomalies. All packets together are no more than the octets of the frames.
+    /// Counts one frame more, of `octets` octets, which are more than its anomalies. With it all
+    /// packets, idle ones included, are no more than all octets.
     pub fn add(&mut self, octets: u64, report: FrameReport)
         requires fits { self.old.octets + octets < 2 ^ 64 }
         requires within { self.old.packets + report.packets + (self.old.idle + report.idle)
@@ -79,7 +82,8 @@ impl Tally {
         self.anomalies += report.anomalies;
     }
 
-    /// The totals, with the octets of the remainder, and the anomalies that were met after the last frame.
+    /// The totals of a recording whose remainder has `rest` octets, where `more` anomalies were met
+    /// after the last frame.
     pub fn totals(&self, rest: u64, more: u64) -> Totals
         requires fits { self.now.octets + rest < 2 ^ 64 }
         requires few { self.now.anomalies + more ≤ self.now.octets + rest }

@@ -19,24 +19,24 @@ use crate::link::totals::Totals;
 use crate::pass::{FrameSink, Framer, read_recording};
 use std::io::{Read, Write};
 
-/// What is listed of each frame of a kind, and what it is told by.
+/// A verb that lists, `show`, `check` or `packets`, for one kind of frames.
 pub trait Verb {
     ghost use Rattle.sl_link.specs.Link.Managed.{Parameters};
     ghost use Rattle.sl_link.specs.Verbs.Listing.{Listing};
 
-    /// Octets are a frame.
+    /// These octets are a frame.
     ghost is_frame: { Parameters → List ℕ → Type 0 };
 
-    /// What it writes.
+    /// What the verb writes and counts.
     ghost listing: { Parameters → Listing };
 
-    /// It has listed these frames.
+    /// The verb has listed these frames.
     ghost has_listed: { Self → Parameters → List (List ℕ) → Type 0 };
 
     /// Memory may be refused at the last of these frames.
     ghost wants_memory: { Parameters → List (List ℕ) → Type 0 };
 
-    /// Lists the next frame.
+    /// Adds the lines of the next frame. Lines are written where room is wanted.
     fn frame<W: Write>(
         &mut self,
         managed: &Managed,
@@ -58,7 +58,7 @@ pub trait Verb {
             ++ (listing managed.now).line before frame.now) (wants_memory managed.now (before
             ++ frame.now ∷ [])) fault) };
 
-    /// Lists what comes after the last frame of a recording, all of whose octets are given.
+    /// Adds the lines after the last frame of a recording of `octets` octets, and answers the totals.
     fn finish<W: Write>(
         &self,
         managed: &Managed,
@@ -80,7 +80,7 @@ pub trait Verb {
             ++ (listing managed.now).last frames (octets - length (concat frames))) ⊥ fault) };
 }
 
-/// A verb at work.
+/// A verb, with the writer and the lines that it lists into: a sink of frames.
 #[derive(Drop)]
 pub struct Lister<'a, W: Write, V: Verb> {
     pub managed: Managed,
@@ -96,6 +96,7 @@ impl<'a, W: Write, V: Verb> FrameSink for Lister<'a, W, V> {
 
     ghost is_frame = { λ s frame. V.is_frame s.managed frame };
 
+    // The verb, the writer and the lines are those that were lent, and the lines of these frames were added.
     ghost took = { λ start now frames. (now.managed ≡ start.managed)
         × (now.verb.ghost_name ≡ start.verb.ghost_name)
         × (now.writer.ghost_name ≡ start.writer.ghost_name)
@@ -152,7 +153,7 @@ pub fn list<F: Framer, V: Verb, R: Read, W: Write>(
     Ok(totals)
 }
 
-// The frames of a recording, which is read to its end. The answer is how many octets were read.
+// Lists the frames of a recording, and answers how many octets were read. The last lines may still wait.
 fn list_frames<F: Framer, V: Verb, R: Read, W: Write>(
     managed: &Managed,
     framer: &mut F,

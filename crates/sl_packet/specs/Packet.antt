@@ -38,7 +38,8 @@ abbrev pub OnePacketIsPrefix : Type 0
 OnePacketIsPrefix =
     (p q p' q' : List ℕ) → IsPacket p → IsPacket q → p ++ p' ≡ q ++ q' → p ≡ q
 
--- Of six octets or more, the version and the APID are fields of the primary header.
+-- Where there are six octets or more, `version_of` and `apid_of` are the version and the APID of
+-- the primary header.
 abbrev pub HeaderFieldsStandFirst : Type 0
 HeaderFieldsStandFirst =
     (octets : List ℕ) → IsOctets octets → 6 ≤ length octets

@@ -27,7 +27,8 @@ whole_at OtherVersion octets = []
 whole_at Incomplete octets = []
 whole_at (WholePacket len) octets = take len octets ∷ []
 
--- how many octets after the first one are passed over: the rest of the packet, or all octets
+-- How many octets after the first one are passed over: the rest of the packet, or all octets. The
+-- number for all octets is one greater than needed, since the number counts the first octet too.
 abbrev pub octets_passed : Front → List ℕ → ℕ
 octets_passed OtherVersion octets = length octets
 octets_passed Incomplete octets = length octets
@@ -94,6 +95,7 @@ pub record GivesPacket (old : List ℕ) (given : Option (Bor (List ℕ))) (new :
   pub first : option_map (λ packet. packet.now) given ≡ first_packet_of old
   pub taken : IfSome given (λ packet. old ≡ packet.now ++ new)
   pub unchanged : IfNone given (new ≡ old)
-  -- what is left in the end stays the same; where no packet is given, it is what is left now
+  -- The octets after the last packet stay the same. Where no packet is given, these octets are the
+  -- new ones.
   pub same_rest : rest_of new ≡ rest_of old
   pub all_given : IfNone given (new ≡ rest_of old)

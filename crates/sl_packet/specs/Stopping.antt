@@ -1,6 +1,6 @@
--- How packets are handed over to a sink, and how far where the handing over stops with a
--- `FlowFault`. The contracts of the crates that take packets out of frames cite these definitions.
--- No contract of this crate does.
+-- How a list of packets is handed over to a sink: the whole list, or the first packets of the list
+-- where the handing over stops with a `FlowFault`. The contracts of the crates that take packets
+-- out of frames cite these definitions. No contract of this crate does.
 use Rattle.std.specs.Prelude.{◌≡◌, ℕ, List, ◌++◌, length, Result, OnOk, IfOk, IfErr}
 use Rattle.sl_packet.specs.Packets.{only_idle, without_idle}
 use Rattle.sl_packet.specs.Sink.{TakesAll, StopsTaking, one_more}
@@ -33,9 +33,10 @@ module _ {S : Type 0} (taking : S → ℕ → List ℕ → S → Type 0) where
     IsStopped old channel packets (Sink fault) new = StopsTaking taking failing old channel packets fault new × (failures new ≡ one_more (failures old))
     IsStopped old channel packets Failed new = ⊥
 
-    -- A step has the packets `ended` to hand over, idle ones included. On Ok it has handed over
-    -- those that aren't idle, in order, and has counted both kinds (`counts`). At a fault
-    -- `IsStopped` says how far the step came. Only contracts of private functions cite this record.
+    -- What a step hands over of the packets that end in the step (`ended`, with the idle ones). On
+    -- Ok the step has handed over those that aren't idle, in order, and has counted both kinds
+    -- (`counts`). At a fault `IsStopped` says how far the step came. Only contracts of private
+    -- functions cite this record.
     pub record HandsOver {X : Type 0} (counts : X → ℕ × ℕ) (old : S) (channel : ℕ) (ended : List (List ℕ)) (result : Result X FlowFault) (new : S) : Type 0 where
       pub accepted : OnOk result (TakesAll taking old channel (without_idle ended) new)
       pub kept : OnOk result (failures new ≡ failures old)

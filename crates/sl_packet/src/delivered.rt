@@ -59,7 +59,8 @@ impl Delivered {
         ensures packets { map vec_items result.now ≡ list_at self.now channel }
         ensures none_above { 4095 < channel → list_at self.now channel ≡ [] }
 
-        // Each store has 4,096 lists, and each packet in them is whole and isn't idle.
+        // Each store stands for 4,096 lists, also where it keeps fewer. Each packet in the lists is
+        // whole and isn't idle.
         ensures channels { length self.now.lists ≡ channel_count }
         ensures deliverable { AllByRecursion IsDeliverable (list_at self.now channel) }
         ensures each_deliverable { AllByRecursion (AllByRecursion IsDeliverable) self.now.lists }
@@ -134,8 +135,8 @@ fn are_same(packets: &[Vec<u8>], others: &[Vec<u8>]) -> bool
     packets == others
 }
 
-// Adds a packet to the list of a channel. Where memory is refused, all lists stay as they were.
-// Empty lists may then have been added for channels without a list.
+// Adds a packet to the list of a channel. Where memory is refused, each channel's packets stay as
+// they were, but empty lists may have been added for channels without a list.
 fn add(
     alloc: Global,
     lists: &mut Vec<Vec<Vec<u8>>>,
@@ -151,7 +152,8 @@ fn add(
     ensures refused { OnErr result (with_empty_lists (lists_in lists.new)
         ≡ with_empty_lists (lists_in lists.old)) }
 
-    // No list is beyond channel 4095, and each packet in the lists is whole and isn't idle.
+    // No list is beyond channel 4095. Where each packet in the old lists and the added packet are
+    // whole and aren't idle, the same holds of each packet in the new lists.
     ensures fit { length (lists_in lists.new) ≤ channel_count }
     ensures deliverable { AllByRecursion (AllByRecursion IsDeliverable) (lists_in lists.old)
         → IsDeliverable packet.now

@@ -14,8 +14,8 @@ pub fn packets_are_prefix_free()
     ensures one { OnePacketIsPrefix }
 {}
 
-/// The version is read from the first octet alone, and the APID from the first two. Of six octets
-/// or more, they are the fields of the primary header.
+/// The version is read from the first octet alone, and the APID from the first two. Where there are
+/// six octets or more, these two values are those of the primary header's fields.
 pub fn header_fields_stand_first()
     ensures { HeaderFieldsStandFirst }
 {}

@@ -16,7 +16,7 @@ pub fn first_packet<'a>(octets: &'a [u8]) -> Option<&'a [u8]>
     if header.version() != 0 {
         return None;
     }
-    // The length field states one less than the octets after the six octets of the header.
+    // The packet has the six octets of its header, and one octet more than the length field states.
     octets.get(..7 + usize::from(header.length()))
 }
 

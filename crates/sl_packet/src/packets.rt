@@ -25,7 +25,7 @@ impl<'a> Model for Packets<'a> {
 }
 
 impl<'a> Packets<'a> {
-    /// The packets at the front of these octets. All octets are left.
+    /// The packets at the front of these octets. No packet is yielded yet, so all octets are left.
     pub fn new(octets: &'a [u8]) -> Packets<'a>
         ensures { result ≡ octets.now }
     {
@@ -51,7 +51,7 @@ impl<'a> Iterator for Packets<'a> {
     ghost remaining = { item_count packets_of };
 
     /// The packet at the front of the octets that are left. `None` exactly where no whole packet is
-    /// there; all octets are then left.
+    /// there. The octets that are left then stay the same.
     fn next(&mut self) -> Option<&'a [u8]> {
         let packet = first_packet(self.rest)?;
         self.rest = &self.rest[packet.len()..];

@@ -1,5 +1,7 @@
--- The frame data units that FARM-1 accepts on a virtual channel, CCSDS 232.0-B and 232.1-B. That units of types AD
--- and BD make one list, in the order of acceptance, is this project's mission profile.
+-- The units (frame data units) that FARM-1 accepts on a virtual channel, CCSDS 232.0-B and 232.1-B.
+-- Units of types AD and BD make one list, in the order of their acceptance. This is the project's
+-- own choice (mission profile). In this file `w` is the width of the window, and `vr` is the
+-- initial V(R) of the virtual channel.
 use Rattle.std.specs.Prelude.{ℕ, ◌==◌, List, [], ◌∷◌, map}
 use Rattle.std.specs.Result.{result_ok}
 use Rattle.std.specs.List.{filter, filter_map}
@@ -10,7 +12,7 @@ use Rattle.sl_cop.specs.Accepted.{if_accepted, accepted_by}
 use Rattle.sl_cop.specs.Farm.{FarmState, farm_start, state_after, verdicts_of}
 use Rattle.sl_tcframe.specs.TcFrame.{TcFormat, TcView, Content, Ad, Bd, Unlock, SetVr, tc_frame}
 
--- the views of the frames that aren't skipped
+-- what is read of the frames, skipped frames left out
 abbrev pub views_of : TcFormat → ℕ → List (List ℕ) → List TcView
 views_of format spacecraft frames = filter_map (λ frame. result_ok (tc_frame format spacecraft frame)) frames
 
@@ -18,14 +20,14 @@ views_of format spacecraft frames = filter_map (λ frame. result_ok (tc_frame fo
 abbrev pub channel_of : ℕ → List TcView → List TcView
 channel_of vc views = filter (λ view. view.vc == vc) views
 
--- the event that a frame is to FARM-1
+-- the event of FARM-1 at which a frame with this content arrives
 abbrev pub event_of : Content → FarmEvent
 event_of (Ad ns unit) = event.Ad ns
 event_of (Bd unit) = event.Bd
 event_of Unlock = event.Unlock
 event_of (SetVr vr) = event.SetVr vr
 
--- the events of the frames of a virtual channel
+-- the events of FARM-1 at which the frames of its virtual channel arrive
 abbrev pub events_of : List TcView → List FarmEvent
 events_of channel = map (λ view. event_of view.content) channel
 
@@ -47,16 +49,16 @@ ad_unit_of (Bd unit) = []
 ad_unit_of Unlock = []
 ad_unit_of (SetVr vr) = []
 
--- a frame's unit, where the frame is accepted
+-- the unit of a frame, where this verdict accepts the frame, as a list of one or none
 abbrev pub unit_by : Verdict → Content → List (List ℕ)
 unit_by verdict content = if_accepted verdict (unit_of content)
 
--- the units, of the wanted types, of the frames that FARM-1 accepts with this window and this initial V(R), in the
--- order of acceptance
+-- the units of the frames that FARM-1 accepts, in the order of acceptance; `units` says which units
+-- are wanted, as a list of one or none for each frame
 abbrev pub accepted_of : (Content → List (List ℕ)) → ℕ → ℕ → List TcView → List (List ℕ)
 accepted_of units w vr channel = accepted_by (λ (view : TcView). units view.content) (verdicts_of w (farm_start vr) (events_of channel)) channel
 
--- The units that FARM-1 accepts, of types AD and BD in one order: mission profile.
+-- the units that FARM-1 accepts, of types AD and BD in one order (mission profile)
 abbrev pub accepted_units : ℕ → ℕ → List TcView → List (List ℕ)
 accepted_units w vr channel = accepted_of unit_of w vr channel
 

@@ -1,6 +1,7 @@
--- Anomalies of the segments that FARM-1 accepts, CCSDS 232.0-B: a segment is out of sequence, an incomplete series is
--- dropped or given up, or octets are left after the last whole packet of a service data unit. The greatest length of
--- a service data unit, and that the octets after its last whole packet are dropped, are the mission profile's.
+-- Anomalies of the segments that FARM-1 accepts, CCSDS 232.0-B: a segment is out of sequence, an
+-- incomplete series is dropped or given up, or octets are left after the last whole packet of a
+-- service data unit. Two things are the project's own choices (mission profile): the greatest
+-- length of a service data unit, and that the octets after its last whole packet are dropped.
 use Rattle.std.specs.Prelude.{◌≡◌, ◌⊎◌, ℕ, ◌+◌, ◌<◌, ◌≤◌, ◌==◌, ◌&&◌, nat_le, Bool, true, false, if◌then◌else◌, List, [], ◌∷◌, ◌++◌, length, flat_map, Option, None, Some, is_none, option_map, unwrap_or}
 use Rattle.std.specs.List.{filter}
 use Rattle.sl_packet.specs.Packets.{ArePacketsOf, rest_of}
@@ -34,19 +35,23 @@ held_of list = unwrap_or (octets_held list) 0
 abbrev pub stray_of : List (List ℕ) → List ℕ → Bool
 stray_of list next = continues next && is_none (incomplete_of list)
 
--- how many octets the dropped series has, if one is dropped: one is incomplete, and another series begins
+-- how many octets so far the dropped series has, if one is dropped: one is incomplete, and the next
+-- segment begins another one
 abbrev pub dropped_of : List (List ℕ) → List ℕ → Option ℕ
 dropped_of list next = if begins next then octets_held list else None
 
--- whether the incomplete series is given up because it is too long with the next segment
+-- whether the incomplete series is given up, because it is too long with the next segment, which
+-- continues it
 abbrev pub long_of : List (List ℕ) → List ℕ → Bool
 long_of list next = continues next && exceeds_limit (octets_held list) (length (segment_data next))
 
--- the octets of a series' service data unit that are left after its packets, where the unit isn't too long
+-- the octets that are left after the packets of the service data unit of a series, and none where
+-- the unit is too long
 abbrev pub left_in : List (List ℕ) → List ℕ
 left_in segments = if nat_le (length (reassembled segments)) 65542 then rest_of (reassembled segments) else []
 
--- how many octets are left of the service data unit that ends with the next segment, and 0 where none ends
+-- how many octets are left of the service data unit that ends with the next segment, and 0 where
+-- none ends or it is too long
 abbrev pub tail_of : List (List ℕ) → List ℕ → ℕ
 tail_of list next =
     length (flat_map (λ (s : SeriesAt). left_in s.segments) (filter (λ (s : SeriesAt). past s == length list + 1) (series_of (list ++ next ∷ []))))
@@ -58,22 +63,24 @@ pub record IsStray (list : List (List ℕ)) (next : List ℕ) : Type 0 where
   pub goes_on : (flags_of next ≡ 0) ⊎ (flags_of next ≡ 2)
   pub none : (octets : List ℕ) → IsIncomplete list octets → ⊥
 
--- A series is dropped: it is incomplete, with `count` octets, and the next segment begins another one.
+-- A series is dropped: it is incomplete, with `count` octets, and the next segment begins another
+-- one.
 pub record IsDropped (list : List (List ℕ)) (next : List ℕ) (count : ℕ) : Type 0 where
   pub anew : (flags_of next ≡ 1) ⊎ (flags_of next ≡ 3)
   pub octets : List ℕ
   pub incomplete : IsIncomplete list octets
   pub count_is : count ≡ length octets
 
--- A series is given up: it is incomplete, and the next segment continues it with too many octets together.
+-- A series is given up: it is incomplete, the next segment continues it, and both have too many
+-- octets together.
 pub record IsLong (list : List (List ℕ)) (next : List ℕ) : Type 0 where
   pub goes_on : (flags_of next ≡ 0) ⊎ (flags_of next ≡ 2)
   pub octets : List ℕ
   pub incomplete : IsIncomplete list octets
   pub too_many : 65542 < length octets + length (segment_data next)
 
--- Octets are left: the next segment ends a series, whose service data unit isn't too long, and `count` octets are
--- left after the unit's packets.
+-- Octets are left: the next segment ends a series, whose service data unit isn't too long, and
+-- `count` octets are left after the unit's packets.
 pub record HasTail (list : List (List ℕ)) (next : List ℕ) (count : ℕ) : Type 0 where
   pub ended : SeriesAt
   pub series : IsSeriesOf (list ++ next ∷ []) ended
@@ -86,12 +93,14 @@ pub record HasTail (list : List (List ℕ)) (next : List ℕ) (count : ℕ) : Ty
 
 -- ---- the next frame, after others
 
--- the report on a segment, or `none` where there is none
+-- what a report says of a segment (`told`), as a value of the type `X`, or `none` where there is no
+-- segment; the segments are a list of one or none
 abbrev pub of_segment : {X : Type 0} → X → (List ℕ → X) → List (List ℕ) → X
 of_segment none told [] = none
 of_segment none told (segment ∷ segments) = told segment
 
--- the report on the segment of the frame's unit, with the segments of its MAP before it, if the unit is accepted
+-- what a report says of the segment of the frame's unit, where the unit is accepted, with the
+-- segments that came before on its MAP; `none` where the unit isn't accepted
 abbrev pub of_accepted : {X : Type 0} → X → (List (List ℕ) → List ℕ → X) → ReceptionParameters → List TcView → TcView → X
 of_accepted none told r views next =
     of_segment none (told (segments_of r next.vc (map_by r next) views)) (segment_by r views next)
@@ -104,7 +113,7 @@ stray_by r views next = of_accepted false stray_of r views next
 abbrev pub dropped_by : ReceptionParameters → List TcView → TcView → Option ℕ
 dropped_by r views next = of_accepted None dropped_of r views next
 
--- whether the frame's accepted unit makes a series too long, which is then given up
+-- whether the incomplete series is given up, because it is too long with the frame's accepted unit
 abbrev pub long_by : ReceptionParameters → List TcView → TcView → Bool
 long_by r views next = of_accepted false long_of r views next
 
@@ -112,8 +121,8 @@ long_by r views next = of_accepted false long_of r views next
 abbrev pub tail_by : ReceptionParameters → List TcView → TcView → ℕ
 tail_by r views next = of_accepted 0 tail_of r views next
 
--- The report on the next frame, without its packets: the verdict on the frame, and the anomalies of its unit. Only
--- contracts of private functions cite this record.
+-- What the report on the next frame says apart from its MAP and its packets: the verdict on the
+-- frame, and the anomalies of its unit. Only contracts of private functions cite this record.
 pub record IsReportedOf (r : ReceptionParameters) (views : List TcView) (next : TcView) (step : StepReport) : Type 0 where
   pub verdict : step.verdict ≡ verdict_on r views next
   pub stray : step.stray ≡ stray_by r views next
@@ -160,13 +169,13 @@ abbrev pub NoPlainSeriesIsIncomplete : Type 0
 NoPlainSeriesIsIncomplete =
     (r : ReceptionParameters) (vc map_id : ℕ) (views : List TcView) → is_plain r vc ≡ true → incomplete_of (segments_of r vc map_id views) ≡ None
 
--- Only octets that are left can be reported on a unit without segment header: it is never out of sequence, and no
--- series is dropped or too long.
+-- A unit has no anomaly but octets that are left: it isn't out of sequence, it drops no series, and
+-- it makes none too long.
 pub record HasTailAlone (r : ReceptionParameters) (views : List TcView) (next : TcView) : Type 0 where
   pub stray : stray_by r views next ≡ false
   pub dropped : dropped_by r views next ≡ None
   pub long : long_by r views next ≡ false
 
--- On a virtual channel without segment headers only octets that are left are reported.
+-- A unit on a virtual channel without segment headers has no anomaly but octets that are left.
 abbrev pub PlainUnitHasTailAlone : Type 0
 PlainUnitHasTailAlone = (r : ReceptionParameters) (views : List TcView) (next : TcView) → is_plain r next.vc ≡ true → HasTailAlone r views next

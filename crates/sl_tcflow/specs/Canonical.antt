@@ -1,4 +1,4 @@
--- The normal form of packets is a recording that delivers these packets and no others.
+-- The normal form of packets is a recording that delivers exactly these packets.
 use Rattle.std.specs.Prelude.{◌≡◌, ℕ, ◌≤◌, List, [], length, Ok}
 use Rattle.std.specs.List.{AllByRecursion}
 use Rattle.sl_cop.specs.Starts.{AreStarts}
@@ -10,7 +10,7 @@ use Rattle.sl_tcflow.specs.ReceptionParameters.{ReceptionParameters}
 use Rattle.sl_tcflow.specs.Recording.{tc_lists}
 use Rattle.sl_tcflow.specs.TcNormalForm.{tc_frames_form, tc_normal_form_of}
 
--- a managed format: its frames have a greatest length of 16 to 1024 octets
+-- a format that isn't refused: the greatest length of its frames is 16 to 1024 octets
 pub record IsFormat (format : TcFormat) : Type 0 where
   pub least : 16 ≤ format.max
   pub most : format.max ≤ 1024
@@ -27,18 +27,20 @@ pub record CanBeWritten (format : TcFormat) (spacecraft : ℕ) (plain : List ℕ
   pub deliverable : AreDeliverable lists
   pub fit : FitsTc format plain lists
 
--- a frame is read, and not skipped
+-- the frame is read, and so not skipped
 abbrev pub IsNotSkipped : TcFormat → ℕ → List ℕ → Type 0
 IsNotSkipped format spacecraft frame = (view : TcView) × (tc_frame format spacecraft frame ≡ Ok view)
 
 -- ---- laws
 
--- A recording delivers lists of packets that aren't idle, one for each virtual channel and MAP.
+-- What a recording delivers is a list of packets that aren't idle, for each virtual channel and
+-- MAP.
 abbrev pub RecordedListsAreDeliverable : Type 0
 RecordedListsAreDeliverable =
     (format : TcFormat) (spacecraft : ℕ) (r : ReceptionParameters) (recording : List ℕ) → AreDeliverable (tc_lists format spacecraft r recording)
 
--- Frames can carry the packets that a recording delivers, also on the virtual channels without segment headers.
+-- Frames can carry the packets that a recording delivers, also on the virtual channels without
+-- segment headers.
 abbrev pub RecordedListsFit : Type 0
 RecordedListsFit =
     (format : TcFormat) (spacecraft : ℕ) (r : ReceptionParameters) (recording : List ℕ)
@@ -64,8 +66,8 @@ NoFrameIsSkipped =
     (format : TcFormat) (spacecraft : ℕ) (starts plain : List ℕ) (lists : List (List (List ℕ))) → CanBeWritten format spacecraft plain lists
     → AllByRecursion (IsNotSkipped format spacecraft) (tc_frames_form format spacecraft starts plain lists)
 
--- Read as a recording, with the same initial V(R), the same virtual channels without segment headers and any window,
--- the normal form delivers exactly the packets that it was made from.
+-- Read as a recording, with the same initial V(R), the same virtual channels without segment
+-- headers and any window, the normal form delivers exactly the packets that it was made from.
 abbrev pub NormalFormDelivers : Type 0
 NormalFormDelivers =
     (format : TcFormat) (spacecraft : ℕ) (r : ReceptionParameters) (lists : List (List (List ℕ))) → IsFormat format → spacecraft ≤ 1023

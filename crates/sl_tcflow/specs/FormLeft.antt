@@ -1,5 +1,6 @@
--- The octets of a TC normal form that are still to come, where the form is made packet by packet. A `TcForm` stands
--- for these octets. Only contracts of private functions cite `piece_of` and `ns_after`.
+-- The octets of a TC normal form that are still to come, where the form is made packet by packet. A
+-- `TcForm` stands for these octets. Only contracts of private functions cite `piece_of` and
+-- `ns_after`. In this file `ns` is the N(S) of the next frame.
 use Rattle.std.specs.Prelude.{ℕ, ◌+◌, ◌-◌, ◌*◌, ◌/◌, ◌%◌, ◌<◌, ◌≤◌, Bool, List, [], ◌++◌, length, take, drop, flat_map}
 use Rattle.std.specs.List.{concat, range_with_len, slice_index_or}
 use Rattle.sl_packet.specs.Delivered.{PacketLists, channel_count, list_at}
@@ -8,31 +9,31 @@ use Rattle.sl_tcframe.specs.TcFrame.{TcFormat}
 use Rattle.sl_tcframe.specs.VcSet.{has_vc}
 use Rattle.sl_tcflow.specs.TcNormalForm.{units_of_packet, units_of_maps, frames_of_units, channel_frames}
 
--- the piece of a packet on a channel: its frames end to end, with N(S) from `ns` on
+-- the piece of a packet on a channel: its frames end to end, with N(S) counting from `ns` on
 abbrev pub piece_of : TcFormat → ℕ → Bool → ℕ → ℕ → List ℕ → List ℕ
 piece_of format spacecraft plain channel ns packet =
     concat (frames_of_units format spacecraft (channel / 64) ns (units_of_packet plain (segment_room_of format) (channel % 64) packet))
 
--- the N(S) of the frame after a packet's frames
+-- the N(S) of the frame after the frames of a packet, which begin with `ns`
 abbrev pub ns_after : TcFormat → Bool → ℕ → ℕ → List ℕ → ℕ
 ns_after format plain channel ns packet = (ns + length (units_of_packet plain (segment_room_of format) (channel % 64) packet)) % 256
 
--- the octets of a virtual channel from a MAP on: those of packets of this MAP, with N(S) from `ns` on, and those of
--- later MAPs
+-- the octets of a virtual channel from the MAP `map_id` on: those of `packets`, which are left on
+-- this MAP, and then those of `later`, the lists of the MAPs after it
 abbrev pub maps_left : TcFormat → ℕ → Bool → ℕ → ℕ → ℕ → List (List ℕ) → List (List (List ℕ)) → List ℕ
 maps_left format spacecraft plain vc map_id ns packets later =
     concat (frames_of_units format spacecraft vc ns
     (flat_map (units_of_packet plain (segment_room_of format) map_id) packets ++ units_of_maps plain (segment_room_of format) (map_id + 1) later))
 
--- the octets of `n` virtual channels from `vc` on
+-- the octets of the `n` virtual channels from `vc` on, none of whose packets is framed yet
 abbrev pub channels_left : TcFormat → ℕ → List ℕ → List ℕ → List (List (List ℕ)) → ℕ → ℕ → List ℕ
 channels_left format spacecraft starts plain lists vc n =
     concat (flat_map
     (λ vc. channel_frames format spacecraft (has_vc plain vc) (slice_index_or starts vc 0) vc (take 64 (drop (64 * vc) lists)))
     (range_with_len vc n))
 
--- the octets that are still to come where all packets of earlier channels and `framed` packets of this channel are
--- framed, and N(S) goes on from `ns` on this virtual channel
+-- the octets that are still to come where the packets of all channels before `channel`, and the
+-- first `framed` packets of this channel, are framed already
 unfoldable pub form_left : TcFormat → ℕ → List ℕ → List ℕ → List (List (List ℕ)) → ℕ → ℕ → ℕ → List ℕ
 form_left format spacecraft starts plain lists channel framed ns =
     maps_left format spacecraft (has_vc plain (channel / 64)) (channel / 64) (channel % 64) ns (drop framed (slice_index_or lists channel []))
@@ -41,7 +42,8 @@ form_left format spacecraft starts plain lists channel framed ns =
 
 -- ---- places of packets
 
--- the place of a packet, after `framed` others of its channel, or the place after all packets
+-- the place of a packet, which comes after `framed` packets of its channel; or the place after all
+-- packets, whose channel is 4096
 pub record IsPlace (d : PacketLists) (channel framed : ℕ) : Type 0 where
   pub inside : channel ≤ channel_count
   pub packet : channel < channel_count → framed < length (list_at d channel)

@@ -1,5 +1,6 @@
--- The frames of a normal form of TC frames, read as a recording: they come in a fixed order, and each packet is carried
--- by a series of its own. The order, and that frames are full, is this project's mission profile.
+-- The frames of a TC normal form, read as a recording: they come in a fixed order, and each packet
+-- is carried by a series of its own. The order, and that segments are full, are the project's own
+-- choice (mission profile).
 use Rattle.std.specs.Prelude.{◌≡◌, ℕ, ◌+◌, ◌*◌, ◌%◌, ◌<◌, Bool, if◌then◌else◌, List, [], ◌∷◌, ◌++◌, length, map, flat_map}
 use Rattle.std.specs.List.{slice_index_or}
 use Rattle.sl_fields.specs.NeverFall.{NeverFall}
@@ -13,12 +14,12 @@ use Rattle.sl_tcflow.specs.Recording.{recorded_views}
 use Rattle.sl_tcflow.specs.Series.{segment_in, segments_on}
 use Rattle.sl_tcflow.specs.TcNormalForm.{IsDividedInto, tc_normal_form_of}
 
--- the frames of the normal form, as they are read
+-- what is read of the frames of a normal form
 abbrev pub form_views : TcFormat → ℕ → List ℕ → List ℕ → List (List (List ℕ)) → List TcView
 form_views format spacecraft starts plain lists = recorded_views format spacecraft (tc_normal_form_of format spacecraft starts plain lists)
 
--- the segments of a MAP in frames of a virtual channel without segment headers (`plain`) or with them, whether FARM-1
--- accepts the frames or not
+-- the segments of a MAP in frames of a virtual channel without segment headers (`plain`) or with
+-- them, whether FARM-1 accepts the frames or not
 abbrev pub segments_in : Bool → ℕ → List TcView → List (List ℕ)
 segments_in plain map_id channel = segments_on map_id (map (segment_in plain) (flat_map (λ (view : TcView). unit_of view.content) channel))
 
@@ -26,7 +27,8 @@ segments_in plain map_id channel = segments_on map_id (map (segment_in plain) (f
 abbrev pub room_in : Bool → TcFormat → ℕ
 room_in plain format = if plain then plain_room_of format else segment_room_of format
 
--- The segments carry the packets, one after another: each packet is divided into a series of its own.
+-- The segments carry the packets, one after another: each packet is divided into segments of its
+-- own, which are one series.
 pub data CarryPackets (room map_id : ℕ) : List (List ℕ) → List (List ℕ) → Type 0 where
   none : CarryPackets room map_id [] []
   more : (packet : List ℕ) (own packets later : List (List ℕ)) → IsDividedInto room map_id packet own → CarryPackets room map_id packets later
@@ -40,16 +42,17 @@ ChannelsNeverFall =
     (format : TcFormat) (spacecraft : ℕ) (starts plain : List ℕ) (lists : List (List (List ℕ))) → CanBeWritten format spacecraft plain lists
     → NeverFall 0 (map (λ (view : TcView). view.vc) (form_views format spacecraft starts plain lists))
 
--- The MAPs of a virtual channel never fall. Where it has no segment headers, all frames are on MAP 0, by the definition
--- of `segment_in`. There are no virtual channels above 63.
+-- The MAPs of the frames of a virtual channel never fall. On a virtual channel without segment
+-- headers all frames are on MAP 0, by the definition of `segment_in`. There are no virtual channels
+-- above 63.
 abbrev pub MapsNeverFall : Type 0
 MapsNeverFall =
     (format : TcFormat) (spacecraft : ℕ) (starts plain : List ℕ) (lists : List (List (List ℕ))) → CanBeWritten format spacecraft plain lists
     → (vc : ℕ) → vc < 64
     → NeverFall 0 (map (λ (view : TcView). map_of (has_vc plain vc) view.content) (channel_of vc (form_views format spacecraft starts plain lists)))
 
--- Each frame of a virtual channel is of type AD. Its N(S) is the channel's V(R) before the first frame, plus the number
--- of the channel's frames before it, modulo 256.
+-- Each frame of a virtual channel is of type AD. Its N(S) is the channel's initial V(R) plus the
+-- number of the channel's frames before it, modulo 256.
 abbrev pub NsCounts : Type 0
 NsCounts =
     (format : TcFormat) (spacecraft : ℕ) (starts plain : List ℕ) (lists : List (List (List ℕ))) → CanBeWritten format spacecraft plain lists
@@ -57,8 +60,9 @@ NsCounts =
     → channel_of vc (form_views format spacecraft starts plain lists) ≡ before ++ view ∷ later
     → (unit : List ℕ) × (view.content ≡ Ad ((slice_index_or starts vc 0 + length before) % 256) unit)
 
--- The frames of a virtual channel and a MAP carry the packets that the normal form was made from: each packet is one
--- series, of full segments but the last. The list of virtual channel v and MAP m has the index 64 v + m.
+-- The frames of a virtual channel and a MAP carry the packets that the normal form was made from:
+-- each packet is one series, of full segments but the last. The list of virtual channel v and MAP m
+-- has the index 64 v + m.
 abbrev pub EachPacketIsOneSeries : Type 0
 EachPacketIsOneSeries =
     (format : TcFormat) (spacecraft : ℕ) (starts plain : List ℕ) (lists : List (List (List ℕ))) → CanBeWritten format spacecraft plain lists

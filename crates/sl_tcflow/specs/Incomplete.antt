@@ -1,14 +1,15 @@
--- A series of segments that is incomplete, CCSDS 232.0-B: it has begun, and its last segment hasn't come yet. The
--- greatest length of a reassembled service data unit is the mission profile's.
+-- Series of segments that are incomplete, CCSDS 232.0-B: the segments so far end with a first one,
+-- and continuing ones or none after it. The greatest length of a service data unit, 65,542 octets,
+-- is the project's own choice (mission profile).
 use Rattle.std.specs.Prelude.{◌≡◌, ℕ, ◌+◌, ◌≤◌, ◌==◌, ◌&&◌, Bool, true, false, nat_le, nat_lt, if◌then◌else◌, List, [], ◌∷◌, ◌++◌, length, Option, None, Some}
 use Rattle.std.specs.List.{AllByRecursion}
 use Rattle.sl_tcflow.specs.Series.{flags_of, reassembled}
 
 -- ---- the relation
 
--- A series is incomplete after the last segment of a MAP's list, with these octets so far.
+-- A series is incomplete after the last segment of a MAP's list, and has these octets so far.
 pub record IsIncomplete (list : List (List ℕ)) (octets : List ℕ) : Type 0 where
-  -- the first segment of the series, and the segments after it, up to the last one of the list
+  -- the segments before the series, the first segment of the series, and all segments after it
   pub earlier : List (List ℕ)
   pub first : List ℕ
   pub later : List (List ℕ)
@@ -16,17 +17,19 @@ pub record IsIncomplete (list : List (List ℕ)) (octets : List ℕ) : Type 0 wh
   pub begins : flags_of first ≡ 1
   -- the later segments are continuing ones
   pub goes_on : AllByRecursion (λ segment. flags_of segment ≡ 0) later
-  -- the segments have these octets after their headers, and not too many (mission profile)
+  -- these are the octets of the series after its segment headers, and not too many (mission
+  -- profile)
   pub together : octets ≡ reassembled (first ∷ later)
   pub fits : length octets ≤ 65542
 
 -- ---- the octets so far, if a series is incomplete
 
--- the octets of a service data unit, where they aren't too many
+-- the octets of a service data unit, or of a series so far; `None` where they are too many
 abbrev pub if_fits : List ℕ → Option (List ℕ)
 if_fits octets = if nat_le (length octets) 65542 then Some octets else None
 
--- whether the incomplete series, if there is one, has too many octets with `more` octets
+-- whether the incomplete series, if there is one, has too many octets with `more` octets; the
+-- series is given by the number of its octets so far
 abbrev pub exceeds_limit : Option ℕ → ℕ → Bool
 exceeds_limit None more = false
 exceeds_limit (Some octets) more = nat_lt 65542 (octets + more)
@@ -36,8 +39,8 @@ abbrev pub are_continuing : List (List ℕ) → Bool
 are_continuing [] = true
 are_continuing (segment ∷ later) = flags_of segment == 0 && are_continuing later
 
--- the octets of the incomplete series, if there is one: a first segment begins it, and only continuing ones come
--- after it
+-- the octets so far of the series that is incomplete after a list, if there is one: a first segment
+-- begins the series, only continuing ones come after it, and their octets aren't too many
 abbrev pub incomplete_of : List (List ℕ) → Option (List ℕ)
 incomplete_of [] = None
 incomplete_of (segment ∷ later) =
@@ -54,7 +57,7 @@ WhatIsToldIsIncomplete = (list : List (List ℕ)) (octets : List ℕ) → incomp
 abbrev pub IncompleteIsTold : Type 0
 IncompleteIsTold = (list : List (List ℕ)) (octets : List ℕ) → IsIncomplete list octets → incomplete_of list ≡ Some octets
 
--- At most one series is incomplete: two begin at the same segment.
+-- At most one series is incomplete: any two begin at the same segment.
 abbrev pub OneBegins : Type 0
 OneBegins =
     (list : List (List ℕ)) (octets others : List ℕ) (one : IsIncomplete list octets) (other : IsIncomplete list others)

@@ -1,6 +1,8 @@
--- What the next segment of a MAP does, CCSDS 232.0-B, from the octets of the incomplete series before it, from its
--- sequence flags and from the octets after its segment header. These are the code's steps, not the standard's: only
--- contracts of private functions and lemmas cite them, and lemmas tie them to the series of a MAP's list.
+-- What the next segment of a MAP does, CCSDS 232.0-B. In this file `held` is the octets so far of
+-- the series that is incomplete before the segment, if there is one; `flags` is the segment's
+-- sequence flags; and `octets` is the octets after its segment header. These are the code's steps,
+-- not the standard's: only contracts of private functions and lemmas cite them, and lemmas tie them
+-- to the series of a MAP's list.
 use Rattle.std.specs.Prelude.{◌≡◌, ℕ, ◌==◌, ◌&&◌, Bool, false, if◌then◌else◌, is_none, option_map, List, [], ◌++◌, length, Option, None, Some}
 use Rattle.sl_cop.specs.declared.verdict.Verdict.TheVariants.{Accept}
 use Rattle.sl_packet.specs.Packets.{only_idle, packets_of, rest_of, without_idle}
@@ -10,30 +12,33 @@ use Rattle.sl_tcflow.specs.StepReport.{StepReport}
 
 -- ---- the series
 
--- the octets of a service data unit so far, with those of one more segment
+-- the octets of a series so far with those of one more segment, where there is a series and they
+-- aren't too many
 abbrev pub extended : Option (List ℕ) → List ℕ → Option (List ℕ)
 extended None octets = None
 extended (Some before) octets = if_fits (before ++ octets)
 
--- the octets of the series that is incomplete after the next segment: the segment begins or continues it
+-- the octets of the series that is incomplete after the next segment, if one is: the segment begins
+-- the series or continues it
 abbrev pub incomplete_with : Option (List ℕ) → ℕ → List ℕ → Option (List ℕ)
 incomplete_with held flags octets =
     if flags == 1 then if_fits octets
     else if flags == 0 then extended held octets
     else None
 
--- the octets of the series that is incomplete after the next segment, from the segment itself
+-- the same, from the segment itself
 abbrev pub incomplete_after : Option (List ℕ) → List ℕ → Option (List ℕ)
 incomplete_after held next = incomplete_with held (flags_of next) (segment_data next)
 
--- the service data unit that ends with the next segment, which has no segmentation or is the last one of a series
+-- the service data unit that ends with the next segment, if one does: the segment has no
+-- segmentation or is the last one of a series
 abbrev pub service_unit_with : Option (List ℕ) → ℕ → List ℕ → Option (List ℕ)
 service_unit_with held flags octets =
     if flags == 3 then if_fits octets
     else if flags == 2 then extended held octets
     else None
 
--- the service data unit that ends with the next segment, from the segment itself
+-- the same, from the segment itself
 abbrev pub service_unit_ended : Option (List ℕ) → List ℕ → Option (List ℕ)
 service_unit_ended held next = service_unit_with held (flags_of next) (segment_data next)
 
@@ -48,20 +53,21 @@ packets_of_service_unit (Some octets) = packets_of octets
 abbrev pub packets_with : Option (List ℕ) → ℕ → List ℕ → List (List ℕ)
 packets_with held flags octets = packets_of_service_unit (service_unit_with held flags octets)
 
--- the packets that end with the next segment, from the segment itself
+-- the same, from the segment itself
 abbrev pub packets_after : Option (List ℕ) → List ℕ → List (List ℕ)
 packets_after held next = packets_with held (flags_of next) (segment_data next)
 
--- the octets of a service data unit that are left after its packets, if there is one
+-- the octets of a service data unit that are left after its packets; none where there is no unit
 abbrev pub rest_of_service_unit : Option (List ℕ) → List ℕ
 rest_of_service_unit None = []
 rest_of_service_unit (Some octets) = rest_of octets
 
--- how many octets are left of the service data unit that ends with the next segment
+-- how many octets are left of the service data unit that ends with the next segment, and 0 where
+-- none ends
 abbrev pub tail_with : Option (List ℕ) → ℕ → List ℕ → ℕ
 tail_with held flags octets = length (rest_of_service_unit (service_unit_with held flags octets))
 
--- how many octets are left of the service data unit that ends with the next segment, from the segment itself
+-- the same, from the segment itself
 abbrev pub tail_after : Option (List ℕ) → List ℕ → ℕ
 tail_after held next = tail_with held (flags_of next) (segment_data next)
 
@@ -71,21 +77,22 @@ tail_after held next = tail_with held (flags_of next) (segment_data next)
 abbrev pub stray_with : Option (List ℕ) → ℕ → Bool
 stray_with held flags = continues_by flags && is_none held
 
--- how many octets the series has that the next segment drops, if it drops one
+-- how many octets so far the series has that the next segment drops, if it drops one
 abbrev pub dropped_with : Option (List ℕ) → ℕ → Option ℕ
 dropped_with held flags = if begins_by flags then option_map length held else None
 
--- whether the series is given up because it is too long with the next segment
+-- whether the incomplete series is given up, because it is too long with the next segment
 abbrev pub long_with : Option (List ℕ) → ℕ → List ℕ → Bool
 long_with held flags octets = continues_by flags && exceeds_limit (option_map length held) (length octets)
 
 -- ---- the report on the next segment
 
--- the report where no service data unit ends and no anomaly is
+-- the report where the unit is accepted, no service data unit ends and there is no anomaly; the MAP
+-- is left 0
 abbrev pub quiet_report : StepReport
 quiet_report = record { verdict = Accept; map = 0; packets = 0; idle = 0; stray = false; dropped = None; long = false; tail = 0 }
 
--- the report on a service data unit
+-- the report on a segment that ends this service data unit, apart from a dropped series
 abbrev pub unit_report : List ℕ → StepReport
 unit_report octets = record quiet_report {
   packets = length (without_idle (packets_of octets));
@@ -93,12 +100,12 @@ unit_report octets = record quiet_report {
   tail = length (rest_of octets);
 }
 
--- the report on octets that continue a series
+-- the report on octets that continue the incomplete series, if there is one
 abbrev pub continued_report : Option (List ℕ) → List ℕ → StepReport
 continued_report held octets =
     record quiet_report { stray = is_none held; long = exceeds_limit (option_map length held) (length octets) }
 
--- The report on the next segment, with these sequence flags and octets, without the packets that end with it.
+-- What the report on the next segment says apart from the MAP and the numbers of packets.
 pub record IsReported (held : Option (List ℕ)) (flags : ℕ) (octets : List ℕ) (step : StepReport) : Type 0 where
   pub verdict : step.verdict ≡ Accept
   pub stray : step.stray ≡ stray_with held flags

@@ -1,8 +1,9 @@
--- A list with another value at one index. Past its end there is no value.
+-- A list that has octets or none at each index, with another value at one index. Past the end of a
+-- list there are none.
 use Rattle.std.specs.Prelude.{◌≡◌, ◌≢◌, ℕ, List, Option, None}
 use Rattle.std.specs.List.{slice_index_or}
 
--- the value of a list at an index
+-- the value of a list at an index, and `None` past its end
 abbrev pub at : List (Option (List ℕ)) → ℕ → Option (List ℕ)
 at list index = slice_index_or list index None
 

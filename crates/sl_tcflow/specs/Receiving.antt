@@ -1,4 +1,5 @@
--- The state of a receiver after frames of virtual channels, CCSDS 232.0-B and 232.1-B, were given to it.
+-- The state of a receiver that was given frames of all virtual channels, CCSDS 232.0-B and 232.1-B,
+-- and what the next frame does.
 use Rattle.std.specs.Prelude.{◌≡◌, ◌≢◌, ◌⊎◌, ℕ, ◌+◌, ◌*◌, ◌<◌, ◌==◌, Bool, true, false, if◌then◌else◌, List, [], ◌∷◌, ◌++◌, length, map, flat_map, Option, None}
 use Rattle.std.specs.List.{slice_index_or}
 use Rattle.sl_cop.specs.declared.verdict.Verdict.{Verdict}
@@ -18,14 +19,14 @@ channel_at vc map_id = 64 * vc + map_id
 
 -- The series that are incomplete, and the memory for them.
 pub record IncompleteSeries : Type 0 where
-  -- For each channel the octets so far of its incomplete series, if there is one. The list reaches up to the greatest
-  -- channel on which a series has begun.
+  -- For each channel the octets so far of its incomplete series, if there is one. The list reaches
+  -- up to the greatest channel on which a series has begun.
   pub list : List (Option (List ℕ))
-  -- for how many channels there is memory
+  -- for how many channels the list has memory
   pub capacity : ℕ
 
--- The state: FARM-1 of each virtual channel; the virtual channels without segment headers; the series that are
--- incomplete; and whether a fault came.
+-- The state of a receiver: FARM-1 of each virtual channel; the virtual channels without segment
+-- headers; the series that are incomplete; and whether a fault came.
 pub record ReceiverState : Type 0 where
   pub farms : List FarmView
   pub plain : List ℕ
@@ -40,12 +41,12 @@ farm_at_start r vc = record { window = r.window; state = farm_start (initial_vr 
 abbrev pub farm_of : ReceptionParameters → ℕ → List TcView → FarmView
 farm_of r vc views = record { window = r.window; state = farm_after r.window (initial_vr r vc) (channel_of vc views) }
 
--- each virtual channel's FARM-1 is the one after these frames
+-- FARM-1 of each of 64 virtual channels is the one after these frames
 pub record HaveStepped (r : ReceptionParameters) (farms : List FarmView) (views : List TcView) : Type 0 where
   pub count : length farms ≡ 64
   pub each : (vc : ℕ) → vc < 64 → slice_index_or farms vc (farm_at_start r vc) ≡ farm_of r vc views
 
--- the series that are incomplete after these frames
+-- these are the octets so far of the series that are incomplete after these frames, by channel
 abbrev pub AreIncomplete : ReceptionParameters → List (Option (List ℕ)) → List TcView → Type 0
 AreIncomplete r incomplete views =
     (vc map_id : ℕ) → vc < 64 → map_id < 64 → slice_index_or incomplete (channel_at vc map_id) None ≡ incomplete_of (segments_of r vc map_id views)
@@ -61,7 +62,7 @@ pub record HasProcessed (r : ReceptionParameters) (state : ReceiverState) (views
 abbrev pub IsWorking : ReceiverState → Type 0
 IsWorking state = (r : ReceptionParameters) × (views : List TcView) × HasProcessed r state views
 
--- A fault came, and the FARM-1s are as these frames leave them.
+-- A fault came, and FARM-1 of each virtual channel is the one after these frames.
 pub record HasFailedAfter (r : ReceptionParameters) (state : ReceiverState) (views : List TcView) : Type 0 where
   pub failed : state.has_failed ≡ true
   pub farms : HaveStepped r state.farms views
@@ -70,7 +71,8 @@ pub record HasFailedAfter (r : ReceptionParameters) (state : ReceiverState) (vie
 abbrev pub IsFailed : ReceiverState → Type 0
 IsFailed state = state.has_failed ≡ true
 
--- the property holds for all parameters and lists of frames that may have been processed
+-- the property holds for all parameters and lists of frames that may have led to this state, where
+-- no fault came
 abbrev pub ForProcessed : ReceiverState → (ReceptionParameters → List TcView → Type 0) → Type 0
 ForProcessed state holds = (r : ReceptionParameters) (views : List TcView) → HasProcessed r state views → holds r views
 
@@ -80,7 +82,8 @@ ForProcessed state holds = (r : ReceptionParameters) (views : List TcView) → H
 abbrev pub verdict_on : ReceptionParameters → List TcView → TcView → Verdict
 verdict_on r views next = (farm_step r.window (farm_of r next.vc views).state (event_of next.content)).0
 
--- the MAP of a frame's unit, and 0 where the frame carries none
+-- the MAP of the unit in this content, on a virtual channel without segment headers (`plain`) or
+-- with them; 0 where there is no unit
 abbrev pub map_of : Bool → Content → ℕ
 map_of plain (Ad ns unit) = (header_at (segment_in plain unit)).map
 map_of plain (Bd unit) = (header_at (segment_in plain unit)).map
@@ -104,14 +107,16 @@ abbrev pub ended_by : ReceptionParameters → List TcView → TcView → List (L
 ended_by r views next =
     flat_map (packets_ended (segments_of r next.vc (map_by r next) views)) (segment_by r views next)
 
--- The property holds for all parameters and frames that may have come before the next one. The next frame's virtual
--- channel has segment headers or not, these series are incomplete, and FARM-1 gives this verdict.
+-- The property holds for all parameters `r` and frames `views` before the next frame that agree
+-- with three values: `plain` says whether the next frame's virtual channel has no segment headers,
+-- `incomplete` has the series that are incomplete after `views`, and `verdict` is that of FARM-1 on
+-- the next frame.
 abbrev pub ForIncomplete : Bool → List (Option (List ℕ)) → Verdict → TcView → (ReceptionParameters → List TcView → Type 0) → Type 0
 ForIncomplete plain incomplete verdict next holds =
     (r : ReceptionParameters) (views : List TcView) → plain ≡ is_plain r next.vc → AreIncomplete r incomplete views → verdict ≡ verdict_on r views next
     → holds r views
 
--- the next frame's unit is accepted, and a series is incomplete on its virtual channel and MAP, before that frame or
+-- the next frame's unit is accepted, and on its MAP a series is incomplete before the next frame or
 -- after it
 abbrev pub IsIncompleteAround : ReceptionParameters → List TcView → TcView → Type 0
 IsIncompleteAround r views next =
@@ -121,15 +126,16 @@ IsIncompleteAround r views next =
 
 -- ---- all frames
 
--- the packets that a receiver hands over for a channel where it is given `later` frames one after another, after
--- `views`, and each call answers Ok
+-- the packets that a receiver hands over for a channel, where `views` were given to it before,
+-- `later` are given one after another now, and each call answers `Ok`
 abbrev pub handed_over : ReceptionParameters → ℕ → List TcView → List TcView → List (List ℕ)
 handed_over r channel views [] = []
 handed_over r channel views (next ∷ later) =
     (if unit_channel r next == channel then without_idle (ended_by r views next) else [])
     ++ handed_over r channel (views ++ next ∷ []) later
 
--- From the first frame on they are the packets of the channel, idle packets left out.
+-- What a receiver hands over for a channel from the first frame on are the packets of the channel,
+-- idle packets left out.
 abbrev pub DeliveredAreHandedOver : Type 0
 DeliveredAreHandedOver =
     (r : ReceptionParameters) (channel : ℕ) (views : List TcView)

@@ -1,5 +1,6 @@
--- The packets of a MAP, CCSDS 232.0-B and 133.0-B. The greatest length of a service data unit, and that the octets
--- after its last whole packet are dropped, are the mission profile's.
+-- The packets of a MAP, CCSDS 232.0-B and 133.0-B. Two things are the project's own choices
+-- (mission profile): the greatest length of a service data unit, and that the octets after its last
+-- whole packet are dropped.
 use Rattle.std.specs.Prelude.{◌≡◌, ℕ, ◌+◌, ◌==◌, nat_le, if◌then◌else◌, List, [], ◌∷◌, ◌++◌, length, map, flat_map}
 use Rattle.std.specs.List.{filter}
 use Rattle.sl_packet.specs.Packets.{packets_of}
@@ -8,27 +9,28 @@ use Rattle.sl_tcflow.specs.AcceptedUnit.{channel_of, accepted_units}
 use Rattle.sl_tcflow.specs.ReceptionParameters.{ReceptionParameters, is_plain, initial_vr}
 use Rattle.sl_tcflow.specs.Series.{SeriesAt, past, reassembled, segment_in, segments_on, series_of}
 
--- The packets of a service data unit: the longest list of packets at its front. A unit of more than 65,542 octets has
--- none: mission profile.
+-- The packets of the service data unit that these segments carry: the longest list of packets that
+-- lie end to end at the unit's front. A unit of more than 65,542 octets has none (mission profile).
 abbrev pub packets_of_series : List (List ℕ) → List (List ℕ)
 packets_of_series segments = if nat_le (length (reassembled segments)) 65542 then packets_of (reassembled segments) else []
 
--- the packets of the series of a MAP, in order, idle ones included
+-- the packets of all series of a list of a MAP's segments, in order, idle ones included
 abbrev pub packets_of_segments : List (List ℕ) → List (List ℕ)
 packets_of_segments list = flat_map (λ (s : SeriesAt). packets_of_series s.segments) (series_of list)
 
--- the packets of the series that ends with the next segment
+-- the packets of the series that ends with the segment `next`, where it comes after the list
 abbrev pub packets_ended : List (List ℕ) → List ℕ → List (List ℕ)
 packets_ended list next =
     flat_map (λ (s : SeriesAt). packets_of_series s.segments) (filter (λ (s : SeriesAt). past s == length list + 1) (series_of (list ++ next ∷ [])))
 
--- the segments of a virtual channel and a MAP, among frames
+-- the segments of a virtual channel and a MAP, from the accepted units of these frames
 abbrev pub segments_of : ReceptionParameters → ℕ → ℕ → List TcView → List (List ℕ)
 segments_of r vc map_id views =
     segments_on map_id (map (segment_in (is_plain r vc)) (accepted_units r.window (initial_vr r vc) (channel_of vc views)))
 
 -- ---- laws
 
--- The packets of a list with one more segment are those before, and those of the series that ends with this segment.
+-- The packets of a list with one more segment are those of the list before, and then those of the
+-- series that ends with the added segment.
 abbrev pub PacketsEndOnce : Type 0
 PacketsEndOnce = (list : List (List ℕ)) (next : List ℕ) → packets_of_segments (list ++ next ∷ []) ≡ packets_of_segments list ++ packets_ended list next

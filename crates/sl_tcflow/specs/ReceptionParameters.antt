@@ -3,15 +3,16 @@ use Rattle.std.specs.Prelude.{ℕ, Bool, List}
 use Rattle.std.specs.List.{slice_index_or}
 use Rattle.sl_tcframe.specs.VcSet.{has_vc}
 
--- The width of FARM-1's sliding window; V(R), the receiver frame sequence number, of each of 64 virtual channels
--- before its first frame; and the virtual channels whose frames have no segment headers. An initial V(R) for each
--- virtual channel is the mission profile's.
+-- The width of FARM-1's sliding window; the initial V(R) of each of 64 virtual channels, which is
+-- V(R), the receiver frame sequence number, before the channel's first frame; and the virtual
+-- channels whose frames have no segment headers. A separate initial V(R) for each virtual channel
+-- is the project's own choice (mission profile).
 pub record ReceptionParameters : Type 0 where
   pub window : ℕ
   pub starts : List ℕ
   pub plain : List ℕ
 
--- V(R) of a virtual channel before its first frame
+-- the initial V(R) of a virtual channel
 abbrev pub initial_vr : ReceptionParameters → ℕ → ℕ
 initial_vr r vc = slice_index_or r.starts vc 0
 

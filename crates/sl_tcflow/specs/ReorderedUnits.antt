@@ -1,5 +1,10 @@
--- Units that are sent on a virtual channel in frames of type AD, CCSDS 232.0-B and 232.1-B, with N(S) counting from
--- the initial V(R) on, modulo 256. The frames arrive in any order, lost or repeated, and no Set V(R) comes.
+-- Units that are sent on a virtual channel in frames of type AD, CCSDS 232.0-B and 232.1-B, with
+-- N(S) counting from the initial V(R) on, modulo 256. Copies of the frames arrive in any order, and
+-- may be lost or repeated. Frames of type BD and Unlock may come between them, and no Set V(R)
+-- comes.
+--
+-- In this file `w` is the width of the window, `vr` the initial V(R), `sent` the sent units in the
+-- order of sending, and `channel` the frames of the virtual channel in the order of arrival.
 use Rattle.std.specs.Prelude.{◌≡◌, ◌≢◌, ℕ, ◌+◌, ◌<◌, ◌≤◌, false, List, [], ◌∷◌, ◌++◌, length, map}
 use Rattle.std.specs.List.{AllByRecursion, AllZip, slice_index_or}
 use mathlib.Core.List.{IsPrefix}
@@ -16,11 +21,12 @@ use Rattle.sl_tcflow.specs.ReceptionParameters.{ReceptionParameters, is_plain, i
 use Rattle.sl_tcflow.specs.Recording.{recorded_views, tc_lists}
 use Rattle.sl_tcflow.specs.Series.{segment_in, segments_on}
 
--- the sent unit with this index
+-- the sent unit with this index, from 0 on
 abbrev pub unit_at : List (List ℕ) → ℕ → List ℕ
 unit_at sent index = slice_index_or sent index []
 
--- A frame is an arrival: a copy of the frame of type AD with the unit of this index, or of type BD, or Unlock.
+-- The frame is this arrival: a copy of the frame of type AD that carries the sent unit of this
+-- index, a frame of type BD, or the control command Unlock.
 abbrev pub IsArrival : ℕ → List (List ℕ) → TcView → Arrival → Type 0
 IsArrival vr sent view (Copy index) = (index < length sent) × (view.content ≡ Ad (ns_of vr index) (unit_at sent index))
 IsArrival vr sent view OfTypeBd = (unit : List ℕ) × (view.content ≡ Bd unit)
@@ -34,15 +40,16 @@ AreArrivals vr sent channel arrivals = AllZip (IsArrival vr sent) channel arriva
 abbrev pub HaveNoBd : List TcView → Type 0
 HaveNoBd channel = AllByRecursion (λ (view : TcView). (unit : List ℕ) → view.content ≢ Bd unit) channel
 
--- the number of accepted units of type AD, which is the index of the unit that is expected next
+-- the number of accepted units of type AD, which is the index of the sent unit that is expected
+-- next
 abbrev pub accepted_ad_count : ℕ → ℕ → List TcView → ℕ
 accepted_ad_count w vr channel = length (accepted_ad_units w vr channel)
 
--- the N(S) of the frame that is expected next
+-- the N(S) of the frame that is expected next, after these frames
 abbrev pub expected_ns : ℕ → ℕ → List TcView → ℕ
 expected_ns w vr channel = ns_of vr (accepted_ad_count w vr channel)
 
--- the frames of a recording on a virtual channel; skipped frames are on none
+-- what is read of the frames of a recording on a virtual channel; skipped frames are on none
 abbrev pub recorded_channel : TcFormat → ℕ → ℕ → List ℕ → List TcView
 recorded_channel format spacecraft vc recording = channel_of vc (recorded_views format spacecraft recording)
 
@@ -51,18 +58,20 @@ abbrev pub recorded_packets : TcFormat → ℕ → ReceptionParameters → ℕ �
 recorded_packets format spacecraft r vc map_id recording =
     slice_index_or (tc_lists format spacecraft r recording) (channel_at vc map_id) []
 
--- the segments of a MAP among the sent units
+-- the segments of a MAP, from the sent units
 abbrev pub segments_sent : ReceptionParameters → ℕ → ℕ → List (List ℕ) → List (List ℕ)
 segments_sent r vc map_id sent = segments_on map_id (map (segment_in (is_plain r vc)) sent)
 
--- The frames of a virtual channel are copies of what was sent, each less than 256 away from the frame that is
--- expected at the copy's arrival, and among them frames of type BD and Unlock, but no Set V(R).
+-- The frames of a virtual channel are copies of the frames that were sent, and between them frames
+-- of type BD and Unlock, but no Set V(R). Each copy, when it arrives, is less than 256 frames away
+-- from the frame that is expected next.
 pub record AreReordered (w vr : ℕ) (sent : List (List ℕ)) (channel : List TcView) (arrivals : List Arrival) : Type 0 where
   pub initial : vr < 256
   pub arrive : AreArrivals vr sent channel arrivals
   pub near : AreNear w vr arrivals
 
--- Each copy is in the window at its arrival, and the window is at most all 256 sequence numbers.
+-- The same, where each copy is in the window when it arrives, and the window has at most 256
+-- numbers.
 pub record AreReorderedInWindow (w vr : ℕ) (sent : List (List ℕ)) (channel : List TcView) (arrivals : List Arrival) : Type 0 where
   pub initial : vr < 256
   pub most : positive_width w + negative_width w ≤ 256
@@ -71,7 +80,8 @@ pub record AreReorderedInWindow (w vr : ℕ) (sent : List (List ℕ)) (channel :
 
 -- ---- laws
 
--- Copies in the window are less than 256 away from the expected frame.
+-- Where the window has at most 256 numbers, copies in the window are less than 256 frames away from
+-- the expected frame.
 abbrev pub WindowIsNear : Type 0
 WindowIsNear =
     (w vr : ℕ) (sent : List (List ℕ)) (channel : List TcView) (arrivals : List Arrival) → AreReorderedInWindow w vr sent channel arrivals
@@ -93,15 +103,17 @@ VrCountsUnits =
 abbrev pub AdUnitsAreAll : Type 0
 AdUnitsAreAll = (w vr : ℕ) (channel : List TcView) → HaveNoBd channel → accepted_ad_units w vr channel ≡ accepted_units w vr channel
 
--- The packets of each MAP are a prefix of those of the sent units, where no frame is of type BD.
+-- The packets of each MAP are a prefix of the packets of the sent units, where no frame is of type
+-- BD.
 abbrev pub PacketsInOrder : Type 0
 PacketsInOrder =
     (r : ReceptionParameters) (vc map_id : ℕ) (sent : List (List ℕ)) (views : List TcView) (arrivals : List Arrival) → AreReordered r.window (initial_vr r vc) sent (channel_of vc views) arrivals
     → HaveNoBd (channel_of vc views)
     → IsPrefix (packets_of_segments (segments_of r vc map_id views)) (packets_of_segments (segments_sent r vc map_id sent))
 
--- A recording delivers on a virtual channel and MAP a prefix of the packets of the sent units, idle packets left out,
--- where no frame of the channel is of type BD. Nothing is said of the other virtual channels.
+-- The packets that a recording delivers on a virtual channel and MAP are a prefix of the packets of
+-- the sent units, idle packets left out on both sides, where no frame of the channel is of type BD.
+-- Nothing is said of the other virtual channels.
 abbrev pub RecordedPacketsInOrder : Type 0
 RecordedPacketsInOrder =
     (format : TcFormat) (spacecraft : ℕ) (r : ReceptionParameters) (vc map_id : ℕ) (sent : List (List ℕ)) (recording : List ℕ) (arrivals : List Arrival) → vc < 64 → map_id < 64
@@ -122,8 +134,9 @@ ExpectedUnitIsAccepted =
     → view.content ≡ Ad (expected_ns w vr before) (unit_at sent (accepted_ad_count w vr before))
     → (farm_step w (farm_after w vr before) (event_of view.content)).0 ≡ Accept
 
--- A receiver has FARM-1 of the virtual channel with this V(R) after these frames, also a receiver that has failed.
--- Its CLCW reports V(R).
+-- The CLCW of a receiver reports as V(R) the initial V(R) plus the number of accepted units of type
+-- AD, modulo 256, also where the receiver has failed. `farms` are the receiver's FARM-1s after
+-- these frames.
 abbrev pub ReceiverCountsUnits : Type 0
 ReceiverCountsUnits =
     (r : ReceptionParameters) (vc : ℕ) (sent : List (List ℕ)) (farms : List FarmView) (views : List TcView) (arrivals : List Arrival) → vc < 64

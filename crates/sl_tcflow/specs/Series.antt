@@ -1,4 +1,5 @@
--- Segments, and the series of them that carry one service data unit, CCSDS 232.0-B.
+-- Segments, and series of segments, CCSDS 232.0-B. A series carries one service data unit. Here a
+-- list of segments is that of one MAP, unless said otherwise.
 use Rattle.std.specs.Prelude.{◌≡◌, ℕ, ◌+◌, ◌==◌, ◌||◌, nat_le, Bool, if◌then◌else◌, List, [], ◌∷◌, ◌++◌, length, take, drop, map, Contains}
 use Rattle.std.specs.List.{AllByRecursion, concat, filter}
 use Rattle.sl_fields.specs.Field.{octets_of}
@@ -12,8 +13,9 @@ header_at segment = segment_header (take 1 segment)
 abbrev pub segment_data : List ℕ → List ℕ
 segment_data segment = drop 1 segment
 
--- The segment of a unit without a segment header: all octets of the unit, as if after a segment header with sequence
--- flags 3, no segmentation, and MAP 0. MAP 0 is the mission profile's.
+-- The segment that stands for a unit without a segment header: all octets of the unit, after a
+-- segment header with sequence flags 3 (no segmentation) and MAP 0. MAP 0 is the project's own
+-- choice (mission profile).
 abbrev pub whole_segment : List ℕ → List ℕ
 whole_segment unit = octets_of 1 ((2, 3) ∷ (6, 0) ∷ []) ++ unit
 
@@ -37,19 +39,22 @@ continues_by flags = flags == 0 || flags == 2
 abbrev pub begins_by : ℕ → Bool
 begins_by flags = flags == 1 || flags == 3
 
--- A series is one segment with no segmentation, or a first one, continuing ones or none, and a last one.
+-- A series is one segment with no segmentation, or a first one, continuing ones or none, and a last
+-- one.
 pub data IsSeries : List (List ℕ) → Type 0 where
   whole : (segment : List ℕ) → flags_of segment ≡ 3 → IsSeries (segment ∷ [])
   divided : (first last : List ℕ) (middle : List (List ℕ)) → flags_of first ≡ 1
       → AllByRecursion (λ segment. flags_of segment ≡ 0) middle → flags_of last ≡ 2
       → IsSeries (first ∷ middle ++ last ∷ [])
 
--- a series in the list of a MAP's segments: how many segments come before it, and its own
+-- a series in a list of segments: how many segments of the list come before the series, and the
+-- segments of the series
 pub record SeriesAt : Type 0 where
   pub before : ℕ
   pub segments : List (List ℕ)
 
--- the series is one of the list: its segments stand there from this index on
+-- the series is one of the list: its segments stand in the list one after another, from its index
+-- on
 pub record IsSeriesOf (list : List (List ℕ)) (s : SeriesAt) : Type 0 where
   pub series : IsSeries s.segments
   pub earlier : List (List ℕ)
@@ -57,7 +62,7 @@ pub record IsSeriesOf (list : List (List ℕ)) (s : SeriesAt) : Type 0 where
   pub in_order : list ≡ earlier ++ s.segments ++ later
   pub here : s.before ≡ length earlier
 
--- the index of the segment after the series
+-- the index of the segment that comes after the series
 abbrev pub past : SeriesAt → ℕ
 past s = s.before + length s.segments
 
@@ -69,7 +74,8 @@ pub data AreApart : List SeriesAt → Type 0 where
 
 -- ---- the series of a list, each found from its first segment and the segments after it
 
--- the series that these segments so far become with the later ones, as a list of one or none
+-- the series that begins with the segments `so_far` and ends among the later ones, as a list of one
+-- or none: only continuing segments come before a last one
 abbrev pub completed : List (List ℕ) → List (List ℕ) → List (List (List ℕ))
 completed so_far [] = []
 completed so_far (segment ∷ later) =
@@ -77,14 +83,16 @@ completed so_far (segment ∷ later) =
     else if flags_of segment == 2 then (so_far ++ segment ∷ []) ∷ []
     else []
 
--- the series that begins with a segment, as a list of one or none
+-- the series that begins with this segment and ends with it or among the later ones, as a list of
+-- one or none
 abbrev pub series_with : List ℕ → List (List ℕ) → List (List (List ℕ))
 series_with segment later =
     if flags_of segment == 3 then (segment ∷ []) ∷ []
     else if flags_of segment == 1 then completed (segment ∷ []) later
     else []
 
--- all series of a list, by their first segments, where `before` segments come before the list
+-- all series of a list, in the order of their first segments, where `before` segments come before
+-- the list
 abbrev pub series_from : ℕ → List (List ℕ) → List SeriesAt
 series_from before [] = []
 series_from before (segment ∷ later) =
@@ -96,7 +104,7 @@ series_of list = series_from 0 list
 
 -- ---- the service data unit of a series
 
--- the reassembled service data unit
+-- the service data unit of a series: the octets of its segments after their headers, end to end
 abbrev pub reassembled : List (List ℕ) → List ℕ
 reassembled segments = concat (map segment_data segments)
 
@@ -120,7 +128,7 @@ EachSeriesIsListed = (list : List (List ℕ)) (s : SeriesAt) → IsSeriesOf list
 abbrev pub SeriesAreApart : Type 0
 SeriesAreApart = (list : List (List ℕ)) → AreApart (series_of list)
 
--- The segment of a unit on a virtual channel without segment headers has no segmentation, is on MAP 0, and has all
--- octets of the unit.
+-- The segment of a unit on a virtual channel without segment headers has no segmentation, is on MAP
+-- 0, and has all octets of the unit.
 abbrev pub PlainUnitIsWhole : Type 0
 PlainUnitIsWhole = (unit : List ℕ) → HasNoSegmentation unit (segment_in Bool.true unit)

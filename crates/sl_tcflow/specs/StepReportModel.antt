@@ -14,6 +14,7 @@ report_of s = record {
   tail = s.tail;
 }
 
+-- the `TcStep` that stands for a report
 abbrev pub inside_of : StepReport → Inside
 inside_of r = record {
   verdict = r.verdict;

@@ -4,9 +4,11 @@ use Rattle.sl_tcflow.specs.FitsTc.{FitsTc}
 use Rattle.sl_tcflow.specs.FormLeft.{IsPlace, form_left}
 use Rattle.sl_tcflow.specs.declared.form.TcForm.TheInside.{Inside}
 
+-- what a `TcForm` stands for
 abbrev pub octets_left : Inside → List ℕ
 octets_left f = form_left f.shape f.spacecraft f.starts f.plain f.delivered.now.lists f.place.channel f.place.framed f.place.ns
 
+-- the invariant of a `TcForm`
 pub record IsTcForm (f : Inside) : Type 0 where
   pub spacecraft : f.spacecraft ≤ 1023
   pub fits : FitsTc f.shape f.plain f.delivered.now.lists

@@ -13,7 +13,7 @@ use sl_tcframe::{TcContent, TcFrame};
 use std::marker::Model;
 
 /// FARM-1 (CCSDS 232.1-B) on each of the 64 virtual channels of TC transfer frames (CCSDS 232.0-B).
-/// The frames are given one after another, and no call refuses one.
+/// The frames are given one after another, and every frame is taken.
 #[derive(Drop)]
 pub struct Farms {
     farms: [Farm; 64],
@@ -29,8 +29,8 @@ impl Model for Farms {
 }
 
 impl Farms {
-    /// FARM-1 of each virtual channel before its first frame: open, with this window and the
-    /// channel's own V(R) of `starts`.
+    /// FARM-1 of each virtual channel before its first frame: open, with this window and with the
+    /// initial V(R) that `starts` has for the channel.
     pub fn new(window: Window, starts: &Starts) -> Farms
         ensures { (r : ReceptionParameters) → r.window ≡ window → r.starts ≡ starts.now
             → HaveStepped r result [] }
@@ -45,6 +45,8 @@ impl Farms {
     /// Takes the next frame: steps FARM-1 of the frame's virtual channel, and answers its verdict.
     /// FARM-1 of each other virtual channel stays as it was.
     pub fn step(&mut self, frame: &TcFrame) -> Verdict
+        // `r` and `views` are any parameters and any frames under which FARM-1 may have come to its
+        // state.
         ensures verdict { (r : ReceptionParameters) (views : List TcView)
             → HaveStepped r self.old views → result ≡ verdict_on r views frame.now }
         ensures farms { (r : ReceptionParameters) (views : List TcView)
@@ -53,8 +55,8 @@ impl Farms {
         self.farms[usize::from(frame.vc())].step(event_in(&frame.content()))
     }
 
-    /// The Communications Link Control Word (CCSDS 232.0-B) of the virtual channel `vc`, 0 to 63:
-    /// it reports the state of FARM-1 after all frames so far.
+    /// The Communications Link Control Word (CCSDS 232.0-B) of the virtual channel `vc`, 0 to 63.
+    /// The word reports the state of FARM-1 after all frames so far.
     pub fn clcw(&self, vc: u8) -> Clcw
         requires { vc ≤ 63 }
         ensures { (r : ReceptionParameters) (views : List TcView)
@@ -64,7 +66,7 @@ impl Farms {
     }
 }
 
-// The event that a frame is to FARM-1.
+// The event of FARM-1 at which a frame with this content arrives.
 fn event_in(carried: &TcContent) -> FarmEvent
     ensures { result ≡ event_of (content carried.now) }
 {

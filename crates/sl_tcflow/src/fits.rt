@@ -6,10 +6,13 @@ ghost use Rattle.sl_tcflow.specs.FitsTc.{FitsOn, FitsTc};
 use sl_packet::Delivered;
 use sl_tcframe::{TcShape, VcSet};
 
-/// Whether frames of this format (CCSDS 232.0-B) can carry the packets, those of virtual channel
-/// `v` and MAP `m` on channel `64 * v + m`. On the virtual channels of `plain`, whose frames have
-/// no segment headers, packets are on MAP 0 alone, and each has at most [`TcShape::plain_room`]
-/// octets. Other virtual channels can carry all packets. The call takes no memory.
+/// Whether frames of this format (CCSDS 232.0-B) can carry the packets. `plain` has the virtual
+/// channels whose frames have no segment headers. There packets are on MAP 0 alone, and each packet
+/// has at most [`TcShape::plain_room`] octets, since one frame carries it whole. Other virtual
+/// channels can carry all packets.
+///
+/// The packets of virtual channel `v` and MAP `m` are on channel `64 * v + m`. The call takes no
+/// memory.
 pub fn fits_tc(shape: &TcShape, plain: &VcSet, delivered: &Delivered) -> bool
     ensures { IsTrue result ↔ FitsTc shape.now plain.now delivered.now.lists }
 {
@@ -21,7 +24,8 @@ pub fn fits_tc(shape: &TcShape, plain: &VcSet, delivered: &Delivered) -> bool
     true
 }
 
-// Whether frames can carry the packets of a virtual channel without segment headers.
+// Whether frames without segment headers can carry the packets of the virtual channel `vc`, 0 to
+// 63.
 fn fits_on(shape: &TcShape, vc: u8, delivered: &Delivered) -> bool
     requires { vc ≤ 63 }
     ensures { IsTrue result ↔ FitsOn shape.now delivered.now.lists vc }

@@ -21,19 +21,21 @@ use sl_tcframe::{TcShape, VcSet, push_tc_plain};
 use std::alloc::AllocError;
 use std::marker::Model;
 
-/// Room for any piece: a packet has 65,542 octets at most. Each of its frames adds 8 octets of its
-/// own at most, and each but the last carries 8 octets of the packet at least.
+/// Octets enough for any piece: 2 * 65,542 + 7. A packet has at most 65,542 octets. Each of its
+/// frames adds at most 8 octets of its own: a header, a segment header and an error control field.
+/// Each of its frames but the last carries at least 8 octets of the packet.
 pub const PIECE_ROOM: usize = 131_091;
 
-/// The number after that of the last channel.
+/// The number of channels. Virtual channel `v` and MAP `m` have the channel `64 * v + m`, 0 to
+/// 4095.
 pub const CHANNELS: u16 = 4096;
 
 /// The normal form of delivered packets, made piece by piece: frames of CCSDS 232.0-B of type AD in
-/// this project's own order (docs/normal-form.md). Clauses see the form as the octets that are
-/// still to come.
+/// this project's own order (docs/normal-form.md). In clauses the form is the list of its octets
+/// that are still to come.
 ///
-/// A piece is the next octets of the form, 1 to [`PIECE_ROOM`]. By reading, it is the frames of the
-/// next packet.
+/// A piece is the next octets of the form, 1 to [`PIECE_ROOM`]. By the code each piece is the
+/// frames of one packet; no clause says so.
 #[derive(Drop)]
 pub struct TcForm<'d> {
     shape: TcShape,
@@ -44,8 +46,8 @@ pub struct TcForm<'d> {
     place: Place,
 }
 
-// The place of the next packet: its channel, which is 4096 after the last packet; the number of
-// packets of this channel that come before it; and the N(S) of its first frame.
+// The place of the next packet: its channel, or 4096 where no packet is left; how many packets of
+// this channel come before it; and the N(S) of its first frame.
 #[derive(Clone, Copy)]
 struct Place {
     channel: u16,
@@ -66,14 +68,17 @@ impl<'d> Model for TcForm<'d> {
 }
 
 impl<'d> TcForm<'d> {
-    /// The form of the packets of `delivered`, those of virtual channel `v` and MAP `m` on channel
-    /// `64 * v + m`. All of the form is still to come. The call takes no memory.
+    /// The form of the packets of `delivered`, where those of virtual channel `v` and MAP `m` are
+    /// on channel `64 * v + m`. All octets of the form are still to come. The call takes no memory.
     ///
     /// - `spacecraft` is 0 to 1023.
-    /// - `starts` has V(R) of each virtual channel before its first frame, which is the N(S) of
-    ///   that frame.
+    /// - `starts` has the initial V(R) of each virtual channel, which is the N(S) of the channel's
+    ///   first frame.
     /// - `plain` has the virtual channels whose frames have no segment headers.
     /// - `delivered` has packets that frames can carry, as [`fits_tc`](crate::fits_tc) tests.
+    ///
+    /// Read as a recording, with these starts and these channels, the form delivers exactly these
+    /// packets again, for every window of FARM-1.
     pub fn new(
         shape: TcShape,
         spacecraft: u16,
@@ -83,15 +88,20 @@ impl<'d> TcForm<'d> {
     ) -> TcForm<'d>
         requires spacecraft { spacecraft ≤ 1023 }
         requires fits { FitsTc shape plain delivered.now.lists }
+        // The whole normal form is still to come.
         ensures all { result ≡ tc_normal_form_of shape spacecraft starts plain delivered.now.lists }
+
         // Read as a recording with these starts and these channels, the form delivers the packets
         // again, for every window.
         ensures delivers { (w : ℕ) →
             tc_lists shape spacecraft (record { window = w; starts = starts; plain = plain }) result
             ≡ delivered.now.lists }
+
+        // There is a list of packets for each channel.
         ensures size { length delivered.now.lists ≡ channel_count }
     {
         let max = shape.max();
+        // A hint to the prover: the range of the greatest length of a frame.
         prove!(16 <= max && max <= 1024);
         let start = Place {
             channel: 0,
@@ -110,13 +120,14 @@ impl<'d> TcForm<'d> {
     }
 
     /// Adds the next piece to the end of `form`, and answers whether there was one. A piece has 1
-    /// to [`PIECE_ROOM`] octets. `false` means that the whole normal form was made.
+    /// to [`PIECE_ROOM`] octets. `false` means that all pieces were made, and `form` is as it was.
     ///
     /// Memory is refused only where a piece is left and the capacity of `form` has no room for
-    /// [`PIECE_ROOM`] octets more. The piece is then still to come, and `form` is as it was.
+    /// [`PIECE_ROOM`] octets more. The piece is then still to come, and the octets of `form` are as
+    /// they were.
     pub fn next(&mut self, form: &mut Vec<u8>) -> Result<bool, AllocError>
         // The piece is the front of the octets that were still to come, and the octets after it are
-        // still to come. Without a piece the whole normal form was made.
+        // still to come. `false` means that no octet was still to come.
         ensures piece { IfOk result (λ some. IsTrue some
             → AddsPiece self.old form.old.items self.new form.new.items) }
         ensures end { IfOk result (λ some. IsFalse some
@@ -128,7 +139,7 @@ impl<'d> TcForm<'d> {
         ensures unchanged { OnErr result
             ((self.new ≡ self.old) × (form.new.items ≡ form.old.items)) }
 
-        // Memory is refused only where there is no room for a piece, and no memory is given back.
+        // Memory is refused only where there is no room for a piece. The capacity never shrinks.
         ensures capacity { vec_capacity form.old ≤ vec_capacity form.new }
         ensures full { OnErr result (vec_capacity form.old < vec_len form.old + piece_room) }
         ensures succeeds { vec_len form.old + piece_room ≤ vec_capacity form.old → IsOk result }
@@ -156,16 +167,16 @@ impl<'d> TcForm<'d> {
     }
 }
 
-// The packet at a place, if there is one.
+// The packet at a place. `None` where no packet is there.
 fn packet_at(delivered: &Delivered, place: Place) -> Option<&[u8]>
-    // The packet has this number in the channel's list.
+    // The packet is the one with the index `framed` in the list of its channel.
     ensures some { IfSome result (λ packet.
         packet.now ≡ slice_index_or (list_at delivered.now place.channel) place.framed []) }
     ensures inside { IfSome result (λ packet.
         place.framed < length (list_at delivered.now place.channel)) }
     ensures none { IfNone result (length (list_at delivered.now place.channel) ≤ place.framed) }
 
-    // The packet may be delivered, and its place is on a channel.
+    // The packet is one that may be delivered, its place is in range, and each channel has a list.
     ensures counted { IfSome result (λ packet. place.framed + 1 < 2 ^ 64) }
     ensures channel { IfSome result (λ packet. place.channel < channel_count) }
     ensures deliverable { IfSome result (λ packet. IsDeliverable packet.now) }
@@ -176,7 +187,7 @@ fn packet_at(delivered: &Delivered, place: Place) -> Option<&[u8]>
     Some(packet.as_slice())
 }
 
-// Adds the frames of a packet, and answers the N(S) of the next frame.
+// Adds the frames of a packet to the end of `form`, and answers the N(S) of the frame after them.
 fn push_piece(
     form: &mut Vec<u8>,
     shape: &TcShape,
@@ -187,7 +198,8 @@ fn push_piece(
     requires channel { heading.channel < channel_count }
     requires deliverable { IsDeliverable packet.now }
     requires short { heading.plain ≡ true → length packet.now ≤ plain_room_of shape.now }
-    // The frames are the piece of the packet, and N(S) rises by one for each.
+    // The frames are the piece of the packet, of one octet or more. N(S) rises by one with each
+    // frame, modulo 256.
     ensures frames { OnOk result (form.new.items ≡ form.old.items ++ piece_of
         shape.now heading.spacecraft heading.plain heading.channel heading.ns packet.now) }
     ensures next { IfOk result (λ next. next
@@ -196,7 +208,8 @@ fn push_piece(
         shape.now heading.spacecraft heading.plain heading.channel heading.ns packet.now) }
     ensures most { OnOk result (vec_len form.new ≤ vec_len form.old + piece_room) }
 
-    // Memory is refused only where there is no room for a piece, and then nothing is added.
+    // Memory is refused only where there is no room for a piece, and then nothing is added. The
+    // capacity never shrinks.
     ensures unchanged { OnErr result (form.new.items ≡ form.old.items) }
     ensures capacity { vec_capacity form.old ≤ vec_capacity form.new }
     ensures full { OnErr result (vec_capacity form.old < vec_len form.old + piece_room) }
@@ -216,15 +229,20 @@ fn push_piece(
     }
 }
 
-// The place of the first packet from a place on. N(S) goes on within a virtual channel, and begins
-// with V(R) of `starts` on the next one.
+// The place of the first packet that is at the place `from` or after it. Channel 4096 where no
+// packet is left. N(S) goes on within a virtual channel. On a later virtual channel N(S) begins
+// with the channel's initial V(R).
 fn next_place(delivered: &Delivered, starts: &Starts, from: Place) -> Place
     requires channel { from.channel < channel_count }
+    // The octets that are still to come are the same from either place.
     ensures left { (format : TcFormat) (spacecraft : ℕ) (plain : List ℕ)
         → form_left format spacecraft starts.now plain delivered.now.lists
         from.channel from.framed from.ns
         ≡ form_left format spacecraft starts.now plain delivered.now.lists
         result.channel result.framed result.ns }
+
+    // The answer is the place of a packet, or the place after all packets. The lists have only
+    // packets that may be delivered.
     ensures place { IsPlace delivered.now result.channel result.framed }
     ensures deliverable { AreDeliverable delivered.now.lists }
 {

@@ -1,4 +1,4 @@
-//! The frames of a packet in the normal form.
+//! The frames of one packet in the normal form.
 ghost use Rattle.std.specs.Prelude.{◌≡◌, ◌+◌, ◌*◌, ◌<◌, ◌≤◌, ◌++◌, false, length, take, drop};
 ghost use Rattle.std.specs.Prelude.{vec_len, IfOk, OnOk, OnErr};
 ghost use Rattle.std.specs.Vec.{vec_capacity};
@@ -10,20 +10,21 @@ use sl_fields::SegmentHeader;
 use sl_tcframe::{TcShape, push_tc};
 use std::alloc::AllocError;
 
-/// What the frames of a packet have in common, and the N(S) of the first frame.
+/// What the headers of a packet's frames have in common, and the N(S) of the first frame.
 #[derive(Clone, Copy)]
 pub(crate) struct Heading {
+    /// The spacecraft identifier, 0 to 1023.
     pub(crate) spacecraft: u16,
-    /// The channel of the packet: 64 times its virtual channel plus its MAP.
+    /// The channel of the packet, 0 to 4095: 64 times its virtual channel plus its MAP.
     pub(crate) channel: u16,
-    /// Whether the virtual channel has no segment headers.
+    /// Whether the frames of the virtual channel have no segment headers.
     pub(crate) plain: bool,
-    /// The N(S) of the first frame.
+    /// The N(S) of the first frame, 0 to 255.
     pub(crate) ns: u8,
 }
 
-// Adds the frames of a packet on a virtual channel with segment headers. Answers the N(S) of the
-// next frame.
+// Adds the frames of a packet on a virtual channel with segment headers to the end of `form`.
+// Answers the N(S) of the frame after them.
 pub(crate) fn push_packet(
     form: &mut Vec<u8>,
     shape: &TcShape,
@@ -33,7 +34,8 @@ pub(crate) fn push_packet(
     requires spacecraft { heading.spacecraft ≤ 1023 }
     requires channel { heading.channel < channel_count }
     requires segments { heading.plain ≡ false }
-    // The frames are those of the packet, and N(S) rises by one for each.
+    // The frames are those of the packet, and N(S) rises by one with each, modulo 256. A segment
+    // has room for octets, and the frames have at most `2 * length + 7` octets together.
     ensures frames { OnOk result (form.new.items ≡ form.old.items
         ++ piece_of shape.now heading.spacecraft false heading.channel heading.ns packet.now) }
     ensures next { IfOk result (λ next. next
@@ -42,7 +44,7 @@ pub(crate) fn push_packet(
     ensures most { OnOk result (vec_len form.new ≤ vec_len form.old + 2 * length packet.now + 7) }
 
     // Memory is refused only where there is no room for the frames. Some of the frames may have
-    // been added then.
+    // been added then, after the octets that `form` had. The capacity never shrinks.
     ensures kept { OnErr result (take (vec_len form.old) form.new.items ≡ form.old.items) }
     ensures capacity { vec_capacity form.old ≤ vec_capacity form.new }
     ensures full { OnErr result
@@ -64,7 +66,8 @@ pub(crate) fn push_packet(
     Ok(ns)
 }
 
-// Splits off the octets of the next segment.
+// Splits off the octets of the next segment: at most `room`. The second slice is what is left of
+// the packet.
 fn split_segment(left: &[u8], room: usize) -> (&[u8], &[u8])
     ensures octets { result.0.now ≡ take room left.now }
     ensures later { result.1.now ≡ drop room left.now }

@@ -14,16 +14,21 @@ use sl_packet::{FlowFault, PacketSink, add_part, give_back};
 use std::alloc::Global;
 use std::marker::Model;
 
-/// The octets of the longest service data unit, as many as the longest packet has.
+/// The greatest number of octets of a service data unit, that of the longest packet. This bound is
+/// this project's choice.
 const MOST_OCTETS: usize = 65542;
 
-/// The octets of memory that are kept at most for the next series.
+/// The memory of an ended series is kept for the next series where its capacity is at most this
+/// number of octets.
 const MOST_KEPT: usize = 4096;
 
-/// The octets so far of the incomplete series, if there is one.
+/// The incomplete series of a MAP, if there is one. In clauses it is the octets of the series so
+/// far, or `None`.
 #[derive(Drop)]
 pub struct Incomplete {
+    // Whether a series is incomplete.
     is_begun: bool,
+    // The octets of this series so far. There are none where no series is incomplete.
     octets: Vec<u8>,
 }
 
@@ -40,7 +45,7 @@ impl Model for Incomplete {
 }
 
 impl Incomplete {
-    /// No series is incomplete.
+    /// The state in which no series is incomplete. It holds no memory.
     pub fn new(alloc: Global) -> Incomplete
         ensures { result ≡ None }
     {
@@ -50,7 +55,8 @@ impl Incomplete {
         }
     }
 
-    /// The number of octets so far of the incomplete series, if there is one.
+    /// The number of octets so far of the incomplete series, 0 to 65,542. `None` where no series is
+    /// incomplete.
     #[inline(always)]
     pub fn held(&self) -> Option<u32>
         ensures octets { result ≡ option_map length self.now }
@@ -62,8 +68,11 @@ impl Incomplete {
         Some(self.octets.len() as u32)
     }
 
-    /// Takes the next segment, hands the sink the packets that end with the segment, and reports
-    /// these packets and the anomalies.
+    /// Takes the next segment. Hands the sink the packets of the service data unit that ends with
+    /// the segment, and reports their numbers and the segment's anomalies.
+    ///
+    /// The fault is `Memory` where memory was refused, and `Sink` where the sink refused a packet.
+    /// Clauses don't say what is incomplete after a fault.
     #[inline(always)]
     pub fn take<S: PacketSink>(
         &mut self,
@@ -106,7 +115,7 @@ impl Incomplete {
         }
     }
 
-    // Begins a series with these octets, and gives up the incomplete one.
+    // Begins a series with these octets. Gives up the incomplete series before, if there is one.
     #[inline(always)]
     fn begin(&mut self, octets: &[u8]) -> Result<TcStep, FlowFault>
         requires { length octets.now ≤ 1019 }
@@ -126,12 +135,16 @@ impl Incomplete {
         }
     }
 
-    // Continues the series with these octets, and gives the series up where it becomes too long.
+    // Continues the incomplete series with these octets, and gives the series up where it becomes
+    // too long. Where no series is incomplete, the octets are dropped, and the report says so
+    // (`stray`).
     #[inline(always)]
     fn go_on(&mut self, octets: &[u8]) -> Result<TcStep, FlowFault>
         requires { length octets.now ≤ 1019 }
         ensures state { OnOk result (self.new ≡ extended self.old octets.now) }
         ensures step { IfOk result (λ step. step ≡ continued_report self.old octets.now) }
+
+        // The only fault is `Memory`, and only where a series is incomplete.
         ensures only_memory { IfErr result (λ flow. flow ≡ FlowFault.Memory) }
         ensures begun { OnErr result (self.old ≢ None) }
     {
@@ -154,7 +167,9 @@ impl Incomplete {
         }
     }
 
-    // Ends the series with these octets, if one is incomplete, and hands the sink its packets.
+    // Ends the incomplete series with these octets, and hands the sink its packets. Where no series
+    // is incomplete, or the series becomes too long, the sink is handed nothing, and the report
+    // says so. The number 2 in the clauses is the sequence flags of a last segment.
     #[inline(always)]
     fn end<S: PacketSink>(
         &mut self,
@@ -182,7 +197,8 @@ impl Incomplete {
         ended
     }
 
-    // Clears a series that has ended. The memory of a short series is kept for the next one.
+    // Clears a series that has ended. Its memory is kept for the next series where the capacity is
+    // at most `MOST_KEPT`, and is given back otherwise.
     #[inline(always)]
     fn close(&mut self)
         ensures { self.new ≡ None }
@@ -196,7 +212,7 @@ impl Incomplete {
     }
 
     // Gives up the incomplete series, if there is one, and gives its memory back. Answers how many
-    // octets the series had.
+    // octets the series had so far.
     #[inline(always)]
     fn give_up(&mut self) -> Option<u32>
         ensures none { self.new ≡ None }

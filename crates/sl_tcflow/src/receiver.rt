@@ -32,13 +32,21 @@ use std::alloc::Global;
 use std::marker::Model;
 
 /// Delivers the packets of the virtual channels and MAPs of CCSDS 232.0-B from the frames that
-/// FARM-1 (CCSDS 232.1-B) accepts. The frames are given one after another. AD and BD units of a MAP
-/// make one list, in the order of their acceptance; this is this project's choice.
+/// FARM-1 (CCSDS 232.1-B) accepts. The frames are given one after another.
+///
+/// The accepted units of a MAP make one list of segments, in the order of their acceptance. Units
+/// of types AD and BD are in the same list, by this project's choice. A series is incomplete on a
+/// MAP where its list ends with a first segment, and continuing ones or none after it, of at most
+/// 65,542 octets together.
 #[derive(Drop)]
 pub struct Receiver {
+    // FARM-1 of each virtual channel.
     farms: Farms,
+    // The virtual channels whose frames have no segment headers.
     plain: VcSet,
+    // The series that are incomplete.
     series: SeriesStore,
+    // Whether a call answered `Memory` or `Sink`.
     has_failed: bool,
 }
 
@@ -54,10 +62,11 @@ impl Model for Receiver {
 
 impl Receiver {
     /// A receiver that was given no frame yet. FARM-1 of each virtual channel is open, with this
-    /// window and the channel's own V(R) of `starts`. The frames of the virtual channels of `plain`
-    /// have no segment headers. The receiver holds no memory yet; later it asks for memory only for
-    /// a series that is incomplete.
+    /// window and with the initial V(R) that `starts` has for the channel. `plain` has the virtual
+    /// channels whose frames have no segment headers. The receiver holds no memory yet; later it
+    /// asks for memory only for a series that is incomplete.
     pub fn new(alloc: Global, window: Window, starts: &Starts, plain: VcSet) -> Receiver
+        // No frame was processed, and no memory is held.
         ensures processed { HasProcessed
             (record { window = window; starts = starts.now; plain = plain }) result [] }
         ensures memory { result.series.capacity ≡ 0 }
@@ -71,32 +80,34 @@ impl Receiver {
     }
 
     /// Takes the next frame: steps FARM-1 of the frame's virtual channel, and takes the frame's
-    /// unit if it is accepted. Hands the sink the packets of the service data unit that ends with
-    /// the unit, in order and without idle packets. Their channel is 64 times the virtual channel
-    /// plus the MAP, 0 to 4095. Answers what the frame brought.
+    /// unit if FARM-1 accepts it. Hands the sink the packets of the service data unit that ends
+    /// with the unit, in order and without idle packets. Their channel is 64 times the virtual
+    /// channel plus the MAP, 0 to 4095. Returns the report of what the frame brought.
     ///
     /// - `Memory`: memory was refused. Memory is asked for only where the unit is accepted and a
     ///   series is incomplete on its MAP, before the frame or after it. The sink has accepted some
     ///   of the packets, from the first one on, and refused none.
-    /// - `Sink`: the sink refused a packet. It has accepted the packets before this one, and none
-    ///   after it. Its count of refused packets has risen by one, unless it was 2^64 - 1.
+    /// - `Sink`: the sink refused a packet. The sink has accepted the packets before this one, and
+    ///   none after it. Its count of refused packets has risen by one, unless the count was at its
+    ///   greatest, 2^64 - 1.
     /// - `Failed`: an earlier call answered `Memory` or `Sink`. Every call after these two answers
     ///   `Failed`, hands over nothing and changes nothing; no other call answers it.
     ///
-    /// At `Memory` and `Sink` FARM-1 has taken the frame.
+    /// At `Memory` and `Sink` FARM-1 has taken the frame too.
     pub fn frame<S: PacketSink>(
         &mut self,
         frame: &TcFrame,
         sink: &mut S,
     ) -> Result<TcStep, FlowFault>
-        // Whichever frames were processed before, these and the new frame are processed now, and
-        // FARM-1 gave the verdict.
+        // `r` and `views` in a clause are any parameters and any frames under which the receiver
+        // may have come to its state before the call. These frames and the new one are processed
+        // now, and FARM-1 gave the verdict.
         ensures processed { OnOk result (ForProcessed self.old (λ r views.
             HasProcessed r self.new (views ++ frame.now ∷ []))) }
         ensures verdict { IfOk result (λ step. ForProcessed self.old (λ r views.
             step.verdict ≡ verdict_on r views frame.now)) }
 
-        // The MAP of the frame's unit.
+        // The step has the MAP of the frame's unit.
         ensures map { IfOk result (λ step. ForProcessed self.old (λ r views.
             step.map ≡ map_by r frame.now)) }
 
@@ -127,9 +138,9 @@ impl Receiver {
         ensures left { result ≡ Err FlowFault.Failed
             → IsFailed self.old × (self.new ≡ self.old) × (sink.new ≡ sink.old) }
 
-        // At a fault some of the packets were accepted, from the first one on, and FARM-1 has taken
-        // the frame, whichever frames were processed before. The sink failed exactly where the
-        // fault says so.
+        // At `Memory` and `Sink` the sink has accepted some of the packets, from the first one on,
+        // and FARM-1 has taken the frame. The sink's count of refused packets has risen exactly at
+        // `Sink`, unless the count was at its greatest.
         ensures stopped { IfErr result (λ flow. flow ≢ FlowFault.Failed → IsFailed self.new
             × ForProcessed self.old (λ r views. HasFailedAfter r self.new (views ++ frame.now ∷ [])
             × IsStopped S.taking S.failing S.failures sink.old (unit_channel r frame.now)
@@ -144,7 +155,7 @@ impl Receiver {
         if self.has_failed {
             return Err(FlowFault::Failed);
         }
-        // A fault leaves the flag set.
+        // Where `take` returns a fault, the flag stays set.
         self.has_failed = true;
         let verdict = self.farms.step(frame);
         let plain = self.plain.has(frame.vc());
@@ -159,11 +170,12 @@ impl Receiver {
         })
     }
 
-    /// The Communications Link Control Word (CCSDS 232.0-B) of the virtual channel `vc`, 0 to 63:
-    /// it reports the state of FARM-1 after all frames so far. After a fault the last of these is
-    /// the frame at which the fault came, and the word stays so.
+    /// The Communications Link Control Word (CCSDS 232.0-B) of the virtual channel `vc`, 0 to 63.
+    /// The word reports the state of FARM-1 after all frames so far. After a fault these are the
+    /// frames up to the one at which the fault came, and later calls don't change the word.
     pub fn clcw(&self, vc: u8) -> Clcw
         requires { vc ≤ 63 }
+        // The word is that of the frames so far, whether a fault came or not.
         ensures processed { ForProcessed self.now (λ r views.
             result ≡ clcw_of vc (farm_of r vc views).state) }
         ensures failed { (r : ReceptionParameters) (views : List TcView)
@@ -175,7 +187,8 @@ impl Receiver {
 
     /// The number of octets so far of the series that is incomplete on the virtual channel `vc` and
     /// the MAP `map`, each 0 to 63: at most 65,542, and 0 where no series is incomplete. An
-    /// incomplete series may have 0 octets too. After a fault only the bound holds.
+    /// incomplete series may have 0 octets too; [`is_open`](Receiver::is_open) answers whether
+    /// there is one. After a fault clauses give only the bound.
     pub fn held(&self, vc: u8, map: u8) -> u32
         requires vc { vc ≤ 63 }
         requires map { map ≤ 63 }
@@ -187,7 +200,7 @@ impl Receiver {
     }
 
     /// Whether a series is incomplete on the virtual channel `vc` and the MAP `map`, each 0 to 63.
-    /// The series may have no octets so far. After a fault the answer means nothing.
+    /// The series may have no octets so far. After a fault no clause says what the answer is.
     pub fn is_open(&self, vc: u8, map: u8) -> bool
         requires vc { vc ≤ 63 }
         requires map { map ≤ 63 }
@@ -197,10 +210,12 @@ impl Receiver {
         self.series.held(vc, map).is_some()
     }
 
-    /// The least channel from which on no series is incomplete, 0 to 4096: a channel is 64 times
-    /// the virtual channel plus the MAP. The answer is 0 where no series is incomplete at all.
-    /// After a fault only the bound holds.
+    /// The least number from which on no channel has an incomplete series, 0 to 4096: one more than
+    /// the greatest channel with an incomplete series, and 0 where no series is incomplete at all.
+    /// A channel is 64 times the virtual channel plus the MAP. After a fault clauses give only the
+    /// bound.
     pub fn none_open_from(&self) -> u16
+        // No series is incomplete on the channels from the answer on.
         ensures most { result ≤ 4096 }
         ensures none { ForProcessed self.now (λ r views. (vc map : ℕ) → vc ≤ 63 → map ≤ 63
             → result ≤ channel_at vc map → incomplete_of (segments_of r vc map views) ≡ None) }
@@ -214,8 +229,8 @@ impl Receiver {
     }
 }
 
-// The MAP of the unit that a frame carries, on a virtual channel without segment headers (`plain`)
-// or with them. 0 where the frame carries none.
+// The MAP of the unit that a frame carries, and 0 where the frame carries none. `plain` says that
+// the frame's virtual channel has no segment headers.
 #[inline(always)]
 fn map_in(plain: bool, carried: &TcContent) -> u8
     requires { IsContent (content carried.now) }
@@ -232,8 +247,9 @@ fn map_in(plain: bool, carried: &TcContent) -> u8
     }
 }
 
-// Takes the unit of a frame, if the frame carries one and this verdict accepts it, on a virtual
-// channel without segment headers (`plain`) or with them.
+// Takes the unit of a frame, if the frame carries one and this verdict accepts it. `plain` says
+// that the frame's virtual channel has no segment headers. The fault is `Memory` where memory was
+// refused, and `Sink` where the sink refused a packet.
 fn take<S: PacketSink>(
     series: &mut SeriesStore,
     plain: bool,
@@ -241,8 +257,9 @@ fn take<S: PacketSink>(
     frame: &TcFrame,
     sink: &mut S,
 ) -> Result<TcStep, FlowFault>
-    // The clauses hold for all frames that may have come before and led to these series. The unit
-    // continues, ends or begins its series, its packets are handed over, and the step reports them.
+    // `r` and `views` in a clause are any parameters and any frames that may have come before and
+    // led to these series and this verdict. The unit continues, ends or begins its series, its
+    // packets are handed over, and the step reports them.
     ensures series { OnOk result (ForIncomplete plain series.old.list verdict frame.now
         (λ r views. AreIncomplete r series.new.list (views ++ frame.now ∷ []))) }
     ensures hands_over { ForIncomplete plain series.old.list verdict frame.now
@@ -251,11 +268,15 @@ fn take<S: PacketSink>(
     ensures step { IfOk result
         (λ step. ForIncomplete plain series.old.list verdict frame.now
         (λ r views. IsReportedOf r views frame.now step)) }
+
+    // Memory is asked for only where the unit is accepted and a series is incomplete on its MAP,
+    // before the frame or after it.
     ensures memory { IfErr result (λ flow. flow ≡ FlowFault.Memory →
         ForIncomplete plain series.old.list verdict frame.now
         (λ r views. IsIncompleteAround r views frame.now)) }
 
-    // The sink failed exactly where the fault says so.
+    // The sink's count of refused packets rises exactly at `Sink`, unless the count was at its
+    // greatest. No fault is `Failed`.
     ensures kept { OnOk result (S.failures sink.new ≡ S.failures sink.old) }
     ensures counted { IfErr result (λ flow. CountsFault S.failures sink.old flow sink.new) }
     ensures not_failed { IfErr result (λ flow. flow ≢ FlowFault.Failed) }
@@ -275,12 +296,13 @@ fn take<S: PacketSink>(
 // The unit of a frame, where this verdict accepts it.
 fn accepted_unit<'a>(verdict: Verdict, carried: &TcContent<'a>) -> Option<&'a [u8]>
     requires { IsContent (content carried.now) }
-    // The unit is the one that the frame carries, where the verdict accepts one.
+    // The verdict accepts the frame, and the unit is the one that the frame carries. `None` means
+    // that the frame carries none, or the verdict doesn't accept it.
     ensures unit { IfSome result (λ unit. unit_by verdict (content carried.now) ≡ unit.now ∷ []) }
     ensures accepted { IfSome result (λ unit. verdict ≡ Verdict.Accept) }
     ensures none { IfNone result (unit_by verdict (content carried.now) ≡ []) }
 
-    // The unit is one that a frame can carry.
+    // The unit has the MAP of its frame, and 1 to 1019 octets.
     ensures map { IfSome result (λ unit. (plain : Bool)
         → map_of plain (content carried.now) ≡ (header_at (segment_in plain unit.now)).map) }
     ensures some { IfSome result (λ unit. 0 < length unit.now) }

@@ -1,4 +1,4 @@
-//! The normal form of delivered packets, whole.
+//! The whole normal form of delivered packets, in one call.
 ghost use Rattle.std.specs.Prelude.{◌≡◌, ℕ, ◌≤◌, IfOk, OnErr};
 ghost use Rattle.sl_packet.specs.Delivered.{HasNone, channel_count};
 ghost use Rattle.sl_tcflow.specs.FitsTc.{FitsTc};
@@ -11,20 +11,21 @@ use sl_packet::Delivered;
 use sl_tcframe::{TcShape, VcSet};
 use std::alloc::{AllocError, Global};
 
-/// The normal form of the packets that were delivered, those of virtual channel `v` and MAP `m` on
-/// channel `64 * v + m`: frames of CCSDS 232.0-B of type AD and of this format, end to end, and
-/// none where there are no packets. The form is this project's own (docs/normal-form.md).
+/// The normal form of delivered packets, where those of virtual channel `v` and MAP `m` are on
+/// channel `64 * v + m`. The form is frames of CCSDS 232.0-B of type AD and of this format, end to
+/// end, and no octets where there are no packets. The form is this project's own
+/// (docs/normal-form.md).
 ///
 /// - `spacecraft` is 0 to 1023.
-/// - `starts` has V(R) of each virtual channel before its first frame, which is the N(S) of that
-///   frame.
-/// - `plain` has the virtual channels whose frames have no segment headers; there each frame
+/// - `starts` has the initial V(R) of each virtual channel, which is the N(S) of the channel's
+///   first frame.
+/// - `plain` has the virtual channels whose frames have no segment headers. There each frame
 ///   carries one packet.
 /// - `delivered` has packets that frames can carry, as [`fits_tc`](crate::fits_tc) tests.
 ///
 /// Read as a recording, with these starts and these channels, the form delivers exactly these
-/// packets again, for every window of FARM-1. The only refusal is want of memory, and only where
-/// there are packets.
+/// packets again, for every window of FARM-1. The call is refused only memory, and only where there
+/// are packets.
 pub fn reframe_tc(
     alloc: Global,
     shape: &TcShape,
@@ -35,11 +36,14 @@ pub fn reframe_tc(
 ) -> Result<Vec<u8>, AllocError>
     requires spacecraft { spacecraft ≤ 1023 }
     requires fits { FitsTc shape.now plain.now delivered.now.lists }
+    // The form is the normal form, and delivers the packets again.
     ensures form { IfOk result (λ form. form.items
         ≡ tc_normal_form_of shape.now spacecraft starts.now plain.now delivered.now.lists) }
     ensures delivers { IfOk result (λ form. (w : ℕ) → tc_lists shape.now spacecraft
         (record { window = w; starts = starts.now; plain = plain.now }) form.items
         ≡ delivered.now.lists) }
+
+    // Memory is refused only where there are packets.
     ensures packets { OnErr result (HasNone delivered.now 0 channel_count → ⊥) }
 {
     let mut form = Vec::new(alloc);

@@ -4,9 +4,9 @@ ghost use Rattle.std.specs.Prelude.{◌≡◌};
 use sl_cop::Verdict;
 use std::marker::Model;
 
-/// The report of a [`Receiver`](crate::Receiver) on one frame: the verdict on it, the MAP of its
-/// unit, and what the unit brought. Where the unit isn't accepted, or the frame carries none, it
-/// brought nothing: all but the verdict and the MAP is false, `None` or 0.
+/// The report of a [`Receiver`](crate::Receiver) on one frame: the verdict on the frame, the MAP of
+/// its unit, and what the unit brought. A unit that isn't accepted brings nothing, and neither does
+/// a frame without a unit. Then all values but the verdict and the MAP are `false`, `None` or 0.
 #[derive(Clone, Copy, Debug, PartialEq, Eq)]
 pub struct TcStep {
     pub(crate) verdict: Verdict,
@@ -19,7 +19,8 @@ pub struct TcStep {
     pub(crate) tail: u32,
 }
 
-/// The report on an accepted frame whose unit ends no service data unit and has no anomaly.
+/// The report on an accepted frame whose unit ends no service data unit and has no anomaly, before
+/// its MAP is filled in.
 pub(crate) const EMPTY_STEP: TcStep = TcStep {
     verdict: Verdict::Accept,
     map: 0,
@@ -51,23 +52,24 @@ impl TcStep {
         self.verdict
     }
 
-    /// The multiplexer access point identifier (MAP) of the frame's unit, 0 to 63, and 0 where the
-    /// frame carries no unit.
+    /// The multiplexer access point identifier (MAP) of the frame's unit, 0 to 63, accepted or not.
+    /// 0 on a virtual channel without segment headers, and where the frame carries no unit.
     pub fn map(&self) -> u8
         ensures { result ≡ self.now.map }
     {
         self.map
     }
 
-    /// The number of packets of the service data unit that ends with the frame's unit, idle packets
-    /// left out.
+    /// The number of packets that were handed over: those of the service data unit that ends with
+    /// the frame's unit, idle packets left out. 0 where no service data unit ends.
     pub fn packets(&self) -> u32
         ensures { result ≡ self.now.packets }
     {
         self.packets
     }
 
-    /// The number of idle packets of the service data unit that ends with the frame's unit.
+    /// The number of idle packets of the service data unit that ends with the frame's unit. 0 where
+    /// no service data unit ends.
     pub fn idle(&self) -> u32
         ensures { result ≡ self.now.idle }
     {
@@ -75,32 +77,34 @@ impl TcStep {
     }
 
     /// Whether the frame's unit is out of sequence: it is a continuing or last segment, and no
-    /// series is incomplete.
+    /// series is incomplete on its MAP.
     pub fn stray(&self) -> bool
         ensures { result ≡ self.now.stray }
     {
         self.stray
     }
 
-    /// The octets of the series that was incomplete, 0 to 65,542, where the frame's unit begins
-    /// another one. `None` where no series was incomplete, or where the unit doesn't begin one.
+    /// The number of octets of the series that the frame's unit drops, 0 to 65,542. A unit that is
+    /// a first segment, or has no segmentation, drops the incomplete series of its MAP. `None`
+    /// where no series is dropped.
     pub fn dropped(&self) -> Option<u32>
         ensures { result ≡ self.now.dropped }
     {
         self.dropped
     }
 
-    /// Whether the series that was incomplete is given up, because it has more than 65,542 octets
-    /// together with the frame's unit. This bound is this project's choice.
+    /// Whether the incomplete series is given up: the frame's unit is a continuing or last segment,
+    /// and the series has more than 65,542 octets with this segment. The bound is this project's
+    /// choice.
     pub fn long(&self) -> bool
         ensures { result ≡ self.now.long }
     {
         self.long
     }
 
-    /// The octets that are left after the last whole packet of the service data unit that ends with
-    /// the frame's unit: all of its octets where it has no packet. 0 where no octets are left, and
-    /// where no service data unit ends. A series that is given up ends none.
+    /// How many octets are left after the last whole packet of the service data unit that ends with
+    /// the frame's unit: all of its octets where it has no packet. These octets are dropped. 0
+    /// where no octets are left, where no service data unit ends, and where the series is given up.
     pub fn tail(&self) -> u32
         ensures { result ≡ self.now.tail }
     {

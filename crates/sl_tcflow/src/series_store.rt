@@ -16,11 +16,13 @@ use sl_packet::{FlowFault, PacketSink};
 use std::alloc::{AllocError, Global};
 use std::marker::Model;
 
-/// The incomplete series, by the channels of their packets.
+/// The incomplete series, by channel. The channel of a virtual channel and a MAP is 64 times the
+/// virtual channel plus the MAP.
 #[derive(Drop)]
 pub struct SeriesStore {
     alloc: Global,
-    // The list reaches up to the greatest channel on which a series has begun.
+    // The incomplete series of each channel, if there is one. The list reaches up to the greatest
+    // channel on which a series has begun.
     list: Vec<Incomplete>,
 }
 
@@ -35,8 +37,8 @@ impl Model for SeriesStore {
 }
 
 impl SeriesStore {
-    /// No series is incomplete. The store holds no memory yet; later it asks for memory only for a
-    /// series that is incomplete.
+    /// A store in which no series is incomplete. It holds no memory yet; later it asks for memory
+    /// only for a series that is incomplete.
     pub fn new(alloc: Global) -> SeriesStore
         ensures none { result.list ≡ [] }
         ensures memory { result.capacity ≡ 0 }
@@ -47,8 +49,8 @@ impl SeriesStore {
         }
     }
 
-    /// The number of octets so far of the incomplete series on a virtual channel and a MAP, if
-    /// there is one.
+    /// The number of octets so far of the incomplete series on the virtual channel `vc` and the MAP
+    /// `map`, each 0 to 63: 0 to 65,542. `None` where no series is incomplete there.
     pub fn held(&self, vc: u8, map: u8) -> Option<u32>
         requires vc { vc ≤ 63 }
         requires map { map ≤ 63 }
@@ -62,8 +64,11 @@ impl SeriesStore {
         }
     }
 
-    /// The least channel from which on no series is incomplete, 0 to 4096.
+    /// The least number from which on no channel has an incomplete series, 0 to 4096: one more than
+    /// the greatest channel with an incomplete series, and 0 where no series is incomplete at all.
     pub fn none_open_from(&self) -> u16
+        // On the channels from the answer on no series is incomplete. On the channel before the
+        // answer, if there is one, a series is.
         ensures most { result ≤ 4096 }
         ensures none { (channel : ℕ) → channel ≤ 4095 → result ≤ channel
             → at self.now.list channel ≡ None }
@@ -77,7 +82,11 @@ impl SeriesStore {
         from as u16
     }
 
-    /// Takes the next segment of a channel.
+    /// Takes the next segment of a channel. Hands the sink the packets of the service data unit
+    /// that ends with the segment, and reports their numbers and the segment's anomalies.
+    ///
+    /// The fault is `Memory` where memory was refused, and `Sink` where the sink refused a packet.
+    /// Clauses don't say what is incomplete after a fault.
     #[inline]
     pub fn take<S: PacketSink>(
         &mut self,
@@ -118,7 +127,8 @@ impl SeriesStore {
     }
 }
 
-// Extends the list up to this index. No series is incomplete at the new places.
+// Extends the list up to this index where it is shorter. No series is incomplete at the new places.
+// Where memory is refused, the list may be extended in part.
 fn grow_to(alloc: Global, list: &mut Vec<Incomplete>, index: usize) -> Result<(), AllocError>
     ensures reached { OnOk result (index < vec_len list.new) }
     ensures same { (other : ℕ) → at list.new.items other ≡ at list.old.items other }

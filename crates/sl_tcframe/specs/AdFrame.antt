@@ -1,39 +1,42 @@
--- The TC transfer frame of type AD that is written, CCSDS 232.0-B.
+-- TC transfer frames of type AD that are written, CCSDS 232.0-B.
 use Rattle.std.specs.Prelude.{◌≡◌, ℕ, ◌+◌, ◌-◌, ◌<◌, ◌≤◌, true, List, [], ◌∷◌, ◌++◌, length, Ok}
 use Rattle.sl_fields.specs.FecfField.{fecf_len, with_fecf}
 use Rattle.sl_fields.specs.Field.{octets_of}
 use Rattle.sl_fields.specs.SegmentHeader.{SegmentFields, segment_octets}
 use Rattle.sl_tcframe.specs.TcFrame.{TcFormat, Ad, is_cut, tc_frame}
 
--- how many octets a data field has at most
+-- the greatest length of a data field in octets
 abbrev pub plain_room_of : TcFormat → ℕ
 plain_room_of format = format.max - 5 - fecf_len format.fecf
 
--- how many octets a segment has at most, after its header
+-- how many octets a frame carries at most after a segment header
 abbrev pub segment_room_of : TcFormat → ℕ
 segment_room_of format = format.max - 6 - fecf_len format.fecf
 
--- The fields of the header of a frame of `len` octets, with their widths: version 0, bypass flag and control command
--- flag 0, spare bits 0, the spacecraft, the virtual channel, the frame length, 1 less than the octets, and N(S).
+-- The fields of the header of a frame that has `len` octets, each as its width in bits and its
+-- value: version 0, bypass flag 0, control command flag 0, spare bits 0, the spacecraft, the
+-- virtual channel, the frame length (the octets of the frame minus 1), and N(S).
 abbrev pub ad_fields : ℕ → ℕ → ℕ → ℕ → List (ℕ × ℕ)
 ad_fields spacecraft vc ns len = (2, 0) ∷ (1, 0) ∷ (1, 0) ∷ (2, 0) ∷ (10, spacecraft) ∷ (6, vc) ∷ (10, len - 1) ∷ (8, ns) ∷ []
 
--- how many octets a frame has with this many in its data field
+-- the length of a frame whose data field has this number of octets
 abbrev pub ad_len : TcFormat → ℕ → ℕ
 ad_len format octets = 5 + octets + fecf_len format.fecf
 
--- a frame of type AD with this N(S), whose data field is this unit
+-- the frame of type AD for this spacecraft and virtual channel, with this N(S), whose data field is
+-- this unit
 abbrev pub ad_frame : TcFormat → ℕ → ℕ → ℕ → List ℕ → List ℕ
 ad_frame format spacecraft vc ns unit =
     with_fecf format.fecf (octets_of 5 (ad_fields spacecraft vc ns (ad_len format (length unit))) ++ unit)
 
--- the unit of a segment: its header and its octets
+-- a unit: a segment header and the octets after it
 abbrev pub segment_unit : SegmentFields → List ℕ → List ℕ
 segment_unit header octets = segment_octets header ++ octets
 
 -- ---- laws
 
--- a spacecraft, a virtual channel, an N(S) and a unit that a frame of the format can have
+-- these values fit in a frame of type AD: the greatest length of the format is managed, the
+-- header's fields can hold the values, and the data field can hold the unit
 pub record FitAdFrame (format : TcFormat) (spacecraft vc ns : ℕ) (unit : List ℕ) : Type 0 where
   pub least : 16 ≤ format.max
   pub most : format.max ≤ 1024
@@ -43,13 +46,13 @@ pub record FitAdFrame (format : TcFormat) (spacecraft vc ns : ℕ) (unit : List 
   pub some : 0 < length unit
   pub inside : length unit ≤ plain_room_of format
 
--- A frame of type AD is one frame by its frame length field.
+-- A frame of type AD whose values fit is one frame by its frame length field.
 abbrev pub AdFramesAreWhole : Type 0
 AdFramesAreWhole =
     (format : TcFormat) (spacecraft vc ns : ℕ) (unit : List ℕ) → FitAdFrame format spacecraft vc ns unit
     → is_cut format (ad_frame format spacecraft vc ns unit) ≡ true
 
--- A frame of type AD is read back as it was made.
+-- A frame of type AD whose values fit is read back as it was made.
 abbrev pub AdFramesAreReadBack : Type 0
 AdFramesAreReadBack =
     (format : TcFormat) (spacecraft vc ns : ℕ) (unit : List ℕ) → FitAdFrame format spacecraft vc ns unit

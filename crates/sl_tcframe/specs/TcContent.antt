@@ -1,4 +1,5 @@
--- What a `TcContent` stands for, wherever its octets lie in memory.
+-- What a `TcContent` of the code stands for: the same content, with a unit's octets, wherever these
+-- lie in memory.
 use Rattle.sl_tcframe.specs.TcFrame.{Content}
 use Rattle.sl_tcframe.specs.TcFrame as spec
 use Rattle.sl_tcframe.specs.declared.tc_frame.TcContent.{TcContent}

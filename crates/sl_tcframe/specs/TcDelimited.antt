@@ -1,20 +1,21 @@
--- A recording of TC frames: frames end to end, each as long as its frame length field says, and a remainder. This way
--- to cut a recording, and what ends it, are this project's mission profile.
+-- A recording of TC frames: frames end to end, each as long as its frame length field states, and a
+-- remainder. This way to divide a recording, and what ends its frames, are the project's own choice
+-- (mission profile).
 use Rattle.std.specs.Prelude.{◌≡◌, ℕ, zero, suc, ◌-◌, nat_lt, Bool, true, ◌||◌, if◌then◌else◌, List, [], ◌∷◌, ◌++◌, length, take, drop, Option, None, Some}
 use Rattle.std.specs.List.{AllByRecursion, concat}
 use Rattle.sl_tcframe.specs.TcFrame.{TcFormat, stated_frame_len, least_of, is_cut}
 
--- No frame begins with these octets, so the recording's frames end here: there are fewer octets than a header has,
--- the stated length is below the least length of a frame, or there are fewer octets than the stated length. The first
--- four octets state the length, but no frame is as short as four octets. So where there are only four, no frame
--- begins, whatever they state.
+-- No frame begins with these octets, so the recording's frames end here. One of three things is so:
+-- there are fewer octets than a primary header has, the stated length is below the least length of
+-- a frame, or there are fewer octets than the stated length. Four octets already state a length,
+-- but no frame has only four octets.
 abbrev pub begin_no_frame : TcFormat → List ℕ → Bool
 begin_no_frame format octets =
     nat_lt (length octets) 5 || (nat_lt (stated_frame_len octets) (least_of format) || nat_lt (length octets) (stated_frame_len octets))
 
--- The frames of a recording lie end to end from the first octet on, each as long as its frame length field says and
--- no shorter than the least length, up to the first offset at which no frame begins. The octets from there on are the
--- remainder.
+-- The frames of a recording lie end to end from the first octet on, each as long as its frame
+-- length field states and no shorter than the least length. They end at the first offset at which
+-- no frame begins. The octets from there on are the remainder.
 pub record IsTcDelimited (format : TcFormat) (recording : List ℕ) (frames : List (List ℕ)) (remainder : List ℕ) : Type 0 where
   pub end_to_end : recording ≡ concat frames ++ remainder
   pub each : AllByRecursion (λ frame. is_cut format frame ≡ true) frames
@@ -22,10 +23,10 @@ pub record IsTcDelimited (format : TcFormat) (recording : List ℕ) (frames : Li
 
 -- ---- the frames and the remainder, as functions of the recording
 
--- The law `tc_recordings_are_delimited` says that `tc_frames_of` and `tc_remainder_of` are the frames and the
--- remainder, and that there are no others.
+-- The law `tc_recordings_are_delimited` says that `tc_frames_of` and `tc_remainder_of` are the
+-- frames and the remainder, and that there are no others.
 
--- the length of the frame at the front of octets
+-- the length of the frame at the front of octets, if a frame begins there
 abbrev pub front_len : TcFormat → List ℕ → Option ℕ
 front_len format octets = if begin_no_frame format octets then None else Some (stated_frame_len octets)
 
@@ -34,12 +35,13 @@ abbrev pub frame_at : Option ℕ → List ℕ → List (List ℕ)
 frame_at None octets = []
 frame_at (Some len) octets = take len octets ∷ []
 
--- how many octets after the first one are passed over: the rest of the frame, or all
+-- how many octets after the first one are passed over before a frame is looked for again: the
+-- others of the frame that begins here, or all where none begins
 abbrev pub frame_passed : Option ℕ → List ℕ → ℕ
 frame_passed None octets = length octets
 frame_passed (Some len) octets = len - 1
 
--- the frames from the front on, after `skip` octets that belong to the frame before
+-- the frames of octets, where the first `skip` octets belong to an earlier frame
 abbrev pub tc_frames_from : TcFormat → ℕ → List ℕ → List (List ℕ)
 tc_frames_from format skip [] = []
 tc_frames_from format (suc skip) (octet ∷ octets) = tc_frames_from format skip octets

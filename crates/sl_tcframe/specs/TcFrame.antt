@@ -1,5 +1,6 @@
--- The TC transfer frame, CCSDS 232.0-B: its parts, why a frame is skipped, and what a frame carries. The spare bits
--- of the header, and N(S) of types BD and BC, are not looked at: this is the mission profile's.
+-- The TC transfer frame, CCSDS 232.0-B: its parts, why a frame is skipped, and what a frame
+-- carries. The spare bits of the header, and N(S) of types BD and BC, are ignored: this is the
+-- project's own choice (mission profile).
 use Rattle.std.specs.Prelude.{◌≡◌, ◌≢◌, ⊤, ℕ, ◌+◌, ◌-◌, ◌<◌, ◌≤◌, ◌==◌, nat_lt, Bool, true, false, not, ◌&&◌, if◌then◌else◌, List, [], ◌∷◌, ◌++◌, length, take, drop, Option, None, Some, Result, Ok, Err}
 use Rattle.sl_fields.specs.Fecf.{fecf_is_good}
 use Rattle.sl_fields.specs.FecfField.{fecf_len}
@@ -7,22 +8,23 @@ use Rattle.sl_fields.specs.TcHeader.{TcFields, tc_header}
 use Rattle.sl_tcframe.specs.declared.tc_frame.TcSkip.{TcSkip}
 use Rattle.sl_tcframe.specs.declared.tc_frame.TcSkip.TheVariants.{Fecf, Version, Spacecraft, Long, Kind, Empty, Command}
 
--- The managed format of a physical channel's frames: the greatest length of a frame, and whether the last two octets
--- of a frame are a frame error control field.
+-- The managed format of a physical channel's frames: the greatest length of a frame, and whether
+-- the last two octets of a frame are a frame error control field.
 pub record TcFormat : Type 0 where
   pub max : ℕ
   pub fecf : Bool
 
 -- ---- the parts
 
--- the parts of a frame
+-- the octets of a frame, in three parts
 pub record TcParts : Type 0 where
   pub header : List ℕ
   pub field : List ℕ
   pub fecf : List ℕ
 
--- The parts of a frame. The primary header has five octets, and the data field follows. The frame error control field
--- is last: two octets where the format has it. The frame length field is the octets of the whole frame minus 1.
+-- The octets of the frame are divided into these parts. The primary header has five octets, and the
+-- data field follows. The frame error control field is last: two octets where the format has one,
+-- and none otherwise. The frame length field states the octets of the whole frame minus 1.
 pub record ArePartsOf (format : TcFormat) (frame : List ℕ) (p : TcParts) : Type 0 where
   pub in_order : frame ≡ p.header ++ p.field ++ p.fecf
   pub header : length p.header ≡ 5
@@ -33,23 +35,24 @@ pub record ArePartsOf (format : TcFormat) (frame : List ℕ) (p : TcParts) : Typ
 abbrev pub tc_header_of : List ℕ → TcFields
 tc_header_of frame = tc_header (take 5 frame)
 
--- how many octets a frame has without a data field, the fewest that a frame can have
+-- the least length of a frame: how many octets a frame without a data field has
 abbrev pub least_of : TcFormat → ℕ
 least_of format = 5 + fecf_len format.fecf
 
--- how many octets the frame that begins here has, by its frame length field
+-- how many octets the frame that begins with these octets has, by its frame length field
 abbrev pub stated_frame_len : List ℕ → ℕ
 stated_frame_len octets = (tc_header_of octets).length + 1
 
--- whether octets are one frame by their frame length field
+-- whether octets are one frame by their frame length field: no fewer than the least length, and as
+-- many as the field states
 abbrev pub is_cut : TcFormat → List ℕ → Bool
 is_cut format octets = not (nat_lt (length octets) (least_of format)) && length octets == stated_frame_len octets
 
--- how many octets the data field has
+-- how many octets the data field of a frame has
 abbrev pub field_len : TcFormat → List ℕ → ℕ
 field_len format frame = length frame - 5 - fecf_len format.fecf
 
--- the parts, by their places in the frame
+-- the parts of a frame, by their places in it
 abbrev pub tc_parts_of : TcFormat → List ℕ → TcParts
 tc_parts_of format frame =
     record {
@@ -60,19 +63,19 @@ tc_parts_of format frame =
 
 -- ---- what a frame carries
 
--- The content of a frame. A frame of type AD or BD carries a unit, its whole data field. A unit begins with a segment
--- header, except on virtual channels without segment headers. A frame of type BC carries a control command for
--- FARM-1: Unlock, or Set V(R) with the value to set.
+-- The content of a frame. A frame of type AD or BD carries a unit, its whole data field. A unit
+-- begins with a segment header, except on virtual channels without segment headers. A frame of type
+-- BC carries a control command for FARM-1: Unlock, or Set V(R) with the value to set.
 pub data Content : Type 0 where
   Ad : (ns : ℕ) (unit : List ℕ) → Content
   Bd : (unit : List ℕ) → Content
   Unlock : Content
   SetVr : (vr : ℕ) → Content
 
--- The content of a data field under this header. The bypass flag and the control command flag are the type: 0 and 0
--- is AD, 1 and 0 is BD, 1 and 1 is BC. The frame sequence number counts in type AD alone. It is ignored in the other
--- types, and the spare bits are ignored in all types (mission profile). A unit has one octet or more. Unlock is one
--- octet of zeros, and Set V(R) is `82 00` and the value.
+-- A data field has this content under this header. The bypass flag and the control command flag are
+-- the type: 0 and 0 is AD, 1 and 0 is BD, 1 and 1 is BC. N(S) counts in type AD alone. N(S) of the
+-- other types, and the spare bits of all types, are ignored (mission profile). A unit has one octet
+-- or more. Unlock is one octet of zeros, and Set V(R) is `82 00` and the value.
 abbrev pub Carries : TcFields → List ℕ → Content → Type 0
 Carries h field (Ad ns unit) =
     (h.bypass ≡ false) × (h.command ≡ false) × (field ≢ []) × (ns ≡ h.ns) × (unit ≡ field)
@@ -82,9 +85,9 @@ Carries h field (SetVr vr) = (h.bypass ≡ true) × (h.command ≡ true) × (fie
 
 -- ---- whether a frame is skipped
 
--- Why a frame is skipped: a wrong error control field where the format has one; another version than 0; another
--- spacecraft; more octets than the managed greatest length; the control command flag without the bypass flag; no data
--- field; or type BC without a control command.
+-- Why a frame is skipped: a wrong error control field where the format has one; another version
+-- than 0; another spacecraft; more octets than the managed greatest length; the control command
+-- flag without the bypass flag; no data field; or type BC without a control command.
 abbrev pub HasReason : TcFormat → ℕ → List ℕ → TcSkip → Type 0
 HasReason format spacecraft frame Fecf = (format.fecf ≡ true) × (fecf_is_good frame ≡ false)
 HasReason format spacecraft frame Version = (tc_header_of frame).version ≢ 0
@@ -96,7 +99,8 @@ HasReason format spacecraft frame Command =
     ((tc_header_of frame).bypass ≡ true) × ((tc_header_of frame).command ≡ true)
     × ((content : Content) → Carries (tc_header_of frame) (tc_parts_of format frame).field content → ⊥)
 
--- the reasons in their order
+-- the place of a reason in the order: of several reasons that hold, a frame is skipped for the one
+-- with the least number
 abbrev pub order_of : TcSkip → ℕ
 order_of Fecf = 1
 order_of Version = 2
@@ -108,12 +112,13 @@ order_of Command = 7
 
 -- ---- a frame as it is read for a spacecraft
 
--- the view that a reader has of a frame
+-- what is read of a frame: its virtual channel and its content
 pub record TcView : Type 0 where
   pub vc : ℕ
   pub content : Content
 
--- A frame is skipped for the first reason that holds, and is read where no reason holds.
+-- A frame is read where no reason to skip it holds, with its virtual channel and its content.
+-- Otherwise it is skipped for the first reason that holds, in the order of `order_of`.
 abbrev pub IsReadAs : TcFormat → ℕ → List ℕ → Result TcView TcSkip → Type 0
 IsReadAs format spacecraft frame (Ok view) =
     ((reason : TcSkip) → HasReason format spacecraft frame reason → ⊥) × (view.vc ≡ (tc_header_of frame).vc)
@@ -124,7 +129,8 @@ IsReadAs format spacecraft frame (Err reason) =
 
 -- ---- the reading, as functions of the octets
 
--- The law `tc_frames_are_read` says that `tc_frame` is the reading of a frame, and that there is no other.
+-- The law `tc_frames_are_read` says that `tc_frame` is the reading of a frame, and that there is no
+-- other.
 
 -- the control command of a data field, if it is one
 abbrev pub command_of : List ℕ → Option Content
@@ -146,7 +152,7 @@ content_of h field =
     else if h.bypass then command_of field
     else None
 
--- the first reason that holds, apart from `Command`
+-- the first reason that holds, if one does; `Command` is left out, since `content_of` gives it
 abbrev pub early_reason : TcFormat → ℕ → List ℕ → Option TcSkip
 early_reason format spacecraft frame =
     if format.fecf && not (fecf_is_good frame) then Some Fecf
@@ -157,13 +163,14 @@ early_reason format spacecraft frame =
     else if length (tc_parts_of format frame).field == 0 then Some Empty
     else None
 
--- the view under this header, or the reason to skip the frame
+-- what is read, from the first reason other than `Command`, the header and the content of the data
+-- field; without a content the reason is `Command`
 abbrev pub read_as : Option TcSkip → TcFields → Option Content → Result TcView TcSkip
 read_as (Some reason) h content = Err reason
 read_as None h (Some content) = Ok (record { vc = h.vc; content = content })
 read_as None h None = Err Command
 
--- the frame as it is read for a spacecraft: its view, or the reason to skip it
+-- the frame as it is read for a spacecraft: what is read, or the reason to skip it
 abbrev pub tc_frame : TcFormat → ℕ → List ℕ → Result TcView TcSkip
 tc_frame format spacecraft frame =
     read_as (early_reason format spacecraft frame) (tc_header_of frame) (content_of (tc_header_of frame) (tc_parts_of format frame).field)
@@ -196,13 +203,13 @@ HasPartsOnce = (format : TcFormat) (frame : List ℕ) (p : TcParts) → AreParts
 abbrev pub OnlyFramesHaveParts : Type 0
 OnlyFramesHaveParts = (format : TcFormat) (frame : List ℕ) (p : TcParts) → ArePartsOf format frame p → is_cut format frame ≡ true
 
--- Each frame is read, or skipped, as the relation says.
+-- Each frame is read or skipped as `IsReadAs` says.
 abbrev pub EachIsRead : Type 0
 EachIsRead =
     (format : TcFormat) (spacecraft : ℕ) (frame : List ℕ)
     → IsReadAs format spacecraft frame (tc_frame format spacecraft frame)
 
--- A frame is read in no other way.
+-- A frame is read or skipped in no other way.
 abbrev pub IsReadOnce : Type 0
 IsReadOnce =
     (format : TcFormat) (spacecraft : ℕ) (frame : List ℕ) (read : Result TcView TcSkip)

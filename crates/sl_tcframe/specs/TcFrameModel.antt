@@ -1,4 +1,4 @@
--- A `TcFrame` stands for its view, which is in range.
+-- A `TcFrame` stands for what was read of the frame, which is in range.
 use Rattle.sl_tcframe.specs.TcFrame.{TcView, IsInRange}
 use Rattle.sl_tcframe.specs.TcContent.{content}
 use Rattle.sl_tcframe.specs.declared.tc_frame.TcFrame.TheInside.{Inside}

@@ -1,5 +1,5 @@
--- TC frames are delimited in a recording that comes in chunks. Only contracts of private functions cite
--- `BeginsWithFrame`, `TakesUpToFrame` and `Answers`.
+-- How a framer delimits the TC frames of a recording that comes in chunks. Only contracts of
+-- private functions cite `BeginsWithFrame`, `TakesUpToFrame` and `Answers`.
 use Rattle.std.specs.Prelude.{◌≡◌, ◌⊎◌, ⊤, ◌↔◌, ℕ, nat_lt, Bool, true, false, if◌then◌else◌, List, [], ◌∷◌, ◌++◌, length, take, drop, Option, None, Some, IsNone}
 use Rattle.std.specs.Borrow.{Bor}
 use Rattle.std.specs.List.{concat}
@@ -10,6 +10,7 @@ use Rattle.sl_tcframe.specs.declared.tc_framer.TcFramer.TheInside.{Inside}
 
 -- ---- the front of octets
 
+-- how far the frame at the front of octets has come
 pub data FrameFront : Type 0 where
   -- more octets are needed, for the frame length field or for the frame
   Incomplete : FrameFront
@@ -18,12 +19,12 @@ pub data FrameFront : Type 0 where
   -- a whole frame of this number of octets
   WholeFrame : ℕ → FrameFront
 
--- The length that the first four octets state. The frame length field ends with the fourth octet; 0 stands for the
--- fifth, the frame sequence number, which isn't part of the field.
+-- The length that the first four octets state. The frame length field ends with the fourth octet. A
+-- primary header has a fifth one, N(S), which the field doesn't reach, so 0 stands for it.
 abbrev pub len_by_four : List ℕ → ℕ
 len_by_four octets = stated_frame_len (take 4 octets ++ 0 ∷ [])
 
--- the front of octets: how far the frame at their front has come
+-- how far the frame at the front of these octets has come
 abbrev pub front_of : TcFormat → List ℕ → FrameFront
 front_of format octets =
     if nat_lt (length octets) 4 then Incomplete
@@ -42,88 +43,98 @@ pub record TcFraming : Type 0 where
 abbrev pub at_start : TcFormat → TcFraming
 at_start format = record { format = format; rest = [] }
 
--- the octets that are held; a frame that is lent is no longer among them
+-- the octets that were taken after the last frame, from the flag `is_lent` and the octets `taken`:
+-- none where `taken` is the last frame itself
 abbrev pub rest_of : Bool → List ℕ → List ℕ
 rest_of true taken = []
 rest_of false taken = taken
 
+-- what a `TcFramer` of the code stands for
 abbrev pub framing_of : Inside → TcFraming
 framing_of f = record { format = f.shape; rest = rest_of f.is_lent f.taken.items }
 
--- The rest of a framer: no frame is whole at its front, and where its first four octets state a length below the
--- least, there are only these four.
+-- The octets that a framer took after the last frame: no frame is whole at their front. Where the
+-- first four state a length below the least, there are only these four.
 abbrev pub IsRest : TcFormat → List ℕ → Type 0
 IsRest format octets =
     (front_of format octets ≡ Incomplete) ⊎ ((front_of format octets ≡ BelowLeast) × (length octets ≡ 4))
 
+-- what holds of the octets `taken` of a framer, under the flag `is_lent`: nothing where they are
+-- the last frame itself, and `IsRest` where they came after it
 abbrev pub IsTaken : Bool → TcFormat → List ℕ → Type 0
 IsTaken true format taken = ⊤
 IsTaken false format taken = IsRest format taken
 
+-- the invariant of a `TcFramer`
 pub record IsTcFramer (f : Inside) : Type 0 where
   pub taken : IsTaken f.is_lent f.shape f.taken.items
 
 -- ---- one call, with a chunk
 
--- The frame has the octets that were taken after the last frame, and then octets from the front of the chunk. The
--- other octets of the chunk are left.
+-- The call returns a frame: the octets that were taken after the last frame, and then octets from
+-- the front of the chunk. The other octets of the chunk are left.
 pub record YieldsFrame (old : TcFraming) (chunk frame left : List ℕ) : Type 0 where
   pub parts : old.rest ++ chunk ≡ frame ++ left
   pub whole : front_of old.format (old.rest ++ chunk) ≡ WholeFrame (length frame)
 
--- the octets that are taken where no frame is whole: all, or the four that state a length below the least
+-- the octets that are held after a call without a frame, by how far a frame had come: all, or the
+-- four that state a length below the least
 abbrev pub taken_at : FrameFront → List ℕ → List ℕ
 taken_at Incomplete octets = octets
 taken_at BelowLeast octets = take 4 octets
 taken_at (WholeFrame len) octets = []
 
--- the octets that are left where no frame is whole: none, or those after the four
+-- the octets that are left of the chunk after a call without a frame: none, or those after the four
 abbrev pub left_at : FrameFront → List ℕ → List ℕ
 left_at Incomplete octets = []
 left_at BelowLeast octets = drop 4 octets
 left_at (WholeFrame len) octets = octets
 
--- No frame is whole, and these octets of the chunk are left.
+-- The call returns no frame: none is whole, and these octets of the chunk are left.
 pub record YieldsNone (old : TcFraming) (chunk left : List ℕ) : Type 0 where
   pub front : (front_of old.format (old.rest ++ chunk) ≡ Incomplete) ⊎ (front_of old.format (old.rest ++ chunk) ≡ BelowLeast)
   pub left_is : left ≡ left_at (front_of old.format (old.rest ++ chunk)) (old.rest ++ chunk)
 
--- the state after a call; after a frame no octet is held
+-- the state after a call with this chunk, which returned this frame or none; after a frame no octet
+-- is held
 abbrev pub after_call : TcFraming → List ℕ → Option (List ℕ) → TcFraming
 after_call old chunk (Some frame) = record { format = old.format; rest = [] }
 after_call old chunk None = record { format = old.format; rest = taken_at (front_of old.format (old.rest ++ chunk)) (old.rest ++ chunk) }
 
--- the octets of a frame that is lent, if one is
+-- the octets of the returned frame, if there is one
 abbrev pub lent_octets : Option (Bor (List ℕ)) → Option (List ℕ)
 lent_octets None = None
 lent_octets (Some octets) = Some octets.now
 
--- the framer is stuck: the octets that it holds state a length below the least length of a frame
+-- the framer is stuck: the octets that it took after the last frame state a length below the least
+-- length of a frame
 abbrev pub IsStuck : TcFraming → Type 0
 IsStuck f = front_of f.format f.rest ≡ BelowLeast
 
--- The state after a call with this chunk and this answer. A framer that is stuck doesn't change any more.
+-- The state after a call with this chunk and this answer. A framer that is stuck stays as it was.
 pub record HasTaken (old : TcFraming) (chunk : List ℕ) (answer : Option (Bor (List ℕ))) (new : TcFraming) : Type 0 where
   pub after : new ≡ after_call old chunk (lent_octets answer)
   pub stuck : IsStuck old → new ≡ old
 
--- The answer and what is left of the chunk: a frame is lent, which is one by its frame length field, or no frame is
--- whole.
+-- The answer of a call, and what is left of the chunk. The answer is a frame, which is one by its
+-- frame length field, or no frame is whole.
 abbrev pub Answers : TcFraming → List ℕ → Option (Bor (List ℕ)) → List ℕ → Type 0
 Answers old chunk None left = YieldsNone old chunk left
 Answers old chunk (Some frame) left = YieldsFrame old chunk frame.now left × (is_cut old.format frame.now ≡ true)
 
--- A framer that is stuck takes no octet and lends no frame.
+-- A framer that is stuck takes no octet and returns no frame.
 abbrev pub StaysStuck : TcFraming → List ℕ → Option (Bor (List ℕ)) → List ℕ → Type 0
 StaysStuck old chunk answer left = IsStuck old → (left ≡ chunk) × IsNone answer
 
--- octets begin with a whole frame, and these octets come after it
+-- The octets begin with this whole frame, and these octets come after it.
 pub record BeginsWithFrame (format : TcFormat) (octets frame later : List ℕ) : Type 0 where
   pub parts : octets ≡ frame ++ later
   pub whole : front_of format octets ≡ WholeFrame (length frame)
   pub cut : is_cut format frame ≡ true
 
--- Octets are taken until a frame is whole, or no frame is whole.
+-- Octets of the chunk are taken after the `old` ones. With `true` they are taken up to the end of a
+-- frame, and `new` is this frame. With `false` no frame is whole, and `new` are the octets that a
+-- framer then holds. `left` is what is left of the chunk.
 abbrev pub TakesUpToFrame : TcFormat → List ℕ → List ℕ → Bool → List ℕ → List ℕ → Type 0
 TakesUpToFrame format old chunk true new left =
     (old ++ chunk ≡ new ++ left) × (front_of format (old ++ chunk) ≡ WholeFrame (length new)) × (is_cut format new ≡ true)
@@ -135,23 +146,28 @@ TakesUpToFrame format old chunk false new left =
 
 -- ---- calls with chunks, one after another
 
--- Each chunk is given until no frame is yielded, and then the next one. These frames are yielded, this state is left,
--- and the octets `behind` of the chunks aren't taken.
+-- Each chunk is given until the framer yields no frame, and then the next chunk. The framer yields
+-- these frames and is left in the state `new`. The octets `behind` are those of the chunks that the
+-- framer didn't take, end to end.
 pub data YieldsFrames : TcFraming → List (List ℕ) → List (List ℕ) → TcFraming → List ℕ → Type 0 where
+  -- no chunk is left
   ended : (f : TcFraming) → YieldsFrames f [] [] f []
+  -- a call yields a frame, and what is left of the chunk is given next
   yielded : (f new : TcFraming) (chunk frame left behind : List ℕ) (chunks frames : List (List ℕ)) → YieldsFrame f chunk frame left
       → YieldsFrames (after_call f chunk (Some frame)) (left ∷ chunks) frames new behind → YieldsFrames f (chunk ∷ chunks) (frame ∷ frames) new behind
+  -- a call yields no frame, what is left of the chunk isn't taken, and the next chunk is given
   paused : (f new : TcFraming) (chunk left behind : List ℕ) (chunks frames : List (List ℕ)) → YieldsNone f chunk left
       → YieldsFrames (after_call f chunk None) chunks frames new behind → YieldsFrames f (chunk ∷ chunks) frames new (left ++ behind)
 
 -- ---- laws
 
--- Octets begin with a frame of this many octets, by its frame length field.
+-- Octets begin with a frame of `len` octets, by its frame length field.
 abbrev pub BeginsWith : TcFormat → List ℕ → ℕ → Type 0
 BeginsWith format octets len =
     (frame : List ℕ) × (later : List ℕ) × (octets ≡ frame ++ later) × (is_cut format frame ≡ true) × (length frame ≡ len)
 
--- The front of octets is a whole frame exactly where the octets begin with a frame.
+-- The front of octets is a whole frame of `len` octets exactly where the octets begin with a frame
+-- of this length.
 abbrev pub FrontsAreFrames : Type 0
 FrontsAreFrames =
     (format : TcFormat) (octets : List ℕ) (len : ℕ) → IsOctets octets → (front_of format octets ≡ WholeFrame len) ↔ BeginsWith format octets len
@@ -162,21 +178,22 @@ NoneFollowsBelowLeast =
     (format : TcFormat) (octets more : List ℕ) (len : ℕ) → IsOctets (octets ++ more) → front_of format octets ≡ BelowLeast
     → BeginsWith format (octets ++ more) len → ⊥
 
--- The frames that are yielded are those of the recording, which is the chunks end to end. The remainder is the octets
--- that are held, and then the octets that weren't taken.
+-- The recording is the chunks end to end. The frames that the framer yields are the recording's
+-- frames. The remainder is the octets that the framer holds at the end, and then those that it
+-- didn't take.
 abbrev pub ChunksAreDelimited : Type 0
 ChunksAreDelimited =
     (format : TcFormat) (chunks frames : List (List ℕ)) (new : TcFraming) (behind : List ℕ) → IsOctets (concat chunks)
     → YieldsFrames (at_start format) chunks frames new behind
     → IsTcDelimited format (concat chunks) frames (new.rest ++ behind)
 
--- Octets with an incomplete front become a frame with some octets after them.
+-- Octets with an incomplete front become a whole frame with some octets after them.
 abbrev pub IncompleteBecomesFrame : Type 0
 IncompleteBecomesFrame =
     (format : TcFormat) (octets : List ℕ) → IsOctets octets → front_of format octets ≡ Incomplete
     → (more : List ℕ) × IsOctets more × (front_of format (octets ++ more) ≡ WholeFrame (length (octets ++ more)))
 
--- Every list of chunks yields some frames and leaves some state.
+-- Whatever the chunks are, the framer yields some frames and is left in some state.
 abbrev pub AnyChunksAreTaken : Type 0
 AnyChunksAreTaken =
     (format : TcFormat) (chunks : List (List ℕ))

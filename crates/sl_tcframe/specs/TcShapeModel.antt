@@ -1,4 +1,4 @@
--- A `TcShape` stands for its format, which isn't refused.
+-- A `TcShape` stands for its format, whose greatest length is 16 to 1024 octets.
 use Rattle.std.specs.Prelude.{◌≤◌}
 use Rattle.sl_tcframe.specs.TcFrame.{TcFormat}
 use Rattle.sl_tcframe.specs.declared.tc_shape.TcShape.TheInside.{Inside}

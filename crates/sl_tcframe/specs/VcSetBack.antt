@@ -1,6 +1,6 @@
--- A proof that has to stand in `specs`. The Model of `VcSet` says that its flags come back from the numbers at which
--- they are set, and `inverse_ok` proves this by `flags_back`. A Model cites only the `specs` of its own crate, so
--- what `inverse_ok` needs can't stand in `proofs`.
+-- A proof that has to stand in `specs`. The Model of `VcSet` says that its flags come back from the
+-- numbers at which they are set, and `inverse_ok` proves this by `flags_back`. A Model cites only
+-- the `specs` of its own crate, so what `inverse_ok` needs can't stand in `proofs`.
 use Rattle.std.specs.Prelude.{◌≡◌, ℕ, zero, suc, ◌<◌, ◌==◌, Bool, true, false, ◌||◌, List, [], ◌∷◌, length}
 use Rattle.std.proofs.Common.{refl, sym, ap, subst, ◌∙◌}
 use Rattle.std.proofs.Math.Nat.{lt_irrefl, lt-suc_self, lt_trans}
@@ -8,11 +8,11 @@ use Rattle.std.proofs.lemmas.Bool.{eq-eqb, ne_eqb}
 use Rattle.sl_tcframe.specs.VcSet.{has_vc}
 use Rattle.sl_tcframe.specs.VcSetModel.{numbers_from, flags_from}
 
--- a number isn't equal to a greater one
+-- a number isn't equal to a greater one, `first`
 other : (vc first : ℕ) → vc < first → (vc == first) ≡ false
 other vc first low = ne_eqb vc first (λ e. lt_irrefl first (subst (λ n. n < first) e low))
 
--- a number isn't equal to a smaller one
+-- a number isn't equal to a smaller one, `first`
 other_above : (vc first : ℕ) → first < vc → (vc == first) ≡ false
 other_above vc first high = ne_eqb vc first (λ e. lt_irrefl first (subst (λ n. first < n) e high))
 
@@ -23,7 +23,7 @@ none_below first (true ∷ flags) vc low =
     ap (λ same. same || has_vc (numbers_from (suc first) flags) vc) (other vc first low) ∙ none_below (suc first) flags vc (lt_trans low (lt-suc_self first))
 none_below first (false ∷ flags) vc low = none_below (suc first) flags vc (lt_trans low (lt-suc_self first))
 
--- a number below the first one sets no flag
+-- a number below the first one sets none of these flags
 passed : (count first : ℕ) (vc : ℕ) (vcs : List ℕ) → vc < first → flags_from count first (vc ∷ vcs) ≡ flags_from count first vcs
 unfolding flags_from
 passed zero first vc vcs low = refl

@@ -1,4 +1,4 @@
-//! The TC transfer frame of type AD, as the project writes it.
+//! TC transfer frames of type AD that are written.
 ghost use Rattle.std.specs.Prelude.{◌≡◌, ◌+◌, ◌<◌, ◌≤◌, ◌++◌, length, vec_len, OnOk, OnErr};
 ghost use Rattle.std.specs.Vec.{vec_capacity};
 ghost use Rattle.sl_fields.specs.Field.{octets_of};
@@ -9,18 +9,18 @@ use crate::tc_shape::TcShape;
 use sl_fields::{SegmentHeader, TcHeader, fecf_field};
 use std::alloc::AllocError;
 
-/// Adds a TC transfer frame (CCSDS 232.0-B) of type AD to `out`. The frame's data field is the
-/// segment header `header` and then `octets`.
+/// Adds a TC transfer frame (CCSDS 232.0-B) of type AD to the end of `out`. The frame's data field
+/// is the segment header `header` and then `octets`.
 ///
 /// - `spacecraft` is 0 to 1023 and `vc` 0 to 63.
 /// - `ns` is the frame sequence number N(S), 0 to 255.
 /// - `octets` has 0 to [`TcShape::room`] octets.
 ///
-/// The frame has version 0, bypass flag 0, control command flag 0 and spare bits 0, and its error
-/// control field where the format has one.
+/// The header has version 0, bypass flag 0, control command flag 0 and spare bits 0. The frame ends
+/// with its error control field where the format has one.
 ///
-/// Memory is refused only where the capacity of `out` has no room for the frame. `out` is then as
-/// it was.
+/// Memory is refused only where the capacity of `out` has no room for the frame. The octets of
+/// `out` then stay as they were.
 pub fn push_tc(
     out: &mut Vec<u8>,
     shape: &TcShape,
@@ -39,7 +39,8 @@ pub fn push_tc(
     ensures len { OnOk result (vec_len out.new
         ≡ vec_len out.old + ad_len shape.now (1 + length octets.now)) }
 
-    // Memory is refused only where `out` had no room for the frame, and then nothing is added.
+    // Memory is refused only where `out` had no room for the frame, and then nothing is added. The
+    // capacity never shrinks.
     ensures unchanged { OnErr result (out.new.items ≡ out.old.items) }
     ensures capacity { vec_capacity out.old ≤ vec_capacity out.new }
     ensures full { OnErr result (vec_capacity out.old
@@ -55,12 +56,15 @@ pub fn push_tc(
     push_ad(out, shape, &frame)
 }
 
-/// Adds a TC transfer frame (CCSDS 232.0-B) of type AD without a segment header to `out`, for a
-/// virtual channel that has no segment headers by management. The frame's data field is `octets`, 1
-/// to [`TcShape::plain_room`] octets. `spacecraft` is 0 to 1023 and `vc` 0 to 63; `ns` is the frame
-/// sequence number N(S), 0 to 255.
+/// Adds a TC transfer frame (CCSDS 232.0-B) of type AD without a segment header to the end of
+/// `out`, for a virtual channel whose frames have no segment headers. The frame's data field is
+/// `octets`.
 ///
-/// The other parts of the frame, and what stands after a refusal, are as for [`push_tc`].
+/// - `spacecraft` is 0 to 1023 and `vc` 0 to 63.
+/// - `ns` is the frame sequence number N(S), 0 to 255.
+/// - `octets` has 1 to [`TcShape::plain_room`] octets.
+///
+/// The header, the error control field and a refusal of memory are as for [`push_tc`].
 pub fn push_tc_plain(
     out: &mut Vec<u8>,
     shape: &TcShape,
@@ -79,7 +83,8 @@ pub fn push_tc_plain(
     ensures len { OnOk result (vec_len out.new
         ≡ vec_len out.old + ad_len shape.now (length octets.now)) }
 
-    // Memory is refused only where `out` had no room for the frame, and then nothing is added.
+    // Memory is refused only where `out` had no room for the frame, and then nothing is added. The
+    // capacity never shrinks.
     ensures unchanged { OnErr result (out.new.items ≡ out.old.items) }
     ensures capacity { vec_capacity out.old ≤ vec_capacity out.new }
     ensures full { OnErr result (vec_capacity out.old
@@ -95,18 +100,19 @@ pub fn push_tc_plain(
     push_ad(out, shape, &plain)
 }
 
-// What a frame of type AD is made from: the values of its header, and its data field in two parts.
+// What a frame of type AD is made from: values of its header, and its data field in two parts.
 #[derive(Clone, Copy)]
 struct AdFrame<'a> {
     spacecraft: u16,
     vc: u8,
     ns: u8,
-    // A segment header, or nothing.
+    // The first part: a segment header, or no octet.
     segment: &'a [u8],
+    // The second part: the other octets.
     octets: &'a [u8],
 }
 
-// Adds a frame of type AD.
+// Adds a frame of type AD to the end of `out`.
 #[inline(always)]
 fn push_ad(out: &mut Vec<u8>, shape: &TcShape, frame: &AdFrame) -> Result<(), AllocError>
     requires spacecraft { frame.now.spacecraft ≤ 1023 }
@@ -120,7 +126,8 @@ fn push_ad(out: &mut Vec<u8>, shape: &TcShape, frame: &AdFrame) -> Result<(), Al
     ensures len { OnOk result (vec_len out.new ≡ vec_len out.old
         + ad_len shape.now (length frame.now.segment.now + length frame.now.octets.now)) }
 
-    // Memory is refused only where `out` had no room for the frame, and then nothing is added.
+    // Memory is refused only where `out` had no room for the frame, and then nothing is added. The
+    // capacity never shrinks.
     ensures unchanged { OnErr result (out.new.items ≡ out.old.items) }
     ensures capacity { vec_capacity out.old ≤ vec_capacity out.new }
     ensures full { OnErr result (vec_capacity out.old < vec_len out.old
@@ -146,7 +153,7 @@ fn push_ad(out: &mut Vec<u8>, shape: &TcShape, frame: &AdFrame) -> Result<(), Al
     out.extend_from_slice(&field)
 }
 
-// The octets of a frame with `unit` octets in its data field.
+// The length of a frame whose data field has `unit` octets.
 fn frame_len(shape: &TcShape, unit: usize) -> u16
     requires { unit ≤ 1 + segment_room_of shape.now }
     ensures value { result ≡ ad_len shape.now unit }
@@ -157,7 +164,7 @@ fn frame_len(shape: &TcShape, unit: usize) -> u16
     around + unit as u16
 }
 
-// The header of a frame of type AD with `len` octets.
+// The octets of the header of a frame of type AD that has `len` octets in all.
 fn frame_header(spacecraft: u16, vc: u8, ns: u8, len: u16) -> [u8; 5]
     requires spacecraft { spacecraft ≤ 1023 }
     requires vc { vc ≤ 63 }

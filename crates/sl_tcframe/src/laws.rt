@@ -8,62 +8,68 @@ ghost use Rattle.sl_tcframe.specs.TcFrame.{EachHasParts, HasPartsOnce, OnlyFrame
 ghost use Rattle.sl_tcframe.specs.TcFrame.{EachIsRead, IsReadOnce};
 ghost use Rattle.sl_tcframe.specs.VcSet.{AddedNumbersRise, ListsOnce, NumbersAreAdded};
 
-/// Octets that are one frame by their frame length field have the parts of a TC frame, in one way.
-/// No other octets have these parts.
+/// Octets that are one frame by their frame length field are divided into the parts of a TC frame,
+/// in exactly one way: the primary header, the data field and the frame error control field. No
+/// other octets have these parts.
 pub fn tc_frames_have_parts()
     ensures each { EachHasParts }
     ensures once { HasPartsOnce }
     ensures only { OnlyFramesHaveParts }
 {}
 
-/// A frame is skipped for the first reason that holds. Where no reason holds, the frame has one
-/// content.
+/// A frame is skipped for the first reason that holds. Where no reason holds, the frame is read,
+/// and has exactly one content.
 pub fn tc_frames_are_read()
     ensures each { EachIsRead }
     ensures once { IsReadOnce }
 {}
 
-/// Every list of octets is a recording: frames end to end by their frame length fields, and a
-/// remainder with which no frame begins, in one way.
+/// Every list of octets is a recording, in exactly one way: frames end to end by their frame length
+/// fields, and a remainder with which no frame begins.
 pub fn tc_recordings_are_delimited()
     ensures each { EachIsTcDelimited }
     ensures once { IsTcDelimitedOnce }
 {}
 
-/// A frame of type AD, with a segment header or without, is one frame by its frame length field,
-/// and is read back: it isn't skipped, and its virtual channel, its N(S) and its unit are those
-/// that the frame was made from.
+/// A frame of type AD that fits the format, with a segment header or without, is one frame by its
+/// frame length field. The frame is read back as it was made: it isn't skipped, and its virtual
+/// channel, its N(S) and its unit are those that it was made from.
 pub fn ad_frames_are_read_back()
     ensures whole { AdFramesAreWhole }
     ensures read_back { AdFramesAreReadBack }
 {}
 
 /// A virtual channel that is added to a set is in the set. Every other virtual channel is in the
-/// set exactly where it was before. The numbers of the set rise strictly, up to 63, as before.
+/// set exactly where it was before. The numbers of the set still rise strictly, up to 63.
 pub fn channels_are_added()
     ensures added { NumbersAreAdded }
     ensures rising { AddedNumbersRise }
 {}
 
-/// A text lists virtual channels in one way.
+/// A text lists at most one set of virtual channels.
 pub fn texts_list_channels_once()
     ensures { ListsOnce }
 {}
 
-/// The first four octets decide how far a frame has come. Octets are judged whole exactly where
-/// they begin with a frame. A stated length that is too short means that no frame begins here,
-/// whatever follows. Incomplete means that some more octets complete a frame.
+/// How far a frame at the front of octets has come: the front is a whole frame, incomplete, or a
+/// stated length below the least length of a frame.
+///
+/// - The front is a whole frame exactly where the octets begin with a frame of this length.
+/// - After a stated length below the least no frame begins here, whatever octets follow.
+/// - An incomplete front becomes a frame with some octets more.
 pub fn tc_fronts_tell_frames()
     ensures whole { FrontsAreFrames }
     ensures below { NoneFollowsBelowLeast }
     ensures incomplete { IncompleteBecomesFrame }
 {}
 
-/// A framer that is given a recording in chunks delimits the recording. Each chunk is given until
-/// the framer yields no frame, and any division into chunks will do. The frames that the framer
-/// yields are the recording's frames. The remainder is the octets that were taken after the last
-/// frame, and then the octets that weren't taken, because they come after a stated length below the
-/// least length of a frame.
+/// A framer that is given a recording in chunks delimits the recording, whatever the chunks are.
+/// Each chunk is given until the framer yields no frame, and then the next chunk. The frames that
+/// the framer yields are the recording's frames.
+///
+/// The remainder of the recording is the octets that were taken after the last frame, and then the
+/// octets that weren't taken. The only octets that aren't taken come after a stated length below
+/// the least length of a frame.
 pub fn tc_chunks_are_delimited()
     ensures any { AnyChunksAreTaken }
     ensures delimited { ChunksAreDelimited }

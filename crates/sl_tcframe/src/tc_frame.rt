@@ -11,15 +11,16 @@ use std::marker::Model;
 /// Why a TC transfer frame is skipped: the first of these reasons that holds.
 #[derive(Clone, Copy, Debug, PartialEq, Eq)]
 pub enum TcSkip {
-    /// Frames have a frame error control field, and this frame's is wrong.
+    /// The format has a frame error control field, and the field of this frame is wrong.
     Fecf,
     /// The transfer frame version number isn't 0.
     Version,
-    /// The frame is of another spacecraft.
+    /// The spacecraft identifier isn't the one that frames are read for.
     Spacecraft,
     /// The frame has more octets than [`TcShape::max`].
     Long,
-    /// The control command flag is 1 and the bypass flag is 0, which is no type of frame.
+    /// The control command flag is 1 and the bypass flag is 0: the frame is of none of the types
+    /// AD, BD and BC.
     Kind,
     /// The frame has no data field.
     Empty,
@@ -27,21 +28,21 @@ pub enum TcSkip {
     Command,
 }
 
-/// The content of a TC transfer frame (CCSDS 232.0-B).
+/// The content of a TC transfer frame (CCSDS 232.0-B), by the type of the frame.
 #[derive(Clone, Copy, Debug, PartialEq, Eq)]
 pub enum TcContent<'a> {
-    /// The unit of a frame of type AD, which the acceptance checks of FARM-1 apply to.
+    /// The unit of a frame of type AD. The acceptance checks of FARM-1 apply to the frame.
     Ad {
         /// Frame sequence number N(S), 0 to 255.
         ns: u8,
-        /// The data field, 1 to 1019 octets: a segment header and the octets of the segment, or
-        /// only these octets where the virtual channel has no segment headers.
+        /// The whole data field, 1 to 1019 octets. The unit begins with a segment header, except on
+        /// a virtual channel without segment headers.
         unit: &'a [u8],
     },
-    /// The unit of a frame of type BD, which bypasses the acceptance checks.
+    /// The unit of a frame of type BD. The frame bypasses the acceptance checks.
     Bd {
-        /// The data field, 1 to 1019 octets: a segment header and the octets of the segment, or
-        /// only these octets where the virtual channel has no segment headers.
+        /// The whole data field, 1 to 1019 octets. The unit begins with a segment header, except on
+        /// a virtual channel without segment headers.
         unit: &'a [u8],
     },
     /// The control command Unlock, in a frame of type BC.
@@ -50,7 +51,8 @@ pub enum TcContent<'a> {
     SetVr(u8),
 }
 
-/// A TC transfer frame of CCSDS 232.0-B that wasn't skipped: its virtual channel and its content.
+/// A TC transfer frame of CCSDS 232.0-B that was read, and so not skipped: its virtual channel and
+/// its content.
 #[derive(Debug, Drop)]
 pub struct TcFrame<'a> {
     vc: u8,
@@ -73,11 +75,12 @@ impl<'a> TcFrame<'a> {
     ghost use Rattle.sl_tcframe.specs.TcFrame.{tc_frame};
 
     /// Reads a frame of this format and spacecraft, or answers why the frame is skipped. `octets`
-    /// are one frame by their frame length field, as [`TcShape::is_cut`] tests. The unit is
-    /// borrowed from `octets`.
+    /// are one frame by their frame length field, as [`TcShape::is_cut`] tests. Every frame is
+    /// skipped for a `spacecraft` above 1023, which no header holds. The unit is borrowed from
+    /// `octets`.
     ///
-    /// The spare bits of the header, and N(S) of types BD and BC, are not looked at, by this
-    /// project's choice.
+    /// The spare bits of the header, and N(S) of types BD and BC, are ignored, by this project's
+    /// choice.
     #[inline(always)]
     pub fn read(shape: &TcShape, spacecraft: u16, octets: &'a [u8]) -> Result<TcFrame<'a>, TcSkip>
         requires cut { is_cut shape.now octets.now ≡ true }
@@ -105,7 +108,8 @@ impl<'a> TcFrame<'a> {
         self.vc
     }
 
-    /// The content of the frame. A unit has 1 to 1019 octets.
+    /// The content of the frame. A unit has 1 to 1019 octets, and is borrowed from the octets that
+    /// the frame was read from.
     pub fn content(&self) -> TcContent<'a>
         ensures value { content result ≡ self.now.content }
         ensures inside { IsContent (content result) }
@@ -114,7 +118,7 @@ impl<'a> TcFrame<'a> {
     }
 }
 
-// The primary header and the octets after it.
+// Splits the octets of a frame after the primary header, which is read.
 #[inline(always)]
 fn split_header(octets: &[u8]) -> (TcHeader, &[u8])
     requires { 5 ≤ length octets.now }
@@ -125,7 +129,8 @@ fn split_header(octets: &[u8]) -> (TcHeader, &[u8])
     (TcHeader::read(header), behind)
 }
 
-// The first reason to skip the octets of a frame under this header, apart from `Command`.
+// The first reason, if there is one, to skip the frame that these octets are. `header` is the
+// frame's header. The last reason, `Command`, is left to the caller.
 #[inline(always)]
 fn early_skip_of(
     shape: &TcShape,
@@ -158,10 +163,12 @@ fn early_skip_of(
     None
 }
 
-// The content of a data field under this header, if it has one.
+// The content of a data field under this header. `None` where the data field has no content of the
+// header's type.
 #[inline(always)]
 fn content_under<'a>(header: &TcHeader, field: &'a [u8]) -> Option<TcContent<'a>>
     requires { length field.now ≤ 1019 }
+    // The content is the one that the specification gives, and a unit has 1 to 1019 octets.
     ensures value { option_map content result ≡ content_of header.now field.now }
     ensures inside { IfSome result (λ c. IsContent (content c)) }
 {
@@ -183,7 +190,7 @@ fn content_under<'a>(header: &TcHeader, field: &'a [u8]) -> Option<TcContent<'a>
     }
 }
 
-// The control command that a data field is.
+// The control command in a data field. `None` where the data field is neither Unlock nor Set V(R).
 fn control_command(field: &[u8]) -> Option<TcContent<'static>>
     ensures { option_map content result ≡ command_of field.now }
 {

@@ -13,11 +13,15 @@ use sl_fields::TcHeader;
 use std::marker::Model;
 
 /// Takes the octets of a recording in chunks, and returns each TC transfer frame (CCSDS 232.0-B)
-/// that the octets complete. The framer keeps one frame at most, 1024 octets, and takes no memory.
+/// that the octets complete. The framer holds at most 1024 octets, the longest frame, and allocates
+/// no memory.
 #[derive(Drop)]
 pub struct TcFramer {
     shape: TcShape,
+    // Whether `taken` is the frame that the last call returned. The next call clears `taken` then.
     is_lent: bool,
+    // The octets that were taken after the last frame, or where `is_lent` is set, the octets of
+    // that frame.
     taken: ArrayVec<u8, 1024>,
 }
 
@@ -36,7 +40,7 @@ impl TcFramer {
     ghost use Rattle.sl_tcframe.specs.TcFraming.{YieldsFrame, YieldsNone, at_start};
     ghost use Rattle.sl_tcframe.specs.contracts.tc_framer.TcFramer.{the_row};
 
-    /// A framer for frames of this format that has taken no octet yet.
+    /// A framer for frames of this format. No octet is taken yet.
     pub fn new(shape: &TcShape) -> TcFramer
         ensures { result ≡ at_start shape.now }
     {
@@ -47,8 +51,8 @@ impl TcFramer {
         }
     }
 
-    /// The octets that were taken after the last frame: fewer than a frame needs, or exactly four
-    /// octets that state a length below [`TcShape::least`].
+    /// The octets that were taken after the last frame. There are fewer than a frame needs, or
+    /// exactly four that state a length below [`TcShape::least`].
     pub fn rest(&self) -> &[u8]
         ensures octets { result.now ≡ self.now.rest }
         ensures part { IsRest self.now.format result.now }
@@ -59,9 +63,9 @@ impl TcFramer {
         self.taken.as_slice()
     }
 
-    /// Whether the octets in [`rest`](TcFramer::rest) state a length below [`TcShape::least`]. The
-    /// framer then takes no more octets and returns no more frames. This end of a recording is the
-    /// project's choice.
+    /// Whether the octets in [`rest`](TcFramer::rest) state a length below [`TcShape::least`]. A
+    /// framer that is stuck takes no more octets and returns no more frames. By this project's
+    /// choice such a length ends a recording's frames, and no frame is searched for after it.
     pub fn stuck(&self) -> bool
         ensures { IsTrue result ↔ IsStuck self.now }
     {
@@ -72,21 +76,30 @@ impl TcFramer {
     }
 
     /// Takes octets from the front of the chunk `piece`, and returns the frame that they complete
-    /// together with the octets that were taken before. `piece` is left with the octets after the
-    /// frame. A frame is returned also where it is longer than [`TcShape::max`].
+    /// together with the octets that were taken before. `piece` then holds the octets after the
+    /// frame. The frame is one by its frame length field, and may be longer than [`TcShape::max`].
     ///
-    /// `None` comes where the chunk is used up before a frame is complete, and where four octets
-    /// state a length below [`TcShape::least`]. After these four octets the framer takes none, in
-    /// this call and in every later one.
+    /// `None` comes in two cases:
+    ///
+    /// - The chunk is used up before a frame is complete.
+    /// - The first four octets after the last frame state a length below [`TcShape::least`].
+    ///   `piece` then holds the octets after these four, and the framer takes no octet in any later
+    ///   call.
     pub fn next(&mut self, piece: &mut &[u8]) -> Option<&[u8]>
+        // The state of the framer once the returned frame is no longer borrowed.
         ensures* taken { sem 𝓛 (Rests the_row self.entry (HasTaken self.old piece.old.now result)) }
+
         // A frame has the octets that were taken after the last frame, and then octets from the
         // front of the chunk.
         ensures frame { IfSome result (λ frame.
             YieldsFrame self.old piece.old.now frame.now piece.new.now) }
         ensures cut { IfSome result (λ frame. is_cut self.old.format frame.now ≡ true) }
+
+        // `None` means that no frame is whole. What is left of the chunk is nothing, or what comes
+        // after four octets that state a length below the least.
         ensures none { IfNone result (YieldsNone self.old piece.old.now piece.new.now) }
-        // Once the framer is stuck, it stays so, whatever comes.
+
+        // A framer that is stuck takes no octet and returns no frame.
         ensures stuck { StaysStuck self.old piece.old.now result piece.new.now }
     {
         if self.is_lent {
@@ -100,13 +113,14 @@ impl TcFramer {
         Some(self.taken.as_slice())
     }
 
-    /// As [`next`](TcFramer::next), with the same clauses, for a chunk that outlives the frame.
+    /// As [`next`](TcFramer::next), for a chunk that outlives the frame.
     ///
-    /// By reading, a frame that lies whole in the chunk is returned as a slice of the chunk, and
-    /// only a frame that lies in several chunks is copied. No clause says where the octets of a
-    /// frame lie.
+    /// A frame that lies whole in the chunk is returned as a slice of the chunk, where no octets
+    /// were taken after the last frame. Only other frames are copied. The code shows this; no
+    /// clause says where the octets of a frame lie.
     #[inline]
     pub fn next_from<'a, 'p: 'a>(&'a mut self, piece: &mut &'p [u8]) -> Option<&'a [u8]>
+        // The clauses are those of `next`.
         ensures* taken { sem 𝓛 (Rests the_row self.entry (HasTaken self.old piece.old.now result)) }
         ensures frame { IfSome result (λ frame.
             YieldsFrame self.old piece.old.now frame.now piece.new.now) }
@@ -114,7 +128,8 @@ impl TcFramer {
         ensures none { IfNone result (YieldsNone self.old piece.old.now piece.new.now) }
         ensures stuck { StaysStuck self.old piece.old.now result piece.new.now }
     {
-        // The caller's own reference isn't lent to the cold call, so it may stay in registers.
+        // `next_across` borrows a copy of the caller's reference to the chunk. So the caller's own
+        // reference may stay in a register.
         let mut octets: &'p [u8] = *piece;
         if self.rest().is_empty() {
             if let Some((frame, later)) = split_frame(&self.shape, octets) {
@@ -127,7 +142,8 @@ impl TcFramer {
         frame
     }
 
-    // Returns a frame that lies in several chunks, if one is complete.
+    // As `next`, where `next_from` finds no whole frame in the chunk alone. Such calls are expected
+    // to be rare.
     #[cold]
     fn next_across(&mut self, piece: &mut &[u8]) -> Option<&[u8]>
         ensures* taken { sem 𝓛 (Rests the_row self.entry (HasTaken self.old piece.old.now result)) }
@@ -138,7 +154,8 @@ impl TcFramer {
     }
 }
 
-// Splits octets after the whole frame at their front, if there is one.
+// The whole frame at the front of the octets and the octets after it. `None` where no frame is
+// whole.
 #[inline]
 fn split_frame<'p>(shape: &TcShape, octets: &'p [u8]) -> Option<(&'p [u8], &'p [u8])>
     ensures { IfSome result (λ parts.
@@ -151,12 +168,15 @@ fn split_frame<'p>(shape: &TcShape, octets: &'p [u8]) -> Option<(&'p [u8], &'p [
     Some(octets.split_at(len))
 }
 
-// Takes octets from the front of the chunk until a frame is whole. Answers whether a frame is
-// whole.
+// Takes octets from the front of the chunk until a frame is whole, the chunk is used up, or four
+// octets state a length below the least. Answers whether a frame is whole.
 fn complete(shape: &TcShape, taken: &mut ArrayVec<u8, 1024>, chunk: &mut &[u8]) -> bool
     requires { IsRest shape.now taken.old.items }
+    // The octets that are taken, and those that are left of the chunk.
     ensures taken { TakesUpToFrame shape.now
         taken.old.items chunk.old.now result taken.new.items chunk.new.now }
+
+    // Nothing is taken after a stated length below the least.
     ensures stuck { front_of shape.now taken.old.items ≡ BelowLeast
         → (result ≡ false) × (taken.new.items ≡ taken.old.items) × (chunk.new.now ≡ chunk.old.now) }
 {
@@ -172,7 +192,7 @@ fn complete(shape: &TcShape, taken: &mut ArrayVec<u8, 1024>, chunk: &mut &[u8]) 
     is_whole(taken.as_slice(), len)
 }
 
-// Whether there are as many octets as the first four state.
+// Whether there are at least `len` octets, the length that the first four state.
 fn is_whole(octets: &[u8], len: usize) -> bool
     requires stated { len ≡ len_by_four octets.now }
     requires header { 5 ≤ len }
@@ -183,7 +203,8 @@ fn is_whole(octets: &[u8], len: usize) -> bool
     octets.len() >= len
 }
 
-// The length of the frame that begins here, where there are four octets to state it.
+// The length of the frame that begins here, as the first four octets state it. `None` where there
+// are fewer than four octets.
 fn len_by_four(octets: &[u8]) -> Option<usize>
     ensures value { result
         ≡ (if nat_lt (length octets.now) 4 then None else Some (len_by_four octets.now)) }
@@ -194,7 +215,8 @@ fn len_by_four(octets: &[u8]) -> Option<usize>
     Some(usize::from(header.length()) + 1)
 }
 
-// Takes octets from the front of the chunk until `count` octets were taken, or none is left.
+// Takes octets from the front of the chunk until `taken` has `count` octets, or the chunk is used
+// up. Takes none where `taken` has more already.
 fn fill(taken: &mut ArrayVec<u8, 1024>, chunk: &mut &[u8], count: usize)
     requires { count ≤ 1024 }
     ensures taken { taken.new.items

@@ -45,7 +45,7 @@ impl TcShape {
         Ok(TcShape { max, fecf })
     }
 
-    /// The octets of a frame at most, 16 to 1024.
+    /// The greatest length of a frame in octets, 16 to 1024.
     pub fn max(&self) -> u16
         ensures value { result ≡ self.now.max }
         ensures least { 16 ≤ result }
@@ -61,7 +61,8 @@ impl TcShape {
         self.fecf
     }
 
-    /// The octets of a frame at least: 7 with a frame error control field, and 5 without.
+    /// The least length of a frame in octets, that of a frame without a data field: 7 with a frame
+    /// error control field, and 5 without.
     pub fn least(&self) -> u16
         ensures value { result ≡ least_of self.now }
         ensures most { result ≤ 7 }
@@ -69,7 +70,7 @@ impl TcShape {
         if self.fecf { 7 } else { 5 }
     }
 
-    /// The octets of a segment at most, after its segment header: 8 to 1018.
+    /// The greatest number of octets that a frame carries after a segment header, 8 to 1018.
     pub fn room(&self) -> u16
         ensures value { result ≡ segment_room_of self.now }
         ensures least { 8 ≤ result }
@@ -82,8 +83,8 @@ impl TcShape {
         }
     }
 
-    /// The octets of a data field at most: 9 to 1019. A frame without a segment header carries this
-    /// many octets at most.
+    /// The greatest length of a data field in octets, 9 to 1019. A frame without a segment header
+    /// carries at most this number of octets.
     pub fn plain_room(&self) -> u16
         ensures value { result ≡ plain_room_of self.now }
         ensures least { 9 ≤ result }
@@ -92,9 +93,9 @@ impl TcShape {
         self.room() + 1
     }
 
-    /// Whether the octets are one frame by their frame length field: they are at least
-    /// [`least`](TcShape::least) octets, and exactly as many as the field states. They may be more
-    /// than [`max`](TcShape::max).
+    /// Whether the octets are one frame by their frame length field, and so may be read: there are
+    /// at least [`least`](TcShape::least) of them, and exactly as many as the field states. There
+    /// may be more than [`max`](TcShape::max).
     pub fn is_cut(&self, octets: &[u8]) -> bool
         ensures { result ≡ is_cut self.now octets.now }
     {

@@ -6,7 +6,8 @@ ghost use Rattle.sl_tcframe.specs.VcSet.{AreRising, Lists, has_vc, with_vc};
 use sl_fields::read_decimal;
 use std::marker::Model;
 
-/// A set of TC virtual channels of CCSDS 232.0-B, by their identifiers, 0 to 63.
+/// A set of TC virtual channels of CCSDS 232.0-B, by their identifiers, 0 to 63. In clauses a set
+/// is the list of its identifiers, which rise strictly.
 #[derive(Clone, Copy, Debug, PartialEq, Eq)]
 pub struct VcSet {
     flags: [bool; 64],
@@ -40,7 +41,8 @@ impl VcSet {
         VcSet { flags: [false; 64] }
     }
 
-    /// The set with the virtual channel `vc`, 0 to 63, added.
+    /// The set with the virtual channel `vc`, 0 to 63, added. A set that has `vc` already stays the
+    /// same.
     pub fn with(&self, vc: u8) -> VcSet
         requires { vc ≤ 63 }
         ensures value { result ≡ with_vc self.now vc }
@@ -60,19 +62,23 @@ impl VcSet {
         self.flags[usize::from(vc)]
     }
 
-    /// Reads the set that the text lists: one or more virtual channels, 0 to 63, in decimal without
-    /// leading zeros, which rise strictly and are joined by single commas. `None` for any other
-    /// text, also for the empty one.
+    /// Reads the set that the text lists: one or more virtual channels, 0 to 63, which rise
+    /// strictly, in decimal without leading zeros and joined by single commas, as `0,5,63`. This
+    /// form is this project's choice. `None` for any other text, also for the empty text.
     pub fn read(text: &str) -> Option<VcSet>
+        // The text lists the set that is read, and each set that the text lists is read.
         ensures listed { IfSome result (λ vcs. Lists 0 text.now vcs) }
         ensures every { (vcs : List ℕ) → Lists 0 text.now vcs → result ≡ Some vcs }
+
+        // The numbers of the set are 0 to 63 and rise strictly.
         ensures numbers { IfSome result (AreRising 0) }
     {
         read_from(text, 0)
     }
 }
 
-// Reads the set that the text lists. Its virtual channels are `least` or above.
+// Reads the set that the text lists, with virtual channels from `least` to 63. `None` where the
+// text lists no such set.
 fn read_from(text: &str, least: u8) -> Option<VcSet>
     ensures listed { IfSome result (λ vcs. Lists least text.now vcs) }
     ensures every { (vcs : List ℕ) → Lists least text.now vcs → result ≡ Some vcs }
@@ -90,7 +96,8 @@ fn read_from(text: &str, least: u8) -> Option<VcSet>
     }
 }
 
-// Reads a virtual channel, `least` to 63, from decimal text.
+// Reads a virtual channel, `least` to 63, in decimal without leading zeros. `None` for any other
+// text.
 fn read_vc(text: &str, least: u8) -> Option<u8>
     ensures number { IfSome result (λ vc. (least ≤ vc) × (vc ≤ 63) × (text.now ≡ decimal vc)) }
     ensures every { (vc : ℕ) → least ≤ vc → vc ≤ 63 → text.now ≡ decimal vc → result ≡ Some vc }

@@ -1,5 +1,7 @@
--- Anomalies at the next frame of a virtual channel, CCSDS 132.0-B: a gap in the virtual channel frame counts before
--- it, an incomplete packet that it breaks off, and octets of another packet version than 0 at a packet start.
+-- Anomalies at the next frame of a virtual channel, CCSDS 132.0-B: a gap in the virtual channel
+-- frame counts before the frame, an incomplete packet that the frame breaks off, and octets of
+-- another packet version than 0 at a packet start of the frame. A law whose name says "told" is on
+-- what the extractor reports.
 use Rattle.std.specs.Prelude.{◌≡◌, ◌≢◌, ℕ, ◌+◌, ◌%◌, ◌<◌, ◌≤◌, Bool, true, false, if◌then◌else◌, List, [], ◌∷◌, ◌++◌, length, drop, Option, None, Some}
 use Rattle.std.specs.List.{AllByRecursion, concat, flat_map, list_any}
 use Rattle.sl_packet.specs.Front.{is_foreign}
@@ -13,8 +15,8 @@ use Rattle.sl_tmflow.specs.PacketStart.{IsStart, starts_of}
 
 -- ---- gaps
 
--- The virtual channel frame count of the next frame isn't the expected one, which follows the count of the last
--- frame.
+-- The virtual channel frame count of the next frame isn't the expected one, which is the count of
+-- the channel's last frame plus 1, modulo 256.
 pub record IsGap (channel : List TmView) (next : TmView) (expected : ℕ) : Type 0 where
   pub earlier : List TmView
   pub last : TmView
@@ -22,7 +24,8 @@ pub record IsGap (channel : List TmView) (next : TmView) (expected : ℕ) : Type
   pub broken : is_consecutive last next ≡ false
   pub value : expected ≡ (last.vc_count + 1) % 256
 
--- the count that was expected after the last one, where this one is another
+-- the count that was expected after the last one, where `count` is another; none before the first
+-- frame
 abbrev pub gap_after : Option ℕ → ℕ → Option ℕ
 gap_after None count = None
 gap_after (Some last) count = if follows last count then None else Some ((last + 1) % 256)
@@ -33,8 +36,8 @@ gap_of channel next = gap_after (last_count channel) next.vc_count
 
 -- ---- packets that are broken off
 
--- A packet is broken off: it is incomplete after the channel's last frame, with these octets so far, and after the
--- next frame it isn't incomplete and wasn't delivered with this frame.
+-- A packet is broken off: it is incomplete after the channel's last frame, with these octets so
+-- far, and after the next frame it is neither incomplete nor delivered in this frame.
 pub record IsBrokenOff (channel : List TmView) (next : TmView) (octets : List ℕ) : Type 0 where
   pub frame : ℕ
   pub start : ℕ
@@ -43,8 +46,8 @@ pub record IsBrokenOff (channel : List TmView) (next : TmView) (octets : List �
   pub not_delivered :
       (d : Delivery) → IsDelivery (channel ++ next ∷ []) d → d.frame ≡ frame → d.start ≡ start → d.ending ≡ length channel → ⊥
 
--- the octets so far of the broken-off packet of a packet start, by the start's outcome before the next frame and
--- after it
+-- the octets so far of the packet of a packet start, if the next frame breaks this packet off: by
+-- the outcome of the packet start without the next frame, and with it
 abbrev pub broken_octets : Outcome → Outcome → List (List ℕ)
 broken_octets (Completes packet passed) after = []
 broken_octets (StillIncomplete octets) (Completes packet passed) = []
@@ -52,19 +55,20 @@ broken_octets (StillIncomplete octets) (StillIncomplete later) = []
 broken_octets (StillIncomplete octets) Undelivered = octets ∷ []
 broken_octets Undelivered after = []
 
--- the broken-off packets of the packet starts of a frame, where the frames `later` and then the next one come after
--- it
+-- the packets that start in the frame `view` and are broken off by the frame `next`, where the
+-- frames `later` come between these two
 abbrev pub frame_broken : TmView → List TmView → TmView → List (List ℕ)
 frame_broken view later next =
     flat_map (λ start. broken_octets (outcome_of view (drop start (packet_data view)) later) (outcome_of view (drop start (packet_data view)) (later ++ next ∷ [])))
     (starts_of view.field)
 
--- the broken-off packets of a channel, by the frames and then the starts of the packets
+-- the packets of a channel that the next frame breaks off, each by its octets so far, in order of
+-- frame and packet start
 abbrev pub broken_off : List TmView → TmView → List (List ℕ)
 broken_off [] next = []
 broken_off (view ∷ later) next = frame_broken view later next ++ broken_off later next
 
--- how many octets so far the broken-off packets have
+-- how many octets so far the packets have that the next frame breaks off
 abbrev pub dropped_of : List TmView → TmView → ℕ
 dropped_of channel next = length (concat (broken_off channel next))
 
@@ -79,7 +83,7 @@ pub record HasForeignStart (field : DataField) : Type 0 where
   pub is_start : IsStart octets first start
   pub version : version_of (drop start octets) ≢ 0
 
--- whether octets of another version than 0 stand at a packet start of the data field
+-- the test whether octets of another version than 0 stand at a packet start of the data field
 abbrev pub foreign_of : DataField → Bool
 foreign_of field = list_any (λ start. is_foreign (drop start (data_of field))) (starts_of field)
 

@@ -1,4 +1,4 @@
--- The normal form of packets is a recording that delivers these packets and no others.
+-- The normal form of packets, read as a recording: it delivers these packets and no others.
 use Rattle.std.specs.Prelude.{◌≡◌, ℕ, ◌≤◌, List, [], length, Ok}
 use Rattle.std.specs.List.{AllByRecursion}
 use Rattle.sl_packet.specs.Delivered.{IsDeliverable}
@@ -12,7 +12,7 @@ pub record IsFormat (format : TmFormat) : Type 0 where
   pub least : 32 ≤ format.len
   pub most : format.len ≤ 2048
 
--- lists of packets that aren't idle, one list for each virtual channel
+-- eight lists, one for each virtual channel, of packets that aren't idle
 pub record AreDeliverable (lists : List (List (List ℕ))) : Type 0 where
   pub eight : length lists ≡ 8
   pub each : AllByRecursion (AllByRecursion IsDeliverable) lists
@@ -27,7 +27,7 @@ IsNotSkipped format spacecraft frame = (view : TmView) × (tm_frame format space
 abbrev pub RecordedListsAreDeliverable : Type 0
 RecordedListsAreDeliverable = (format : TmFormat) (spacecraft : ℕ) (recording : List ℕ) → AreDeliverable (tm_lists format spacecraft recording)
 
--- The normal form is its frames end to end: no octet remains.
+-- The normal form is delimited into the frames that it was made of, and no octet remains.
 abbrev pub NormalFormIsFrames : Type 0
 NormalFormIsFrames =
     (format : TmFormat) (spacecraft : ℕ) (lists : List (List (List ℕ))) → IsFormat format → spacecraft ≤ 1023 → AreDeliverable lists

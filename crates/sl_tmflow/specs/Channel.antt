@@ -1,10 +1,11 @@
--- A virtual channel of a recording, CCSDS 132.0-B: its frames in order, and how one frame follows another.
+-- A virtual channel of a recording, CCSDS 132.0-B: its frames in order, and how one frame follows
+-- another.
 use Rattle.std.specs.Prelude.{◌≡◌, ⊤, ℕ, ◌+◌, ◌%◌, ◌==◌, Bool, true, List, [], ◌∷◌, ◌++◌, map, Option, None, Some}
 use Rattle.std.specs.Result.{result_ok}
 use Rattle.std.specs.List.{filter, filter_map, concat}
 use Rattle.sl_tmframe.specs.TmFrame.{TmFormat, TmView, DataField, Packets, Idle, Opaque, tm_frame}
 
--- the views of the frames that aren't skipped
+-- the views of those frames that aren't skipped, in order
 abbrev pub views_of : TmFormat → ℕ → List (List ℕ) → List TmView
 views_of format spacecraft frames = filter_map (λ frame. result_ok (tm_frame format spacecraft frame)) frames
 
@@ -26,7 +27,8 @@ last_count (view ∷ next ∷ later) = last_count (next ∷ later)
 abbrev pub is_consecutive : TmView → TmView → Bool
 is_consecutive view next = follows view.vc_count next.vc_count
 
--- each frame follows the frame before it, and the first one follows this frame
+-- the counts of these frames are consecutive: each frame follows the one before it, and the first
+-- one follows the frame `view`
 abbrev pub AreConsecutive : TmView → List TmView → Type 0
 AreConsecutive view [] = ⊤
 AreConsecutive view (next ∷ later) = (is_consecutive view next ≡ true) × AreConsecutive next later
@@ -41,6 +43,6 @@ data_of Opaque = []
 abbrev pub packet_data : TmView → List ℕ
 packet_data view = data_of view.field
 
--- octets, followed by the packet data of frames
+-- octets, and then the octets of packets in these frames, end to end
 abbrev pub reassembly : List ℕ → List TmView → List ℕ
 reassembly octets views = octets ++ concat (map packet_data views)

@@ -1,5 +1,6 @@
--- The state that an extractor keeps of a virtual channel of CCSDS 132.0-B, and the state after the next frame. These
--- are the code's steps, not the standard's. Only contracts of private functions cite the steps.
+-- The state that an extractor keeps of a virtual channel of CCSDS 132.0-B, and the state after the
+-- next frame. The steps from one state to the next are the code's, not the standard's, and only
+-- contracts of private functions cite them.
 use Rattle.std.specs.Prelude.{ℕ, Bool, false, List, [], ◌∷◌, ◌++◌, drop, Option, None, Some}
 use Rattle.sl_packet.specs.Front.{Front, OtherVersion, Incomplete, WholePacket, front, is_foreign}
 use Rattle.sl_packet.specs.Packets.{rest_of}
@@ -8,8 +9,8 @@ use Rattle.sl_tmflow.specs.Channel.{follows, packet_data}
 use Rattle.sl_tmflow.specs.Delivery.{Continuation, Ends, Continues, Breaks, ended, step_after}
 use Rattle.sl_tmflow.specs.PacketStart.{whole_packets}
 
--- the virtual channel frame count of the channel's last frame, and the octets so far of the packet that is incomplete
--- after it, if one is
+-- the virtual channel frame count of the channel's last frame, and the octets so far of the packet
+-- that is incomplete after it, if one is
 pub record ChannelState : Type 0 where
   pub count : Option ℕ
   pub held : List ℕ
@@ -18,7 +19,7 @@ pub record ChannelState : Type 0 where
 abbrev pub no_frame : ChannelState
 no_frame = record { count = None; held = [] }
 
--- a state, and for how many octets there is memory
+-- a state, and the number of octets that there is memory for
 pub record KeptChannel : Type 0 where
   pub state : ChannelState
   pub capacity : ℕ
@@ -27,12 +28,14 @@ pub record KeptChannel : Type 0 where
 abbrev pub new_channel : KeptChannel
 new_channel = record { state = no_frame; capacity = 0 }
 
--- what the next frame does to the octets that are held
+-- what the next frame does to the packet whose octets are held, after a frame with this count;
+-- `Breaks` where no octets are held
 abbrev pub held_step : Option ℕ → List ℕ → TmView → Continuation
 held_step None held next = Breaks
 held_step (Some count) [] next = Breaks
 held_step (Some count) (octet ∷ octets) next = step_after count (octet ∷ octets) next
 
+-- what the next frame does to the packet whose octets are held, in this state
 abbrev pub step_in : ChannelState → TmView → Continuation
 step_in state next = held_step state.count state.held next
 
@@ -41,17 +44,18 @@ abbrev pub is_after : Option ℕ → ℕ → Bool
 is_after None count = false
 is_after (Some last) count = follows last count
 
--- the octets that are held after a step, where `octets` are all octets of the packet so far
+-- the octets that are held after a step, where `octets` are all octets of the packet so far, those
+-- of the frame included
 abbrev pub kept_of : Continuation → List ℕ → List ℕ
 kept_of (Ends packet) octets = []
 kept_of Continues octets = octets
 kept_of Breaks octets = []
 
--- the octets that are held after the next frame, before the packets that start in it
+-- the octets that are held after the next frame, apart from the packets that start in the frame
 abbrev pub kept_octets : Continuation → List ℕ → TmView → List ℕ
 kept_octets step held next = kept_of step (held ++ packet_data next)
 
--- the octets of an incomplete packet that a step breaks off
+-- the octets so far of the packet that a step breaks off, and none where it breaks off none
 abbrev pub lost_of : Continuation → List ℕ → List ℕ
 lost_of (Ends packet) octets = []
 lost_of Continues octets = []
@@ -61,13 +65,14 @@ lost_of Breaks octets = octets
 abbrev pub lost_by : ChannelState → TmView → List ℕ
 lost_by state next = lost_of (step_in state next) state.held
 
--- the octets where they begin an incomplete packet, and none otherwise
+-- the octets, where their front is incomplete, and no octets otherwise
 abbrev pub incomplete_in : Front → List ℕ → List ℕ
 incomplete_in OtherVersion octets = []
 incomplete_in Incomplete octets = octets
 incomplete_in (WholePacket len) octets = []
 
--- the octets that are held after a data field, where `held` were held before the packets that start in it
+-- the octets that are held at the end of a data field: those of the packet that is incomplete
+-- there, or `held` where no packet starts in the field
 abbrev pub held_after : DataField → List ℕ → List ℕ
 held_after (Packets None octets) held = held
 held_after (Packets (Some pointer) octets) held =
@@ -75,7 +80,8 @@ held_after (Packets (Some pointer) octets) held =
 held_after Idle held = held
 held_after Opaque held = held
 
--- whether the octets after the packets that lie whole in a data field are of another version
+-- whether the octets after the packets that lie whole in a data field begin with another packet
+-- version than 0
 abbrev pub foreign_in : DataField → Bool
 foreign_in (Packets None octets) = false
 foreign_in (Packets (Some pointer) octets) = is_foreign (rest_of (drop pointer octets))

@@ -1,5 +1,5 @@
--- A `Channel` stands for the state of a virtual channel, and for how many octets it has memory. An `Extractor` stands
--- for its eight channels, and for whether a fault came.
+-- A `Channel` stands for the state of a virtual channel, and for the number of octets that it has
+-- memory for. An `Extractor` stands for its eight channels, and for whether a fault came.
 use Rattle.std.specs.Prelude.{◌≤◌, length}
 use Rattle.std.specs.Vec.{vec_capacity}
 use Rattle.sl_tmflow.specs.ChannelState.{KeptChannel}
@@ -7,12 +7,15 @@ use Rattle.sl_tmflow.specs.Extraction.{ExtractorState}
 use Rattle.sl_tmflow.specs.declared.channel.Channel.TheInside as channel
 use Rattle.sl_tmflow.specs.declared.extractor.Extractor.TheInside as extractor
 
+-- what a `Channel` stands for
 abbrev pub kept_channel : channel.Inside → KeptChannel
 kept_channel c = record { state = record { count = c.count; held = c.held.items }; capacity = vec_capacity c.held }
 
--- fewer octets are held than the longest packet has
+-- no whole packet is held between frames: the octets are fewer than the 65,542 of the longest
+-- packet
 abbrev pub HoldsNoPacket : channel.Inside → Type 0
 HoldsNoPacket c = length c.held.items ≤ 65541
 
+-- what an `Extractor` stands for
 abbrev pub extractor_state : extractor.Inside → ExtractorState
 extractor_state e = record { channels = e.channels; has_failed = e.has_failed }

@@ -1,5 +1,6 @@
--- The frames of a normal form of TM frames, read as a recording: they come in a fixed order, their counts rise by one,
--- and the packets lie end to end in their data fields. All this is this project's mission profile.
+-- The frames of a normal form, read as a recording: they come in a fixed order, their counts rise
+-- by one, and the packets lie end to end in their data fields. All of it is mission profile, which
+-- is this project's own choice.
 use Rattle.std.specs.Prelude.{◌≡◌, ℕ, ◌%◌, ◌<◌, ◌≤◌, List, [], ◌∷◌, ◌++◌, length, map, Option, None}
 use Rattle.std.specs.List.{AllByRecursion, concat, slice_index_or}
 use Rattle.sl_fields.specs.NeverFall.{NeverFall}
@@ -14,7 +15,7 @@ use Rattle.sl_tmflow.specs.Recording.{recorded_views}
 abbrev pub form_views : TmFormat → ℕ → List (List (List ℕ)) → List TmView
 form_views format spacecraft lists = recorded_views format spacecraft (normal_form format spacecraft lists)
 
--- a frame of packets without an operational control field
+-- this is a frame of packets without an operational control field
 pub record CarriesPackets (view : TmView) : Type 0 where
   pub first : Option ℕ
   pub octets : List ℕ
@@ -23,13 +24,13 @@ pub record CarriesPackets (view : TmView) : Type 0 where
 
 -- ---- laws
 
--- Each frame is of packets.
+-- Each frame is a frame of packets, and has no operational control field.
 abbrev pub EachCarriesPackets : Type 0
 EachCarriesPackets =
     (format : TmFormat) (spacecraft : ℕ) (lists : List (List (List ℕ))) → IsFormat format → spacecraft ≤ 1023 → AreDeliverable lists
     → AllByRecursion CarriesPackets (form_views format spacecraft lists)
 
--- The virtual channels of the frames never fall.
+-- From frame to frame the virtual channel identifier never falls.
 abbrev pub ChannelsNeverFall : Type 0
 ChannelsNeverFall =
     (format : TmFormat) (spacecraft : ℕ) (lists : List (List (List ℕ))) → IsFormat format → spacecraft ≤ 1023 → AreDeliverable lists
@@ -42,14 +43,16 @@ McCounts =
     → (before later : List TmView) (view : TmView) → form_views format spacecraft lists ≡ before ++ view ∷ later
     → view.mc_count ≡ length before % 256
 
--- The virtual channel frame count of each frame is the number of the channel's frames before it, modulo 256.
+-- The virtual channel frame count of each frame is the number of the channel's frames before it,
+-- modulo 256.
 abbrev pub VcCounts : Type 0
 VcCounts =
     (format : TmFormat) (spacecraft : ℕ) (lists : List (List (List ℕ))) → IsFormat format → spacecraft ≤ 1023 → AreDeliverable lists
     → (vc : ℕ) (before later : List TmView) (view : TmView) → channel_of vc (form_views format spacecraft lists) ≡ before ++ view ∷ later
     → view.vc_count ≡ length before % 256
 
--- The data fields of a virtual channel are, end to end, its packets end to end, filled up by an idle packet.
+-- The data fields of a virtual channel, end to end, are the channel's packets, end to end, filled
+-- up by an idle packet where one is needed.
 abbrev pub PacketsLieEndToEnd : Type 0
 PacketsLieEndToEnd =
     (format : TmFormat) (spacecraft : ℕ) (lists : List (List (List ℕ))) → IsFormat format → spacecraft ≤ 1023 → AreDeliverable lists

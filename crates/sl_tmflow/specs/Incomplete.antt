@@ -1,5 +1,6 @@
--- Incomplete packets of a virtual channel, CCSDS 132.0-B: they start in one of its frames and go on past the last
--- one. The first header pointer of each frame has to agree with the packet; this is the project's mission profile.
+-- Incomplete packets of a virtual channel, CCSDS 132.0-B: they start in one of its frames and go on
+-- past the last one. The first header pointer of each later frame has to agree with the packet:
+-- mission profile, which is this project's own choice.
 use Rattle.std.specs.Prelude.{◌≡◌, ◌≢◌, ℕ, ◌<◌, ◌≤◌, List, [], ◌∷◌, ◌++◌, length, drop, Option, None}
 use Rattle.std.specs.List.{AllByRecursion, concat, flat_map}
 use mathlib.Core.List.{IsPrefix}
@@ -16,8 +17,8 @@ use Rattle.sl_tmflow.specs.PacketStart.{IsStart, starts_of}
 abbrev pub HasNoStart : TmView → Type 0
 HasNoStart view = (first : Option ℕ) (field : List ℕ) → view.field ≡ Packets first field → first ≡ None
 
--- A packet that starts in a frame of the channel is incomplete after the channel's last frame, with these octets so
--- far.
+-- A packet that starts in a frame of the channel is incomplete after the channel's last frame, with
+-- these octets so far.
 pub record IsIncomplete (channel : List TmView) (octets : List ℕ) : Type 0 where
   -- the frame, and the run of later frames up to the last one
   pub before : List TmView
@@ -38,11 +39,13 @@ pub record IsIncomplete (channel : List TmView) (octets : List ℕ) : Type 0 whe
   pub consecutive : AreConsecutive view run
   -- no frame of the run is opaque
   pub none_opaque : AllByRecursion (λ next. next.field ≢ Opaque) run
-  -- the pointer of each frame of packets agrees with the packet, which covers the data field: mission profile
+  -- the pointer of each frame of packets agrees with the packet, which covers the data field:
+  -- mission profile
   pub no_start : AllByRecursion HasNoStart run
 
--- The packet that starts in the frame of this number, counted from 0, at this offset in its data field, is incomplete
--- after the channel's last frame. This record adds the two numbers alone to `IsIncomplete`.
+-- The packet that starts in the frame with this number, counted from 0 in the channel, at this
+-- offset in the frame's data field, is incomplete after the channel's last frame. To
+-- `IsIncomplete` this record adds these two numbers alone.
 pub record IsIncompleteAt (channel : List TmView) (frame start : ℕ) (octets : List ℕ) : Type 0 where
   pub incomplete : IsIncomplete channel octets
   pub in_frame : frame ≡ length incomplete.before
@@ -50,18 +53,20 @@ pub record IsIncompleteAt (channel : List TmView) (frame start : ℕ) (octets : 
 
 -- ---- the octets so far of the incomplete packets, listed
 
--- the octets so far of a packet start's packet, by the start's outcome
+-- the octets so far of the packet of a packet start, if the outcome is that the packet is still
+-- incomplete
 abbrev pub incomplete_octets : Outcome → List (List ℕ)
 incomplete_octets (Completes packet passed) = []
 incomplete_octets (StillIncomplete octets) = octets ∷ []
 incomplete_octets Undelivered = []
 
--- the incomplete packets of the packet starts of a frame, where these frames come later
+-- the incomplete packets that start in the frame `view`, where the frames `later` come after it
 abbrev pub frame_incomplete : TmView → List TmView → List (List ℕ)
 frame_incomplete view later =
     flat_map (λ start. incomplete_octets (outcome_of view (drop start (packet_data view)) later)) (starts_of view.field)
 
--- the incomplete packets of a channel, by the frames and then the starts of the packets
+-- the incomplete packets of a channel, each by its octets so far, in order of frame and packet
+-- start
 abbrev pub incomplete_of : List TmView → List (List ℕ)
 incomplete_of [] = []
 incomplete_of (view ∷ later) = frame_incomplete view later ++ incomplete_of later
@@ -76,8 +81,9 @@ EachListedIsIncomplete = (channel : List TmView) → AllByRecursion (IsIncomplet
 abbrev pub EachIncompleteIsListed : Type 0
 EachIncompleteIsListed = (channel : List TmView) (octets : List ℕ) → IsIncomplete channel octets → IsAmong octets (incomplete_of channel)
 
--- At most one packet start of a channel has a packet that is incomplete after its last frame: two of them are in the
--- same frame, at the same offset and with the same octets so far.
+-- At most one packet start of a channel has a packet that is incomplete after the channel's last
+-- frame. Any two packet starts with incomplete packets are the same one: in the same frame, at the
+-- same offset and with the same octets so far.
 abbrev pub OneStartIsIncomplete : Type 0
 OneStartIsIncomplete =
     (channel : List TmView) (frame start : ℕ) (octets : List ℕ) (other_frame other_start : ℕ) (others : List ℕ)
@@ -88,7 +94,7 @@ OneStartIsIncomplete =
 abbrev pub OneIsIncomplete : Type 0
 OneIsIncomplete = (channel : List TmView) → length (incomplete_of channel) ≤ 1
 
--- the octets of an incomplete packet: 1 to 65,541
+-- as many octets as an incomplete packet may have: 1 to 65,541
 abbrev pub IsShort : List ℕ → Type 0
 IsShort octets = (1 ≤ length octets) × (length octets ≤ 65541)
 

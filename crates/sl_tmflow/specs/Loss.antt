@@ -1,5 +1,5 @@
--- Lost frames of a virtual channel, CCSDS 132.0-B, and the packets that the kept frames deliver. A damaged frame that
--- is skipped counts as lost.
+-- Lost frames of a virtual channel, CCSDS 132.0-B, and the packets that the kept frames deliver. A
+-- frame that is skipped because it is damaged counts as lost.
 use Rattle.std.specs.Prelude.{◌≡◌, ⊤, ◌↔◌, ℕ, ◌+◌, ◌-◌, ◌<◌, ◌≤◌, ◌==◌, Bool, true, List, [], ◌∷◌, ◌++◌, length}
 use Rattle.std.specs.List.{filter, list_all, list_any, range_with_len, slice_index_or}
 use Rattle.sl_packet.specs.Packets.{without_idle}
@@ -13,7 +13,7 @@ use Rattle.sl_tmflow.specs.Sublist.{IsSublist}
 
 -- ---- which frames were kept
 
--- the element of a list with this number, counted from 0
+-- this is the element of the list with this number, counted from 0
 pub record HasNumber {X : Type 0} (all : List X) (number : ℕ) (x : X) : Type 0 where
   pub before : List X
   pub after : List X
@@ -25,26 +25,27 @@ abbrev pub HasNoGap : List TmView → Type 0
 HasNoGap [] = ⊤
 HasNoGap (view ∷ later) = AreConsecutive view later
 
--- numbers that rise from this one on, each by 256 at most
+-- these numbers rise from this one on, each by 1 to 256
 abbrev pub RiseFrom : ℕ → List ℕ → Type 0
 RiseFrom number [] = ⊤
 RiseFrom number (next ∷ later) = (number < next) × (next ≤ number + 256) × RiseFrom next later
 
--- Numbers of frames in rising order, with fewer than 256 left out in a row between two of them. After 256 the count
--- would be the expected one, as if none were missing. Any number of frames may be left out before the first one and
--- after the last.
+-- Numbers of frames in rising order, with fewer than 256 left out in a row between two of them.
+-- After 256 left out in a row, the next count would be the expected one, as if none were missing.
+-- Any number of frames may be left out before the first one and after the last.
 abbrev pub FewAreLost : List ℕ → Type 0
 FewAreLost [] = ⊤
 FewAreLost (number ∷ later) = RiseFrom number later
 
--- the frames of a channel with these numbers, in this order
+-- these are the frames of the channel with these numbers, in the same order
 abbrev pub HaveNumbers : List TmView → List ℕ → List TmView → Type 0
 HaveNumbers channel [] [] = ⊤
 HaveNumbers channel [] (view ∷ kept) = ⊥
 HaveNumbers channel (number ∷ numbers) [] = ⊥
 HaveNumbers channel (number ∷ numbers) (view ∷ kept) = HasNumber channel number view × HaveNumbers channel numbers kept
 
--- The kept frames of a channel whose frame counts have no gap: those with these numbers. All others were lost.
+-- The channel's frame counts have no gap, few frames in a row are lost, and the kept frames are
+-- those with these numbers. All other frames were lost.
 pub record AreKept (channel : List TmView) (numbers : List ℕ) (kept : List TmView) : Type 0 where
   pub no_gap : HasNoGap channel
   pub few_lost : FewAreLost numbers
@@ -52,9 +53,10 @@ pub record AreKept (channel : List TmView) (numbers : List ℕ) (kept : List TmV
 
 -- ---- the deliveries from the kept frames
 
--- A delivery from the kept frames, which have these numbers in the whole channel, is the same as one from the whole
--- channel: the same packet from the same start in the same frame, to the same frame. As many frames lie between the
--- two in the whole channel as among the kept ones, so none of them was lost.
+-- The delivery `d` from the kept frames, which have these numbers in the whole channel, is the same
+-- as the delivery `whole` from the whole channel: the same packet from the same start in the same
+-- frame, to the same frame. From the frame where the packet starts to the frame where it ends, the
+-- whole channel has as many frames as the kept ones, so no frame between them was lost.
 pub record IsSameDelivery (numbers : List ℕ) (d whole : Delivery) : Type 0 where
   pub frame : HasNumber numbers d.frame whole.frame
   pub ending : HasNumber numbers d.ending whole.ending
@@ -62,12 +64,12 @@ pub record IsSameDelivery (numbers : List ℕ) (d whole : Delivery) : Type 0 whe
   pub start : d.start ≡ whole.start
   pub packet : d.packet ≡ whole.packet
 
--- each frame of a delivery of the whole channel was kept, from the one where the packet starts to the one where it
--- ends
+-- each frame of a delivery of the whole channel was kept, from the frame where the packet starts to
+-- the frame where it ends
 abbrev pub RunIsKept : List ℕ → Delivery → Type 0
 RunIsKept numbers whole = (number : ℕ) → whole.frame ≤ number → number ≤ whole.ending → IsAmong number numbers
 
--- whether each frame of a delivery was kept
+-- the test whether each frame of a delivery of the whole channel was kept
 abbrev pub keeps_run : List ℕ → Delivery → Bool
 keeps_run numbers whole =
     list_all (λ number. list_any (λ kept. kept == number) numbers) (range_with_len whole.frame (whole.ending + 1 - whole.frame))
@@ -78,7 +80,8 @@ kept_packets numbers channel = packets_delivered (filter (keeps_run numbers) (de
 
 -- ---- laws
 
--- Each delivery from the kept frames is one from the whole channel, and none of its frames was lost.
+-- Each delivery from the kept frames is one from the whole channel, and none of its frames was
+-- lost.
 abbrev pub NoneIsNew : Type 0
 NoneIsNew =
     (channel : List TmView) (numbers : List ℕ) (kept : List TmView) (d : Delivery) → AreKept channel numbers kept
@@ -101,11 +104,12 @@ KeptRunsAreLeft =
     (channel : List TmView) (numbers : List ℕ) (kept : List TmView) (whole : Delivery) → AreKept channel numbers kept
     → IsDelivery channel whole → RunIsKept numbers whole → (d : Delivery) × IsDelivery kept d × IsSameDelivery numbers d whole
 
--- The test decides whether all frames of a delivery were kept.
+-- `keeps_run` decides whether all frames of a delivery were kept.
 abbrev pub TestTellsRun : Type 0
 TestTellsRun = (numbers : List ℕ) (whole : Delivery) → (keeps_run numbers whole ≡ true) ↔ RunIsKept numbers whole
 
--- The packets that the kept frames deliver are those of the whole channel whose frames were all kept, in their order.
+-- The packets that the kept frames deliver are those of the whole channel whose frames were all
+-- kept, in their order.
 abbrev pub PacketsAreKept : Type 0
 PacketsAreKept =
     (channel : List TmView) (numbers : List ℕ) (kept : List TmView) → AreKept channel numbers kept
@@ -117,14 +121,15 @@ PacketsAreSublist =
     (channel : List TmView) (numbers : List ℕ) (kept : List TmView) → AreKept channel numbers kept
     → IsSublist (packets_delivered (deliveries_of kept)) (packets_delivered (deliveries_of channel))
 
--- An extractor that is given the kept frames hands over the packets whose frames were all kept, idle packets left
--- out, where each call answers Ok.
+-- An extractor that is given the kept frames hands over the packets whose frames were all kept,
+-- idle packets left out, where each call answers Ok.
 abbrev pub HandedOverAreKept : Type 0
 HandedOverAreKept =
     (vc : ℕ) (channel : List TmView) (numbers : List ℕ) (views : List TmView) → AreKept channel numbers (channel_of vc views)
     → handed_over vc [] views ≡ without_idle (kept_packets numbers channel)
 
--- The packets that an extractor hands over from the kept frames are a sublist of those of the whole channel.
+-- The packets that an extractor hands over from the kept frames are a sublist of those of the whole
+-- channel.
 abbrev pub HandedOverAreSublist : Type 0
 HandedOverAreSublist =
     (vc : ℕ) (channel : List TmView) (numbers : List ℕ) (views : List TmView) → AreKept channel numbers (channel_of vc views)
@@ -132,7 +137,7 @@ HandedOverAreSublist =
 
 -- ---- recordings
 
--- the frames of a recording on a virtual channel; skipped frames are on none
+-- the frames of a recording on a virtual channel; a skipped frame is on no virtual channel
 abbrev pub recorded_channel : TmFormat → ℕ → ℕ → List ℕ → List TmView
 recorded_channel format spacecraft vc recording = channel_of vc (recorded_views format spacecraft recording)
 
@@ -140,21 +145,21 @@ recorded_channel format spacecraft vc recording = channel_of vc (recorded_views 
 abbrev pub recorded_packets : TmFormat → ℕ → ℕ → List ℕ → List (List ℕ)
 recorded_packets format spacecraft vc recording = slice_index_or (tm_lists format spacecraft recording) vc []
 
--- A recording has on a virtual channel the kept frames of another recording, with these numbers there. Nothing is
--- said of the other virtual channels.
+-- A recording has on a virtual channel exactly the kept frames of the recording `whole`, which have
+-- these numbers on that channel. Nothing is said of the other virtual channels.
 pub record IsRecordingOfKept (format : TmFormat) (spacecraft vc : ℕ) (numbers whole recording : List ℕ) : Type 0 where
   pub channel : vc < 8
   pub kept : AreKept (recorded_channel format spacecraft vc whole) numbers (recorded_channel format spacecraft vc recording)
 
--- A recording of the kept frames delivers on the virtual channel the packets whose frames were all kept, idle packets
--- left out.
+-- A recording of the kept frames delivers on the virtual channel the packets whose frames were all
+-- kept, idle packets left out.
 abbrev pub RecordedAreKept : Type 0
 RecordedAreKept =
     (format : TmFormat) (spacecraft vc : ℕ) (numbers whole recording : List ℕ) → IsRecordingOfKept format spacecraft vc numbers whole recording
     → recorded_packets format spacecraft vc recording ≡ without_idle (kept_packets numbers (recorded_channel format spacecraft vc whole))
 
--- A recording of the kept frames delivers on the virtual channel a sublist of what the whole recording delivers
--- there.
+-- A recording of the kept frames delivers on the virtual channel a sublist of what the whole
+-- recording delivers there.
 abbrev pub RecordedAreSublist : Type 0
 RecordedAreSublist =
     (format : TmFormat) (spacecraft vc : ℕ) (numbers whole recording : List ℕ) → IsRecordingOfKept format spacecraft vc numbers whole recording

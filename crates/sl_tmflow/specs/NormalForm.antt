@@ -1,5 +1,7 @@
--- The normal form of a TM recording: the delivered packets of each virtual channel, in frames that have nothing of
--- the recording's own. All of it is this project's mission profile; the frames are those of CCSDS 132.0-B.
+-- The normal form of a TM recording: the delivered packets of each virtual channel, in new frames
+-- of CCSDS 132.0-B that depend on nothing else of the recording. All of it is mission profile,
+-- which is this project's own choice. Here `room` is the length of a data field, and frames and
+-- data fields are numbered from 0.
 use Rattle.std.specs.Prelude.{◌≡◌, ◌⊎◌, ℕ, ◌+◌, ◌-◌, ◌*◌, ◌/◌, ◌%◌, ◌<◌, ◌≤◌, ◌==◌, ◌||◌, nat_lt, Bool, not, if◌then◌else◌, List, [], ◌∷◌, ◌++◌, length, take, drop, map, Option, None, Some, option_map}
 use Rattle.std.specs.List.{concat, find, range_with_len}
 use Rattle.sl_packet.specs.IdlePacket.{idle_packet}
@@ -10,7 +12,8 @@ use Rattle.sl_tmflow.specs.PacketStart.{packet_offsets}
 
 -- ---- the packets of a channel, divided into data fields
 
--- the least filling that makes `len` octets a multiple of the room: no octets, or as many as an idle packet can have
+-- the length of the filling that makes `len` octets a multiple of the room: the least number that
+-- will do, out of 0 and the lengths that an idle packet can have (7 and more)
 abbrev pub fill_of : ℕ → ℕ → ℕ
 fill_of room len =
     let missing : ℕ = (room - len % room) % room in
@@ -20,44 +23,46 @@ fill_of room len =
 abbrev pub filling : ℕ → ℕ → List (List ℕ)
 filling room len = if fill_of room len == 0 then [] else idle_packet (fill_of room len) ∷ []
 
--- packets, filled up by an idle packet
+-- packets, and then the idle packet that fills them up, if one is needed
 abbrev pub with_filling : ℕ → List (List ℕ) → List (List ℕ)
 with_filling room packets = packets ++ filling room (length (concat packets))
 
--- the data field of a number, from 0
+-- the data field with this number, where octets are divided into data fields from the front on
 abbrev pub data_field_of : ℕ → ℕ → List ℕ → List ℕ
 data_field_of room number octets = take room (drop (number * room) octets)
 
--- whether an offset lies in the data field of a number
+-- whether an offset lies in the data field with this number
 abbrev pub lies_in : ℕ → ℕ → ℕ → Bool
 lies_in room number offset = offset / room == number
 
--- the least offset in the data field of a number at which a packet starts; since the offsets rise, it is the first
--- one there
+-- the least packet start in the data field with this number, as an offset in this data field, if a
+-- packet starts there; `offsets` are the offsets of all packet starts, and since they rise, it is
+-- the first one that lies there
 abbrev pub first_of : ℕ → ℕ → List ℕ → Option ℕ
 first_of room number offsets = option_map (λ offset. offset - number * room) (find (lies_in room number) offsets)
 
 -- ---- the frames
 
--- the frame of a number, from 0, of a virtual channel with these packets, filled up, after `mc` frames of other
--- virtual channels
+-- The frame with this number of a virtual channel. The channel's packets are these, and fill whole
+-- data fields. The number of frames of other virtual channels that come before is `mc`.
 abbrev pub channel_frame : TmFormat → ℕ → ℕ → ℕ → List (List ℕ) → ℕ → List ℕ
 channel_frame format spacecraft vc mc packets number =
     packet_frame format spacecraft vc ((mc + number) % 256) (number % 256)
     (first_of (field_room_of format) number (packet_offsets 0 packets []))
     (data_field_of (field_room_of format) number (concat packets))
 
--- the frames of a virtual channel with these packets, filled up
+-- the frames of a virtual channel with these packets, which fill whole data fields
 abbrev pub frames_of_packets : TmFormat → ℕ → ℕ → ℕ → List (List ℕ) → List (List ℕ)
 frames_of_packets format spacecraft vc mc packets =
     map (channel_frame format spacecraft vc mc packets) (range_with_len 0 (length (concat packets) / field_room_of format))
 
--- the frames of a virtual channel with these packets
+-- the frames of a virtual channel with these packets, and with an idle packet where one is needed
 abbrev pub channel_frames : TmFormat → ℕ → ℕ → ℕ → List (List ℕ) → List (List ℕ)
 channel_frames format spacecraft vc mc packets =
     frames_of_packets format spacecraft vc mc (with_filling (field_room_of format) packets)
 
--- the frames of virtual channels with these packets, from `vc` on, after `mc` frames
+-- the frames of the virtual channels from `vc` on, with a list of packets each, after `mc` frames
+-- of earlier virtual channels
 abbrev pub frames_from_channel : TmFormat → ℕ → ℕ → ℕ → List (List (List ℕ)) → List (List ℕ)
 frames_from_channel format spacecraft vc mc [] = []
 frames_from_channel format spacecraft vc mc (packets ∷ lists) =
@@ -70,7 +75,7 @@ normal_form format spacecraft lists = concat (frames_from_channel format spacecr
 
 -- ---- laws on the filling and the pointer
 
--- `fill` is the least filling of `len` octets
+-- `fill` is the least length of a filling that makes `len` octets a multiple of the room
 pub record IsLeastFill (room len fill : ℕ) : Type 0 where
   pub allowed : (fill ≡ 0) ⊎ (7 ≤ fill)
   pub fills : (len + fill) % room ≡ 0
@@ -80,19 +85,20 @@ pub record IsLeastFill (room len fill : ℕ) : Type 0 where
 abbrev pub EachFillIsLeast : Type 0
 EachFillIsLeast = (room len : ℕ) → 7 ≤ room → IsLeastFill room len (fill_of room len)
 
--- an offset lies in the data field of a number
+-- the offset lies in the data field with this number
 pub record LiesIn (room number offset : ℕ) : Type 0 where
   pub from : number * room ≤ offset
   pub below : offset < number * room + room
 
--- `first` is the least packet start in the data field of a number, where packets start at these offsets
+-- this is the least packet start in the data field with this number, as an offset in this data
+-- field, or none where no packet starts there; `offsets` are the offsets of all packet starts
 abbrev pub IsLeastStart : ℕ → ℕ → List ℕ → Option ℕ → Type 0
 IsLeastStart room number offsets None = (offset : ℕ) → IsAmong offset offsets → LiesIn room number offset → ⊥
 IsLeastStart room number offsets (Some first) =
     IsAmong (number * room + first) offsets × LiesIn room number (number * room + first)
     × ((offset : ℕ) → IsAmong offset offsets → LiesIn room number offset → number * room + first ≤ offset)
 
--- The pointer of the normal form is the least packet start.
+-- The first header pointer of each data field in the normal form is the least packet start there.
 abbrev pub EachPointerIsLeast : Type 0
 EachPointerIsLeast =
     (room number : ℕ) (packets : List (List ℕ)) → 0 < room

@@ -1,4 +1,5 @@
--- The packet starts of a data field: the first header pointer, CCSDS 132.0-B, and the offsets that follow from it.
+-- The packet starts of a data field: the first header pointer of CCSDS 132.0-B, and each offset at
+-- which a packet ends, one packet after another from the pointer on.
 use Rattle.std.specs.Prelude.{◌≡◌, ℕ, ◌+◌, ◌<◌, List, [], ◌∷◌, ◌++◌, length, drop, Option, None, Some}
 use Rattle.std.specs.List.{AllByRecursion, concat}
 use Rattle.sl_packet.specs.Packet.{IsPacket}
@@ -6,8 +7,9 @@ use Rattle.sl_packet.specs.Packets.{packets_of, rest_of}
 use Rattle.sl_tmflow.specs.Among.{IsAmong}
 use Rattle.sl_tmframe.specs.TmFrame.{DataField, Packets, Idle, Opaque}
 
--- A packet start: the first header pointer, or an offset in the field at which whole packets end, which lie end to
--- end from the pointer on. A packet may begin at a packet start, or something else.
+-- A packet start of a data field: an offset in the field up to which whole packets, perhaps none,
+-- lie end to end from the first header pointer on. So the pointer itself is a packet start. What
+-- begins at a packet start may be a packet or something else.
 pub record IsStart (field : List ℕ) (first : Option ℕ) (start : ℕ) : Type 0 where
   pub pointer : ℕ
   pub pointed : first ≡ Some pointer
@@ -17,13 +19,14 @@ pub record IsStart (field : List ℕ) (first : Option ℕ) (start : ℕ) : Type 
   pub here : start ≡ pointer + length (concat before)
   pub inside : start < length field
 
--- the offsets of packets that lie end to end from an offset on, and of the octets after them, if there are any
+-- the offsets at which these packets start, end to end from `offset` on, and the offset of the
+-- octets after the packets, if there are any
 abbrev pub packet_offsets : ℕ → List (List ℕ) → List ℕ → List ℕ
 packet_offsets offset [] [] = []
 packet_offsets offset [] (octet ∷ octets) = offset ∷ []
 packet_offsets offset (packet ∷ packets) rest = offset ∷ packet_offsets (offset + length packet) packets rest
 
--- the packet starts of a data field, in order
+-- the packet starts of a data field with this first header pointer, in order
 abbrev pub starts_from : Option ℕ → List ℕ → List ℕ
 starts_from None field = []
 starts_from (Some pointer) field = packet_offsets pointer (packets_of (drop pointer field)) (rest_of (drop pointer field))

@@ -1,5 +1,5 @@
--- What a frame of packets does to an incomplete packet, as the code says it. Only contracts of private functions cite
--- this file.
+-- What a frame of packets does to an incomplete packet, in the code's own words. Only contracts of
+-- private functions cite this file.
 use Rattle.std.specs.Prelude.{◌≡◌, ℕ, ◌+◌, ◌≤◌, List, ◌++◌, length, take, Option}
 use Rattle.sl_packet.specs.Front.{Incomplete, front}
 use Rattle.sl_tmframe.specs.TmFrame.{Packets}
@@ -7,13 +7,15 @@ use Rattle.sl_tmflow.specs.declared.pointer.Progress.{Progress}
 use Rattle.sl_tmflow.specs.declared.pointer.Progress.TheVariants as code
 use Rattle.sl_tmflow.specs.Delivery.{Continuation, Ends, Continues, Breaks, field_step, front_step}
 
--- the step that the code's answer is, where the packet has these octets
+-- the continuation that the code's answer stands for, where the packet has these octets so far,
+-- those of the frame included
 abbrev pub progress_step : Progress → List ℕ → Continuation
 progress_step (code.Ends len) octets = Ends (take len octets)
 progress_step code.Continues octets = Continues
 progress_step code.Breaks octets = Breaks
 
--- Octets at the front of a data field that are enough for the packet that is incomplete before it.
+-- `part` are octets of the data field that are enough for the incomplete packet, whose octets so
+-- far are `held`.
 pub record IsEnough (held field part : List ℕ) : Type 0 where
   -- whatever the pointer, these octets do to the packet what the whole field does
   pub step : (first : Option ℕ) → front_step first (length held) field (held ++ part) (front (held ++ part)) ≡ field_step held (Packets first field)

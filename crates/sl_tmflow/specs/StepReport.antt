@@ -1,4 +1,4 @@
--- The report of an extractor on one frame.
+-- The report that an extractor answers for a frame.
 use Rattle.std.specs.Prelude.{ℕ, Bool, Option}
 
 -- the report on one frame
@@ -9,11 +9,12 @@ pub record StepReport : Type 0 where
   pub idle : ℕ
   -- the virtual channel frame count that was expected, where the frame has another one
   pub gap : Option ℕ
-  -- how many octets so far the incomplete packet has that the frame breaks off
+  -- how many octets so far the packet has that the frame breaks off, and 0 where there is none
   pub dropped : ℕ
-  -- whether octets of another packet version than 0 stand at a packet start
+  -- whether octets of another packet version than 0 stand at a packet start of the frame
   pub foreign : Bool
 
--- the numbers of packets and of idle packets; contracts of private functions cite this
+-- the number of packets and the number of idle packets; only contracts of private functions cite
+-- this
 abbrev pub counts_of : StepReport → ℕ × ℕ
 counts_of report = (report.packets, report.idle)

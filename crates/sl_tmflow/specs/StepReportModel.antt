@@ -1,4 +1,4 @@
--- A `TmStep` stands for its report.
+-- A `TmStep` stands for a report, field by field.
 use Rattle.sl_tmflow.specs.StepReport.{StepReport}
 use Rattle.sl_tmflow.specs.declared.report.TmStep.TheInside.{Inside}
 

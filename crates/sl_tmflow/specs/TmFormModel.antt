@@ -1,4 +1,5 @@
--- A `TmForm` stands for its progress. The octets that it keeps don't fill a data field.
+-- A `TmForm` stands for the progress of a normal form, and for the number of octets that it has
+-- memory for.
 use Rattle.std.specs.Prelude.{◌<◌, ◌≤◌, length}
 use Rattle.std.specs.Vec.{vec_capacity}
 use Rattle.sl_tmframe.specs.PacketFrame.{field_room_of}
@@ -6,6 +7,7 @@ use Rattle.sl_tmflow.specs.Canonical.{IsFormat}
 use Rattle.sl_tmflow.specs.FormLeft.{FormProgress, FormState}
 use Rattle.sl_tmflow.specs.declared.form.TmForm.TheInside.{Inside}
 
+-- the progress, by the fields of a `TmForm`
 abbrev pub form_progress : Inside → FormProgress
 form_progress f =
     record {
@@ -20,9 +22,12 @@ form_progress f =
       start = f.start;
     }
 
+-- what a `TmForm` stands for
 abbrev pub form_state : Inside → FormState
 form_state f = record { progress = form_progress f; octets_room = vec_capacity f.octets }
 
+-- The format and the spacecraft are in range. The octets that are kept don't fill a data field, and
+-- the offset `start` lies in a data field.
 pub record IsTmForm (f : Inside) : Type 0 where
   pub format : IsFormat f.shape
   pub spacecraft : f.heading.spacecraft ≤ 1023

@@ -22,12 +22,13 @@ use sl_tmframe::{TmField, TmFrame};
 use std::alloc::Global;
 use std::marker::Model;
 
-/// A virtual channel after its last frame.
+/// What is kept of a virtual channel after its last frame.
 #[derive(Drop)]
 pub struct Channel {
-    // The virtual channel frame count of the last frame.
+    // The virtual channel frame count of the last frame, and `None` before the first one.
     count: Option<u8>,
-    // The octets so far of the incomplete packet; empty where no packet is incomplete.
+    // The octets so far of the incomplete packet, at most 65,541. Empty where no packet is
+    // incomplete.
     held: Vec<u8>,
 }
 
@@ -54,25 +55,32 @@ impl Channel {
         }
     }
 
-    /// Takes the next frame, and hands the sink the packets that end in the frame.
+    /// Takes the next frame: hands the sink the packets that end in the frame, and answers the
+    /// report on the frame. After a fault no clause says what the state is, and the extractor
+    /// doesn't read it any more.
     pub fn take<S: PacketSink>(
         &mut self,
         frame: &TmFrame,
         sink: &mut S,
     ) -> Result<TmStep, FlowFault>
+        // The state after the frame, and the packets that end in it.
         ensures state { OnOk result (self.new.state ≡ state_after self.old.state frame.now) }
         ensures hands_over { HandsOver S.taking S.failing S.failures counts_of
             sink.old frame.now.vc (packets_after self.old.state frame.now) result sink.new }
+
+        // The anomalies.
         ensures gap { IfOk result (λ step.
             step.gap ≡ gap_after self.old.state.count frame.now.vc_count) }
         ensures dropped { IfOk result (λ step.
             step.dropped ≡ length (lost_by self.old.state frame.now)) }
         ensures foreign { IfOk result (λ step. step.foreign ≡ foreign_in frame.now.field) }
+
         // Memory is asked for only where a packet is incomplete, before the frame or after it.
         ensures memory { IfErr result (λ flow. flow ≡ FlowFault.Memory
             → (self.old.state.held ≢ []) ⊎ ((state_after self.old.state frame.now).held ≢ [])) }
     {
         let gap = self.gap_at(frame.vc_count());
+        // The packet that was incomplete before the frame comes first, then those that start in it.
         let ended = match self.go_on(frame, sink) {
             Ok(step) => step,
             Err(flow) => return Err(flow),
@@ -99,7 +107,8 @@ impl Channel {
         self.held.len() as u32
     }
 
-    // The count that was expected, where `count` doesn't follow the last one.
+    // The count that was expected, if `count` is another one. `None` if it isn't, and where no
+    // frame came before.
     fn gap_at(&self, count: u8) -> Option<u8>
         ensures { result ≡ gap_after self.now.state.count count }
     {
@@ -111,16 +120,22 @@ impl Channel {
         }
     }
 
-    // Goes on with the incomplete packet, if there is one.
+    // Goes on with the incomplete packet, if there is one: the packet ends in the frame, goes on
+    // past the frame or is broken off. The report is on this packet alone.
     fn go_on<S: PacketSink>(&mut self, frame: &TmFrame, sink: &mut S) -> Result<TmStep, FlowFault>
+        // A packet that goes on is kept, with the frame's octets.
         ensures count { self.new.state.count ≡ self.old.state.count }
         ensures held { OnOk result (self.new.state.held
             ≡ kept_octets (step_in self.old.state frame.now) self.old.state.held frame.now) }
+
+        // The sink is handed a packet that ends. The octets of one that is broken off are counted.
         ensures hands_over { HandsOver S.taking S.failing S.failures counts_of
             sink.old frame.now.vc (ended (step_in self.old.state frame.now)) result sink.new }
         ensures few { IfOk result (λ step. step.packets + step.idle ≤ 1) }
         ensures dropped { IfOk result (λ step.
             step.dropped ≡ length (lost_by self.old.state frame.now)) }
+
+        // Memory is asked for only where a packet is incomplete before the frame.
         ensures memory { IfErr result (λ flow. flow ≡ FlowFault.Memory → self.old.state.held ≢ []) }
     {
         if self.held.is_empty() || !self.is_followed_by(frame.vc_count()) {
@@ -136,7 +151,8 @@ impl Channel {
         }
     }
 
-    // Gives up the incomplete packet, if there is one, and gives its memory back.
+    // Breaks off the incomplete packet, if there is one, and gives its memory back. The report
+    // counts the octets of this packet.
     fn break_off(&mut self) -> TmStep
         ensures count { self.new.state.count ≡ self.old.state.count }
         ensures held { self.new.state.held ≡ [] }
@@ -154,7 +170,8 @@ impl Channel {
         }
     }
 
-    // Whether a frame with this count follows the last frame.
+    // Whether a frame with this count follows the last frame. No frame follows where there was none
+    // before.
     fn is_followed_by(&self, count: u8) -> bool
         ensures { result ≡ is_after self.now.state.count count }
     {
@@ -164,7 +181,7 @@ impl Channel {
         }
     }
 
-    // Goes on with the incomplete packet in the data field of a frame of packets.
+    // Goes on with the incomplete packet, where the next frame is a frame of packets.
     fn join<S: PacketSink>(
         &mut self,
         field: &PacketOctets,
@@ -173,7 +190,7 @@ impl Channel {
     ) -> Result<TmStep, FlowFault>
         requires vc { vc ≤ 7 }
         requires short { length field.now.octets.now ≤ 2042 }
-        // The packet goes on with all octets of the field, or isn't kept.
+        // A packet that goes on is kept, with all octets of the field.
         ensures count { self.new.state.count ≡ self.old.state.count }
         ensures held { OnOk result (self.new.state.held ≡ kept_of
             (field_step self.old.state.held (Packets field.now.first field.now.octets.now))
@@ -209,7 +226,7 @@ impl Channel {
     }
 
     // Takes the packets that start in a data field: those that lie whole in the field, and the one
-    // that is incomplete.
+    // that is incomplete at its end.
     fn begin<S: PacketSink>(
         &mut self,
         field: &TmField,
@@ -226,7 +243,8 @@ impl Channel {
         ensures memory { IfErr result (λ flow. flow ≡ FlowFault.Memory
             → held_after (data_field field.now) self.old.state.held ≢ []) }
 
-        // The sink is handed the packets that lie whole in the field.
+        // The sink is handed the packets that lie whole in the field. Octets of another packet
+        // version after these packets are reported.
         ensures hands_over { HandsOver S.taking S.failing S.failures counts_of
             sink.old vc (whole_packets (data_field field.now)) result sink.new }
         ensures few { IfOk result (λ step. step.packets + step.idle ≤ 2042) }
@@ -241,7 +259,7 @@ impl Channel {
         }
     }
 
-    // Takes the packets of octets that begin at a packet start.
+    // As `begin`, where `octets` are those of the data field from its first packet start on.
     fn begin_at<S: PacketSink>(
         &mut self,
         octets: &[u8],
@@ -258,7 +276,8 @@ impl Channel {
         ensures memory { IfErr result (λ flow. flow ≡ FlowFault.Memory
             → incomplete_in (front (rest_of octets.now)) (rest_of octets.now) ≢ []) }
 
-        // The sink is handed the packets that are whole.
+        // The sink is handed the packets that are whole. Octets of another packet version after
+        // these packets are reported.
         ensures hands_over { HandsOver S.taking S.failing S.failures counts_of
             sink.old vc (packets_of octets.now) result sink.new }
         ensures few { IfOk result (λ step. step.packets + step.idle ≤ 2042) }
@@ -280,14 +299,14 @@ impl Channel {
     }
 }
 
-// Whether there is a first octet, and it has another version than 0.
+// Whether there is a first octet, and the packet version in it is another one than 0.
 fn is_foreign(octets: &[u8]) -> bool
     ensures { result ≡ is_foreign octets.now }
 {
     matches!(need(octets), Need::Foreign)
 }
 
-// The octets, where they begin a packet that isn't there whole, and no octets otherwise.
+// The octets, where they are the front of a packet that isn't there whole, and otherwise no octets.
 fn incomplete(octets: &[u8]) -> &[u8]
     ensures { result.now ≡ incomplete_in (front octets.now) octets.now }
 {

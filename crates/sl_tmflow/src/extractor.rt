@@ -18,10 +18,13 @@ use std::alloc::Global;
 use std::marker::Model;
 
 /// Delivers the packets of the virtual channels of CCSDS 132.0-B from their frames, which are given
-/// one after another. The frames may be of any formats and spacecraft.
+/// one after another. Frames with the same virtual channel identifier are of one channel, whatever
+/// their formats and spacecraft are.
 #[derive(Drop)]
 pub struct Extractor {
+    // The virtual channels 0 to 7, in this order.
     channels: [Channel; 8],
+    // Whether a call has answered `Memory` or `Sink`.
     has_failed: bool,
 }
 
@@ -36,8 +39,8 @@ impl Model for Extractor {
 }
 
 impl Extractor {
-    /// An extractor that was given no frame yet. It holds no memory yet; later it asks for memory
-    /// only for a packet that is incomplete.
+    /// An extractor that was given no frame yet. It holds no memory, and later asks for memory only
+    /// for packets that are incomplete.
     pub fn new(alloc: Global) -> Extractor
         ensures processed { HasProcessed result [] }
         ensures memory { HasNoMemory result }
@@ -48,23 +51,24 @@ impl Extractor {
         }
     }
 
-    /// Takes the next frame: hands the sink the packets that end in the frame, and answers what the
-    /// frame brought. The packets are handed over in the order of their starts, without idle
-    /// packets, on the channel of the frame's virtual channel, 0 to 7.
+    /// Takes the next frame: hands the sink the packets that end in the frame, and answers the
+    /// report on the frame. The packets are handed over in the order of their starts, without idle
+    /// packets. Their channel is the frame's virtual channel, 0 to 7.
     ///
-    /// - `Memory`: memory was refused. Memory is asked for only where a packet is incomplete on the
-    ///   frame's virtual channel, before the frame or after it. The sink has accepted some of the
-    ///   packets, from the first one on, and refused none.
+    /// - `Memory`: this call was refused memory. Memory is asked for only where a packet is
+    ///   incomplete on the frame's virtual channel, before the frame or after it. The sink has
+    ///   accepted the first of the packets, perhaps none or all of them, and refused none.
     /// - `Sink`: the sink refused a packet. It has accepted the packets before this one, and none
     ///   after it. Its count of refused packets has risen by one, unless it was 2^64 - 1.
-    /// - `Failed`: an earlier call answered `Memory` or `Sink`. Every call after these two answers
-    ///   `Failed`, hands over nothing and changes nothing; no other call answers it.
+    /// - `Failed`: an earlier call answered `Memory` or `Sink`. After that every call answers
+    ///   `Failed`, hands over nothing and changes nothing. No other call answers `Failed`.
     pub fn frame<S: PacketSink>(
         &mut self,
         frame: &TmFrame,
         sink: &mut S,
     ) -> Result<TmStep, FlowFault>
-        // Whichever frames were processed before, these and the new frame are processed now.
+        // `views` are any frames that may have been processed before the call. On Ok these frames
+        // and then the new one are processed.
         ensures processed { OnOk result (ForProcessed self.old (λ views.
             HasProcessed self.new (views ++ frame.now ∷ []))) }
 
@@ -92,8 +96,9 @@ impl Extractor {
         ensures left { result ≡ Err FlowFault.Failed
             → IsFailed self.old × (self.new ≡ self.old) × (sink.new ≡ sink.old) }
 
-        // At a fault some of the packets were accepted, from the first one on, whichever frames
-        // were processed before. The sink failed exactly where the fault says so.
+        // At a fault of this call the sink has accepted the first of the packets, as `IsStopped`
+        // says of `Memory` and of `Sink`. The sink's count of refused packets rises exactly where
+        // the fault is `Sink`, unless the count is at its greatest.
         ensures stopped { IfErr result (λ flow. flow ≢ FlowFault.Failed → IsFailed self.new
             × ForProcessed self.old (λ views.
             IsStopped S.taking S.failing S.failures sink.old frame.now.vc
@@ -108,7 +113,7 @@ impl Extractor {
         if self.has_failed {
             return Err(FlowFault::Failed);
         }
-        // A fault leaves the flag set.
+        // The flag is set before the step, and stays set if the step ends with a fault.
         self.has_failed = true;
         let step = match self.channels[usize::from(frame.vc())].take(frame, sink) {
             Ok(step) => step,
@@ -118,8 +123,9 @@ impl Extractor {
         Ok(step)
     }
 
-    /// The octets so far of the packet that is incomplete after the last frame of the virtual
-    /// channel `vc`, 0 to 7: at most 65,541, 0 where no packet is incomplete, and 0 after a fault.
+    /// The number of octets so far of the packet that is incomplete after the last frame of the
+    /// virtual channel `vc`, 0 to 7. The number is at most 65,541, one less than the longest packet
+    /// has. It is 0 where no packet is incomplete, and after a fault.
     pub fn held(&self, vc: u8) -> u32
         requires { vc ≤ 7 }
         ensures value { ForProcessed self.now (λ views.

@@ -1,4 +1,4 @@
-//! The normal form of delivered packets, piece by piece.
+//! The normal form of delivered packets, made piece by piece.
 ghost use Rattle.std.specs.Prelude.{ℕ, List, [], ◌≡◌, ◌≢◌, ◌+◌, ◌*◌, ◌%◌, ◌<◌, ◌≤◌, ◌++◌, None};
 ghost use Rattle.std.specs.Prelude.{Some, length, take, false, IfOk, OnOk, OnErr, IfSome, IsTrue};
 ghost use Rattle.std.specs.List.{AllByRecursion, concat, slice_index_or};
@@ -20,36 +20,38 @@ use sl_tmframe::{TmShape, push_tm};
 use std::alloc::{AllocError, Global};
 use std::marker::Model;
 
-/// Room for any piece. The longest piece is 2731 frames of 32 octets with an error control field,
-/// 87,392 octets. A packet of 65,542 octets completes them, with the octets that were left before
-/// it.
+/// Room for any piece, in octets. The longest piece is 2731 frames of 32 octets with an error
+/// control field, 87,392 octets in all. A packet of 65,542 octets fills their data fields of 24
+/// octets, together with up to 23 octets that were kept before it.
 const PIECE: usize = 90_112;
 
-/// Room for a data field that isn't full, 2041 octets at most, and the idle packet that fills it
-/// up.
+/// Room, in octets, for a data field that isn't full, 2041 octets at most, and for the idle packet
+/// that fills the field up, 2048 octets at most.
 const OCTETS: usize = 4096;
 
 /// The normal form of delivered packets, made piece by piece: frames of CCSDS 132.0-B in this
 /// project's own order (docs/normal-form.md).
 ///
-/// A piece is the next octets of the form. By reading, a piece is the frames that the next packet
-/// of a virtual channel completes, perhaps none. Where an idle packet fills the virtual channel up,
-/// the frames that it completes are a piece too. Octets of a packet that don't fill a data field
-/// are kept for the next piece: 2041 octets at most.
+/// A piece is the next octets of the form; no clause says how many. As the code is written, a piece
+/// is the frames that the next packet of a virtual channel completes, perhaps none. Where an idle
+/// packet fills the virtual channel up, the frames that this packet completes are a piece too.
+/// Octets of packets that don't fill a data field yet are kept for the next piece: 2041 octets at
+/// most.
 #[derive(Drop)]
 pub struct TmForm<'d> {
     shape: TmShape,
     delivered: &'d Delivered,
-    // The header of the next frame. Its virtual channel is that of the next packet, and 8 where no
-    // packet is left.
+    // The header of the next frame. Its virtual channel is the one whose packets are taken now, and
+    // 8 where no virtual channel is left.
     heading: Heading,
-    // The number of packets of this virtual channel that were taken, the one that fills it up
-    // included.
+    // The number of packets of this virtual channel that were taken, the idle packet that fills the
+    // channel up included.
     taken: usize,
-    // The octets of the taken packets that don't fill a data field yet.
+    // The octets of the taken packets that don't fill a data field yet: the front of the next data
+    // field.
     octets: Vec<u8>,
-    // The offset in that data field at which its first packet starts. Where no packet starts in it
-    // yet, the next packet starts there.
+    // The offset in the next data field at which its first packet starts. Where no taken packet
+    // starts in the field, this is the offset at which the next packet will start.
     start: u16,
 }
 
@@ -58,13 +60,13 @@ pub struct TmForm<'d> {
 struct Heading {
     spacecraft: u16,
     vc: u8,
-    // The frame counts of the master channel and of the virtual channel.
+    // The master channel frame count, and the virtual channel frame count.
     master: u8,
     counter: u8,
 }
 
 impl Heading {
-    // The heading after `frames` more frames.
+    // The heading `frames` frames later: both counts have risen by that number, modulo 256.
     fn after(self, frames: usize) -> Heading
         ensures { result ≡ heading_after self frames }
     {
@@ -90,8 +92,9 @@ impl<'d> Model for TmForm<'d> {
 }
 
 impl<'d> TmForm<'d> {
-    /// The form of the packets on channels 0 to 7 of `delivered`, which are the virtual channels.
-    /// All of the form is still to come. `spacecraft` is 0 to 1023. The call takes no memory.
+    /// The normal form of the packets on channels 0 to 7 of `delivered`, which are the virtual
+    /// channels, in frames of this format. All octets of the form are still to come. `spacecraft`,
+    /// the spacecraft identifier of all frames, is 0 to 1023. The call takes no memory.
     pub fn new(
         alloc: Global,
         shape: &TmShape,
@@ -99,15 +102,18 @@ impl<'d> TmForm<'d> {
         delivered: &'d Delivered,
     ) -> TmForm<'d>
         requires spacecraft { spacecraft ≤ 1023 }
+        // All octets of the form of these packets are still to come.
         ensures left { IsLeft result.progress (form_of shape.now spacecraft delivered.now.lists) }
         ensures lists { result.progress.lists ≡ delivered.now.lists }
+
         // Read as a recording, the form delivers these packets again.
         ensures delivers { tm_lists shape.now spacecraft
             (form_of shape.now spacecraft delivered.now.lists) ≡ take 8 delivered.now.lists }
+
+        // No memory is taken.
         ensures memory { result.octets_room ≡ 0 }
     {
-        // For the proof alone, at no cost: the properties of every format and every store of
-        // packets.
+        // For the proof alone, at no cost: what holds of every `TmShape` and of every `Delivered`.
         has_format(shape);
         has_packets(delivered);
         TmForm {
@@ -125,14 +131,14 @@ impl<'d> TmForm<'d> {
         }
     }
 
-    /// Reserves memory for the next piece: 4096 octets in the form itself, and 90,112 octets in
-    /// `form` beyond its length. Afterwards [`next`](TmForm::next) is refused no memory, as long as
-    /// `form` has room for 90,112 octets more at each call.
+    /// Reserves memory for the next piece: 4096 octets in this `TmForm`, and 90,112 octets in the
+    /// vector `form` beyond its length. Afterwards [`next`](TmForm::next) is refused no memory, as
+    /// long as `form` has room for 90,112 octets more at each call.
     ///
-    /// Memory is refused only where one of the two rooms was missing. Nothing is added to `form`
-    /// either way, and the same octets of the normal form are still to come.
+    /// Memory is refused only where the `TmForm` or the vector lacked this room before. Nothing is
+    /// added to `form` in any case, and the same octets of the normal form are still to come.
     pub fn reserve(&mut self, form: &mut Vec<u8>) -> Result<(), AllocError>
-        // Afterwards both have room for a piece.
+        // Afterwards this `TmForm` and the vector have room for a piece.
         ensures ready { OnOk result (IsReserved self.new) }
         ensures room { OnOk result (vec_len form.new + piece_room ≤ vec_capacity form.new) }
 
@@ -148,11 +154,12 @@ impl<'d> TmForm<'d> {
     }
 
     /// Adds the next piece to the end of `form`, and answers whether there was one. `false` means
-    /// that the whole normal form was made. A piece may have no octets, but the number of pieces is
-    /// finite.
+    /// that the whole normal form was made before this call. A piece may have no octets, but the
+    /// number of pieces is finite.
     ///
-    /// Memory is refused only where there are packets, and only where it wasn't reserved. The piece
-    /// is then still to come, and `form` is as it was.
+    /// Memory is refused only where there are packets, and only where it wasn't reserved with
+    /// [`reserve`](TmForm::reserve). The piece is then still to come, and the octets of `form` are
+    /// as they were.
     pub fn next(&mut self, form: &mut Vec<u8>) -> Result<bool, AllocError>
         // The piece is the front of the octets that were still to come, and the octets after it are
         // still to come. Without a piece the whole normal form was made.
@@ -162,7 +169,7 @@ impl<'d> TmForm<'d> {
         ensures none { IfOk result (λ more. more ≡ false → form.new.items ≡ form.old.items) }
 
         // Each piece takes a packet or fills a virtual channel up, so there is a last piece. Pieces
-        // come only where there are packets.
+        // come only where there are packets. The packets themselves stay the same.
         ensures fewer { IfOk result (λ more. IsTrue more
             → HasFewer self.old.progress self.new.progress) }
         ensures some { IfOk result (λ more. IsTrue more → IsOfPackets self.old.progress) }
@@ -187,12 +194,17 @@ impl<'d> TmForm<'d> {
         Ok(true)
     }
 
-    // Goes past virtual channels whose packets are all made, and answers whether another virtual
-    // channel is left.
+    // Goes past virtual channels whose packets are all in frames, and answers whether a virtual
+    // channel is left that has more: packets, or octets that are to be filled up.
     fn go_on(&mut self) -> bool
+        // Where no virtual channel is left, the whole form was made. The octets that were still to
+        // come still are.
         ensures more { IsTrue result → HasMore self.new.progress }
         ensures left { KeepsLeft self.old.progress self.new.progress }
         ensures all { result ≡ false → IsAllMade self.old.progress }
+
+        // No more packets may still be taken than before, the packets themselves stay the same, and
+        // no memory is given back.
         ensures no_more { HasNoMore self.old.progress self.new.progress }
         ensures lists { self.new.progress.lists ≡ self.old.progress.lists }
         ensures keeps { self.old.octets_room ≤ self.new.octets_room }
@@ -212,8 +224,8 @@ impl<'d> TmForm<'d> {
     // Takes the next packet, or fills the virtual channel up.
     fn add_next(&mut self, form: &mut Vec<u8>) -> Result<(), AllocError>
         requires more { HasMore self.old.progress }
-        // A piece of the octets that are still to come is added, and fewer packets are still to
-        // come.
+        // The front of the octets that were still to come is added, and fewer packets may still be
+        // taken than before. The packets themselves stay the same.
         ensures piece { OnOk result
             (AddsPiece self.old.progress form.old.items form.new.items self.new.progress) }
         ensures fewer { OnOk result (HasFewer self.old.progress self.new.progress) }
@@ -239,7 +251,8 @@ impl<'d> TmForm<'d> {
         Ok(())
     }
 
-    // Counts the frames that were added.
+    // Notes that this number of frames was added, and that this number of packets of the virtual
+    // channel is taken. Where frames were added, the next packet starts after the kept octets.
     fn pass(&mut self, frames: usize, taken: usize)
         ensures progress { self.new.progress ≡ passed self.old.progress frames taken }
         ensures keeps { self.new.octets_room ≡ self.old.octets_room }
@@ -253,7 +266,8 @@ impl<'d> TmForm<'d> {
 }
 
 // Adds the frames that the kept octets and then a packet fill. Keeps the octets beyond these
-// frames, and answers the number of frames. A packet starts in the first frame, and in no other.
+// frames, and answers the number of frames. The first packet of the first frame starts at `start`,
+// and no packet starts in the other frames.
 fn add(
     form: &mut Vec<u8>,
     octets: &mut Vec<u8>,
@@ -287,6 +301,8 @@ fn add(
         octets.extend_from_slice(packet)?;
         return Ok(0);
     }
+    // The kept octets and the head of the packet fill the first frame. The later frames have octets
+    // of the packet alone.
     let (head, rest) = packet.split_at(wanted);
     octets.extend_from_slice(head)?;
     let whole = PacketOctets {
@@ -305,8 +321,9 @@ fn add(
     Ok(rest.len() / room + 1)
 }
 
-// Adds the frames that the kept octets fill once an idle packet has filled them up. Keeps no
-// octets, and answers the number of frames. A packet starts in the first frame, and in no other.
+// Fills the kept octets up by an idle packet, and adds the frames that they fill then. Keeps no
+// octets, and answers the number of frames. The first packet of the first frame starts at `start`,
+// and no packet starts in the other frames.
 fn fill(
     form: &mut Vec<u8>,
     octets: &mut Vec<u8>,
@@ -318,7 +335,7 @@ fn fill(
     requires vc { heading.vc ≤ 7 }
     requires start { start < field_room_of shape.now }
     requires few { length octets.old.items < field_room_of shape.now }
-    // The octets are divided into the data fields of frames, and the octets beyond these are kept.
+    // The octets, filled up, are the data fields of the frames. No octets lie beyond these.
     ensures frames { OnOk result (form.new.items ≡ form.old.items
         ++ frames_of shape.now heading (Some start) (filled_up shape.now octets.old.items)) }
     ensures beyond { OnOk result (octets.new.items
@@ -346,10 +363,13 @@ fn fill(
     Ok(frames)
 }
 
-// Adds the idle packet that fills up the octets, if one is needed.
+// Adds the idle packet that fills the octets up to a multiple of `room`, if one is needed. `room`
+// is the length of a data field.
 fn fill_up(octets: &mut Vec<u8>, room: usize) -> Result<(), AllocError>
     requires least { 24 ≤ room }
     requires most { room ≤ 2042 }
+    // Where memory is refused, nothing is added, and there was no room for 2048 octets more. No
+    // idle packet that is needed here is longer. No memory is given back.
     ensures octets { OnOk result (octets.new.items ≡ octets.old.items
         ++ concat (filling room (length octets.old.items))) }
     ensures unchanged { OnErr result (octets.new.items ≡ octets.old.items) }
@@ -363,7 +383,7 @@ fn fill_up(octets: &mut Vec<u8>, room: usize) -> Result<(), AllocError>
     push_idle(octets, fill as u32)
 }
 
-// The length of the shortest idle packet that fills up `len` octets to a multiple of the room; 0
+// The length of the shortest idle packet that fills `len` octets up to a multiple of `room`. 0
 // where none is needed.
 fn fill_len(room: usize, len: usize) -> usize
     requires least { 24 ≤ room }
@@ -372,14 +392,16 @@ fn fill_len(room: usize, len: usize) -> usize
     ensures most { result ≤ 2048 }
 {
     let missing = (room - len % room) % room;
+    // An idle packet has 7 octets at least.
     if missing == 0 || missing >= 7 {
         return missing;
     }
     missing + room
 }
 
-// Adds a frame for each data field at the front of the octets. The first packet start is that of
-// the first frame, and no packet starts in the other frames.
+// Adds a frame for each data field that the octets fill, and leaves out the octets beyond these.
+// The first packet start is that of the first frame, and no packet starts in the other frames. The
+// first frame has this heading.
 fn push_fields(
     form: &mut Vec<u8>,
     shape: &TmShape,
@@ -395,7 +417,7 @@ fn push_fields(
     ensures size { OnOk result (vec_len form.new
         ≡ vec_len form.old + frames_len shape.now packets.now.octets.now) }
 
-    // Memory is refused only where there is no room for these frames, and none is given back.
+    // Memory is refused only where `form` had no room for these frames, and none is given back.
     ensures full { OnErr result (vec_capacity form.old
         < vec_len form.old + frames_len shape.now packets.now.octets.now) }
     ensures capacity { vec_capacity form.old ≤ vec_capacity form.new }
@@ -420,8 +442,8 @@ fn push_fields(
     Ok(())
 }
 
-// The format of a `TmShape` is one that frames may have. The length is read for the proof alone,
-// and dropped.
+// The format of a `TmShape` has a length of 32 to 2048 octets. The length is read for the proof
+// alone, and dropped.
 #[inline(always)]
 fn has_format(shape: &TmShape)
     ensures { IsFormat shape.now }
@@ -429,7 +451,8 @@ fn has_format(shape: &TmShape)
     let _ = shape.len();
 }
 
-// The packets of a `Delivered` may be delivered. One list is lent for the proof alone, and dropped.
+// The packets of a `Delivered` on channels 0 to 7 are packets that aren't idle. One list is lent
+// for the proof alone, and dropped.
 #[inline(always)]
 fn has_packets(delivered: &Delivered)
     ensures { AreDeliverable (take 8 delivered.now.lists) }

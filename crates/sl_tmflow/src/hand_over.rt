@@ -1,4 +1,4 @@
-//! Packets that are handed to a sink.
+//! How packets are handed to a sink and counted in a report.
 ghost use Rattle.std.specs.Prelude.{◌≡◌, ◌≢◌, ◌≤◌, ◌+◌, ◌∷◌, [], length, IfOk, IfErr};
 ghost use Rattle.sl_packet.specs.Packet.{IsPacket};
 ghost use Rattle.sl_packet.specs.Packets.{packets_of, rest_of};
@@ -8,7 +8,8 @@ ghost use Rattle.sl_tmflow.specs.StepReport.{counts_of};
 use crate::report::{EMPTY_STEP, TmStep};
 use sl_packet::{FlowFault, PacketSink, hand_over, is_idle};
 
-/// Hands the sink a packet, unless the packet is idle.
+/// Hands the sink a packet of the virtual channel `vc`, 0 to 7, unless the packet is idle. The
+/// report counts this packet alone.
 pub(crate) fn hand_packet<S: PacketSink>(
     sink: &mut S,
     vc: u16,
@@ -16,8 +17,11 @@ pub(crate) fn hand_packet<S: PacketSink>(
 ) -> Result<TmStep, FlowFault>
     requires vc { vc ≤ 7 }
     requires packet { IsPacket packet.now }
+    // An idle packet is counted. Any other packet is handed over and counted.
     ensures hands_over { HandsOver S.taking S.failing S.failures counts_of
         sink.old vc (packet.now ∷ []) result sink.new }
+
+    // No packet is broken off, and no memory is asked for.
     ensures dropped { IfOk result (λ step. step.dropped ≡ 0) }
     ensures not_memory { IfErr result (λ flow. flow ≢ FlowFault.Memory) }
 {
@@ -36,7 +40,9 @@ pub(crate) fn hand_packet<S: PacketSink>(
     }
 }
 
-/// Hands the sink the packets at the front of octets. Answers the octets after them too.
+/// Hands the sink the packets that lie end to end at the front of `octets`, without idle packets.
+/// They are packets of the virtual channel `vc`, 0 to 7. The answer is the report that counts them,
+/// and the octets after them.
 pub(crate) fn hand<'a, S: PacketSink>(
     sink: &mut S,
     vc: u16,
@@ -44,13 +50,14 @@ pub(crate) fn hand<'a, S: PacketSink>(
 ) -> Result<(TmStep, &'a [u8]), FlowFault>
     requires vc { vc ≤ 7 }
     requires short { length octets.now ≤ 65542 }
-    // The packets at the front are handed over, and the octets after them are given back.
+    // The packets at the front are handed over, and the octets after them are given back. No memory
+    // is asked for.
     ensures hands_over { HandsOver S.taking S.failing S.failures (λ handed. counts_of handed.0)
         sink.old vc (packets_of octets.now) result sink.new }
     ensures remainder { IfOk result (λ handed. handed.1.now ≡ rest_of octets.now) }
     ensures not_memory { IfErr result (λ flow. flow ≢ FlowFault.Memory) }
 
-    // The counts are small, and no packet is broken off.
+    // There are no more packets than octets, and no packet is broken off.
     ensures few { IfOk result (λ handed. handed.0.packets + handed.0.idle ≤ length octets.now) }
     ensures dropped { IfOk result (λ handed. handed.0.dropped ≡ 0) }
 {

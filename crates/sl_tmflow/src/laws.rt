@@ -1,4 +1,8 @@
 //! The laws on this crate's definitions. Each function is empty; its clauses are the laws.
+//!
+//! Many laws speak of a relation, which says what a thing is, and of a list that a definition
+//! computes: what is listed is in the relation, and what is in the relation is listed. So the list
+//! has these things and no others.
 ghost use Rattle.sl_tmflow.specs.Anomaly.{EachGapIsTold, EachToldIsAGap, EachListedIsBrokenOff};
 ghost use Rattle.sl_tmflow.specs.Anomaly.{EachBrokenOffIsListed, OneIsBrokenOff, BrokenOffIsShort};
 ghost use Rattle.sl_tmflow.specs.Anomaly.{BrokenOffIsTold, WhatIsToldIsBrokenOff};
@@ -36,8 +40,8 @@ pub fn tm_deliveries_are_listed()
     ensures in_order { DeliveriesAreInOrder }
 {}
 
-/// The packets of a virtual channel with one frame more are the packets before, and then those that
-/// end in this frame.
+/// The packets that a virtual channel delivers with one frame more are the packets that it delivers
+/// without this frame, and then those that end in this frame.
 pub fn tm_packets_end_once()
     ensures { PacketsEndOnce }
 {}
@@ -49,9 +53,9 @@ pub fn tm_packets_are_handed_over()
     ensures { DeliveredAreHandedOver }
 {}
 
-/// Packets in the order of their starts are also in the order of their ends: each packet has ended
+/// Packets in the order of their starts are also in the order of their ends. Each packet has ended
 /// by the frame in which the next one starts, and no two packets share an octet. At most one packet
-/// is incomplete after a frame, with 1 to 65,541 octets so far.
+/// is listed as incomplete after a frame, with 1 to 65,541 octets so far.
 pub fn tm_packets_end_in_order()
     ensures in_order { EndsAreInOrder }
     ensures by_the_next { EachEndsByTheNextStart }
@@ -72,17 +76,17 @@ pub fn tm_incomplete_packets_are_listed()
     ensures is_counted { WhatIsCountedIsIncomplete }
 {}
 
-/// A gap is reported exactly where the virtual channel frame count isn't the expected one, which
-/// follows the count of the channel's last frame. The report has the expected count.
+/// A gap is reported exactly where the virtual channel frame count isn't the expected one, which is
+/// the count of the channel's last frame plus 1, modulo 256. The report has the expected count.
 pub fn tm_gaps_are_told()
     ensures each { EachGapIsTold }
     ensures only { EachToldIsAGap }
 {}
 
-/// The listed packets that the next frame of a virtual channel breaks off are broken off, and every
-/// packet that it breaks off is listed. At most one packet is broken off, with 1 to 65,541 octets
-/// so far. The octets that are reported as dropped are as many as this packet has, and none where
-/// no packet is broken off.
+/// The packets that are listed as broken off by the next frame of a virtual channel are broken off,
+/// and every packet that the frame breaks off is listed. At most one packet is broken off, with 1
+/// to 65,541 octets so far. The octets that are reported as dropped are as many as this packet has,
+/// and none where no packet is broken off.
 pub fn tm_broken_packets_are_listed()
     ensures each { EachListedIsBrokenOff }
     ensures all { EachBrokenOffIsListed }
@@ -92,16 +96,16 @@ pub fn tm_broken_packets_are_listed()
     ensures is_told { WhatIsToldIsBrokenOff }
 {}
 
-/// Octets of another packet version than 0 at a packet start are reported exactly where a data
-/// field has them.
+/// A data field is reported to have octets of another packet version than 0 at a packet start
+/// exactly where it has them there.
 pub fn tm_foreign_starts_are_told()
     ensures each { EachForeignStartIsTold }
     ensures only { EachToldIsAForeignStart }
 {}
 
-/// The loss of frames is local. Some frames of a virtual channel whose frame counts have no gap are
-/// kept, and fewer than 256 in a row are lost between two kept frames. The kept frames then deliver
-/// exactly the packets whose frames were all kept.
+/// The loss of frames is local. Two conditions are set: the frame counts of the whole virtual
+/// channel have no gap, and fewer than 256 frames in a row are lost between two frames that are
+/// kept. The kept frames then deliver exactly the packets whose frames were all kept.
 ///
 /// Each delivery from the kept frames is one from the whole channel: the same packet from the same
 /// start in the same frame, to the same frame, and none of its frames was lost. Each delivery from
@@ -121,6 +125,8 @@ pub fn tm_loss_is_local()
 /// frames one after another, where each call answers Ok. It also holds of a recording that has the
 /// kept frames of the virtual channel, whatever it has on the others: there it delivers a sublist
 /// of what the recording of all frames delivers. Idle packets are left out on both sides.
+///
+/// The clause `run` says that `keeps_run` decides whether all frames of a packet were kept.
 pub fn tm_lost_frames_leave_a_sublist()
     ensures run { TestTellsRun }
     ensures exactly { PacketsAreKept }
@@ -131,14 +137,15 @@ pub fn tm_lost_frames_leave_a_sublist()
     ensures recording { RecordedAreSublist }
 {}
 
-/// Packets are filled up by the least number of octets that is 0 or that an idle packet can have.
-/// The pointer of a data field is the least packet start in the field.
+/// In the normal form the packets of a virtual channel are filled up to whole data fields by the
+/// least number of octets that will do: 0, or a length that an idle packet can have. The first
+/// header pointer of a data field is the least packet start in the field.
 pub fn normal_forms_are_filled_least()
     ensures fill { EachFillIsLeast }
     ensures pointer { EachPointerIsLeast }
 {}
 
-/// A recording delivers packets that aren't idle, on eight virtual channels.
+/// Every recording delivers eight lists, one for each virtual channel, of packets that aren't idle.
 pub fn tm_recordings_deliver_packets()
     ensures { RecordedListsAreDeliverable }
 {}
@@ -153,10 +160,11 @@ pub fn normal_form_delivers_its_packets()
 {}
 
 /// The frames of the normal form of packets, read as a recording. Each frame is of packets, and has
-/// no operational control field. The virtual channels never fall. The master channel frame count of
-/// a frame is the number of frames before it, and its virtual channel frame count the number of
-/// frames of its channel before it, both modulo 256. The data fields of a virtual channel are, end
-/// to end, its packets end to end, filled up by an idle packet where one is needed.
+/// no operational control field. From frame to frame the virtual channel identifier never falls.
+/// The master channel frame count of a frame is the number of frames before it. Its virtual channel
+/// frame count is the number of frames of its virtual channel before it. Both are modulo 256. The
+/// data fields of a virtual channel, end to end, are the channel's packets, end to end, filled up
+/// by an idle packet where one is needed.
 pub fn normal_form_is_in_order()
     ensures fields { EachCarriesPackets }
     ensures channels { ChannelsNeverFall }

@@ -1,8 +1,9 @@
 //! Packets in TM transfer frames of CCSDS 132.0-B: how packets are delivered from the frames of a
 //! virtual channel, and the normal form of delivered packets.
 //!
-//! A packet is found by its start in a frame and by the run of later frames in which it ends
-//! ([`laws`]). The normal form is this project's own.
+//! A packet is found by its start in a frame and by the run of later frames up to the one in which
+//! it ends ([`laws`]). The normal form is this project's own: the delivered packets, written into
+//! new frames in one fixed way.
 #![tactic(auto)]
 
 mod channel;

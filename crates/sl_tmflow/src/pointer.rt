@@ -1,4 +1,5 @@
-//! An incomplete packet at the next frame of packets.
+//! What the next frame of packets does to an incomplete packet, and which first header pointer
+//! agrees with that packet.
 ghost use Rattle.std.specs.Prelude.{◌≡◌, ◌≤◌, ◌<◌, ◌+◌, ◌^◌, ◌++◌, ℕ, length, take, IfOk, OnErr};
 ghost use Rattle.sl_packet.specs.Front.{front};
 ghost use Rattle.sl_tmframe.specs.TmFrame.{Packets};
@@ -13,7 +14,7 @@ use std::alloc::AllocError;
 /// What a frame of packets does to an incomplete packet.
 #[derive(Clone, Copy)]
 pub(crate) enum Progress {
-    /// The packet ends in the frame, with this number of octets.
+    /// The packet ends in the frame, and has this number of octets in all.
     Ends(usize),
     /// The packet goes on past the frame.
     Continues,
@@ -21,20 +22,21 @@ pub(crate) enum Progress {
     Breaks,
 }
 
-/// Adds the first octets of a data field to an incomplete packet, as many as the packet needs, and
-/// answers what the frame with this field does to the packet.
+/// Adds the first octets of a data field to the octets `held` of an incomplete packet, as many as
+/// the packet needs, and answers what the frame with this field does to the packet. Where memory is
+/// refused, no octets are added.
 #[inline(always)]
 pub(crate) fn add_field(held: &mut Vec<u8>, field: &PacketOctets) -> Result<Progress, AllocError>
     requires held { length held.old.items ≤ 65541 }
     requires short { length field.now.octets.now ≤ 2042 }
-    // The answer depends on all octets of the packet so far.
+    // The answer is what the whole field does to the packet. A packet that ends is held whole.
     ensures step { IfOk result (λ progress. progress_step progress held.new.items
         ≡ field_step held.old.items (Packets field.now.first field.now.octets.now)) }
     ensures inside { IfOk result (λ progress.
         (len : ℕ) → progress ≡ Progress.Ends len → len ≤ length held.new.items) }
 
-    // The whole field was added where the packet goes on, and the octets before it are as they
-    // were.
+    // Where the packet goes on, the whole field was added. The octets that were held before stay in
+    // any case.
     ensures all { IfOk result (λ progress.
         progress ≡ Progress.Continues → held.new.items ≡ held.old.items ++ field.now.octets.now) }
     ensures most { IfOk result (λ progress.
@@ -57,7 +59,7 @@ fn wanted<'a>(held: &[u8], field: &'a [u8]) -> &'a [u8]
     requires short { length field.now ≤ 2042 }
     ensures { IsEnough held.now field.now result.now }
 {
-    // For the proof alone, at no cost: what a `Need` says of the front of octets.
+    // For the proof alone, at no cost: the law that ties the `Need` of octets to their front.
     needs_tell_packets();
     match need(held) {
         Need::Octets(wanted) if wanted as usize <= field.len() => &field[..wanted as usize],
@@ -66,8 +68,9 @@ fn wanted<'a>(held: &[u8], field: &'a [u8]) -> &'a [u8]
     }
 }
 
-// Whether the incomplete packet ends, continues or breaks in the frame with this field. `octets`
-// are all octets of the packet so far, the first `before` of them from earlier frames.
+// Whether the incomplete packet ends in the frame with this field, goes on past the frame or is
+// broken off. `octets` are all octets of the packet so far. The first `before` of them are from
+// earlier frames.
 fn progress_in(octets: &[u8], before: usize, field: &PacketOctets) -> Progress
     requires { before + length field.now.octets.now < 2 ^ 64 }
     ensures step { progress_step result octets.now
@@ -93,7 +96,8 @@ fn progress_in(octets: &[u8], before: usize, field: &PacketOctets) -> Progress
 }
 
 // The pointer that agrees with a packet of `len` octets, where `before` of them came before the
-// data field.
+// data field: the offset at which the packet ends, and `None` where the packet covers the field to
+// its end.
 fn agreeing_pointer(len: usize, before: usize, field: &[u8]) -> Option<usize>
     requires { before + length field.now < 2 ^ 64 }
     ensures { result ≡ agreeing_pointer len before field.now }

@@ -1,4 +1,4 @@
-//! The normal form of delivered packets, whole.
+//! The normal form of delivered packets, made in one call.
 ghost use Rattle.std.specs.Prelude.{◌≡◌, ◌≤◌, take, IfOk, OnErr};
 ghost use Rattle.sl_packet.specs.Delivered.{FitsTm, HasNone};
 ghost use Rattle.sl_tmflow.specs.NormalForm.{normal_form};
@@ -16,9 +16,9 @@ use std::alloc::{AllocError, Global};
 /// Read as a recording of this format, for this spacecraft, the form delivers exactly these packets
 /// again.
 ///
-/// `spacecraft` is 0 to 1023, and the channels from 8 on have no packets, which
-/// [`Delivered::fits_tm`] tests. The only refusal is want of memory, and only where there are
-/// packets.
+/// `spacecraft`, the spacecraft identifier of all frames, is 0 to 1023. The channels of `delivered`
+/// from 8 on have no packets, which [`Delivered::fits_tm`] tests. The only refusal is want of
+/// memory, and only where there are packets.
 pub fn reframe_tm(
     alloc: Global,
     shape: &TmShape,
@@ -27,10 +27,13 @@ pub fn reframe_tm(
 ) -> Result<Vec<u8>, AllocError>
     requires fits { FitsTm delivered.now }
     requires spacecraft { spacecraft ≤ 1023 }
+    // The form is the normal form of these packets, and delivers them again.
     ensures form { IfOk result (λ form. form.items
         ≡ normal_form shape.now spacecraft (take 8 delivered.now.lists)) }
     ensures delivers { IfOk result (λ form.
         tm_lists shape.now spacecraft form.items ≡ take 8 delivered.now.lists) }
+
+    // Memory is refused only where there are packets.
     ensures packets { OnErr result (HasNone delivered.now 0 8 → ⊥) }
 {
     let mut form = Vec::new(alloc);

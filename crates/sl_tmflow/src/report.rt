@@ -1,9 +1,10 @@
-//! What a frame brought to an extractor.
+//! The report of an extractor on one frame.
 ghost use Rattle.std.specs.Prelude.{◌≡◌};
 
 use std::marker::Model;
 
-/// The report of an [`Extractor`](crate::Extractor) on one frame.
+/// The report of an [`Extractor`](crate::Extractor) on one frame: the packets that end in the
+/// frame, and the anomalies at the frame.
 #[derive(Clone, Copy, Debug, PartialEq, Eq)]
 pub struct TmStep {
     pub(crate) packets: u32,
@@ -50,25 +51,27 @@ impl TmStep {
     }
 
     /// The virtual channel frame count that was expected, 0 to 255, where the frame has another
-    /// one. Expected is the count of the frame before it on its virtual channel plus 1, modulo 256.
-    /// `None` where the frame has the expected count, and for the first frame of a virtual channel,
-    /// since no frame comes before it.
+    /// one. The expected count is that of the last frame on the same virtual channel plus 1, modulo
+    /// 256. `None` where the frame has the expected count, and for the first frame of a virtual
+    /// channel.
     pub fn gap(&self) -> Option<u8>
         ensures { result ≡ self.now.gap }
     {
         self.gap
     }
 
-    /// The octets so far of a packet that the frame breaks off: 1 to 65,541, none of them the
-    /// frame's own, and 0 where the frame breaks off no packet. A frame breaks off a packet that
-    /// was incomplete before it where the packet neither ends in the frame nor goes on past it.
+    /// The number of octets so far of the packet that the frame breaks off: 1 to 65,541, and 0
+    /// where the frame breaks off no packet. Octets of the frame itself aren't counted. A frame
+    /// breaks off a packet that was incomplete before the frame, where the packet neither ends in
+    /// the frame nor goes on past it.
     pub fn dropped(&self) -> u32
         ensures { result ≡ self.now.dropped }
     {
         self.dropped
     }
 
-    /// Whether octets of another packet version than 0 stand at a packet start of the frame.
+    /// Whether octets of a packet version other than 0 stand at a packet start of the frame. They
+    /// begin no packet.
     pub fn foreign(&self) -> bool
         ensures { result ≡ self.now.foreign }
     {

@@ -1,36 +1,39 @@
--- The TM transfer frame of packets that is written, CCSDS 132.0-B: without an operational control field, a secondary
--- header or the synchronisation flag.
+-- The TM transfer frame of packets as it is written, CCSDS 132.0-B: it has no operational control
+-- field and no secondary header, and its synchronisation flag is 0.
 use Rattle.std.specs.Prelude.{◌≡◌, ℕ, ◌-◌, ◌<◌, ◌≤◌, List, [], ◌∷◌, ◌++◌, length, Option, None, Some, IfSome, Ok}
 use Rattle.sl_fields.specs.FecfField.{fecf_len, with_fecf}
 use Rattle.sl_fields.specs.Field.{octets_of}
 use Rattle.sl_tmframe.specs.TmFrame.{TmFormat, TmView, Packets, tm_frame}
 
--- how many octets a data field has without an operational control field
+-- how many octets the data field has, in a frame without an operational control field
 abbrev pub field_room_of : TmFormat → ℕ
 field_room_of format = format.len - 6 - fecf_len format.fecf
 
--- the first header pointer: 2047 where no packet starts in the data field
+-- the first header pointer: the offset of the first packet start, and 2047 where no packet starts
+-- in the data field
 abbrev pub pointer_value : Option ℕ → ℕ
 pointer_value None = 2047
 pointer_value (Some first) = first
 
--- The fields of the frame's header, with their widths: version 0, the spacecraft, the virtual channel, no operational
--- control field, the master and the virtual channel frame count, no secondary header, no synchronisation flag, packet
--- order flag 0, segment length identifier 3, and the pointer.
+-- The fields of the frame's header, each with its width in bits before its value: version 0, the
+-- spacecraft, the virtual channel, no operational control field, the master and the virtual channel
+-- frame count, no secondary header, synchronisation flag 0, packet order flag 0, segment length
+-- identifier 3, and the first header pointer.
 abbrev pub frame_fields : ℕ → ℕ → ℕ → ℕ → Option ℕ → List (ℕ × ℕ)
 frame_fields spacecraft vc mc vcc first =
     (2, 0) ∷ (10, spacecraft) ∷ (3, vc) ∷ (1, 0) ∷ (8, mc) ∷ (8, vcc) ∷ (1, 0) ∷ (1, 0) ∷ (1, 0) ∷ (2, 3)
     ∷ (11, pointer_value first) ∷ []
 
--- a frame of packets with these frame counts, this first header pointer and this data field
+-- the octets of the frame of packets with these identifiers, these frame counts, this first packet
+-- start and this data field
 abbrev pub packet_frame : TmFormat → ℕ → ℕ → ℕ → ℕ → Option ℕ → List ℕ → List ℕ
 packet_frame format spacecraft vc mc vcc first field =
     with_fecf format.fecf (octets_of 6 (frame_fields spacecraft vc mc vcc first) ++ field)
 
 -- ---- laws
 
--- a spacecraft, a virtual channel, frame counts, a first header pointer and a data field that a frame of the format
--- can have
+-- a format that frames may have, and what a frame of packets of this format may have: a spacecraft,
+-- a virtual channel, frame counts, a first packet start and a data field
 pub record FitFrame (format : TmFormat) (spacecraft vc mc vcc : ℕ) (first : Option ℕ) (field : List ℕ) : Type 0 where
   pub least : 32 ≤ format.len
   pub most : format.len ≤ 2048

@@ -1,6 +1,6 @@
--- The TM transfer frame, CCSDS 132.0-B: its parts, why a frame is skipped, and what a frame carries. The packet order
--- flag, the segment length identifier and the master channel frame count are not checked: this is the mission
--- profile's.
+-- The TM transfer frame, CCSDS 132.0-B: its parts, why a frame is skipped, and what a frame
+-- carries. This project's own choices are marked as mission profile. One of them is that the packet
+-- order flag, the segment length identifier and the master channel frame count are not checked.
 use Rattle.std.specs.Prelude.{◌≡◌, ◌≢◌, ◌⊎◌, ⊤, ℕ, ◌+◌, ◌-◌, ◌<◌, ◌≤◌, ◌==◌, nat_lt, Bool, true, false, not, ◌&&◌, ◌||◌, if◌then◌else◌, List, ◌++◌, length, take, drop, Option, None, Some, IfSome, Result, Ok, Err}
 use Rattle.sl_fields.specs.Field.{number_of}
 use Rattle.sl_fields.specs.Fecf.{fecf_of, fecf_is_good}
@@ -9,24 +9,26 @@ use Rattle.sl_fields.specs.TmHeader.{TmFields, tm_header}
 use Rattle.sl_tmframe.specs.declared.tm_frame.TmSkip.{TmSkip}
 use Rattle.sl_tmframe.specs.declared.tm_frame.TmSkip.TheVariants.{Fecf, Version, Spacecraft}
 
--- The managed format of a physical channel's frames: the length of every frame, and whether the last two octets of a
--- frame are a frame error control field. One managed length is the mission profile's.
+-- The managed format of a physical channel's frames: the length of every frame, and whether the
+-- last two octets of a frame are a frame error control field. All frames of a recording have this
+-- one length: mission profile.
 pub record TmFormat : Type 0 where
   pub len : ℕ
   pub fecf : Bool
 
 -- ---- the parts
 
--- the parts of a frame
+-- the octets of each part of a frame
 pub record TmParts : Type 0 where
   pub header : List ℕ
   pub field : List ℕ
   pub control : List ℕ
   pub fecf : List ℕ
 
--- The parts of a frame. The primary header has six octets, and the data field follows. Then comes the operational
--- control field: four octets where the header's own flag says that there is one. The frame error control field is
--- last: two octets where the format has it.
+-- These are the parts of a frame. The primary header has six octets, and the data field follows.
+-- Then comes the operational control field: four octets where the header's own flag says that there
+-- is one, and none otherwise. The frame error control field is last: two octets where the format
+-- has it, and none otherwise.
 pub record ArePartsOf (format : TmFormat) (frame : List ℕ) (p : TmParts) : Type 0 where
   pub whole : length frame ≡ format.len
   pub in_order : frame ≡ p.header ++ p.field ++ p.control ++ p.fecf
@@ -34,7 +36,7 @@ pub record ArePartsOf (format : TmFormat) (frame : List ℕ) (p : TmParts) : Typ
   pub control : length p.control ≡ (if (tm_header p.header).control then 4 else 0)
   pub fecf : length p.fecf ≡ fecf_len format.fecf
 
--- the header at the front of a frame
+-- the fields of the header at the front of a frame
 abbrev pub tm_header_of : List ℕ → TmFields
 tm_header_of frame = tm_header (take 6 frame)
 
@@ -58,14 +60,16 @@ tm_parts_of format frame =
 
 -- ---- whether a frame is skipped
 
--- Why a frame of these parts is skipped: the format has an error control field and it isn't that of the octets before
--- it; the transfer frame version number isn't 0; or the frame is of another spacecraft.
+-- Why a frame of these parts is skipped. `Fecf`: the format has a frame error control field, and
+-- its number isn't the one for the octets before it. `Version`: the transfer frame version number
+-- isn't 0. `Spacecraft`: the spacecraft identifier is another than the one that frames are read
+-- for.
 abbrev pub HasReason : TmFormat → ℕ → TmParts → TmSkip → Type 0
 HasReason format spacecraft p Fecf = (format.fecf ≡ true) × (number_of p.fecf ≢ fecf_of (p.header ++ p.field ++ p.control))
 HasReason format spacecraft p Version = (tm_header p.header).version ≢ 0
 HasReason format spacecraft p Spacecraft = (tm_header p.header).spacecraft ≢ spacecraft
 
--- the reasons in their order
+-- the reasons in their order, the first one first
 abbrev pub order_of : TmSkip → ℕ
 order_of Fecf = 1
 order_of Version = 2
@@ -73,27 +77,30 @@ order_of Spacecraft = 3
 
 -- ---- what a frame carries
 
--- The content of a data field. An opaque frame's data field isn't read, an idle frame's has only idle data, and a
--- packet frame's has the octets of packets. The first packet that starts in it, if one does, starts at the pointer.
+-- The content of a data field. `Packets`: octets of packets; the first packet that starts in the
+-- field, if one does, starts at the offset `first`. `Idle`: only idle data. `Opaque`: a data field
+-- that isn't read.
 pub data DataField : Type 0 where
   Packets : (first : Option ℕ) (octets : List ℕ) → DataField
   Idle : DataField
   Opaque : DataField
 
--- First header pointers 2046 and 2047 have a meaning of their own. Any other pointer is an offset in the data field.
+-- First header pointers 2046 and 2047 have a meaning of their own. Any other pointer is an offset
+-- in the data field.
 abbrev pub IsOffset : ℕ → Type 0
 IsOffset pointer = (pointer ≢ 2046) × (pointer ≢ 2047)
 
--- A data field of packets. Pointer 2047 says that no packet starts in it. An offset before its end says that the
--- first packet starts at this offset.
+-- What the pointer says of a data field of packets. Pointer 2047 says that no packet starts in the
+-- field. An offset before the end of the field says that the first packet starts at this offset.
 abbrev pub PointsTo : ℕ → List ℕ → Option ℕ → Type 0
 PointsTo pointer field None = pointer ≡ 2047
 PointsTo pointer field (Some start) = IsOffset pointer × (pointer < length field) × (start ≡ pointer)
 
--- The class of a data field under this header. The frame is opaque where its secondary header flag or its
--- synchronisation flag is 1, or where its pointer is an offset at or past the end of the data field; this class is
--- the mission profile's. Where both flags are 0, pointer 2046 says that there is only idle data. With both flags 0
--- and pointer 2047, or an offset before the end, the data field is of packets.
+-- The class of a data field, in a frame with this header. The frame is opaque where the secondary
+-- header flag or the synchronisation flag is 1, or where the pointer is an offset at or past the
+-- end of the data field; this class is mission profile. Where both flags are 0, pointer 2046 says
+-- that there is only idle data. Where both flags are 0, and the pointer is 2047 or an offset before
+-- the end, the data field is of packets.
 abbrev pub HasClass : TmFields → List ℕ → DataField → Type 0
 HasClass h field Opaque = (h.secondary ≡ true) ⊎ (h.sync ≡ true) ⊎ (IsOffset h.first × (length field ≤ h.first))
 HasClass h field Idle = (h.secondary ≡ false) × (h.sync ≡ false) × (h.first ≡ 2046)
@@ -108,12 +115,13 @@ pub record TmView : Type 0 where
   pub control : Option (List ℕ)
   pub field : DataField
 
--- the operational control field is shown exactly where the header's own flag says that there is one
+-- a view has the operational control field exactly where the header's own flag says that there is
+-- one
 abbrev pub ShowsControl : Bool → List ℕ → Option (List ℕ) → Type 0
 ShowsControl flag control None = flag ≡ false
 ShowsControl flag control (Some shown) = (flag ≡ true) × (shown ≡ control)
 
--- the view of a frame of these parts
+-- this is the view of a frame of these parts
 pub record Shows (p : TmParts) (view : TmView) : Type 0 where
   pub vc : view.vc ≡ (tm_header p.header).vc
   pub mc_count : view.mc_count ≡ (tm_header p.header).mc
@@ -123,22 +131,24 @@ pub record Shows (p : TmParts) (view : TmView) : Type 0 where
 
 -- ---- a frame as it is read for a spacecraft
 
--- A frame of these parts is skipped for the first reason that holds, and is read where no reason holds.
+-- A frame of these parts is skipped for the first reason that holds, and is read where no reason
+-- holds.
 abbrev pub AreReadAs : TmFormat → ℕ → TmParts → Result TmView TmSkip → Type 0
 AreReadAs format spacecraft p (Ok view) = ((reason : TmSkip) → HasReason format spacecraft p reason → ⊥) × Shows p view
 AreReadAs format spacecraft p (Err reason) =
     HasReason format spacecraft p reason
     × ((earlier : TmSkip) → order_of earlier < order_of reason → HasReason format spacecraft p earlier → ⊥)
 
--- The octets have these parts, and are read with this result. The law `tm_frames_are_read` says that the parts are
--- those of `tm_parts_of` and the result is that of `tm_frame`, and that there are no others.
+-- The frame has these parts, and is read with this result. The law `tm_frames_are_read` says that
+-- the parts are those of `tm_parts_of`, that the result is that of `tm_frame`, and that there are
+-- no others.
 pub record IsReadAs (format : TmFormat) (spacecraft : ℕ) (frame : List ℕ) (p : TmParts) (read : Result TmView TmSkip) : Type 0 where
   pub parts : ArePartsOf format frame p
   pub reading : AreReadAs format spacecraft p read
 
 -- ---- the reading, as functions of the octets
 
--- the first reason that holds
+-- the first reason to skip the frame, if one holds
 abbrev pub skip_reason : TmFormat → ℕ → List ℕ → Option TmSkip
 skip_reason format spacecraft frame =
     if format.fecf && not (fecf_is_good frame) then Some Fecf
@@ -146,13 +156,13 @@ skip_reason format spacecraft frame =
     else if not ((tm_header_of frame).spacecraft == spacecraft) then Some Spacecraft
     else None
 
--- a frame with this header and this data field is opaque
+-- whether a frame with this header and this data field is opaque
 abbrev pub is_opaque : TmFields → List ℕ → Bool
 is_opaque header field =
     (header.secondary || header.sync)
     || (not (header.first == 2046) && not (header.first == 2047) && not (nat_lt header.first (length field)))
 
--- the class of a data field under this header
+-- the class of a data field, in a frame with this header
 abbrev pub class_of : TmFields → List ℕ → DataField
 class_of header field =
     if is_opaque header field then Opaque
@@ -175,45 +185,45 @@ view_of format frame =
       field = class_of (tm_header_of frame) (tm_parts_of format frame).field;
     }
 
--- the view of a frame, or the reason to skip the frame
+-- the reason to skip the frame, if there is one, and otherwise its view
 abbrev pub read_as : Option TmSkip → TmView → Result TmView TmSkip
 read_as None view = Ok view
 read_as (Some reason) view = Err reason
 
--- the frame as it is read for a spacecraft
+-- the frame as it is read for a spacecraft: its view, or the reason to skip it
 abbrev pub tm_frame : TmFormat → ℕ → List ℕ → Result TmView TmSkip
 tm_frame format spacecraft frame = read_as (skip_reason format spacecraft frame) (view_of format frame)
 
 -- ---- ranges
 
--- the first packet start lies in the data field, which has at most 2042 octets
+-- a data field of packets has at most 2042 octets, and the first packet start lies in it
 abbrev pub IsInField : DataField → Type 0
 IsInField (Packets first octets) = IfSome first (λ start. start < length octets) × (length octets ≤ 2042)
 IsInField Idle = ⊤
 IsInField Opaque = ⊤
 
--- each frame that is read has a virtual channel up to 7, and a data field in range
+-- the virtual channel is 0 to 7, and the data field is in range
 pub record IsInRange (view : TmView) : Type 0 where
   pub vc : view.vc ≤ 7
   pub field : IsInField view.field
 
 -- ---- laws
 
--- Octets of the format's length have these parts.
+-- Octets of the format's length, if this is 12 or more, have the parts that `tm_parts_of` computes.
 abbrev pub EachHasParts : Type 0
 EachHasParts = (format : TmFormat) (frame : List ℕ) → 12 ≤ format.len → length frame ≡ format.len → ArePartsOf format frame (tm_parts_of format frame)
 
--- Octets have no other parts.
+-- Octets have no other parts than those that `tm_parts_of` computes.
 abbrev pub HasPartsOnce : Type 0
 HasPartsOnce = (format : TmFormat) (frame : List ℕ) (p : TmParts) → ArePartsOf format frame p → tm_parts_of format frame ≡ p
 
--- Octets of the format's length are read, or skipped, as the relation says.
+-- Octets of the format's length, if this is 12 or more, are read or skipped as `tm_frame` computes.
 abbrev pub EachIsRead : Type 0
 EachIsRead =
     (format : TmFormat) (spacecraft : ℕ) (frame : List ℕ) → 12 ≤ format.len → length frame ≡ format.len
     → IsReadAs format spacecraft frame (tm_parts_of format frame) (tm_frame format spacecraft frame)
 
--- Octets are read in no other way.
+-- Octets are read or skipped in no other way than `tm_frame` computes.
 abbrev pub IsReadOnce : Type 0
 IsReadOnce =
     (format : TmFormat) (spacecraft : ℕ) (frame : List ℕ) (p : TmParts) (read : Result TmView TmSkip)

@@ -1,8 +1,10 @@
--- A `TmFrame` stands for its view, which is in range.
+-- A `TmFrame` stands for the view that a reader has of the frame. The virtual channel and the data
+-- field of this view are in range.
 use Rattle.sl_tmframe.specs.TmFrame.{TmView, IsInRange}
 use Rattle.sl_tmframe.specs.TmField.{data_field}
 use Rattle.sl_tmframe.specs.declared.tm_frame.TmFrame.TheInside.{Inside}
 
+-- the view, by the fields of a `TmFrame`
 abbrev pub inside_view : Inside → TmView
 inside_view f =
     record {
@@ -13,5 +15,6 @@ inside_view f =
       field = data_field f.field;
     }
 
+-- the view is in range
 abbrev pub IsTmFrame : Inside → Type 0
 IsTmFrame f = IsInRange (inside_view f)

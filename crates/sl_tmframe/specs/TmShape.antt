@@ -5,6 +5,7 @@ use Rattle.sl_fields.specs.declared.shape_fault.ShapeFault.{ShapeFault}
 use Rattle.sl_fields.specs.declared.shape_fault.ShapeFault.TheVariants.{TmLength}
 use Rattle.sl_tmframe.specs.TmFrame.{TmFormat}
 
--- The format, which is refused where its frames don't have 32 to 2048 octets. These bounds are the mission profile's.
+-- The format, or a fault where the length of its frames is outside 32 to 2048 octets. Both bounds
+-- are mission profile, which is this project's own choice.
 abbrev pub tm_shape : TmFormat → Result TmFormat ShapeFault
 tm_shape format = if is_outside 32 2048 format.len then Err TmLength else Ok format

@@ -5,14 +5,16 @@ ghost use Rattle.sl_tmframe.specs.TmFrame.{EachHasParts, HasPartsOnce, EachIsRea
 ghost use Rattle.sl_tmframe.specs.TmFraming.{AnyChunksAreTaken, ChunksAreDelimited};
 ghost use Rattle.sl_tmframe.specs.TmFraming.{ShortBecomesFrame};
 
-/// Every list of octets of the managed length, 12 or more, has the parts of a TM frame, in one way.
+/// Every list of octets of the managed length, if this is 12 or more, has the parts of a TM frame
+/// in exactly one way. All parts but the data field have 12 octets together at most.
 pub fn tm_frames_have_parts()
     ensures each { EachHasParts }
     ensures once { HasPartsOnce }
 {}
 
-/// Octets of the managed length, 12 or more, are skipped for the first reason that holds. Where no
-/// reason holds, they are a frame of one class. Octets are read in one way.
+/// Octets of the managed length, if this is 12 or more, are skipped for the first reason that
+/// holds. Where no reason holds, they are read as a frame of one class: packets, idle or opaque. No
+/// octets are read in two ways.
 pub fn tm_frames_are_read()
     ensures each { EachIsRead }
     ensures once { IsReadOnce }
@@ -26,8 +28,8 @@ pub fn packet_frames_are_read_back()
     ensures read_back { PacketFramesAreReadBack }
 {}
 
-/// Every list of octets is a recording: TM frames of the managed length and a shorter remainder, in
-/// one way.
+/// Every list of octets is a recording in exactly one way: TM frames of the managed length, if this
+/// is 1 or more, and a shorter remainder.
 pub fn tm_recordings_are_delimited()
     ensures each { EachIsTmDelimited }
     ensures once { IsTmDelimitedOnce }
@@ -35,8 +37,10 @@ pub fn tm_recordings_are_delimited()
 
 /// A framer that is given a recording in chunks delimits the recording. Each chunk is given until
 /// it is used up, and any division into chunks will do. The frames that the framer yields are the
-/// recording's frames, and the octets that were taken after the last frame are the remainder. Such
-/// octets are too few for a frame, and become a frame with some octets after them.
+/// recording's frames, and the octets that were taken after the last frame are the remainder.
+///
+/// A remainder may be the front of a frame: octets that are too few for a frame become exactly one
+/// frame when certain octets are added at their end.
 pub fn tm_chunks_are_delimited()
     ensures any { AnyChunksAreTaken }
     ensures delimited { ChunksAreDelimited }

@@ -1,9 +1,10 @@
 //! TM transfer frames of CCSDS 132.0-B: how a frame is read, how a frame of packets is written, and
 //! how a recording that comes in chunks is delimited into frames.
 //!
-//! Octets of the managed length are a frame or are skipped for a reason, whatever the octets are. A
-//! frame that is read borrows its data field from the octets. A frame that [`push_tm`] adds is read
-//! back as it was given ([`laws`]).
+//! A recording is frames of one managed length, end to end, and a remainder shorter than a frame.
+//! Any octets of the managed length are read as a frame, or are skipped for a reason. A frame that
+//! is read borrows its data field from the octets. A frame that [`push_tm`] adds is read back as it
+//! was given ([`laws`]).
 #![tactic(auto)]
 
 pub mod laws;

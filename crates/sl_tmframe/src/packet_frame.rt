@@ -1,4 +1,4 @@
-//! The TM transfer frame of packets, as the project writes it.
+//! The TM transfer frame of packets, as this project writes it.
 ghost use Rattle.std.specs.Prelude.{◌≡◌, ◌+◌, ◌<◌, ◌≤◌, ◌++◌, length, IfSome, OnOk, OnErr};
 ghost use Rattle.std.specs.Vec.{vec_len, vec_capacity};
 ghost use Rattle.sl_fields.specs.Field.{octets_of};
@@ -8,23 +8,26 @@ use crate::tm_shape::TmShape;
 use sl_fields::{TmHeader, fecf_field};
 use std::alloc::AllocError;
 
-/// The first header pointer of a frame in which no packet starts.
+/// The first header pointer of a frame in which no packet starts (CCSDS 132.0-B).
 const NONE_STARTS: u16 = 2047;
 
-/// Adds a TM transfer frame (CCSDS 132.0-B) of packets to `out`.
+/// Adds a TM transfer frame of packets (CCSDS 132.0-B) to the end of `out`. The data field of the
+/// frame has octets of packets.
 ///
-/// - `spacecraft` is 0 to 1023 and `vc` 0 to 7.
-/// - `mc` and `vcc` are the master and the virtual channel frame count, 0 to 255.
+/// - `spacecraft` is the spacecraft identifier, 0 to 1023.
+/// - `vc` is the virtual channel identifier, 0 to 7.
+/// - `mc` is the master channel frame count, 0 to 255.
+/// - `vcc` is the virtual channel frame count, 0 to 255.
+/// - `first` is the first header pointer: the offset in the data field at which the first packet
+///   starts, below [`TmShape::room`], or `None` where no packet starts in the data field.
 /// - `octets` is the data field: exactly [`TmShape::room`] octets.
-/// - `first` is the offset in the data field at which the first packet starts, below the room, or
-///   `None` where no packet starts in the data field.
 ///
 /// The frame has version 0, no operational control field, no secondary header, synchronisation flag
-/// 0, packet order flag 0 and segment length identifier 3, and its error control field where the
-/// format has one.
+/// 0, packet order flag 0 and segment length identifier 3. It ends with its frame error control
+/// field where the format has one.
 ///
-/// Memory is refused only where the capacity of `out` has no room for the frame. `out` is then as
-/// it was.
+/// Memory is refused only where the capacity of `out` has no room for the frame. The octets of
+/// `out` are then as they were.
 pub fn push_tm(
     out: &mut Vec<u8>,
     shape: &TmShape,
@@ -43,7 +46,8 @@ pub fn push_tm(
     ensures added { OnOk result (out.new.items ≡ out.old.items
         ++ packet_frame shape.now spacecraft vc mc vcc first octets.now) }
 
-    // Memory is refused only where `out` had no room for the frame, and then nothing is added.
+    // Where memory is refused, nothing is added, and the capacity had no room for the frame. The
+    // capacity never falls.
     ensures unchanged { OnErr result (out.new.items ≡ out.old.items) }
     ensures full { OnErr result (vec_capacity out.old < vec_len out.old + shape.now.len) }
     ensures capacity { vec_capacity out.old ≤ vec_capacity out.new }
@@ -59,7 +63,8 @@ pub fn push_tm(
     out.extend_from_slice(&field)
 }
 
-// The header of a frame of packets.
+// The primary header of a frame of packets. A packet start is below 2046, since the pointers 2046
+// and 2047 are no offsets.
 fn frame_header(spacecraft: u16, vc: u8, mc: u8, vcc: u8, first: Option<u16>) -> [u8; 6]
     requires spacecraft { spacecraft ≤ 1023 }
     requires vc { vc ≤ 7 }

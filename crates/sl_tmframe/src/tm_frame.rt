@@ -8,34 +8,35 @@ use crate::tm_shape::TmShape;
 use sl_fields::{TmHeader, back, fecf_good, front, without_fecf};
 use std::marker::Model;
 
-/// Why a TM transfer frame is skipped: the first of these reasons that holds.
+/// Why a TM transfer frame is skipped. Where several of these reasons hold, the first one is given.
 #[derive(Clone, Copy, Debug, PartialEq, Eq)]
 pub enum TmSkip {
-    /// Frames have a frame error control field, and this frame's is wrong.
+    /// The format has a frame error control field, and the field of this frame is wrong.
     Fecf,
     /// The transfer frame version number isn't 0.
     Version,
-    /// The frame is of another spacecraft.
+    /// The spacecraft identifier isn't the one that frames are read for.
     Spacecraft,
 }
 
-/// The content of a TM transfer frame (CCSDS 132.0-B).
+/// The content of a TM transfer frame (CCSDS 132.0-B): what its data field carries.
 #[derive(Clone, Copy, Debug, PartialEq, Eq)]
 pub enum TmField<'a> {
     /// Octets of packets. The secondary header flag and the synchronisation flag are 0, and the
     /// first header pointer is 2047 or an offset in the data field.
     Packets {
-        /// The offset in the data field at which the first packet starts, or `None` where no packet
-        /// starts in it (pointer 2047).
+        /// The offset in the data field at which the first packet starts, below the length of
+        /// `octets`, or `None` where no packet starts in the data field (pointer 2047).
         first: Option<u16>,
-        /// The data field, at most 2042 octets.
+        /// The whole data field, at most 2042 octets.
         octets: &'a [u8],
     },
-    /// Only idle data: both flags are 0, and the first header pointer is 2046.
+    /// Only idle data. The secondary header flag and the synchronisation flag are 0, and the first
+    /// header pointer is 2046.
     Idle,
     /// A data field that isn't read: the secondary header flag or the synchronisation flag is 1, or
-    /// the first header pointer is an offset at or past the end of the data field. The class of
-    /// opaque frames is this project's choice.
+    /// the first header pointer is an offset at or past the end of the data field. Making one class
+    /// of these frames, opaque frames, is this project's choice.
     Opaque,
 }
 
@@ -64,7 +65,9 @@ impl<'a> TmFrame<'a> {
     ghost use Rattle.sl_tmframe.specs.TmFrame.{tm_frame};
 
     /// Reads a frame of this format and spacecraft, or answers why the frame is skipped. `octets`
-    /// has exactly [`TmShape::len`] octets. The data field is borrowed from `octets`.
+    /// has exactly [`TmShape::len`] octets, which may be any octets. `spacecraft` is a spacecraft
+    /// identifier, 0 to 1023; with a greater number every frame is skipped. The data field is
+    /// borrowed from `octets`.
     ///
     /// The packet order flag, the segment length identifier and the master channel frame count are
     /// not checked, by this project's choice.
@@ -86,7 +89,7 @@ impl<'a> TmFrame<'a> {
         })
     }
 
-    /// Virtual channel identifier, 0 to 7.
+    /// The virtual channel identifier, 0 to 7.
     pub fn vc(&self) -> u8
         ensures value { result ≡ self.now.vc }
         ensures fits { result ≤ 7 }
@@ -94,30 +97,30 @@ impl<'a> TmFrame<'a> {
         self.header.vc()
     }
 
-    /// Master channel frame count, 0 to 255.
+    /// The master channel frame count, 0 to 255.
     pub fn mc_count(&self) -> u8
         ensures { result ≡ self.now.mc_count }
     {
         self.header.mc()
     }
 
-    /// Virtual channel frame count, 0 to 255.
+    /// The virtual channel frame count, 0 to 255.
     pub fn vc_count(&self) -> u8
         ensures { result ≡ self.now.vc_count }
     {
         self.header.vcc()
     }
 
-    /// The four octets of the operational control field, or `None` where the frame has no such
-    /// field. Frames with only idle data and opaque frames may have one too.
+    /// The four octets of the operational control field, or `None` where the frame doesn't have
+    /// this field. Frames with only idle data and opaque frames may have the field too.
     pub fn control(&self) -> Option<[u8; 4]>
         ensures { result ≡ self.now.control }
     {
         self.control
     }
 
-    /// The content of the frame. A first packet start lies in the data field, which has at most
-    /// 2042 octets.
+    /// The content of the frame. The offset of the first packet start, if there is one, is below
+    /// the length of the data field, and this length is at most 2042.
     pub fn field(&self) -> TmField<'a>
         ensures value { data_field result ≡ self.now.field }
         ensures inside { IsInField (data_field result) }
@@ -126,7 +129,7 @@ impl<'a> TmFrame<'a> {
     }
 }
 
-// The primary header and the octets after it.
+// Reads the primary header, and answers the octets after the header too.
 #[inline(always)]
 fn split_header(octets: &[u8]) -> (TmHeader, &[u8])
     requires { 6 ≤ length octets.now }
@@ -137,7 +140,8 @@ fn split_header(octets: &[u8]) -> (TmHeader, &[u8])
     (TmHeader::read(header), behind)
 }
 
-// The first reason to skip the octets of a frame under this header.
+// The first reason to skip the frame with these octets, and `None` where no reason holds. `header`
+// is the header at the front of the octets.
 #[inline(always)]
 fn skip_of(shape: &TmShape, header: &TmHeader, spacecraft: u16, octets: &[u8]) -> Option<TmSkip>
     requires frame { length octets.now ≡ shape.now.len }
@@ -156,7 +160,8 @@ fn skip_of(shape: &TmShape, header: &TmHeader, spacecraft: u16, octets: &[u8]) -
     None
 }
 
-// The data field and the operational control field of the octets after the header.
+// Splits the octets between the header and the frame error control field into the data field and
+// the operational control field. The second is there where the header says so.
 #[inline(always)]
 fn split_control<'a>(header: &TmHeader, behind: &'a [u8]) -> (&'a [u8], Option<[u8; 4]>)
     requires { 4 ≤ length behind.now }
@@ -172,7 +177,7 @@ fn split_control<'a>(header: &TmHeader, behind: &'a [u8]) -> (&'a [u8], Option<[
     (field, Some(*control))
 }
 
-// The content of a data field under this header.
+// The content of a data field, in a frame with this header.
 #[inline(always)]
 fn data_field_of<'a>(header: &TmHeader, field: &'a [u8]) -> TmField<'a>
     requires { length field.now ≤ 2042 }
@@ -182,6 +187,7 @@ fn data_field_of<'a>(header: &TmHeader, field: &'a [u8]) -> TmField<'a>
     if header.secondary() || header.sync() {
         return TmField::Opaque;
     }
+    // The pointers 2046 and 2047 are no offsets, but have these two meanings (CCSDS 132.0-B).
     match header.first() {
         2046 => TmField::Idle,
         2047 => TmField::Packets {

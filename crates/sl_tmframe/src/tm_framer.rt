@@ -8,14 +8,17 @@ use arrayvec::ArrayVec;
 use std::marker::Model;
 
 /// Takes the octets of a recording in chunks, and returns each TM transfer frame (CCSDS 132.0-B)
-/// that the octets complete. The framer keeps one frame at most, and takes no memory.
+/// that the octets complete. All frames have the managed length, and lie end to end from the
+/// recording's first octet on. The framer keeps the octets of one frame at most, in an array of its
+/// own, and takes no memory.
 #[derive(Drop)]
 pub struct TmFramer {
+    // The length of a frame in octets, 32 to 2048.
     len: u16,
-    // The number of octets that were taken after the last frame.
+    // The number of octets that were taken after the last frame, fewer than a frame has.
     held: usize,
-    // The octets that were taken after the last frame lie in front. The array is full from the
-    // start and is overwritten, so it needn't be blanked between frames.
+    // The octets that were taken after the last frame lie at the front. The array has 2048 octets
+    // at all times: later octets overwrite earlier ones, and nothing is cleared between frames.
     taken: ArrayVec<u8, 2048>,
 }
 
@@ -58,14 +61,18 @@ impl TmFramer {
     /// together with the octets that were taken before. `piece` is left with the octets after the
     /// frame.
     ///
-    /// `None` comes exactly where the chunk is used up before a frame is complete; then all octets
-    /// of the chunk are taken.
+    /// `None` comes exactly where the chunk is used up before a frame is complete. All octets of
+    /// the chunk are then taken, and `piece` is left empty.
     pub fn next(&mut self, piece: &mut &[u8]) -> Option<&[u8]>
+        // The state once the returned frame isn't borrowed any more: no octet is held after a
+        // frame. Without a frame the chunk was added to the octets that were held.
         ensures* taken { sem 𝓛 (Rests the_row self.entry (HasTaken self.old piece.old.now result)) }
+
         // A frame has the octets that were taken after the last frame, and then octets from the
-        // front of the chunk.
+        // front of the chunk. The other octets of the chunk are left.
         ensures frame { IfSome result (λ frame.
             YieldsFrame self.old piece.old.now frame.now piece.new.now) }
+
         // Without a frame the chunk was used up first.
         ensures used_up { IfNone result (UsesUpChunk self.old piece.old.now piece.new.now) }
     {
@@ -85,9 +92,9 @@ impl TmFramer {
 
     /// As [`next`](TmFramer::next), with the same clauses, for a chunk that outlives the frame.
     ///
-    /// By reading, a frame that lies whole in the chunk is returned as a slice of the chunk, and
-    /// only a frame that lies in several chunks is copied. No clause says where the octets of a
-    /// frame lie.
+    /// No clause says where the octets of a frame lie. As the code is written, a frame that lies
+    /// whole in the chunk is returned as a slice of the chunk, and only a frame that lies in
+    /// several chunks is copied.
     #[inline]
     pub fn next_from<'a, 'p: 'a>(&'a mut self, piece: &mut &'p [u8]) -> Option<&'a [u8]>
         ensures* taken { sem 𝓛 (Rests the_row self.entry (HasTaken self.old piece.old.now result)) }
@@ -95,7 +102,8 @@ impl TmFramer {
             YieldsFrame self.old piece.old.now frame.now piece.new.now) }
         ensures used_up { IfNone result (UsesUpChunk self.old piece.old.now piece.new.now) }
     {
-        // The caller's own reference isn't lent to the cold call, so it may stay in registers.
+        // A copy of the caller's reference is lent to the cold call, so that the reference itself
+        // may stay in registers.
         let mut octets: &'p [u8] = *piece;
         let is_between_frames = self.held == 0;
         if is_between_frames {
@@ -109,7 +117,8 @@ impl TmFramer {
         frame
     }
 
-    // Returns a frame that lies in several chunks.
+    // As `next`, out of line: for a frame that lies in several chunks, and for a chunk that ends
+    // before a frame is complete.
     #[cold]
     fn next_across(&mut self, piece: &mut &[u8]) -> Option<&[u8]>
         ensures* taken { sem 𝓛 (Rests the_row self.entry (HasTaken self.old piece.old.now result)) }
@@ -119,7 +128,8 @@ impl TmFramer {
     }
 }
 
-// Writes these octets over the octets at this offset.
+// Writes these octets over those of `room` from this offset on. The octets before the offset stay,
+// and so does the length of `room`.
 fn write_at(room: &mut [u8], offset: usize, octets: &[u8])
     requires { offset + length octets.now ≤ length room.old }
     ensures front { take (offset + length octets.now) room.new

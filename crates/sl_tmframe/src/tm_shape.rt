@@ -6,7 +6,8 @@ use sl_fields::ShapeFault;
 use std::marker::Model;
 
 /// The managed format of a physical channel's TM transfer frames (CCSDS 132.0-B): the length of all
-/// frames, and whether each frame ends with a frame error control field.
+/// frames, 32 to 2048 octets, and whether each frame ends with a frame error control field. A frame
+/// itself states neither.
 #[derive(Clone, Copy, Debug, PartialEq, Eq)]
 pub struct TmShape {
     pub(crate) len: u16,
@@ -31,8 +32,9 @@ impl TmShape {
     ghost use Rattle.sl_tmframe.specs.TmFrame.{TmFormat};
     ghost use Rattle.sl_tmframe.specs.TmShape.{tm_shape};
 
-    /// The format with this length, 32 to 2048 octets, and a frame error control field where `fecf`
-    /// is set. Any other length is refused with `TmLength`. These bounds are this project's choice.
+    /// The format of frames that have `len` octets, 32 to 2048, and end with a frame error control
+    /// field where `fecf` is set. Any other length is refused with [`ShapeFault::TmLength`]. Both
+    /// bounds are this project's choice.
     pub fn new(len: u16, fecf: bool) -> Result<TmShape, ShapeFault>
         ensures { let format : TmFormat = record { len = len; fecf = fecf } in
             result ≡ tm_shape format }
@@ -43,7 +45,7 @@ impl TmShape {
         Ok(TmShape { len, fecf })
     }
 
-    /// The octets of a frame, 32 to 2048.
+    /// The length of a frame in octets, 32 to 2048.
     pub fn len(&self) -> u16
         ensures value { result ≡ self.now.len }
         ensures least { 32 ≤ result }
@@ -59,7 +61,9 @@ impl TmShape {
         self.fecf
     }
 
-    /// The octets of the data field of a frame without an operational control field, 24 to 2042.
+    /// The length in octets of the data field of a frame without an operational control field, 24
+    /// to 2042. These are the octets of a frame without the 6 of the primary header and, where the
+    /// format has the field, the 2 of the frame error control field.
     pub fn room(&self) -> u16
         ensures value { result ≡ field_room_of self.now }
         ensures least { 24 ≤ result }

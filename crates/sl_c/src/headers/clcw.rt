@@ -7,7 +7,7 @@ ghost use Rattle.sl_c.specs.Headers.{WritesOctets, clcw_fields_of};
 use crate::answer::Answer;
 use sl_fields::Clcw;
 
-/// The Communications Link Control Word, as its fields.
+/// The Communications Link Control Word, as its fields, in the ranges of [`Clcw::new`].
 #[repr(C)]
 #[derive(Clone, Copy)]
 pub struct ClcwWordFields {
@@ -27,7 +27,7 @@ pub struct ClcwWordFields {
     pub report: u8,
 }
 
-/// The word that the four octets are.
+/// Reads the word that the four octets are, whatever they are.
 #[unsafe(no_mangle)]
 pub extern "C" fn sllink_clcw_read(octets: &[u8; 4], word: &mut ClcwWordFields)
     ensures { clcw_fields_of word.new ≡ clcw_word octets.now }
@@ -51,12 +51,13 @@ pub extern "C" fn sllink_clcw_read(octets: &[u8; 4], word: &mut ClcwWordFields)
     };
 }
 
-/// Writes the four octets of the word, unless a field is out of the range of its bits.
+/// Writes the four octets of the word, and answers `Done`. Where a field is out of its range the
+/// answer is `Field`, and nothing is written.
 #[unsafe(no_mangle)]
 pub extern "C" fn sllink_clcw_write(word: &ClcwWordFields, octets: &mut [u8; 4]) -> u32
     ensures octets { WritesOctets (FitsClcw (clcw_fields_of word.now))
         (clcw_octets (clcw_fields_of word.now)) octets.old octets.new result }
-    // They read as this word.
+    // The octets are read back as this word.
     ensures reads_back { Says result Answer.Done → clcw_word octets.new ≡ clcw_fields_of word.now }
 {
     match Clcw::new(

@@ -7,7 +7,7 @@ ghost use Rattle.sl_c.specs.Headers.{WritesOctets, packet_fields_of};
 use crate::answer::Answer;
 use sl_fields::PacketHeader;
 
-/// The primary header of a space packet, as its fields.
+/// The primary header of a space packet, as its fields, in the ranges of [`PacketHeader::new`].
 #[repr(C)]
 #[derive(Clone, Copy)]
 pub struct PacketHeaderFields {
@@ -20,7 +20,7 @@ pub struct PacketHeaderFields {
     pub length: u16,
 }
 
-/// The header that the six octets are.
+/// Reads the header that the six octets are, whatever they are.
 #[unsafe(no_mangle)]
 pub extern "C" fn sllink_packet_header_read(octets: &[u8; 6], header: &mut PacketHeaderFields)
     ensures { packet_fields_of header.new ≡ packet_header octets.now }
@@ -37,7 +37,8 @@ pub extern "C" fn sllink_packet_header_read(octets: &[u8; 6], header: &mut Packe
     };
 }
 
-/// Writes the six octets of the header, unless a field is out of the range of its bits.
+/// Writes the six octets of the header, and answers `Done`. Where a field is out of its range the
+/// answer is `Field`, and nothing is written.
 #[unsafe(no_mangle)]
 pub extern "C" fn sllink_packet_header_write(
     header: &PacketHeaderFields,
@@ -45,7 +46,7 @@ pub extern "C" fn sllink_packet_header_write(
 ) -> u32
     ensures octets { WritesOctets (FitsPacketHeader (packet_fields_of header.now))
         (packet_octets (packet_fields_of header.now)) octets.old octets.new result }
-    // They read as this header.
+    // The octets are read back as this header.
     ensures reads_back { Says result Answer.Done → packet_header octets.new ≡ packet_fields_of header.now }
 {
     match PacketHeader::new(

@@ -7,7 +7,7 @@ ghost use Rattle.sl_c.specs.Headers.{WritesOctets, segment_fields_of};
 use crate::answer::Answer;
 use sl_fields::SegmentHeader;
 
-/// The segment header of a TC transfer frame, as its fields.
+/// The segment header of a TC transfer frame, as its fields, in the ranges of [`SegmentHeader::new`].
 #[repr(C)]
 #[derive(Clone, Copy)]
 pub struct SegmentHeaderFields {
@@ -15,7 +15,7 @@ pub struct SegmentHeaderFields {
     pub map: u8,
 }
 
-/// The header that the one octet is.
+/// Reads the header that the one octet is, whatever it is.
 #[unsafe(no_mangle)]
 pub extern "C" fn sllink_segment_header_read(octets: &[u8; 1], header: &mut SegmentHeaderFields)
     ensures { segment_fields_of header.new ≡ segment_header octets.now }
@@ -27,7 +27,8 @@ pub extern "C" fn sllink_segment_header_read(octets: &[u8; 1], header: &mut Segm
     };
 }
 
-/// Writes the one octet of the header, unless a field is out of the range of its bits.
+/// Writes the one octet of the header, and answers `Done`. Where a field is out of its range the
+/// answer is `Field`, and nothing is written.
 #[unsafe(no_mangle)]
 pub extern "C" fn sllink_segment_header_write(
     header: &SegmentHeaderFields,
@@ -35,7 +36,7 @@ pub extern "C" fn sllink_segment_header_write(
 ) -> u32
     ensures octets { WritesOctets (FitsSegmentHeader (segment_fields_of header.now))
         (segment_octets (segment_fields_of header.now)) octets.old octets.new result }
-    // They read as this header.
+    // The octets are read back as this header.
     ensures reads_back { Says result Answer.Done → segment_header octets.new ≡ segment_fields_of header.now }
 {
     match SegmentHeader::new(header.flags, header.map) {

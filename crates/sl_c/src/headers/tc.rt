@@ -7,7 +7,7 @@ ghost use Rattle.sl_c.specs.Headers.{WritesOctets, tc_fields_of};
 use crate::answer::Answer;
 use sl_fields::TcHeader;
 
-/// The primary header of a TC transfer frame, as its fields.
+/// The primary header of a TC transfer frame, as its fields, in the ranges of [`TcHeader::new`].
 #[repr(C)]
 #[derive(Clone, Copy)]
 pub struct TcHeaderFields {
@@ -21,7 +21,7 @@ pub struct TcHeaderFields {
     pub ns: u8,
 }
 
-/// The header that the five octets are.
+/// Reads the header that the five octets are, whatever they are.
 #[unsafe(no_mangle)]
 pub extern "C" fn sllink_tc_header_read(octets: &[u8; 5], header: &mut TcHeaderFields)
     ensures { tc_fields_of header.new ≡ tc_header octets.now }
@@ -39,12 +39,13 @@ pub extern "C" fn sllink_tc_header_read(octets: &[u8; 5], header: &mut TcHeaderF
     };
 }
 
-/// Writes the five octets of the header, unless a field is out of the range of its bits.
+/// Writes the five octets of the header, and answers `Done`. Where a field is out of its range the
+/// answer is `Field`, and nothing is written.
 #[unsafe(no_mangle)]
 pub extern "C" fn sllink_tc_header_write(header: &TcHeaderFields, octets: &mut [u8; 5]) -> u32
     ensures octets { WritesOctets (FitsTcHeader (tc_fields_of header.now))
         (tc_octets (tc_fields_of header.now)) octets.old octets.new result }
-    // They read as this header.
+    // The octets are read back as this header.
     ensures reads_back { Says result Answer.Done → tc_header octets.new ≡ tc_fields_of header.now }
 {
     match TcHeader::new(

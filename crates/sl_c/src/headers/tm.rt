@@ -7,7 +7,7 @@ ghost use Rattle.sl_c.specs.Headers.{WritesOctets, tm_fields_of};
 use crate::answer::Answer;
 use sl_fields::TmHeader;
 
-/// The primary header of a TM transfer frame, as its fields.
+/// The primary header of a TM transfer frame, as its fields, in the ranges of [`TmHeader::new`].
 #[repr(C)]
 #[derive(Clone, Copy)]
 pub struct TmHeaderFields {
@@ -24,7 +24,7 @@ pub struct TmHeaderFields {
     pub first: u16,
 }
 
-/// The header that the six octets are.
+/// Reads the header that the six octets are, whatever they are.
 #[unsafe(no_mangle)]
 pub extern "C" fn sllink_tm_header_read(octets: &[u8; 6], header: &mut TmHeaderFields)
     ensures { tm_fields_of header.new ≡ tm_header octets.now }
@@ -45,12 +45,13 @@ pub extern "C" fn sllink_tm_header_read(octets: &[u8; 6], header: &mut TmHeaderF
     };
 }
 
-/// Writes the six octets of the header, unless a field is out of the range of its bits.
+/// Writes the six octets of the header, and answers `Done`. Where a field is out of its range the
+/// answer is `Field`, and nothing is written.
 #[unsafe(no_mangle)]
 pub extern "C" fn sllink_tm_header_write(header: &TmHeaderFields, octets: &mut [u8; 6]) -> u32
     ensures octets { WritesOctets (FitsTmHeader (tm_fields_of header.now))
         (tm_octets (tm_fields_of header.now)) octets.old octets.new result }
-    // They read as this header.
+    // The octets are read back as this header.
     ensures reads_back { Says result Answer.Done → tm_header octets.new ≡ tm_fields_of header.now }
 {
     match TmHeader::new(

@@ -1,4 +1,4 @@
--- Digits of numbers. Contracts of private functions alone cite it.
+-- Digits of numbers. Contracts of private functions alone cite these.
 use Rattle.std.specs.Prelude.{◌≡◌, ◌≤◌, ℕ, ◌+◌, ◌/◌, ◌%◌, List, [], ◌∷◌, ◌++◌, decimal, slice_index, take}
 
 -- the places begin with the digits of the number, and the last place says how many these are, three at most

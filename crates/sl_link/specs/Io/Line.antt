@@ -1,7 +1,7 @@
 -- The lines of a listing.
 use Rattle.std.specs.Prelude.{ℕ, ◌==◌, if◌then◌else◌, List, [], ◌++◌, codes, decimal}
 
--- a line: the octets before the thing, and what it says of it
+-- a line: the offset in the recording of what the line is about, and a text about it
 abbrev pub line_at : ℕ → List ℕ → List ℕ
 line_at offset text = decimal offset ++ text ++ codes "\n"
 

@@ -9,10 +9,11 @@ lines_size = 0x10000
 abbrev pub reserve : ℕ
 reserve = 256
 
--- after these lines there is room for some octets more
+-- After these lines there is room for some octets more. The contract for a part of a line asks for
+-- what the parts before leave of the reserve.
 abbrev pub HasRoomFor : ℕ → List ℕ → Type 0
 HasRoomFor octets lines = length lines + octets ≤ lines_size
 
--- and for the lines of one frame more
+-- after these lines there is room for the lines of one frame more
 abbrev pub HasRoom : List ℕ → Type 0
 HasRoom lines = HasRoomFor reserve lines

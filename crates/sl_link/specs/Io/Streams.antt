@@ -1,5 +1,5 @@
--- What an engine does to the octets that a reader has left and a writer holds, where those are known. Of
--- a reader or a writer that doesn't tell its octets these words say nothing but the faults.
+-- What an engine does to the octets that a reader has left and a writer holds. Where a reader or a
+-- writer doesn't report its octets, these definitions speak of its faults alone.
 use Rattle.std.specs.Prelude.{◌≡◌, ℕ, ◌+◌, ◌≤◌, ◌<◌, List, [], ◌++◌, length, take, Option}
 use Rattle.std.specs.Io.KnownBytes.{Consumes, IsAtEnd, Appends}
 use Rattle.sl_link.specs.declared.link.counted.Counted.{Counted}
@@ -13,7 +13,7 @@ module _ {R : Type 0} (remaining : R → Option (List ℕ)) where
   abbrev pub Reads : Counted R → Counted R → List ℕ → Type 0
   Reads old new octets = Consumes (remaining (stream_of old)) (remaining (stream_of new)) octets
 
-  -- none is left
+  -- the reader has nothing left
   abbrev pub IsRead : Counted R → Type 0
   IsRead new = IsAtEnd (remaining (stream_of new))
 
@@ -29,9 +29,9 @@ module _ {W : Type 0} (contents : W → Option (List ℕ)) where
     pub front : written ++ missing ≡ text
     pub writes : Writes old new written
 
--- ---- a buffer, and a text
+-- ---- what is read, and what is written
 
--- n octets came to the front of the buffer, none only where the input ended
+-- n octets came to the front of the buffer, and n is 0 only where the input ended or the buffer is empty
 pub record ReadsSome {R : Type 0} (remaining : R → Option (List ℕ)) (old new : Counted R) (buffer : List ℕ)
     (limit n : ℕ) : Type 0 where
   pub inside : n ≤ length buffer
@@ -40,14 +40,14 @@ pub record ReadsSome {R : Type 0} (remaining : R → Option (List ℕ)) (old new
   pub to_end : n ≡ 0 → 0 < length buffer → IsRead remaining new
   pub no_fault : faults_of new ≡ faults_of old
 
--- the cause of a fault of reading is there
+-- a fault of one read has its cause: the reader failed and gave nothing, or gave more octets than the limit
 abbrev pub IsReadFault : {R : Type 0} → Counted R → Counted R → ℕ → List ℕ → LinkFault → Type 0
 IsReadFault old new limit octets Read = HadOneFault old new × (octets ≡ [])
 IsReadFault old new limit octets TooLong = (faults_of new ≡ faults_of old) × (limit < length octets)
 IsReadFault old new limit octets Memory = ⊥
 IsReadFault old new limit octets Write = ⊥
 
--- octets came into the buffer, and then a fault
+-- octets, or none, came into the buffer, and then a fault
 pub record StopsReading {R : Type 0} (remaining : R → Option (List ℕ)) (old new : Counted R) (buffer : List ℕ)
     (limit : ℕ) (fault : LinkFault) : Type 0 where
   pub octets : List ℕ
@@ -63,7 +63,7 @@ pub record ReadsAll {R : Type 0} (remaining : R → Option (List ℕ)) (old new 
   pub to_end : IsRead remaining new
   pub no_fault : faults_of new ≡ faults_of old
 
--- the cause of a fault of reading, or of keeping what was read, is there
+-- a fault of reading all has its cause, or one of keeping what was read; a read gives `buffer` octets at most
 abbrev pub IsReadingAllFault : {R : Type 0} → Counted R → Counted R → ℕ → ℕ → List ℕ → LinkFault → Type 0
 IsReadingAllFault old new limit buffer octets Read = HadOneFault old new × (length octets ≤ limit)
 IsReadingAllFault old new limit buffer octets TooLong =
@@ -83,7 +83,7 @@ pub record WritesText {W : Type 0} (contents : W → Option (List ℕ)) (old new
   pub writes : Writes contents old new text
   pub no_fault : faults_of new ≡ faults_of old
 
--- a text is added to what isn't written yet, some of which may be written for it
+-- A text is added to the octets that wait, `pending`. Then `pending'` wait, and what came before these was written.
 pub record AddsText {W : Type 0} (contents : W → Option (List ℕ)) (old new : Counted W)
     (pending pending' text : List ℕ) : Type 0 where
   pub written : List ℕ
@@ -98,7 +98,7 @@ pub record StopsWriting {W : Type 0} (contents : W → Option (List ℕ)) (old n
   pub is_write : fault ≡ Write
   pub cause : HadOneFault old new
 
--- the cause of a fault of writing, or of keeping what is to be written, is there
+-- a fault of writing has its cause, or one of keeping what is to be written
 abbrev pub IsListingFault : {W : Type 0} → Counted W → Counted W → LinkFault → Type 0
 IsListingFault old new Read = ⊥
 IsListingFault old new TooLong = ⊥
@@ -114,8 +114,7 @@ pub record StopsListing {W : Type 0} (contents : W → Option (List ℕ)) (old n
 -- ---- a whole engine, over its reader and its writer before and after the call
 
 module _ {R W : Type 0} (remaining : R → Option (List ℕ)) (contents : W → Option (List ℕ)) where
-  -- All was read, no more than the limit, the text of it was written and nothing else, and the number of faults of
-  -- neither stream rose.
+  -- All was read, no more than the limit, its text was written and nothing else, and neither count of faults rose.
   pub record Translates (reader reader' : Counted R) (writer writer' : Counted W) (text : List ℕ → List ℕ)
       (limit : ℕ) : Type 0 where
     pub octets : List ℕ
@@ -126,14 +125,15 @@ module _ {R W : Type 0} (remaining : R → Option (List ℕ)) (contents : W → 
     pub reader_kept : faults_of reader' ≡ faults_of reader
     pub writer_kept : faults_of writer' ≡ faults_of writer
 
-  -- And the totals are the counts of the same octets, which streams that don't tell theirs leave open.
+  -- The same, and the totals are the counts of the same octets. Streams that don't report these
+  -- leave the totals open.
   pub record TranslatesAndCounts (reader reader' : Counted R) (writer writer' : Counted W) (text : List ℕ → List ℕ)
       (counts : List ℕ → Counts) (limit : ℕ) (totals : Counts) : Type 0 where
     pub translated : Translates reader reader' writer writer' text limit
     pub counted : totals ≡ counts translated.octets
 
-  -- What was written delivers, read as a recording, the packets that what was read delivers. `packets` gives those of a
-  -- recording.
+  -- What was written, taken as a recording, delivers the same packets as what was read. `packets`
+  -- gives the packets of a recording.
   pub record KeepsPackets (reader reader' : Counted R) (writer writer' : Counted W)
       (packets : List ℕ → List (List (List ℕ))) : Type 0 where
     pub recording : List ℕ
@@ -142,9 +142,9 @@ module _ {R W : Type 0} (remaining : R → Option (List ℕ)) (contents : W → 
     pub written : Writes contents writer writer' form
     pub same : packets form ≡ packets recording
 
-  -- The cause of a fault is there, and no other: at most the stream that it names had a fault. Nothing was
-  -- read once the limit was passed, but for what came with the octet that passed it, one buffer at most. That
-  -- memory was refused can't be told by a clause.
+  -- A fault has its cause, and no other: at most the stream that it names had a fault. Once the
+  -- limit was passed nothing more was read, and the read that passed it gave `buffer` octets at
+  -- most. No clause can say that memory was refused.
   abbrev pub IsCaused : Counted R → Counted R → Counted W → Counted W → ℕ → ℕ → List ℕ → LinkFault → Type 0
   IsCaused reader reader' writer writer' limit buffer octets Read =
       HadOneFault reader reader' × (faults_of writer' ≡ faults_of writer) × (length octets ≤ limit)
@@ -156,7 +156,7 @@ module _ {R W : Type 0} (remaining : R → Option (List ℕ)) (contents : W → 
   IsCaused reader reader' writer writer' limit buffer octets Write =
       HadOneFault writer writer' × (faults_of reader' ≡ faults_of reader) × (length octets ≤ limit)
 
-  -- Octets were read and a prefix of their text was written, and then a fault came, whose cause is there.
+  -- Octets were read and a prefix of their text was written, and then came a fault, which has its cause.
   pub record Stops (reader reader' : Counted R) (writer writer' : Counted W) (text : List ℕ → List ℕ) (limit buffer : ℕ)
       (fault : LinkFault) : Type 0 where
     pub octets : List ℕ

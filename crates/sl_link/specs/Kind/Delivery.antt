@@ -1,5 +1,5 @@
--- What frames of a kind deliver, one after another: the packets that end in each frame, each on a channel. TM and TC
--- frames deliver in one way.
+-- What frames of a kind deliver, one after another: the packets that end in each frame, each on a
+-- channel. All of it is said of TM and TC frames at once.
 use Rattle.std.specs.Prelude.{◌≡◌, ◌≢◌, ℕ, ◌+◌, ◌<◌, ◌≤◌, ◌⊎◌, Bool}
 use Rattle.std.specs.Prelude.{List, [], ◌∷◌, ◌++◌, length, map, Result, Ok, Err}
 use Rattle.std.specs.List.{concat, range_with_len, slice_index_or, slice_set}
@@ -19,7 +19,7 @@ use Rattle.sl_link.specs.Tally.{HasCounted, counts_with, skipped_in}
 pub record Kind : Type 0 where
   -- the frames of a recording
   pub frames_of : List ℕ → List (List ℕ)
-  -- a frame is skipped
+  -- whether a frame is skipped
   pub is_skipped : List ℕ → Bool
   -- the numbers of the channels, and how many there are
   pub channels : List ℕ
@@ -38,7 +38,7 @@ with_frame views (Err reason) = views
 
 -- ---- what is counted
 
--- the items of all lists
+-- how many items all lists have together
 abbrev pub count_of : {X : Type 0} → List (List X) → ℕ
 count_of [] = 0
 count_of (items ∷ lists) = length items + count_of lists
@@ -78,9 +78,10 @@ pub record AreDelivered (k : Kind) : Type 0 where
   pub few : k.limit ≤ channel_count
   pub all : k.channels ≡ range_with_len 0 k.limit
 
--- ---- while frames are processed. Contracts of private functions alone cite what follows.
+-- ---- while frames are processed. Contracts of private functions alone cite this section.
 
--- The kind has these facts, and the frames deliver at most as many packets, idle packets included, as they have octets.
+-- The kind is as `AreDelivered` says, and the frames deliver at most as many packets, idle ones
+-- included, as they have octets.
 pub record IsWithin (k : Kind) (frames : List (List ℕ)) : Type 0 where
   pub delivered : AreDelivered k
   pub within : packets_in k frames + idle_in k frames ≤ length (concat frames)
@@ -111,7 +112,7 @@ pub record StopsDelivering {S : Type 0} (taking : S → ℕ → List ℕ → S �
   pub stopped : IsStopped taking failing failures old (k.channel frame) (without_idle (k.ended before frame)) fault new
   pub wanted : fault ≡ Memory → wants_memory (before ++ frame ∷ [])
 
--- these frames were processed and counted
+-- these frames were processed, as `had` says, and counted
 pub record HasDelivered (k : Kind) (had : List (List ℕ) → Type 0) (frames : List (List ℕ)) (t : Tally) : Type 0 where
   pub processed : had frames
   pub counted : HasCounted (skipped_in k.is_skipped) frames t
@@ -136,6 +137,7 @@ pub record AreKept (k : Kind) (frames : List (List ℕ)) (lists : List (List (Li
       → slice_index_or lists channel [] ≡ without_idle (k.packets frames channel)
   pub none_past : (channel : ℕ) → k.limit ≤ channel → slice_index_or lists channel [] ≡ []
 
--- memory may be refused at the last of these frames: for what is incomplete around it, or since they deliver a packet
+-- memory may be refused at the last of these frames: for what is incomplete before or after it, or
+-- since they deliver a packet
 abbrev pub MayWantMemory : Kind → (List (List ℕ) → Type 0) → List (List ℕ) → Type 0
 MayWantMemory k wants_memory frames = wants_memory frames ⊎ (0 < packets_in k frames)

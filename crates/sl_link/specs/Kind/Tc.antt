@@ -24,16 +24,17 @@ abbrev pub ended_in : ReceptionParameters → List TcView → Result TcView TcSk
 ended_in r views (Ok view) = ended_by r views view
 ended_in r views (Err reason) = []
 
--- its unit is accepted, and a series is incomplete around it on its MAP
+-- the next frame's unit is accepted, and a series is incomplete before or after it on its MAP
 abbrev pub is_incomplete_around : ReceptionParameters → List TcView → Result TcView TcSkip → Type 0
 is_incomplete_around r views (Ok view) = IsIncompleteAround r views view
 is_incomplete_around r views (Err reason) = ⊥
 
--- the channel of the unit of a frame that is read
+-- the channel of the unit of a frame, 0 where the frame is skipped
 abbrev pub channel_of : ReceptionParameters → Result TcView TcSkip → ℕ
 channel_of r (Ok view) = unit_channel r view
 channel_of r (Err reason) = 0
 
+-- TC frames under these parameters
 abbrev pub tc_kind : Parameters → Kind
 tc_kind p =
     record {
@@ -51,11 +52,11 @@ tc_kind p =
 abbrev pub tc_counted : Parameters → List (List ℕ) → ℕ → Counts
 tc_counted p = counted (tc_kind p)
 
--- and in a recording
+-- what is counted in a recording
 abbrev pub tc_counts : Parameters → List ℕ → Counts
 tc_counts p = listing_counts (tc_counted p) (tc_frames_of (tc_format p))
 
--- a series is incomplete around the last of these frames, on the MAP of its unit, which is accepted
+-- a series is incomplete before or after the last of these frames, on the MAP of its unit, which is accepted
 pub record WantsMemoryTc (p : Parameters) (frames : List (List ℕ)) : Type 0 where
   pub before : List (List ℕ)
   pub frame : List ℕ
@@ -64,7 +65,7 @@ pub record WantsMemoryTc (p : Parameters) (frames : List (List ℕ)) : Type 0 wh
   pub is_read : as_read p frame ≡ Ok view
   pub incomplete : IsIncompleteAround (reception_of p) (views_of (tc_format p) p.spacecraft before) view
 
--- or these frames deliver a packet
+-- the same, or these frames deliver a packet
 abbrev pub MayWantMemoryTc : Parameters → List (List ℕ) → Type 0
 MayWantMemoryTc p = MayWantMemory (tc_kind p) (WantsMemoryTc p)
 
@@ -75,7 +76,8 @@ abbrev pub held_after : Parameters → List (List ℕ) → ℕ
 held_after p frames =
     count_of (map (held_in (reception_of p) (views_of (tc_format p) p.spacecraft frames)) map_channels)
 
--- It has processed these frames. The packets that they deliver and the octets that it holds are no more than theirs.
+-- A receiver has processed these frames. The packets that they deliver and the octets that it holds
+-- are together no more than the octets of the frames.
 pub record HasProcessedTc (p : Parameters) (state : ReceiverState) (frames : List (List ℕ)) : Type 0 where
   pub processed : HasProcessed (reception_of p) state (views_of (tc_format p) p.spacecraft frames)
   pub within : IsWithin (tc_kind p) frames

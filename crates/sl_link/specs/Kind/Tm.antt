@@ -20,16 +20,17 @@ abbrev pub ended_in : List TmView → Result TmView TmSkip → List (List ℕ)
 ended_in views (Ok view) = ended_by views view
 ended_in views (Err reason) = []
 
--- a packet is incomplete around the next frame, on its virtual channel
+-- a packet is incomplete before or after the next frame, on its virtual channel
 abbrev pub is_incomplete_around : List TmView → Result TmView TmSkip → Type 0
 is_incomplete_around views (Ok view) = IsIncompleteAround views view
 is_incomplete_around views (Err reason) = ⊥
 
--- the virtual channel of a frame that is read
+-- the virtual channel of a frame, 0 where the frame is skipped
 abbrev pub vc_of : Result TmView TmSkip → ℕ
 vc_of (Ok view) = view.vc
 vc_of (Err reason) = 0
 
+-- TM frames under these parameters
 abbrev pub tm_kind : Parameters → Kind
 tm_kind p =
     record {
@@ -46,11 +47,11 @@ tm_kind p =
 abbrev pub tm_counted : Parameters → List (List ℕ) → ℕ → Counts
 tm_counted p = counted (tm_kind p)
 
--- and in a recording
+-- what is counted in a recording
 abbrev pub tm_counts : Parameters → List ℕ → Counts
 tm_counts p = listing_counts (tm_counted p) (tm_frames_of p.tm_length)
 
--- a packet is incomplete around the last of these frames, on its virtual channel
+-- a packet is incomplete before or after the last of these frames, on its virtual channel
 pub record WantsMemoryTm (p : Parameters) (frames : List (List ℕ)) : Type 0 where
   pub before : List (List ℕ)
   pub frame : List ℕ
@@ -59,7 +60,7 @@ pub record WantsMemoryTm (p : Parameters) (frames : List (List ℕ)) : Type 0 wh
   pub is_read : as_read p frame ≡ Ok view
   pub incomplete : IsIncompleteAround (views_of (tm_format p) p.spacecraft before) view
 
--- or these frames deliver a packet
+-- the same, or these frames deliver a packet
 abbrev pub MayWantMemoryTm : Parameters → List (List ℕ) → Type 0
 MayWantMemoryTm p = MayWantMemory (tm_kind p) (WantsMemoryTm p)
 

@@ -7,7 +7,7 @@ use Rattle.sl_link.specs.declared.link.counted.Counted.{Counted}
 abbrev pub stream_of : {T : Type 0} → Counted T → T
 stream_of c = c.stream
 
--- the errors that it answered, and the writes that took nothing of one or more octets
+-- the count of its faults: of errors, and of writes that took none of one or more octets
 abbrev pub faults_of : {T : Type 0} → Counted T → ℕ
 faults_of c = c.faults
 
@@ -15,7 +15,7 @@ faults_of c = c.faults
 abbrev pub HadOneFault : {T : Type 0} → Counted T → Counted T → Type 0
 HadOneFault old new = faults_of new ≡ one_more (faults_of old)
 
--- a write that failed, or took nothing of one or more octets
+-- a write that failed, or took none of one or more octets
 abbrev pub is_write_fault : {E : Type 0} → Result ℕ E → List ℕ → Bool
 is_write_fault (Ok taken) octets = (taken == 0) && not (length octets == 0)
 is_write_fault (Err e) octets = true

@@ -1,4 +1,4 @@
--- Why an engine stops where the handing over of packets to its sink did.
+-- The fault of an engine that couldn't hand packets on to its sink.
 use Rattle.sl_packet.specs.declared.flow_fault.FlowFault.{FlowFault}
 use Rattle.sl_packet.specs.declared.flow_fault.FlowFault.TheVariants as flow
 use Rattle.sl_packet.specs.declared.sink.SinkFault.{SinkFault}
@@ -6,13 +6,13 @@ use Rattle.sl_packet.specs.declared.sink.SinkFault.TheVariants as sink
 use Rattle.sl_link.specs.declared.link.fault.LinkFault.{LinkFault}
 use Rattle.sl_link.specs.declared.link.fault.LinkFault.TheVariants.{Memory, Write}
 
--- A sink's device is the writer. No sink of an engine has a rule by which it refuses packets.
+-- The device of an engine's sink is the writer. No such sink has a rule by which it refuses packets.
 abbrev pub sink_fault : SinkFault → LinkFault
 sink_fault sink.Memory = Memory
 sink_fault sink.Device = Write
 sink_fault sink.Refused = Write
 
--- No engine goes on after a fault, so that an earlier call failed never comes.
+-- No engine goes on after a fault. So `Failed`, that an earlier call failed, never comes here.
 abbrev pub flow_fault : FlowFault → LinkFault
 flow_fault flow.Memory = Memory
 flow_fault (flow.Sink fault) = sink_fault fault

@@ -8,6 +8,8 @@ use Rattle.sl_tcframe.specs.TcFrame.{TcFormat}
 use Rattle.sl_tmframe.specs.TmFrame.{TmFormat}
 use Rattle.sl_tcflow.specs.ReceptionParameters.{ReceptionParameters}
 
+-- Managed parameters, accepted or not: `tc_max` is the length of the longest TC frame, `max_octets`
+-- the octets that may be read of a recording.
 pub record Parameters : Type 0 where
   pub spacecraft : ℕ
   pub tm_length : ℕ

@@ -1,4 +1,4 @@
--- A `Managed` stands for its parameters. None of them is refused, and the initial V(R) of each virtual channel is an octet.
+-- A `Managed` stands for its parameters. None of these is refused, and each initial V(R) is an octet.
 use Rattle.sl_link.specs.Link.Managed.{AreAccepted, Parameters, tc_format, tm_format}
 use Rattle.sl_link.specs.declared.link.managed.Managed.TheInside.{Inside}
 

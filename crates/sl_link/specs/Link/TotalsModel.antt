@@ -1,4 +1,4 @@
--- `Totals` are their counts, none of which is above the octets.
+-- `Totals` are their counts. None of these is above the octets.
 use Rattle.sl_link.specs.Link.Totals.{Counts, AreWithinOctets}
 use Rattle.sl_link.specs.declared.link.totals.Totals.TheInside.{Inside}
 

@@ -1,5 +1,5 @@
--- A normal form that is made and written piece by piece, whatever kind its frames are. `left` tells the octets that are
--- still to come.
+-- A normal form that is made and written piece by piece, whatever kind its frames are. `left`
+-- relates a form to the octets that are still to come.
 use Rattle.std.specs.Prelude.{◌≡◌, ℕ, ◌<◌, List, [], ◌++◌, Option}
 use Rattle.sl_link.specs.declared.link.counted.Counted.{Counted}
 use Rattle.sl_link.specs.declared.link.fault.LinkFault.{LinkFault}
@@ -25,8 +25,8 @@ module _ {F : Type 0} (left : F → List ℕ → Type 0) where
   abbrev pub IsFewer : (F → ℕ) → F → F → Type 0
   IsFewer most old new = (octets : List ℕ) → left old octets → most new < most old
 
--- the cause of a fault of writing a normal form, or of making it: where memory was refused there are packets, and
--- nothing was written
+-- a fault of writing a normal form, or of making it, has its cause: where memory was refused there
+-- are packets, and nothing was written
 abbrev pub StopsForm : {W : Type 0} → (W → Option (List ℕ)) → Counted W → Counted W → List ℕ → Type 0 → LinkFault
     → Type 0
 StopsForm contents old new text packets Read = ⊥

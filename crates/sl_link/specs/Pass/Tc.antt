@@ -33,6 +33,6 @@ pub tc_front_is_first : (p : Parameters) (frame more : List ℕ) → is_tc_frame
     → tc_frames p (frame ++ more) ≡ frame ∷ tc_frames p more
 tc_front_is_first p frame more h = frames_of-frame (tc_format p) frame more h
 
--- no octets have no frame
+-- an empty recording has no frames
 pub tc_nothing_has_none : (p : Parameters) → tc_frames p [] ≡ []
 tc_nothing_has_none p = refl

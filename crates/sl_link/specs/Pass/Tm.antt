@@ -28,6 +28,6 @@ pub tm_front_is_first : (p : Parameters) (frame more : List ℕ) → is_tm_frame
     → tm_frames p (frame ++ more) ≡ frame ∷ tm_frames p more
 tm_front_is_first p frame more h = frames_of-first p.tm_length frame more h.0 h.1
 
--- no octets have no frame
+-- an empty recording has no frames
 pub tm_nothing_has_none : (p : Parameters) → tm_frames p [] ≡ []
 tm_nothing_has_none p = ap (λ n. tm_frames_from p.tm_length n []) (zero-div p.tm_length)

@@ -21,7 +21,7 @@ help_end =
     ++ codes "  2  the command line or a value is refused; nothing was read or written\n"
     ++ codes "  3  reading or writing failed, the recording is too long, or there was no memory\n"
 
--- the text ends as all help does; what stands before is the kit's
+-- the text ends as all help does; what stands before is of `clap`
 pub record EndsAsHelp (text : Text) : Type 0 where
   pub usage : Text
   pub ends : text ≡ usage ++ help_end
@@ -32,7 +32,7 @@ pub record WithAnswer (words : List Text) (Done : Text → Type 0) : Type 0 wher
   pub answers : (AskForHelp words × EndsAsHelp text) ⊎ (AskForVersion words × (text ≡ version_line))
   pub done : Done text
 
--- the same, of words that ask by this kind
+-- the same, where `clap` answers the words with an error of this kind
 pub record WithText (kind : ErrorKind) (Done : Text → Type 0) : Type 0 where
   pub text : Text
   pub answers : ((kind ≡ DisplayHelp) × EndsAsHelp text) ⊎ ((kind ≡ DisplayVersion) × (text ≡ version_line))

@@ -41,11 +41,11 @@ kind_rule kinds = record (new_rule (codes "kind")) {
   required = true;
 }
 
--- numbers of 8 bits
+-- numbers of 8 bits, which `clap` bounds as signed ones
 abbrev pub bits_8 : ValueParser
 bits_8 = Signed (pos 0) (pos 255)
 
--- numbers of 16 bits
+-- numbers of 16 bits, bounded likewise
 abbrev pub bits_16 : ValueParser
 bits_16 = Signed (pos 0) (pos 65535)
 
@@ -214,7 +214,7 @@ AreFrom vr None starts = starts ≡ Some (replicate 64 vr)
 AreFrom vr (Some text) (Some starts) = AreNamed 0 text (replicate 64 vr) starts
 AreFrom vr (Some text) None = (items : List Item) → starts.Lists 0 text items → ⊥
 
--- so the arguments of a verb name them
+-- the virtual channels that are asked for are those that the arguments of a verb name
 pub record HasVcs (met : Option (Text × List Row)) (asked : Asked) : Type 0 where
   pub verb : Text
   pub rows : List Row
@@ -271,8 +271,8 @@ parameters_asked o =
       max_octets = o.max_octets;
     }
 
--- the same with the virtual channels that the options name, or what is refused: a parameter of theirs, and then the
--- text of those without segment headers, and of the starts
+-- the same with what the options say of virtual channels, or what is refused: a managed parameter,
+-- else the text of the virtual channels without segment headers, else that of the starts
 abbrev pub with_vcs : Parameters → Option (List ℕ) → Option (List ℕ) → Result Parameters RefusedParameter
 with_vcs p None starts = Err refused.Plain
 with_vcs p (Some plain) None = Err refused.Start

@@ -16,12 +16,12 @@ pub record Listing : Type 0 where
   pub last : List (List ℕ) → ℕ → List ℕ
   pub counts : List (List ℕ) → ℕ → Counts
 
--- the lines of frames that come after these, as octets or as a list of lines
+-- the lines of frames that come after `before`, as octets or as a list of lines
 abbrev pub lines_from : {X : Type 0} → (List (List ℕ) → List ℕ → List X) → List (List ℕ) → List (List ℕ) → List X
 lines_from line before [] = []
 lines_from line before (frame ∷ frames) = line before frame ++ lines_from line (before ++ frame ∷ []) frames
 
--- the text of a recording with these frames
+-- the text of a recording: the lines of its frames, and those after the last one
 abbrev pub listing : (List (List ℕ) → List ℕ → List ℕ) → (List (List ℕ) → ℕ → List ℕ) → (List ℕ → List (List ℕ))
     → List ℕ → List ℕ
 listing line last frames_of recording = lines_from line [] (frames_of recording)

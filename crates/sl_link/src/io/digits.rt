@@ -4,16 +4,18 @@ ghost use Rattle.sl_link.specs.Io.Digits.{AreDigits, AreLeading, four_digits, tw
 
 use itoa::{Buffer, write_digits};
 
-/// The digits of numbers that were worked out before.
+/// Digits that are kept, so that they aren't worked out again: those of each octet, and the leading
+/// digits of one long number. A long number is one of five digits or more.
 #[derive(Drop)]
 pub struct Decimals {
-    // Of each octet three places that begin with the digits, and then how many these are.
+    // For each octet three places that begin with its digits, and a fourth that says how many digits these are.
     octets: [[u8; 4]; 256],
     leading: Leading,
     ghost in_decimal: { (n : ℕ) → n < 256 → AreDigits n (slice_index_or octets n []) },
 }
 
-// The digits of a long number but for its last four, as a number, and places that begin with them.
+// The digits of a long number but for its last four. `number` is the number that they make,
+// `places` begins with them, and `many` is how many they are.
 #[derive(Clone, Copy)]
 struct Leading {
     number: u64,
@@ -23,7 +25,7 @@ struct Leading {
 }
 
 impl Decimals {
-    /// Those of all octets, and of 0.
+    /// The digits of all octets, and the leading digits 0.
     pub fn new() -> Decimals {
         Decimals {
             octets: octets_in_decimal(),
@@ -31,7 +33,7 @@ impl Decimals {
         }
     }
 
-    /// An octet in decimal: places that begin with its digits, and how many these are.
+    /// An octet in decimal: places that begin with its digits, and how many digits these are, 3 at most.
     #[inline(always)]
     pub fn of_octet(&self, octet: u8) -> ([u8; 4], usize)
         ensures digits { take result.1 result.0 ≡ decimal octet }
@@ -41,7 +43,7 @@ impl Decimals {
         (places, usize::from(places[3]))
     }
 
-    /// The last four digits of a long number, given as the number that they are.
+    /// A number below 10,000 as four digits, zeros in front included.
     #[inline(always)]
     pub fn last_four(&self, number: u16) -> [u8; 4]
         requires { number < 10000 }
@@ -52,7 +54,7 @@ impl Decimals {
         [first, second, third, fourth]
     }
 
-    // Two digits, which are the last ones of a number over a hundred.
+    // A number below 100 as two digits: the last two digits of 100 + `number`.
     #[inline(always)]
     fn last_two(&self, number: u8) -> [u8; 2]
         requires { number < 100 }
@@ -62,9 +64,9 @@ impl Decimals {
         [first, second]
     }
 
-    /// The leading digits of a long number, given as the number that they are, where they were those of the number
-    /// before: places that begin with them, and how many they are. They mostly were, since offsets rise little by
-    /// little.
+    /// Places that begin with the digits of `number`, a long number without its last four digits,
+    /// and how many digits these are, 16 at most. `None` where the digits of another number are
+    /// kept. Mostly those of `number` are, since offsets rise little by little.
     #[inline(always)]
     pub fn leading(&self, number: u64) -> Option<([u8; 16], usize)>
         ensures digits { IfSome result (λ leading. take leading.1 leading.0 ≡ decimal number) }
@@ -76,7 +78,7 @@ impl Decimals {
         Some((self.leading.places, self.leading.many))
     }
 
-    /// The same, worked out, and kept for the next number.
+    /// The same, where the digits of `number` aren't kept: they are worked out, and kept for the next call.
     pub fn new_leading(&mut self, number: u64) -> ([u8; 16], usize)
         requires { number * 10000 < 2 ^ 64 }
         ensures digits { take result.1 result.0 ≡ decimal number }
@@ -91,7 +93,7 @@ fn leading_of(number: u64) -> Leading
     requires { number * 10000 < 2 ^ 64 }
     ensures { result.number ≡ number }
 {
-    // It has 16 digits at most. They end in the middle, so that 16 places follow wherever they begin.
+    // The digits, 16 at most, end in the middle of the 32 places. So 16 places follow wherever they begin.
     let mut digits = [0; 32];
     let start = write_digits(number, &mut digits, 16);
     let mut places = [0; 16];

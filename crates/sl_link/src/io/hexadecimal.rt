@@ -4,7 +4,7 @@ ghost use Rattle.hex.specs.Hex.{encode_lower, lower_digits};
 
 use std::simd::prelude::*;
 
-/// The sixteen digits, which were written before.
+/// The sixteen hexadecimal digits as a table, in which octets are looked up.
 #[derive(Clone, Copy)]
 pub struct Hexadecimals {
     digits: [u8; 16],
@@ -12,14 +12,14 @@ pub struct Hexadecimals {
 }
 
 impl Hexadecimals {
-    /// Those that `hex` writes.
+    /// The digits that `hex` writes, `0` to `9` and `a` to `f`.
     pub fn new() -> Hexadecimals {
         Hexadecimals {
             digits: sixteen_digits(),
         }
     }
 
-    /// A word in hexadecimal.
+    /// A word of four octets in hexadecimal.
     #[inline(always)]
     pub fn of_word(&self, word: &[u8; 4]) -> [u8; 8]
         ensures { result ≡ encode_lower word.now }
@@ -27,7 +27,8 @@ impl Hexadecimals {
         self.of_four(u8x4::from_array(*word)).to_array()
     }
 
-    /// Puts octets in hexadecimal at a place of a buffer.
+    /// Writes octets in hexadecimal into a buffer, from the place `at` on, two digits an octet. No
+    /// clause speaks of what stands behind them.
     pub fn put(&self, octets: &[u8], buffer: &mut [u8], at: usize)
         requires { at + 2 * length octets.now ≤ length buffer.old }
         ensures text { take (at + 2 * length octets.now) buffer.new
@@ -39,7 +40,7 @@ impl Hexadecimals {
             for i in 0..many / 8 {
                 self.put_eight(octets, 8 * i, buffer, at);
             }
-            // The last eight: some of them may be there already.
+            // The last eight octets. Some of them may be written already, and are written again.
             self.put_eight(octets, many - 8, buffer, at);
         } else if many >= 4 {
             self.put_four(octets, 0, buffer, at);
@@ -49,7 +50,7 @@ impl Hexadecimals {
         }
     }
 
-    // Puts eight of these octets, from one of them on, after those before it.
+    // Writes eight of these octets, from the index `from` on, where those before `from` are written.
     #[inline(always)]
     fn put_eight(&self, octets: &[u8], from: usize, buffer: &mut [u8], at: usize)
         requires inside { from + 8 ≤ length octets.now }
@@ -62,7 +63,7 @@ impl Hexadecimals {
             .copy_to_slice(&mut buffer[at + 2 * from..]);
     }
 
-    // Puts four of them.
+    // The same with four of them.
     #[inline(always)]
     fn put_four(&self, octets: &[u8], from: usize, buffer: &mut [u8], at: usize)
         requires inside { from + 4 ≤ length octets.now }
@@ -75,7 +76,7 @@ impl Hexadecimals {
             .copy_to_slice(&mut buffer[at + 2 * from..]);
     }
 
-    // Four octets are the first of eight.
+    // Four octets in hexadecimal, taken as the first four of eight.
     #[inline(always)]
     fn of_four(&self, octets: u8x4) -> u8x8
         ensures { result ≡ encode_lower octets }
@@ -84,7 +85,8 @@ impl Hexadecimals {
         self.of_eight(eight).extract::<0, 8>()
     }
 
-    // A digit stands in the table at the half of an octet that it writes, and the upper half comes first.
+    // Eight octets in hexadecimal. The half of an octet, 0 to 15, is the index of its digit in the
+    // table. The upper half comes first.
     #[inline(always)]
     fn of_eight(&self, octets: u8x8) -> u8x16
         ensures { result ≡ encode_lower octets }

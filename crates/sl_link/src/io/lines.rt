@@ -11,13 +11,14 @@ use std::marker::Model;
 /// The size of the buffer that lines wait in.
 pub const LINES_SIZE: usize = 0x10000;
 
-/// Octets that are kept free in it: the lines of a frame have no more, but for those of its packets.
+/// Octets that are kept free in that buffer: the lines of one frame have no more, those of its packets left out.
 pub const RESERVE: usize = 256;
 
 /// Lines of a listing that are not written yet, 65536 octets at most.
 #[derive(Drop)]
 pub struct Lines {
-    // Always full: the lines are its first octets, so nothing is blanked when they go.
+    // All `LINES_SIZE` octets are always there, and the lines are the first `len` of them. So
+    // `clear` sets `len` alone.
     text: ArrayVec<u8, LINES_SIZE>,
     len: usize,
     decimals: Decimals,
@@ -55,14 +56,14 @@ impl Lines {
         self.len = 0;
     }
 
-    /// Their octets.
+    /// The octets of the lines.
     pub fn octets(&self) -> &[u8]
         ensures { result.now ≡ self.now }
     {
         &self.text.as_slice()[..self.len]
     }
 
-    /// There may be no room for one line more.
+    /// Whether fewer than `RESERVE` octets are free, so that the lines of a frame may not fit.
     pub fn lacks_room_for_a_frame(&self) -> bool
         ensures { result ≡ nat_lt lines_size (length self.now + reserve) }
     {
@@ -85,7 +86,8 @@ impl Lines {
         self.push_first(text, N);
     }
 
-    /// Adds the first octets of such a text, as many as are said. There is room for all of it.
+    /// Adds the first `many` octets of a text whose length is known when the program is built.
+    /// There is to be room for all of the text, since all of it is copied.
     #[inline(always)]
     pub fn push_first<const N: usize>(&mut self, text: &[u8; N], many: usize)
         requires room { HasRoomFor N self.old }
@@ -97,7 +99,7 @@ impl Lines {
         self.len = len + many;
     }
 
-    /// Adds any text.
+    /// Adds a text of any length.
     pub fn push_text(&mut self, text: &[u8])
         requires { HasRoomFor (length text.now) self.old }
         ensures { self.new ≡ self.old ++ text.now }
@@ -130,7 +132,7 @@ impl Lines {
         if number >= 10_000 {
             match self.decimals.leading(number / 10_000) {
                 Some(leading) => self.push_two(leading, &last),
-                // Nothing stays to be done after that call, so nothing is saved for it where it isn't made.
+                // This call is the last thing done, so the way above saves no registers for it.
                 None => self.push_anew(number / 10_000, &last),
             }
         } else if number >= 1000 {
@@ -141,7 +143,7 @@ impl Lines {
         }
     }
 
-    // Adds leading digits that are new, and the last four.
+    // Adds leading digits that aren't kept yet, and the last four.
     #[cold]
     fn push_anew(&mut self, leading: u64, last: &[u8; 4])
         requires room { HasRoomFor 20 self.old }
@@ -153,7 +155,7 @@ impl Lines {
         self.push_two(leading, last);
     }
 
-    // Adds the first ones of these places, as many as are said, and the last four digits.
+    // Adds leading digits, as `Decimals` gives them, and the last four digits.
     #[inline(always)]
     fn push_two(&mut self, leading: ([u8; 16], usize), last: &[u8; 4])
         requires room { HasRoomFor 20 self.old }
@@ -166,7 +168,8 @@ impl Lines {
         self.push(last);
     }
 
-    /// Adds a number of one octet in decimal. Most numbers of a listing are such, and this is faster.
+    /// Adds a number of one octet, 0 to 255, in decimal. Most numbers of a listing are below 256,
+    /// and this call is faster than `push_number`.
     #[inline(always)]
     pub fn push_small_number(&mut self, number: u8)
         requires { HasRoomFor 4 self.old }
@@ -200,8 +203,8 @@ impl Lines {
     }
 }
 
-// Puts a text at a place of the buffer. A copy of it can't overlap the buffer, which the compiler wouldn't know
-// of the text itself.
+// Writes a text into a buffer, from the place `at` on. The text is copied first: of a copy the
+// compiler knows that it can't overlap the buffer.
 #[inline(always)]
 fn put<const N: usize>(buffer: &mut [u8], at: usize, text: &[u8; N])
     requires { at + N ≤ length buffer.old }

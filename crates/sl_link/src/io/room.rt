@@ -1,4 +1,4 @@
-//! Room for lines, which are written where there is none, and the line of a remainder.
+//! Room in the buffer of lines, which are written where too little is left, and the line of a remainder.
 ghost use Rattle.std.specs.Prelude.{◌≡◌, ◌+◌, ◌≤◌, ◌++◌, [], length, codes, decimal, IfErr, OnOk};
 ghost use Rattle.sl_link.specs.Io.Line.{line_at};
 ghost use Rattle.sl_link.specs.Io.Room.{HasRoom};
@@ -10,7 +10,7 @@ use crate::link::counted::Counted;
 use crate::link::fault::LinkFault;
 use std::io::Write;
 
-/// Room for one line more.
+/// Makes room for the lines of a frame: writes the lines so far where fewer than `RESERVE` octets are free.
 #[inline(always)]
 pub fn make_room<W: Write>(writer: &mut Counted<W>, lines: &mut Lines) -> Result<(), LinkFault>
     ensures kept { OnOk result (AddsText W.contents writer.old writer.new lines.old lines.new []) }
@@ -24,7 +24,7 @@ pub fn make_room<W: Write>(writer: &mut Counted<W>, lines: &mut Lines) -> Result
     Ok(())
 }
 
-/// Writes the lines so far.
+/// Writes the lines so far, and empties the buffer. The stream itself isn't flushed.
 pub fn flush<W: Write>(writer: &mut Counted<W>, lines: &mut Lines) -> Result<(), LinkFault>
     ensures written { OnOk result (WritesText W.contents writer.old writer.new lines.old) }
     ensures emptied { OnOk result (lines.new ≡ []) }
@@ -35,7 +35,7 @@ pub fn flush<W: Write>(writer: &mut Counted<W>, lines: &mut Lines) -> Result<(),
     Ok(())
 }
 
-/// Adds the line of a remainder at this offset, with its number of octets.
+/// Adds the line of a remainder: the offset at which the remainder begins, and how many octets it has.
 pub fn remainder_line(lines: &mut Lines, offset: u64, octets: u64)
     requires { HasRoom lines.old }
     ensures text { lines.new ≡ lines.old ++ line_at offset (codes " rest " ++ decimal octets) }

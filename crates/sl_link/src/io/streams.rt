@@ -1,4 +1,5 @@
-//! Single reads, and single writes until a text is written.
+//! Single reads, and single writes until a text is written. None is tried again after an error, an
+//! interrupted call included.
 ghost use Rattle.std.specs.Prelude.{IfOk, IfErr, OnOk};
 ghost use Rattle.sl_link.specs.Io.Streams.{ReadsSome, StopsReading, WritesText, StopsWriting};
 
@@ -6,8 +7,9 @@ use crate::link::counted::Counted;
 use crate::link::fault::LinkFault;
 use std::io::{Read, Write};
 
-/// Reads once, and says how many octets came to the front of the buffer: none only at the end of the
-/// input. More of them than the limit are a fault.
+/// Reads once, and reports how many octets came to the front of the buffer. These are 0 only at the
+/// end of the input, or where the buffer is empty. More octets than `limit` are the fault
+/// `TooLong`, and an error of the reader is `Read`.
 pub fn read_some<R: Read>(
     reader: &mut Counted<R>,
     buffer: &mut [u8],
@@ -26,7 +28,7 @@ pub fn read_some<R: Read>(
     Ok(taken)
 }
 
-/// Writes all of a text.
+/// Writes all of a text. An error of the writer, or a write that takes nothing, is the fault `Write`.
 pub fn write_text<W: Write>(writer: &mut Counted<W>, text: &[u8]) -> Result<(), LinkFault>
     ensures written { OnOk result (WritesText W.contents writer.old writer.new text.now) }
     ensures fault { IfErr result (λ fault. StopsWriting W.contents writer.old writer.new text.now fault) }

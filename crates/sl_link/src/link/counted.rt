@@ -2,8 +2,8 @@
 use std::io::{self, Read, Write};
 
 /// A reader or a writer that counts its faults: each error that it answers, and each write that takes none of one or
-/// more octets. The count stops at 2^64 - 1. An interrupted call is an error like any other. By reading, every call is
-/// handed on to the stream, and its answer comes back unchanged.
+/// more octets. The count stops at 2^64 - 1. An interrupted call is an error like any other. Every call is handed on
+/// to the stream, and its answer comes back unchanged: the code shows that, and no clause says it.
 #[derive(Drop)]
 pub struct Counted<T> {
     stream: T,
@@ -29,7 +29,7 @@ impl<T> Counted<T> {
         self.faults
     }
 
-    /// The stream itself.
+    /// The stream, without the count.
     pub fn into_inner(self) -> T
         ensures { result ≡ stream_of self }
     {

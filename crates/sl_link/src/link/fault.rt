@@ -5,7 +5,8 @@ ghost use Rattle.sl_link.specs.Link.Fault.{flow_fault, sink_fault};
 use sl_packet::{FlowFault, SinkFault};
 use thiserror::Error;
 
-/// Why an engine stopped before the end of its recording.
+/// Why an engine stopped before its work was done. Contracts say that a fault *has its cause*: what
+/// is said of the fault here is so. No clause can say that memory was refused.
 #[derive(Clone, Copy, Debug, PartialEq, Eq, Error)]
 pub enum LinkFault {
     /// The reader answered an error.
@@ -22,7 +23,8 @@ pub enum LinkFault {
     Write,
 }
 
-/// Why an engine stops where the handing over of packets to its sink did.
+/// The fault of an engine that couldn't hand packets on to its sink: `Memory` where memory was
+/// refused, and `Write` where the writer failed.
 pub fn of_flow(fault: FlowFault) -> LinkFault
     ensures { result ≡ flow_fault fault }
 {
@@ -32,7 +34,7 @@ pub fn of_flow(fault: FlowFault) -> LinkFault
     }
 }
 
-// A sink's device is the writer.
+// The device of an engine's sink is the writer. No such sink has a rule by which it refuses packets.
 fn of_sink(fault: SinkFault) -> LinkFault
     ensures { result ≡ sink_fault fault }
 {

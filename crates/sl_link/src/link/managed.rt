@@ -64,11 +64,11 @@ impl Managed {
     ///   them are a frame error control field;
     /// - `tc_max`, the octets of the longest TC frame (CCSDS 232.0-B), 16 to 1024, and `tc_fecf`, whether the last two
     ///   octets of each TC frame are a frame error control field;
-    /// - `window`, the width of FARM-1's sliding window (CCSDS 232.1-B), even, 2 to 254;
+    /// - `window`, the width of FARM-1's sliding window (CCSDS 232.1-B) in frames, even, 2 to 254;
     /// - `vr`, V(R) of each virtual channel of TC frames before its first frame, 0 to 255;
     /// - `max_octets`, how many octets of a recording may be read, 1 or more.
     ///
-    /// The frames of each virtual channel of TC frames have segment headers.
+    /// The frames of each virtual channel of TC frames have segment headers, unless [`Managed::with_plain`] follows.
     pub fn new(
         spacecraft: u16,
         tm_length: u16,
@@ -122,8 +122,8 @@ impl Managed {
 
     /// The spacecraft identifier, 0 to 1023.
     ///
-    /// Every `Managed` meets the premise of the [`laws`](crate::laws) on normal forms: none of its parameters is refused,
-    /// and the initial V(R) of each virtual channel is one octet.
+    /// Every `Managed` meets the premise of the [`laws`](crate::laws) on normal forms: none of its
+    /// parameters is refused, and the initial V(R) of each virtual channel is one octet.
     pub fn spacecraft(&self) -> u16
         ensures value { result ≡ self.now.spacecraft }
         ensures accepted { AreAccepted self.now }

@@ -45,7 +45,8 @@ impl Totals {
         self.frames
     }
 
-    /// The frames that were skipped.
+    /// The frames that were skipped, each for a reason of [`TmSkip`](sl_tmframe::TmSkip) or
+    /// [`TcSkip`](sl_tcframe::TcSkip).
     pub fn skipped(&self) -> u64
         ensures value { result ≡ self.now.skipped }
         ensures within { result ≤ self.now.octets }
@@ -77,7 +78,7 @@ impl Totals {
         self.idle
     }
 
-    /// The reported anomalies. The count is 0 except after a check.
+    /// The anomalies, one for each line of a check but that of the totals. The count is 0 after other engines.
     pub fn anomalies(&self) -> u64
         ensures value { result ≡ self.now.anomalies }
         ensures within { result ≤ self.now.octets }

@@ -15,10 +15,10 @@ use crate::pass::CHUNK_SIZE;
 use std::alloc::Global;
 use std::io::Write;
 
-/// Octets enough for those that aren't written yet, a chunk at most, and a piece of either kind.
+/// Octets enough for those that aren't written yet, 0x10000 at most, and a piece of either kind, 0x30000 at most.
 const FORM_SIZE: usize = 0x40000;
 
-/// A normal form that is made piece by piece.
+/// A normal form that is made piece by piece, so that it need not be held whole.
 pub trait Form {
     ghost use Rattle.std.specs.Prelude.{◌≡◌, ◌+◌, ◌≤◌, ◌<◌, ℕ, List, IfErr};
     ghost use Rattle.std.specs.Prelude.{IfOk, OnOk, OnErr, IsTrue, IsFalse, vec_len};
@@ -29,16 +29,17 @@ pub trait Form {
     /// These octets are still to come.
     ghost left: { Self → List ℕ → Type 0 };
 
-    /// It is of packets.
+    /// The form is one of packets, at least one.
     ghost packets: { Self → Type 0 };
 
-    /// It has the memory that it wants for itself.
+    /// The form has taken the memory that it wants for itself.
     ghost ready: { Self → Type 0 };
 
     /// At most this number of pieces follows.
     ghost most: { Self → ℕ };
 
-    /// Adds the next piece to a text, and tells whether there was one.
+    /// Adds the next piece to a text, and answers whether there was one. Memory is refused only to
+    /// a form of packets: to one that isn't ready, or whose text has no room for a piece.
     fn next(&mut self, text: &mut Vec<u8>) -> Result<bool, LinkFault>
         ensures piece { OnOk result
             (AddsPiece left self.old text.old.items self.new text.new.items) }
@@ -56,7 +57,7 @@ pub trait Form {
         ensures keeps { ready self.old → ready self.new }
         ensures capacity { vec_capacity text.old ≤ vec_capacity text.new };
 
-    /// Takes the memory that it wants for itself, where a text has room for a piece.
+    /// Takes the memory that the form wants for itself. The text has room for a piece, and keeps its octets.
     fn reserve(&mut self, text: &mut Vec<u8>) -> Result<(), LinkFault>
         requires room { vec_len text.old + piece_size ≤ vec_capacity text.old }
         ensures ready { OnOk result (ready self.new) }

@@ -8,13 +8,14 @@ use crate::link::fault::LinkFault;
 pub trait FrameSink {
     ghost use Rattle.sl_link.specs.declared.link.fault.LinkFault.{LinkFault};
 
-    /// It takes these octets as a frame.
+    /// The sink takes these octets as a frame.
     ghost is_frame: { Self → List ℕ → Type 0 };
 
-    /// From the first value to the second it has taken these frames.
+    /// Between its first value and its second the sink has taken these frames.
     ghost took: { Self → Self → List (List ℕ) → Type 0 };
 
-    /// From the first value to the second it has taken these frames, but for what the fault kept it from.
+    /// Between its first value and its second the sink has taken these frames, but the fault
+    /// stopped it at the last of them, or at the pause after it.
     ghost stopped: { Self → Self → List (List ℕ) → LinkFault → Type 0 };
 
     /// Takes the next frame.
@@ -24,7 +25,7 @@ pub trait FrameSink {
         ensures fault { IfErr result (λ fault. StopsAtFrame took stopped self.old
             frame.now self.new fault) };
 
-    /// The reader is asked for more before another frame comes.
+    /// Called after each chunk, before the reader is asked for more octets.
     fn pause(&mut self) -> Result<(), LinkFault>
         ensures taken { OnOk result (Pauses took self.old self.new) }
         ensures fault { IfErr result (λ fault. StopsPausing took stopped self.old self.new fault) };

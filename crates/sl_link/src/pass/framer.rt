@@ -14,10 +14,11 @@ pub trait Framer {
     /// The frames of a recording.
     ghost frames_of: { Parameters → List ℕ → List (List ℕ) };
 
-    /// These octets came after the last frame.
+    /// The framer waits: these octets came after the last frame that it cut.
     ghost waits: { Self → Parameters → List ℕ → Type 0 };
 
-    /// The frame that octets from the front of the chunk complete, which are taken from it.
+    /// Takes octets from the front of the chunk up to the end of a frame, and lends that frame. `None` where the
+    /// chunk completes no frame: the octets of all of it then wait for the next chunk.
     fn next_frame<'a, 'p: 'a>(&'a mut self, chunk: &mut &'p [u8]) -> Option<&'a [u8]>
         requires { (p : Parameters) × (rest : List ℕ) × waits self.old p rest }
         ensures frame { IfSome result (λ frame. WaitsFor waits self.old
@@ -27,10 +28,11 @@ pub trait Framer {
         ensures* after { sem 𝓛 (Rests Self.row self.entry (λ new. WaitsFor waits self.old
             (λ p rest. WaitsAfter waits new p rest chunk.old.now result))) };
 
-    /// A frame at the front of octets is their first one.
+    /// Where octets begin with a frame, that frame is their first one, and the other frames are
+    /// those of what follows.
     ghost front: { (p : Parameters) (frame more : List ℕ) → is_frame p frame
         → frames_of p (frame ++ more) ≡ frame ∷ frames_of p more };
 
-    /// No octets have no frame.
+    /// An empty recording has no frames.
     ghost empty: { (p : Parameters) → frames_of p [] ≡ [] };
 }

@@ -24,7 +24,7 @@ impl Framer for TcFramer {
     ghost empty = { tc_nothing_has_none };
 }
 
-// What a slice of octets has is octets.
+// Recalls that the items of a slice of `u8` are octets, 0 to 255, for the clauses of `next_from`.
 #[inline(always)]
 fn are_octets(octets: &[u8])
     ensures { IsOctets octets.now }

@@ -21,7 +21,7 @@ use sl_tcframe::VcSet;
 use std::alloc::{AllocError, Global};
 use thiserror::Error;
 
-/// What is done with a recording, of which kind.
+/// What is done with a recording, TM or TC.
 #[derive(Clone, Copy, Debug, PartialEq, Eq)]
 pub(crate) enum Engine {
     /// TM transfer frames are listed.
@@ -42,7 +42,7 @@ pub(crate) enum Engine {
     NormaliseTc,
 }
 
-/// What the options say of the link.
+/// What the options say of the link, each as `Managed::new` takes it.
 #[derive(Clone, Copy, Debug, PartialEq, Eq)]
 pub(crate) struct Options {
     pub(crate) spacecraft: u16,
@@ -62,8 +62,9 @@ pub(crate) struct Request {
     pub(crate) options: Options,
 }
 
-/// What a command line asks for: beside the request the virtual channels of TC frames without segment headers, and
-/// the initial V(R) of each virtual channel; `None` where the text of an option is refused.
+/// All that a command line asks for: the request; `plain`, the virtual channels of TC frames
+/// without segment headers; and `starts`, the initial V(R) of each virtual channel. The last two
+/// are `None` where the text of their option is refused.
 #[derive(Clone, Copy, Debug, PartialEq, Eq)]
 pub(crate) struct Asked {
     pub(crate) request: Request,
@@ -110,7 +111,7 @@ const LIMIT: &str = "limit";
 // The kinds of recording.
 static KINDS: [&str; 2] = ["tm", "tc"];
 
-// The version of the product, which the line that `--version` writes has too.
+// The version of the product. The line that `--version` writes repeats it.
 const VERSION: &str = "1.0.0";
 
 // What stands below the options in the help of the program, and in that of each verb.
@@ -135,8 +136,8 @@ const NORMALISE_EXAMPLE: &str = "\
 Example:
   sllink normalise tm --scid 1 --tm-length 32 --tm-fecf < examples/first-station.tm > first.normal";
 
-/// What the words ask for, of which the first is the program's name. Else why they are refused, or the
-/// help or version that they ask for.
+/// What the words ask for; the first word is the program's name. The error says why they are
+/// refused, or that they ask for help or the version, or that memory was refused.
 pub(crate) fn parse(alloc: Global, words: &[String]) -> Result<Asked, clap::Error>
     ensures asked { IfOk result (AskFor (map string_bytes words.now)) }
     // The kind of the error is one of the refusals, unless memory ran out.
@@ -295,7 +296,7 @@ fn asked_of(matches: &ArgMatches<'_>) -> Option<Asked>
     })
 }
 
-// The virtual channels without segment headers.
+// The virtual channels without segment headers, or `None` where their text is refused.
 fn plain_of(matches: &ArgMatches<'_>) -> Option<VcSet>
     ensures { IsPlain (first_of (codes "plain") (rows_of (found_of matches.now))) result }
 {
@@ -305,7 +306,7 @@ fn plain_of(matches: &ArgMatches<'_>) -> Option<VcSet>
     }
 }
 
-// The initial V(R) of each virtual channel, which is this one where none is named.
+// The initial V(R) of each virtual channel, `vr` where none is named, or `None` where their text is refused.
 fn starts_of(matches: &ArgMatches<'_>, vr: u8) -> Option<Starts>
     ensures { AreFrom vr (first_of (codes "vr-of") (rows_of (found_of matches.now))) result }
 {
@@ -316,7 +317,7 @@ fn starts_of(matches: &ArgMatches<'_>, vr: u8) -> Option<Starts>
     }
 }
 
-// Without the virtual channels that the options name.
+// The request of a verb, from the arguments after it.
 fn request_with(verb: &str, matches: &ArgMatches<'_>) -> Option<Request>
     ensures { result ≡ request_with verb.now (rows_of (found_of matches.now)) }
 {
@@ -403,7 +404,7 @@ impl Asked {
 }
 
 impl Options {
-    // The managed parameters, where no virtual channel is named, or the first of them that is refused.
+    // The managed parameters, or the first of them that is refused, as if the options named no virtual channel.
     fn managed(&self) -> Result<Managed, ManagedFault>
         ensures { result ≡ managed_of (parameters_asked self.now) }
     {

@@ -121,7 +121,7 @@ fn check_frame<D: Checked, W: Write>(
     }
 }
 
-// The lines of the remainder and of what is incomplete, after the frames. All octets of the recording are given.
+// Adds the lines after the last frame of a recording of `octets` octets, and answers the totals.
 fn check_end<D: Checked, W: Write>(
     delivery: &D,
     managed: &Managed,
@@ -157,7 +157,7 @@ fn check_end<D: Checked, W: Write>(
     Ok(so_far.totals(rest, remainders + incomplete))
 }
 
-// The lines of what is incomplete at the end of a recording, and how many they are.
+// Adds the lines of what is incomplete at the end of a recording, at `offset`, and answers how many these are.
 fn incomplete_lines<D: Checked, W: Write>(
     delivery: &D,
     offset: u64,

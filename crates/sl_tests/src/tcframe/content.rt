@@ -70,7 +70,7 @@ static CARRIED: [(&[u8], u8, TcContent); 11] = [
     ),
 ];
 
-// The same with error control, the field of which is no part of the data field.
+// The same with error control. The error control field is no part of the data field.
 static WITH_FECF: [(&[u8], u8, TcContent); 4] = [
     (
         &[0x30, 0x01, 0x00, 0x07, 0x00, 0x00, 0x0E, 0x5D],

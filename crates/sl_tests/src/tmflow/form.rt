@@ -119,7 +119,7 @@ fn is_as_wanted(
     Ok(&frame[4..6] == pointer.as_slice() && ended == counts && held(extractor, 0) == octets)
 }
 
-// Whether a packet is extracted from its frames, each of which is as it is wanted.
+// Whether a packet is extracted from its frames, and each of the frames is as it is wanted.
 fn is_extracted(rt: &impl Abort, alloc: Global, frames: &[[u8; 32]], packet: &[u8]) -> bool {
     let mut extractor = extractor(alloc);
     let mut extracted = none(alloc);

@@ -34,7 +34,7 @@ fn lends(
     framer.next(&mut piece) == wanted && piece == left && framer.rest() == held
 }
 
-// Twenty octets, and twenty more, of which twelve are of the frame.
+// Twenty octets, and twenty more: twelve of these are of the frame.
 fn is_in_two_chunks() -> Result<bool, Stop> {
     let mut framer = framer(32)?;
     let (one, other) = (&RECORDING[..20], &RECORDING[20..40]);

@@ -1,4 +1,4 @@
--- Frames of a kind while they are checked, as the code says it. Contracts of private functions alone cite these.
+-- Frames of a kind while they are checked, in terms of the code. Contracts of private functions alone cite these.
 use Rattle.std.specs.Prelude.{◌≡◌, ℕ, ◌<◌, List, [], ◌++◌, length}
 use Rattle.std.specs.List.{concat}
 use Rattle.sl_link.specs.declared.tally.FrameReport.{FrameReport}
@@ -6,18 +6,18 @@ use Rattle.sl_link.specs.declared.tally.Tally.{Tally}
 use Rattle.sl_link.specs.Kind.Delivery.{HasDelivered, IsReport, Kind}
 use Rattle.sl_link.specs.Verbs.Listing.{lines_from}
 
--- what a frame brought that comes after these, with the lines of what is amiss in it: fewer than its octets
+-- the report on a frame that comes after these: its anomalies are its lines of what is amiss, fewer than its octets
 pub record Tells (k : Kind) (amiss : List (List ℕ) → List ℕ → List (List ℕ)) (before : List (List ℕ)) (frame : List ℕ) (report : FrameReport) : Type 0 where
   pub reported : IsReport k before frame report
   pub anomalies : report.anomalies ≡ length (amiss before frame)
   pub few : report.anomalies < length frame
 
--- and these were added
+-- the same, and these lines were added
 pub record ChecksFrame (k : Kind) (amiss : List (List ℕ) → List ℕ → List (List ℕ)) (before : List (List ℕ)) (frame lines : List ℕ) (report : FrameReport) (lines' : List ℕ) : Type 0 where
   pub added : lines' ≡ lines ++ concat (amiss before frame)
   pub tells : Tells k amiss before frame report
 
--- these frames were processed and counted, and what is amiss in them
+-- these frames were processed and counted, and so was what is amiss in them
 pub record HasChecked (k : Kind) (amiss : List (List ℕ) → List ℕ → List (List ℕ)) (had : List (List ℕ) → Type 0) (frames : List (List ℕ)) (t : Tally) : Type 0 where
   pub delivered : HasDelivered k had frames t
   pub anomalies : t.anomalies ≡ length (lines_from amiss [] frames)

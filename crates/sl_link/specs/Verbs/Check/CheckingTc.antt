@@ -1,4 +1,4 @@
--- The lines of a TC frame, as the code says it. Contracts of private functions alone cite these.
+-- The lines of a TC frame, in terms of the code. Contracts of private functions alone cite these.
 use Rattle.std.specs.Prelude.{ℕ, ◌==◌, Bool, true, false, not, ◌&&◌}
 use Rattle.std.specs.Prelude.{is_some, if◌then◌else◌, List, [], ◌∷◌, ◌++◌, codes}
 use Rattle.sl_cop.specs.declared.verdict.Verdict.{Verdict}
@@ -8,7 +8,7 @@ use Rattle.sl_tcflow.specs.StepReport.{StepReport}
 use Rattle.sl_link.specs.Io.Line.{line_at}
 use Rattle.sl_link.specs.Verbs.Check.Tc.{dropped_amiss, map_text, tail_amiss, verdict_amiss}
 
--- this is told of a virtual channel and a MAP, if it holds
+-- the line that says `what` of a virtual channel and a MAP, if it holds
 abbrev pub told_amiss : ℕ → List ℕ → ℕ → ℕ → Bool → List (List ℕ)
 told_amiss offset what vc map_id holds = if holds then line_at offset (what ++ map_text vc map_id) ∷ [] else []
 
@@ -31,7 +31,7 @@ passes Outside = false
 passes Refused = false
 passes Command = true
 
--- by what a receiver made of it, a frame has no line
+-- a frame has no line, by what a receiver made of it
 abbrev pub is_quiet : StepReport → Bool
 is_quiet step =
     passes step.verdict && (not step.stray && (not (is_some step.dropped) && (not step.long && (step.tail == 0))))

@@ -24,12 +24,12 @@ totals_line counts = frames_text counts ++ packets_text counts ++ codes " anomal
 
 -- ---- a recording
 
--- the lines after frames, by how many octets the remainder has: the remainder's, and that of what is incomplete on each
--- channel at the end of the recording
+-- the lines after frames: that of the remainder, which has `rest` octets, and those of what is
+-- incomplete on each channel at the end of the recording
 abbrev pub end_amiss : Kind → (ℕ → List (List ℕ) → ℕ → List (List ℕ)) → List (List ℕ) → ℕ → List (List ℕ)
 end_amiss k open_at frames rest = remainder_amiss (length (concat frames)) rest ++ flat_map (open_at (length (concat frames) + rest) frames) k.channels
 
--- what is counted: each line is one of what is amiss
+-- what is counted: each line but that of the totals is an anomaly
 abbrev pub check_counted : Kind → (List (List ℕ) → List ℕ → List (List ℕ)) → (ℕ → List (List ℕ) → ℕ → List (List ℕ)) → List (List ℕ) → ℕ → Counts
 check_counted k amiss open_at frames rest =
     record (counted k frames rest) { anomalies = length (lines_from amiss [] frames) + length (end_amiss k open_at frames rest) }

@@ -27,7 +27,7 @@ use Rattle.sl_link.specs.Verbs.Listing.{Listing, counts_of, listing_text}
 abbrev pub map_text : ℕ → ℕ → List ℕ
 map_text vc map_id = codes " vc " ++ decimal vc ++ codes " map " ++ decimal map_id
 
--- a frame of type AD is discarded
+-- the line of a frame that FARM-1 discards, which is of type AD
 abbrev pub discarded_amiss : ℕ → ℕ → Verdict → Content → List (List ℕ)
 discarded_amiss offset vc verdict (Ad ns unit) =
     line_at offset (codes " " ++ verdict_word verdict ++ codes " vc " ++ decimal vc ++ codes " ad " ++ decimal ns) ∷ []
@@ -35,6 +35,7 @@ discarded_amiss offset vc verdict (Bd unit) = []
 discarded_amiss offset vc verdict Unlock = []
 discarded_amiss offset vc verdict (SetVr vr) = []
 
+-- the same, by the verdict
 abbrev pub verdict_amiss : ℕ → ℕ → Verdict → Content → List (List ℕ)
 verdict_amiss offset vc Accept content = []
 verdict_amiss offset vc Early content = discarded_amiss offset vc Early content
@@ -53,7 +54,7 @@ dropped_amiss offset vc map_id None = []
 dropped_amiss offset vc map_id (Some octets) =
     line_at offset (codes " dropped" ++ map_text vc map_id ++ codes " octets " ++ decimal octets) ∷ []
 
--- a series is given up, too long
+-- a series is given up, since it is too long
 abbrev pub long_amiss : ℕ → ℕ → ℕ → Bool → List (List ℕ)
 long_amiss offset vc map_id long = if long then line_at offset (codes " long" ++ map_text vc map_id) ∷ [] else []
 
@@ -63,7 +64,7 @@ tail_amiss offset vc map_id octets =
     if octets == 0 then []
     else line_at offset (codes " tail" ++ map_text vc map_id ++ codes " octets " ++ decimal octets) ∷ []
 
--- the lines of a frame at this offset, as it is read, that comes after these frames
+-- the lines of a frame, as it is read, at this offset and after the frames `views`
 abbrev pub tc_amiss : ReceptionParameters → ℕ → List TcView → Result TcView TcSkip → List (List ℕ)
 tc_amiss r offset views (Ok view) =
     let map_id : ℕ = map_by r view in
@@ -76,7 +77,7 @@ tc_amiss r offset views (Err reason) = line_at offset (codes " skip " ++ tc_skip
 
 -- ---- a recording
 
--- those of a frame that comes after these
+-- the lines of a frame that comes after `before`
 abbrev pub tc_amiss_after : Parameters → List (List ℕ) → List ℕ → List (List ℕ)
 tc_amiss_after p before frame =
     tc_amiss (reception_of p) (length (concat before)) (views_of (tc_format p) p.spacecraft before) (as_read p frame)
@@ -87,15 +88,17 @@ incomplete_amiss offset vc map_id None = []
 incomplete_amiss offset vc map_id (Some octets) =
     line_at offset (codes " open" ++ map_text vc map_id ++ codes " octets " ++ decimal (length octets)) ∷ []
 
--- that of a virtual channel and a MAP, by the number of their channel
+-- the same of the virtual channel and MAP with this channel number, 64 VC + MAP
 abbrev pub open_on : ReceptionParameters → ℕ → List TcView → ℕ → List (List ℕ)
 open_on r offset views channel =
     incomplete_amiss offset (channel / 64) (channel % 64)
     (incomplete_of (segments_of r (channel / 64) (channel % 64) views))
 
+-- the same after the frames of a recording
 abbrev pub tc_open : Parameters → ℕ → List (List ℕ) → ℕ → List (List ℕ)
 tc_open p offset frames = open_on (reception_of p) offset (views_of (tc_format p) p.spacecraft frames)
 
+-- the listing
 abbrev pub check_tc_listing : Parameters → Listing
 check_tc_listing p = check_listing (tc_kind p) (tc_amiss_after p) (tc_open p)
 
@@ -103,6 +106,6 @@ check_tc_listing p = check_listing (tc_kind p) (tc_amiss_after p) (tc_open p)
 abbrev pub check_tc_text : Parameters → List ℕ → List ℕ
 check_tc_text p = listing_text (tc_frames_of (tc_format p)) (check_tc_listing p)
 
--- and what is counted in it
+-- what is counted in a recording
 abbrev pub check_tc_counts : Parameters → List ℕ → Counts
 check_tc_counts p = counts_of (tc_frames_of (tc_format p)) (check_tc_listing p)

@@ -44,13 +44,13 @@ opaque_amiss offset vc Opaque = line_at offset (codes " opaque vc " ++ decimal v
 abbrev pub foreign_amiss : ℕ → ℕ → Bool → List (List ℕ)
 foreign_amiss offset vc is_foreign = if is_foreign then line_at offset (codes " foreign vc " ++ decimal vc) ∷ [] else []
 
--- the lines of a frame that is read, in their order, by what it brought
+-- the lines of a frame that is read, in their order, by what an extractor made of it
 abbrev pub view_amiss : ℕ → TmView → Option ℕ → ℕ → Bool → List (List ℕ)
 view_amiss offset view gap dropped is_foreign =
     gap_amiss offset view gap ++ dropped_amiss offset view.vc dropped ++ opaque_amiss offset view.vc view.field
     ++ foreign_amiss offset view.vc is_foreign
 
--- the lines of a frame at this offset, as it is read, that comes after these frames
+-- the lines of a frame, as it is read, at this offset and after the frames `views`
 abbrev pub tm_amiss : ℕ → List TmView → Result TmView TmSkip → List (List ℕ)
 tm_amiss offset views (Ok view) =
     view_amiss offset view (gap_of (channel_of view.vc views) view) (dropped_of (channel_of view.vc views) view)
@@ -59,18 +59,19 @@ tm_amiss offset views (Err reason) = line_at offset (codes " skip " ++ tm_skip_w
 
 -- ---- a recording
 
--- those of a frame that comes after these
+-- the lines of a frame that comes after `before`
 abbrev pub tm_amiss_after : Parameters → List (List ℕ) → List ℕ → List (List ℕ)
 tm_amiss_after p before frame =
     tm_amiss (length (concat before)) (views_of (tm_format p) p.spacecraft before) (as_read p frame)
 
--- the packet that is incomplete after the last frame of a virtual channel, if one is, at the end of the recording
+-- the line of the packet that is incomplete after the last frame of a virtual channel, if one is
 abbrev pub tm_open : Parameters → ℕ → List (List ℕ) → ℕ → List (List ℕ)
 tm_open p offset frames vc =
     map (λ octets. line_at offset
     (codes " open vc " ++ decimal vc ++ codes " octets " ++ decimal (length octets)))
     (incomplete_of (channel_of vc (views_of (tm_format p) p.spacecraft frames)))
 
+-- the listing
 abbrev pub check_tm_listing : Parameters → Listing
 check_tm_listing p = check_listing (tm_kind p) (tm_amiss_after p) (tm_open p)
 
@@ -78,6 +79,6 @@ check_tm_listing p = check_listing (tm_kind p) (tm_amiss_after p) (tm_open p)
 abbrev pub check_tm_text : Parameters → List ℕ → List ℕ
 check_tm_text p = listing_text (tm_frames_of p.tm_length) (check_tm_listing p)
 
--- and what is counted in it
+-- what is counted in a recording
 abbrev pub check_tm_counts : Parameters → List ℕ → Counts
 check_tm_counts p = counts_of (tm_frames_of p.tm_length) (check_tm_listing p)

@@ -1,11 +1,11 @@
--- A packet as `packets` lists it, CCSDS 133.0-B: the fields of its primary header, its octets, and all of them in
--- hexadecimal.
+-- A packet as `packets` lists it (CCSDS 133.0-B): the fields of its primary header, how many octets
+-- it has, and these in hexadecimal.
 use Rattle.std.specs.Prelude.{ℕ, List, ◌++◌, length, take, codes, decimal}
 use Rattle.hex.specs.Hex.{encode_lower}
 use Rattle.sl_fields.specs.Field.{bit_of}
 use Rattle.sl_fields.specs.PacketHeader.{PacketFields, packet_header}
 
--- the flags and the count
+-- the primary header: its fields from the secondary header flag on, and then all of them
 abbrev pub numbers_text : PacketFields → List ℕ
 numbers_text h = codes " secondary " ++ decimal (bit_of h.secondary) ++ codes " flags " ++ decimal h.flags
     ++ codes " count " ++ decimal h.count
@@ -25,6 +25,6 @@ fields_text packet = header_text (packet_header (take 6 packet)) ++ size_text (l
 abbrev pub packet_text : List ℕ → List ℕ
 packet_text packet = fields_text packet ++ encode_lower packet ++ codes "\n"
 
--- the line, after the channel that it is on
+-- the whole line, which begins with the name of the channel
 abbrev pub packet_line : List ℕ → List ℕ → List ℕ
 packet_line channel packet = channel ++ packet_text packet

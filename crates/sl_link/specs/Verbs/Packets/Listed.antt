@@ -33,13 +33,13 @@ pub record ListsPackets (kind : ChannelKind) (lists : List (List (List ℕ))) (l
 
 -- ---- laws
 
--- The listing of the packets of a TM recording is lines of packets, which are, on each virtual channel, exactly those
--- that the recording delivers there, idle ones left out, in their order.
+-- The packet listing of a TM recording is a line for each of some packets. On each virtual channel these are exactly
+-- the packets that the recording delivers there, in their order, idle ones left out.
 abbrev pub TmPacketsAreListed : Type 0
 TmPacketsAreListed = (p : Parameters) (recording : List ℕ)
     → ListsPackets VirtualChannel (tm_packets p recording) (packets_tm_text p recording)
 
--- So is that of a TC recording, on each virtual channel and MAP.
+-- The same of a TC recording, on each virtual channel and MAP.
 abbrev pub TcPacketsAreListed : Type 0
 TcPacketsAreListed = (p : Parameters) (recording : List ℕ)
     → ListsPackets Map (tc_packets p recording) (packets_tc_text p recording)

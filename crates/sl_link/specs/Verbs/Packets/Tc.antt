@@ -1,5 +1,5 @@
--- The packets of a TC recording, as `packets tc` lists them: by the accepted units that end the series they are of,
--- idle ones left out.
+-- The packets of a TC recording, as `packets tc` lists them: in the order of the accepted units
+-- that end their series, idle ones left out.
 use Rattle.std.specs.Prelude.{ℕ, List, [], ◌++◌, map, codes, decimal, Result, Ok, Err}
 use Rattle.std.specs.List.{concat}
 use Rattle.sl_packet.specs.Packets.{without_idle}
@@ -18,12 +18,14 @@ use Rattle.sl_link.specs.Verbs.Listing.{Listing, listing_text}
 abbrev pub channel_text : ℕ → ℕ → List ℕ
 channel_text vc map_id = codes "vc " ++ decimal vc ++ codes " map " ++ decimal map_id
 
--- the lines of the packets of the series that the unit of a frame ends, as it is read, that comes after these frames
+-- the lines of the packets that a frame delivers, as it is read, after the frames `views`: those of
+-- the series that its unit ends
 abbrev pub tc_packet_lines : ReceptionParameters → List TcView → Result TcView TcSkip → List ℕ
 tc_packet_lines r views (Ok view) =
     concat (map (packet_line (channel_text view.vc (map_by r view))) (without_idle (ended_by r views view)))
 tc_packet_lines r views (Err reason) = []
 
+-- the same of a frame that comes after `before`
 abbrev pub packets_tc_lines : Parameters → List (List ℕ) → List ℕ → List ℕ
 packets_tc_lines p before frame =
     tc_packet_lines (reception_of p) (views_of (tc_format p) p.spacecraft before) (as_read p frame)

@@ -1,4 +1,5 @@
--- The packets of a TM recording, as `packets tm` lists them: by the frames in which they end, idle ones left out.
+-- The packets of a TM recording, as `packets tm` lists them: in the order of the frames in which
+-- they end, idle ones left out.
 use Rattle.std.specs.Prelude.{ℕ, List, [], ◌++◌, map, codes, decimal, Result, Ok, Err}
 use Rattle.std.specs.List.{concat}
 use Rattle.sl_packet.specs.Packets.{without_idle}
@@ -16,11 +17,12 @@ use Rattle.sl_link.specs.Verbs.Listing.{Listing, listing_text}
 abbrev pub channel_text : ℕ → List ℕ
 channel_text vc = codes "vc " ++ decimal vc
 
--- the lines of the packets that end in a frame, as it is read, that comes after these frames
+-- the lines of the packets that end in a frame, as it is read, after the frames `views`
 abbrev pub tm_packet_lines : List TmView → Result TmView TmSkip → List ℕ
 tm_packet_lines views (Ok view) = concat (map (packet_line (channel_text view.vc)) (without_idle (ended_by views view)))
 tm_packet_lines views (Err reason) = []
 
+-- the same of a frame that comes after `before`
 abbrev pub packets_tm_lines : Parameters → List (List ℕ) → List ℕ → List ℕ
 packets_tm_lines p before frame = tm_packet_lines (views_of (tm_format p) p.spacecraft before) (as_read p frame)
 

@@ -20,7 +20,7 @@ show_listing is_skipped line =
       counts = show_counted is_skipped;
     }
 
--- These frames were shown and counted. Contracts of private functions alone cite this.
+-- These frames were shown, as `had` says, and counted. Contracts of private functions alone cite this.
 pub record HasShown (is_skipped : List ℕ → Bool) (had : List (List ℕ) → Type 0) (frames : List (List ℕ)) (t : Tally) : Type 0 where
   pub shown : had frames
   pub counted : HasCountedAlone (skipped_in is_skipped) frames t

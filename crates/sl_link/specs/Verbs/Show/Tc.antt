@@ -41,7 +41,7 @@ flags_word flags =
     else if flags == 2 then codes "last"
     else codes "whole"
 
--- a unit: its segment header, and how many octets come after it; or how many it has, without a segment header
+-- a unit: its segment header and how many octets follow; or, without segment header, how many octets it has
 abbrev pub segment_text : List ℕ → List ℕ
 segment_text unit =
     codes " segment " ++ flags_word (header_at unit).flags
@@ -71,14 +71,14 @@ verdict_word farm.Command = codes "command"
 abbrev pub step_text : ℕ → Verdict × FarmState → List ℕ
 step_text vc step = verdict_word step.0 ++ codes " clcw " ++ encode_lower (clcw_octets (clcw_of vc step.1))
 
--- the line of a frame that is read, after its offset: this was FARM-1 of its virtual channel before it
+-- the line of a frame that is read, after its offset; `farm` is FARM-1 of its virtual channel before the frame
 abbrev pub tc_view_text : Bool → FarmView → TcView → List ℕ
 tc_view_text plain farm view =
     codes " frame vc " ++ decimal view.vc ++ codes " " ++ content_text plain view.content ++ codes " "
     ++ step_text view.vc (farm_step farm.window farm.state (event_of view.content))
 
--- the line of a frame, after its offset, where these virtual channels have no segment headers, and these were FARM-1 of
--- each virtual channel before it
+-- the line of a frame, after its offset: `plain` are the virtual channels without segment headers,
+-- and `farms` is FARM-1 of each virtual channel before the frame
 abbrev pub tc_frame_text : List ℕ → (ℕ → FarmView) → Result TcView TcSkip → List ℕ
 tc_frame_text plain farms (Ok view) = tc_view_text (has_vc plain view.vc) (farms view.vc) view
 tc_frame_text plain farms (Err reason) = codes " skip " ++ tc_skip_word reason
@@ -93,7 +93,7 @@ tc_line p before frame =
     line_at (length (concat before)) (tc_frame_text p.plain (farm_view p before)
     (tc_frame (tc_format p) p.spacecraft frame))
 
--- a frame is skipped
+-- whether a frame is skipped
 abbrev pub tc_is_skipped : Parameters → List ℕ → Bool
 tc_is_skipped p frame = is_err (tc_frame (tc_format p) p.spacecraft frame)
 
@@ -105,6 +105,6 @@ show_tc_listing p = show_listing (tc_is_skipped p) (tc_line p)
 abbrev pub show_tc_text : Parameters → List ℕ → List ℕ
 show_tc_text p = listing_text (tc_frames_of (tc_format p)) (show_tc_listing p)
 
--- and what is counted in it
+-- what is counted in a recording
 abbrev pub show_tc_counts : Parameters → List ℕ → Counts
 show_tc_counts p = counts_of (tc_frames_of (tc_format p)) (show_tc_listing p)

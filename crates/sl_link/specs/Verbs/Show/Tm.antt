@@ -28,7 +28,7 @@ field_text (Packets None octets) = codes "none"
 field_text Idle = codes "idle"
 field_text Opaque = codes "opaque"
 
--- a CLCW, in hexadecimal and by its own fields
+-- the fields of a CLCW that the listing names
 abbrev pub clcw_fields_text : ClcwFields → List ℕ
 clcw_fields_text w =
     codes " vc " ++ decimal w.vc
@@ -38,7 +38,7 @@ clcw_fields_text w =
     ++ codes " farmb " ++ decimal w.farm_b
     ++ codes " vr " ++ decimal w.report
 
--- an operational control field: the first bit tells a CLCW, which is 0, from another report
+-- an operational control field: a CLCW where its first bit is 0, another report where that is 1
 abbrev pub word_text : List ℕ → List ℕ
 word_text word =
     if flag 4 0 word then codes " ocf " ++ encode_lower word
@@ -66,7 +66,7 @@ tm_frame_text (Err reason) = codes " skip " ++ tm_skip_word reason
 
 -- ---- a recording
 
--- a frame is skipped
+-- whether a frame is skipped
 abbrev pub tm_is_skipped : Parameters → List ℕ → Bool
 tm_is_skipped p frame = is_err (tm_frame (tm_format p) p.spacecraft frame)
 
@@ -82,6 +82,6 @@ show_tm_listing p = show_listing (tm_is_skipped p) (tm_line p)
 abbrev pub show_tm_text : Parameters → List ℕ → List ℕ
 show_tm_text p = listing_text (tm_frames_of p.tm_length) (show_tm_listing p)
 
--- and what is counted in it
+-- what is counted in a recording
 abbrev pub show_tm_counts : Parameters → List ℕ → Counts
 show_tm_counts p = counts_of (tm_frames_of p.tm_length) (show_tm_listing p)

@@ -21,7 +21,7 @@ impl<'d> Form for TcForm<'d> {
         }
     }
 
-    // It keeps no octets.
+    // This form wants no memory for itself.
     fn reserve(&mut self, text: &mut Vec<u8>) -> Result<(), LinkFault> {
         Ok(())
     }

@@ -23,10 +23,12 @@ pub trait Checked: Delivery {
     /// The lines of what is amiss in a frame that comes after others.
     ghost amiss: { Parameters → List (List ℕ) → List ℕ → List (List ℕ) };
 
-    /// The line of what is incomplete on a channel after frames, if anything is: at this offset.
+    /// The line of what is incomplete on a channel, or none: under the parameters, by the offset
+    /// that the line names, the frames so far, and the channel's number.
     ghost open_at: { Parameters → ℕ → List (List ℕ) → ℕ → List (List ℕ) };
 
-    /// Adds the lines of what is amiss in the next frame, at its offset.
+    /// Adds the lines of what is amiss in the next frame, which begins at `offset`, and reports on
+    /// the frame. The fault is `Memory`.
     fn check(
         &mut self,
         managed: &Managed,
@@ -52,7 +54,7 @@ pub trait Checked: Delivery {
     /// How many channels there are.
     ghost limit: { ℕ };
 
-    /// A channel from which on nothing is incomplete.
+    /// The number of a channel: nothing is incomplete on this channel, nor on one of a greater number.
     fn open_below(&self) -> u16
         ensures most { result ≤ limit }
         ensures none { (p : Parameters) (offset : ℕ) (frames : List (List ℕ))
@@ -63,7 +65,8 @@ pub trait Checked: Delivery {
         ensures few { (p : Parameters) (offset : ℕ) (frames : List (List ℕ))
             → length (flat_map (open_at p offset frames) (Self.kind p).channels) ≤ length frames };
 
-    /// Adds the line of what is incomplete on a channel, if anything is, and answers how many lines that is.
+    /// Adds the line of what is incomplete on a channel, if anything is, and answers how many lines
+    /// that is: one or none.
     fn open_lines(&self, offset: u64, channel: u16, lines: &mut Lines) -> u64
         requires channel { channel < limit }
         requires room { HasRoom lines.old }
@@ -164,6 +167,7 @@ impl Checked for Receiver {
     }
 
     fn open_lines(&self, offset: u64, channel: u16, lines: &mut Lines) -> u64 {
+        // The number of a channel is 64 VC + MAP.
         let vc = (channel / 64) as u8;
         let map = (channel % 64) as u8;
         if !self.is_open(vc, map) {

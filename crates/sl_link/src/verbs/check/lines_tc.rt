@@ -67,7 +67,7 @@ fn step_lines(lines: &mut Lines, offset: u64, view: &TcFrame, step: &TcStep) -> 
     discarded + stray + dropped + long + tail
 }
 
-// FARM-1 answers this verdict.
+// Adds the line of a frame that FARM-1 discards, if this verdict does, and answers how many lines that is.
 fn verdict_lines(lines: &mut Lines, offset: u64, view: &TcFrame, verdict: Verdict) -> u64
     requires { HasRoom lines.old }
     ensures text { lines.new ≡ lines.old
@@ -84,7 +84,7 @@ fn verdict_lines(lines: &mut Lines, offset: u64, view: &TcFrame, verdict: Verdic
     }
 }
 
-// FARM-1 discards a frame, if it is of type AD.
+// Adds the line of a discarded frame, which is of type AD: frames of other types have no line.
 fn discarded_lines(lines: &mut Lines, offset: u64, view: &TcFrame, verdict: Verdict) -> u64
     requires { HasRoom lines.old }
     ensures text { lines.new ≡ lines.old
@@ -132,7 +132,7 @@ fn push_verdict(lines: &mut Lines, verdict: Verdict)
     });
 }
 
-// This is told of a virtual channel and a MAP, if it holds.
+// Adds the line that says `what` of a virtual channel and a MAP, if it holds.
 fn flag_lines(lines: &mut Lines, offset: u64, what: &[u8], vc: u8, map: u8, holds: bool) -> u64
     requires room { HasRoomFor 96 lines.old }
     requires what { length what.now ≤ 6 }
@@ -151,7 +151,7 @@ fn flag_lines(lines: &mut Lines, offset: u64, what: &[u8], vc: u8, map: u8, hold
     1
 }
 
-// An incomplete series is dropped, if one is: how many octets of it had come.
+// Adds the line of an incomplete series that is dropped, if one is: `octets` is how many octets of it had come.
 fn dropped_lines(lines: &mut Lines, offset: u64, vc: u8, map: u8, octets: Option<u32>) -> u64
     requires { HasRoomFor 96 lines.old }
     ensures text { lines.new ≡ lines.old ++ concat (dropped_amiss offset vc map octets) }
@@ -191,7 +191,7 @@ pub fn open_line(lines: &mut Lines, offset: u64, vc: u8, map: u8, octets: u32)
     octets_line(lines, offset, b" open", vc, map, octets);
 }
 
-// What became of octets of a virtual channel and a MAP, and how many they are.
+// Adds a line that says what became of octets of a virtual channel and a MAP, and how many these are.
 fn octets_line(lines: &mut Lines, offset: u64, event: &[u8], vc: u8, map: u8, octets: u32)
     requires room { HasRoomFor (63 + length event.now) lines.old }
     requires event { length event.now ≤ 8 }
@@ -207,7 +207,7 @@ fn octets_line(lines: &mut Lines, offset: u64, event: &[u8], vc: u8, map: u8, oc
     lines.push(b"\n");
 }
 
-// A number of 32 bits has ten digits at most.
+// Adds a number of 32 bits, which has ten digits at most.
 fn push_count(lines: &mut Lines, count: u32)
     requires { HasRoomFor 20 lines.old }
     ensures text { lines.new ≡ lines.old ++ decimal count }

@@ -41,7 +41,7 @@ pub fn amiss_lines(lines: &mut Lines, offset: u64, view: &TmFrame, step: &TmStep
     gaps + dropped + opaque + foreign
 }
 
-// Another virtual channel frame count was expected.
+// Adds the line of a gap, if another virtual channel frame count was expected.
 fn gap_lines(lines: &mut Lines, offset: u64, view: &TmFrame, gap: Option<u8>) -> u64
     requires { HasRoomFor 196 lines.old }
     ensures text { lines.new ≡ lines.old ++ concat (gap_amiss offset view.now gap) }
@@ -81,7 +81,7 @@ fn push_gap(lines: &mut Lines, view: &TmFrame, expected: u8)
     lines.push_small_number(view.vc_count());
 }
 
-// An incomplete packet is broken off, of which these octets had come.
+// Adds the line of an incomplete packet that is broken off, if one is: `octets` is how many octets of it had come.
 fn dropped_lines(lines: &mut Lines, offset: u64, vc: u8, octets: u32) -> u64
     requires { HasRoomFor 196 lines.old }
     ensures text { lines.new ≡ lines.old ++ concat (dropped_amiss offset vc octets) }
@@ -112,7 +112,7 @@ pub fn open_lines(lines: &mut Lines, offset: u64, vc: u8, octets: u32) -> u64
     1
 }
 
-// What became of an incomplete packet, and how many octets of it had come.
+// Adds a line that says what became of an incomplete packet, and how many octets of it had come.
 fn octets_line(lines: &mut Lines, offset: u64, event: &[u8], vc: u8, octets: u32)
     requires room { HasRoomFor 196 lines.old }
     requires event { length event.now ≤ 12 }
@@ -128,7 +128,7 @@ fn octets_line(lines: &mut Lines, offset: u64, event: &[u8], vc: u8, octets: u32
     lines.push(b"\n");
 }
 
-// The frame is opaque.
+// Adds the line of an opaque frame, if the frame is one.
 fn opaque_lines(lines: &mut Lines, offset: u64, vc: u8, field: TmField) -> u64
     requires { HasRoomFor 96 lines.old }
     ensures text { lines.new ≡ lines.old
@@ -146,7 +146,7 @@ fn opaque_lines(lines: &mut Lines, offset: u64, vc: u8, field: TmField) -> u64
     }
 }
 
-// Octets of another packet version stand at a packet start.
+// Adds the line of a packet start where octets of another packet version stand, if there is one.
 fn foreign_lines(lines: &mut Lines, offset: u64, vc: u8, is_foreign: bool) -> u64
     requires { HasRoomFor 96 lines.old }
     ensures text { lines.new ≡ lines.old ++ concat (foreign_amiss offset vc is_foreign) }
@@ -161,7 +161,7 @@ fn foreign_lines(lines: &mut Lines, offset: u64, vc: u8, is_foreign: bool) -> u6
     1
 }
 
-// What holds of a frame of the virtual channel.
+// Adds a line that says `what` of the virtual channel of a frame.
 fn vc_line(lines: &mut Lines, offset: u64, what: &[u8], vc: u8)
     requires room { HasRoomFor 96 lines.old }
     requires what { length what.now ≤ 12 }

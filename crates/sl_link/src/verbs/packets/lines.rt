@@ -13,7 +13,7 @@ use crate::verbs::show::lines_tm::push_flag;
 use sl_fields::{PacketHeader, front};
 use std::io::Write;
 
-/// Adds what the line of a packet says of it after its channel, whose text is among the lines already.
+/// Adds the line of a packet but for its channel, whose name was added before.
 pub fn packet_line<W: Write>(
     writer: &mut Counted<W>,
     lines: &mut Lines,
@@ -78,7 +78,7 @@ fn push_numbers(lines: &mut Lines, header: &PacketHeader)
     lines.push_number(u64::from(header.count()));
 }
 
-// Adds octets in hexadecimal, part by part.
+// Adds octets in hexadecimal, in parts for which there is room.
 fn push_octets<W: Write>(
     writer: &mut Counted<W>,
     lines: &mut Lines,

@@ -15,7 +15,7 @@ use crate::verbs::packets::lines::packet_line;
 use sl_packet::{PacketSink, SinkFault};
 use std::io::Write;
 
-/// What the packets are told apart by: the virtual channel alone, or the MAP too.
+/// How a line names the channel of its packet: by the virtual channel alone, or with the MAP.
 #[derive(Clone, Copy)]
 pub enum ChannelKind {
     VirtualChannel,
@@ -28,6 +28,7 @@ pub struct Printer<'a, W: Write> {
     pub writer: &'a mut Counted<W>,
     pub lines: &'a mut Lines,
     pub kind: ChannelKind,
+    // How many packets couldn't be printed, 2^64 - 1 at most.
     pub failures: u64,
 }
 
@@ -79,7 +80,7 @@ fn print_packet<W: Write>(
 {
     make_room(writer, lines)?;
     push_channel(lines, kind, channel);
-    // The proof needs its two ends apart.
+    // No tail call: the proof needs success and fault apart.
     packet_line(writer, lines, packet)?;
     Ok(())
 }
@@ -94,6 +95,7 @@ fn push_channel(lines: &mut Lines, kind: ChannelKind, channel: u16)
             lines.push(b"vc ");
             lines.push_number(u64::from(channel));
         }
+        // The number of a channel with a MAP is 64 VC + MAP.
         ChannelKind::Map => push_map(lines, channel / 64, channel % 64),
     }
 }

@@ -19,8 +19,8 @@ use sl_fields::{SegmentHeader, front};
 use sl_tcflow::Farms;
 use sl_tcframe::{TcContent, TcFrame, TcSkip, VcSet};
 
-/// Adds the line of a frame at this offset, which FARM-1 of its virtual channel takes unless it is skipped. The frames
-/// of the virtual channels of `plain` have no segment headers.
+/// Adds the line of a frame at this offset. FARM-1 of its virtual channel takes the frame first,
+/// unless it is skipped. The frames of the virtual channels of `plain` have no segment headers.
 pub fn tc_frame_line(
     lines: &mut Lines,
     offset: u64,
@@ -75,7 +75,7 @@ fn push_view(lines: &mut Lines, plain: bool, farms: &mut Farms, frame: &TcFrame)
     push_step(lines, farms, frame);
 }
 
-// Takes a frame of its virtual channel, and adds what became of it and the CLCW after it.
+// Hands a frame to FARM-1 of its virtual channel, and adds the verdict and the CLCW after it.
 fn push_step(lines: &mut Lines, farms: &mut Farms, frame: &TcFrame)
     requires { HasRoomFor 136 lines.old }
     ensures text { (r : ReceptionParameters) (views : List TcView) → HaveStepped r farms.old views
@@ -90,8 +90,7 @@ fn push_step(lines: &mut Lines, farms: &mut Farms, frame: &TcFrame)
     lines.push_hex_word(&farms.clcw(frame.vc()).write());
 }
 
-// Nearly all are accepted, so each text is pushed where it is known. Of the sequence flags nothing is known before,
-// so their text is chosen first and pushed then, filled up to the longest one: both are measured.
+// Each verdict pushes its text at once, since nearly all frames are accepted: that was measured.
 fn push_verdict(lines: &mut Lines, verdict: Verdict)
     requires { HasRoomFor 96 lines.old }
     ensures text { lines.new ≡ lines.old ++ (codes " " ++ verdict_word verdict ++ codes " clcw ") }
@@ -149,7 +148,7 @@ fn push_unit(lines: &mut Lines, plain: bool, unit: &[u8])
     push_octet_count(lines, octets.len());
 }
 
-// Most units are short.
+// Adds how many octets there are. Most units are short.
 fn push_octet_count(lines: &mut Lines, octets: usize)
     requires { HasRoomFor 96 lines.old }
     ensures text { lines.new ≡ lines.old ++ decimal octets }
@@ -172,6 +171,7 @@ fn split_unit(unit: &[u8]) -> (SegmentHeader, &[u8])
     (SegmentHeader::read(header), octets)
 }
 
+// The flags can't be foreseen. So one of the texts is chosen and pushed, filled up to the longest: that was measured.
 fn push_flags(lines: &mut Lines, flags: u8)
     requires room { HasRoomFor 96 lines.old }
     requires fits { flags < 4 }

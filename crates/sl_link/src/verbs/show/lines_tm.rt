@@ -91,6 +91,7 @@ fn push_control(lines: &mut Lines, control: Option<[u8; 4]>)
     }
 }
 
+// Adds an operational control field: a CLCW, unless its first bit is 1.
 fn push_word(lines: &mut Lines, word: &[u8; 4])
     requires { HasRoomFor 176 lines.old }
     ensures text { lines.new ≡ lines.old ++ word_text word.now }

@@ -15,10 +15,10 @@ use sl_tmframe::TmFrame;
 pub trait Shown: Drop {
     ghost use Rattle.sl_link.specs.Link.Managed.{Parameters};
 
-    /// Octets are a frame.
+    /// These octets are a frame.
     ghost is_frame: { Parameters → List ℕ → Type 0 };
 
-    /// A frame is skipped.
+    /// Whether a frame is skipped.
     ghost is_skipped: { Parameters → List ℕ → Bool };
 
     /// The line of a frame that comes after others.
@@ -45,7 +45,7 @@ pub trait Shown: Drop {
             → has_shown self.new managed.now (before ++ frame.now ∷ []) };
 }
 
-/// TM frames: of the frames before one nothing is kept.
+/// TM frames. Nothing is kept of the frames before one.
 #[derive(Drop)]
 pub struct TmFrames;
 

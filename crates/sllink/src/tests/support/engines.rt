@@ -30,7 +30,7 @@ pub const ALL: usize = usize::MAX;
 
 pub const VERBS: [Verb; 4] = [Verb::Show, Verb::Check, Verb::Packets, Verb::Normalise];
 
-/// A link of which frames of one kind are recorded.
+/// A link, where frames of one kind are recorded.
 #[derive(Clone, Copy)]
 pub struct Link {
     kind: Kind,
@@ -91,8 +91,8 @@ impl<W> Ending<W> {
 }
 
 impl Link {
-    /// With frames of this length, or at most this length, with error control or without, of which this N(S) is
-    /// expected first.
+    /// With frames of this length, or at most this length, with error control or without. FARM-1 expects this N(S)
+    /// first.
     pub fn new(kind: Kind, length: u16, fecf: bool, vr: u8, max_octets: u64) -> Result<Link, Stop> {
         let managed = match kind {
             Kind::Tm => Managed::new(1, length, fecf, 16, false, 10, vr, max_octets),

@@ -159,15 +159,13 @@ impl Receiver {
         self.has_failed = true;
         let verdict = self.farms.step(frame);
         let plain = self.plain.has(frame.vc());
+        let map = map_in(plain, &frame.content());
         let reported = match take(&mut self.series, plain, verdict, frame, sink) {
             Ok(step) => step,
             Err(flow) => return Err(flow),
         };
         self.has_failed = false;
-        Ok(TcStep {
-            map: map_in(plain, &frame.content()),
-            ..reported
-        })
+        Ok(TcStep { map, ..reported })
     }
 
     /// The Communications Link Control Word (CCSDS 232.0-B) of the virtual channel `vc`, 0 to 63.

@@ -62,4 +62,4 @@ returns-clause-tail g c r views processed = ap (λ (s : StepReport). s.tail) c.r
 pub returns-clause-map : goal.returns-clause-map
 returns-clause-map g c r views processed =
     let plain = c.has-plain.ensures.value ∙ ap (has_vc c.self.inside.plain) c.vc.ensures.value ∙ plain_is r _ _ c.args.frame.now.vc c.self.view_is processed.plain in
-    c.map_in.ensures ∙ ap₂ map_of plain c.content.ensures.value
+    c.map_in-map.ensures ∙ ap₂ map_of plain c.content.ensures.value

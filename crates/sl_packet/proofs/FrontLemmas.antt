@@ -3,6 +3,7 @@ use Rattle.std.proofs.Common.{◌≡◌, ℕ, ◌+◌, ◌-◌, ◌<◌, ◌≤�
 use Rattle.std.proofs.lemmas.Bool.{ltb-false, ltb-true, le-ltb, cases_lt}
 use Rattle.std.proofs.lemmas.Bool.Decides.{nat_tests}
 use Rattle.std.proofs.lemmas.List.{length-take-le, length-replicate, take-replicate}
+use Rattle.std.proofs.lemmas.List.Elements.{All-replicate}
 use Rattle.sl_fields.specs.Field.{field}
 use Rattle.sl_fields.specs.PacketHeader.{packet_header}
 use Rattle.sl_packet.specs.Packet.{version_of, stated_packet_len, IsPacket}
@@ -113,5 +114,8 @@ incomplete_may_become_whole octets h =
     let tests = incomplete_tests (is_foreign octets) (nat_lt (length octets) (stated_packet_len octets)) (stated_packet_len octets) h in
     let less : length octets < stated_packet_len octets = ltb-true (length octets) (stated_packet_len octets) tests.1 in
     let n = stated_packet_len (octets ++ replicate 6 0) in
-    let room : length octets < n = still_less octets less in
-    (replicate (n - length octets) 0, filled octets n (foreign_false (length octets) (version_of octets) tests.0) refl room)
+    let room : length octets < n = still_less octets less in (
+      replicate (n - length octets) 0,
+      All-replicate (λ octet. octet < 256) (n - length octets) 0 (omega arith),
+      filled octets n (foreign_false (length octets) (version_of octets) tests.0) refl room,
+    )

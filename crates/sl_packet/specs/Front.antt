@@ -1,6 +1,7 @@
 -- The front of octets, which is what they begin with: a space packet, CCSDS 133.0-B, or a part of
 -- one, or something else.
 use Rattle.std.specs.Prelude.{◌≡◌, ℕ, ◌≤◌, ◌==◌, ◌&&◌, nat_lt, Bool, not, if◌then◌else◌, List, ◌++◌, length, take, Option, None, Some}
+use Rattle.sl_fields.specs.Field.{IsOctets}
 use Rattle.sl_packet.specs.Packet.{version_of, stated_packet_len, IsPacket}
 
 pub data Front : Type 0 where
@@ -15,8 +16,8 @@ pub data Front : Type 0 where
 abbrev pub is_foreign : List ℕ → Bool
 is_foreign octets = nat_lt 0 (length octets) && not (version_of octets == 0)
 
--- The front of octets. Fewer than six octets have no header. They are never whole, since the stated
--- length is 7 or more whatever they are.
+-- The front of octets. Fewer than six octets have no header. For them `stated_packet_len` still is
+-- 7 or more, which is more than there are, so they are never a whole packet.
 abbrev pub front : List ℕ → Front
 front octets =
     if is_foreign octets then OtherVersion
@@ -49,4 +50,5 @@ ForeignIsNoPacket = (octets more packet rest : List ℕ) → front octets ≡ Ot
 
 -- Octets with an incomplete front become a packet with some further octets.
 abbrev pub IncompleteMayBecomeWhole : Type 0
-IncompleteMayBecomeWhole = (octets : List ℕ) → front octets ≡ Incomplete → (more : List ℕ) × IsPacket (octets ++ more)
+IncompleteMayBecomeWhole =
+    (octets : List ℕ) → front octets ≡ Incomplete → (more : List ℕ) × IsOctets more × IsPacket (octets ++ more)

@@ -42,7 +42,7 @@ incomplete_before octets more incomplete = cases (front octets) refl
   where
     cases : (f : Front) → front octets ≡ f → f ≡ Incomplete
     cases OtherVersion e =
-        let (rest, p) = incomplete_may_become_whole (octets ++ more) incomplete in
+        let (rest, are_octets, p) = incomplete_may_become_whole (octets ++ more) incomplete in
         absurd (foreign_is_no_packet octets (more ++ rest) ((octets ++ more) ++ rest) [] e
         (sym (append_assoc octets more rest) ∙ sym (append-nil ((octets ++ more) ++ rest))) p)
     cases Incomplete e = refl

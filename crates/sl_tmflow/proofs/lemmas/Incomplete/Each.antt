@@ -28,7 +28,7 @@ use Rattle.std.proofs.lemmas.Bool.{both_ways}
 -- octets that begin a packet have version 0
 begun_version : (octets : List ℕ) → front octets ≡ Incomplete → 1 ≤ length octets → version_of octets ≡ 0
 begun_version octets incomplete some =
-    let (more, packet) = incomplete_may_become_whole octets incomplete in sym (version_of-append octets more some) ∙ packet.version
+    let (more, are_octets, packet) = incomplete_may_become_whole octets incomplete in sym (version_of-append octets more some) ∙ packet.version
 
 -- octets of version 0 begin a packet where no packet is whole
 begins : (octets : List ℕ) → version_of octets ≡ 0 → ((packet : List ℕ) → IsPacket packet → IsPrefix packet octets → ⊥) → front octets ≡ Incomplete

@@ -90,9 +90,9 @@ impl Farm {
     }
 
     /// Takes the next frame of the virtual channel, as one entry of the FARM-1 state table (CCSDS
-    /// 232.1-B), and answers the verdict on the frame. The window stays.
+    /// 232.1-B), and answers the verdict on the frame. The width of the window stays the same.
     ///
-    /// - A frame of type AD changes the state as [`Verdict`] says at each verdict.
+    /// - A frame of type AD changes the state as the docs of the variants of [`Verdict`] say.
     /// - A frame of type BD is accepted and increments the FARM-B counter, in either state.
     /// - Unlock increments the FARM-B counter and resets the Retransmit and Lockout flags, in
     ///   either state.
@@ -156,8 +156,8 @@ impl Farm {
         self.farm_b
     }
 
-    /// The sliding window, which no step changes. In clauses a window stands for its width: even, 2
-    /// to 254.
+    /// The sliding window by its width, which no step changes: even, 2 to 254. In clauses a window
+    /// stands for its width. V(R) says where the window lies.
     pub fn window(&self) -> Window
         ensures value { result ≡ self.now.window }
         ensures width { IsWidth self.now.window }

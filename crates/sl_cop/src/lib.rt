@@ -1,6 +1,7 @@
 //! FARM-1, the frame acceptance and reporting mechanism of CCSDS 232.1-B, on one virtual channel:
 //! [`Farm`] decides which frames are accepted, and reports by a Communications Link Control Word
-//! (CLCW) of CCSDS 232.0-B. [`Starts`] has the initial V(R) of FARM-1 on each virtual channel.
+//! (CLCW) of CCSDS 232.0-B. V(R) is the frame sequence number that FARM-1 expects next. [`Starts`]
+//! has its initial value for each virtual channel.
 //!
 //! Each [`step`](Farm::step) takes one frame, and is one entry of the FARM-1 state table. Buffers
 //! are always free, so FARM-1 never reaches the wait state. The [`laws`] state what holds for the

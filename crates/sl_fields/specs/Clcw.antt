@@ -30,9 +30,9 @@ pub record FitsClcw (w : ClcwFields) : Type 0 where
   pub farm_b : w.farm_b < 2 ^ 2
   pub report : w.report < 2 ^ 8
 
--- The word that reports the state of FARM-1 on a virtual channel: COP-1 is in effect. The control
--- word type, the CLCW version, the status, the spare bits and the flags No RF Available, No Bit
--- Lock and Wait are 0.
+-- The word that reports the state of FARM-1 on a virtual channel. The COP in effect is 1, which is
+-- COP-1. The control word type, the CLCW version, the status, the spare bits and the flags No RF
+-- Available, No Bit Lock and Wait are 0.
 abbrev pub farm_word : ℕ → Bool → Bool → ℕ → ℕ → ClcwFields
 farm_word vc lockout retransmit farm_b report =
     record {

@@ -35,11 +35,8 @@ plus_word (w ∷ word) (b ∷ bits) = plus_bit w b ∷ plus_word word bits
 -- the seventeen bits of the generator x^16 + x^12 + x^5 + 1: 1 0001 0000 0010 0001
 abbrev pub generator : List Bool
 generator =
-    true
-    ∷ false ∷ false ∷ false ∷ true
-    ∷ false ∷ false ∷ false ∷ false
-    ∷ false ∷ false ∷ true ∷ false
-    ∷ false ∷ false ∷ false ∷ true ∷ []
+    true ∷ false ∷ false ∷ false ∷ true ∷ false ∷ false ∷ false ∷ false ∷ false ∷ false ∷ true
+    ∷ false ∷ false ∷ false ∷ false ∷ true ∷ []
 
 -- Long division without carries: what is left after this number of steps, one for each bit of the
 -- quotient. Where the first bit is 1, a step adds the generator from the front on, and the first
@@ -48,8 +45,7 @@ generator =
 abbrev pub divided : ℕ → List Bool → List Bool
 divided zero bits = bits
 divided (suc steps) [] = []
-divided (suc steps) (b ∷ bits) =
-    divided steps (drop 1 (cond b (plus_word generator (b ∷ bits)) (b ∷ bits)))
+divided (suc steps) (b ∷ bits) = divided steps (drop 1 (cond b (plus_word generator (b ∷ bits)) (b ∷ bits)))
 
 -- The remainder by the generator: sixteen bits, or the bits themselves where there are fewer.
 abbrev pub remainder : List Bool → List Bool

@@ -24,7 +24,7 @@ field size bit width header = number_of header / 2 ^ (8 * size - bit - width) % 
 abbrev pub flag : ℕ → ℕ → List ℕ → Bool
 flag size bit header = field size bit 1 header == 1
 
--- the value of the field of one bit that has this flag
+-- the value, 0 or 1, of a field of one bit that holds this flag
 abbrev pub bit_of : Bool → ℕ
 bit_of false = 0
 bit_of true = 1

@@ -19,7 +19,7 @@ pub fn field(number: u64, below: u32, width: u32) -> u64
 }
 
 /// The value of a flag of the number: a field of one bit, true where the bit is 1. `below` bits
-/// follow the flag, 0 to 63.
+/// follow the flag, 0 to 63. In the clause `2 ^ 1` is `2 ^ width` of [`field`] with the width 1.
 #[inline(always)]
 pub fn flag(number: u64, below: u32) -> bool
     requires { below < 64 }

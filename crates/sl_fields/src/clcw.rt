@@ -10,7 +10,8 @@ use std::marker::Model;
 /// The Communications Link Control Word (CLCW) of CCSDS 232.0-B, four octets.
 #[derive(Clone, Copy, Debug, PartialEq, Eq)]
 pub struct Clcw {
-    // The fields in their order. The method of the same name describes each field.
+    // The fields in their order. The method of the same name describes each field: `word` is the
+    // control word type (not the whole word), `spare_end` the spare bit before the report value.
     word: u8,
     version: u8,
     status: u8,
@@ -100,10 +101,10 @@ impl Clcw {
         })
     }
 
-    /// The CLCW that reports the state of FARM-1 on the virtual channel `vc`, 0 to 63: COP-1 is in
-    /// effect. The control word type, the CLCW version, the status, the spare bits and the flags No
-    /// RF Available, No Bit Lock and Wait are 0. This project's FARM-1 never reaches the wait
-    /// state.
+    /// The CLCW that reports the state of FARM-1 on the virtual channel `vc`, 0 to 63. The COP in
+    /// effect is 1, which is COP-1. The control word type, the CLCW version, the status, the spare
+    /// bits and the flags No RF Available, No Bit Lock and Wait are 0. This project's FARM-1 never
+    /// reaches the wait state.
     ///
     /// `lockout` and `retransmit` are the flags of these names, `farm_b` is the FARM-B counter, 0
     /// to 3, and `report` is V(R), 0 to 255.
@@ -245,7 +246,7 @@ impl Clcw {
         self.farm_b
     }
 
-    /// Reserved spare, one bit.
+    /// Reserved spare, the one bit before the report value.
     pub fn spare_end(&self) -> bool
         ensures { result ≡ self.now.spare_end }
     {

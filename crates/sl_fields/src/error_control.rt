@@ -113,8 +113,8 @@ fn after_octets(register: Register, octets: &[u8]) -> Register
     after
 }
 
-// The register after one more octet of the message: the lower octet moves up, and a word is added.
-// The word is that of the sum of the register's upper octet and the message's octet.
+// The register after one more octet of the message. The upper octet plus the message's octet
+// selects a word. The lower octet moves up, and the word is added.
 #[inline(always)]
 fn after_octet(register: Register, octet: u8) -> Register
     ensures { TakesIn register (octet ∷ []) result }

@@ -1,5 +1,5 @@
--- Delivered packets: a list for each channel, the count of refused packets, and for how many lists
--- there is memory.
+-- Delivered packets: a list for each channel, the count of refused packets, and the number of lists
+-- that there is memory for.
 use Rattle.std.specs.Prelude.{◌≡◌, ◌≢◌, ℕ, ◌<◌, ◌≤◌, List, [], ◌∷◌, ◌++◌, replicate, false}
 use Rattle.std.specs.List.{slice_index_or, slice_set}
 use Rattle.sl_packet.specs.Packet.{IsPacket, is_idle_packet}
@@ -37,11 +37,11 @@ empty_lists = replicate channel_count []
 abbrev pub IsDeliverable : List ℕ → Type 0
 IsDeliverable packet = IsPacket packet × (is_idle_packet packet ≡ false)
 
--- no channel from `from` to the one before `to` has packets
+-- no channel has packets, of those at or above `from` and below `to`
 abbrev pub HasNone : PacketLists → ℕ → ℕ → Type 0
 HasNone d from to = (channel : ℕ) → from ≤ channel → channel < to → list_at d channel ≡ []
 
--- `channel` is the least channel with packets, from `from` on
+-- `channel` is the least channel with packets, of those at or above `from`
 pub record IsLeast (d : PacketLists) (from channel : ℕ) : Type 0 where
   pub after : from ≤ channel
   pub inside : channel < channel_count

@@ -1,5 +1,5 @@
--- A `Delivered` stands for its lists, the count of refused packets, and for how many lists it has
--- memory. The lists beyond the last one that is kept are empty.
+-- A `Delivered` stands for its lists, the count of refused packets, and the number of lists that it
+-- has memory for. The lists beyond the last one that is kept are empty.
 use Rattle.std.specs.Prelude.{ℕ, ◌≤◌, List, length}
 use Rattle.std.specs.List.{AllByRecursion}
 use Rattle.std.specs.Vec.{vec_capacity}

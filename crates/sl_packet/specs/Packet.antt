@@ -3,17 +3,18 @@ use Rattle.std.specs.Prelude.{◌≡◌, ℕ, ◌+◌, ◌≤◌, ◌==◌, ◌&
 use Rattle.sl_fields.specs.Field.{IsOctets, field}
 use Rattle.sl_fields.specs.PacketHeader.{packet_header}
 
--- the packet version number, which stands in the first octet
+-- The packet version number: the first three bits. `field 1 0 3` is the field of a header of one
+-- octet that begins at bit 0 and has three bits.
 abbrev pub version_of : List ℕ → ℕ
 version_of octets = field 1 0 3 (take 1 octets)
 
--- the application process identifier, which stands in the first two octets
+-- the application process identifier: the last eleven of the first sixteen bits
 abbrev pub apid_of : List ℕ → ℕ
 apid_of octets = field 2 5 11 (take 2 octets)
 
 -- The length of a packet with this header: six octets of the header, and one more than the packet
--- data length. Fewer than six octets have no header. The stated length then means nothing, but is 7
--- or more, and so more than there are.
+-- data length. Fewer than six octets have no header: the stated length then means nothing, but it
+-- is 7 or more, and so greater than the number of octets.
 abbrev pub stated_packet_len : List ℕ → ℕ
 stated_packet_len octets = 7 + (packet_header (take 6 octets)).length
 

@@ -34,6 +34,7 @@ impl Model for Delivered {
 
     ghost view = { packet_lists_of };
 
+    // `IsDelivered` holds of every store. `IsDeliverable` is a property of one packet.
     ghost invariant = { IsDelivered };
 }
 

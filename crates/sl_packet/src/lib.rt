@@ -1,6 +1,6 @@
 //! Space packets of CCSDS 133.0-B: how packets are found at the front of octets, how they are
-//! handed to a sink, and how they are kept. The crate also says what octets lack for a packet,
-//! collects packets that come in parts, and makes idle packets.
+//! handed to a sink, and how they are kept. The crate also says how many octets are still missing
+//! for a whole packet, collects packets that come in parts, and makes idle packets.
 //!
 //! A packet has version 0 and the length that its header states. No other field decides whether
 //! octets are a packet, and the packet data field isn't looked at.

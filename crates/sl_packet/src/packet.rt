@@ -45,7 +45,7 @@ pub fn need(octets: &[u8]) -> Need
 }
 
 // Whether there is a first octet, and it has another version than 0. The version is the first three
-// bits of the octet.
+// bits of the octet. The clause cites the definition of the same name in specs/Front.antt.
 fn is_foreign(octets: &[u8]) -> bool
     ensures { result ≡ is_foreign octets.now }
 {

@@ -47,11 +47,12 @@ impl<'a> Iterator for Packets<'a> {
     // What a call of `next` yields, and which octets are left then.
     ghost next_gives = { GivesPacket };
 
-    // No more packets are yielded than lie at the front of the octets that are left.
+    // From here on the iterator yields at most as many packets as lie at the front of the octets
+    // that are left.
     ghost remaining = { item_count packets_of };
 
     /// The packet at the front of the octets that are left. `None` exactly where no whole packet is
-    /// there. The octets that are left then stay the same.
+    /// there. In that case the call changes nothing.
     fn next(&mut self) -> Option<&'a [u8]> {
         let packet = first_packet(self.rest)?;
         self.rest = &self.rest[packet.len()..];

@@ -1,7 +1,8 @@
 -- The units (frame data units) that FARM-1 accepts on a virtual channel, CCSDS 232.0-B and 232.1-B.
 -- Units of types AD and BD make one list, in the order of their acceptance. This is the project's
--- own choice (mission profile). In this file `w` is the width of the window, and `vr` is the
--- initial V(R) of the virtual channel.
+-- own choice, which is called mission profile. In this file `w` is the width of the window, `vr` is
+-- the initial V(R) of a virtual channel, and `channel` is the list of that virtual channel's frames
+-- (and no number of a channel).
 use Rattle.std.specs.Prelude.{ℕ, ◌==◌, List, [], ◌∷◌, map}
 use Rattle.std.specs.Result.{result_ok}
 use Rattle.std.specs.List.{filter, filter_map}
@@ -20,14 +21,14 @@ views_of format spacecraft frames = filter_map (λ frame. result_ok (tc_frame fo
 abbrev pub channel_of : ℕ → List TcView → List TcView
 channel_of vc views = filter (λ view. view.vc == vc) views
 
--- the event of FARM-1 at which a frame with this content arrives
+-- the event of FARM-1 that stands for the arrival of a frame with this content
 abbrev pub event_of : Content → FarmEvent
 event_of (Ad ns unit) = event.Ad ns
 event_of (Bd unit) = event.Bd
 event_of Unlock = event.Unlock
 event_of (SetVr vr) = event.SetVr vr
 
--- the events of FARM-1 at which the frames of its virtual channel arrive
+-- the events of FARM-1 on a virtual channel, one for each of its frames
 abbrev pub events_of : List TcView → List FarmEvent
 events_of channel = map (λ view. event_of view.content) channel
 

@@ -117,7 +117,7 @@ dropped_by r views next = of_accepted None dropped_of r views next
 abbrev pub long_by : ReceptionParameters → List TcView → TcView → Bool
 long_by r views next = of_accepted false long_of r views next
 
--- how many octets are left of the service data unit that ends with the frame's accepted unit
+-- how many octets are left of the service data unit that the frame's accepted unit completes
 abbrev pub tail_by : ReceptionParameters → List TcView → TcView → ℕ
 tail_by r views next = of_accepted 0 tail_of r views next
 

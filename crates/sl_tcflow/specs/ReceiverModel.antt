@@ -13,8 +13,8 @@ use Rattle.sl_tcflow.specs.declared.series_store.SeriesStore.TheInside as store
 abbrev pub octets_so_far : incomplete.Inside → Option (List ℕ)
 octets_so_far s = if s.is_begun then Some s.octets.items else None
 
--- The invariant of an `Incomplete`: its octets aren't too many, and where no series is incomplete,
--- no octet and memory for at most 4096 octets is kept.
+-- The invariant of an `Incomplete`: it has at most 65,542 octets. Where no series is incomplete, it
+-- has no octets, and keeps memory for at most 4096.
 pub record IsKept (s : incomplete.Inside) : Type 0 where
   pub fits : length s.octets.items ≤ 65542
   pub none : s.is_begun ≡ false → s.octets.items ≡ []

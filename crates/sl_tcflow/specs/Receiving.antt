@@ -37,11 +37,13 @@ pub record ReceiverState : Type 0 where
 abbrev pub farm_at_start : ReceptionParameters → ℕ → FarmView
 farm_at_start r vc = record { window = r.window; state = farm_start (initial_vr r vc) }
 
--- FARM-1 of a virtual channel after these frames
+-- FARM-1 of a virtual channel after these frames. `channel_of` picks the frames of this virtual
+-- channel, and is no number of a channel.
 abbrev pub farm_of : ReceptionParameters → ℕ → List TcView → FarmView
 farm_of r vc views = record { window = r.window; state = farm_after r.window (initial_vr r vc) (channel_of vc views) }
 
--- FARM-1 of each of 64 virtual channels is the one after these frames
+-- `farms` has FARM-1 of each of the 64 virtual channels, as it is after these frames. By `count`
+-- there are 64, so `slice_index_or` never falls back on its last argument.
 pub record HaveStepped (r : ReceptionParameters) (farms : List FarmView) (views : List TcView) : Type 0 where
   pub count : length farms ≡ 64
   pub each : (vc : ℕ) → vc < 64 → slice_index_or farms vc (farm_at_start r vc) ≡ farm_of r vc views
@@ -102,15 +104,16 @@ unit_channel r next = channel_at next.vc (map_by r next)
 abbrev pub segment_by : ReceptionParameters → List TcView → TcView → List (List ℕ)
 segment_by r views next = map (segment_in (is_plain r next.vc)) (unit_by (verdict_on r views next) next.content)
 
--- the packets that end with the next frame's unit, if the unit is accepted, idle packets included
+-- the packets of the series that the next frame's unit completes, if the unit is accepted, idle
+-- packets included
 abbrev pub ended_by : ReceptionParameters → List TcView → TcView → List (List ℕ)
 ended_by r views next =
     flat_map (packets_ended (segments_of r next.vc (map_by r next) views)) (segment_by r views next)
 
--- The property holds for all parameters `r` and frames `views` before the next frame that agree
--- with three values: `plain` says whether the next frame's virtual channel has no segment headers,
--- `incomplete` has the series that are incomplete after `views`, and `verdict` is that of FARM-1 on
--- the next frame.
+-- The property holds for all parameters `r` and all lists `views` of the frames before the next
+-- one, where both agree with three values: `plain` says whether the next frame's virtual channel
+-- has no segment headers, `incomplete` has the series that are incomplete after `views`, and
+-- `verdict` is that of FARM-1 on the next frame.
 abbrev pub ForIncomplete : Bool → List (Option (List ℕ)) → Verdict → TcView → (ReceptionParameters → List TcView → Type 0) → Type 0
 ForIncomplete plain incomplete verdict next holds =
     (r : ReceptionParameters) (views : List TcView) → plain ≡ is_plain r next.vc → AreIncomplete r incomplete views → verdict ≡ verdict_on r views next

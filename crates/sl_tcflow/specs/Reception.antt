@@ -10,7 +10,8 @@ use Rattle.sl_tcflow.specs.ReceptionParameters.{ReceptionParameters, is_plain, i
 use Rattle.sl_tcflow.specs.Series.{SeriesAt, past, reassembled, segment_in, segments_on, series_of}
 
 -- The packets of the service data unit that these segments carry: the longest list of packets that
--- lie end to end at the unit's front. A unit of more than 65,542 octets has none (mission profile).
+-- lie end to end at its front. A service data unit of more than 65,542 octets has no packets
+-- (mission profile).
 abbrev pub packets_of_series : List (List ℕ) → List (List ℕ)
 packets_of_series segments = if nat_le (length (reassembled segments)) 65542 then packets_of (reassembled segments) else []
 
@@ -18,7 +19,8 @@ packets_of_series segments = if nat_le (length (reassembled segments)) 65542 the
 abbrev pub packets_of_segments : List (List ℕ) → List (List ℕ)
 packets_of_segments list = flat_map (λ (s : SeriesAt). packets_of_series s.segments) (series_of list)
 
--- the packets of the series that ends with the segment `next`, where it comes after the list
+-- the packets of the series that the segment `next` completes, where `next` follows the segments of
+-- the list
 abbrev pub packets_ended : List (List ℕ) → List ℕ → List (List ℕ)
 packets_ended list next =
     flat_map (λ (s : SeriesAt). packets_of_series s.segments) (filter (λ (s : SeriesAt). past s == length list + 1) (series_of (list ++ next ∷ [])))

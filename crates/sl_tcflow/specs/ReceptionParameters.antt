@@ -3,10 +3,10 @@ use Rattle.std.specs.Prelude.{ℕ, Bool, List}
 use Rattle.std.specs.List.{slice_index_or}
 use Rattle.sl_tcframe.specs.VcSet.{has_vc}
 
--- The width of FARM-1's sliding window; the initial V(R) of each of 64 virtual channels, which is
--- V(R), the receiver frame sequence number, before the channel's first frame; and the virtual
--- channels whose frames have no segment headers. A separate initial V(R) for each virtual channel
--- is the project's own choice (mission profile).
+-- The width of FARM-1's sliding window; for each of 64 virtual channels the initial V(R), the value
+-- of the receiver frame sequence number before the first frame; and the virtual channels whose
+-- frames have no segment headers. A separate initial V(R) for each virtual channel is the project's
+-- own choice; such choices are called mission profile.
 pub record ReceptionParameters : Type 0 where
   pub window : ℕ
   pub starts : List ℕ

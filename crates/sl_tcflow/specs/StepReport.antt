@@ -7,9 +7,9 @@ pub record StepReport : Type 0 where
   pub verdict : Verdict
   -- the MAP of the frame's unit, 0 where the frame carries none
   pub map : ℕ
-  -- how many packets end with the frame's unit, idle packets left out
+  -- how many packets the service data unit has that the frame's unit completes, idle ones left out
   pub packets : ℕ
-  -- how many idle packets end with the frame's unit
+  -- how many idle packets that service data unit has
   pub idle : ℕ
   -- whether the frame's unit is out of sequence
   pub stray : Bool
@@ -17,8 +17,7 @@ pub record StepReport : Type 0 where
   pub dropped : Option ℕ
   -- whether the incomplete series is given up, because it is too long with the frame's unit
   pub long : Bool
-  -- how many octets are left after the last whole packet of the service data unit that ends with
-  -- the frame's unit
+  -- how many octets are left after the last whole packet of that service data unit
   pub tail : ℕ
 
 -- the numbers of packets and of idle packets; only contracts of private functions cite this

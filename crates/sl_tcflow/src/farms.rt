@@ -13,7 +13,7 @@ use sl_tcframe::{TcContent, TcFrame};
 use std::marker::Model;
 
 /// FARM-1 (CCSDS 232.1-B) on each of the 64 virtual channels of TC transfer frames (CCSDS 232.0-B).
-/// The frames are given one after another, and every frame is taken.
+/// The frames are given one after another, also those that FARM-1 doesn't accept.
 #[derive(Drop)]
 pub struct Farms {
     farms: [Farm; 64],
@@ -32,6 +32,7 @@ impl Farms {
     /// FARM-1 of each virtual channel before its first frame: open, with this window and with the
     /// initial V(R) that `starts` has for the channel.
     pub fn new(window: Window, starts: &Starts) -> Farms
+        // `r` are any parameters with this window and these initial V(R). No frame was taken yet.
         ensures { (r : ReceptionParameters) → r.window ≡ window → r.starts ≡ starts.now
             → HaveStepped r result [] }
     {
@@ -45,8 +46,8 @@ impl Farms {
     /// Takes the next frame: steps FARM-1 of the frame's virtual channel, and answers its verdict.
     /// FARM-1 of each other virtual channel stays as it was.
     pub fn step(&mut self, frame: &TcFrame) -> Verdict
-        // `r` and `views` are any parameters and any frames under which FARM-1 may have come to its
-        // state.
+        // `views` are any frames that bring FARM-1 from its start to its state before the call, and
+        // `r` are any parameters. Several lists of frames may lead to the same state.
         ensures verdict { (r : ReceptionParameters) (views : List TcView)
             → HaveStepped r self.old views → result ≡ verdict_on r views frame.now }
         ensures farms { (r : ReceptionParameters) (views : List TcView)
@@ -66,7 +67,7 @@ impl Farms {
     }
 }
 
-// The event of FARM-1 at which a frame with this content arrives.
+// The event of FARM-1 that stands for the arrival of a frame with this content.
 fn event_in(carried: &TcContent) -> FarmEvent
     ensures { result ≡ event_of (content carried.now) }
 {

@@ -7,9 +7,9 @@ use sl_packet::Delivered;
 use sl_tcframe::{TcShape, VcSet};
 
 /// Whether frames of this format (CCSDS 232.0-B) can carry the packets. `plain` has the virtual
-/// channels whose frames have no segment headers. There packets are on MAP 0 alone, and each packet
-/// has at most [`TcShape::plain_room`] octets, since one frame carries it whole. Other virtual
-/// channels can carry all packets.
+/// channels whose frames have no segment headers. On these, all packets are on MAP 0, and each
+/// packet has at most [`TcShape::plain_room`] octets, since one frame carries it whole. Other
+/// virtual channels can carry all packets.
 ///
 /// The packets of virtual channel `v` and MAP `m` are on channel `64 * v + m`. The call takes no
 /// memory.
@@ -31,6 +31,8 @@ fn fits_on(shape: &TcShape, vc: u8, delivered: &Delivered) -> bool
     ensures { IsTrue result ↔ FitsOn shape.now delivered.now.lists vc }
 {
     let channel = 64 * u16::from(vc);
+    // If the next channel that has packets is another MAP of this virtual channel, the frames can't
+    // carry these packets.
     if let Some(next) = delivered.at_or_above(channel + 1) {
         if next < channel + 64 {
             return false;

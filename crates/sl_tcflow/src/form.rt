@@ -21,9 +21,10 @@ use sl_tcframe::{TcShape, VcSet, push_tc_plain};
 use std::alloc::AllocError;
 use std::marker::Model;
 
-/// Octets enough for any piece: 2 * 65,542 + 7. A packet has at most 65,542 octets. Each of its
-/// frames adds at most 8 octets of its own: a header, a segment header and an error control field.
-/// Each of its frames but the last carries at least 8 octets of the packet.
+/// Octets enough for any piece of a [`TcForm`]: 2 * 65,542 + 7. A packet has at most 65,542 octets.
+/// Each of its frames adds at most 8 octets of its own: a header, a segment header and an error
+/// control field. Each of its frames but the last carries at least 8 octets of the packet, and the
+/// last at least 1. So the frames add at most 7 octets more than the packet has.
 pub const PIECE_ROOM: usize = 131_091;
 
 /// The number of channels. Virtual channel `v` and MAP `m` have the channel `64 * v + m`, 0 to
@@ -72,12 +73,12 @@ impl<'d> TcForm<'d> {
     /// on channel `64 * v + m`. All octets of the form are still to come. The call takes no memory.
     ///
     /// - `spacecraft` is 0 to 1023.
-    /// - `starts` has the initial V(R) of each virtual channel, which is the N(S) of the channel's
-    ///   first frame.
+    /// - `starts` has the initial V(R) of each virtual channel, which is the N(S) of the virtual
+    ///   channel's first frame.
     /// - `plain` has the virtual channels whose frames have no segment headers.
     /// - `delivered` has packets that frames can carry, as [`fits_tc`](crate::fits_tc) tests.
     ///
-    /// Read as a recording, with these starts and these channels, the form delivers exactly these
+    /// Read as a recording, with these `starts` and this `plain`, the form delivers exactly these
     /// packets again, for every window of FARM-1.
     pub fn new(
         shape: TcShape,

@@ -1,17 +1,18 @@
-//! Packets in TC transfer frames of CCSDS 232.0-B: how packets are delivered from the units that
-//! FARM-1 (CCSDS 232.1-B) accepts on a virtual channel, and the normal form of delivered packets.
-//! The normal form is this project's own.
+//! Packets in TC transfer frames of CCSDS 232.0-B. Packets are delivered from the units that FARM-1
+//! (CCSDS 232.1-B) accepts on a virtual channel. Delivered packets have a normal form: a recording
+//! of frames of type AD that delivers exactly these packets. The normal form is this project's own.
 //!
 //! A unit is the data field of a frame of type AD or BD. On a virtual channel with segment headers
 //! a unit is a segment on the multiplexer access point (MAP) of its header. On a virtual channel
-//! without segment headers a unit stands for a segment with no segmentation on MAP 0, by this
-//! project's choice.
+//! without segment headers each unit counts as one unsegmented segment (sequence flags 3), which is
+//! on MAP 0, by this project's choice.
 //!
-//! A series of segments of a MAP carries one service data unit. A series is one segment with no
-//! segmentation; or a first segment, continuing ones or none, and a last one ([`laws`]). A series
-//! is incomplete where the last segment is still to come: the segments of the MAP so far end with a
-//! first one, and continuing ones or none after it. A series of more than 65,542 octets is given
-//! up, by this project's choice.
+//! A series of segments of a MAP carries one service data unit. A series is one unsegmented
+//! segment; or a first segment, continuing ones or none, and a last one. The [`laws`] say that all
+//! series of a list of segments are found. A series is incomplete while its last segment is still
+//! to come: after its first segment, the MAP has had only continuing segments, or no segment. A
+//! series of more than 65,542 octets, the greatest length of a packet, is given up, by this
+//! project's choice.
 //!
 //! The packets of virtual channel `v` and MAP `m` are on channel `64 * v + m`, 0 to 4095.
 #![tactic(auto)]

@@ -36,8 +36,8 @@ use std::marker::Model;
 ///
 /// The accepted units of a MAP make one list of segments, in the order of their acceptance. Units
 /// of types AD and BD are in the same list, by this project's choice. A series is incomplete on a
-/// MAP where its list ends with a first segment, and continuing ones or none after it, of at most
-/// 65,542 octets together.
+/// MAP where the MAP's list has a first segment after which no segment has come, or continuing ones
+/// alone, and these segments have at most 65,542 octets together.
 #[derive(Drop)]
 pub struct Receiver {
     // FARM-1 of each virtual channel.
@@ -80,18 +80,19 @@ impl Receiver {
     }
 
     /// Takes the next frame: steps FARM-1 of the frame's virtual channel, and takes the frame's
-    /// unit if FARM-1 accepts it. Hands the sink the packets of the service data unit that ends
-    /// with the unit, in order and without idle packets. Their channel is 64 times the virtual
-    /// channel plus the MAP, 0 to 4095. Returns the report of what the frame brought.
+    /// unit if FARM-1 accepts it. If the unit completes a service data unit, hands the sink the
+    /// packets of that service data unit, in order and without idle packets. Their channel is 64
+    /// times the virtual channel plus the MAP, 0 to 4095. Returns the report of what the frame
+    /// brought.
     ///
     /// - `Memory`: memory was refused. Memory is asked for only where the unit is accepted and a
-    ///   series is incomplete on its MAP, before the frame or after it. The sink has accepted some
-    ///   of the packets, from the first one on, and refused none.
+    ///   series is incomplete on its MAP, before the frame or after it. The sink has accepted the
+    ///   packets up to a point in their order, perhaps none, perhaps all of them, and refused none.
     /// - `Sink`: the sink refused a packet. The sink has accepted the packets before this one, and
     ///   none after it. Its count of refused packets has risen by one, unless the count was at its
     ///   greatest, 2^64 - 1.
-    /// - `Failed`: an earlier call answered `Memory` or `Sink`. Every call after these two answers
-    ///   `Failed`, hands over nothing and changes nothing; no other call answers it.
+    /// - `Failed`: an earlier call answered `Memory` or `Sink`. From then on every call answers
+    ///   `Failed`, hands over nothing and changes nothing. No other call answers `Failed`.
     ///
     /// At `Memory` and `Sink` FARM-1 has taken the frame too.
     pub fn frame<S: PacketSink>(
@@ -107,12 +108,12 @@ impl Receiver {
         ensures verdict { IfOk result (λ step. ForProcessed self.old (λ r views.
             step.verdict ≡ verdict_on r views frame.now)) }
 
-        // The step has the MAP of the frame's unit.
+        // The report has the MAP of the frame's unit.
         ensures map { IfOk result (λ step. ForProcessed self.old (λ r views.
             step.map ≡ map_by r frame.now)) }
 
-        // The packets that end with the frame's unit were accepted and counted, and the sink
-        // refused none.
+        // The packets of the service data unit that the frame's unit completes were accepted and
+        // counted, and the sink refused none.
         ensures accepted { OnOk result (ForProcessed self.old (λ r views.
             TakesAll S.taking sink.old (unit_channel r frame.now)
             (without_idle (ended_by r views frame.now)) sink.new)) }
@@ -138,9 +139,9 @@ impl Receiver {
         ensures left { result ≡ Err FlowFault.Failed
             → IsFailed self.old × (self.new ≡ self.old) × (sink.new ≡ sink.old) }
 
-        // At `Memory` and `Sink` the sink has accepted some of the packets, from the first one on,
-        // and FARM-1 has taken the frame. The sink's count of refused packets has risen exactly at
-        // `Sink`, unless the count was at its greatest.
+        // At `Memory` and `Sink` the sink has accepted the packets up to a point, as `IsStopped`
+        // says for each of the two, and FARM-1 has taken the frame. The sink's count of refused
+        // packets has risen exactly at `Sink`, unless the count was at its greatest.
         ensures stopped { IfErr result (λ flow. flow ≢ FlowFault.Failed → IsFailed self.new
             × ForProcessed self.old (λ r views. HasFailedAfter r self.new (views ++ frame.now ∷ [])
             × IsStopped S.taking S.failing S.failures sink.old (unit_channel r frame.now)
@@ -186,7 +187,7 @@ impl Receiver {
     /// The number of octets so far of the series that is incomplete on the virtual channel `vc` and
     /// the MAP `map`, each 0 to 63: at most 65,542, and 0 where no series is incomplete. An
     /// incomplete series may have 0 octets too; [`is_open`](Receiver::is_open) answers whether
-    /// there is one. After a fault clauses give only the bound.
+    /// there is one. After a fault, the clauses give only the bound.
     pub fn held(&self, vc: u8, map: u8) -> u32
         requires vc { vc ≤ 63 }
         requires map { map ≤ 63 }
@@ -210,8 +211,8 @@ impl Receiver {
 
     /// The least number from which on no channel has an incomplete series, 0 to 4096: one more than
     /// the greatest channel with an incomplete series, and 0 where no series is incomplete at all.
-    /// A channel is 64 times the virtual channel plus the MAP. After a fault clauses give only the
-    /// bound.
+    /// A channel is 64 times the virtual channel plus the MAP. After a fault, the clauses give only
+    /// the bound.
     pub fn none_open_from(&self) -> u16
         // No series is incomplete on the channels from the answer on.
         ensures most { result ≤ 4096 }

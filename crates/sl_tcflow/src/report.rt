@@ -60,16 +60,16 @@ impl TcStep {
         self.map
     }
 
-    /// The number of packets that were handed over: those of the service data unit that ends with
-    /// the frame's unit, idle packets left out. 0 where no service data unit ends.
+    /// The number of packets that were handed over: those of the service data unit that the frame's
+    /// unit completes, idle packets left out. 0 where the unit completes none.
     pub fn packets(&self) -> u32
         ensures { result ≡ self.now.packets }
     {
         self.packets
     }
 
-    /// The number of idle packets of the service data unit that ends with the frame's unit. 0 where
-    /// no service data unit ends.
+    /// The number of idle packets of the service data unit that the frame's unit completes. 0 where
+    /// the unit completes none.
     pub fn idle(&self) -> u32
         ensures { result ≡ self.now.idle }
     {
@@ -102,9 +102,10 @@ impl TcStep {
         self.long
     }
 
-    /// How many octets are left after the last whole packet of the service data unit that ends with
-    /// the frame's unit: all of its octets where it has no packet. These octets are dropped. 0
-    /// where no octets are left, where no service data unit ends, and where the series is given up.
+    /// How many octets are left after the last whole packet of the service data unit that the
+    /// frame's unit completes: all of its octets where it has no packet. These octets are dropped.
+    /// 0 where no octets are left, where the unit completes no service data unit, and where the
+    /// series is given up.
     pub fn tail(&self) -> u32
         ensures { result ≡ self.now.tail }
     {

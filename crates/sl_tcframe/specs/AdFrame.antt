@@ -9,7 +9,7 @@ use Rattle.sl_tcframe.specs.TcFrame.{TcFormat, Ad, is_cut, tc_frame}
 abbrev pub plain_room_of : TcFormat → ℕ
 plain_room_of format = format.max - 5 - fecf_len format.fecf
 
--- how many octets a frame carries at most after a segment header
+-- how many octets a frame carries at most after a segment header (`TcShape::room`)
 abbrev pub segment_room_of : TcFormat → ℕ
 segment_room_of format = format.max - 6 - fecf_len format.fecf
 

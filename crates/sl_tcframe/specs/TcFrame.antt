@@ -1,6 +1,6 @@
 -- The TC transfer frame, CCSDS 232.0-B: its parts, why a frame is skipped, and what a frame
--- carries. The spare bits of the header, and N(S) of types BD and BC, are ignored: this is the
--- project's own choice (mission profile).
+-- carries. The spare bits of the header, and N(S) of types BD and BC, are ignored. The project's
+-- own choices, as this one is, are marked here as mission profile.
 use Rattle.std.specs.Prelude.{◌≡◌, ◌≢◌, ⊤, ℕ, ◌+◌, ◌-◌, ◌<◌, ◌≤◌, ◌==◌, nat_lt, Bool, true, false, not, ◌&&◌, if◌then◌else◌, List, [], ◌∷◌, ◌++◌, length, take, drop, Option, None, Some, Result, Ok, Err}
 use Rattle.sl_fields.specs.Fecf.{fecf_is_good}
 use Rattle.sl_fields.specs.FecfField.{fecf_len}
@@ -43,8 +43,8 @@ least_of format = 5 + fecf_len format.fecf
 abbrev pub stated_frame_len : List ℕ → ℕ
 stated_frame_len octets = (tc_header_of octets).length + 1
 
--- whether octets are one frame by their frame length field: no fewer than the least length, and as
--- many as the field states
+-- whether octets are one whole frame, cut out of a recording: no fewer than the least length, and
+-- as many as their frame length field states
 abbrev pub is_cut : TcFormat → List ℕ → Bool
 is_cut format octets = not (nat_lt (length octets) (least_of format)) && length octets == stated_frame_len octets
 
@@ -73,7 +73,7 @@ pub data Content : Type 0 where
   SetVr : (vr : ℕ) → Content
 
 -- A data field has this content under this header. The bypass flag and the control command flag are
--- the type: 0 and 0 is AD, 1 and 0 is BD, 1 and 1 is BC. N(S) counts in type AD alone. N(S) of the
+-- the type: 0 and 0 is AD, 1 and 0 is BD, 1 and 1 is BC. N(S) matters in type AD alone. N(S) of the
 -- other types, and the spare bits of all types, are ignored (mission profile). A unit has one octet
 -- or more. Unlock is one octet of zeros, and Set V(R) is `82 00` and the value.
 abbrev pub Carries : TcFields → List ℕ → Content → Type 0
@@ -152,7 +152,8 @@ content_of h field =
     else if h.bypass then command_of field
     else None
 
--- the first reason that holds, if one does; `Command` is left out, since `content_of` gives it
+-- the first reason other than `Command` that holds, if one does; where none does, `read_as` answers
+-- `Command` for a frame whose `content_of` is `None`
 abbrev pub early_reason : TcFormat → ℕ → List ℕ → Option TcSkip
 early_reason format spacecraft frame =
     if format.fecf && not (fecf_is_good frame) then Some Fecf
@@ -163,8 +164,9 @@ early_reason format spacecraft frame =
     else if length (tc_parts_of format frame).field == 0 then Some Empty
     else None
 
--- what is read, from the first reason other than `Command`, the header and the content of the data
--- field; without a content the reason is `Command`
+-- What is read of a frame. The arguments are the first reason other than `Command` to skip it, if
+-- one holds; its header; and the content of its data field, if there is one. Without such a reason
+-- and without a content the frame is skipped for `Command`.
 abbrev pub read_as : Option TcSkip → TcFields → Option Content → Result TcView TcSkip
 read_as (Some reason) h content = Err reason
 read_as None h (Some content) = Ok (record { vc = h.vc; content = content })

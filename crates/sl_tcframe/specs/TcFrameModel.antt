@@ -1,4 +1,5 @@
--- A `TcFrame` stands for what was read of the frame, which is in range.
+-- A `TcFrame` stands for what was read of the frame: a virtual channel and a content in range
+-- (`IsInRange`).
 use Rattle.sl_tcframe.specs.TcFrame.{TcView, IsInRange}
 use Rattle.sl_tcframe.specs.TcContent.{content}
 use Rattle.sl_tcframe.specs.declared.tc_frame.TcFrame.TheInside.{Inside}

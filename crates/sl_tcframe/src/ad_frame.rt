@@ -16,8 +16,8 @@ use std::alloc::AllocError;
 /// - `ns` is the frame sequence number N(S), 0 to 255.
 /// - `octets` has 0 to [`TcShape::room`] octets.
 ///
-/// The header has version 0, bypass flag 0, control command flag 0 and spare bits 0. The frame ends
-/// with its error control field where the format has one.
+/// The primary header has version 0, bypass flag 0, control command flag 0 and spare bits 0. The
+/// frame ends with its error control field where the format `shape` has one.
 ///
 /// Memory is refused only where the capacity of `out` has no room for the frame. The octets of
 /// `out` then stay as they were.
@@ -64,7 +64,7 @@ pub fn push_tc(
 /// - `ns` is the frame sequence number N(S), 0 to 255.
 /// - `octets` has 1 to [`TcShape::plain_room`] octets.
 ///
-/// The header, the error control field and a refusal of memory are as for [`push_tc`].
+/// The primary header, the error control field and a refusal of memory are as for [`push_tc`].
 pub fn push_tc_plain(
     out: &mut Vec<u8>,
     shape: &TcShape,
@@ -106,7 +106,7 @@ struct AdFrame<'a> {
     spacecraft: u16,
     vc: u8,
     ns: u8,
-    // The first part: a segment header, or no octet.
+    // The first part: the octet of a segment header, or no octet.
     segment: &'a [u8],
     // The second part: the other octets.
     octets: &'a [u8],
@@ -117,6 +117,8 @@ struct AdFrame<'a> {
 fn push_ad(out: &mut Vec<u8>, shape: &TcShape, frame: &AdFrame) -> Result<(), AllocError>
     requires spacecraft { frame.now.spacecraft ≤ 1023 }
     requires vc { frame.now.vc ≤ 63 }
+    // The two parts together are a data field of at most the greatest length: `plain_room_of`, or a
+    // segment header and its room.
     requires unit { length frame.now.segment.now + length frame.now.octets.now
         ≤ 1 + segment_room_of shape.now }
     // The frame is added.
@@ -153,7 +155,7 @@ fn push_ad(out: &mut Vec<u8>, shape: &TcShape, frame: &AdFrame) -> Result<(), Al
     out.extend_from_slice(&field)
 }
 
-// The length of a frame whose data field has `unit` octets.
+// The length of a frame whose data field, its unit, is `unit` octets long.
 fn frame_len(shape: &TcShape, unit: usize) -> u16
     requires { unit ≤ 1 + segment_room_of shape.now }
     ensures value { result ≡ ad_len shape.now unit }

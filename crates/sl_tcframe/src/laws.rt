@@ -25,7 +25,7 @@ pub fn tc_frames_are_read()
 {}
 
 /// Every list of octets is a recording, in exactly one way: frames end to end by their frame length
-/// fields, and a remainder with which no frame begins.
+/// fields, and a remainder that doesn't begin with a frame.
 pub fn tc_recordings_are_delimited()
     ensures each { EachIsTcDelimited }
     ensures once { IsTcDelimitedOnce }
@@ -51,8 +51,8 @@ pub fn texts_list_channels_once()
     ensures { ListsOnce }
 {}
 
-/// How far a frame at the front of octets has come: the front is a whole frame, incomplete, or a
-/// stated length below the least length of a frame.
+/// What stands at the front of octets: a whole frame, an incomplete one, or a frame length field
+/// that states less than the least length of a frame.
 ///
 /// - The front is a whole frame exactly where the octets begin with a frame of this length.
 /// - After a stated length below the least no frame begins here, whatever octets follow.

@@ -1,15 +1,17 @@
 //! TC transfer frames of CCSDS 232.0-B: which octets are a frame, how a frame is read, how a frame
 //! of type AD is written, with a segment header or without, and how a recording that comes in
-//! chunks is delimited into frames. A recording is any list of octets: frames end to end, and a
-//! remainder with which no frame begins.
+//! chunks is delimited into frames. Any list of octets is a recording. It divides into whole frames
+//! end to end, any number of them, and a remainder that doesn't begin with a whole frame. The
+//! remainder may be the beginning of a frame whose other octets are missing.
 //!
-//! A frame is read, or is skipped for a reason, whatever its octets are. The unit of a frame of
-//! type AD or BD is its whole data field. The unit of a frame that is read is borrowed from the
-//! frame's octets. A frame that [`push_tc`] or [`push_tc_plain`] adds is read back as it was given
-//! ([`laws`]).
+//! A frame is read, or is skipped for a reason, whatever its octets are. What a frame of type AD or
+//! BD carries is called its unit: the whole data field. Reading a frame copies nothing: the unit is
+//! borrowed from the frame's octets. A frame that [`push_tc`] or [`push_tc_plain`] adds is read back
+//! as it was given ([`laws`]).
 //!
 //! Management says for each virtual channel whether its frames of types AD and BD have segment
-//! headers. A [`VcSet`] holds the virtual channels whose frames have none.
+//! headers. A [`VcSet`] holds the virtual channels whose frames have none. The word `plain` in a
+//! name, as in [`push_tc_plain`], means such a channel or frame.
 #![tactic(auto)]
 
 mod ad_frame;

@@ -11,7 +11,8 @@ use std::marker::Model;
 /// Why a TC transfer frame is skipped: the first of these reasons that holds.
 #[derive(Clone, Copy, Debug, PartialEq, Eq)]
 pub enum TcSkip {
-    /// The format has a frame error control field, and the field of this frame is wrong.
+    /// The format ([`TcShape`]) has a frame error control field, and the field of this frame is
+    /// wrong.
     Fecf,
     /// The transfer frame version number isn't 0.
     Version,
@@ -74,10 +75,11 @@ impl<'a> Model for TcFrame<'a> {
 impl<'a> TcFrame<'a> {
     ghost use Rattle.sl_tcframe.specs.TcFrame.{tc_frame};
 
-    /// Reads a frame of this format and spacecraft, or answers why the frame is skipped. `octets`
-    /// are one frame by their frame length field, as [`TcShape::is_cut`] tests. Every frame is
-    /// skipped for a `spacecraft` above 1023, which no header holds. The unit is borrowed from
-    /// `octets`.
+    /// Reads a frame of the format `shape` and of the spacecraft `spacecraft`, or answers why the
+    /// frame is skipped. `octets` are one whole frame, cut out of a recording: they have exactly
+    /// the length that their own frame length field states, as [`TcShape::is_cut`] tests. Where
+    /// `spacecraft` is above 1023, a number that no header holds, every frame is skipped. The unit
+    /// is borrowed from `octets`.
     ///
     /// The spare bits of the header, and N(S) of types BD and BC, are ignored, by this project's
     /// choice.
@@ -96,6 +98,7 @@ impl<'a> TcFrame<'a> {
                 vc: header.vc(),
                 content,
             }),
+            // `Kind` and `Empty` are ruled out above: the frame is of type BC without a command.
             None => Err(TcSkip::Command),
         }
     }
@@ -109,7 +112,8 @@ impl<'a> TcFrame<'a> {
     }
 
     /// The content of the frame. A unit has 1 to 1019 octets, and is borrowed from the octets that
-    /// the frame was read from.
+    /// the frame was read from. In the clauses the function `content` takes a [`TcContent`] to the
+    /// `Content` of specs/TcFrame.antt, and `IsContent` says that a unit has 1 to 1019 octets.
     pub fn content(&self) -> TcContent<'a>
         ensures value { content result ≡ self.now.content }
         ensures inside { IsContent (content result) }
@@ -118,7 +122,8 @@ impl<'a> TcFrame<'a> {
     }
 }
 
-// Splits the octets of a frame after the primary header, which is read.
+// Splits the octets of a frame after the primary header. Answers the decoded header, and the octets
+// that follow it.
 #[inline(always)]
 fn split_header(octets: &[u8]) -> (TcHeader, &[u8])
     requires { 5 ≤ length octets.now }
@@ -129,8 +134,8 @@ fn split_header(octets: &[u8]) -> (TcHeader, &[u8])
     (TcHeader::read(header), behind)
 }
 
-// The first reason, if there is one, to skip the frame that these octets are. `header` is the
-// frame's header. The last reason, `Command`, is left to the caller.
+// The first reason to skip the frame `octets`, whose header is `header`, or `None`. The last
+// reason, `Command`, is left to the caller.
 #[inline(always)]
 fn early_skip_of(
     shape: &TcShape,
@@ -163,12 +168,13 @@ fn early_skip_of(
     None
 }
 
-// The content of a data field under this header. `None` where the data field has no content of the
-// header's type.
+// The content of a data field under this header. `None` where the header's flags are those of none
+// of the types AD, BD and BC; where a frame of type AD or BD has an empty data field; and where one
+// of type BC has no control command in it.
 #[inline(always)]
 fn content_under<'a>(header: &TcHeader, field: &'a [u8]) -> Option<TcContent<'a>>
     requires { length field.now ≤ 1019 }
-    // The content is the one that the specification gives, and a unit has 1 to 1019 octets.
+    // The content is the one that `content_of` gives, and a unit has 1 to 1019 octets.
     ensures value { option_map content result ≡ content_of header.now field.now }
     ensures inside { IfSome result (λ c. IsContent (content c)) }
 {

@@ -33,8 +33,8 @@ impl TcShape {
     ghost use Rattle.sl_tcframe.specs.TcShape.{tc_shape};
 
     /// The format with this greatest length, 16 to 1024 octets, and a frame error control field
-    /// where `fecf` is set. Any other greatest length is refused with `TcLength`. CCSDS 232.0-B has
-    /// 1024; the bound of 16 is this project's choice.
+    /// where `fecf` is set. Any other greatest length is refused with `TcLength`. The bound of 1024
+    /// is that of CCSDS 232.0-B; the bound of 16 is this project's choice.
     pub fn new(max: u16, fecf: bool) -> Result<TcShape, ShapeFault>
         ensures { let format : TcFormat = record { max = max; fecf = fecf } in
             result ≡ tc_shape format }
@@ -70,7 +70,9 @@ impl TcShape {
         if self.fecf { 7 } else { 5 }
     }
 
-    /// The greatest number of octets that a frame carries after a segment header, 8 to 1018.
+    /// The greatest number of octets that a frame carries after a segment header, 8 to 1018: all
+    /// but the five octets of the primary header, the one of the segment header, and the two of the
+    /// error control field where there is one.
     pub fn room(&self) -> u16
         ensures value { result ≡ segment_room_of self.now }
         ensures least { 8 ≤ result }
@@ -83,8 +85,8 @@ impl TcShape {
         }
     }
 
-    /// The greatest length of a data field in octets, 9 to 1019. A frame without a segment header
-    /// carries at most this number of octets.
+    /// The greatest number of octets that a frame without a segment header carries, 9 to 1019: the
+    /// greatest length of a data field.
     pub fn plain_room(&self) -> u16
         ensures value { result ≡ plain_room_of self.now }
         ensures least { 9 ≤ result }
@@ -93,9 +95,9 @@ impl TcShape {
         self.room() + 1
     }
 
-    /// Whether the octets are one frame by their frame length field, and so may be read: there are
-    /// at least [`least`](TcShape::least) of them, and exactly as many as the field states. There
-    /// may be more than [`max`](TcShape::max).
+    /// Whether the octets are one whole frame, cut out of a recording, and so may be read: there
+    /// are at least [`least`](TcShape::least) of them, and exactly as many as their frame length
+    /// field states. There may be more than [`max`](TcShape::max).
     pub fn is_cut(&self, octets: &[u8]) -> bool
         ensures { result ≡ is_cut self.now octets.now }
     {

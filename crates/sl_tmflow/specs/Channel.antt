@@ -5,7 +5,8 @@ use Rattle.std.specs.Result.{result_ok}
 use Rattle.std.specs.List.{filter, filter_map, concat}
 use Rattle.sl_tmframe.specs.TmFrame.{TmFormat, TmView, DataField, Packets, Idle, Opaque, tm_frame}
 
--- the views of those frames that aren't skipped, in order
+-- What `tm_frame` reads of each frame, its view, in order. Frames for which `tm_frame` answers an
+-- error are left out.
 abbrev pub views_of : TmFormat → ℕ → List (List ℕ) → List TmView
 views_of format spacecraft frames = filter_map (λ frame. result_ok (tm_frame format spacecraft frame)) frames
 

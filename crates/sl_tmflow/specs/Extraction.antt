@@ -24,8 +24,8 @@ pub record HasSeen (state : ChannelState) (channel : List TmView) : Type 0 where
   pub count : state.count ≡ last_count channel
   pub held : held_as state.held ≡ incomplete_of channel
 
--- This may be the state after these frames were processed, and no fault came. Other lists of frames
--- may lead to the same state.
+-- The state is the one in which an extractor is after it has processed these frames without a fault.
+-- Other lists of frames may lead to the same state.
 pub record HasProcessed (state : ExtractorState) (views : List TmView) : Type 0 where
   pub working : state.has_failed ≡ false
   pub each : (vc : ℕ) → vc < 8 → HasSeen (slice_index_or state.channels vc new_channel).state (channel_of vc views)

@@ -57,7 +57,8 @@ impl Extractor {
     ///
     /// - `Memory`: this call was refused memory. Memory is asked for only where a packet is
     ///   incomplete on the frame's virtual channel, before the frame or after it. The sink has
-    ///   accepted the first of the packets, perhaps none or all of them, and refused none.
+    ///   accepted the packets up to a point in their order, perhaps none, perhaps all of them, and
+    ///   refused none.
     /// - `Sink`: the sink refused a packet. It has accepted the packets before this one, and none
     ///   after it. Its count of refused packets has risen by one, unless it was 2^64 - 1.
     /// - `Failed`: an earlier call answered `Memory` or `Sink`. After that every call answers
@@ -67,8 +68,9 @@ impl Extractor {
         frame: &TmFrame,
         sink: &mut S,
     ) -> Result<TmStep, FlowFault>
-        // `views` are any frames that may have been processed before the call. On Ok these frames
-        // and then the new one are processed.
+        // `ForProcessed self.old (λ views. ..)` says that a property holds for every list `views`
+        // of frames that can have led to the state before the call. On Ok these frames and then the
+        // new one are processed.
         ensures processed { OnOk result (ForProcessed self.old (λ views.
             HasProcessed self.new (views ++ frame.now ∷ []))) }
 
@@ -90,15 +92,15 @@ impl Extractor {
             step.dropped ≡ dropped_of (channel_of frame.now.vc views) frame.now)) }
         ensures foreign { IfOk result (λ step. step.foreign ≡ foreign_of frame.now.field) }
 
-        // After a fault each call answers `Failed` and changes nothing. No call answers `Failed`
-        // before a fault.
+        // After a fault each call answers `Failed`, and leaves the extractor and the sink as they
+        // were. No call answers `Failed` before a fault.
         ensures failed { IsFailed self.old → result ≡ Err FlowFault.Failed }
         ensures left { result ≡ Err FlowFault.Failed
             → IsFailed self.old × (self.new ≡ self.old) × (sink.new ≡ sink.old) }
 
-        // At a fault of this call the sink has accepted the first of the packets, as `IsStopped`
-        // says of `Memory` and of `Sink`. The sink's count of refused packets rises exactly where
-        // the fault is `Sink`, unless the count is at its greatest.
+        // At a fault of this call the sink has accepted the packets up to a point. `IsStopped` says
+        // up to which one, for `Memory` and for `Sink`. The sink's count of refused packets rises
+        // exactly where the fault is `Sink`, unless the count is at its greatest.
         ensures stopped { IfErr result (λ flow. flow ≢ FlowFault.Failed → IsFailed self.new
             × ForProcessed self.old (λ views.
             IsStopped S.taking S.failing S.failures sink.old frame.now.vc

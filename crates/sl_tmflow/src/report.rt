@@ -50,10 +50,10 @@ impl TmStep {
         self.idle
     }
 
-    /// The virtual channel frame count that was expected, 0 to 255, where the frame has another
-    /// one. The expected count is that of the last frame on the same virtual channel plus 1, modulo
-    /// 256. `None` where the frame has the expected count, and for the first frame of a virtual
-    /// channel.
+    /// Whether frames are missing before the frame: if so, the virtual channel frame count that was
+    /// expected, 0 to 255 (and not how many are missing). The expected count is that of the last
+    /// frame on the same virtual channel plus 1, modulo 256. `None` where the frame has the expected
+    /// count, and for the first frame of a virtual channel.
     pub fn gap(&self) -> Option<u8>
         ensures { result ≡ self.now.gap }
     {

@@ -32,9 +32,10 @@ packet_frame format spacecraft vc mc vcc first field =
 
 -- ---- laws
 
--- a format that frames may have, and what a frame of packets of this format may have: a spacecraft,
--- a virtual channel, frame counts, a first packet start and a data field
+-- Frames may have this format, and a frame of packets of this format may have this spacecraft,
+-- virtual channel, frame counts, first packet start and data field.
 pub record FitFrame (format : TmFormat) (spacecraft vc mc vcc : ℕ) (first : Option ℕ) (field : List ℕ) : Type 0 where
+  -- the lengths that `TmShape::new` takes, 32 to 2048
   pub least : 32 ≤ format.len
   pub most : format.len ≤ 2048
   pub spacecraft_fits : spacecraft ≤ 1023

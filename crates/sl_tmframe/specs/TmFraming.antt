@@ -83,8 +83,8 @@ ChunksAreDelimited =
     (len : ℕ) (chunks frames : List (List ℕ)) (new : TmFraming) → 0 < len → YieldsFrames (at_start len) chunks frames new
     → IsTmDelimited len (concat chunks) frames new.rest
 
--- Octets that are too few for a frame become exactly one frame when certain octets are added at
--- their end.
+-- To octets that are too few for a frame, some octets can be added at the end so that all of them
+-- together are exactly one frame.
 abbrev pub ShortBecomesFrame : Type 0
 ShortBecomesFrame =
     (len : ℕ) (octets : List ℕ) → length octets < len

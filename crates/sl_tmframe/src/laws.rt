@@ -12,9 +12,9 @@ pub fn tm_frames_have_parts()
     ensures once { HasPartsOnce }
 {}
 
-/// Octets of the managed length, if this is 12 or more, are skipped for the first reason that
-/// holds. Where no reason holds, they are read as a frame of one class: packets, idle or opaque. No
-/// octets are read in two ways.
+/// Octets of the managed length, if this is 12 or more, are skipped where a reason to skip them
+/// holds, for the first such reason. Where none holds, they are read as a frame of one class:
+/// packets, idle or opaque. No octets are read in two ways.
 pub fn tm_frames_are_read()
     ensures each { EachIsRead }
     ensures once { IsReadOnce }
@@ -35,12 +35,13 @@ pub fn tm_recordings_are_delimited()
     ensures once { IsTmDelimitedOnce }
 {}
 
-/// A framer that is given a recording in chunks delimits the recording. Each chunk is given until
-/// it is used up, and any division into chunks will do. The frames that the framer yields are the
-/// recording's frames, and the octets that were taken after the last frame are the remainder.
+/// A framer that is given a recording in chunks delimits the recording, whatever the division. The
+/// framer is called with what is left of a chunk until nothing is left, and then with the next
+/// chunk. The frames that the framer yields are the recording's frames, and the octets that were
+/// taken after the last frame are the remainder.
 ///
-/// A remainder may be the front of a frame: octets that are too few for a frame become exactly one
-/// frame when certain octets are added at their end.
+/// A remainder may be the front of a frame: to octets that are too few for a frame, some octets can
+/// be added at the end so that all of them together are exactly one frame.
 pub fn tm_chunks_are_delimited()
     ensures any { AnyChunksAreTaken }
     ensures delimited { ChunksAreDelimited }

@@ -14,6 +14,7 @@ const NONE_STARTS: u16 = 2047;
 /// Adds a TM transfer frame of packets (CCSDS 132.0-B) to the end of `out`. The data field of the
 /// frame has octets of packets.
 ///
+/// - `shape` is the frame's format: its length, and whether it has a frame error control field.
 /// - `spacecraft` is the spacecraft identifier, 0 to 1023.
 /// - `vc` is the virtual channel identifier, 0 to 7.
 /// - `mc` is the master channel frame count, 0 to 255.

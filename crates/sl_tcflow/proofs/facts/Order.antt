@@ -10,7 +10,7 @@ use Rattle.sl_tcflow.specs.Series.{whole_segment}
 abbrev format : TcFormat
 format = record { max = 16; fecf = false }
 
--- a packet of twelve octets, of which a segment has room for ten, and one of seven
+-- a packet of twelve octets, where a segment has room for ten, and one of seven
 abbrev long : List ℕ
 long = 0x00 ∷ 0x01 ∷ 0xC0 ∷ 0x00 ∷ 0x00 ∷ 0x05 ∷ 0xA1 ∷ 0xA2 ∷ 0xA3 ∷ 0xA4 ∷ 0xA5 ∷ 0xA6 ∷ []
 

@@ -2,5 +2,5 @@
 pub mod digits;
 pub mod hexadecimal;
 pub mod lines;
-pub mod room;
+pub mod output;
 pub mod streams;

@@ -21,7 +21,7 @@ mod form;
 
 use crate::kind::Delivery;
 use crate::link::counted::Counted;
-use crate::link::fault::{LinkFault, of_flow};
+use crate::link::fault::LinkFault;
 use crate::link::managed::Managed;
 use crate::link::totals::Totals;
 use crate::normalise::form::write_form;
@@ -318,6 +318,6 @@ fn keep_frame<D: Delivery>(
 {
     match delivery.deliver(managed, frame, delivered) {
         Ok(report) => Ok(report),
-        Err(fault) => Err(of_flow(fault)),
+        Err(fault) => Err(LinkFault::from(fault)),
     }
 }

@@ -105,12 +105,6 @@ IsListingFault old new TooLong = ⊥
 IsListingFault old new Memory = faults_of new ≡ faults_of old
 IsListingFault old new Write = HadOneFault old new
 
--- a prefix of the text was written, and then memory was refused or the writer failed
-pub record StopsListing {W : Type 0} (contents : W → Option (List ℕ)) (old new : Counted W) (text : List ℕ)
-    (fault : LinkFault) : Type 0 where
-  pub front : WritesPrefix contents old new text
-  pub cause : IsListingFault old new fault
-
 -- ---- a whole engine, over its reader and its writer before and after the call
 
 module _ {R W : Type 0} (remaining : R → Option (List ℕ)) (contents : W → Option (List ℕ)) where

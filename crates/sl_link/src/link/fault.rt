@@ -1,6 +1,6 @@
 //! Why an engine stopped.
 ghost use Rattle.std.specs.Prelude.{◌≡◌};
-ghost use Rattle.sl_link.specs.Link.Fault.{flow_fault, sink_fault};
+ghost use Rattle.sl_link.specs.Link.Fault.{sink_fault};
 
 use sl_packet::{FlowFault, SinkFault};
 use thiserror::Error;
@@ -23,14 +23,19 @@ pub enum LinkFault {
     Write,
 }
 
-/// The fault of an engine that couldn't hand packets on to its sink: `Memory` where memory was
-/// refused, and `Write` where the writer failed.
-pub fn of_flow(fault: FlowFault) -> LinkFault
-    ensures { result ≡ flow_fault fault }
-{
-    match fault {
-        FlowFault::Sink(fault) => of_sink(fault),
-        FlowFault::Memory | FlowFault::Failed => LinkFault::Memory,
+impl From<FlowFault> for LinkFault {
+    ghost use Rattle.std.specs.Prelude.{◌≡◌};
+    ghost use Rattle.sl_link.specs.Link.Fault.{flow_fault};
+
+    ghost from_gives = { λ fault e. e ≡ flow_fault fault };
+
+    /// The fault of an engine that couldn't hand packets on to its sink: `Memory` where memory was
+    /// refused, and `Write` where the writer failed.
+    fn from(fault: FlowFault) -> LinkFault {
+        match fault {
+            FlowFault::Sink(fault) => of_sink(fault),
+            FlowFault::Memory | FlowFault::Failed => LinkFault::Memory,
+        }
     }
 }
 

@@ -1,19 +1,16 @@
 //! The packets of a recording as lines.
-ghost use Rattle.std.specs.Prelude.{ℕ, ◌++◌, ◌∷◌, [], List, IfOk, IfErr, OnOk};
-ghost use Rattle.sl_link.specs.Kind.Delivery.{Brings, HasHandedOver};
-ghost use Rattle.sl_link.specs.Io.Streams.{AddsText};
-ghost use Rattle.sl_link.specs.Verbs.Listing.{StopsListingFrames};
+ghost use Rattle.std.specs.Prelude.{ℕ, [], List};
+ghost use Rattle.sl_link.specs.Kind.Delivery.{HasHandedOver};
 
 mod lines;
 mod printer;
 
-use crate::io::lines::Lines;
+use crate::io::output::{Output, Written};
 use crate::kind::Delivery;
-use crate::link::counted::Counted;
-use crate::link::fault::{LinkFault, of_flow};
+use crate::link::fault::LinkFault;
 use crate::link::managed::Managed;
 use crate::link::totals::Totals;
-use crate::tally::{FrameReport, Tally};
+use crate::tally::Tally;
 use crate::verbs::Verb;
 use crate::verbs::packets::printer::{ChannelKind, Printer};
 use sl_tcflow::Receiver;
@@ -87,14 +84,13 @@ impl<D: Printed> Verb for Packets<D> {
 
     ghost wants_memory = { D.wants_memory };
 
-    fn frame<W: Write>(
-        &mut self,
-        managed: &Managed,
-        frame: &[u8],
-        writer: &mut Counted<W>,
-        lines: &mut Lines,
-    ) -> Result<(), LinkFault> {
-        let report = print_frame(&mut self.delivery, managed, frame, writer, lines)?;
+    fn frame<W: Write>(&mut self, managed: &Managed, frame: &[u8], out: &mut Output<W>) -> Written {
+        let mut printer = Printer {
+            out,
+            kind: self.delivery.channel_kind(),
+            failures: 0,
+        };
+        let report = self.delivery.deliver(managed, frame, &mut printer)?;
         self.so_far.add(frame.len() as u64, report);
         Ok(())
     }
@@ -103,47 +99,8 @@ impl<D: Printed> Verb for Packets<D> {
         &self,
         _managed: &Managed,
         octets: u64,
-        _writer: &mut Counted<W>,
-        _lines: &mut Lines,
+        _out: &mut Output<W>,
     ) -> Result<Totals, LinkFault> {
         Ok(self.so_far.totals(octets - self.so_far.octets, 0))
-    }
-}
-
-// Adds the lines of the packets that end in a frame, unless the frame is skipped.
-fn print_frame<D: Printed, W: Write>(
-    delivery: &mut D,
-    managed: &Managed,
-    frame: &[u8],
-    writer: &mut Counted<W>,
-    lines: &mut Lines,
-) -> Result<FrameReport, LinkFault>
-    requires { (before : List (List ℕ)) × D.has_processed delivery.old managed.now before
-        × D.is_frame managed.now frame.now }
-    ensures processed { OnOk result ((before : List (List ℕ))
-        → D.has_processed delivery.old managed.now before
-        → D.has_processed delivery.new managed.now (before ++ frame.now ∷ [])) }
-    ensures lines { OnOk result ((before : List (List ℕ))
-        → D.has_processed delivery.old managed.now before
-        → AddsText W.contents writer.old writer.new lines.old lines.new
-        (D.lines managed.now before frame.now)) }
-    ensures report { IfOk result (λ report. (before : List (List ℕ))
-        → D.has_processed delivery.old managed.now before
-        → Brings (D.kind managed.now) before frame.now report) }
-    ensures fault { IfErr result (λ fault. (before : List (List ℕ))
-        → D.has_processed delivery.old managed.now before
-        → StopsListingFrames W.contents writer.old writer.new (lines.old
-        ++ D.lines managed.now before frame.now) (D.wants_memory managed.now (before
-        ++ frame.now ∷ [])) fault) }
-{
-    let mut printer = Printer {
-        writer,
-        lines,
-        kind: delivery.channel_kind(),
-        failures: 0,
-    };
-    match delivery.deliver(managed, frame, &mut printer) {
-        Ok(report) => Ok(report),
-        Err(fault) => Err(of_flow(fault)),
     }
 }

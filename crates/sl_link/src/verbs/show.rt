@@ -6,9 +6,7 @@ pub mod lines_tc;
 pub mod lines_tm;
 pub mod shown;
 
-use crate::io::lines::Lines;
-use crate::io::room::{make_room, remainder_line};
-use crate::link::counted::Counted;
+use crate::io::output::{Output, Written, remainder_line};
 use crate::link::fault::LinkFault;
 use crate::link::managed::Managed;
 use crate::link::totals::Totals;
@@ -49,15 +47,10 @@ impl<S: Shown> Verb for Show<S> {
 
     ghost wants_memory = { λ p frames. ⊥ };
 
-    fn frame<W: Write>(
-        &mut self,
-        managed: &Managed,
-        frame: &[u8],
-        writer: &mut Counted<W>,
-        lines: &mut Lines,
-    ) -> Result<(), LinkFault> {
-        make_room(writer, lines)?;
-        let is_skipped = self.shown.show(managed, frame, self.so_far.octets, lines);
+    fn frame<W: Write>(&mut self, managed: &Managed, frame: &[u8], out: &mut Output<W>) -> Written {
+        out.make_room()?;
+        let offset = self.so_far.octets;
+        let is_skipped = self.shown.show(managed, frame, offset, &mut out.lines);
         let report = FrameReport {
             is_skipped,
             ..SKIPPED
@@ -70,13 +63,12 @@ impl<S: Shown> Verb for Show<S> {
         &self,
         _managed: &Managed,
         octets: u64,
-        writer: &mut Counted<W>,
-        lines: &mut Lines,
+        out: &mut Output<W>,
     ) -> Result<Totals, LinkFault> {
-        make_room(writer, lines)?;
+        out.make_room()?;
         let rest = octets - self.so_far.octets;
         if rest > 0 {
-            remainder_line(lines, self.so_far.octets, rest);
+            remainder_line(&mut out.lines, self.so_far.octets, rest);
         }
         Ok(self.so_far.totals(rest, 0))
     }

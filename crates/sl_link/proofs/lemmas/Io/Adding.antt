@@ -1,13 +1,21 @@
 -- Texts that are added to what isn't written yet, one after another, and what stands at a fault.
-use Rattle.std.proofs.Common.{◌≡◌, ℕ, List, [], ◌++◌, Option, refl, sym, ◌∙◌, ap, subst, append_assoc, append-nil}
+use Rattle.std.proofs.Common.{◌≡◌, ℕ, List, [], ◌++◌, Option, Result, Ok, Err, refl, sym, ◌∙◌, ap, subst, append_assoc, append-nil}
+use Rattle.std.specs.Prelude.{IfErr, IsErrAnd}
 use Rattle.std.proofs.KnownBytes.{Appends-nil, Appends-trans}
 use Rattle.std.specs.Io.KnownBytes.{Appends}
+use Rattle.sl_link.specs.declared.io.output.Output.{Output}
 use Rattle.sl_link.specs.declared.link.counted.Counted.{Counted}
 use Rattle.sl_link.specs.declared.link.fault.LinkFault.{LinkFault}
 use Rattle.sl_link.specs.declared.link.fault.LinkFault.TheVariants.{Read, TooLong, Memory, Write}
 use Rattle.sl_link.specs.Link.Counted.{stream_of, faults_of}
-use Rattle.sl_link.specs.Io.Streams.{AddsText, IsListingFault, StopsListing, StopsWriting, WritesText}
+use Rattle.sl_link.specs.Io.Output.{Adds, StopsAdding}
+use Rattle.sl_link.specs.Io.Streams.{AddsText, IsListingFault, StopsWriting, WritesText}
 use Rattle.sl_link.proofs.lemmas.Io.Faults.{HadOneFault-since, split_front}
+
+-- `?` passes a fault up
+pub passed_up : {T : Type 0} (r : Result T LinkFault) (fault : LinkFault) (P : LinkFault → Type 0) → IsErrAnd r (λ e. e ≡ fault) → P fault → IfErr r P
+passed_up (Ok t) fault P is p = tt
+passed_up (Err e) fault P is p = subst P (sym is) p
 
 module _ {W : Type 0} (contents : W → Option (List ℕ)) where
   pub AddsText-trans : (old mid new : Counted W) (pending pending' pending'' text more : List ℕ)
@@ -32,70 +40,105 @@ module _ {W : Type 0} (contents : W → Option (List ℕ)) where
         no_fault = w.no_fault ∙ a.no_fault;
       }
 
-  -- a failed writer is a fault of a listing
-  pub stops_at_writer : (old new : Counted W) (text : List ℕ) (fault : LinkFault) → StopsWriting contents old new text fault → StopsListing contents old new text fault
-  stops_at_writer old new text fault s =
-      record { front = s.front; cause = subst (λ f. IsListingFault old new f) (sym s.is_write) s.cause }
-
-  -- want of memory too, where nothing was written
-  pub stops_at_memory : (old : Counted W) (text : List ℕ) (fault : LinkFault) → fault ≡ Memory → StopsListing contents old old text fault
-  stops_at_memory old text fault is_memory =
-      record {
-        front = record {
-          written = [];
-          missing = text;
-          front = refl;
-          writes = Appends-nil (contents (stream_of old));
-        };
-        cause = subst (λ f. IsListingFault old old f) (sym is_memory) refl;
-      }
-
-  since : (old mid new : Counted W) (fault : LinkFault) → faults_of mid ≡ faults_of old → IsListingFault mid new fault → IsListingFault old new fault
-  since old mid new Read kept cause = cause
-  since old mid new TooLong kept cause = cause
-  since old mid new Memory kept cause = cause ∙ kept
-  since old mid new Write kept cause = HadOneFault-since old mid new kept cause
-
-  -- a fault after a text was added, with more of the text to come
-  pub stops_later : (old mid new : Counted W) (pending pending' text next more whole : List ℕ) (fault : LinkFault)
-      → AddsText contents old mid pending pending' text → StopsListing contents mid new (pending' ++ next) fault
-      → pending ++ (text ++ (next ++ more)) ≡ whole → StopsListing contents old new whole fault
-  stops_later old mid new pending pending' text next more whole fault a s e =
-      record {
-        front = record {
-          written = a.written ++ s.front.written;
-          missing = s.front.missing ++ more;
-          front =
-              split_front a.written s.front.written s.front.missing more (pending' ++ next) s.front.front
-              ∙ ap (λ l. l ++ more) (sym (append_assoc a.written pending' next))
-              ∙ ap (λ l. (l ++ next) ++ more) (sym a.parts)
-              ∙ append_assoc (pending ++ text) next more ∙ append_assoc pending text (next ++ more) ∙ e;
-          writes = Appends-trans (contents (stream_of old)) (contents (stream_of mid)) (contents (stream_of new)) a.written s.front.written a.writes s.front.writes;
-        };
-        cause = since old mid new fault a.no_fault s.cause;
-      }
-
   -- a fault while what waits is written
-  pub stops_waiting : (old mid new : Counted W) (pending pending' text more whole : List ℕ) (fault : LinkFault)
-      → AddsText contents old mid pending pending' text → StopsListing contents mid new pending' fault
-      → pending ++ (text ++ more) ≡ whole → StopsListing contents old new whole fault
-  stops_waiting old mid new pending pending' text more whole fault a s e =
-      stops_later old mid new pending pending' text [] more whole fault a
-      (subst (λ t. StopsListing contents mid new t fault) (sym (append-nil pending')) s) e
-
-  -- as a fault of the writer
-  pub writer_stops : (old new : Counted W) (text : List ℕ) (fault : LinkFault) → StopsListing contents old new text fault → fault ≡ Write → StopsWriting contents old new text fault
-  writer_stops old new text fault s is_write =
-      record { front = s.front; is_write = is_write; cause = subst (λ f. IsListingFault old new f) is_write s.cause }
-
-  pub writer_stops_later : (old mid new : Counted W) (pending pending' text next more whole : List ℕ) (fault : LinkFault)
-      → AddsText contents old mid pending pending' text → StopsWriting contents mid new (pending' ++ next) fault
-      → pending ++ (text ++ (next ++ more)) ≡ whole → StopsWriting contents old new whole fault
-  writer_stops_later old mid new pending pending' text next more whole fault a s e =
-      writer_stops old new whole fault (stops_later old mid new pending pending' text next more whole fault a (stops_at_writer mid new (pending' ++ next) fault s) e) s.is_write
-
   pub writer_stops_waiting : (old mid new : Counted W) (pending pending' text more whole : List ℕ) (fault : LinkFault)
       → AddsText contents old mid pending pending' text → StopsWriting contents mid new pending' fault
       → pending ++ (text ++ more) ≡ whole → StopsWriting contents old new whole fault
   writer_stops_waiting old mid new pending pending' text more whole fault a s e =
-      writer_stops old new whole fault (stops_waiting old mid new pending pending' text more whole fault a (stops_at_writer mid new pending' fault s) e) s.is_write
+      record {
+        front = record {
+          written = a.written ++ s.front.written;
+          missing = s.front.missing ++ more;
+          front = split_front a.written s.front.written s.front.missing more pending' s.front.front ∙ ap (λ l. l ++ more) (sym a.parts) ∙ append_assoc pending text more ∙ e;
+          writes = Appends-trans (contents (stream_of old)) (contents (stream_of mid)) (contents (stream_of new)) a.written s.front.written a.writes s.front.writes;
+        };
+        is_write = s.is_write;
+        cause = HadOneFault-since old mid new a.no_fault s.cause;
+      }
+
+-- ---- an output
+
+since : {W : Type 0} (old mid new : Counted W) (fault : LinkFault) → faults_of mid ≡ faults_of old → IsListingFault mid new fault → IsListingFault old new fault
+since old mid new Read kept cause = cause
+since old mid new TooLong kept cause = cause
+since old mid new Memory kept cause = cause ∙ kept
+since old mid new Write kept cause = HadOneFault-since old mid new kept cause
+
+module _ {W : Type 0} (contents : W → Option (List ℕ)) where
+  -- nothing was written, and these lines wait too
+  pub adds_lines : (old new : Output W) (text : List ℕ) → new.writer ≡ old.writer → new.lines ≡ old.lines ++ text → Adds contents old text new
+  adds_lines old new text same e =
+      subst (λ w. Adds contents old text (record new { writer = w })) (sym same)
+      (record { lent = refl; adds = record { written = []; parts = sym e; writes = Appends-nil (contents (stream_of old.writer.now)); no_fault = refl } })
+
+  -- memory was refused, and nothing written
+  pub stops_at_memory : (old new : Output W) (text : List ℕ) {wanted : Type 0} → new.writer ≡ old.writer → wanted → StopsAdding contents old text new wanted Memory
+  stops_at_memory old new text {wanted} same wants =
+      subst (λ w. StopsAdding contents old text (record new { writer = w }) wanted Memory) (sym same)
+      (record {
+        lent = refl;
+        front = record { written = []; missing = old.lines ++ text; front = refl; writes = Appends-nil (contents (stream_of old.writer.now)) };
+        cause = refl;
+        memory = λ e. wants;
+      })
+
+module _ {W : Type 0} {contents : W → Option (List ℕ)} where
+  pub adds_both : {old mid new : Output W} {text more : List ℕ} → Adds contents old text mid → Adds contents mid more new → Adds contents old (text ++ more) new
+  adds_both {old} {mid} {new} {text} {more} a b =
+      record { lent = b.lent ∙ a.lent; adds = AddsText-trans contents _ _ _ old.lines mid.lines new.lines text more a.adds b.adds }
+
+  -- and nothing more
+  pub adds_none : {old mid new : Output W} {text : List ℕ} → Adds contents old text mid → Adds contents mid [] new → Adds contents old text new
+  adds_none {old} {new = new} {text = text} a b = subst (λ l. Adds contents old l new) (append-nil text) (adds_both a b)
+
+  -- a fault at the first text stops both
+  pub stops_first : {old new : Output W} {text : List ℕ} {wanted : Type 0} {fault : LinkFault} (more : List ℕ) → StopsAdding contents old text new wanted fault
+      → StopsAdding contents old (text ++ more) new wanted fault
+  stops_first {old} {text = text} more s =
+      let w = s.front in
+      record {
+        lent = s.lent;
+        front = record {
+          written = w.written;
+          missing = w.missing ++ more;
+          front = sym (append_assoc w.written w.missing more) ∙ ap (λ l. l ++ more) w.front ∙ append_assoc old.lines text more;
+          writes = w.writes;
+        };
+        cause = s.cause;
+        memory = s.memory;
+      }
+
+  -- and so does one at the second
+  pub stops_then : {old mid new : Output W} {text more : List ℕ} {wanted : Type 0} {fault : LinkFault} → Adds contents old text mid
+      → StopsAdding contents mid more new wanted fault → StopsAdding contents old (text ++ more) new wanted fault
+  stops_then {old} {mid} {new} {text} {more} {fault = fault} a s =
+      let w = s.front in
+      let t = a.adds in
+      record {
+        lent = s.lent ∙ a.lent;
+        front = record {
+          written = t.written ++ w.written;
+          missing = w.missing;
+          front = append_assoc t.written w.written w.missing ∙ ap (λ l. t.written ++ l) w.front ∙ sym (append_assoc t.written mid.lines more)
+              ∙ ap (λ l. l ++ more) (sym t.parts) ∙ append_assoc old.lines text more;
+          writes = Appends-trans _ (contents (stream_of mid.writer.now)) _ t.written w.written t.writes w.writes;
+        };
+        cause = since old.writer.now mid.writer.now new.writer.now fault t.no_fault s.cause;
+        memory = s.memory;
+      }
+
+  -- after the whole text, at a flush
+  pub stops_last : {old mid new : Output W} {text : List ℕ} {wanted : Type 0} {fault : LinkFault} → Adds contents old text mid
+      → StopsAdding contents mid [] new wanted fault → StopsAdding contents old text new wanted fault
+  stops_last {old} {new = new} {text = text} {wanted = wanted} {fault = fault} a s =
+      subst (λ l. StopsAdding contents old l new wanted fault) (append-nil text) (stops_then a s)
+
+  -- a fault that no want of memory makes
+  pub stops_for : {old new : Output W} {text : List ℕ} {fault : LinkFault} (wanted : Type 0) → StopsAdding contents old text new ⊥ fault
+      → StopsAdding contents old text new wanted fault
+  stops_for wanted s = record { lent = s.lent; front = s.front; cause = s.cause; memory = λ e. absurd (s.memory e) }
+
+  -- before the text, where room is made for it
+  pub stops_before : {old new : Output W} {fault : LinkFault} (text : List ℕ) (wanted : Type 0) → StopsAdding contents old [] new ⊥ fault
+      → StopsAdding contents old text new wanted fault
+  stops_before text wanted s = stops_for wanted (stops_first text s)

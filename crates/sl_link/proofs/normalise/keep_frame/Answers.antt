@@ -10,7 +10,7 @@ returns-in-Err-clause-fault g c = λ before h.
     let frame = c.args.frame.now in
     let s = c.in-Err.ensures.stopped before h in
     let laws = (g.met.D.Delivery.within _ p before h).delivered in (
-      c.of_flow.ensures ∙ memory_refused _ _ (λ old channel packet fault new fails. fails.0) _ _ _ _ c.in-Err.fault s.stopped,
+      c.from.ensures ∙ memory_refused _ _ (λ old channel packet fault new fails. fails.0) _ _ _ _ c.in-Err.fault s.stopped,
       elim (wanted_or_some _ _ _ _ _ _ c.in-Err.fault s.stopped s.wanted) [
         | inl wanted ↦ inl wanted
         | inr some ↦ inr (omega (arith, some, packets_more k laws before frame))

@@ -5,7 +5,7 @@ ghost use Rattle.sl_link.specs.Verbs.Check.Lines.{frames_text, packets_text, rem
 ghost use Rattle.sl_link.specs.Io.Room.{HasRoom, HasRoomFor};
 
 use crate::io::lines::Lines;
-use crate::io::room::remainder_line;
+use crate::io::output::remainder_line;
 use crate::link::totals::Totals;
 
 /// Adds the line of the remainder, where there is one, and answers how many lines that is: one or none.

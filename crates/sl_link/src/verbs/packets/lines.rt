@@ -2,34 +2,26 @@
 ghost use Rattle.std.specs.Prelude.{◌≡◌, ◌+◌, ◌≤◌, ◌++◌, length, IfErr, OnOk};
 ghost use Rattle.hex.specs.Hex.{encode_lower};
 ghost use Rattle.sl_link.specs.Verbs.Packets.Line.{fields_text, header_text, numbers_text, packet_text, size_text};
-ghost use Rattle.sl_link.specs.Io.Streams.{AddsText, StopsWriting};
+ghost use Rattle.sl_link.specs.Io.Output.{Adds, StopsAdding};
 ghost use Rattle.sl_link.specs.Io.Room.{HasRoomFor};
 
 use crate::io::lines::Lines;
-use crate::io::room::make_room;
-use crate::link::counted::Counted;
-use crate::link::fault::LinkFault;
+use crate::io::output::{Output, Written};
 use crate::verbs::show::lines_tm::push_flag;
 use sl_fields::{PacketHeader, front};
 use std::io::Write;
 
 /// Adds the line of a packet but for its channel, whose name was added before.
-pub fn packet_line<W: Write>(
-    writer: &mut Counted<W>,
-    lines: &mut Lines,
-    packet: &[u8],
-) -> Result<(), LinkFault>
+pub fn packet_line<W: Write>(out: &mut Output<W>, packet: &[u8]) -> Written
     requires packet { 6 ≤ length packet.now }
-    requires room { HasRoomFor 196 lines.old }
-    ensures line { OnOk result (AddsText W.contents writer.old writer.new lines.old lines.new
-        (packet_text packet.now)) }
-    ensures fault { IfErr result (StopsWriting W.contents writer.old writer.new (lines.old
-        ++ packet_text packet.now)) }
+    requires room { HasRoomFor 196 out.old.lines }
+    ensures line { OnOk result (Adds W.contents out.old (packet_text packet.now) out.new) }
+    ensures fault { IfErr result (StopsAdding W.contents out.old (packet_text packet.now) out.new ⊥) }
 {
-    push_fields(lines, packet);
-    push_octets(writer, lines, packet)?;
-    make_room(writer, lines)?;
-    lines.push(b"\n");
+    push_fields(&mut out.lines, packet);
+    push_octets(out, packet)?;
+    out.make_room()?;
+    out.lines.push(b"\n");
     Ok(())
 }
 
@@ -79,21 +71,15 @@ fn push_numbers(lines: &mut Lines, header: &PacketHeader)
 }
 
 // Adds octets in hexadecimal, in parts for which there is room.
-fn push_octets<W: Write>(
-    writer: &mut Counted<W>,
-    lines: &mut Lines,
-    octets: &[u8],
-) -> Result<(), LinkFault>
-    ensures text { OnOk result (AddsText W.contents writer.old writer.new lines.old lines.new
-        (encode_lower octets.now)) }
-    ensures fault { IfErr result (StopsWriting W.contents writer.old writer.new (lines.old
-        ++ encode_lower octets.now)) }
+fn push_octets<W: Write>(out: &mut Output<W>, octets: &[u8]) -> Written
+    ensures text { OnOk result (Adds W.contents out.old (encode_lower octets.now) out.new) }
+    ensures fault { IfErr result (StopsAdding W.contents out.old (encode_lower octets.now) out.new ⊥) }
 {
     let mut left = octets;
     while !left.is_empty() {
-        make_room(writer, lines)?;
-        let (part, after) = left.split_at(left.len().min(lines.room() / 2));
-        lines.push_hex(part);
+        out.make_room()?;
+        let (part, after) = left.split_at(left.len().min(out.lines.room() / 2));
+        out.lines.push_hex(part);
         left = after;
     }
     Ok(())

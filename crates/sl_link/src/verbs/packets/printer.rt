@@ -4,13 +4,11 @@ ghost use Rattle.sl_packet.specs.Packet.{IsPacket};
 ghost use Rattle.sl_link.specs.Verbs.Packets.ChannelName.{channel_name};
 ghost use Rattle.sl_link.specs.Verbs.Packets.Line.{packet_line};
 ghost use Rattle.sl_link.specs.Verbs.Packets.Tc.{channel_text};
-ghost use Rattle.sl_link.specs.Io.Streams.{AddsText, StopsWriting};
+ghost use Rattle.sl_link.specs.Io.Output.{Adds, StopsAdding};
 ghost use Rattle.sl_link.specs.Io.Room.{HasRoom};
 
 use crate::io::lines::Lines;
-use crate::io::room::make_room;
-use crate::link::counted::Counted;
-use crate::link::fault::LinkFault;
+use crate::io::output::{Output, Written};
 use crate::verbs::packets::lines::packet_line;
 use sl_packet::{PacketSink, SinkFault};
 use std::io::Write;
@@ -24,37 +22,33 @@ pub enum ChannelKind {
 
 /// Prints each packet that it is handed, with the channel that it is on.
 #[derive(Drop)]
-pub struct Printer<'a, W: Write> {
-    pub writer: &'a mut Counted<W>,
-    pub lines: &'a mut Lines,
+pub struct Printer<'a, 'b, W: Write> {
+    pub out: &'a mut Output<'b, W>,
     pub kind: ChannelKind,
     // How many packets couldn't be printed, 2^64 - 1 at most.
     pub failures: u64,
 }
 
-impl<'a, W: Write> PacketSink for Printer<'a, W> {
-    ghost use Rattle.std.specs.Prelude.{◌≡◌, ◌++◌};
+impl<'a, 'b, W: Write> PacketSink for Printer<'a, 'b, W> {
+    ghost use Rattle.std.specs.Prelude.{◌≡◌};
     ghost use Rattle.sl_packet.specs.declared.sink.SinkFault.TheVariants.{Device};
     ghost use Rattle.sl_link.specs.Verbs.Packets.ChannelName.{channel_name};
     ghost use Rattle.sl_link.specs.Verbs.Packets.Line.{packet_line};
-    ghost use Rattle.sl_link.specs.Io.Streams.{AddsText, StopsWriting};
+    ghost use Rattle.sl_link.specs.Io.Output.{Adds, StopsAdding};
     ghost use Rattle.sl_link.specs.declared.link.fault.LinkFault.TheVariants.{Write};
 
     ghost taking = { λ old channel packet new. (new.kind ≡ old.kind)
-        × (new.writer.ghost_name ≡ old.writer.ghost_name)
-        × (new.lines.ghost_name ≡ old.lines.ghost_name)
-        × AddsText W.contents old.writer.now new.writer.now old.lines.now new.lines.now
-        (packet_line (channel_name old.kind channel) packet) };
+        × (new.out.ghost_name ≡ old.out.ghost_name) × Adds W.contents old.out.now
+        (packet_line (channel_name old.kind channel) packet) new.out.now };
 
     ghost failing = { λ old channel packet fault new. (fault ≡ Device)
-        × (new.writer.ghost_name ≡ old.writer.ghost_name)
-        × StopsWriting W.contents old.writer.now new.writer.now (old.lines.now
-        ++ packet_line (channel_name old.kind channel) packet) Write };
+        × (new.out.ghost_name ≡ old.out.ghost_name) × StopsAdding W.contents old.out.now
+        (packet_line (channel_name old.kind channel) packet) new.out.now ⊥ Write };
 
     ghost failures = { λ printer. printer.failures };
 
     fn packet(&mut self, channel: u16, p: &[u8]) -> Result<(), SinkFault> {
-        match print_packet(self.writer, self.lines, self.kind, channel, p) {
+        match print_packet(self.out, self.kind, channel, p) {
             Ok(()) => Ok(()),
             Err(_) => {
                 self.failures = self.failures.saturating_add(1);
@@ -66,22 +60,21 @@ impl<'a, W: Write> PacketSink for Printer<'a, W> {
 
 // Adds the line of a packet on a channel.
 fn print_packet<W: Write>(
-    writer: &mut Counted<W>,
-    lines: &mut Lines,
+    out: &mut Output<W>,
     kind: ChannelKind,
     channel: u16,
     packet: &[u8],
-) -> Result<(), LinkFault>
+) -> Written
     requires packet { IsPacket packet.now }
-    ensures line { OnOk result (AddsText W.contents writer.old writer.new lines.old lines.new
-        (packet_line (channel_name kind channel) packet.now)) }
-    ensures fault { IfErr result (StopsWriting W.contents writer.old writer.new (lines.old
-        ++ packet_line (channel_name kind channel) packet.now)) }
+    ensures line { OnOk result (Adds W.contents out.old
+        (packet_line (channel_name kind channel) packet.now) out.new) }
+    ensures fault { IfErr result (StopsAdding W.contents out.old
+        (packet_line (channel_name kind channel) packet.now) out.new ⊥) }
 {
-    make_room(writer, lines)?;
-    push_channel(lines, kind, channel);
+    out.make_room()?;
+    push_channel(&mut out.lines, kind, channel);
     // No tail call: the proof needs success and fault apart.
-    packet_line(writer, lines, packet)?;
+    packet_line(out, packet)?;
     Ok(())
 }
 

@@ -4,12 +4,11 @@ use Rattle.std.specs.Prelude.{flat_map}
 use Rattle.std.specs.List.{concat, range_with_len}
 use Rattle.std.proofs.lemmas.Grind.{flat_map-append}
 use Rattle.std.proofs.lemmas.List.Folds.{concat-append}
-use Rattle.sl_link.specs.declared.link.counted.Counted.{Counted}
+use Rattle.sl_link.specs.declared.io.output.Output.{Output}
 use Rattle.sl_link.specs.declared.link.fault.LinkFault.{LinkFault}
-use Rattle.sl_link.specs.Io.Streams.{AddsText, StopsWriting}
+use Rattle.sl_link.specs.Io.Output.{Adds, StopsAdding}
 use Rattle.sl_link.specs.Kind.Delivery.{AreDelivered, Kind, count_of}
-use Rattle.sl_link.proofs.lemmas.Io.Adding.{AddsText-trans, writer_stops_waiting}
-use Rattle.sl_link.proofs.lemmas.Io.Streams.{AddsText-more}
+use Rattle.sl_link.proofs.lemmas.Io.Adding.{adds_both, stops_first, stops_last}
 use Rattle.sl_link.proofs.lemmas.Kind.Channels.{items_change, no_items}
 
 range_split : (from m n : ℕ) → range_with_len from (m + n) ≡ range_with_len from m ++ range_with_len (from + m) n
@@ -55,23 +54,18 @@ module _ (line : ℕ → List (List ℕ)) where
   pub number_next : (number more channel : ℕ) → number ≡ length (lines_to channel) → more ≡ length (line channel) → number + more ≡ length (lines_to (channel + 1))
   number_next number more channel listed counts = omega (arith, listed, counts, ap length (one_more channel), length-append (lines_to channel) (line channel))
 
-  module _ {W : Type 0} (contents : W → Option (List ℕ)) (writer mid new : Counted W) (before pending : List ℕ) (channel : ℕ) (listed : AddsText contents writer mid before pending (concat (lines_to channel))) where
-    pub lines_next : (roomy after : List ℕ) → AddsText contents mid new pending roomy [] → after ≡ roomy ++ concat (line channel)
-        → AddsText contents writer new before after (concat (lines_to (channel + 1)))
-    lines_next roomy after room adds =
-        subst (λ l. AddsText contents writer new before after l) (sym (ap concat (one_more channel) ∙ concat-append (lines_to channel) (line channel)))
-        (AddsText-trans contents writer mid new before pending after (concat (lines_to channel)) (concat (line channel)) listed
-        (AddsText-more contents mid new pending roomy after (concat (line channel)) room adds))
+  module _ {W : Type 0} {contents : W → Option (List ℕ)} {start old new : Output W} (channel : ℕ) (listed : Adds contents start (concat (lines_to channel)) old) where
+    pub lines_next : Adds contents old (concat (line channel)) new → Adds contents start (concat (lines_to (channel + 1))) new
+    lines_next next = rw (one_more channel, concat-append (lines_to channel) (line channel)) (adds_both listed next)
 
     -- a fault before the next one leaves a prefix of them
-    pub lines_stop : (limit : ℕ) (all : List (List ℕ)) (fault : LinkFault) → channel ≤ limit → lines_to limit ≡ all → StopsWriting contents mid new pending fault
-        → StopsWriting contents writer new (before ++ concat all) fault
-    lines_stop limit all fault within are stops =
+    pub lines_stop : (limit : ℕ) (all : List (List ℕ)) {fault : LinkFault} → channel ≤ limit → lines_to limit ≡ all → StopsAdding contents old [] new ⊥ fault
+        → StopsAdding contents start (concat all) new ⊥ fault
+    lines_stop limit all within are stops =
         let others = flat_map line (range_with_len channel (limit - channel)) in
         let sum : channel + (limit - channel) ≡ limit = omega (arith, within) in
         let whole : all ≡ lines_to channel ++ others = sym are ∙ ap lines_to (sym sum) ∙ split_at channel (limit - channel) in
-        writer_stops_waiting contents writer mid new before pending (concat (lines_to channel)) (concat others) (before ++ concat all) fault
-        listed stops (ap (λ l. before ++ l) (sym (ap concat whole ∙ concat-append (lines_to channel) others)))
+        rw (whole, concat-append (lines_to channel) others) (stops_first (concat others) (stops_last listed stops))
 
 -- ---- how many they are
 

@@ -1,22 +1,21 @@
-use Rattle.std.proofs.Common.{◌≡◌, ◌≤◌, ◌∙◌, ap, arith, length, refl, subst, sym}
+use Rattle.std.proofs.Common.{◌≡◌, ◌≤◌, ◌∙◌, [], ap, append-nil, arith, length, refl, subst, sym}
 use Rattle.std.specs.Prelude.{flat_map}
 use Rattle.std.specs.List.{concat}
 use Rattle.std.proofs.lemmas.Result.{err_from_is_err_and}
-use Rattle.sl_link.specs.Io.Streams.{AddsText}
-use Rattle.sl_link.proofs.lemmas.Io.Streams.{AddsText-nil}
+use Rattle.sl_link.specs.Io.Output.{Adds}
+use Rattle.sl_link.proofs.lemmas.Io.Adding.{adds_both, adds_lines}
 use Rattle.sl_link.proofs.lemmas.Verbs.Check.Open.{lines_next, lines_stop, lines_whole, number_next}
 use Rattle.sl_link.proofs.verbs.check.incomplete_lines.Goals as goal
 
 pub loop-channel-init : goal.loop-channel-init
-loop-channel-init g c = (λ p frames h. (AddsText-nil g.W.Write.contents c.args.writer.now c.args.lines.now, refl), omega arith)
+loop-channel-init g c = (λ p frames h. (adds_lines _ c.args.out.now c.args.out.now [] refl (sym (append-nil c.args.out.now.lines)), refl), omega arith)
 
 pub loop-channel-preserved : goal.loop-channel-preserved
 loop-channel-preserved g c =
     let i = c.loop-channel.invariant in (
       λ p frames h.
           let line = g.D.Checked.open_at p c.args.offset frames in (
-            lines_next line g.W.Write.contents c.args.writer.now c.loop-channel.writer c.make_room.new.writer c.args.lines.now c.loop-channel.lines c.loop-channel.channel (i.0 p frames h).0
-                c.make_room.new.lines c.open_lines-number.new.lines c.in_ok-make_room.ensures.kept (c.open_lines-number.ensures.text p frames h),
+            lines_next line c.loop-channel.channel (i.0 p frames h).0 (adds_both c.in_ok-make_room.ensures.kept (adds_lines _ _ _ (concat (line c.loop-channel.channel)) refl (c.open_lines-number.ensures.text p frames h))),
             number_next line c.loop-channel.number c.open_lines-number.result c.loop-channel.channel (i.0 p frames h).1 (c.open_lines-number.ensures.number p frames h),
           ),
       omega (arith, i.1, c.open_lines-number.ensures.few),
@@ -30,8 +29,7 @@ returns-in_err-make_room-clause-fault g c =
     let line = g.D.Checked.open_at p c.args.offset frames in
     let all = ap (flat_map line) (sym (g.met.D.Delivery.within _ p frames h).delivered.all) in
     let within : c.loop-channel.channel ≤ k.limit = omega (arith, c.loop-channel-test.true, c.open_below-channel-end.ensures.most, c.open_below-channel-end.ensures.all p) in
-    lines_stop line g.W.Write.contents c.args.writer.now c.loop-channel.writer c.make_room.new.writer c.args.lines.now c.loop-channel.lines c.loop-channel.channel (c.loop-channel.invariant.0 p frames h).0
-    k.limit (flat_map line k.channels) _ within all c.in_err-make_room.ensures.fault)
+    lines_stop line c.loop-channel.channel (c.loop-channel.invariant.0 p frames h).0 k.limit (flat_map line k.channels) within all c.in_err-make_room.ensures.fault)
 
 pub returns-clause-lines : goal.returns-clause-lines
 returns-clause-lines g c = λ p frames h.
@@ -39,7 +37,7 @@ returns-clause-lines g c = λ p frames h.
     let line = g.D.Checked.open_at p c.args.offset frames in
     let e = c.open_below-channel-end.ensures in
     let last : c.loop-channel.channel ≡ c.open_below-channel-end.result = omega (arith, c.loop-channel-test.false, c.loop-channel.auto.channel-end) in
-    subst (λ l. AddsText g.W.Write.contents c.args.writer.now c.loop-channel.writer c.args.lines.now c.loop-channel.lines (concat l))
+    subst (λ l. Adds g.W.Write.contents c.args.out.now (concat l) c.loop-channel.out)
     (lines_whole line k.channels k.limit c.loop-channel.channel (g.met.D.Delivery.within _ p frames h).delivered.all (omega (arith, last, e.most, e.all p))
     (λ other above below. e.none p c.args.offset frames h other (omega (arith, above, last)) (omega (arith, below, e.all p))))
     (c.loop-channel.invariant.0 p frames h).0

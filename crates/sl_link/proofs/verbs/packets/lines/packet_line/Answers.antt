@@ -1,27 +1,21 @@
-use Rattle.std.proofs.Common.{codes}
-use Rattle.hex.specs.Hex.{encode_lower}
-use Rattle.std.proofs.lemmas.Result.{err_from_is_err_and}
+use Rattle.std.proofs.Common.{codes, refl}
 use Rattle.sl_link.specs.Verbs.Packets.Line.{fields_text}
-use Rattle.sl_link.proofs.lemmas.Verbs.Packets.Octets.{line_stops, line_stops_after, whole_line}
+use Rattle.sl_link.proofs.lemmas.Io.Adding.{adds_both, adds_lines, adds_none, passed_up, stops_first, stops_last, stops_then}
 use Rattle.sl_link.proofs.verbs.packets.lines.packet_line.Goals as goal
 
 pub returns-in_err-push_octets-clause-fault : goal.returns-in_err-push_octets-clause-fault
 returns-in_err-push_octets-clause-fault g c =
-    let out = err_from_is_err_and c.from_residual.result c.from_residual.ensures.1 in
-    let packet = c.args.packet.now in
-    rw (out.1, out.2) (line_stops g.W.Write.contents c.args.writer.now c.push_octets.new.writer c.push_octets.new.writer c.args.lines.now c.push_fields.new.lines
-    (fields_text packet) (encode_lower packet) (codes "\n") c.push_fields.ensures _ c.in_err-push_octets.ensures.fault)
+    passed_up _ _ _ c.from_residual.ensures.1
+    (stops_first (codes "\n") (stops_then (adds_lines _ c.args.out.now _ (fields_text c.args.packet.now) refl c.push_fields.ensures) c.in_err-push_octets.ensures.fault))
 
 pub returns-in_err-make_room-clause-fault : goal.returns-in_err-make_room-clause-fault
 returns-in_err-make_room-clause-fault g c =
-    let out = err_from_is_err_and c.from_residual-in_err-make_room.result c.from_residual-in_err-make_room.ensures.1 in
-    let packet = c.args.packet.now in
-    rw (out.1, out.2) (line_stops_after g.W.Write.contents c.args.writer.now c.push_octets.new.writer c.make_room.new.writer c.args.lines.now c.push_fields.new.lines
-    (fields_text packet) (encode_lower packet) (codes "\n") c.push_fields.ensures c.push_octets.new.lines _ c.in_ok-push_octets.ensures.text c.in_err-make_room.ensures.fault)
+    passed_up _ _ _ c.from_residual-in_err-make_room.ensures.1
+    (stops_first (codes "\n") (stops_last (adds_both (adds_lines _ c.args.out.now _ (fields_text c.args.packet.now) refl c.push_fields.ensures) c.in_ok-push_octets.ensures.text)
+    c.in_err-make_room.ensures.fault))
 
 pub returns-clause-line : goal.returns-clause-line
 returns-clause-line g c =
-    let packet = c.args.packet.now in
-    whole_line g.W.Write.contents c.args.writer.now c.push_octets.new.writer c.make_room.new.writer c.args.lines.now c.push_fields.new.lines
-    (fields_text packet) (encode_lower packet) (codes "\n") c.push_fields.ensures c.push_octets.new.lines c.make_room.new.lines c.push.new.self
-    c.in_ok-push_octets.ensures.text c.in_ok-make_room.ensures.kept c.push.ensures
+    adds_both
+    (adds_none (adds_both (adds_lines _ c.args.out.now _ (fields_text c.args.packet.now) refl c.push_fields.ensures) c.in_ok-push_octets.ensures.text) c.in_ok-make_room.ensures.kept)
+    (adds_lines _ _ _ (codes "\n") refl c.push.ensures)

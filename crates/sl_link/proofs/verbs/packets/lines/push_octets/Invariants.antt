@@ -3,7 +3,7 @@ use Rattle.sl_link.proofs.lemmas.Verbs.Packets.Octets.{IsPushing}
 use Rattle.sl_link.proofs.verbs.packets.lines.push_octets.Given as goal
 
 abbrev pub invariant-loop-left : goal.invariant-loop-left
-invariant-loop-left g l = IsPushing g.W.Write.contents l.fn.writer l.writer l.fn.lines l.lines l.octets l.left
+invariant-loop-left g l = IsPushing g.W.Write.contents l.fn.out l.out l.octets l.left
 
 abbrev pub decreases-loop-left : goal.decreases-loop-left
 decreases-loop-left g l = length l.left

@@ -1,7 +1,7 @@
+use Rattle.std.proofs.Common.{refl}
 use Rattle.std.proofs.lemmas.Result.{err_from_is_err_and}
-use Rattle.sl_link.proofs.lemmas.Io.Streams.{AddsText-more}
+use Rattle.sl_link.proofs.lemmas.Io.Adding.{adds_both, adds_lines, stops_before}
 use Rattle.sl_link.proofs.lemmas.Tally.{counted_alone, counted_more}
-use Rattle.sl_link.proofs.lemmas.Verbs.Lister.{stops_before}
 use Rattle.sl_link.proofs.verbs.show.ShowVerb.frame.Goals as goal
 
 pub show-is_skipped-requires-clause-before : goal.show-is_skipped-requires-clause-before
@@ -10,7 +10,7 @@ show-is_skipped-requires-clause-before g c = (c.requires.0, c.requires.1.shown, 
 pub returns-in_err-make_room-clause-fault : goal.returns-in_err-make_room-clause-fault
 returns-in_err-make_room-clause-fault g c =
     let out = err_from_is_err_and c.from_residual.result c.from_residual.ensures.1 in
-    rw (out.1, out.2) (λ before h. stops_before g.W.Write.contents c.args.writer.now c.make_room.new.writer c.args.lines.now _ ⊥ _ c.in_err-make_room.ensures.fault)
+    rw (out.1, out.2) (λ before h. stops_before _ _ c.in_err-make_room.ensures.fault)
 
 pub returns-clause-has_listed : goal.returns-clause-has_listed
 returns-clause-has_listed g c = λ before h.
@@ -24,5 +24,4 @@ returns-clause-has_listed g c = λ before h.
 
 pub returns-clause-lines : goal.returns-clause-lines
 returns-clause-lines g c = λ before h.
-    AddsText-more g.W.Write.contents c.args.writer.now c.make_room.new.writer c.args.lines.now c.make_room.new.lines c.show-is_skipped.new.lines _
-    c.in_ok-make_room.ensures.kept (c.show-is_skipped.ensures.line before h.shown h.counted.counted.octets)
+    adds_both c.in_ok-make_room.ensures.kept (adds_lines _ _ _ _ refl (c.show-is_skipped.ensures.line before h.shown h.counted.counted.octets))

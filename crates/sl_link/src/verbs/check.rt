@@ -16,7 +16,6 @@ use crate::io::output::{Output, Written};
 use crate::link::fault::LinkFault;
 use crate::link::managed::Managed;
 use crate::link::totals::Totals;
-use crate::tally::Tally;
 use crate::verbs::Verb;
 use crate::verbs::check::checked::Checked;
 use crate::verbs::check::lines::{push_totals, remainder_lines};
@@ -27,7 +26,7 @@ use std::io::Write;
 #[derive(Drop)]
 pub struct Check<D: Checked> {
     delivery: D,
-    so_far: Tally,
+    so_far: Totals,
 }
 
 impl<D: Checked> Check<D> {
@@ -38,7 +37,7 @@ impl<D: Checked> Check<D> {
     {
         Check {
             delivery: D::begin(alloc, managed),
-            so_far: Tally::new(),
+            so_far: Totals::none(),
         }
     }
 }
@@ -58,7 +57,7 @@ impl<D: Checked> Verb for Check<D> {
 
     fn frame<W: Write>(&mut self, managed: &Managed, frame: &[u8], out: &mut Output<W>) -> Written {
         out.make_room()?;
-        let offset = self.so_far.octets;
+        let offset = self.so_far.octets();
         let report = self.delivery.check(managed, frame, offset, &mut out.lines)?;
         self.so_far.add(frame.len() as u64, report);
         Ok(())
@@ -71,8 +70,8 @@ impl<D: Checked> Verb for Check<D> {
         out: &mut Output<W>,
     ) -> Result<Totals, LinkFault> {
         out.make_room()?;
-        let rest = octets - self.so_far.octets;
-        let remainders = remainder_lines(&mut out.lines, self.so_far.octets, rest);
+        let rest = octets - self.so_far.octets();
+        let remainders = remainder_lines(&mut out.lines, self.so_far.octets(), rest);
         let incomplete = incomplete_lines(&self.delivery, octets, out)?;
         out.make_room()?;
         let totals = self.so_far.totals(rest, remainders + incomplete);

@@ -1,6 +1,6 @@
 //! The packets of a recording as lines.
 ghost use Rattle.std.specs.Prelude.{ℕ, [], List};
-ghost use Rattle.sl_link.specs.Kind.Delivery.{HasHandedOver};
+ghost use Rattle.sl_link.specs.Kind.Delivery.{HasDelivered};
 
 mod lines;
 mod printer;
@@ -10,7 +10,6 @@ use crate::kind::Delivery;
 use crate::link::fault::LinkFault;
 use crate::link::managed::Managed;
 use crate::link::totals::Totals;
-use crate::tally::Tally;
 use crate::verbs::Verb;
 use crate::verbs::packets::printer::{ChannelKind, Printer};
 use sl_tcflow::Receiver;
@@ -55,32 +54,32 @@ impl Printed for Receiver {
 #[derive(Drop)]
 pub struct Packets<D: Printed> {
     delivery: D,
-    so_far: Tally,
+    so_far: Totals,
 }
 
 impl<D: Printed> Packets<D> {
     /// No packets yet.
     pub fn begin(alloc: Global, managed: &Managed) -> Packets<D>
-        ensures { HasHandedOver (D.kind managed.now) (D.has_processed result.delivery managed.now)
-            [] result.so_far }
+        ensures { HasDelivered (D.kind managed.now) (D.has_processed result.delivery managed.now)
+            [] 0 result.so_far }
     {
         Packets {
             delivery: D::begin(alloc, managed),
-            so_far: Tally::new(),
+            so_far: Totals::none(),
         }
     }
 }
 
 impl<D: Printed> Verb for Packets<D> {
-    ghost use Rattle.sl_link.specs.Kind.Delivery.{HasHandedOver};
+    ghost use Rattle.sl_link.specs.Kind.Delivery.{HasDelivered};
     ghost use Rattle.sl_link.specs.Verbs.Packets.Printed.{packets_listing};
 
     ghost is_frame = { D.is_frame };
 
     ghost listing = { λ p. packets_listing (D.kind p) (D.lines p) };
 
-    ghost has_listed = { λ verb p frames. HasHandedOver (D.kind p) (D.has_processed verb.delivery p)
-        frames verb.so_far };
+    ghost has_listed = { λ verb p frames. HasDelivered (D.kind p) (D.has_processed verb.delivery p)
+        frames 0 verb.so_far };
 
     ghost wants_memory = { D.wants_memory };
 
@@ -101,6 +100,6 @@ impl<D: Printed> Verb for Packets<D> {
         octets: u64,
         _out: &mut Output<W>,
     ) -> Result<Totals, LinkFault> {
-        Ok(self.so_far.totals(octets - self.so_far.octets, 0))
+        Ok(self.so_far.totals(octets - self.so_far.octets(), 0))
     }
 }

@@ -10,7 +10,7 @@ use crate::io::output::{Output, Written, remainder_line};
 use crate::link::fault::LinkFault;
 use crate::link::managed::Managed;
 use crate::link::totals::Totals;
-use crate::tally::{FrameReport, SKIPPED, Tally};
+use crate::tally::{FrameReport, SKIPPED};
 use crate::verbs::Verb;
 use crate::verbs::show::shown::Shown;
 use std::io::Write;
@@ -18,7 +18,7 @@ use std::io::Write;
 /// Lists the frames.
 #[derive(Drop)]
 pub struct Show<S: Shown> {
-    so_far: Tally,
+    so_far: Totals,
     shown: S,
 }
 
@@ -29,7 +29,7 @@ impl<S: Shown> Show<S> {
             result.so_far }
     {
         Show {
-            so_far: Tally::new(),
+            so_far: Totals::none(),
             shown: S::begin(managed),
         }
     }
@@ -49,7 +49,7 @@ impl<S: Shown> Verb for Show<S> {
 
     fn frame<W: Write>(&mut self, managed: &Managed, frame: &[u8], out: &mut Output<W>) -> Written {
         out.make_room()?;
-        let offset = self.so_far.octets;
+        let offset = self.so_far.octets();
         let is_skipped = self.shown.show(managed, frame, offset, &mut out.lines);
         let report = FrameReport {
             is_skipped,
@@ -66,9 +66,9 @@ impl<S: Shown> Verb for Show<S> {
         out: &mut Output<W>,
     ) -> Result<Totals, LinkFault> {
         out.make_room()?;
-        let rest = octets - self.so_far.octets;
+        let rest = octets - self.so_far.octets();
         if rest > 0 {
-            remainder_line(&mut out.lines, self.so_far.octets, rest);
+            remainder_line(&mut out.lines, self.so_far.octets(), rest);
         }
         Ok(self.so_far.totals(rest, 0))
     }

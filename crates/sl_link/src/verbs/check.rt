@@ -70,8 +70,9 @@ impl<D: Checked> Verb for Check<D> {
         out: &mut Output<W>,
     ) -> Result<Totals, LinkFault> {
         out.make_room()?;
-        let rest = octets - self.so_far.octets();
-        let remainders = remainder_lines(&mut out.lines, self.so_far.octets(), rest);
+        let offset = self.so_far.octets();
+        let rest = octets - offset;
+        let remainders = remainder_lines(&mut out.lines, offset, rest);
         let incomplete = incomplete_lines(&self.delivery, octets, out)?;
         out.make_room()?;
         let totals = self.so_far.totals(rest, remainders + incomplete);

@@ -66,9 +66,10 @@ impl<S: Shown> Verb for Show<S> {
         out: &mut Output<W>,
     ) -> Result<Totals, LinkFault> {
         out.make_room()?;
-        let rest = octets - self.so_far.octets();
+        let offset = self.so_far.octets();
+        let rest = octets - offset;
         if rest > 0 {
-            remainder_line(&mut out.lines, self.so_far.octets(), rest);
+            remainder_line(&mut out.lines, offset, rest);
         }
         Ok(self.so_far.totals(rest, 0))
     }

@@ -30,6 +30,9 @@ views_step views (Err reason) = append-nil views
 
 -- ---- what is counted
 
+pub octets_counted : {k : Kind} {had : List (List ℕ) → Type 0} {frames : List (List ℕ)} {anomalies : ℕ} {t : Counts} → HasDelivered k had frames anomalies t → t.octets ≡ length (concat frames)
+octets_counted d = ap (λ (c : Counts). c.octets) d.counts
+
 module _ (k : Kind) (laws : AreDelivered k) where
   -- the packets of a channel that pass a test
   abbrev passing : (List ℕ → Bool) → List (List ℕ) → ℕ → List (List ℕ)
@@ -87,7 +90,7 @@ module _ (k : Kind) (laws : AreDelivered k) where
           w.within,
           ap (λ (c : Counts). c.packets) d.counts,
           ap (λ (c : Counts). c.idle) d.counts,
-          ap (λ (c : Counts). c.octets) d.counts,
+          octets_counted d,
           r.packets,
           r.idle,
           packets_more before frame,

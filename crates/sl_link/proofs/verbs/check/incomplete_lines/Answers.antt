@@ -1,9 +1,9 @@
 use Rattle.std.proofs.Common.{◌≡◌, ◌≤◌, ◌∙◌, [], ap, append-nil, arith, length, refl, subst, sym}
 use Rattle.std.specs.Prelude.{flat_map}
 use Rattle.std.specs.List.{concat}
-use Rattle.std.proofs.lemmas.Result.{err_from_is_err_and}
 use Rattle.sl_link.specs.Io.Output.{Adds}
 use Rattle.sl_link.proofs.lemmas.Io.Adding.{adds_both, adds_lines}
+use Rattle.sl_link.proofs.lemmas.Link.Answers.{passed_up}
 use Rattle.sl_link.proofs.lemmas.Verbs.Check.Open.{lines_next, lines_stop, lines_whole, number_next}
 use Rattle.sl_link.proofs.verbs.check.incomplete_lines.Goals as goal
 
@@ -23,8 +23,7 @@ loop-channel-preserved g c =
 
 pub returns-in_err-make_room-clause-fault : goal.returns-in_err-make_room-clause-fault
 returns-in_err-make_room-clause-fault g c =
-    let out = err_from_is_err_and c.from_residual.result c.from_residual.ensures.1 in
-    rw (out.1, out.2) (λ p frames h.
+    passed_up _ _ c.from_residual.ensures.1 (λ p frames h.
     let k = g.D.Delivery.kind p in
     let line = g.D.Checked.open_at p c.args.offset frames in
     let all = ap (flat_map line) (sym (g.met.D.Delivery.within _ p frames h).delivered.all) in

@@ -1,9 +1,8 @@
-use Rattle.std.proofs.Common.{◌≤◌, ◌∙◌, arith, length}
-use Rattle.std.specs.List.{concat}
-use Rattle.sl_link.proofs.lemmas.Kind.Delivery.{handed_totals}
+use Rattle.std.proofs.Common.{◌-◌, ◌∙◌, ap, arith}
+use Rattle.sl_link.specs.Link.Totals.{Counts}
+use Rattle.sl_link.specs.Tally.{counts_with_rest}
+use Rattle.sl_link.proofs.lemmas.Kind.Delivery.{octets_counted}
 use Rattle.sl_link.proofs.verbs.packets.PacketsVerb.finish.Goals as goal
 
 pub returns-clause-counts : goal.returns-clause-counts
-returns-clause-counts g c = λ frames h.
-    let inside : length (concat frames) ≤ c.args.octets = omega (arith, h.delivered.counted.octets, c.requires.1.delivered.counted.octets, c.requires.2) in
-    c.totals.ensures ∙ handed_totals _ _ frames _ h c.args.octets inside
+returns-clause-counts g c = λ frames h. rw c.octets.ensures at c.totals.ensures ∙ ap (λ (t : Counts). counts_with_rest t (c.args.octets - t.octets) 0) h.counts

@@ -1,14 +1,13 @@
 //! The normal form of a recording.
-ghost use Rattle.std.specs.Prelude.{◌≡◌, ◌≢◌, ◌++◌, ◌∷◌, [], ℕ, List, IfOk, IfErr, OnOk};
-ghost use Rattle.sl_packet.specs.Delivered.{AddsPacket};
+ghost use Rattle.std.specs.Prelude.{◌≡◌, ◌≢◌, [], ℕ, List, IfOk, IfErr, OnOk};
 ghost use Rattle.sl_tcframe.specs.TcDelimited.{tc_frames_of};
 ghost use Rattle.sl_tmframe.specs.TmDelimited.{tm_frames_of};
-ghost use Rattle.sl_link.specs.Kind.Delivery.{AreKept, Delivers, MayWantMemory, counted, packets_of};
+ghost use Rattle.sl_link.specs.Kind.Delivery.{AreKept, MayWantMemory, counted, packets_of};
 ghost use Rattle.sl_link.specs.Kind.Tc.{MayWantMemoryTc, tc_counts};
 ghost use Rattle.sl_link.specs.Kind.Tm.{MayWantMemoryTm, tm_counts};
 ghost use Rattle.sl_link.specs.Link.Managed.{tc_format};
 ghost use Rattle.sl_link.specs.Normalise.Form.{StopsForm};
-ghost use Rattle.sl_link.specs.Normalise.Store.{HasSome, IsRefused, KeepsAll, form_text, listed};
+ghost use Rattle.sl_link.specs.Normalise.Store.{HasSome, KeepsAll, form_text, listed};
 ghost use Rattle.sl_link.specs.Normalise.Tc.{tc_normal_form, tc_packets};
 ghost use Rattle.sl_link.specs.Normalise.Tm.{tm_normal_form, tm_packets};
 ghost use Rattle.sl_link.specs.Tally.{listing_counts};
@@ -26,7 +25,6 @@ use crate::link::managed::Managed;
 use crate::link::totals::Totals;
 use crate::normalise::form::write_form;
 use crate::pass::{CHUNK_SIZE, FrameSink, Framer, read_recording};
-use crate::tally::FrameReport;
 use sl_packet::Delivered;
 use sl_tcflow::{Receiver, TcForm};
 use sl_tcframe::TcFramer;
@@ -276,44 +274,14 @@ impl<D: Delivery> FrameSink for Store<D> {
         (MayWantMemory (D.kind start.managed) (D.wants_memory start.managed) frames) fault };
 
     fn frame(&mut self, frame: &[u8]) -> Result<(), LinkFault> {
-        let report = keep_frame(
-            &mut self.delivery,
-            &self.managed,
-            frame,
-            &mut self.delivered,
-        )?;
+        let report = self
+            .delivery
+            .deliver(&self.managed, frame, &mut self.delivered)?;
         self.so_far.add(frame.len() as u64, report);
         Ok(())
     }
 
     fn pause(&mut self) -> Result<(), LinkFault> {
         Ok(())
-    }
-}
-
-// Keeps the packets that end in a frame, unless it is skipped.
-fn keep_frame<D: Delivery>(
-    delivery: &mut D,
-    managed: &Managed,
-    frame: &[u8],
-    delivered: &mut Delivered,
-) -> Result<FrameReport, LinkFault>
-    requires { (before : List (List ℕ)) × D.has_processed delivery.old managed.now before
-        × D.is_frame managed.now frame.now }
-    ensures processed { OnOk result ((before : List (List ℕ))
-        → D.has_processed delivery.old managed.now before
-        → D.has_processed delivery.new managed.now (before ++ frame.now ∷ [])) }
-    ensures delivers { IfOk result (λ report. (before : List (List ℕ))
-        → D.has_processed delivery.old managed.now before
-        → Delivers AddsPacket (D.kind managed.now) before frame.now delivered.old report
-        delivered.new) }
-    ensures fault { IfErr result (λ fault. (before : List (List ℕ))
-        → D.has_processed delivery.old managed.now before
-        → IsRefused (MayWantMemory (D.kind managed.now) (D.wants_memory managed.now)
-        (before ++ frame.now ∷ [])) fault) }
-{
-    match delivery.deliver(managed, frame, delivered) {
-        Ok(report) => Ok(report),
-        Err(fault) => Err(LinkFault::from(fault)),
     }
 }

@@ -72,35 +72,35 @@ module _ {R W : Type 0} (remaining : R → Option (List ℕ)) (contents : W → 
     -- a fault before all was read
     pub stops_frames : (same : Type 0) (has_listed : Frames → Type 0) (fault : LinkFault)
         → StopsPassing remaining reader reader' frames_of (λ frames. same × has_listed frames × Adds contents start (lines_from l.line [] frames) new)
-            (λ frames. StopsAdding contents start (lines_from l.line [] frames) new (wants_memory frames)) limit buffer fault
+        (λ frames. StopsAdding contents start (lines_from l.line [] frames) new (wants_memory frames)) limit buffer fault
         → Ends (Err fault)
     stops_frames same has_listed fault s =
         let more = lines_from l.line s.first s.later ++ l.last (frames_of s.octets) (rest_after (frames_of s.octets) s.octets) in
         let text = later_text s.octets s.first s.later s.in_order in
         elim s.cause [
           | inl at ↦
-            let t = at.done.2.adds in (
-              at.done.2.lent,
-              record {
-                listing = tt;
-                totals = tt;
-                fault = record {
-                  octets = s.octets;
-                  read = s.read;
-                  written = record {
-                    written = t.written;
-                    missing = new.lines ++ more;
-                    front = sym (append_assoc t.written new.lines more) ∙ ap (λ x. x ++ more) (sym t.parts ∙ ap (λ x. x ++ lines_from l.line [] s.first) empty) ∙ text;
-                    writes = t.writes;
+              let t = at.done.2.adds in (
+                at.done.2.lent,
+                record {
+                  listing = tt;
+                  totals = tt;
+                  fault = record {
+                    octets = s.octets;
+                    read = s.read;
+                    written = record {
+                      written = t.written;
+                      missing = new.lines ++ more;
+                      front = sym (append_assoc t.written new.lines more) ∙ ap (λ x. x ++ more) (sym t.parts ∙ ap (λ x. x ++ lines_from l.line [] s.first) empty) ∙ text;
+                      writes = t.writes;
+                    };
+                    cause = reader_caused start.writer.now new.writer.now s.octets fault t.no_fault at.cause;
                   };
-                  cause = reader_caused start.writer.now new.writer.now s.octets fault t.no_fault at.cause;
-                };
-                memory = λ is_memory. absurd (subst (IsReadersFault reader reader' limit buffer s.octets) is_memory at.cause);
-              },
-            )
+                  memory = λ is_memory. absurd (subst (IsReadersFault reader reader' limit buffer s.octets) is_memory at.cause);
+                },
+              )
           | inr at ↦
-            stops_at (wants_memory s.first) (lines_from l.line [] s.first) more s.octets fault s.read at.no_fault at.within text at.at
-            (λ wanted. record { octets = s.octets; read = s.read; first = s.first; later = s.later; in_order = s.in_order; wanted = wanted })
+              stops_at (wants_memory s.first) (lines_from l.line [] s.first) more s.octets fault s.read at.no_fault at.within text at.at
+              (λ wanted. record { octets = s.octets; read = s.read; first = s.first; later = s.later; in_order = s.in_order; wanted = wanted })
         ]
 
     module _ (n : ℕ) (taken : Frames → Type 0) (s : PassesOver remaining reader reader' frames_of taken limit n) (mid : Output W) (listed : Adds contents start (lines_from l.line [] (frames_of s.octets)) mid) where

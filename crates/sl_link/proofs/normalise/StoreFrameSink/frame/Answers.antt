@@ -1,12 +1,13 @@
-use Rattle.std.proofs.Common.{arith, ◌++◌, ◌∷◌, [], sym, subst}
+use Rattle.std.proofs.Common.{arith, inl, inr, ◌++◌, ◌∷◌, [], sym, subst}
 use Rattle.sl_link.specs.Kind.Delivery.{AreKept, HasDelivered, MayWantMemory}
 use Rattle.sl_link.specs.Link.Managed.{Parameters}
-use Rattle.sl_link.proofs.lemmas.Kind.Delivery.{delivered_more, fits_more, kept_more}
+use Rattle.sl_link.proofs.lemmas.Kind.Delivery.{delivered_more, fits_more, kept_more, packets_more}
 use Rattle.sl_link.proofs.lemmas.Link.Answers.{passed_up}
+use Rattle.sl_link.proofs.lemmas.Link.Fault.{memory_refused, wanted_or_some}
 use Rattle.sl_link.proofs.normalise.StoreFrameSink.frame.Goals as goal
 
-pub keep_frame-requires : goal.keep_frame-requires
-keep_frame-requires g c =
+pub deliver-requires : goal.deliver-requires
+deliver-requires g c =
     let t = c.requires.taken in (
       c.requires.before,
       subst (λ (q : Parameters). g.D.Delivery.has_processed c.args.self.now.delivery q c.requires.before) (sym t.0) t.1.processed,
@@ -35,9 +36,16 @@ add-requires-clause-few g c =
 pub returns-in_err-report-clause-fault : goal.returns-in_err-report-clause-fault
 returns-in_err-report-clause-fault g c =
     passed_up _ _ c.from_residual.ensures.1 (λ start before t.
-    let r = c.in_err-report.ensures.fault before (subst (λ (q : Parameters). g.D.Delivery.has_processed c.args.self.now.delivery q before) (sym t.0) t.1.processed) in (
-      r.0,
-      subst (λ (q : Parameters). MayWantMemory (g.D.Delivery.kind q) (g.D.Delivery.wants_memory q) (before ++ c.args.frame.now ∷ [])) t.0 r.1,
+    let p = c.args.self.now.managed in
+    let frame = c.args.frame.now in
+    let had = subst (λ (q : Parameters). g.D.Delivery.has_processed c.args.self.now.delivery q before) (sym t.0) t.1.processed in
+    let s = c.in_err-report.ensures.stopped before had in (
+      memory_refused _ _ (λ old channel packet fault new fails. fails.0) _ _ _ _ _ s.stopped,
+      subst (λ (q : Parameters). MayWantMemory (g.D.Delivery.kind q) (g.D.Delivery.wants_memory q) (before ++ frame ∷ [])) t.0
+          (elim (wanted_or_some _ _ _ _ _ _ _ s.stopped s.wanted) [
+            | inl wanted ↦ inl wanted
+            | inr some ↦ inr (omega (arith, some, packets_more (g.D.Delivery.kind p) (g.met.D.Delivery.within _ p before had).delivered before frame))
+          ]),
     ))
 
 pub returns-clause-taken : goal.returns-clause-taken
@@ -52,7 +60,7 @@ returns-clause-taken g c = λ start before t.
     let d = c.in_ok-report.ensures.delivers before had in
     let more = delivered_more k laws h d.brings.reported {anomalies' = 0} (c.in_ok-report.ensures.processed before had) (omega (arith, d.brings.no_anomalies)) (omega (arith, d.brings.some, d.brings.no_anomalies)) in (
       t.0,
-      subst (λ (q : Parameters). HasDelivered (g.D.Delivery.kind q) (g.D.Delivery.has_processed c.keep_frame.new.delivery q) (before ++ frame ∷ []) 0 c.add.new.self) t.0 (rw c.add.ensures more),
-      subst (λ (q : Parameters). AreKept (g.D.Delivery.kind q) (before ++ frame ∷ []) c.keep_frame.new.delivered.lists) t.0
-          (kept_more k laws before frame c.args.self.now.delivered c.keep_frame.new.delivered kept d.accepted),
+      subst (λ (q : Parameters). HasDelivered (g.D.Delivery.kind q) (g.D.Delivery.has_processed c.deliver.new.self q) (before ++ frame ∷ []) 0 c.add.new.self) t.0 (rw c.add.ensures more),
+      subst (λ (q : Parameters). AreKept (g.D.Delivery.kind q) (before ++ frame ∷ []) c.deliver.new.sink.lists) t.0
+          (kept_more k laws before frame c.args.self.now.delivered c.deliver.new.sink kept d.accepted),
     )

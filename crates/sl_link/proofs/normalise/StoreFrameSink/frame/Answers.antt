@@ -6,14 +6,6 @@ use Rattle.sl_link.proofs.lemmas.Link.Answers.{passed_up}
 use Rattle.sl_link.proofs.lemmas.Link.Fault.{memory_refused, wanted_or_some}
 use Rattle.sl_link.proofs.normalise.StoreFrameSink.frame.Goals as goal
 
-pub deliver-requires : goal.deliver-requires
-deliver-requires g c =
-    let t = c.requires.taken in (
-      c.requires.before,
-      subst (λ (q : Parameters). g.D.Delivery.has_processed c.args.self.now.delivery q c.requires.before) (sym t.0) t.1.processed,
-      subst (λ (q : Parameters). g.D.Delivery.is_frame q c.args.frame.now) (sym t.0) c.requires.whole,
-    )
-
 pub add-requires-clause-within : goal.add-requires-clause-within
 add-requires-clause-within g c =
     let p = c.args.self.now.managed in
@@ -24,14 +16,6 @@ add-requires-clause-within g c =
     let within = g.met.D.Delivery.within in
     fits_more (g.D.Delivery.kind p) (within _ p before had).delivered h (c.in_ok-report.ensures.delivers before had).brings.reported
     (within _ p (before ++ c.args.frame.now ∷ []) (c.in_ok-report.ensures.processed before had))
-
-pub add-requires-clause-few : goal.add-requires-clause-few
-add-requires-clause-few g c =
-    let t = c.requires.taken in
-    let before = c.requires.before in
-    let had = subst (λ (q : Parameters). g.D.Delivery.has_processed c.args.self.now.delivery q before) (sym t.0) t.1.processed in
-    let b = (c.in_ok-report.ensures.delivers before had).brings in
-    omega (arith, b.some, b.no_anomalies)
 
 pub returns-in_err-report-clause-fault : goal.returns-in_err-report-clause-fault
 returns-in_err-report-clause-fault g c =

@@ -1,3 +1,4 @@
+pub mod AskedNow
 pub mod Channels
 pub mod CommandLine
 pub mod Parse

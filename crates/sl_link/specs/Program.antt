@@ -1,6 +1,5 @@
 -- The program: its command line, and what a run does.
 pub mod Answer
-pub mod AskedNow
 pub mod CommandLine
 pub mod Engine
 pub mod Run

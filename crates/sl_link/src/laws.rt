@@ -1,6 +1,5 @@
 //! What holds of the definitions alone. Each function does nothing; its clauses are the laws.
 ghost use Rattle.sl_link.specs.Verbs.Packets.Listed.{TmPacketsAreListed, TcPacketsAreListed};
-ghost use Rattle.sl_link.specs.Program.AskedNow.{NewerFollows, OlderFollows};
 ghost use Rattle.sl_link.specs.Normalise.Separation.{TmFormsTellPackets, TcFormsTellPackets};
 
 /// Under the same managed parameters, normal forms of two TM recordings are equal octet for octet exactly where the
@@ -27,10 +26,4 @@ pub fn tm_packets_are_listed()
 /// exactly the packets that the recording delivers there, in their order, idle ones left out.
 pub fn tc_packets_are_listed()
     ensures { TcPacketsAreListed }
-{}
-
-/// Both forms of what words ask for say the same.
-pub fn both_forms_say_the_same()
-    ensures newer { NewerFollows }
-    ensures older { OlderFollows }
 {}

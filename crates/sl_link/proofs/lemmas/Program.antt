@@ -1,4 +1,3 @@
-pub mod AskedNow
 pub mod Channels
 pub mod CommandLine
 pub mod Parse

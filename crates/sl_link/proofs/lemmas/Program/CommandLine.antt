@@ -1,5 +1,5 @@
 -- The command line: what its builders make, and what its getters read.
-use Rattle.std.proofs.Common.{◌≡◌, ◌∙◌, ◌&&◌, ◌||◌, ◌<◌, ◌^◌, ℕ, Bool, true, false, refl, sym, ap, List, [], ◌∷◌, Option, Some, None, is_some, Result, cond, map, not, nat_lt, lt-ltb, ltb-true, true≢false, codes}
+use Rattle.std.proofs.Common.{◌≡◌, ◌∙◌, ◌&&◌, ◌||◌, ◌<◌, ◌^◌, ℕ, Bool, true, false, refl, sym, ap, subst, List, [], ◌∷◌, Option, Some, None, Result, cond, map, nat_lt, lt-ltb, ltb-true, true≢false, codes}
 use Rattle.std.specs.Prelude.{fold, option_and_then, option_map, unwrap_or}
 use Rattle.std.specs.List.{list_all}
 use Rattle.std.specs.Char.{digit_value}
@@ -13,7 +13,7 @@ use Rattle.clap.specs.Built.{AddsArg, AddsInTurn}
 use Rattle.clap.specs.Simple.{App, app_of, with_rule}
 use Rattle.clap.specs.Matches.{ReadsOne, first_value, one_text}
 use Rattle.clap.specs.ValueTests.{is_numeral}
-use Rattle.clap.specs.Walk.{Text, first_of, is_empty, rows_of, rule_of}
+use Rattle.clap.specs.Walk.{Text, first_of, one_of, rows_of, rule_of}
 use Rattle.clap.specs.declared.builder.arg.Arg.{Arg}
 use Rattle.clap.specs.declared.builder.command.Command.{Command}
 use Rattle.clap.specs.declared.builder.command.Command.TheViews.{out-Command as fields_of}
@@ -29,18 +29,12 @@ stays_local : (has_globals : Bool) (global : Bool) → global ≡ false → (has
 stays_local true global e = refl
 stays_local false global e = e
 
+right : (a b : Bool) → (a && b) ≡ true → b ≡ true
+right a b h = (both a b h).1
+
 -- an argument with no setting that changes how words are read is not global
 simple_local : (a : Arg) → (rule_of a).is_simple ≡ true → a.global ≡ false
-simple_local a simple =
-    let of_defaults = (both (is_empty a.overrides.items) _ simple).1 in
-    let of_groups = (both (is_empty a.default_vals_ifs.items) _ of_defaults).1 in
-    let of_delimiter = (both (is_empty a.groups.items) _ of_groups).1 in
-    let of_end = (both (not (is_some a.val_delim)) _ of_delimiter).1 in
-    let of_hyphens = (both (not (is_some a.terminator)) _ of_end).1 in
-    let of_negatives = (both (not a.allow_hyphen_values) _ of_hyphens).1 in
-    let of_equals = (both (not a.allow_negative_numbers) _ of_negatives).1 in
-    let of_last = (both (not a.require_equals) _ of_equals).1 in
-    is_false a.global (both (not a.last) (not a.global) of_last).1
+simple_local a simple = is_false a.global (search right depth 12)
 
 -- such arguments, added in turn
 pub adds_rules : (old new : Command) (args : List Arg) → list_all (λ a. a.is_simple) (map rule_of args) ≡ true → AddsInTurn AddsArg old args new
@@ -81,15 +75,6 @@ true-is_number bits ds t =
     let inner = both _ _ outer.0 in
     ((ltb-true _ _ inner.0, digits_from ds inner.1), ltb-true _ _ outer.1)
 
--- `parse` reads the number that is read
-pub number_reads : (bits : ℕ) (text : Text) → ReadsOne {E = Unit} (λ u r. ParsesUnsigned bits 10 u r) text (number_read bits text)
-number_reads bits text = go (is_number bits (without_leading_plus text)) refl
-  where
-    go : (b : Bool) → is_number bits (without_leading_plus text) ≡ b
-        → ReadsOne {E = Unit} (λ u r. ParsesUnsigned bits 10 u r) text (cond b (Some (digits_value 10 (without_leading_plus text))) None)
-    go true t = (true-is_number bits (without_leading_plus text) t, refl)
-    go false t = (tt, λ h. true≢false (sym (is_number-true bits (without_leading_plus text) h) ∙ t))
-
 -- what `parse` says of an unsigned type of that many bits
 abbrev Reads : ℕ → List ℕ → Result ℕ ParseIntError → Type 0
 Reads bits bs r = ParsesUnsigned bits 10 bs r × ExplainsUnsignedError 10 bs r × HasUnsignedDigitsIfOk bs r
@@ -103,14 +88,18 @@ read bits t None h = go (is_number bits (without_leading_plus t)) refl
     go false e = refl
     go true e = absurd (h.1.0 (true-is_number bits (without_leading_plus t) e))
 
--- what `get_one` reads, by the rows
-pub number_got : (bits : ℕ) (f : Found) (id : Text) (r : Option ℕ) → (one_text f id ≡ None → r ≡ None) → ((t : List ℕ) → one_text f id ≡ Some t → ReadsOne (Reads bits) t r)
-    → r ≡ number_in bits id (rows_of f)
-number_got bits f id r none value = go (one_text f id) refl ∙ ap (option_and_then (number_read bits)) (one_text-rows f id)
+-- what `get_one` reads, by the rows: what holds of no text and of each text
+by_rows : {T E : Type 0} (G : List ℕ → Result T E → Type 0) (Q : Option T → Option Text → Type 0) → Q None None → ((t : Text) (r : Option T) → ReadsOne G t r → Q r (Some t))
+    → (f : Found) (id : Text) (r : Option T) → (one_text f id ≡ None → r ≡ None) → ((t : List ℕ) → one_text f id ≡ Some t → ReadsOne G t r) → Q r (one_of id (rows_of f))
+by_rows {T} G Q at_none at_some f id r none value = subst (Q r) (one_text-rows f id) (go (one_text f id) refl)
   where
-    go : (o : Option Text) → one_text f id ≡ o → r ≡ option_and_then (number_read bits) o
-    go None e = none e
-    go (Some t) e = read bits t r (value t e)
+    go : (o : Option Text) → one_text f id ≡ o → Q r o
+    go None e = subst (λ (x : Option T). Q x None) (sym (none e)) at_none
+    go (Some t) e = at_some t r (value t e)
+
+pub number_got : (bits : ℕ) (f : Found) (id : Text) (r : Option ℕ) → (one_text f id ≡ None → r ≡ None) → ((t : List ℕ) → one_text f id ≡ Some t → ReadsOne (Reads bits) t r)
+    → unwrap_or r 0 ≡ number_in bits id (rows_of f)
+number_got bits = by_rows (Reads bits) (λ r o. unwrap_or r 0 ≡ unwrap_or (option_and_then (number_read bits) o) 0) refl (λ t r h. ap (λ (o : Option ℕ). unwrap_or o 0) (read bits t r h))
 
 -- ---- flags
 
@@ -124,14 +113,9 @@ flag_reads E text None h = sym (differs (bytes_eq text (codes "true")) refl)
     differs false e = refl
     differs true e = absurd (h.1.0 ((bytes_eq-Decides text (codes "true")).0 e))
 
--- what `get_one` reads of a flag, by the rows
 pub flag_got : (E : Type 0) (f : Found) (id : Text) (r : Option Bool) → (one_text f id ≡ None → r ≡ None) → ((t : List ℕ) → one_text f id ≡ Some t → ReadsOne {E = E} ParsesBool t r)
     → unwrap_or r false ≡ is_set id (rows_of f)
-flag_got E f id r none value = go (one_text f id) refl ∙ ap (λ (o : Option Text). option_map_or (λ text. bytes_eq text (codes "true")) o false) (one_text-rows f id)
-  where
-    go : (o : Option Text) → one_text f id ≡ o → unwrap_or r false ≡ option_map_or (λ text. bytes_eq text (codes "true")) o false
-    go None e = ap (λ (o : Option Bool). unwrap_or o false) (none e)
-    go (Some t) e = flag_reads E t r (value t e)
+flag_got E = by_rows {E = E} ParsesBool (λ r o. unwrap_or r false ≡ option_map_or (λ text. bytes_eq text (codes "true")) o false) refl (flag_reads E)
 
 -- ---- texts
 

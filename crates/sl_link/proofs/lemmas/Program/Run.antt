@@ -30,23 +30,18 @@ check_met Check kind p octets some = refl
 check_met verb Tm p octets some = absurd (some refl)
 check_met verb Tc p octets some = absurd (some refl)
 
-module _ {R W : Type 0} (remaining : R → Option (List ℕ)) (contents : W → Option (List ℕ)) where
+module _ {R W : Type 0} {remaining : R → Option (List ℕ)} {contents : W → Option (List ℕ)} {reader reader' : Counted R} {writer mid writer' : Counted W} {asked : Asked} {managed : Parameters} {totals : Counts} where
   -- where the flush fails, all of the text is in its place, but the writer had a fault
-  pub stopped_flushing : (reader reader' : Counted R) (writer mid writer' : Counted W) (asked : Asked) (managed : Parameters) (totals : Counts) (fault : LinkFault)
-      → HasWritten remaining contents reader reader' writer mid asked managed totals → Keeps (contents (stream_of mid)) (contents (stream_of writer')) → fault ≡ Write → HadOneFault mid writer'
-      → IsStoppedBy remaining contents reader reader' writer writer' asked managed fault
-  stopped_flushing reader reader' writer mid writer' asked managed totals fault counted kept is_write failed =
+  pub stopped_flushing : {fault : LinkFault} → HasWritten remaining contents reader reader' writer mid asked managed totals → Keeps (contents (stream_of mid)) (contents (stream_of writer'))
+      → fault ≡ Write → HadOneFault mid writer' → IsStoppedBy remaining contents reader reader' writer writer' asked managed fault
+  stopped_flushing {fault} counted kept is_write failed =
       let t = counted.translated in
+      let text = text_of asked.verb asked.kind managed t.octets in
       record {
         cause = record {
           octets = t.octets;
           read = t.read;
-          written = record {
-            written = text_of asked.verb asked.kind managed t.octets;
-            missing = [];
-            front = append-nil (text_of asked.verb asked.kind managed t.octets);
-            writes = Appends-kept (contents (stream_of writer)) (contents (stream_of mid)) (contents (stream_of writer')) (text_of asked.verb asked.kind managed t.octets) t.written kept;
-          };
+          written = record { written = text; missing = []; front = append-nil text; writes = Appends-kept _ _ _ text t.written kept };
           cause = caused_writing remaining contents reader reader' writer mid writer' t.octets managed.max_octets chunk_size fault is_write t.reader_kept t.writer_kept failed t.within;
         };
         not_memory = λ lists is_memory. let bad : Memory ≡ Write = sym is_memory ∙ is_write in cc;
@@ -55,10 +50,9 @@ module _ {R W : Type 0} (remaining : R → Option (List ℕ)) (contents : W → 
       }
 
   -- where the flush succeeds, it is so still
-  pub written_flushed : (reader reader' : Counted R) (writer mid writer' : Counted W) (asked : Asked) (managed : Parameters) (totals : Counts)
-      → HasWritten remaining contents reader reader' writer mid asked managed totals → Keeps (contents (stream_of mid)) (contents (stream_of writer')) → faults_of writer' ≡ faults_of mid
-      → HasWritten remaining contents reader reader' writer writer' asked managed totals
-  written_flushed reader reader' writer mid writer' asked managed totals counted kept no_fault =
+  pub written_flushed : HasWritten remaining contents reader reader' writer mid asked managed totals → Keeps (contents (stream_of mid)) (contents (stream_of writer'))
+      → faults_of writer' ≡ faults_of mid → HasWritten remaining contents reader reader' writer writer' asked managed totals
+  written_flushed counted kept no_fault =
       let t = counted.translated in
       record {
         translated = record {
@@ -66,7 +60,7 @@ module _ {R W : Type 0} (remaining : R → Option (List ℕ)) (contents : W → 
           within = t.within;
           read = t.read;
           to_end = t.to_end;
-          written = Appends-kept (contents (stream_of writer)) (contents (stream_of mid)) (contents (stream_of writer')) (text_of asked.verb asked.kind managed t.octets) t.written kept;
+          written = Appends-kept _ _ _ _ t.written kept;
           reader_kept = t.reader_kept;
           writer_kept = no_fault ∙ t.writer_kept;
         };

@@ -7,7 +7,7 @@ use Rattle.clap.specs.Faults.{bundle_fault, bundle_step_fault, flag_word_fault, 
 use Rattle.clap.specs.Kinds.{Kinds, or_else}
 use Rattle.clap.specs.Lexer.{long_of, short_of}
 use Rattle.clap.specs.Simple.{Shape}
-use Rattle.clap.specs.Walk.{Held, Names, Outcome, Row, Rule, Step, Text, Waiting, Walk, after_flag, after_step, arg_by_id, arg_by_index, arg_by_long, arg_by_short, bundle_met, bundle_step, done, idle, long_met, long_or_other, option, option_met, option_word, plain, plain_word, positional, settled_rows, short_met, short_or_plain, subcommand_or_other, to_positional, trailing, value, waits, walk, walk_from, walked, walked_from}
+use Rattle.clap.specs.Walk.{Held, Names, Outcome, Row, Rule, Step, Text, Waiting, Walk, after_flag, after_step, arg_by_id, arg_by_index, arg_by_long, arg_by_short, attached_value, bundle_met, bundle_step, done, idle, long_met, long_or_other, option, option_met, option_word, plain, plain_word, positional, settled_rows, short_met, short_or_plain, subcommand_or_other, to_positional, trailing, value, waits, walk, walk_from, walked, walked_from}
 
 -- the shape with these rules
 abbrev pub with_rules : Shape → List Rule → Shape
@@ -31,31 +31,24 @@ module _ {s : Shape} {c c' : List Rule} (same : SameWalk s c c') where
   abbrev again : Bool
   again = s.args_override_self
 
-  option_met_is : (a : Rule) (v : Option Text) (h : Held) → option_met c a v h ≡ option_met c' a v h
-  option_met_is a (Some v) h = simp same.rows
-  option_met_is a None h = simp same.rows
+  -- an option, a long flag and a short one
+  option_is : (a : Rule) (v : Option Text) (h : Held) → (option_met c a v h ≡ option_met c' a v h) × (option_fault c again a v h ≡ option_fault c' again a v h)
+  option_is a (Some v) h = (simp same.rows, simp (same.settle, same.rows))
+  option_is a None h = (simp same.rows, same.settle h)
 
-  option_fault_is : (a : Rule) (v : Option Text) (h : Held) → option_fault c again a v h ≡ option_fault c' again a v h
-  option_fault_is a (Some v) h = simp (same.settle, same.rows)
-  option_fault_is a None h = same.settle h
+  long_is : (o : Option Rule) (v : Option Text) (h : Held) → (long_met c o v h ≡ long_met c' o v h) × (long_fault c again o v h ≡ long_fault c' again o v h)
+  long_is None v h = (refl, refl)
+  long_is (Some a) None h = (simp same.rows, simp (same.settle, same.rows))
+  long_is (Some a) (Some v) h = (simp same.rows, simp (same.settle, same.rows))
 
-  long_met_is : (o : Option Rule) (v : Option Text) (h : Held) → long_met c o v h ≡ long_met c' o v h
-  long_met_is None v h = refl
-  long_met_is (Some a) None h = simp same.rows
-  long_met_is (Some a) (Some v) h = simp same.rows
-
-  long_fault_is : (o : Option Rule) (v : Option Text) (h : Held) → long_fault c again o v h ≡ long_fault c' again o v h
-  long_fault_is None v h = refl
-  long_fault_is (Some a) None h = simp (same.settle, same.rows)
-  long_fault_is (Some a) (Some v) h = simp (same.settle, same.rows)
-
-  short_met_is : (o : Option Rule) (rest : Text) (h : Held) (on on' : Held → Held × Outcome) → ((x : Held) → on x ≡ on' x) → short_met c o rest h on ≡ short_met c' o rest h on'
-  short_met_is None rest h on on' e = refl
-  short_met_is (Some a) rest h on on' e = simp (option_met_is, same.rows, e)
-
-  short_fault_is : (o : Option Rule) (rest : Text) (h : Held) (on on' : Held → Kinds) → ((x : Held) → on x ≡ on' x) → short_fault c again o rest h on ≡ short_fault c' again o rest h on'
-  short_fault_is None rest h on on' e = refl
-  short_fault_is (Some a) rest h on on' e = simp (option_fault_is, same.settle, same.rows, e)
+  short_is : (o : Option Rule) (rest : Text) (h : Held) (on on' : Held → Held × Outcome) (fault fault' : Held → Kinds) → ((x : Held) → (on x ≡ on' x) × (fault x ≡ fault' x))
+      → (short_met c o rest h on ≡ short_met c' o rest h on') × (short_fault c again o rest h fault ≡ short_fault c' again o rest h fault')
+  short_is None rest h on on' fault fault' e = (refl, refl)
+  short_is (Some a) rest h on on' fault fault' e =
+      let same_on : (x : Held) → on x ≡ on' x = λ x. (e x).0 in
+      let same_fault : (x : Held) → fault x ≡ fault' x = λ x. (e x).1 in
+      let met = option_is a (attached_value rest) h in
+      (simp (met.0, same.rows, same_on), simp (met.1, same.settle, same.rows, same_fault))
 
   -- a word of short flags
   abbrev SameFlags : ℕ → Text → ℕ → Outcome → Held → Type 0
@@ -70,8 +63,7 @@ module _ {s : Shape} {c c' : List Rule} (same : SameWalk s c c') where
           → (bundle_step c o flags n so_far h (bundle_met c k) ≡ bundle_step c' o flags n so_far h (bundle_met c' k))
           × (bundle_step_fault c again o flags n h (flags_fault c again k) ≡ bundle_step_fault c' again o flags n h (flags_fault c' again k))
       go None n shorter = (refl, refl)
-      go (Some x) zero shorter =
-          (rw (same.short x) (short_met_is (arg_by_short c' x) _ h _ _ (λ y. (shorter _ 0 done y).0)), rw (same.short x) (short_fault_is (arg_by_short c' x) _ h _ _ (λ y. (shorter _ 0 done y).1)))
+      go (Some x) zero shorter = rw (same.short x) (short_is (arg_by_short c' x) _ h _ _ _ _ (λ y. shorter _ 0 done y))
       go (Some x) (suc n) shorter = shorter _ n so_far h
 
   plain_word_is : (waiting : Waiting) (word : Text) (h : Held) → plain_word c waiting word h ≡ plain_word c' waiting word h
@@ -83,35 +75,32 @@ module _ {s : Shape} {c c' : List Rule} (same : SameWalk s c c') where
   after_flag_is waiting word h (waits id) = refl
   after_flag_is waiting word h _ = plain_word_is waiting word h
 
-  -- what a word is that names no subcommand
-  short_is : (waiting : Waiting) (word : Text) (h : Held) (o : Option Text) → short_or_plain c waiting word o h ≡ short_or_plain c' waiting word o h
-  short_is waiting word h (Some flags) = simp ((flags_are (length flags) flags h.skip plain (record h { skip = 0 })).0, after_flag_is)
-  short_is waiting word h None = plain_word_is waiting word h
-
-  long_is : (waiting : Waiting) (word : Text) (h : Held) (o : Option (Text × Option Text)) → long_or_other c waiting word o h ≡ long_or_other c' waiting word o h
-  long_is waiting word h (Some p) = simp (same.long, long_met_is, after_flag_is)
-  long_is waiting word h None = short_is waiting word h (short_of word)
+  -- a word that names no subcommand, by its flags
+  flag_word_is : (waiting : Waiting) (word : Text) (h : Held) (o : Option (Text × Option Text))
+      → (long_or_other c waiting word o h ≡ long_or_other c' waiting word o h) × (flag_word_fault c again o word h ≡ flag_word_fault c' again o word h)
+  flag_word_is waiting word h (Some p) =
+      let met = long_is (arg_by_long c' p.0) p.1 h in
+      (simp (same.long, met.0, after_flag_is), simp (same.long, met.1))
+  flag_word_is waiting word h None = go (short_of word)
+    where
+      go : (o : Option Text) → (short_or_plain c waiting word o h ≡ short_or_plain c' waiting word o h)
+          × (option_map_or (λ flags. bundle_fault c again flags h) o [] ≡ option_map_or (λ flags. bundle_fault c' again flags h) o [])
+      go None = (plain_word_is waiting word h, refl)
+      go (Some flags) =
+          let met = flags_are (length flags) flags h.skip plain (record h { skip = 0 }) in
+          (simp (met.0, after_flag_is), met.1)
 
   met_is : (o : Option Text) (waiting : Waiting) (position : ℕ) (word : Text) (h : Held) → subcommand_or_other c o waiting position word h ≡ subcommand_or_other c' o waiting position word h
   met_is (Some name) waiting position word h = refl
-  met_is None waiting position word h = simp long_is
+  met_is None waiting position word h = simp (flag_word_is waiting word h (long_of word)).0
 
   step_is : (word : Text) (w : Walk) (h : Held) (step : Step) → after_step c word w h step ≡ after_step c' word w h step
   step_is word w h value = same.by_index w.position word w h
   step_is word w h _ = refl
 
-  -- and why it is refused
-  short_word_fault_is : (h : Held) (o : Option Text) → option_map_or (λ flags. bundle_fault c again flags h) o [] ≡ option_map_or (λ flags. bundle_fault c' again flags h) o []
-  short_word_fault_is h (Some flags) = (flags_are (length flags) flags h.skip plain (record h { skip = 0 })).1
-  short_word_fault_is h None = refl
-
-  word_fault_is : (word : Text) (h : Held) (o : Option (Text × Option Text)) → flag_word_fault c again o word h ≡ flag_word_fault c' again o word h
-  word_fault_is word h (Some p) = simp (same.long, long_fault_is)
-  word_fault_is word h None = short_word_fault_is h (short_of word)
-
   met_fault_is : (o : Option Text) (word : Text) (h : Held) → other_fault (with_rules s c) o word h ≡ other_fault (with_rules s c') o word h
   met_fault_is (Some name) word h = refl
-  met_fault_is None word h = simp word_fault_is
+  met_fault_is None word h = simp (flag_word_is idle word h (long_of word)).1
 
   step_fault_is : (position : ℕ) (h : Held) (step : Step) → step_fault (with_rules s c) position h step ≡ step_fault (with_rules s c') position h step
   step_fault_is position h value = same.value position h

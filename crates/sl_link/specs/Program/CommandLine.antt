@@ -1,7 +1,7 @@
 -- The command line of `sllink`: its arguments, what it refuses, and what its words ask for.
-use Rattle.std.specs.Prelude.{◌≡◌, ◌≢◌, ◌&&◌, ◌^◌, ℕ, Bool, true, false, List}
-use Rattle.std.specs.Prelude.{[], ◌∷◌, Option, Some, None, IfSome, Result, Ok, Err}
-use Rattle.std.specs.Prelude.{codes, fold, nat_lt, option_and_then, unwrap_or, if◌then◌else◌, pos, replicate}
+use Rattle.std.specs.Prelude.{◌≡◌, ◌≢◌, ℕ, Bool, true, false, List, [], ◌∷◌}
+use Rattle.std.specs.Prelude.{Option, Some, None, IfSome, Result, Ok, Err}
+use Rattle.std.specs.Prelude.{codes, fold, if◌then◌else◌, pos, replicate}
 use Rattle.std.specs.Borrow.{Bor}
 use Rattle.std.specs.Option.{option_map_or}
 use Rattle.std.specs.Str.{bytes_eq}
@@ -9,7 +9,7 @@ use Rattle.std.specs.Str.Parse.{digits_value, without_leading_plus}
 use Rattle.clap.specs.Faults.{fault_of}
 use Rattle.clap.specs.Kinds.{IsAmong, Kinds}
 use Rattle.clap.specs.Simple.{App, new_app, new_rule, new_shape, subcommand_of, with_rule}
-use Rattle.clap.specs.ValueTests.{is_numeral}
+use Rattle.clap.specs.ValueTests.{accepts}
 use Rattle.clap.specs.Walk.{Row, Rule, Text, first_of, one_of}
 use Rattle.clap.specs.declared.builder.action.ArgAction.TheVariants.{SetTrue}
 use Rattle.clap.specs.declared.builder.value_parser.ValueParser.{ValueParser}
@@ -155,16 +155,14 @@ verb_named verb =
 abbrev pub kind_named : Option Text → RecordingKind
 kind_named kind = if option_map_or (λ name. bytes_eq name (codes "tm")) kind false then Tm else Tc
 
--- the decimal number that a text writes, where it has no more than that many bits
-abbrev pub number_read : ℕ → Text → Option ℕ
-number_read bits text =
-    let digits = without_leading_plus text in
-    if is_numeral digits && nat_lt (digits_value 10 digits) (2 ^ bits)
-    then Some (digits_value 10 digits) else None
+-- the decimal number that a text writes, `most` at most, or 0 where it writes none
+abbrev pub number_read : ℕ → Text → ℕ
+number_read most text =
+    if accepts false (Unsigned 0 most) text then digits_value 10 (without_leading_plus text) else 0
 
 -- the number that an option has
 abbrev pub number_in : ℕ → Text → List Row → ℕ
-number_in bits name rows = unwrap_or (option_and_then (number_read bits) (one_of name rows)) 0
+number_in most name rows = option_map_or (number_read most) (one_of name rows) 0
 
 -- an option that takes no value is there: its text is `true` then, and else `false`
 abbrev pub is_set : Text → List Row → Bool
@@ -174,15 +172,15 @@ is_set name rows = option_map_or (λ text. bytes_eq text (codes "true")) (one_of
 abbrev pub parameters_in : List Row → Parameters
 parameters_in rows =
     record {
-      spacecraft = number_in 16 (codes "scid") rows;
-      tm_length = number_in 16 (codes "tm-length") rows;
+      spacecraft = number_in 65535 (codes "scid") rows;
+      tm_length = number_in 65535 (codes "tm-length") rows;
       tm_fecf = is_set (codes "tm-fecf") rows;
-      tc_max = number_in 16 (codes "tc-length") rows;
+      tc_max = number_in 65535 (codes "tc-length") rows;
       tc_fecf = is_set (codes "tc-fecf") rows;
-      window = number_in 8 (codes "window") rows;
-      starts = replicate 64 (number_in 8 (codes "vr") rows);
+      window = number_in 255 (codes "window") rows;
+      starts = replicate 64 (number_in 255 (codes "vr") rows);
       plain = [];
-      max_octets = number_in 64 (codes "limit") rows;
+      max_octets = number_in 18446744073709551615 (codes "limit") rows;
     }
 
 -- The virtual channels of TC frames without segment headers, by the text of an option: none where it is left out. Else
@@ -217,7 +215,7 @@ pub record Asks (verb : Text) (rows : List Row) (asked : Asked) : Type 0 where
   pub plain : Option (List ℕ)
   pub is_plain : IsPlain (first_of (codes "plain") rows) plain
   pub starts : Option (List ℕ)
-  pub are_from : AreFrom (number_in 8 (codes "vr") rows) (first_of (codes "vr-of") rows) starts
+  pub are_from : AreFrom (number_in 255 (codes "vr") rows) (first_of (codes "vr-of") rows) starts
   pub managed_is : asked.managed ≡ with_vcs (managed_of (parameters_in rows)) plain starts
 
 -- ---- what becomes of the words

@@ -346,19 +346,19 @@ fn with_vcs(
 }
 
 fn number_of_8_bits(matches: &ArgMatches<'_>, name: &str) -> u8
-    ensures { result ≡ number_in 8 name.now (rows_of (found_of matches.now)) }
+    ensures { result ≡ number_in 255 name.now (rows_of (found_of matches.now)) }
 {
     matches.get_one(name).unwrap_or(0)
 }
 
 fn number_of_16_bits(matches: &ArgMatches<'_>, name: &str) -> u16
-    ensures { result ≡ number_in 16 name.now (rows_of (found_of matches.now)) }
+    ensures { result ≡ number_in 65535 name.now (rows_of (found_of matches.now)) }
 {
     matches.get_one(name).unwrap_or(0)
 }
 
 fn number_of_64_bits(matches: &ArgMatches<'_>, name: &str) -> u64
-    ensures { result ≡ number_in 64 name.now (rows_of (found_of matches.now)) }
+    ensures { result ≡ number_in 18446744073709551615 name.now (rows_of (found_of matches.now)) }
 {
     matches.get_one(name).unwrap_or(0)
 }

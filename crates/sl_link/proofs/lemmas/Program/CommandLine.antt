@@ -1,24 +1,25 @@
 -- The command line: what its builders make, and what its getters read.
-use Rattle.std.proofs.Common.{◌≡◌, ◌∙◌, ◌&&◌, ◌||◌, ◌<◌, ◌^◌, ℕ, Bool, true, false, refl, sym, ap, subst, List, [], ◌∷◌, Option, Some, None, Result, cond, map, nat_lt, lt-ltb, ltb-true, true≢false, codes}
-use Rattle.std.specs.Prelude.{fold, option_and_then, option_map, unwrap_or}
+use Rattle.std.proofs.Common.{◌≡◌, ◌∙◌, ◌&&◌, ◌||◌, ◌<◌, ◌^◌, ℕ, suc, Bool, true, false, refl, sym, ap, subst, List, [], ◌∷◌, Option, Some, None, Result, cond, map, codes, arith}
+use Rattle.std.specs.Prelude.{fold, option_map, unwrap_or}
 use Rattle.std.specs.List.{list_all}
-use Rattle.std.specs.Char.{digit_value}
 use Rattle.std.specs.Borrow.{Bor}
 use Rattle.std.specs.Option.{option_map_or}
 use Rattle.std.specs.Str.{bytes_eq}
-use Rattle.std.specs.Str.Parse.{AllDigits, IsNumeral, ExplainsUnsignedError, HasUnsignedDigitsIfOk, ParsesBool, ParsesUnsigned, digits_value, without_leading_plus}
+use Rattle.std.specs.Str.Parse.{ExplainsUnsignedError, HasUnsignedDigitsIfOk, ParsesBool, ParsesUnsigned, digits_value, without_leading_plus}
 use Rattle.std.specs.declared.num.ParseIntError.{ParseIntError}
 use Rattle.std.proofs.lemmas.Slice.Eq.{bytes_eq-Decides}
 use Rattle.clap.specs.Built.{AddsArg, AddsInTurn}
 use Rattle.clap.specs.Simple.{App, app_of, with_rule}
 use Rattle.clap.specs.Matches.{ReadsOne, first_value, one_text}
-use Rattle.clap.specs.ValueTests.{is_numeral}
+use Rattle.clap.specs.ValueTests.{accepts}
 use Rattle.clap.specs.Walk.{Text, first_of, one_of, rows_of, rule_of}
 use Rattle.clap.specs.declared.builder.arg.Arg.{Arg}
 use Rattle.clap.specs.declared.builder.command.Command.{Command}
 use Rattle.clap.specs.declared.builder.command.Command.TheViews.{out-Command as fields_of}
+use Rattle.clap.specs.declared.builder.value_parser.ValueParser.TheVariants.{Unsigned}
 use Rattle.clap.specs.declared.parser.matches.Found.{Found}
 use Rattle.clap.proofs.SimpleLemmas.{is_false}
+use Rattle.clap.proofs.ValueTestLemmas.{Accepts-accepts, accepts-Accepts}
 use Rattle.clap.proofs.WalkLemmas.{both, first_value-rows, one_text-rows}
 use Rattle.sl_link.specs.Program.CommandLine.{is_set, number_in, number_read}
 
@@ -47,46 +48,11 @@ adds_rules old new (a ∷ args) simple adds =
     let rest = adds_rules adds.0 new args parts.1 adds.2 in
     (rest.0 ∙ ap (λ (app : App). fold with_rule app (map rule_of args)) (step.shape local), rest.1 ∙ step.globals ∙ stays_local _ _ local)
 
--- ---- numbers
+-- ---- texts, numbers and flags
 
-digits_pass : (ds : List ℕ) → AllDigits 10 ds → list_all (λ d. nat_lt (digit_value d) 10) ds ≡ true
-digits_pass [] h = refl
-digits_pass (d ∷ ds) h = rw (lt-ltb (digit_value d) 10 h.0) (digits_pass ds h.1)
-
-digits_from : (ds : List ℕ) → list_all (λ d. nat_lt (digit_value d) 10) ds ≡ true → AllDigits 10 ds
-digits_from [] e = tt
-digits_from (d ∷ ds) e =
-    let parts = both _ _ e in
-    (ltb-true _ _ parts.0, digits_from ds parts.1)
-
-abbrev pub is_number : ℕ → List ℕ → Bool
-is_number bits ds = is_numeral ds && nat_lt (digits_value 10 ds) (2 ^ bits)
-
--- a numeral below 2 ^ bits, as a fact
-abbrev pub IsNumber : ℕ → List ℕ → Type 0
-IsNumber bits ds = IsNumeral 10 ds × (digits_value 10 ds < 2 ^ bits)
-
-pub is_number-true : (bits : ℕ) (ds : List ℕ) → IsNumber bits ds → is_number bits ds ≡ true
-is_number-true bits ds h = rw (lt-ltb 0 _ h.0.0, digits_pass ds h.0.1, lt-ltb _ (2 ^ bits) h.1) refl
-
-true-is_number : (bits : ℕ) (ds : List ℕ) → is_number bits ds ≡ true → IsNumber bits ds
-true-is_number bits ds t =
-    let outer = both _ _ t in
-    let inner = both _ _ outer.0 in
-    ((ltb-true _ _ inner.0, digits_from ds inner.1), ltb-true _ _ outer.1)
-
--- what `parse` says of an unsigned type of that many bits
-abbrev Reads : ℕ → List ℕ → Result ℕ ParseIntError → Type 0
-Reads bits bs r = ParsesUnsigned bits 10 bs r × ExplainsUnsignedError 10 bs r × HasUnsignedDigitsIfOk bs r
-
--- and nothing else
-read : (bits : ℕ) (t : List ℕ) (r : Option ℕ) → ReadsOne (Reads bits) t r → r ≡ number_read bits t
-read bits t (Some n) h = rw (is_number-true bits (without_leading_plus t) h.0.0) (ap Some h.0.1)
-read bits t None h = go (is_number bits (without_leading_plus t)) refl
-  where
-    go : (b : Bool) → is_number bits (without_leading_plus t) ≡ b → ◌≡◌ {A = Option ℕ} None (cond b (Some (digits_value 10 (without_leading_plus t))) None)
-    go false e = refl
-    go true e = absurd (h.1.0 (true-is_number bits (without_leading_plus t) e))
+-- what `get_str` reads, by the rows
+pub text_got : (f : Found) (id : Text) (r : Option (Bor Text)) → option_map (λ s. s.now) r ≡ first_value f id → option_map (λ s. s.now) r ≡ first_of id (rows_of f)
+text_got f id r is = is ∙ first_value-rows f id
 
 -- what `get_one` reads, by the rows: what holds of no text and of each text
 by_rows : {T E : Type 0} (G : List ℕ → Result T E → Type 0) (Q : Option T → Option Text → Type 0) → Q None None → ((t : Text) (r : Option T) → ReadsOne G t r → Q r (Some t))
@@ -97,11 +63,23 @@ by_rows {T} G Q at_none at_some f id r none value = subst (Q r) (one_text-rows f
     go None e = subst (λ (x : Option T). Q x None) (sym (none e)) at_none
     go (Some t) e = at_some t r (value t e)
 
-pub number_got : (bits : ℕ) (f : Found) (id : Text) (r : Option ℕ) → (one_text f id ≡ None → r ≡ None) → ((t : List ℕ) → one_text f id ≡ Some t → ReadsOne (Reads bits) t r)
-    → unwrap_or r 0 ≡ number_in bits id (rows_of f)
-number_got bits = by_rows (Reads bits) (λ r o. unwrap_or r 0 ≡ unwrap_or (option_and_then (number_read bits) o) 0) refl (λ t r h. ap (λ (o : Option ℕ). unwrap_or o 0) (read bits t r h))
+-- what `parse` says of an unsigned type of that many bits
+abbrev Reads : ℕ → List ℕ → Result ℕ ParseIntError → Type 0
+Reads bits bs r = ParsesUnsigned bits 10 bs r × ExplainsUnsignedError 10 bs r × HasUnsignedDigitsIfOk bs r
 
--- ---- flags
+number_reads : (bits most : ℕ) → 2 ^ bits ≡ suc most → most < 2 ^ 64 → (t : Text) (r : Option ℕ) → ReadsOne (Reads bits) t r → unwrap_or r 0 ≡ number_read most t
+number_reads bits most is small t (Some n) h = rw (Accepts-accepts false (Unsigned 0 most) t (h.0.0.0, omega arith, omega arith, omega arith)) h.0.1
+number_reads bits most is small t None h = go (accepts false (Unsigned 0 most) t) refl
+  where
+    go : (b : Bool) → accepts false (Unsigned 0 most) t ≡ b → 0 ≡ cond b (digits_value 10 (without_leading_plus t)) 0
+    go false e = refl
+    go true e =
+        let fits = accepts-Accepts false (Unsigned 0 most) t e in
+        absurd (h.1.0 (fits.0, omega arith))
+
+pub number_got : (bits most : ℕ) → 2 ^ bits ≡ suc most → most < 2 ^ 64 → (f : Found) (id : Text) (r : Option ℕ) → (one_text f id ≡ None → r ≡ None)
+    → ((t : List ℕ) → one_text f id ≡ Some t → ReadsOne (Reads bits) t r) → unwrap_or r 0 ≡ number_in most id (rows_of f)
+number_got bits most is small = by_rows (Reads bits) (λ r o. unwrap_or r 0 ≡ option_map_or (number_read most) o 0) refl (number_reads bits most is small)
 
 -- what `parse` reads as a `bool`
 flag_reads : (E : Type 0) (text : Text) (r : Option Bool) → ReadsOne {E = E} ParsesBool text r → unwrap_or r false ≡ bytes_eq text (codes "true")
@@ -116,9 +94,3 @@ flag_reads E text None h = sym (differs (bytes_eq text (codes "true")) refl)
 pub flag_got : (E : Type 0) (f : Found) (id : Text) (r : Option Bool) → (one_text f id ≡ None → r ≡ None) → ((t : List ℕ) → one_text f id ≡ Some t → ReadsOne {E = E} ParsesBool t r)
     → unwrap_or r false ≡ is_set id (rows_of f)
 flag_got E = by_rows {E = E} ParsesBool (λ r o. unwrap_or r false ≡ option_map_or (λ text. bytes_eq text (codes "true")) o false) refl (flag_reads E)
-
--- ---- texts
-
--- what `get_str` reads, by the rows
-pub text_got : (f : Found) (id : Text) (r : Option (Bor Text)) → option_map (λ s. s.now) r ≡ first_value f id → option_map (λ s. s.now) r ≡ first_of id (rows_of f)
-text_got f id r is = is ∙ first_value-rows f id

@@ -4,10 +4,10 @@ use Rattle.std.proofs.Common.{replicate, ◌≡◌, ◌==◌, ℕ, true, false, 
 use Prim.Native.String.{String}
 use Rattle.clap.specs.Kinds.{Kinds}
 use Rattle.clap.specs.Simple.{subcommand_of}
-use Rattle.clap.specs.Walk.{Row, Text, first_of}
+use Rattle.clap.specs.Walk.{Row, Text}
 use Rattle.clap.specs.declared.error.kind.ErrorKind.TheVariants.{ArgumentConflict, DisplayHelp, DisplayVersion, InvalidSubcommand, InvalidValue, MissingRequiredArgument, MissingSubcommand, TooManyValues, UnknownArgument, ValueValidation}
 use Rattle.clap.proofs.OnLiterals.{clap_on_literals}
-use Rattle.sl_link.specs.Program.CommandLine.{kind_named, parameters_in, refusals, sllink_app, verb_named, with_vcs}
+use Rattle.sl_link.specs.Program.CommandLine.{kind_in, parameters_in, plain_in, refusals, sllink_app, starts_in, verb_named, with_vcs}
 use Rattle.sl_link.specs.Link.Managed.{Parameters, managed_of}
 use Rattle.sl_link.specs.declared.link.managed.ManagedFault.TheVariants.{Window}
 use Rattle.sl_link.specs.declared.program.command_line.RecordingKind.{RecordingKind}
@@ -42,7 +42,7 @@ Request = VerbName × RecordingKind × Parameters
 abbrev read : String → Kinds × Option Request
 read line = (
   refusals (words line),
-  option_map (λ (met : Text × List Row). (verb_named met.0, kind_named (first_of (codes "kind") met.1), parameters_in met.1)) (subcommand_of sllink_app (words line)),
+  option_map (λ (met : Text × List Row). (verb_named met.0, kind_in met.1, parameters_in met.1)) (subcommand_of sllink_app (words line)),
 )
 
 -- nothing is refused, and this is asked for
@@ -95,7 +95,7 @@ taken =
 
 -- the texts of the options that name virtual channels
 abbrev texts_in : String → Option (Option Text × Option Text)
-texts_in line = option_map (λ (met : Text × List Row). (first_of (codes "plain") met.1, first_of (codes "vr-of") met.1)) (subcommand_of sllink_app (words line))
+texts_in line = option_map (λ (met : Text × List Row). (plain_in met.1, starts_in met.1)) (subcommand_of sllink_app (words line))
 
 -- the last of these lines has a word of no octets
 abbrev named : List (String × Option (Option Text × Option Text))

@@ -139,9 +139,9 @@ pub record IsSllink (app : App) : Type 0 where
 
 -- ---- what the words ask for
 
--- Each reader has an answer. In words of which nothing is refused an argument that a reader looks for has a text that
--- the reader can read: the kind and the spacecraft are required, and the other numbers have a default. So the answer
--- for an argument that isn't there, as 0 for a number, is met in refused words alone.
+-- Each reader has an answer for any words. In words of which nothing is refused the verb is one of the four, the kind
+-- is `tm` or `tc`, and each number is there, given or by its default, and can be read. So what the readers answer
+-- otherwise is never met in such words: `Normalise` for another verb, `Tc` for another kind, 0 for a missing number.
 
 -- the verb of that name
 abbrev pub verb_named : Text → VerbName
@@ -154,6 +154,10 @@ verb_named verb =
 -- the kind of that name
 abbrev pub kind_named : Option Text → RecordingKind
 kind_named kind = if option_map_or (λ name. bytes_eq name (codes "tm")) kind false then Tm else Tc
+
+-- the kind of the recording
+abbrev pub kind_in : List Row → RecordingKind
+kind_in rows = kind_named (first_of (codes "kind") rows)
 
 -- the decimal number that a text writes, `most` at most, or 0 where it writes none
 abbrev pub number_read : ℕ → Text → ℕ
@@ -183,6 +187,13 @@ parameters_in rows =
       max_octets = number_in 18446744073709551615 (codes "limit") rows;
     }
 
+-- the texts of the options that name virtual channels: those without segment headers, and initial V(R)
+abbrev pub plain_in : List Row → Option Text
+plain_in rows = first_of (codes "plain") rows
+
+abbrev pub starts_in : List Row → Option Text
+starts_in rows = first_of (codes "vr-of") rows
+
 -- The virtual channels of TC frames without segment headers, by the text of an option: none where it is left out. Else
 -- they are what the text lists, and there is no set where it lists none.
 abbrev pub IsPlain : Option Text → Option (List ℕ) → Type 0
@@ -211,11 +222,11 @@ with_vcs (Ok p) (Some plain) (Some starts) = Ok (record p { starts = starts; pla
 -- a verb with these arguments asks for this
 pub record Asks (verb : Text) (rows : List Row) (asked : Asked) : Type 0 where
   pub verb_is : asked.verb ≡ verb_named verb
-  pub kind_is : asked.kind ≡ kind_named (first_of (codes "kind") rows)
+  pub kind_is : asked.kind ≡ kind_in rows
   pub plain : Option (List ℕ)
-  pub is_plain : IsPlain (first_of (codes "plain") rows) plain
+  pub is_plain : IsPlain (plain_in rows) plain
   pub starts : Option (List ℕ)
-  pub are_from : AreFrom (number_in 255 (codes "vr") rows) (first_of (codes "vr-of") rows) starts
+  pub are_from : AreFrom (number_in 255 (codes "vr") rows) (starts_in rows) starts
   pub managed_is : asked.managed ≡ with_vcs (managed_of (parameters_in rows)) plain starts
 
 -- ---- what becomes of the words

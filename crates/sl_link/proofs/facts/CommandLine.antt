@@ -2,9 +2,7 @@
 -- check.
 use Rattle.std.proofs.Common.{replicate, ◌≡◌, ◌==◌, ℕ, true, false, cond, List, [], ◌∷◌, Option, Some, None, option_map, map, Result, Ok, Err, codes, refl}
 use Prim.Native.String.{String}
-use Rattle.clap.specs.Kinds.{Kinds}
-use Rattle.clap.specs.Simple.{subcommand_of}
-use Rattle.clap.specs.Walk.{Row, Text}
+use Rattle.clap.specs.Words.{Kinds, Row, Text, subcommand_of}
 use Rattle.clap.specs.declared.error.kind.ErrorKind.TheVariants.{ArgumentConflict, DisplayHelp, DisplayVersion, InvalidSubcommand, InvalidValue, MissingRequiredArgument, MissingSubcommand, TooManyValues, UnknownArgument, ValueValidation}
 use Rattle.clap.proofs.OnLiterals.{clap_on_literals}
 use Rattle.sl_link.specs.Program.CommandLine.{kind_in, parameters_in, plain_in, refusals, sllink_app, starts_in, verb_named, with_vcs}
@@ -75,10 +73,14 @@ taken =
     ∷ ("sllink normalise tm --scid 1 --tm-length 32", asks Normalise Tm (record (of 1) { tm_length = 32 }))
     ∷ ("sllink normalise tc --scid 1 --vr 255", asks Normalise Tc (record (of 1) { starts = replicate 64 255 }))
     -- all options, and options in any order, with their number as a word of its own or not
-    ∷ ("sllink show tc --scid 1 --tm-length 32 --tc-length 16 --tm-fecf --tc-fecf --window 2 --vr 255 --limit 9",
-        asks Show Tc (record (of 1) { tm_length = 32; tm_fecf = true; tc_max = 16; tc_fecf = true; window = 2; starts = replicate 64 255; max_octets = 9 }))
-    ∷ ("sllink show tm --scid 1 --tm-length 32 --tc-length 16 --tm-fecf --window 2 --vr 4 --limit 9",
-        asks Show Tm (record (of 1) { tm_length = 32; tm_fecf = true; tc_max = 16; window = 2; starts = replicate 64 4; max_octets = 9 }))
+    ∷ (
+      "sllink show tc --scid 1 --tm-length 32 --tc-length 16 --tm-fecf --tc-fecf --window 2 --vr 255 --limit 9",
+      asks Show Tc (record (of 1) { tm_length = 32; tm_fecf = true; tc_max = 16; tc_fecf = true; window = 2; starts = replicate 64 255; max_octets = 9 }),
+    )
+    ∷ (
+      "sllink show tm --scid 1 --tm-length 32 --tc-length 16 --tm-fecf --window 2 --vr 4 --limit 9",
+      asks Show Tm (record (of 1) { tm_length = 32; tm_fecf = true; tc_max = 16; window = 2; starts = replicate 64 4; max_octets = 9 }),
+    )
     ∷ ("sllink show tm --scid 1 --tc-fecf", asks Show Tm (record (of 1) { tc_fecf = true }))
     ∷ ("any show --limit=9 --tm-length 0 tm --scid=65535", asks Show Tm (record (of 65535) { tm_length = 0; max_octets = 9 }))
     ∷ ("sllink normalise tm --vr 8 --scid 7", asks Normalise Tm (record (of 7) { starts = replicate 64 8 }))

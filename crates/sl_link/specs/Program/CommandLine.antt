@@ -27,7 +27,8 @@ use Rattle.sl_link.specs.declared.program.command_line.RecordingKind.TheVariants
 use Rattle.sl_link.specs.declared.program.command_line.RefusedParameter.{RefusedParameter}
 use Rattle.sl_link.specs.declared.program.command_line.RefusedParameter.TheVariants as refused
 use Rattle.sl_link.specs.declared.program.command_line.VerbName.{VerbName}
-use Rattle.sl_link.specs.declared.program.command_line.VerbName.TheVariants.{Show, Check, Packets, Normalise}
+use Rattle.sl_link.specs.declared.program.command_line.VerbName.TheVariants.{Show, Check}
+use Rattle.sl_link.specs.declared.program.command_line.VerbName.TheVariants.{Packets, Normalise}
 
 -- ---- the arguments
 
@@ -139,9 +140,10 @@ pub record IsSllink (app : App) : Type 0 where
 
 -- ---- what the words ask for
 
--- Each reader has an answer for any words. In words of which nothing is refused the verb is one of the four, the kind
--- is `tm` or `tc`, and each number is there, given or by its default, and can be read. So what the readers answer
--- otherwise is never met in such words: `Normalise` for another verb, `Tc` for another kind, 0 for a missing number.
+-- Each reader has an answer for any words. In words of which nothing is refused the verb is one of
+-- the four, the kind is `tm` or `tc`, and each number is there, given or by its default, and can be
+-- read. So what the readers answer otherwise is never met in such words: `Normalise` for another
+-- verb, `Tc` for another kind, 0 for a missing number.
 
 -- the verb of that name
 abbrev pub verb_named : Text → VerbName
@@ -187,31 +189,34 @@ parameters_in rows =
       max_octets = number_in 18446744073709551615 (codes "limit") rows;
     }
 
--- the texts of the options that name virtual channels: those without segment headers, and initial V(R)
+-- the text that names virtual channels without segment headers
 abbrev pub plain_in : List Row → Option Text
 plain_in rows = first_of (codes "plain") rows
 
+-- the text that names initial V(R)
 abbrev pub starts_in : List Row → Option Text
 starts_in rows = first_of (codes "vr-of") rows
 
--- The virtual channels of TC frames without segment headers, by the text of an option: none where it is left out. Else
--- they are what the text lists, and there is no set where it lists none.
+-- The virtual channels of TC frames without segment headers, by the text of an option: none where
+-- it is left out. Else they are what the text lists, and there is no set where it lists none.
 abbrev pub IsPlain : Option Text → Option (List ℕ) → Type 0
 IsPlain None plain = plain ≡ Some []
 IsPlain (Some text) plain =
     IfSome plain (λ vcs. vc_set.Lists 0 text vcs)
     × ((vcs : List ℕ) → vc_set.Lists 0 text vcs → plain ≡ Some vcs)
 
--- The initial V(R) of the virtual channels, by the text of an option: this V(R) for all that it doesn't name, and no
--- starts where the text lists none.
+-- The initial V(R) of the virtual channels, by the text of an option: this V(R) for all that it
+-- doesn't name, and no starts where the text lists none.
 abbrev pub AreFrom : ℕ → Option Text → Option (List ℕ) → Type 0
 AreFrom vr None named = named ≡ Some (replicate 64 vr)
 AreFrom vr (Some text) named =
     IfSome named (λ all. AreNamed 0 text (replicate 64 vr) all)
-    × ((items : List Item) → starts.Lists 0 text items → named ≡ Some (starts_over (replicate 64 vr) items))
+    × ((items : List Item) → starts.Lists 0 text items
+    → named ≡ Some (starts_over (replicate 64 vr) items))
 
--- The managed parameters with what the options say of virtual channels, or what is refused: a managed parameter, else
--- the text of the virtual channels without segment headers, else that of the starts.
+-- The managed parameters with what the options say of virtual channels, or what is refused: a
+-- managed parameter, else the text of the virtual channels without segment headers, else that of
+-- the starts.
 abbrev pub with_vcs : Result Parameters ManagedFault → Option (List ℕ) → Option (List ℕ)
     → Result Parameters RefusedParameter
 with_vcs (Err fault) plain starts = Err (refused.Managed fault)

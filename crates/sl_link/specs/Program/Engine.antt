@@ -3,7 +3,8 @@ use Rattle.std.specs.Prelude.{ℕ, List}
 use Rattle.sl_link.specs.declared.program.command_line.RecordingKind.{RecordingKind}
 use Rattle.sl_link.specs.declared.program.command_line.RecordingKind.TheVariants.{Tm, Tc}
 use Rattle.sl_link.specs.declared.program.command_line.VerbName.{VerbName}
-use Rattle.sl_link.specs.declared.program.command_line.VerbName.TheVariants.{Show, Check, Packets, Normalise}
+use Rattle.sl_link.specs.declared.program.command_line.VerbName.TheVariants.{Show, Check}
+use Rattle.sl_link.specs.declared.program.command_line.VerbName.TheVariants.{Packets, Normalise}
 use Rattle.sl_link.specs.Verbs.Check.Tc.{check_tc_text, check_tc_counts}
 use Rattle.sl_link.specs.Verbs.Check.Tm.{check_tm_text, check_tm_counts}
 use Rattle.sl_link.specs.Link.Managed.{Parameters}

@@ -17,8 +17,9 @@ module _ {R W : Type 0} (remaining : R → Option (List ℕ)) (contents : W → 
   -- the engine's text of a recording was written, and the totals are its counts of it
   abbrev pub HasWritten : Counted R → Counted R → Counted W → Counted W → Asked → Parameters → Counts → Type 0
   HasWritten reader reader' writer writer' asked managed =
-      TranslatesAndCounts remaining contents reader reader' writer writer' (text_of asked.verb asked.kind managed)
-      (counts_of asked.verb asked.kind managed) managed.max_octets
+      TranslatesAndCounts remaining contents reader reader' writer writer'
+      (text_of asked.verb asked.kind managed) (counts_of asked.verb asked.kind managed)
+      managed.max_octets
 
   -- A fault stopped the engine, or the flush after it. A listing of frames needs no memory. Of a normal form
   -- anything is written only where the writer failed, and all is read then.

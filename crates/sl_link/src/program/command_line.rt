@@ -1,13 +1,14 @@
 //! The command line.
-ghost use Rattle.std.specs.Prelude.{◌≡◌, ◌⊎◌, false, codes, map, option_map, string_bytes, IfOk, IfErr};
+ghost use Rattle.std.specs.Prelude.{◌≡◌, ◌⊎◌, false, codes, map, option_map, string_bytes};
+ghost use Rattle.std.specs.Prelude.{IfOk, IfErr};
 ghost use Rattle.clap.specs.Words.{app_of, found_of, kind_of, rows_of, rule_of};
 ghost use Rattle.clap.specs.declared.builder.Command.TheViews.{out-Command as fields_of};
 ghost use Rattle.sl_link.specs.Link.Managed.{managed_of};
-ghost use Rattle.sl_link.specs.Program.CommandLine.{AreFrom, AskFor, Asks, IsPlain, IsRefusal, IsSllink};
-ghost use Rattle.sl_link.specs.Program.CommandLine.{flag_rule, is_set, kind_named, link_options};
-ghost use Rattle.sl_link.specs.Program.CommandLine.{needed_number, number_in, number_or, number_rule};
-ghost use Rattle.sl_link.specs.Program.CommandLine.{parameters_in, text_rule, verb_app, verb_named};
-ghost use Rattle.sl_link.specs.Program.CommandLine.{with_link_options, with_vcs};
+ghost use Rattle.sl_link.specs.Program.CommandLine.{AreFrom, AskFor, Asks, IsPlain, IsRefusal};
+ghost use Rattle.sl_link.specs.Program.CommandLine.{IsSllink, flag_rule, is_set, kind_named};
+ghost use Rattle.sl_link.specs.Program.CommandLine.{link_options, needed_number, number_in, number_or};
+ghost use Rattle.sl_link.specs.Program.CommandLine.{number_rule, parameters_in, text_rule, verb_app};
+ghost use Rattle.sl_link.specs.Program.CommandLine.{verb_named, with_link_options, with_vcs};
 
 use crate::link::managed::{Managed, ManagedFault};
 use clap::builder::ValueParser;
@@ -292,7 +293,7 @@ fn kind_named(kind: Option<&str>) -> RecordingKind
     }
 }
 
-// The managed parameters, or the first of them that is refused, as if the options named no virtual channel.
+// The managed parameters, or the first that is refused, as if the options named no virtual channel.
 fn managed_in(matches: &ArgMatches<'_>) -> Result<Managed, ManagedFault>
     ensures { result ≡ managed_of (parameters_in (rows_of (found_of matches.now))) }
 {
@@ -329,7 +330,7 @@ fn starts_of(vr: u8, text: Option<&str>) -> Option<Starts>
     }
 }
 
-// The managed parameters with what the options say of virtual channels, or the first that is refused.
+// These parameters with what the options say of virtual channels, or the first that is refused.
 fn with_vcs(
     managed: Result<Managed, ManagedFault>,
     plain: Option<VcSet>,
@@ -341,7 +342,9 @@ fn with_vcs(
         (Err(fault), _, _) => Err(RefusedParameter::Managed(fault)),
         (Ok(_), None, _) => Err(RefusedParameter::Plain),
         (Ok(_), Some(_), None) => Err(RefusedParameter::Start),
-        (Ok(managed), Some(plain), Some(starts)) => Ok(managed.with_plain(plain).with_starts(starts)),
+        (Ok(managed), Some(plain), Some(starts)) => {
+            Ok(managed.with_plain(plain).with_starts(starts))
+        }
     }
 }
 

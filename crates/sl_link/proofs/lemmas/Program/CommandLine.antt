@@ -1,18 +1,16 @@
 -- The command line: what its builders make, and what its getters read.
-use Rattle.std.proofs.Common.{◌≡◌, ◌∙◌, ◌&&◌, ◌||◌, ◌<◌, ◌^◌, ℕ, suc, Bool, true, false, refl, sym, ap, subst, List, [], ◌∷◌, Option, Some, None, Result, cond, map, codes, arith}
+use Rattle.std.proofs.Common.{◌≡◌, ◌∙◌, ◌&&◌, ◌||◌, ◌<◌, ◌^◌, ℕ, suc, Bool, true, false, refl, sym, ap, subst, List, [], ◌∷◌, Option, Some, None, Result, map, codes, arith}
 use Rattle.std.specs.Prelude.{fold, option_map, unwrap_or}
 use Rattle.std.specs.List.{list_all}
 use Rattle.std.specs.Borrow.{Bor}
 use Rattle.std.specs.Option.{option_map_or}
 use Rattle.std.specs.Str.{bytes_eq}
-use Rattle.std.specs.Str.Parse.{ExplainsUnsignedError, HasUnsignedDigitsIfOk, ParsesBool, ParsesUnsigned, digits_value, without_leading_plus}
+use Rattle.std.specs.Str.Parse.{ExplainsUnsignedError, HasUnsignedDigitsIfOk, ParsesBool, ParsesUnsigned}
 use Rattle.std.specs.declared.num.ParseIntError.{ParseIntError}
+use Rattle.std.proofs.lemmas.Bool.{false_from_ne_true}
 use Rattle.std.proofs.lemmas.Slice.Eq.{bytes_eq-Decides}
-use Rattle.clap.specs.Built.{AddsArg, AddsInTurn}
-use Rattle.clap.specs.Simple.{App, app_of, with_rule}
-use Rattle.clap.specs.Matches.{ReadsOne, first_value, one_text}
 use Rattle.clap.specs.ValueTests.{accepts}
-use Rattle.clap.specs.Walk.{Text, first_of, one_of, rows_of, rule_of}
+use Rattle.clap.specs.Words.{AddsArg, AddsInTurn, App, ReadsOne, Text, app_of, first_of, first_value, one_of, one_text, rows_of, rule_of, with_rule}
 use Rattle.clap.specs.declared.builder.arg.Arg.{Arg}
 use Rattle.clap.specs.declared.builder.command.Command.{Command}
 use Rattle.clap.specs.declared.builder.command.Command.TheViews.{out-Command as fields_of}
@@ -69,13 +67,9 @@ Reads bits bs r = ParsesUnsigned bits 10 bs r × ExplainsUnsignedError 10 bs r �
 
 number_reads : (bits most : ℕ) → 2 ^ bits ≡ suc most → most < 2 ^ 64 → (t : Text) (r : Option ℕ) → ReadsOne (Reads bits) t r → unwrap_or r 0 ≡ number_read most t
 number_reads bits most is small t (Some n) h = rw (Accepts-accepts false (Unsigned 0 most) t (h.0.0.0, omega arith, omega arith, omega arith)) h.0.1
-number_reads bits most is small t None h = go (accepts false (Unsigned 0 most) t) refl
-  where
-    go : (b : Bool) → accepts false (Unsigned 0 most) t ≡ b → 0 ≡ cond b (digits_value 10 (without_leading_plus t)) 0
-    go false e = refl
-    go true e =
-        let fits = accepts-Accepts false (Unsigned 0 most) t e in
-        absurd (h.1.0 (fits.0, omega arith))
+number_reads bits most is small t None h =
+    let refused : accepts false (Unsigned 0 most) t ≡ false = false_from_ne_true _ (λ e. let fits = accepts-Accepts false (Unsigned 0 most) t e in h.1.0 (fits.0, omega arith)) in
+    rw refused refl
 
 pub number_got : (bits most : ℕ) → 2 ^ bits ≡ suc most → most < 2 ^ 64 → (f : Found) (id : Text) (r : Option ℕ) → (one_text f id ≡ None → r ≡ None)
     → ((t : List ℕ) → one_text f id ≡ Some t → ReadsOne (Reads bits) t r) → unwrap_or r 0 ≡ number_in most id (rows_of f)
@@ -85,11 +79,7 @@ number_got bits most is small = by_rows (Reads bits) (λ r o. unwrap_or r 0 ≡ 
 flag_reads : (E : Type 0) (text : Text) (r : Option Bool) → ReadsOne {E = E} ParsesBool text r → unwrap_or r false ≡ bytes_eq text (codes "true")
 flag_reads E text (Some true) h = sym ((bytes_eq-Decides text (codes "true")).1 h)
 flag_reads E text (Some false) h = rw h refl
-flag_reads E text None h = sym (differs (bytes_eq text (codes "true")) refl)
-  where
-    differs : (b : Bool) → bytes_eq text (codes "true") ≡ b → b ≡ false
-    differs false e = refl
-    differs true e = absurd (h.1.0 ((bytes_eq-Decides text (codes "true")).0 e))
+flag_reads E text None h = sym (false_from_ne_true _ (λ e. h.1.0 ((bytes_eq-Decides text (codes "true")).0 e)))
 
 pub flag_got : (E : Type 0) (f : Found) (id : Text) (r : Option Bool) → (one_text f id ≡ None → r ≡ None) → ((t : List ℕ) → one_text f id ≡ Some t → ReadsOne {E = E} ParsesBool t r)
     → unwrap_or r false ≡ is_set id (rows_of f)

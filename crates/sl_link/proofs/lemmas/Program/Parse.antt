@@ -1,15 +1,8 @@
 -- A parse of the command line: what its outcomes say of the words.
-use Rattle.std.proofs.Common.{inl, inr, ◌≡◌, ◌∙◌, false, true, refl, sym, ap, subst, List, [], Option, Some, None, Result, Ok, Err}
+use Rattle.std.proofs.Common.{inl, inr, ◌≡◌, ◌∙◌, false, true, refl, sym, ap, subst, List, Option, Some, None, Result, Ok, Err}
 use Rattle.std.specs.Prelude.{◌⊎◌, Box, option_map}
 use Rattle.std.specs.Box.{box_value}
-use Rattle.clap.specs.Built.{BuildsTo}
-use Rattle.clap.specs.Facts.{IsParsed}
-use Rattle.clap.specs.Faults.{fault_of, is_simple_and_free}
-use Rattle.clap.specs.Kinds.{FailsBy, Kinds}
-use Rattle.clap.specs.Matches.{found_of, has_subcommand, subcommand_name_of}
-use Rattle.clap.specs.Simple.{App, HasMatchesOf, app_of, subcommand_rows, subcommand_rows_of}
-use Rattle.clap.specs.Values.{kind_of}
-use Rattle.clap.specs.Walk.{Row, Text, rows_of}
+use Rattle.clap.specs.Words.{App, BuildsTo, FailsBy, HasMatchesOf, IsParsed, Kinds, Row, Text, app_of, fault_of, found_of, has_subcommand, is_simple_and_free, kind_of, rows_of, subcommand_name_of, subcommand_rows, subcommand_rows_of}
 use Rattle.clap.specs.declared.builder.command.Command.{Command}
 use Rattle.clap.specs.declared.builder.command.Command.TheViews.{out-Command as fields_of}
 use Rattle.clap.specs.declared.error.Error.{Error}

@@ -1,5 +1,5 @@
 -- Where the names of the kinds lie in memory makes no difference to a parse.
-use Rattle.std.proofs.Common.{◌≡◌, ◌==◌, ℕ, Bool, true, false, cond, refl, List, [], ◌∷◌, drop, Option, Some, None, codes, option_map}
+use Rattle.std.proofs.Common.{◌≡◌, ◌==◌, Bool, true, false, cond, refl, List, [], ◌∷◌, drop, Option, Some, None, codes, option_map}
 use Rattle.std.specs.Prelude.{find, slice_get, unwrap_or}
 use Rattle.std.specs.Borrow.{Bor}
 use Rattle.std.specs.Option.{option_map_or}

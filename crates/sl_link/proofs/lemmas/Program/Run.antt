@@ -16,6 +16,7 @@ use Rattle.sl_link.specs.declared.program.command_line.VerbName.{VerbName}
 use Rattle.sl_link.specs.declared.program.command_line.VerbName.TheVariants.{Check}
 use Rattle.sl_link.specs.Program.Answer.{EndsAsHelp, WithAnswer, WithText, version_line}
 use Rattle.sl_link.specs.Program.CommandLine.{AskForHelp, AskForVersion, IsRefusal}
+use Rattle.sl_link.specs.Io.Streams.{TranslatesAndCounts}
 use Rattle.sl_link.specs.Link.Counted.{stream_of, faults_of, HadOneFault}
 use Rattle.sl_link.specs.Pass.{chunk_size}
 use Rattle.sl_link.specs.Program.Engine.{text_of, counts_of}
@@ -30,11 +31,11 @@ check_met Check kind p octets some = refl
 check_met verb Tm p octets some = absurd (some refl)
 check_met verb Tc p octets some = absurd (some refl)
 
-module _ {R W : Type 0} {remaining : R → Option (List ℕ)} {contents : W → Option (List ℕ)} {reader reader' : Counted R} {writer mid writer' : Counted W} {asked : Asked} {managed : Parameters} {totals : Counts} where
+module _ {R W : Type 0} {remaining : R → Option (List ℕ)} {contents : W → Option (List ℕ)} {reader reader' : Counted R} {writer mid writer' : Counted W} where
   -- where the flush fails, all of the text is in its place, but the writer had a fault
-  pub stopped_flushing : {fault : LinkFault} → HasWritten remaining contents reader reader' writer mid asked managed totals → Keeps (contents (stream_of mid)) (contents (stream_of writer'))
-      → fault ≡ Write → HadOneFault mid writer' → IsStoppedBy remaining contents reader reader' writer writer' asked managed fault
-  stopped_flushing {fault} counted kept is_write failed =
+  pub stopped_flushing : {asked : Asked} {managed : Parameters} {totals : Counts} {fault : LinkFault} → HasWritten remaining contents reader reader' writer mid asked managed totals
+      → Keeps (contents (stream_of mid)) (contents (stream_of writer')) → fault ≡ Write → HadOneFault mid writer' → IsStoppedBy remaining contents reader reader' writer writer' asked managed fault
+  stopped_flushing {asked} {managed} {fault = fault} counted kept is_write failed =
       let t = counted.translated in
       let text = text_of asked.verb asked.kind managed t.octets in
       record {
@@ -50,8 +51,8 @@ module _ {R W : Type 0} {remaining : R → Option (List ℕ)} {contents : W → 
       }
 
   -- where the flush succeeds, it is so still
-  pub written_flushed : HasWritten remaining contents reader reader' writer mid asked managed totals → Keeps (contents (stream_of mid)) (contents (stream_of writer'))
-      → faults_of writer' ≡ faults_of mid → HasWritten remaining contents reader reader' writer writer' asked managed totals
+  pub written_flushed : {text : List ℕ → List ℕ} {counts : List ℕ → Counts} {limit : ℕ} {totals : Counts} → TranslatesAndCounts remaining contents reader reader' writer mid text counts limit totals
+      → Keeps (contents (stream_of mid)) (contents (stream_of writer')) → faults_of writer' ≡ faults_of mid → TranslatesAndCounts remaining contents reader reader' writer writer' text counts limit totals
   written_flushed counted kept no_fault =
       let t = counted.translated in
       record {
@@ -68,8 +69,8 @@ module _ {R W : Type 0} {remaining : R → Option (List ℕ)} {contents : W → 
       }
 
 -- a refusal that asks for help or the version comes of words that do
-pub with_answer : (kind : ErrorKind) (words : List Text) (Done : Text → Type 0) → (kind ≡ OutOfMemory) ⊎ IsRefusal kind words → WithText kind Done → WithAnswer words Done
-with_answer kind words Done refused t = record { text = t.text; answers = go refused t.answers; done = t.done }
+pub with_answer : {kind : ErrorKind} {words : List Text} {Done : Text → Type 0} → (kind ≡ OutOfMemory) ⊎ IsRefusal kind words → WithText kind Done → WithAnswer words Done
+with_answer {kind} {words} refused t = record { text = t.text; answers = go refused t.answers; done = t.done }
   where
     go : (kind ≡ OutOfMemory) ⊎ IsRefusal kind words → ((kind ≡ DisplayHelp) × EndsAsHelp t.text) ⊎ ((kind ≡ DisplayVersion) × (t.text ≡ version_line))
         → (AskForHelp words × EndsAsHelp t.text) ⊎ (AskForVersion words × (t.text ≡ version_line))

@@ -1,13 +1,13 @@
 -- Rules that differ in nothing that a walk reads: the same words are met and refused in the same way.
-use Rattle.std.proofs.Common.{◌≡◌, ◌∙◌, ℕ, Bool, cond, zero, suc, refl, ap, ap₂, List, [], ◌∷◌, length, Option, Some, None}
+use Rattle.std.proofs.Common.{◌≡◌, ℕ, Bool, zero, suc, refl, List, [], ◌∷◌, length, Option, Some, None}
 use Rattle.std.specs.Prelude.{fold, slice_get}
 use Rattle.std.specs.Option.{option_map_or}
-use Rattle.std.specs.Str.{bytes_eq, chars}
-use Rattle.clap.specs.Faults.{bundle_fault, bundle_step_fault, flag_word_fault, flags_fault, long_fault, option_fault, other_fault, positional_fault, settle_fault, short_fault, step_fault, stray_fault, turn_fault, walk_fault}
-use Rattle.clap.specs.Kinds.{Kinds, or_else}
+use Rattle.std.specs.Str.{chars}
+use Rattle.clap.specs.Faults.{bundle_fault, bundle_step_fault, flag_word_fault, flags_fault, long_fault, option_fault, other_fault, positional_fault, settle_fault, short_fault, step_fault, stray_fault, walk_fault}
+use Rattle.clap.specs.Kinds.{Kinds}
 use Rattle.clap.specs.Lexer.{long_of, short_of}
 use Rattle.clap.specs.Simple.{Shape}
-use Rattle.clap.specs.Walk.{Held, Names, Outcome, Row, Rule, Step, Text, Waiting, Walk, after_flag, after_step, arg_by_id, arg_by_index, arg_by_long, arg_by_short, attached_value, bundle_met, bundle_step, done, idle, long_met, long_or_other, option, option_met, option_word, plain, plain_word, positional, settled_rows, short_met, short_or_plain, subcommand_or_other, to_positional, trailing, value, waits, walk, walk_from, walked, walked_from}
+use Rattle.clap.specs.Walk.{Held, Names, Outcome, Row, Rule, Step, Text, Waiting, Walk, after_flag, after_step, arg_by_id, arg_by_index, arg_by_long, arg_by_short, attached_value, bundle_met, bundle_step, done, idle, long_met, long_or_other, option, option_met, option_word, plain, plain_word, settled_rows, short_met, short_or_plain, subcommand_or_other, to_positional, value, waits, walk, walk_from, walked, walked_from}
 
 -- the shape with these rules
 abbrev pub with_rules : Shape → List Rule → Shape

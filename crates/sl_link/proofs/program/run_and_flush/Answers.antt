@@ -8,4 +8,4 @@ returns-in_err-flush-clause-stopped g c =
     rw (out.1, out.2) (stopped_flushing c.in_ok-totals.ensures.written c.flush.ensures.kept c.in_err-flush.ensures.fault.0 c.in_err-flush.ensures.fault.1)
 
 pub returns-clause-written : goal.returns-clause-written
-returns-clause-written g c = written_flushed {asked = c.args.asked.now} {managed = c.args.managed.now} c.in_ok-totals.ensures.written c.flush.ensures.kept c.in_ok-flush.ensures.ok
+returns-clause-written g c = written_flushed c.in_ok-totals.ensures.written c.flush.ensures.kept c.in_ok-flush.ensures.ok

@@ -1,4 +1,4 @@
-use Rattle.std.proofs.Common.{◌∙◌, ℕ, List, Option, Result, ap, codes, subst}
+use Rattle.std.proofs.Common.{◌∙◌, ℕ, Option, Result, ap, codes, subst}
 use Rattle.clap.specs.Walk.{Text}
 use Rattle.clap.specs.Words.{found_of}
 use Rattle.sl_link.specs.Link.Managed.{Parameters}

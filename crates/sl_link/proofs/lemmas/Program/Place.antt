@@ -39,9 +39,6 @@ module _ (list tm tc : Address) where
   values_is [] = refl
   values_is (v ∷ vs) = simp (values_is vs)
 
-  use_is : (values : List Text) (rows : List Row) → use_fault false (kind_at k) values rows ≡ use_fault false (kind_at l) values rows
-  use_is values rows = simp values_is
-
   -- the rules of an id
   by_id_is : (P : Option Rule → Option Rule → Type 0) → P (Some (kind_at k)) (Some (kind_at l)) → ((o : Option Rule) → P o o) → (id : Text) → P (arg_by_id (rules_at k) id) (arg_by_id (rules_at l) id)
   by_id_is P kind same id = choose P kind (arg_by_id (drop 1 (rules_at l)) id) _ (same _) (bytes_eq (codes "kind") id)
@@ -58,7 +55,7 @@ module _ (list tm tc : Address) where
 
       go : (o : Option (Text × List Text)) → option_map_or (λ p. fault p.1 (arg_by_id (rules_at k) p.0)) o [] ≡ option_map_or (λ p. fault p.1 (arg_by_id (rules_at l) p.0)) o []
       go None = refl
-      go (Some p) = by_id_is (λ x y. fault p.1 x ≡ fault p.1 y) (use_is p.1 h.rows) (λ o. refl) p.0
+      go (Some p) = by_id_is (λ x y. fault p.1 x ≡ fault p.1 y) (simp values_is) (λ o. refl) p.0
 
   walks : (name : Text) → SameWalk (verb_at name k) (rules_at k) (rules_at l)
   walks name = record {
@@ -72,14 +69,6 @@ module _ (list tm tc : Address) where
         (simp settle_is) None None refl (1 == i);
   }
 
-  -- what the level of a verb finds, and why it refuses words
-  rows_after_is : (words : List Text) → rows_after (rules_at k) [] words ≡ rows_after (rules_at l) [] words
-  rows_after_is words = simp (rows_is, walk_is (walks []))
-
-  level_is : (name : Text) (words : List Text) → level_fault (verb_at name k) [] nothing_held words false [] ≡ level_fault (verb_at name l) [] nothing_held words false []
-  unfolding defaults_fault
-  level_is name words = simp (rows_is, settle_is, walk_is (walks name), walk_fault_is (walks name))
-
   -- the verb that a word names
   verb_is : (P : Option Shape → Option Shape → Type 0) → ((name : Text) → P (Some (verb_at name k)) (Some (verb_at name l))) → ((o : Option Shape) → P o o)
       → (word : Text) → P (find (λ s. answers_to word (label_of s)) (built (sllink_with k)).subs) (find (λ s. answers_to word (label_of s)) (built (sllink_with l)).subs)
@@ -90,12 +79,13 @@ module _ (list tm tc : Address) where
 
   entered_is : (stop : Option (Text × List Text)) → entered (built (sllink_with k)) stop ≡ entered (built (sllink_with l)) stop
   entered_is None = refl
-  entered_is (Some p) = verb_is (λ o o'. option_map (λ s. rows_at s p.1) o ≡ option_map (λ s. rows_at s p.1) o') (λ name. simp rows_after_is) (λ o. refl) p.0
+  entered_is (Some p) = verb_is (λ o o'. option_map (λ s. rows_at s p.1) o ≡ option_map (λ s. rows_at s p.1) o') (λ name. simp (rows_is, walk_is (walks name))) (λ o. refl) p.0
 
   fault_is : (stop : Option (Text × List Text)) → entered_fault (built (sllink_with k)) stop ≡ entered_fault (built (sllink_with l)) stop
+  unfolding defaults_fault
   fault_is None = refl
   fault_is (Some p) =
-      verb_is (λ o o'. option_map_or (λ s. level_fault s [] nothing_held p.1 false []) o [] ≡ option_map_or (λ s. level_fault s [] nothing_held p.1 false []) o' []) (λ name. level_is name p.1) (λ o. refl) p.0
+      verb_is (λ o o'. option_map_or (λ s. level_fault s [] nothing_held p.1 false []) o [] ≡ option_map_or (λ s. level_fault s [] nothing_held p.1 false []) o' []) (λ name. simp (rows_is, settle_is, walk_is (walks name), walk_fault_is (walks name))) (λ o. refl) p.0
 
   -- the words name the same subcommand, with the same matches
   pub same_subcommand : (words : List Text) → subcommand_of (sllink_with k) words ≡ subcommand_of (sllink_with l) words

@@ -1,5 +1,5 @@
--- A run: the flush after an engine, and what the exit status says.
-use Rattle.std.proofs.Common.{◌≡◌, ◌≢◌, ℕ, List, Option, inl, inr, refl, subst, sym, ◌∙◌, append-nil, []}
+-- A run: the flush after an engine, and the answers to help and the version.
+use Rattle.std.proofs.Common.{◌≡◌, ℕ, List, Option, inl, inr, refl, subst, sym, ◌∙◌, append-nil, []}
 use Rattle.std.specs.Prelude.{◌⊎◌}
 use Rattle.std.specs.Io.KnownBytes.{Keeps}
 use Rattle.std.proofs.KnownBytes.{Appends-kept}
@@ -10,26 +10,16 @@ use Rattle.sl_link.specs.declared.link.counted.Counted.{Counted}
 use Rattle.sl_link.specs.declared.link.fault.LinkFault.{LinkFault}
 use Rattle.sl_link.specs.declared.link.fault.LinkFault.TheVariants.{Memory, Write}
 use Rattle.sl_link.specs.declared.program.command_line.Asked.{Asked}
-use Rattle.sl_link.specs.declared.program.command_line.RecordingKind.{RecordingKind}
-use Rattle.sl_link.specs.declared.program.command_line.RecordingKind.TheVariants.{Tm, Tc}
-use Rattle.sl_link.specs.declared.program.command_line.VerbName.{VerbName}
-use Rattle.sl_link.specs.declared.program.command_line.VerbName.TheVariants.{Check}
 use Rattle.sl_link.specs.Program.Answer.{EndsAsHelp, WithAnswer, WithText, version_line}
 use Rattle.sl_link.specs.Program.CommandLine.{AskForHelp, AskForVersion, IsRefusal}
 use Rattle.sl_link.specs.Io.Streams.{TranslatesAndCounts}
 use Rattle.sl_link.specs.Link.Counted.{stream_of, faults_of, HadOneFault}
 use Rattle.sl_link.specs.Pass.{chunk_size}
-use Rattle.sl_link.specs.Program.Engine.{text_of, counts_of}
+use Rattle.sl_link.specs.Program.Engine.{text_of}
 use Rattle.sl_link.specs.Link.Managed.{Parameters}
 use Rattle.sl_link.specs.Program.Run.{HasWritten, IsStoppedBy}
 use Rattle.sl_link.specs.Link.Totals.{Counts}
 use Rattle.sl_link.proofs.lemmas.Io.Faults.{caused_writing}
-
--- only a check counts anomalies
-pub check_met : (verb : VerbName) (kind : RecordingKind) (p : Parameters) (octets : List ℕ) → (counts_of verb kind p octets).anomalies ≢ 0 → verb ≡ Check
-check_met Check kind p octets some = refl
-check_met verb Tm p octets some = absurd (some refl)
-check_met verb Tc p octets some = absurd (some refl)
 
 module _ {R W : Type 0} {remaining : R → Option (List ℕ)} {contents : W → Option (List ℕ)} {reader reader' : Counted R} {writer mid writer' : Counted W} where
   -- where the flush fails, all of the text is in its place, but the writer had a fault

@@ -3,4 +3,3 @@ pub mod Answer
 pub mod CommandLine
 pub mod Engine
 pub mod Run
-pub mod Status

@@ -8,7 +8,6 @@ ghost use Rattle.sl_link.specs.Link.Counted.{stream_of, faults_of, HadOneFault};
 ghost use Rattle.sl_link.specs.Io.Streams.{StopsWriting, WritesText};
 ghost use Rattle.sl_link.specs.Program.Run.{AsksForRefusedParameter, HasMetAnomalies, HasStopped, HasSucceeded};
 ghost use Rattle.sl_link.specs.Program.Run.{HasWritten, IsStoppedBy, WithAsked};
-ghost use Rattle.sl_link.specs.Program.Status.{status};
 
 pub mod command_line;
 
@@ -21,7 +20,7 @@ use crate::listings::{check_tc, check_tm, packets_tc, packets_tm, show_tc, show_
 use crate::normalise::{normalise_tc, normalise_tm};
 use clap::Error;
 use clap::error::ErrorKind;
-use command_line::{Asked, Engine, parse};
+use command_line::{Asked, RecordingKind, VerbName, parse};
 use std::alloc::{AllocError, Global};
 use std::io::{Read, Write};
 
@@ -118,11 +117,12 @@ fn run_asked<R: Read, W: Write, E: Write>(
     ensures stopped { result ≡ 3 → HasStopped R.remaining W.contents reader.old reader.new
         writer.old writer.new asked.now }
 {
-    match asked.managed() {
-        Ok(managed) => {
-            let outcome = run_and_flush(alloc, asked, &managed, reader, writer);
-            report(&outcome, errors)
-        }
+    match &asked.managed {
+        Ok(managed) => match run_and_flush(alloc, asked, managed, reader, writer) {
+            Ok(totals) if totals.anomalies() == 0 => SUCCESS,
+            Ok(_) => ANOMALIES,
+            Err(fault) => report(fault, errors),
+        },
         Err(refused) => {
             let _ = writeln!(errors, "sllink: managed: {refused}");
             REFUSED
@@ -161,15 +161,15 @@ fn run_engine<R: Read, W: Write>(
     ensures stopped { IfErr result (IsStoppedBy R.remaining W.contents reader.old reader.new
         writer.old writer.new asked.now managed.now) }
 {
-    match asked.request.engine {
-        Engine::ShowTm => show_tm(managed, reader, writer),
-        Engine::ShowTc => show_tc(managed, reader, writer),
-        Engine::CheckTm => check_tm(alloc, managed, reader, writer),
-        Engine::CheckTc => check_tc(alloc, managed, reader, writer),
-        Engine::PacketsTm => packets_tm(alloc, managed, reader, writer),
-        Engine::PacketsTc => packets_tc(alloc, managed, reader, writer),
-        Engine::NormaliseTm => normalise_tm(alloc, managed, reader, writer),
-        Engine::NormaliseTc => normalise_tc(alloc, managed, reader, writer),
+    match (asked.verb, asked.kind) {
+        (VerbName::Show, RecordingKind::Tm) => show_tm(managed, reader, writer),
+        (VerbName::Show, RecordingKind::Tc) => show_tc(managed, reader, writer),
+        (VerbName::Check, RecordingKind::Tm) => check_tm(alloc, managed, reader, writer),
+        (VerbName::Check, RecordingKind::Tc) => check_tc(alloc, managed, reader, writer),
+        (VerbName::Packets, RecordingKind::Tm) => packets_tm(alloc, managed, reader, writer),
+        (VerbName::Packets, RecordingKind::Tc) => packets_tc(alloc, managed, reader, writer),
+        (VerbName::Normalise, RecordingKind::Tm) => normalise_tm(alloc, managed, reader, writer),
+        (VerbName::Normalise, RecordingKind::Tc) => normalise_tc(alloc, managed, reader, writer),
     }
 }
 
@@ -187,24 +187,11 @@ fn flush<W: Write>(writer: &mut Counted<W>) -> Result<(), LinkFault>
 }
 
 // Names a fault on the error output, and returns the exit status.
-fn report<E: Write>(outcome: &Result<Totals, LinkFault>, errors: &mut E) -> u8
-    ensures { result ≡ status outcome.now }
+fn report<E: Write>(fault: LinkFault, errors: &mut E) -> u8
+    ensures { result ≡ 3 }
 {
-    if let Err(fault) = outcome {
-        let _ = writeln!(errors, "sllink: {fault}");
-    }
-    status_of(outcome)
-}
-
-// The exit status after an engine.
-fn status_of(outcome: &Result<Totals, LinkFault>) -> u8
-    ensures { result ≡ status outcome.now }
-{
-    match outcome {
-        Ok(totals) if totals.anomalies() == 0 => SUCCESS,
-        Ok(_) => ANOMALIES,
-        Err(_) => FAULT,
-    }
+    let _ = writeln!(errors, "sllink: {fault}");
+    FAULT
 }
 
 // Writes help, the version, or why the command line is refused, and returns the exit status.
@@ -231,10 +218,10 @@ fn report_refusal<W: Write, E: Write>(
     match refusal.kind() {
         ErrorKind::DisplayHelp => match help_text(alloc, refusal) {
             Ok(text) => answer(text.as_str(), writer, errors),
-            Err(_) => report(&Err(LinkFault::Memory), errors),
+            Err(_) => report(LinkFault::Memory, errors),
         },
         ErrorKind::DisplayVersion => answer(VERSION_LINE, writer, errors),
-        ErrorKind::OutOfMemory => report(&Err(LinkFault::Memory), errors),
+        ErrorKind::OutOfMemory => report(LinkFault::Memory, errors),
         _ => {
             let _ = write!(errors, "{refusal}");
             REFUSED
@@ -260,7 +247,7 @@ fn answer<W: Write, E: Write>(text: &str, writer: &mut Counted<W>, errors: &mut 
 {
     match write_and_flush(text, writer) {
         Ok(()) => SUCCESS,
-        Err(fault) => report(&Err(fault), errors),
+        Err(fault) => report(fault, errors),
     }
 }
 

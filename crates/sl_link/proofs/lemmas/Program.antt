@@ -1,9 +1,5 @@
-pub mod Channels
 pub mod CommandLine
 pub mod Parse
 pub mod Place
-pub mod Request
-pub mod Rows
 pub mod Run
 pub mod SameWalk
-pub mod Walk

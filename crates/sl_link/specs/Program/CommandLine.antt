@@ -1,7 +1,7 @@
 -- The command line of `sllink`: its arguments, what it refuses, and what its words ask for.
-use Rattle.std.specs.Prelude.{◌≡◌, ◌≢◌, ◌&&◌, ◌^◌, ℕ, Bool, true, false, List}
-use Rattle.std.specs.Prelude.{[], ◌∷◌, Option, Some, None, Result, Ok, Err}
-use Rattle.std.specs.Prelude.{codes, fold, nat_lt, option_and_then, if◌then◌else◌, pos, replicate}
+use Rattle.std.specs.Prelude.{◌≡◌, ◌≢◌, ℕ, Bool, true, false, List, [], ◌∷◌}
+use Rattle.std.specs.Prelude.{Option, Some, None, IfSome, Result, Ok, Err}
+use Rattle.std.specs.Prelude.{codes, fold, if◌then◌else◌, pos, replicate}
 use Rattle.std.specs.Borrow.{Bor}
 use Rattle.std.specs.Option.{option_map_or}
 use Rattle.std.specs.Str.{bytes_eq}
@@ -9,27 +9,26 @@ use Rattle.std.specs.Str.Parse.{digits_value, without_leading_plus}
 use Rattle.clap.specs.Faults.{fault_of}
 use Rattle.clap.specs.Kinds.{IsAmong, Kinds}
 use Rattle.clap.specs.Simple.{App, new_app, new_rule, new_shape, subcommand_of, with_rule}
-use Rattle.clap.specs.ValueTests.{is_numeral}
-use Rattle.clap.specs.Walk.{Row, Rule, Text, first_of, one_of, texts}
+use Rattle.clap.specs.ValueTests.{accepts}
+use Rattle.clap.specs.Walk.{Row, Rule, Text, first_of, one_of}
 use Rattle.clap.specs.declared.builder.action.ArgAction.TheVariants.{SetTrue}
 use Rattle.clap.specs.declared.builder.value_parser.ValueParser.{ValueParser}
 use Rattle.clap.specs.declared.builder.value_parser.ValueParser.TheVariants.{Names, Signed, Unsigned}
 use Rattle.clap.specs.declared.error.kind.ErrorKind.{ErrorKind}
 use Rattle.clap.specs.declared.error.kind.ErrorKind.TheVariants.{DisplayHelp, DisplayVersion}
-use Rattle.sl_cop.specs.Starts.{AreNamed, Item}
+use Rattle.sl_cop.specs.Starts.{AreNamed, Item, starts_over}
 use Rattle.sl_cop.specs.Starts as starts
 use Rattle.sl_tcframe.specs.VcSet as vc_set
 use Rattle.sl_link.specs.Link.Managed.{Parameters, managed_of}
 use Rattle.sl_link.specs.declared.link.managed.ManagedFault.{ManagedFault}
 use Rattle.sl_link.specs.declared.program.command_line.Asked.{Asked}
+use Rattle.sl_link.specs.declared.program.command_line.RecordingKind.{RecordingKind}
+use Rattle.sl_link.specs.declared.program.command_line.RecordingKind.TheVariants.{Tm, Tc}
 use Rattle.sl_link.specs.declared.program.command_line.RefusedParameter.{RefusedParameter}
 use Rattle.sl_link.specs.declared.program.command_line.RefusedParameter.TheVariants as refused
-use Rattle.sl_link.specs.declared.program.command_line.Engine.{Engine}
-use Rattle.sl_link.specs.declared.program.command_line.Engine.TheVariants.{ShowTm, ShowTc, CheckTm}
-use Rattle.sl_link.specs.declared.program.command_line.Engine.TheVariants.{CheckTc, PacketsTm, PacketsTc}
-use Rattle.sl_link.specs.declared.program.command_line.Engine.TheVariants.{NormaliseTm, NormaliseTc}
-use Rattle.sl_link.specs.declared.program.command_line.Options.{Options}
-use Rattle.sl_link.specs.declared.program.command_line.Request.{Request}
+use Rattle.sl_link.specs.declared.program.command_line.VerbName.{VerbName}
+use Rattle.sl_link.specs.declared.program.command_line.VerbName.TheVariants.{Show, Check}
+use Rattle.sl_link.specs.declared.program.command_line.VerbName.TheVariants.{Packets, Normalise}
 
 -- ---- the arguments
 
@@ -113,13 +112,20 @@ sllink_with kinds = record {
       ∷ [];
 }
 
--- a value at one place in memory: where the names lie makes no difference
-abbrev pub placed : {X : Type 0} → X → Bor X
-placed x = record { ref_ptr = (0, 0); now = x }
+-- where something lies in memory
+abbrev pub Address : Type 0
+Address = ℕ × ℕ
 
--- the names of the kinds of recording
+-- the names of the kinds of recording, where the list and each name lie at these addresses
+abbrev pub kinds_at : Address → Address → Address → Bor (List (Bor Text))
+kinds_at list tm tc = record {
+  ref_ptr = list;
+  now = record { ref_ptr = tm; now = codes "tm" } ∷ record { ref_ptr = tc; now = codes "tc" } ∷ [];
+}
+
+-- the same at one place: where they lie makes no difference
 abbrev pub recording_kinds : Bor (List (Bor Text))
-recording_kinds = placed (placed (codes "tm") ∷ placed (codes "tc") ∷ [])
+recording_kinds = kinds_at (0, 0) (0, 0) (0, 0)
 
 -- the command line of `sllink`
 abbrev pub sllink_app : App
@@ -127,100 +133,106 @@ sllink_app = sllink_with recording_kinds
 
 -- that command line, wherever in memory the names lie
 pub record IsSllink (app : App) : Type 0 where
-  pub kinds : Bor (List (Bor Text))
-  pub named : texts kinds.now ≡ texts recording_kinds.now
-  pub same : app ≡ sllink_with kinds
+  pub list : Address
+  pub tm : Address
+  pub tc : Address
+  pub same : app ≡ sllink_with (kinds_at list tm tc)
 
 -- ---- what the words ask for
 
--- the second step, where the first gives something
-infixl 10 ◌>>=◌
-abbrev ◌>>=◌ : {A B : Type 0} → Option A → (A → Option B) → Option B
-o >>= f = option_and_then f o
+-- Each reader has an answer for any words. In words of which nothing is refused the verb is one of
+-- the four, the kind is `tm` or `tc`, and each number is there, given or by its default, and can be
+-- read. So what the readers answer otherwise is never met in such words: `Normalise` for another
+-- verb, `Tc` for another kind, 0 for a missing number.
 
--- the engine that a verb and a kind name
-abbrev pub engine_named : Text → Text → Option Engine
-engine_named verb kind =
-    if bytes_eq verb (codes "show") && bytes_eq kind (codes "tm") then Some ShowTm
-    else if bytes_eq verb (codes "show") && bytes_eq kind (codes "tc") then Some ShowTc
-    else if bytes_eq verb (codes "check") && bytes_eq kind (codes "tm") then Some CheckTm
-    else if bytes_eq verb (codes "check") && bytes_eq kind (codes "tc") then Some CheckTc
-    else if bytes_eq verb (codes "packets") && bytes_eq kind (codes "tm") then Some PacketsTm
-    else if bytes_eq verb (codes "packets") && bytes_eq kind (codes "tc") then Some PacketsTc
-    else if bytes_eq verb (codes "normalise") && bytes_eq kind (codes "tm") then Some NormaliseTm
-    else if bytes_eq verb (codes "normalise") && bytes_eq kind (codes "tc") then Some NormaliseTc
-    else None
+-- the verb of that name
+abbrev pub verb_named : Text → VerbName
+verb_named verb =
+    if bytes_eq verb (codes "show") then Show
+    else if bytes_eq verb (codes "check") then Check
+    else if bytes_eq verb (codes "packets") then Packets
+    else Normalise
 
--- the decimal number that a text writes, where it has no more than that many bits
-abbrev pub number_read : ℕ → Text → Option ℕ
-number_read bits text =
-    let digits = without_leading_plus text in
-    if is_numeral digits && nat_lt (digits_value 10 digits) (2 ^ bits)
-    then Some (digits_value 10 digits) else None
+-- the kind of that name
+abbrev pub kind_named : Option Text → RecordingKind
+kind_named kind = if option_map_or (λ name. bytes_eq name (codes "tm")) kind false then Tm else Tc
+
+-- the kind of the recording
+abbrev pub kind_in : List Row → RecordingKind
+kind_in rows = kind_named (first_of (codes "kind") rows)
+
+-- the decimal number that a text writes, `most` at most, or 0 where it writes none
+abbrev pub number_read : ℕ → Text → ℕ
+number_read most text =
+    if accepts false (Unsigned 0 most) text then digits_value 10 (without_leading_plus text) else 0
 
 -- the number that an option has
-abbrev pub number_in : ℕ → Text → List Row → Option ℕ
-number_in bits name rows = option_and_then (number_read bits) (one_of name rows)
+abbrev pub number_in : ℕ → Text → List Row → ℕ
+number_in most name rows = option_map_or (number_read most) (one_of name rows) 0
 
 -- an option that takes no value is there: its text is `true` then, and else `false`
 abbrev pub is_set : Text → List Row → Bool
 is_set name rows = option_map_or (λ text. bytes_eq text (codes "true")) (one_of name rows) false
 
--- what the options say of the link
-abbrev pub options_in : List Row → Option Options
-options_in rows = do
-  scid ← number_in 16 (codes "scid") rows
-  tm_length ← number_in 16 (codes "tm-length") rows
-  tc_length ← number_in 16 (codes "tc-length") rows
-  window ← number_in 8 (codes "window") rows
-  vr ← number_in 8 (codes "vr") rows
-  limit ← number_in 64 (codes "limit") rows
-  Some (record {
-    spacecraft = scid;
-    tm_length = tm_length;
-    tc_length = tc_length;
-    tm_fecf = is_set (codes "tm-fecf") rows;
-    tc_fecf = is_set (codes "tc-fecf") rows;
-    window = window;
-    vr = vr;
-    max_octets = limit;
-  })
+-- the managed parameters that the options ask for, as if they named no virtual channel
+abbrev pub parameters_in : List Row → Parameters
+parameters_in rows =
+    record {
+      spacecraft = number_in 65535 (codes "scid") rows;
+      tm_length = number_in 65535 (codes "tm-length") rows;
+      tm_fecf = is_set (codes "tm-fecf") rows;
+      tc_max = number_in 65535 (codes "tc-length") rows;
+      tc_fecf = is_set (codes "tc-fecf") rows;
+      window = number_in 255 (codes "window") rows;
+      starts = replicate 64 (number_in 255 (codes "vr") rows);
+      plain = [];
+      max_octets = number_in 18446744073709551615 (codes "limit") rows;
+    }
 
--- what a verb asks for with its arguments
-abbrev pub request_with : Text → List Row → Option Request
-request_with verb rows = do
-  kind ← first_of (codes "kind") rows
-  engine ← engine_named verb kind
-  options ← options_in rows
-  Some (record { engine = engine; options = options })
+-- the text that names virtual channels without segment headers
+abbrev pub plain_in : List Row → Option Text
+plain_in rows = first_of (codes "plain") rows
 
--- what a verb, where the words name one, asks for
-abbrev pub request_in : Option (Text × List Row) → Option Request
-request_in met = option_and_then (λ p. request_with p.0 p.1) met
+-- the text that names initial V(R)
+abbrev pub starts_in : List Row → Option Text
+starts_in rows = first_of (codes "vr-of") rows
 
--- ---- the virtual channels of TC frames
-
--- those without segment headers, by the text of an option: none where it is left out, and no set where the text lists
--- none
+-- The virtual channels of TC frames without segment headers, by the text of an option: none where
+-- it is left out. Else they are what the text lists, and there is no set where it lists none.
 abbrev pub IsPlain : Option Text → Option (List ℕ) → Type 0
 IsPlain None plain = plain ≡ Some []
-IsPlain (Some text) (Some plain) = vc_set.Lists 0 text plain
-IsPlain (Some text) None = (plain : List ℕ) → vc_set.Lists 0 text plain → ⊥
+IsPlain (Some text) plain =
+    IfSome plain (λ vcs. vc_set.Lists 0 text vcs)
+    × ((vcs : List ℕ) → vc_set.Lists 0 text vcs → plain ≡ Some vcs)
 
--- their starts, by the text of an option: this V(R) for all that it doesn't name, and no starts where the text lists
--- none
+-- The initial V(R) of the virtual channels, by the text of an option: this V(R) for all that it
+-- doesn't name, and no starts where the text lists none.
 abbrev pub AreFrom : ℕ → Option Text → Option (List ℕ) → Type 0
-AreFrom vr None starts = starts ≡ Some (replicate 64 vr)
-AreFrom vr (Some text) (Some starts) = AreNamed 0 text (replicate 64 vr) starts
-AreFrom vr (Some text) None = (items : List Item) → starts.Lists 0 text items → ⊥
+AreFrom vr None named = named ≡ Some (replicate 64 vr)
+AreFrom vr (Some text) named =
+    IfSome named (λ all. AreNamed 0 text (replicate 64 vr) all)
+    × ((items : List Item) → starts.Lists 0 text items
+    → named ≡ Some (starts_over (replicate 64 vr) items))
 
--- the virtual channels that are asked for are those that the arguments of a verb name
-pub record HasVcs (met : Option (Text × List Row)) (asked : Asked) : Type 0 where
-  pub verb : Text
-  pub rows : List Row
-  pub is_met : met ≡ Some (verb, rows)
-  pub plain : IsPlain (first_of (codes "plain") rows) asked.plain
-  pub starts : AreFrom asked.request.options.vr (first_of (codes "vr-of") rows) asked.starts
+-- The managed parameters with what the options say of virtual channels, or what is refused: a
+-- managed parameter, else the text of the virtual channels without segment headers, else that of
+-- the starts.
+abbrev pub with_vcs : Result Parameters ManagedFault → Option (List ℕ) → Option (List ℕ)
+    → Result Parameters RefusedParameter
+with_vcs (Err fault) plain starts = Err (refused.Managed fault)
+with_vcs (Ok p) None starts = Err refused.Plain
+with_vcs (Ok p) (Some plain) None = Err refused.Start
+with_vcs (Ok p) (Some plain) (Some starts) = Ok (record p { starts = starts; plain = plain })
+
+-- a verb with these arguments asks for this
+pub record Asks (verb : Text) (rows : List Row) (asked : Asked) : Type 0 where
+  pub verb_is : asked.verb ≡ verb_named verb
+  pub kind_is : asked.kind ≡ kind_in rows
+  pub plain : Option (List ℕ)
+  pub is_plain : IsPlain (plain_in rows) plain
+  pub starts : Option (List ℕ)
+  pub are_from : AreFrom (number_in 255 (codes "vr") rows) (starts_in rows) starts
+  pub managed_is : asked.managed ≡ with_vcs (managed_of (parameters_in rows)) plain starts
 
 -- ---- what becomes of the words
 
@@ -251,37 +263,7 @@ pub record AreRefused (words : List Text) : Type 0 where
 -- nothing of the words is refused, and they ask for this
 pub record AskFor (words : List Text) (asked : Asked) : Type 0 where
   pub allowed : refusals words ≡ []
-  pub read : request_in (subcommand_of sllink_app words) ≡ Some asked.request
-  pub channels : HasVcs (subcommand_of sllink_app words) asked
-
--- ---- the link
-
--- the managed parameters that the options ask for, where they name no virtual channel
-abbrev pub parameters_asked : Options → Parameters
-parameters_asked o =
-    record {
-      spacecraft = o.spacecraft;
-      tm_length = o.tm_length;
-      tm_fecf = o.tm_fecf;
-      tc_max = o.tc_length;
-      tc_fecf = o.tc_fecf;
-      window = o.window;
-      starts = replicate 64 o.vr;
-      plain = [];
-      max_octets = o.max_octets;
-    }
-
--- the same with what the options say of virtual channels, or what is refused: a managed parameter,
--- else the text of the virtual channels without segment headers, else that of the starts
-abbrev pub with_vcs : Parameters → Option (List ℕ) → Option (List ℕ) → Result Parameters RefusedParameter
-with_vcs p None starts = Err refused.Plain
-with_vcs p (Some plain) None = Err refused.Start
-with_vcs p (Some plain) (Some starts) = Ok (record p { starts = starts; plain = plain })
-
-abbrev pub managed_with : Result Parameters ManagedFault → Option (List ℕ) → Option (List ℕ)
-    → Result Parameters RefusedParameter
-managed_with (Err fault) plain starts = Err (refused.Managed fault)
-managed_with (Ok p) plain starts = with_vcs p plain starts
-
-abbrev pub managed_asked : Asked → Result Parameters RefusedParameter
-managed_asked asked = managed_with (managed_of (parameters_asked asked.request.options)) asked.plain asked.starts
+  pub verb : Text
+  pub rows : List Row
+  pub is_met : subcommand_of sllink_app words ≡ Some (verb, rows)
+  pub asks : Asks verb rows asked

@@ -1,16 +1,14 @@
 //! The command line.
-ghost use Rattle.std.specs.Prelude.{◌≡◌, ◌⊎◌, false, codes, map, option_map, string_bytes, IfOk, IfErr, IfSome};
-ghost use Rattle.clap.specs.Words.{app_of, found_of, kind_of, rows_of, rule_of, subcommand_rows_of};
-ghost use Rattle.clap.specs.Walk.{first_of};
+ghost use Rattle.std.specs.Prelude.{◌≡◌, ◌⊎◌, false, codes, map, option_map, string_bytes};
+ghost use Rattle.std.specs.Prelude.{IfOk, IfErr};
+ghost use Rattle.clap.specs.Words.{app_of, found_of, kind_of, rows_of, rule_of};
 ghost use Rattle.clap.specs.declared.builder.Command.TheViews.{out-Command as fields_of};
 ghost use Rattle.sl_link.specs.Link.Managed.{managed_of};
-ghost use Rattle.sl_link.specs.Program.CommandLine.{AreFrom, AskFor, HasVcs, IsPlain};
-ghost use Rattle.sl_link.specs.Program.CommandLine.{IsRefusal, IsSllink, managed_asked, parameters_asked};
-ghost use Rattle.sl_link.specs.Program.CommandLine.{flag_rule, link_options, needed_number};
-ghost use Rattle.sl_link.specs.Program.CommandLine.{number_or, number_rule, text_rule};
-ghost use Rattle.sl_link.specs.Program.CommandLine.{verb_app, with_link_options};
-ghost use Rattle.sl_link.specs.Program.CommandLine.{engine_named, is_set, number_in};
-ghost use Rattle.sl_link.specs.Program.CommandLine.{options_in, request_in, request_with};
+ghost use Rattle.sl_link.specs.Program.CommandLine.{AreFrom, AskFor, Asks, IsPlain, IsRefusal};
+ghost use Rattle.sl_link.specs.Program.CommandLine.{IsSllink, flag_rule, is_set, kind_named};
+ghost use Rattle.sl_link.specs.Program.CommandLine.{link_options, needed_number, number_in, number_or};
+ghost use Rattle.sl_link.specs.Program.CommandLine.{number_rule, parameters_in, text_rule, verb_app};
+ghost use Rattle.sl_link.specs.Program.CommandLine.{verb_named, with_link_options, with_vcs};
 
 use crate::link::managed::{Managed, ManagedFault};
 use clap::builder::ValueParser;
@@ -21,55 +19,35 @@ use sl_tcframe::VcSet;
 use std::alloc::{AllocError, Global};
 use thiserror::Error;
 
-/// What is done with a recording, TM or TC.
-#[derive(Clone, Copy, Debug, PartialEq, Eq)]
-pub(crate) enum Engine {
-    /// TM transfer frames are listed.
-    ShowTm,
-    /// TC transfer frames are listed.
-    ShowTc,
-    /// What is amiss in TM transfer frames is listed.
-    CheckTm,
-    /// What is amiss in TC transfer frames is listed.
-    CheckTc,
-    /// The packets of TM transfer frames are listed.
-    PacketsTm,
-    /// The packets of TC transfer frames are listed.
-    PacketsTc,
-    /// The normal form of TM transfer frames is written.
-    NormaliseTm,
-    /// The normal form of TC transfer frames is written.
-    NormaliseTc,
+/// What is done with a recording.
+#[derive(Clone, Copy)]
+pub(crate) enum VerbName {
+    /// Its frames are listed.
+    Show,
+    /// What is amiss in it is listed.
+    Check,
+    /// Its packets are listed.
+    Packets,
+    /// The normal form of its packets is written.
+    Normalise,
 }
 
-/// What the options say of the link, each as `Managed::new` takes it.
-#[derive(Clone, Copy, Debug, PartialEq, Eq)]
-pub(crate) struct Options {
-    pub(crate) spacecraft: u16,
-    pub(crate) tm_length: u16,
-    pub(crate) tc_length: u16,
-    pub(crate) tm_fecf: bool,
-    pub(crate) tc_fecf: bool,
-    pub(crate) window: u8,
-    pub(crate) vr: u8,
-    pub(crate) max_octets: u64,
+/// Which transfer frames a recording has.
+#[derive(Clone, Copy)]
+pub(crate) enum RecordingKind {
+    /// TM transfer frames.
+    Tm,
+    /// TC transfer frames.
+    Tc,
 }
 
-/// What a command line asks for, but for the virtual channels that it names.
-#[derive(Clone, Copy, Debug, PartialEq, Eq)]
-pub(crate) struct Request {
-    pub(crate) engine: Engine,
-    pub(crate) options: Options,
-}
-
-/// All that a command line asks for: the request; `plain`, the virtual channels of TC frames
-/// without segment headers; and `starts`, the initial V(R) of each virtual channel. The last two
-/// are `None` where the text of their option is refused.
-#[derive(Clone, Copy, Debug, PartialEq, Eq)]
+/// What a command line asks for.
+#[derive(Clone, Copy)]
 pub(crate) struct Asked {
-    pub(crate) request: Request,
-    pub(crate) plain: Option<VcSet>,
-    pub(crate) starts: Option<Starts>,
+    pub(crate) verb: VerbName,
+    pub(crate) kind: RecordingKind,
+    /// The managed parameters of the link, or the first of them that is refused.
+    pub(crate) managed: Result<Managed, RefusedParameter>,
 }
 
 /// Which parameter of the link is refused.
@@ -146,8 +124,8 @@ pub(crate) fn parse(alloc: Global, words: &[String]) -> Result<Asked, clap::Erro
 {
     let mut command = sllink(alloc)?;
     let matches = command.try_get_matches_from_mut(words)?;
-    match asked_of(&matches) {
-        Some(asked) => Ok(asked),
+    match matches.subcommand() {
+        Some((verb, found)) => Ok(asked_of(verb, found)),
         None => unreachable!(),
     }
 }
@@ -281,99 +259,111 @@ fn flag<'a>(alloc: Global, name: &'a str) -> Arg<'a>
     Arg::new(alloc, name).long(name).action(ArgAction::SetTrue)
 }
 
-// What the words ask for. It is `None` where a required word is missing, which the parse has refused.
-fn asked_of(matches: &ArgMatches<'_>) -> Option<Asked>
-    ensures request { option_map (λ asked. asked.request) result
-        ≡ request_in (subcommand_rows_of matches.now) }
-    ensures channels { IfSome result (HasVcs (subcommand_rows_of matches.now)) }
+// What a verb with these arguments asks for.
+fn asked_of(verb: &str, matches: &ArgMatches<'_>) -> Asked
+    ensures { Asks verb.now (rows_of (found_of matches.now)) result }
 {
-    let (verb, found) = matches.subcommand()?;
-    let request = request_with(verb, found)?;
-    Some(Asked {
-        request,
-        plain: plain_of(found),
-        starts: starts_of(found, request.options.vr),
-    })
+    let vr = number_of_8_bits(matches, VR);
+    let plain = plain_of(matches.get_str(PLAIN));
+    let starts = starts_of(vr, matches.get_str(VR_OF));
+    Asked {
+        verb: verb_named(verb),
+        kind: kind_named(matches.get_str(KIND)),
+        managed: with_vcs(managed_in(matches), plain, starts),
+    }
+}
+
+fn verb_named(verb: &str) -> VerbName
+    ensures { result ≡ verb_named verb.now }
+{
+    match verb {
+        "show" => VerbName::Show,
+        "check" => VerbName::Check,
+        "packets" => VerbName::Packets,
+        _ => VerbName::Normalise,
+    }
+}
+
+fn kind_named(kind: Option<&str>) -> RecordingKind
+    ensures { result ≡ kind_named (option_map (λ t. t.now) kind.entry) }
+{
+    match kind {
+        Some("tm") => RecordingKind::Tm,
+        _ => RecordingKind::Tc,
+    }
+}
+
+// The managed parameters, or the first that is refused, as if the options named no virtual channel.
+fn managed_in(matches: &ArgMatches<'_>) -> Result<Managed, ManagedFault>
+    ensures { result ≡ managed_of (parameters_in (rows_of (found_of matches.now))) }
+{
+    Managed::new(
+        number_of_16_bits(matches, SPACECRAFT),
+        number_of_16_bits(matches, TM_LENGTH),
+        is_set(matches, TM_FECF),
+        number_of_16_bits(matches, TC_LENGTH),
+        is_set(matches, TC_FECF),
+        number_of_8_bits(matches, WINDOW),
+        number_of_8_bits(matches, VR),
+        number_of_64_bits(matches, LIMIT),
+    )
 }
 
 // The virtual channels without segment headers, or `None` where their text is refused.
-fn plain_of(matches: &ArgMatches<'_>) -> Option<VcSet>
-    ensures { IsPlain (first_of (codes "plain") (rows_of (found_of matches.now))) result }
+fn plain_of(text: Option<&str>) -> Option<VcSet>
+    ensures { IsPlain (option_map (λ t. t.now) text.entry) result }
 {
-    match matches.get_str(PLAIN) {
+    match text {
         Some(text) => VcSet::read(text),
         None => Some(VcSet::new()),
     }
 }
 
 // The initial V(R) of each virtual channel, `vr` where none is named, or `None` where their text is refused.
-fn starts_of(matches: &ArgMatches<'_>, vr: u8) -> Option<Starts>
-    ensures { AreFrom vr (first_of (codes "vr-of") (rows_of (found_of matches.now))) result }
+fn starts_of(vr: u8, text: Option<&str>) -> Option<Starts>
+    ensures { AreFrom vr (option_map (λ t. t.now) text.entry) result }
 {
     let all = Starts::all(vr);
-    match matches.get_str(VR_OF) {
+    match text {
         Some(text) => all.read(text),
         None => Some(all),
     }
 }
 
-// The request of a verb, from the arguments after it.
-fn request_with(verb: &str, matches: &ArgMatches<'_>) -> Option<Request>
-    ensures { result ≡ request_with verb.now (rows_of (found_of matches.now)) }
+// These parameters with what the options say of virtual channels, or the first that is refused.
+fn with_vcs(
+    managed: Result<Managed, ManagedFault>,
+    plain: Option<VcSet>,
+    starts: Option<Starts>,
+) -> Result<Managed, RefusedParameter>
+    ensures { result ≡ with_vcs managed plain starts }
 {
-    Some(Request {
-        engine: engine_of(verb, matches.get_str(KIND)?)?,
-        options: options_of(matches)?,
-    })
-}
-
-fn engine_of(verb: &str, kind: &str) -> Option<Engine>
-    ensures { result ≡ engine_named verb.now kind.now }
-{
-    match (verb, kind) {
-        ("show", "tm") => Some(Engine::ShowTm),
-        ("show", "tc") => Some(Engine::ShowTc),
-        ("check", "tm") => Some(Engine::CheckTm),
-        ("check", "tc") => Some(Engine::CheckTc),
-        ("packets", "tm") => Some(Engine::PacketsTm),
-        ("packets", "tc") => Some(Engine::PacketsTc),
-        ("normalise", "tm") => Some(Engine::NormaliseTm),
-        ("normalise", "tc") => Some(Engine::NormaliseTc),
-        _ => None,
+    match (managed, plain, starts) {
+        (Err(fault), _, _) => Err(RefusedParameter::Managed(fault)),
+        (Ok(_), None, _) => Err(RefusedParameter::Plain),
+        (Ok(_), Some(_), None) => Err(RefusedParameter::Start),
+        (Ok(managed), Some(plain), Some(starts)) => {
+            Ok(managed.with_plain(plain).with_starts(starts))
+        }
     }
 }
 
-fn options_of(matches: &ArgMatches<'_>) -> Option<Options>
-    ensures { result ≡ options_in (rows_of (found_of matches.now)) }
+fn number_of_8_bits(matches: &ArgMatches<'_>, name: &str) -> u8
+    ensures { result ≡ number_in 255 name.now (rows_of (found_of matches.now)) }
 {
-    Some(Options {
-        spacecraft: number_of_16_bits(matches, SPACECRAFT)?,
-        tm_length: number_of_16_bits(matches, TM_LENGTH)?,
-        tc_length: number_of_16_bits(matches, TC_LENGTH)?,
-        tm_fecf: is_set(matches, TM_FECF),
-        tc_fecf: is_set(matches, TC_FECF),
-        window: number_of_8_bits(matches, WINDOW)?,
-        vr: number_of_8_bits(matches, VR)?,
-        max_octets: number_of_64_bits(matches, LIMIT)?,
-    })
+    matches.get_one(name).unwrap_or(0)
 }
 
-fn number_of_8_bits(matches: &ArgMatches<'_>, name: &str) -> Option<u8>
-    ensures { result ≡ number_in 8 name.now (rows_of (found_of matches.now)) }
+fn number_of_16_bits(matches: &ArgMatches<'_>, name: &str) -> u16
+    ensures { result ≡ number_in 65535 name.now (rows_of (found_of matches.now)) }
 {
-    matches.get_one(name)
+    matches.get_one(name).unwrap_or(0)
 }
 
-fn number_of_16_bits(matches: &ArgMatches<'_>, name: &str) -> Option<u16>
-    ensures { result ≡ number_in 16 name.now (rows_of (found_of matches.now)) }
+fn number_of_64_bits(matches: &ArgMatches<'_>, name: &str) -> u64
+    ensures { result ≡ number_in 18446744073709551615 name.now (rows_of (found_of matches.now)) }
 {
-    matches.get_one(name)
-}
-
-fn number_of_64_bits(matches: &ArgMatches<'_>, name: &str) -> Option<u64>
-    ensures { result ≡ number_in 64 name.now (rows_of (found_of matches.now)) }
-{
-    matches.get_one(name)
+    matches.get_one(name).unwrap_or(0)
 }
 
 // Whether an option that takes no value is there.
@@ -381,42 +371,4 @@ fn is_set(matches: &ArgMatches<'_>, name: &str) -> bool
     ensures { result ≡ is_set name.now (rows_of (found_of matches.now)) }
 {
     matches.get_one(name).unwrap_or(false)
-}
-
-impl Asked {
-    /// The managed parameters of the link, or the first of them that is refused.
-    pub(crate) fn managed(&self) -> Result<Managed, RefusedParameter>
-        ensures { result ≡ managed_asked self.now }
-    {
-        let managed = match self.request.options.managed() {
-            Ok(managed) => managed,
-            Err(fault) => return Err(RefusedParameter::Managed(fault)),
-        };
-        let plain = match self.plain {
-            Some(plain) => plain,
-            None => return Err(RefusedParameter::Plain),
-        };
-        match self.starts {
-            Some(starts) => Ok(managed.with_plain(plain).with_starts(starts)),
-            None => Err(RefusedParameter::Start),
-        }
-    }
-}
-
-impl Options {
-    // The managed parameters, or the first of them that is refused, as if the options named no virtual channel.
-    fn managed(&self) -> Result<Managed, ManagedFault>
-        ensures { result ≡ managed_of (parameters_asked self.now) }
-    {
-        Managed::new(
-            self.spacecraft,
-            self.tm_length,
-            self.tm_fecf,
-            self.tc_length,
-            self.tc_fecf,
-            self.window,
-            self.vr,
-            self.max_octets,
-        )
-    }
 }

@@ -3,10 +3,10 @@ use Rattle.sl_link.proofs.lemmas.Program.Run.{with_answer}
 use Rattle.sl_link.proofs.program.run.Goals as goal
 
 pub returns-in-Err-clause-succeeded : goal.returns-in-Err-clause-succeeded
-returns-in-Err-clause-succeeded g c = λ is. inl (refl, with_answer _ _ _ c.in-Err.ensures.refused (c.report_refusal.ensures.answered is))
+returns-in-Err-clause-succeeded g c = λ is. inl (refl, with_answer c.in-Err.ensures.refused (c.report_refusal.ensures.answered is))
 
 pub returns-in-Err-clause-stopped : goal.returns-in-Err-clause-stopped
 returns-in-Err-clause-stopped g c = λ is. elim (c.report_refusal.ensures.stopped is) [
   | inl lacks ↦ inl (refl, inl lacks.0)
-  | inr text ↦ inl (refl, inr (with_answer _ _ _ c.in-Err.ensures.refused text))
+  | inr text ↦ inl (refl, inr (with_answer c.in-Err.ensures.refused text))
 ]

@@ -1,7 +1,7 @@
 use Rattle.sl_link.proofs.program.run_engine.Goals as goal
 
-pub returns-in-CheckTm-clause-written : goal.returns-in-CheckTm-clause-written
-returns-in-CheckTm-clause-written g c = rw (c.in-CheckTm.is) c.check_tm.ensures.totals
+pub returns-in-Check-Tm-clause-written : goal.returns-in-Check-Tm-clause-written
+returns-in-Check-Tm-clause-written g c = rw (c.in-Check-Tm.is-0, c.in-Check-Tm.is-1) c.check_tm.ensures.totals
 
-pub returns-in-CheckTc-clause-written : goal.returns-in-CheckTc-clause-written
-returns-in-CheckTc-clause-written g c = rw (c.in-CheckTc.is) c.check_tc.ensures.totals
+pub returns-in-Check-Tc-clause-written : goal.returns-in-Check-Tc-clause-written
+returns-in-Check-Tc-clause-written g c = rw (c.in-Check-Tc.is-0, c.in-Check-Tc.is-1) c.check_tc.ensures.totals

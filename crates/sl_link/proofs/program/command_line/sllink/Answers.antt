@@ -1,4 +1,4 @@
-use Rattle.std.proofs.Common.{rules, ◌≡◌, ◌∙◌, refl, ap, ap₂, codes, true}
+use Rattle.std.proofs.Common.{rules, ◌≡◌, ◌∙◌, ap, ap₂, codes, true}
 use Rattle.std.specs.Prelude.{[]}
 use Rattle.std.proofs.lemmas.Result.{IfOk-weaker}
 use Rattle.clap.specs.Words.{app_of}
@@ -16,7 +16,8 @@ returns c =
     let two = c.in_ok-subcommand-2.ensures.shape c.in_ok-check.ensures.local ∙ ap₂ with_subcommand one check in
     let three = c.in_ok-subcommand-3.ensures.shape c.in_ok-packets.ensures.local ∙ ap₂ with_subcommand two packets in
     IfOk-weaker c.subcommand-4.result _ _ (λ command h. record {
-      kinds = _;
-      named = refl;
+      list = _;
+      tm = _;
+      tc = _;
       same = h.shape c.in_ok-normalise.ensures.local ∙ ap₂ with_subcommand three normalise;
     }) c.subcommand-4.ensures

@@ -1,15 +1,11 @@
-use Rattle.std.proofs.Common.{codes, sym, Some, None}
-use Rattle.clap.specs.Words.{found_of}
-use Rattle.sl_link.proofs.lemmas.Program.Channels.{none_named, starts_read}
-use Rattle.sl_link.proofs.lemmas.Program.CommandLine.{text_got}
+use Rattle.std.proofs.Common.{◌≡◌, List, IfSome, Some, subst}
+use Rattle.sl_cop.specs.Starts.{AreNamed, Item, starts_over}
+use Rattle.sl_cop.specs.Starts as starts
 use Rattle.sl_link.proofs.program.command_line.starts_of.Goals as goal
 
 pub returns-in-Some : goal.returns-in-Some
 returns-in-Some c =
-    let named = text_got (found_of c.args.matches.now) (codes "vr-of") (Some c.in-Some.text) c.in-Some.ensures in
-    starts_read c.args.vr c.all-all.result _ c.in-Some.text.now c.read.result c.all-all.ensures.value (sym named) c.read.ensures.listed c.read.ensures.every
-
-pub returns-in-None : goal.returns-in-None
-returns-in-None c =
-    let named = text_got (found_of c.args.matches.now) (codes "vr-of") None c.in-None.ensures in
-    none_named c.args.vr _ c.all-all.result named c.all-all.ensures.value
+    let text = c.in-Some.text.now in
+    let named = c.read.result in
+    rw c.in-Some.is (subst (λ own. IfSome named (AreNamed 0 text own) × ((items : List Item) → starts.Lists 0 text items → named ≡ Some (starts_over own items)))
+    c.all-all.ensures.value (c.read.ensures.listed, c.read.ensures.every))

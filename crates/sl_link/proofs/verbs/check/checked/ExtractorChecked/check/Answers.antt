@@ -15,6 +15,7 @@ use Rattle.sl_link.proofs.lemmas.Kind.Tm.{one_processed, wants_memory}
 use Rattle.sl_link.proofs.lemmas.Link.Fault.{memory_alone, never_failed}
 use Rattle.sl_link.proofs.lemmas.Link.Managed.{managed_length}
 use Rattle.sl_link.proofs.lemmas.Verbs.Check.End.{checks_as}
+use Rattle.sl_link.proofs.lemmas.Verbs.Check.FewTm.{four_lines}
 use Rattle.sl_link.proofs.verbs.check.checked.ExtractorChecked.check.Goals as goal
 
 pub returns-in-Err-clause-processed : goal.returns-in-Err-clause-processed
@@ -69,7 +70,7 @@ returns-in-Ok-frame-clause-checks c =
     checks_as (tm_kind p) (tm_amiss_after p) before c.args.frame.now c.args.lines.now c.amiss_lines.new.lines _ (view_amiss offset view step.gap step.dropped step.foreign) (ended_by seen view) false
     (ap (λ n. tm_amiss n seen (as_read p c.args.frame.now)) (sym at) ∙ ap (tm_amiss offset seen) read ∙ told) (ap (ended_in seen) read) (ap is_err read)
     c.amiss_lines.ensures.text refl (c.packets.ensures ∙ c.in-Ok-frame.ensures.packets seen h.processed) (c.idle.ensures ∙ c.in-Ok-frame.ensures.idle seen h.processed)
-    c.amiss_lines.ensures.number (omega (arith, range.0, c.requires.before.2.1, ap (λ (q : Parameters). q.tm_length) c.managed.view_is, c.amiss_lines.ensures.few))
+    c.amiss_lines.ensures.number (omega (arith, range.0, c.requires.before.2.1, ap (λ (q : Parameters). q.tm_length) c.managed.view_is, c.amiss_lines.ensures.number, four_lines offset view step.gap step.dropped step.foreign))
 
 pub returns-in-Err-frame-clause-fault : goal.returns-in-Err-frame-clause-fault
 returns-in-Err-frame-clause-fault c =

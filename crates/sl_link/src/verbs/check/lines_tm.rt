@@ -46,6 +46,7 @@ pub fn amiss_lines(lines: &mut Lines, offset: u64, view: &TmFrame, step: &TmStep
 }
 
 // Adds the line of a gap, if another virtual channel frame count was expected.
+#[inline(always)]
 fn gap_lines(lines: &mut Lines, offset: u64, view: &TmFrame, expected: Option<u8>) -> u64
     requires { HasRoomFor 128 lines.old }
     ensures { AddsAmiss lines.old (gap_amiss offset view.now expected) lines.new result }

@@ -80,10 +80,10 @@ few_lines p frame offset views cut = few_by p frame offset views (as_read p fram
 -- ---- the series that are incomplete
 
 -- the line of a channel, by whether a series is incomplete there, and by its octets
-pub open_is : (offset vc mid octets : ℕ) (opened : Bool) (held : Option (List ℕ)) → opened ≡ is_some held → octets ≡ unwrap_or (option_map length held) 0
+pub open_is : (offset vc mid : ℕ) (held : Option (List ℕ)) {octets : ℕ} {opened : Bool} → opened ≡ is_some held → octets ≡ unwrap_or (option_map length held) 0
     → event_amiss offset vc (Some mid) (codes " open") opened (Some octets) ≡ incomplete_amiss offset vc mid held
-open_is offset vc mid octets opened None is has = rw is refl
-open_is offset vc mid octets opened (Some held) is has = rw (is, has) refl
+open_is offset vc mid None is has = rw is refl
+open_is offset vc mid (Some held) is has = rw (is, has) refl
 
 -- a frame of another channel leaves it
 open_other : (p : Parameters) (offset : ℕ) (views : List TcView) (read : Result TcView TcSkip) (channel : ℕ) → channel_of (reception_of p) read ≢ channel

@@ -45,10 +45,10 @@ one_line offset vc (x ∷ []) few short = rw (append-nil x, lt-ltb 0 (length x) 
 one_line offset vc (x ∷ y ∷ ys) few short = absurd (omega arith)
 
 -- the line of a virtual channel, by the octets that are held
-pub open_is : (p : Parameters) (offset vc octets : ℕ) (frames : List (List ℕ))
+pub open_is : (p : Parameters) (offset vc : ℕ) (frames : List (List ℕ)) {octets : ℕ}
     → octets ≡ length (concat (incomplete_of (channel_of vc (views_of (tm_format p) p.spacecraft frames))))
     → event_amiss offset vc None (codes " open") (nat_lt 0 octets) (Some octets) ≡ tm_open p offset frames vc
-open_is p offset vc octets frames held =
+open_is p offset vc frames held =
     let channel = channel_of vc (views_of (tm_format p) p.spacecraft frames) in
     rw held (one_line offset vc (incomplete_of channel) (one_is_incomplete channel) (incomplete_is_short channel))
 

@@ -8,9 +8,9 @@ use Rattle.sl_link.proofs.verbs.check.checked.ExtractorChecked.open_lines.Goals 
 pub returns-clause-text : goal.returns-clause-text
 returns-clause-text c = λ p frames h.
     rw c.from.ensures at c.event_lines.ensures.text
-    ∙ ap (λ l. c.args.lines.now ++ concat l) (open_is p c.args.offset c.args.channel c.held-octets.result frames (c.held-octets.ensures.value (views_of (tm_format p) p.spacecraft frames) h.processed))
+    ∙ ap (λ l. c.args.lines.now ++ concat l) (open_is p c.args.offset c.args.channel frames (c.held-octets.ensures.value (views_of (tm_format p) p.spacecraft frames) h.processed))
 
 pub returns-clause-number : goal.returns-clause-number
 returns-clause-number c = λ p frames h.
     rw c.from.ensures at c.event_lines.ensures.number
-    ∙ ap length (open_is p c.args.offset c.args.channel c.held-octets.result frames (c.held-octets.ensures.value (views_of (tm_format p) p.spacecraft frames) h.processed))
+    ∙ ap length (open_is p c.args.offset c.args.channel frames (c.held-octets.ensures.value (views_of (tm_format p) p.spacecraft frames) h.processed))

@@ -14,7 +14,7 @@ returns-clause-text c = λ p frames h.
     let r = reception_of p in
     let views = views_of (tc_format p) p.spacecraft frames in
     rw (c.from.ensures, c.from-2.ensures) at c.event_lines.ensures.text
-    ∙ ap (λ l. c.args.lines.now ++ concat l) (open_is c.args.offset vc mid _ _ (incomplete_of (segments_of r vc mid views))
+    ∙ ap (λ l. c.args.lines.now ++ concat l) (open_is c.args.offset vc mid (incomplete_of (segments_of r vc mid views))
     (c.is_open.ensures.value r views h.processed) (c.held-octets.ensures.value r views h.processed))
 
 pub returns-clause-number : goal.returns-clause-number
@@ -24,5 +24,5 @@ returns-clause-number c = λ p frames h.
     let r = reception_of p in
     let views = views_of (tc_format p) p.spacecraft frames in
     rw (c.from.ensures, c.from-2.ensures) at c.event_lines.ensures.number
-    ∙ ap length (open_is c.args.offset vc mid _ _ (incomplete_of (segments_of r vc mid views))
+    ∙ ap length (open_is c.args.offset vc mid (incomplete_of (segments_of r vc mid views))
     (c.is_open.ensures.value r views h.processed) (c.held-octets.ensures.value r views h.processed))

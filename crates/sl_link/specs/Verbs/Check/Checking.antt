@@ -1,5 +1,6 @@
 -- Frames of a kind while they are checked, in terms of the code. Contracts of private functions alone cite these.
-use Rattle.std.specs.Prelude.{◌≡◌, ℕ, ◌+◌, ◌==◌, ◌<◌, ◌≤◌, Bool, not, ◌&&◌, is_some, List, [], ◌++◌, length}
+use Rattle.std.specs.Prelude.{◌≡◌, ℕ, ◌+◌, ◌==◌, ◌<◌, ◌≤◌, Bool, not, ◌&&◌, is_some, List, [], ◌++◌}
+use Rattle.std.specs.Prelude.{length}
 use Rattle.std.specs.List.{concat}
 use Rattle.sl_tcflow.specs.StepReport.{StepReport}
 use Rattle.sl_link.specs.declared.tally.FrameReport.{FrameReport}

@@ -1,6 +1,7 @@
 -- What is amiss in a TC recording, as `check tc` lists it: a line for each, and then the totals.
-use Rattle.std.specs.Prelude.{ℕ, ◌/◌, ◌%◌, Bool, true, false, nat_lt, if◌then◌else◌, List, [], ◌∷◌, ◌++◌}
-use Rattle.std.specs.Prelude.{length, codes, decimal, Option, None, Some, is_some, option_map, Result, Ok, Err}
+use Rattle.std.specs.Prelude.{ℕ, ◌/◌, ◌%◌, Bool, true, false, nat_lt, if◌then◌else◌, length, codes}
+use Rattle.std.specs.Prelude.{List, [], ◌∷◌, ◌++◌, decimal, Option, None, Some, is_some, option_map}
+use Rattle.std.specs.Prelude.{Result, Ok, Err}
 use Rattle.std.specs.List.{concat}
 use Rattle.sl_cop.specs.declared.verdict.Verdict.{Verdict}
 use Rattle.sl_cop.specs.declared.verdict.Verdict.TheVariants.{Accept, Early, Late, Outside, Refused, Command}
@@ -35,14 +36,16 @@ discards Command = false
 -- the line of a frame that FARM-1 discards, which is of type AD
 abbrev pub discarded_amiss : ℕ → ℕ → Verdict → Content → List (List ℕ)
 discarded_amiss offset vc verdict (Ad ns unit) =
-    line_at offset (codes " " ++ verdict_word verdict ++ codes " vc " ++ decimal vc ++ codes " ad " ++ decimal ns) ∷ []
+    line_at offset (codes " " ++ verdict_word verdict ++ codes " vc " ++ decimal vc
+    ++ codes " ad " ++ decimal ns) ∷ []
 discarded_amiss offset vc verdict (Bd unit) = []
 discarded_amiss offset vc verdict Unlock = []
 discarded_amiss offset vc verdict (SetVr vr) = []
 
--- The lines of a frame that is read, in their order, by what FARM-1 and the reassembly made of it, and by the MAP: it is
--- discarded; a segment is out of sequence; how many octets had come of an incomplete series that is dropped; a series is
--- given up, since it is too long; how many octets are left after the last packet of a service data unit.
+-- The lines of a frame that is read, in their order, by FARM-1's verdict, the MAP and what became of
+-- the frame's unit: FARM-1 discards the frame; a segment is out of sequence; an incomplete series is
+-- dropped, by how many octets of it had come; a series is given up, since it is too long; octets are
+-- left after the last packet of a service data unit.
 abbrev pub view_amiss : ℕ → TcView → Verdict → ℕ → Bool → Option ℕ → Bool → ℕ → List (List ℕ)
 view_amiss offset view verdict map_id stray dropped long tail =
     (if discards verdict then discarded_amiss offset view.vc verdict view.content else [])
@@ -54,8 +57,8 @@ view_amiss offset view verdict map_id stray dropped long tail =
 -- the lines of a frame, as it is read, at this offset and after the frames `views`
 abbrev pub tc_amiss : ReceptionParameters → ℕ → List TcView → Result TcView TcSkip → List (List ℕ)
 tc_amiss r offset views (Ok view) =
-    view_amiss offset view (verdict_on r views view) (map_by r view) (stray_by r views view) (dropped_by r views view)
-    (long_by r views view) (tail_by r views view)
+    view_amiss offset view (verdict_on r views view) (map_by r view) (stray_by r views view)
+    (dropped_by r views view) (long_by r views view) (tail_by r views view)
 tc_amiss r offset views (Err reason) = line_at offset (codes " skip " ++ tc_skip_word reason) ∷ []
 
 -- ---- a recording

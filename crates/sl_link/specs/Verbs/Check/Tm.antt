@@ -22,8 +22,8 @@ use Rattle.sl_link.specs.Verbs.Listing.{Listing, counts_of, listing_text}
 abbrev pub gap_amiss : ℕ → TmView → Option ℕ → List (List ℕ)
 gap_amiss offset view None = []
 gap_amiss offset view (Some expected) =
-    line_at offset (codes " gap vc " ++ decimal view.vc ++ codes " expected " ++ decimal expected ++ codes " found "
-    ++ decimal view.vc_count) ∷ []
+    line_at offset (codes " gap vc " ++ decimal view.vc ++ codes " expected " ++ decimal expected
+    ++ codes " found " ++ decimal view.vc_count) ∷ []
 
 -- the frame is opaque
 abbrev pub is_opaque : DataField → Bool
@@ -31,8 +31,9 @@ is_opaque (Packets first octets) = false
 is_opaque Idle = false
 is_opaque Opaque = true
 
--- The lines of a frame that is read, in their order, by what an extractor made of it: a gap; how many octets had come of
--- a packet that is broken off; the frame is opaque; octets of another packet version stand at a packet start.
+-- The lines of a frame that is read, in their order, by what an extractor made of it: a gap; an
+-- incomplete packet is broken off, by how many octets of it had come; the frame is opaque; octets of
+-- another packet version stand at a packet start.
 abbrev pub view_amiss : ℕ → TmView → Option ℕ → ℕ → Bool → List (List ℕ)
 view_amiss offset view gap dropped is_foreign =
     gap_amiss offset view gap

@@ -1,6 +1,6 @@
 -- The lines of what is amiss in TM frames are few: four at most for each frame, and after the last one, for the packets that
 -- are incomplete, no more than frames.
-use Rattle.std.proofs.Common.{◌≡◌, ◌≢◌, ◌==◌, nat_lt, Bool, ℕ, ◌≤◌, List, [], ◌∷◌, ◌++◌, length, map, inl, inr, refl, ◌∙◌, ap, arith, append-nil, length-append, codes, Option, None, Some, Result, Ok, Err}
+use Rattle.std.proofs.Common.{◌≡◌, ◌≢◌, ◌==◌, nat_lt, Bool, ℕ, ◌≤◌, List, [], ◌∷◌, length, map, inl, inr, refl, ◌∙◌, ap, arith, append-nil, length-append, codes, Option, None, Some, Result, Ok, Err}
 use Rattle.std.specs.Prelude.{flat_map}
 use Rattle.std.specs.List.{AllByRecursion, concat}
 use Rattle.std.proofs.lemmas.Bool.{lt-ltb}

@@ -24,15 +24,15 @@ pub struct Place {
 #[inline(always)]
 pub fn event_lines(
     lines: &mut Lines,
-    at: Place,
+    at: &Place,
     event: &[u8],
     holds: bool,
     octets: Option<u32>,
 ) -> u64
     requires room { HasRoomFor 128 lines.old }
     requires event { length event.now ≤ 8 }
-    ensures { AddsAmiss lines.old (event_amiss at.offset at.vc at.map event.now holds octets)
-        lines.new result }
+    ensures { AddsAmiss lines.old (event_amiss at.now.offset at.now.vc at.now.map event.now holds
+        octets) lines.new result }
 {
     if !holds {
         return 0;
@@ -41,10 +41,11 @@ pub fn event_lines(
     1
 }
 
-fn event_line(lines: &mut Lines, at: Place, event: &[u8], octets: Option<u32>)
+fn event_line(lines: &mut Lines, at: &Place, event: &[u8], octets: Option<u32>)
     requires room { HasRoomFor 128 lines.old }
     requires event { length event.now ≤ 8 }
-    ensures text { lines.new ≡ lines.old ++ event_line at.offset at.vc at.map event.now octets }
+    ensures text { lines.new ≡ lines.old ++ event_line at.now.offset at.now.vc at.now.map
+        event.now octets }
     ensures short { length lines.new ≤ length lines.old + 128 }
 {
     lines.push_number(at.offset);

@@ -78,10 +78,10 @@ fn step_lines(lines: &mut Lines, offset: u64, view: &TcFrame, step: &TcStep) -> 
     let dropped = step.dropped();
     let tail = step.tail();
     let discarded = discarded_lines(lines, offset, view, step.verdict());
-    let stray = event_lines(lines, at, b" stray", step.stray(), None);
-    let drops = event_lines(lines, at, b" dropped", dropped.is_some(), dropped);
-    let long = event_lines(lines, at, b" long", step.long(), None);
-    let tails = event_lines(lines, at, b" tail", tail > 0, Some(tail));
+    let stray = event_lines(lines, &at, b" stray", step.stray(), None);
+    let drops = event_lines(lines, &at, b" dropped", dropped.is_some(), dropped);
+    let long = event_lines(lines, &at, b" long", step.long(), None);
+    let tails = event_lines(lines, &at, b" tail", tail > 0, Some(tail));
     discarded + stray + drops + long + tails
 }
 

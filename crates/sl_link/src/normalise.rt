@@ -8,11 +8,11 @@ ghost use Rattle.sl_link.specs.Kind.Tc.{MayWantMemoryTc, tc_counts};
 ghost use Rattle.sl_link.specs.Kind.Tm.{MayWantMemoryTm, tm_counts};
 ghost use Rattle.sl_link.specs.Link.Managed.{tc_format};
 ghost use Rattle.sl_link.specs.Normalise.Form.{StopsForm};
-ghost use Rattle.sl_link.specs.Normalise.Store.{IsRefused, KeepsAll, StopsKeeping, form_text};
+ghost use Rattle.sl_link.specs.Normalise.Store.{IsRefused, KeepsAll, form_text};
 ghost use Rattle.sl_link.specs.Normalise.Tc.{tc_normal_form, tc_packets};
 ghost use Rattle.sl_link.specs.Normalise.Tm.{tm_normal_form, tm_packets};
 ghost use Rattle.sl_link.specs.Tally.{listing_counts};
-ghost use Rattle.sl_link.specs.Io.Streams.{IsRead, KeepsPackets, Stops};
+ghost use Rattle.sl_link.specs.Io.Streams.{IsRead, KeepsPackets, Stops, StopsReadingAll};
 ghost use Rattle.sl_link.specs.Io.Streams.{Translates, TranslatesAndCounts, WritesText};
 ghost use Rattle.sl_link.specs.Verbs.Listing.{WantedMemory};
 ghost use Rattle.sl_link.specs.Pass.{chunk_size};
@@ -237,8 +237,11 @@ pub fn deliver<D: Delivery, F: Framer, R: Read>(
         ≡ (D.kind managed.now).frames_of recording }
     ensures all { IfOk result (λ kept. KeepsAll R.remaining reader.old reader.new
         (D.kind managed.now) managed.now.max_octets kept.0.lists kept.1) }
-    ensures stopped { IfErr result (StopsKeeping R.remaining reader.old reader.new
-        (D.kind managed.now) (D.wants_memory managed.now) managed.now.max_octets chunk_size) }
+    ensures stopped { IfErr result (StopsReadingAll R.remaining reader.old reader.new
+        managed.now.max_octets chunk_size) }
+    ensures memory { IfErr result (λ fault. fault ≡ LinkFault.Memory
+        → WantedMemory R.remaining reader.old reader.new (D.kind managed.now).frames_of
+        (MayWantMemory (D.kind managed.now) (D.wants_memory managed.now))) }
 {
     let mut buffer = [0; CHUNK_SIZE];
     let mut store = Store {

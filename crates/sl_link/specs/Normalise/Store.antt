@@ -1,12 +1,11 @@
 -- The packets of a recording that are kept, and their normal form, whatever kind its frames are.
-use Rattle.std.specs.Prelude.{⊤, ◌≡◌, ℕ, List, Option}
+use Rattle.std.specs.Prelude.{◌≡◌, ℕ, List, Option}
 use Rattle.sl_link.specs.declared.link.counted.Counted.{Counted}
 use Rattle.sl_link.specs.declared.link.fault.LinkFault.{LinkFault}
 use Rattle.sl_link.specs.declared.link.fault.LinkFault.TheVariants.{Memory}
 use Rattle.sl_link.specs.Io.Streams.{ReadsAll}
-use Rattle.sl_link.specs.Kind.Delivery.{AreKept, Kind, MayWantMemory, counted, packets_of}
+use Rattle.sl_link.specs.Kind.Delivery.{AreKept, Kind, counted, packets_of}
 use Rattle.sl_link.specs.Link.Totals.{Counts}
-use Rattle.sl_link.specs.Pass.{StopsPassing}
 use Rattle.sl_link.specs.Tally.{listing_counts}
 
 -- the normal form of a recording's packets
@@ -24,8 +23,3 @@ pub record KeepsAll {R : Type 0} (remaining : R → Option (List ℕ)) (reader r
 -- memory was refused, where it may be wanted
 abbrev pub IsRefused : Type 0 → LinkFault → Type 0
 IsRefused wanted fault = (fault ≡ Memory) × wanted
-
--- octets were read, and then a fault came: of the reader, or memory was refused at the last of the first frames
-abbrev pub StopsKeeping : {R : Type 0} → (R → Option (List ℕ)) → Counted R → Counted R → Kind → (List (List ℕ) → Type 0) → ℕ → ℕ → LinkFault → Type 0
-StopsKeeping remaining reader reader' k wants_memory limit buffer =
-    StopsPassing remaining reader reader' k.frames_of (λ frames. ⊤) (λ frames fault. IsRefused (MayWantMemory k wants_memory frames) fault) limit buffer

@@ -1,9 +1,9 @@
 use Rattle.std.proofs.Common.{◌≤◌, ◌-◌, ◌∙◌, [], ap₂, arith, length, refl, subst}
 use Rattle.std.specs.List.{concat}
-use Rattle.std.proofs.lemmas.Result.{err_from_is_err_and}
 use Rattle.sl_link.specs.Kind.Delivery.{AreKept, counted}
 use Rattle.sl_link.proofs.lemmas.Kind.Delivery.{none_handed, none_kept, handed_totals}
-use Rattle.sl_link.proofs.lemmas.Normalise.Storing.{stops_keeping}
+use Rattle.sl_link.proofs.lemmas.Link.Answers.{passed_up}
+use Rattle.sl_link.proofs.lemmas.Normalise.Storing.{stops_keeping, wanted_keeping}
 use Rattle.sl_link.proofs.normalise.deliver.Goals as goal
 
 pub read_recording-requires-clause-begun : goal.read_recording-requires-clause-begun
@@ -19,11 +19,10 @@ read_recording-requires-clause-begun g c =
     )
 
 pub returns-in_err-octets-clause-stopped : goal.returns-in_err-octets-clause-stopped
-returns-in_err-octets-clause-stopped g c =
-    let p = c.args.managed.now in
-    let out = err_from_is_err_and c.from_residual.result c.from_residual.ensures.1 in
-    rw (out.1, out.2) (stops_keeping g.R.Read.remaining c.args.reader.now c.read_recording.new.reader (g.D.Delivery.kind p) (g.D.Delivery.wants_memory p) _ 65536
-    (g.F.Framer.frames_of p) _ c.requires.frames _ c.in_err-octets.ensures.fault)
+returns-in_err-octets-clause-stopped g c = passed_up _ _ c.from_residual.ensures.1 (stops_keeping c.in_err-octets.ensures.fault)
+
+pub returns-in_err-octets-clause-memory : goal.returns-in_err-octets-clause-memory
+returns-in_err-octets-clause-memory g c = passed_up _ _ c.from_residual.ensures.1 (wanted_keeping c.in_err-octets.ensures.fault c.requires.frames)
 
 pub returns-clause-all : goal.returns-clause-all
 returns-clause-all g c =

@@ -1,5 +1,6 @@
 use Rattle.std.proofs.Common.{[]}
-use Rattle.std.proofs.lemmas.Result.{err_from_is_err_and, MatchResult-weaker, on_ok_weaker}
+use Rattle.std.proofs.lemmas.Result.{MatchResult-weaker, on_ok_weaker}
+use Rattle.sl_link.proofs.lemmas.Link.Answers.{passed_up}
 use Rattle.sl_link.proofs.lemmas.Pass.Handing.{fits_next, taken_next, taken_so_far, taken_all}
 use Rattle.sl_link.proofs.pass.deliver_chunk.Goals as goal
 
@@ -33,8 +34,7 @@ loop-frame-preserved g c = λ start octets given.
 
 pub returns-in_err-frame-clause-fault : goal.returns-in_err-frame-clause-fault
 returns-in_err-frame-clause-fault g c =
-    let out = err_from_is_err_and c.from_residual.result c.from_residual.ensures.1 in
-    rw (out.1, out.2) (λ start octets given.
+    passed_up _ _ c.from_residual.ensures.1 (λ start octets given.
     let h = c.loop-frame.invariant start octets given in
     let w = c.next_frame.follows.holds-at-none c.args.managed.now h.rest h.waiting in
     (c.next_frame.new.chunk.now, taken_next h {framer' = c.next_frame.follows.lender-at-none} (c.in-Some.ensures.frame c.args.managed.now h.rest h.waiting) (rw c.in-Some.is at w) (c.in_err-frame.ensures.fault start h.frames h.done)))

@@ -1,5 +1,5 @@
 use Rattle.std.proofs.Common.{[], ap, arith, length, refl, sym, take, ◌++◌}
-use Rattle.std.proofs.lemmas.Result.{err_from_is_err_and}
+use Rattle.sl_link.proofs.lemmas.Link.Answers.{passed_up}
 use Rattle.sl_link.specs.Link.Managed.{Parameters}
 use Rattle.sl_link.proofs.lemmas.Pass.Reading.{passing_none, more_came, size_next, passing_next, passed_over, stops_reading, stops_in_chunk}
 use Rattle.sl_link.proofs.pass.read_recording.Goals as goal
@@ -12,8 +12,7 @@ loop-taken-init g c =
 pub returns-in_err-taken-clause-fault : goal.returns-in_err-taken-clause-fault
 returns-in_err-taken-clause-fault g c =
     let limit = ap (λ (p : Parameters). p.max_octets) c.managed.view_is in
-    let out = err_from_is_err_and c.from_residual.result c.from_residual.ensures.1 in
-    rw (out.1, out.2) (stops_reading c.loop-taken.invariant g.met.F.Framer.front limit (omega (arith, c.read_some.auto.buffer, c.loop-taken.auto.buffer)) c.in_err-taken.ensures.fault)
+    passed_up _ _ c.from_residual.ensures.1 (stops_reading c.loop-taken.invariant g.met.F.Framer.front limit (omega (arith, c.read_some.auto.buffer, c.loop-taken.auto.buffer)) c.in_err-taken.ensures.fault)
 
 pub returns-then-taken-eq0-clause-all : goal.returns-then-taken-eq0-clause-all
 returns-then-taken-eq0-clause-all g c =
@@ -32,9 +31,8 @@ returns-in_err-deliver_chunk-clause-fault g c =
     let s = c.loop-taken.invariant in
     let chunk = take c.in_ok-taken.taken c.read_some.new.buffer in
     let limit = ap (λ (p : Parameters). p.max_octets) c.managed.view_is in
-    let out = err_from_is_err_and c.from_residual-in_err-deliver_chunk.result c.from_residual-in_err-deliver_chunk.ensures.1 in
     let stop = c.in_err-deliver_chunk.ensures.fault c.args.sink.now (s.octets ++ chunk) (more_came s chunk) in
-    rw (out.1, out.2) (stops_in_chunk s g.met.F.Framer.front limit c.in_ok-taken.ensures.came stop.1)
+    passed_up _ _ c.from_residual-in_err-deliver_chunk.ensures.1 (stops_in_chunk s g.met.F.Framer.front limit c.in_ok-taken.ensures.came stop.1)
 
 pub loop-taken-preserved : goal.loop-taken-preserved
 loop-taken-preserved g c =

@@ -40,7 +40,6 @@ returns-clause-fault g c =
     let lists = c.args.delivered.now.lists in
     let is = form_is p (parameters_of c.managed.inside) (take 8 lists) c.managed.view_is in
     one_err c.write_form.result c.write_form.ensures.fault (λ fault s recording kept.
-    fewer_packets g.W.Write.contents c.args.writer.now c.write_form.new.writer _ _ _ fault
+    fewer_packets (subst (λ t. StopsForm g.W.Write.contents c.args.writer.now c.write_form.new.writer t (HasPackets c.new-form.result.progress.lists) fault) (is ∙ ap (tm_form_of p) (kept_are p recording lists kept)) (s _ c.new-form.ensures.left))
     (λ (some : HasPackets c.new-form.result.progress.lists). some_kept (tm_kind p) (tm_delivered p) ((tm_kind p).frames_of recording) lists kept
-    (λ none. some.1.1 (ap (λ (l : List (List (List ℕ))). slice_index_or l some.0 []) c.new-form.ensures.lists ∙ none some.0 some.1.0)))
-    (subst (λ t. StopsForm g.W.Write.contents c.args.writer.now c.write_form.new.writer t (HasPackets c.new-form.result.progress.lists) fault) (is ∙ ap (tm_form_of p) (kept_are p recording lists kept)) (s _ c.new-form.ensures.left)))
+    (λ none. some.1.1 (ap (λ (l : List (List (List ℕ))). slice_index_or l some.0 []) c.new-form.ensures.lists ∙ none some.0 some.1.0))))

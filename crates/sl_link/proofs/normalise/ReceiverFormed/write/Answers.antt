@@ -54,7 +54,6 @@ returns-clause-fault g c =
     let lists = c.args.delivered.now.lists in
     let is = form_is p q lists c.new-form.result c.new-form.ensures.all c.managed.view_is in
     one_err c.write_form.result c.write_form.ensures.fault (λ fault s recording kept.
-    fewer_packets g.W.Write.contents c.args.writer.now c.write_form.new.writer _ _ _ fault
+    fewer_packets (subst (λ t. StopsForm g.W.Write.contents c.args.writer.now c.write_form.new.writer t (c.new-form.result ≢ []) fault) (is ∙ ap (tc_form_of p) (kept_are p recording lists kept)) (s c.new-form.result refl))
     (λ (some : c.new-form.result ≢ []). some_kept (tc_kind p) (tc_delivered p) ((tc_kind p).frames_of recording) lists kept
-    (λ none. some (c.new-form.ensures.all ∙ none_at_all (tc_format q) q.spacecraft q.starts q.plain lists kept.size (λ channel above below. none channel below))))
-    (subst (λ t. StopsForm g.W.Write.contents c.args.writer.now c.write_form.new.writer t (c.new-form.result ≢ []) fault) (is ∙ ap (tc_form_of p) (kept_are p recording lists kept)) (s c.new-form.result refl)))
+    (λ none. some (c.new-form.ensures.all ∙ none_at_all (tc_format q) q.spacecraft q.starts q.plain lists kept.size (λ channel above below. none channel below)))))

@@ -1,8 +1,8 @@
 use Rattle.std.proofs.Common.{arith, ◌++◌, ◌∷◌, [], sym, subst}
-use Rattle.std.proofs.lemmas.Result.{err_from_is_err_and}
 use Rattle.sl_link.specs.Kind.Delivery.{AreKept, HasHandedOver, MayWantMemory}
 use Rattle.sl_link.specs.Link.Managed.{Parameters}
 use Rattle.sl_link.proofs.lemmas.Kind.Delivery.{fits_more, handed_more, kept_more}
+use Rattle.sl_link.proofs.lemmas.Link.Answers.{passed_up}
 use Rattle.sl_link.proofs.normalise.StoreFrameSink.frame.Goals as goal
 
 pub keep_frame-requires : goal.keep_frame-requires
@@ -35,8 +35,7 @@ add-requires-clause-few g c =
 
 pub returns-in_err-report-clause-fault : goal.returns-in_err-report-clause-fault
 returns-in_err-report-clause-fault g c =
-    let out = err_from_is_err_and c.from_residual.result c.from_residual.ensures.1 in
-    rw (out.1, out.2) (λ start before t.
+    passed_up _ _ c.from_residual.ensures.1 (λ start before t.
     let r = c.in_err-report.ensures.fault before (subst (λ (q : Parameters). g.D.Delivery.has_processed c.args.self.now.delivery q before) (sym t.0) t.1.delivered.processed) in (
       r.0,
       subst (λ (q : Parameters). MayWantMemory (g.D.Delivery.kind q) (g.D.Delivery.wants_memory q) (before ++ c.args.frame.now ∷ [])) t.0 r.1,

@@ -26,7 +26,7 @@ use crate::link::managed::Managed;
 use crate::link::totals::Totals;
 use crate::normalise::form::write_form;
 use crate::pass::{CHUNK_SIZE, FrameSink, Framer, read_recording};
-use crate::tally::{FrameReport, Tally};
+use crate::tally::FrameReport;
 use sl_packet::Delivered;
 use sl_tcflow::{Receiver, TcForm};
 use sl_tcframe::TcFramer;
@@ -247,7 +247,7 @@ pub fn deliver<D: Delivery, F: Framer, R: Read>(
     let mut store = Store {
         managed: *managed,
         delivery: D::begin(alloc, managed),
-        so_far: Tally::new(),
+        so_far: Totals::none(),
         delivered: Delivered::new(alloc),
     };
     let octets = read_recording(managed, framer, &mut store, reader, &mut buffer)?;
@@ -256,7 +256,8 @@ pub fn deliver<D: Delivery, F: Framer, R: Read>(
         delivered,
         ..
     } = store;
-    Ok((delivered, so_far.totals(octets - so_far.octets, 0)))
+    let rest = octets - so_far.octets();
+    Ok((delivered, so_far.with_rest(rest, 0)))
 }
 
 // Keeps the packets that frames deliver.
@@ -264,19 +265,19 @@ pub fn deliver<D: Delivery, F: Framer, R: Read>(
 struct Store<D: Delivery> {
     managed: Managed,
     delivery: D,
-    so_far: Tally,
+    so_far: Totals,
     delivered: Delivered,
 }
 
 impl<D: Delivery> FrameSink for Store<D> {
     ghost use Rattle.std.specs.Prelude.{◌≡◌};
-    ghost use Rattle.sl_link.specs.Kind.Delivery.{AreKept, HasHandedOver, MayWantMemory};
+    ghost use Rattle.sl_link.specs.Kind.Delivery.{AreKept, HasDelivered, MayWantMemory};
     ghost use Rattle.sl_link.specs.Normalise.Store.{IsRefused};
 
     ghost is_frame = { λ store frame. D.is_frame store.managed frame };
 
     ghost took = { λ start now frames. (now.managed ≡ start.managed)
-        × HasHandedOver (D.kind start.managed) (D.has_processed now.delivery start.managed) frames
+        × HasDelivered (D.kind start.managed) (D.has_processed now.delivery start.managed) frames 0
         now.so_far × AreKept (D.kind start.managed) frames now.delivered.lists };
 
     ghost stopped = { λ start now frames fault. IsRefused

@@ -1,14 +1,14 @@
 //! The normal form of a recording.
-ghost use Rattle.std.specs.Prelude.{◌≡◌, ◌≢◌, ◌<◌, ◌++◌, ◌∷◌, [], ℕ, List, IfOk, IfErr, OnOk};
+ghost use Rattle.std.specs.Prelude.{◌≡◌, ◌≢◌, ◌++◌, ◌∷◌, [], ℕ, List, IfOk, IfErr, OnOk};
 ghost use Rattle.sl_packet.specs.Delivered.{AddsPacket};
 ghost use Rattle.sl_tcframe.specs.TcDelimited.{tc_frames_of};
 ghost use Rattle.sl_tmframe.specs.TmDelimited.{tm_frames_of};
-ghost use Rattle.sl_link.specs.Kind.Delivery.{AreKept, Delivers, MayWantMemory, counted, packets_in, packets_of};
+ghost use Rattle.sl_link.specs.Kind.Delivery.{AreKept, Delivers, MayWantMemory, counted, packets_of};
 ghost use Rattle.sl_link.specs.Kind.Tc.{MayWantMemoryTc, tc_counts};
 ghost use Rattle.sl_link.specs.Kind.Tm.{MayWantMemoryTm, tm_counts};
 ghost use Rattle.sl_link.specs.Link.Managed.{tc_format};
 ghost use Rattle.sl_link.specs.Normalise.Form.{StopsForm};
-ghost use Rattle.sl_link.specs.Normalise.Store.{IsRefused, KeepsAll, form_text};
+ghost use Rattle.sl_link.specs.Normalise.Store.{HasSome, IsRefused, KeepsAll, form_text, listed};
 ghost use Rattle.sl_link.specs.Normalise.Tc.{tc_normal_form, tc_packets};
 ghost use Rattle.sl_link.specs.Normalise.Tm.{tm_normal_form, tm_packets};
 ghost use Rattle.sl_link.specs.Tally.{listing_counts};
@@ -129,25 +129,18 @@ trait Formed: Delivery {
         delivered: &Delivered,
         writer: &mut Counted<W>,
     ) -> Result<(), LinkFault>
-        // The clauses hold for any recording whose packets these are.
+        // The packets are those of a recording.
         requires { (recording : List ℕ) × AreKept (Self.kind managed.now)
             ((Self.kind managed.now).frames_of recording) delivered.now.lists }
-        ensures written { OnOk result ((recording : List ℕ)
-            → AreKept (Self.kind managed.now) ((Self.kind managed.now).frames_of recording)
-            delivered.now.lists → WritesText W.contents writer.old writer.new
-            (form_text (Self.kind managed.now) (form_of managed.now) recording)) }
+        ensures written { OnOk result (WritesText W.contents writer.old writer.new
+            (form_of managed.now (listed (Self.kind managed.now) delivered.now.lists))) }
         // The normal form delivers these packets again.
-        ensures delivers { (recording : List ℕ)
-            → AreKept (Self.kind managed.now) ((Self.kind managed.now).frames_of recording)
-            delivered.now.lists → packets_of (Self.kind managed.now)
-            (form_text (Self.kind managed.now) (form_of managed.now) recording)
-            ≡ packets_of (Self.kind managed.now) recording }
-        ensures fault { IfErr result (λ fault. (recording : List ℕ)
-            → AreKept (Self.kind managed.now) ((Self.kind managed.now).frames_of recording)
-            delivered.now.lists → StopsForm W.contents writer.old writer.new
-            (form_text (Self.kind managed.now) (form_of managed.now) recording)
-            (0 < packets_in (Self.kind managed.now) ((Self.kind managed.now).frames_of recording))
-            fault) };
+        ensures delivers { packets_of (Self.kind managed.now)
+            (form_of managed.now (listed (Self.kind managed.now) delivered.now.lists))
+            ≡ listed (Self.kind managed.now) delivered.now.lists }
+        ensures fault { IfErr result (StopsForm W.contents writer.old writer.new
+            (form_of managed.now (listed (Self.kind managed.now) delivered.now.lists))
+            (HasSome (Self.kind managed.now) delivered.now.lists)) };
 }
 
 impl Formed for Extractor {
@@ -256,8 +249,7 @@ pub fn deliver<D: Delivery, F: Framer, R: Read>(
         delivered,
         ..
     } = store;
-    let rest = octets - so_far.octets();
-    Ok((delivered, so_far.with_rest(rest, 0)))
+    Ok((delivered, so_far.totals(octets - so_far.octets(), 0)))
 }
 
 // Keeps the packets that frames deliver.

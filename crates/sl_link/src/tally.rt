@@ -60,7 +60,7 @@ impl Totals {
 
     /// The totals of a recording whose remainder has `rest` octets, where `more` anomalies were met
     /// after the last frame.
-    pub(crate) fn with_rest(&self, rest: u64, more: u64) -> Totals
+    pub(crate) fn totals(&self, rest: u64, more: u64) -> Totals
         requires fits { self.now.octets + rest < 2 ^ 64 }
         requires few { self.now.anomalies + more ≤ self.now.octets + rest }
         ensures { result ≡ counts_with_rest self.now rest more }

@@ -154,7 +154,7 @@ fn check_end<D: Checked, W: Write>(
     let remainders = remainder_lines(lines, so_far.octets(), rest);
     let incomplete = incomplete_lines(delivery, octets, writer, lines)?;
     make_room(writer, lines)?;
-    Ok(so_far.with_rest(rest, remainders + incomplete))
+    Ok(so_far.totals(rest, remainders + incomplete))
 }
 
 // Adds the lines of what is incomplete at the end of a recording, at `offset`, and answers how many these are.

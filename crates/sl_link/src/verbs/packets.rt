@@ -106,7 +106,7 @@ impl<D: Printed> Verb for Packets<D> {
         _writer: &mut Counted<W>,
         _lines: &mut Lines,
     ) -> Result<Totals, LinkFault> {
-        Ok(self.so_far.with_rest(octets - self.so_far.octets(), 0))
+        Ok(self.so_far.totals(octets - self.so_far.octets(), 0))
     }
 }
 

@@ -78,6 +78,6 @@ impl<S: Shown> Verb for Show<S> {
         if rest > 0 {
             remainder_line(lines, self.so_far.octets(), rest);
         }
-        Ok(self.so_far.with_rest(rest, 0))
+        Ok(self.so_far.totals(rest, 0))
     }
 }

@@ -4,7 +4,7 @@ use Rattle.std.proofs.KnownBytes.{Appends-nil}
 use Rattle.sl_link.specs.declared.link.counted.Counted.{Counted}
 use Rattle.sl_link.specs.declared.link.fault.LinkFault.{LinkFault}
 use Rattle.sl_link.specs.declared.link.fault.LinkFault.TheVariants.{Read, TooLong, Memory, Write}
-use Rattle.sl_link.specs.Io.Streams.{IsCaused, IsReadingAllFault, ReadsAll, Stops, StopsReadingAll, Translates, WritesText}
+use Rattle.sl_link.specs.Io.Streams.{IsCaused, IsReadingAllFault, ReadsAll, Stops, StopsReadingAll, Translates, Writes, WritesPrefix, WritesText}
 use Rattle.sl_link.specs.Link.Counted.{stream_of}
 use Rattle.sl_link.specs.Normalise.Form.{StopsForm}
 
@@ -25,9 +25,9 @@ module _ {R W : Type 0} {remaining : R → Option (List ℕ)} {contents : W → 
       caused Memory cause = (cause.0, refl, cause.1)
       caused Write cause = absurd cause
 
-  module _ {octets : List ℕ} (r : ReadsAll remaining reader reader' limit octets) {writer' : Counted W} where
+  module _ {octets written : List ℕ} (r : ReadsAll remaining reader reader' limit octets) {writer' : Counted W} (same : written ≡ text octets) where
     -- or while a normal form is made or written
-    pub stops_at_form : {buffer : ℕ} {packets : Type 0} {fault : LinkFault} → StopsForm contents writer writer' (text octets) packets fault
+    pub stops_at_form : {buffer : ℕ} {packets : Type 0} {fault : LinkFault} → StopsForm contents writer writer' written packets fault
         → Stops remaining contents reader reader' writer writer' text limit buffer fault
     stops_at_form {buffer} {fault} s = elim s [
       | inl refused ↦ subst (λ w. Stops remaining contents reader reader' writer w text limit buffer fault) (sym refused.1)
@@ -35,11 +35,19 @@ module _ {R W : Type 0} {remaining : R → Option (List ℕ)} {contents : W → 
       | inr stopped ↦ record {
           octets = octets;
           read = r.read;
-          written = stopped.front;
+          written = subst (WritesPrefix contents writer writer') same stopped.front;
           cause = subst (IsCaused remaining contents reader reader' writer writer' limit buffer octets) (sym stopped.is_write) (stopped.cause, r.no_fault, r.within);
         }
     ]
 
     -- all of it is written
-    abbrev pub translates : WritesText contents writer writer' (text octets) → Translates remaining contents reader reader' writer writer' text limit
-    translates w = record { octets = octets; within = r.within; read = r.read; to_end = r.to_end; written = w.writes; reader_kept = r.no_fault; writer_kept = w.no_fault }
+    abbrev pub translates : WritesText contents writer writer' written → Translates remaining contents reader reader' writer writer' text limit
+    translates w = record {
+      octets = octets;
+      within = r.within;
+      read = r.read;
+      to_end = r.to_end;
+      written = subst (Writes contents writer writer') same w.writes;
+      reader_kept = r.no_fault;
+      writer_kept = w.no_fault;
+    }

@@ -31,7 +31,8 @@ returns-clause-all g c =
     record {
       octets = s.octets;
       all = record { within = s.within; read = s.read; to_end = s.to_end; no_fault = s.no_fault };
+      delivered = (g.met.D.Delivery.within _ p [] c.begin.ensures).delivered;
       kept = subst (λ fs. AreKept k fs store.delivered.lists) frames s.all.2;
-      counts = rw c.octets.ensures at c.with_rest.ensures ∙ ap₂ (λ (t : Counts) n. counts_with_rest t (n - t.octets) 0) s.all.1.counts s.size
+      counts = rw c.octets.ensures at c.totals.ensures ∙ ap₂ (λ (t : Counts) n. counts_with_rest t (n - t.octets) 0) s.all.1.counts s.size
           ∙ ap (λ fs. counted k fs (length s.octets - length (concat fs))) frames;
     }

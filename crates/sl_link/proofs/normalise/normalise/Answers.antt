@@ -1,4 +1,5 @@
-use Rattle.std.proofs.Common.{inr}
+use Rattle.std.proofs.Common.{◌∙◌, ap, inr}
+use Rattle.sl_link.proofs.lemmas.Kind.Delivery.{all_kept, some_kept}
 use Rattle.sl_link.proofs.lemmas.Link.Answers.{passed_up}
 use Rattle.sl_link.proofs.lemmas.Normalise.Form.{nothing_of_form, wanted_for_form}
 use Rattle.sl_link.proofs.lemmas.Normalise.Storing.{not_writing, wanted_at_end}
@@ -20,29 +21,33 @@ returns-in_err-delivered-clause-memory g c = passed_up _ _ c.from_residual.ensur
 pub returns-in_err-write-clause-fault : goal.returns-in_err-write-clause-fault
 returns-in_err-write-clause-fault g c =
     let d = c.in_ok-delivered.ensures.all in
-    passed_up _ _ c.from_residual-in_err-write.ensures.1 (stops_at_form d.all (c.in_err-write.ensures.fault d.octets d.kept))
+    passed_up _ _ c.from_residual-in_err-write.ensures.1 (stops_at_form d.all (ap (g.D.Formed.form_of c.args.managed.now) (all_kept _ d.delivered _ _ d.kept)) c.in_err-write.ensures.fault)
 
 pub returns-in_err-write-clause-nothing : goal.returns-in_err-write-clause-nothing
-returns-in_err-write-clause-nothing g c =
-    let d = c.in_ok-delivered.ensures.all in
-    passed_up _ _ c.from_residual-in_err-write.ensures.1 (nothing_of_form (c.in_err-write.ensures.fault d.octets d.kept))
+returns-in_err-write-clause-nothing g c = passed_up _ _ c.from_residual-in_err-write.ensures.1 (nothing_of_form c.in_err-write.ensures.fault)
 
 pub returns-in_err-write-clause-memory : goal.returns-in_err-write-clause-memory
 returns-in_err-write-clause-memory g c =
     let d = c.in_ok-delivered.ensures.all in
-    passed_up _ _ c.from_residual-in_err-write.ensures.1 (λ e. wanted_at_end d.octets d.all.read (inr (wanted_for_form (c.in_err-write.ensures.fault d.octets d.kept) e)))
+    passed_up _ _ c.from_residual-in_err-write.ensures.1 (λ e. wanted_at_end d.octets d.all.read (inr (some_kept _ d.delivered _ _ d.kept (wanted_for_form c.in_err-write.ensures.fault e))))
 
 pub returns-clause-normal_form : goal.returns-clause-normal_form
 returns-clause-normal_form g c =
     let d = c.in_ok-delivered.ensures.all in
-    translates d.all (c.in_ok-write.ensures.written d.octets d.kept)
+    translates d.all (ap (g.D.Formed.form_of c.args.managed.now) (all_kept _ d.delivered _ _ d.kept)) c.in_ok-write.ensures.written
 
 pub returns-clause-totals : goal.returns-clause-totals
 returns-clause-totals g c =
     let d = c.in_ok-delivered.ensures.all in
-    record { translated = translates d.all (c.in_ok-write.ensures.written d.octets d.kept); counted = d.counts }
+    record { translated = translates d.all (ap (g.D.Formed.form_of c.args.managed.now) (all_kept _ d.delivered _ _ d.kept)) c.in_ok-write.ensures.written; counted = d.counts }
 
 pub returns-clause-packets : goal.returns-clause-packets
 returns-clause-packets g c =
     let d = c.in_ok-delivered.ensures.all in
-    record { recording = d.octets; read = d.all.read; form = _; written = (c.in_ok-write.ensures.written d.octets d.kept).writes; same = c.write.ensures.delivers d.octets d.kept }
+    record {
+      recording = d.octets;
+      read = d.all.read;
+      form = _;
+      written = c.in_ok-write.ensures.written.writes;
+      same = c.write.ensures.delivers ∙ all_kept _ d.delivered _ _ d.kept;
+    }

@@ -27,5 +27,5 @@ returns-clause-same g c =
       second = e.octets;
       first_read = d.all;
       second_read = e.all;
-      reported = same_kept k c.requires.delivered (k.frames_of d.octets) (k.frames_of e.octets) _ _ d.kept e.kept c.has_same_packets.ensures;
+      reported = same_kept k d.delivered (k.frames_of d.octets) (k.frames_of e.octets) _ _ d.kept e.kept c.has_same_packets.ensures;
     }

@@ -64,7 +64,7 @@ tm_counted = refl
 -- a frame with this first octet, of this virtual channel, with this N(S) and data field; those of type AD, of type BD, and
 -- of control commands
 abbrev pub sent : ℕ → ℕ → ℕ → List ℕ → List ℕ
-sent first vc ns field = first ∷ 0x01 ∷ vc * 4 ∷ 4 + length field ∷ ns ∷ field
+sent first vc ns field = first ∷ 0x01 ∷ (vc * 4) ∷ (4 + length field) ∷ ns ∷ field
 
 abbrev pub ad : ℕ → ℕ → List ℕ → List ℕ
 ad vc ns field = sent 0x00 vc ns field

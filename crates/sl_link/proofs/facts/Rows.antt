@@ -15,7 +15,7 @@ value digit = if nat_lt digit 58 then digit - 48 else digit - 87
 abbrev octets : List ℕ → List ℕ
 octets [] = []
 octets (high ∷ []) = []
-octets (high ∷ low ∷ rest) = value high * 16 + value low ∷ octets rest
+octets (high ∷ low ∷ rest) = (value high * 16 + value low) ∷ octets rest
 
 -- octets in hexadecimal, with a space wherever one helps
 abbrev pub hex : String → List ℕ

@@ -45,7 +45,8 @@ take-encode_lower (suc k) (x ∷ xs) =
 pub block_put : (octets buffer digits : List ℕ) (at from n : ℕ) → from + n ≤ length octets → at + 2 * (from + n) ≤ length buffer
     → digits ≡ encode_lower (take n (drop from octets)) → PutsBlock octets from n at buffer (put_chunk (at + 2 * from) buffer digits)
 block_put octets buffer digits at from n inside room are =
-    let many = omega (arith, ap length are, length-encode_lower (take n (drop from octets)), length-chunk from n octets inside) in
+    let many : at + 2 * (from + n) ≡ at + 2 * from + length digits =
+    omega (arith, ap length are, length-encode_lower (take n (drop from octets)), length-chunk from n octets inside) in
     record {
       text = take_more_put_chunk (at + 2 * from) buffer digits (at + 2 * (from + n)) many room ∙ ap (λ l. take (at + 2 * from) buffer ++ l) are;
       long = length-put_chunk (at + 2 * from) buffer digits;

@@ -97,11 +97,11 @@ module _ (k : Kind) (laws : AreDelivered k) where
         )
 
 -- what a frame brings, by its channel and the packets that end in it
-pub delivers_as : {S : Type 0} (taking : S → ℕ → List ℕ → S → Type 0) (k : Kind) (before : List (List ℕ)) (frame : List ℕ) (old new : S) (report : FrameReport)
-    (channel : ℕ) (ended : List (List ℕ)) (skips : Bool) → k.channel frame ≡ channel → k.ended before frame ≡ ended → k.is_skipped frame ≡ skips → 0 < length frame
+pub delivers_as : {S : Type 0} {taking : S → ℕ → List ℕ → S → Type 0} {k : Kind} {before : List (List ℕ)} {frame : List ℕ} {old new : S} {report : FrameReport}
+    {channel : ℕ} {ended : List (List ℕ)} {skips : Bool} → k.channel frame ≡ channel → k.ended before frame ≡ ended → k.is_skipped frame ≡ skips → 0 < length frame
     → TakesAll taking old channel (without_idle ended) new → report.is_skipped ≡ skips → report.packets ≡ length (without_idle ended) → report.idle ≡ length (only_idle ended)
     → report.anomalies ≡ 0 → Delivers taking k before frame old report new
-delivers_as taking k before frame old new report channel ended skips at ends skipping some accepted skipped packets idle none =
+delivers_as {taking = taking} {k} {before} {frame} {old} {new} {channel = channel} {ended} at ends skipping some accepted skipped packets idle none =
     record {
       accepted = subst (λ c. TakesAll taking old c (without_idle (k.ended before frame)) new) (sym at) (subst (λ e. TakesAll taking old channel (without_idle e) new) (sym ends) accepted);
       brings = record {
@@ -116,11 +116,11 @@ delivers_as taking k before frame old new report channel ended skips at ends ski
     }
 
 -- and where that stops
-pub stops_as : {S : Type 0} (taking : S → ℕ → List ℕ → S → Type 0) (failing : S → ℕ → List ℕ → SinkFault → S → Type 0) (failures : S → ℕ) (k : Kind) (wants_memory : List (List ℕ) → Type 0)
-    (before : List (List ℕ)) (frame : List ℕ) (old new : S) (fault : FlowFault) (channel : ℕ) (ended : List (List ℕ)) → k.channel frame ≡ channel → k.ended before frame ≡ ended
+pub stops_as : {S : Type 0} {taking : S → ℕ → List ℕ → S → Type 0} {failing : S → ℕ → List ℕ → SinkFault → S → Type 0} {failures : S → ℕ} {k : Kind} {wants_memory : List (List ℕ) → Type 0}
+    {before : List (List ℕ)} {frame : List ℕ} {old new : S} {fault : FlowFault} {channel : ℕ} {ended : List (List ℕ)} → k.channel frame ≡ channel → k.ended before frame ≡ ended
     → IsStopped taking failing failures old channel (without_idle ended) fault new → (fault ≡ Memory → wants_memory (before ++ frame ∷ []))
     → StopsDelivering taking failing failures k wants_memory before frame old fault new
-stops_as taking failing failures k wants_memory before frame old new fault channel ended at ends stopped wants =
+stops_as {taking = taking} {failing} {failures} {k} {before = before} {frame} {old} {new} {fault} {channel} {ended} at ends stopped wants =
     record {
       stopped = subst (λ c. IsStopped taking failing failures old c (without_idle (k.ended before frame)) fault new) (sym at)
           (subst (λ e. IsStopped taking failing failures old channel (without_idle e) fault new) (sym ends) stopped);

@@ -33,11 +33,11 @@ module _ {R W : Type 0} {remaining : R → Option (List ℕ)} {contents : W → 
       | inl refused ↦ subst (λ w. Stops remaining contents reader reader' writer w text limit buffer fault) (sym refused.1)
           (stops_at_reading (subst (StopsReadingAll remaining reader reader' limit buffer) (sym refused.0) (record { octets = octets; read = r.read; cause = (r.no_fault, r.within) })))
       | inr stopped ↦ record {
-          octets = octets;
-          read = r.read;
-          written = subst (WritesPrefix contents writer writer') same stopped.front;
-          cause = subst (IsCaused remaining contents reader reader' writer writer' limit buffer octets) (sym stopped.is_write) (stopped.cause, r.no_fault, r.within);
-        }
+        octets = octets;
+        read = r.read;
+        written = subst (WritesPrefix contents writer writer') same stopped.front;
+        cause = subst (IsCaused remaining contents reader reader' writer writer' limit buffer octets) (sym stopped.is_write) (stopped.cause, r.no_fault, r.within);
+      }
     ]
 
     -- all of it is written

@@ -15,12 +15,6 @@ read_recording-requires-clause-begun g c =
     let laws = (g.met.D.Delivery.within _ p [] c.begin.ensures).delivered in
     (refl, rw c.none.ensures (none_delivered k laws c.begin.ensures), none_kept k laws _ c.new.ensures.lists)
 
-pub returns-in_err-octets-clause-stopped : goal.returns-in_err-octets-clause-stopped
-returns-in_err-octets-clause-stopped g c = passed_up _ _ c.from_residual.ensures.1 (stops_keeping c.in_err-octets.ensures.fault)
-
-pub returns-in_err-octets-clause-memory : goal.returns-in_err-octets-clause-memory
-returns-in_err-octets-clause-memory g c = passed_up _ _ c.from_residual.ensures.1 (wanted_keeping c.in_err-octets.ensures.fault c.requires.frames)
-
 pub returns-clause-all : goal.returns-clause-all
 returns-clause-all g c =
     let p = c.args.managed.now in

@@ -6,25 +6,13 @@ use Rattle.sl_link.proofs.lemmas.Normalise.Storing.{not_writing, wanted_at_end}
 use Rattle.sl_link.proofs.lemmas.Normalise.Whole.{stops_at_form, stops_at_reading, translates}
 use Rattle.sl_link.proofs.normalise.normalise.Goals as goal
 
-pub write-requires : goal.write-requires
-write-requires g c = (c.in_ok-delivered.ensures.all.octets, c.in_ok-delivered.ensures.all.kept)
-
 pub returns-in_err-delivered-clause-fault : goal.returns-in_err-delivered-clause-fault
 returns-in_err-delivered-clause-fault g c = passed_up _ _ c.from_residual.ensures.1 (stops_at_reading c.in_err-delivered.ensures.stopped)
-
-pub returns-in_err-delivered-clause-all_read : goal.returns-in_err-delivered-clause-all_read
-returns-in_err-delivered-clause-all_read g c = passed_up _ _ c.from_residual.ensures.1 (λ e. absurd (not_writing c.in_err-delivered.ensures.stopped e))
-
-pub returns-in_err-delivered-clause-memory : goal.returns-in_err-delivered-clause-memory
-returns-in_err-delivered-clause-memory g c = passed_up _ _ c.from_residual.ensures.1 c.in_err-delivered.ensures.memory
 
 pub returns-in_err-write-clause-fault : goal.returns-in_err-write-clause-fault
 returns-in_err-write-clause-fault g c =
     let d = c.in_ok-delivered.ensures.all in
     passed_up _ _ c.from_residual-in_err-write.ensures.1 (stops_at_form d.all (ap (g.D.Formed.form_of c.args.managed.now) (all_kept _ d.delivered _ _ d.kept)) c.in_err-write.ensures.fault)
-
-pub returns-in_err-write-clause-nothing : goal.returns-in_err-write-clause-nothing
-returns-in_err-write-clause-nothing g c = passed_up _ _ c.from_residual-in_err-write.ensures.1 (nothing_of_form c.in_err-write.ensures.fault)
 
 pub returns-in_err-write-clause-memory : goal.returns-in_err-write-clause-memory
 returns-in_err-write-clause-memory g c =

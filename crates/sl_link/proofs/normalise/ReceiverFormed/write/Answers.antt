@@ -12,7 +12,7 @@ use Rattle.sl_link.specs.Normalise.Store.{listed}
 use Rattle.sl_link.proofs.lemmas.Kind.Delivery.{all_kept}
 use Rattle.sl_link.proofs.lemmas.Kind.Tc.{tc_delivered}
 use Rattle.sl_link.proofs.lemmas.Normalise.Form.{fewer_packets}
-use Rattle.sl_link.proofs.lemmas.Normalise.FormTc.{form_delivers, form_is}
+use Rattle.sl_link.proofs.lemmas.Normalise.Forms.{tc_form_delivers, tc_form_is}
 use Rattle.sl_link.proofs.lemmas.Verbs.Lister.{one_err, one_ok}
 use Rattle.sl_link.proofs.normalise.ReceiverFormed.write.Goals as goal
 
@@ -32,7 +32,7 @@ pub returns-clause-written : goal.returns-clause-written
 returns-clause-written g c =
     let p = c.args.managed.now in
     let lists = c.args.delivered.now.lists in
-    let is = form_is p (parameters_of c.managed.inside) lists c.new-form.result c.new-form.ensures.all c.managed.view_is in
+    let is = tc_form_is p (parameters_of c.managed.inside) lists c.new-form.result c.new-form.ensures.all c.managed.view_is in
     rw (← all_listed p lists c.requires.1.size) (one_ok c.write_form.result c.write_form.ensures.written (λ written. subst (WritesText g.W.Write.contents c.args.writer.now c.write_form.new.writer) is (written _ refl)))
 
 pub returns-clause-delivers : goal.returns-clause-delivers
@@ -40,15 +40,15 @@ returns-clause-delivers g c =
     let p = c.args.managed.now in
     let q = parameters_of c.managed.inside in
     let lists = c.args.delivered.now.lists in
-    let is = form_is p q lists c.new-form.result c.new-form.ensures.all c.managed.view_is in
-    rw (← all_listed p lists c.requires.1.size, ← is) (form_delivers p q lists c.new-form.result c.new-form.ensures.delivers c.managed.view_is)
+    let is = tc_form_is p q lists c.new-form.result c.new-form.ensures.all c.managed.view_is in
+    rw (← all_listed p lists c.requires.1.size, ← is) (tc_form_delivers p q lists c.new-form.result c.new-form.ensures.delivers c.managed.view_is)
 
 pub returns-clause-fault : goal.returns-clause-fault
 returns-clause-fault g c =
     let p = c.args.managed.now in
     let q = parameters_of c.managed.inside in
     let lists = c.args.delivered.now.lists in
-    let is = form_is p q lists c.new-form.result c.new-form.ensures.all c.managed.view_is in
+    let is = tc_form_is p q lists c.new-form.result c.new-form.ensures.all c.managed.view_is in
     let size = c.requires.1.size in
     rw (← all_listed p lists size) (one_err c.write_form.result c.write_form.ensures.fault (λ fault s.
     fewer_packets (subst (λ t. StopsForm g.W.Write.contents c.args.writer.now c.write_form.new.writer t (c.new-form.result ≢ []) fault) is (s _ refl))

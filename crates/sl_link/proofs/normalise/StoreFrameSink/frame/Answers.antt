@@ -5,14 +5,6 @@ use Rattle.sl_link.proofs.lemmas.Kind.Delivery.{delivered_more, fits_more, kept_
 use Rattle.sl_link.proofs.lemmas.Link.Answers.{passed_up}
 use Rattle.sl_link.proofs.normalise.StoreFrameSink.frame.Goals as goal
 
-pub keep_frame-requires : goal.keep_frame-requires
-keep_frame-requires g c =
-    let t = c.requires.taken in (
-      c.requires.before,
-      subst (λ (q : Parameters). g.D.Delivery.has_processed c.args.self.now.delivery q c.requires.before) (sym t.0) t.1.processed,
-      subst (λ (q : Parameters). g.D.Delivery.is_frame q c.args.frame.now) (sym t.0) c.requires.whole,
-    )
-
 pub add-requires-clause-within : goal.add-requires-clause-within
 add-requires-clause-within g c =
     let p = c.args.self.now.managed in
@@ -23,22 +15,6 @@ add-requires-clause-within g c =
     let within = g.met.D.Delivery.within in
     fits_more (g.D.Delivery.kind p) (within _ p before had).delivered h (c.in_ok-report.ensures.delivers before had).brings.reported
     (within _ p (before ++ c.args.frame.now ∷ []) (c.in_ok-report.ensures.processed before had))
-
-pub add-requires-clause-few : goal.add-requires-clause-few
-add-requires-clause-few g c =
-    let t = c.requires.taken in
-    let before = c.requires.before in
-    let had = subst (λ (q : Parameters). g.D.Delivery.has_processed c.args.self.now.delivery q before) (sym t.0) t.1.processed in
-    let b = (c.in_ok-report.ensures.delivers before had).brings in
-    omega (arith, b.some, b.no_anomalies)
-
-pub returns-in_err-report-clause-fault : goal.returns-in_err-report-clause-fault
-returns-in_err-report-clause-fault g c =
-    passed_up _ _ c.from_residual.ensures.1 (λ start before t.
-    let r = c.in_err-report.ensures.fault before (subst (λ (q : Parameters). g.D.Delivery.has_processed c.args.self.now.delivery q before) (sym t.0) t.1.processed) in (
-      r.0,
-      subst (λ (q : Parameters). MayWantMemory (g.D.Delivery.kind q) (g.D.Delivery.wants_memory q) (before ++ c.args.frame.now ∷ [])) t.0 r.1,
-    ))
 
 pub returns-clause-taken : goal.returns-clause-taken
 returns-clause-taken g c = λ start before t.

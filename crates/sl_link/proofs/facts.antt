@@ -5,3 +5,4 @@ pub mod CommandLine
 pub mod Listings
 pub mod NormalForms
 pub mod Packets
+pub mod Rows

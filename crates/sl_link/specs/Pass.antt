@@ -3,7 +3,7 @@ pub mod Tc
 pub mod Tm
 use Rattle.std.specs.Prelude.{◌≡◌, ℕ, ◌+◌, ◌^◌, ◌<◌, ◌≤◌, ◌⊎◌, List, [], ◌∷◌, ◌++◌, length, Option, None, Some}
 use Rattle.std.specs.Borrow.{Bor}
-use Rattle.std.specs.List.{concat}
+use Rattle.std.specs.List.{concat, AllByRecursion}
 use Rattle.sl_link.specs.declared.link.counted.Counted.{Counted}
 use Rattle.sl_link.specs.declared.link.fault.LinkFault.{LinkFault}
 use Rattle.sl_link.specs.declared.link.fault.LinkFault.TheVariants.{Read, TooLong, Memory, Write}
@@ -111,25 +111,23 @@ pub record StopsPassing {R : Type 0} (remaining : R → Option (List ℕ)) (read
   pub cause : StopsAtReader reader reader' limit buffer octets fault (taken first)
       ⊎ StopsAtSink reader reader' limit octets (stopped first fault)
 
--- ---- the frames of one chunk, after octets that waited
+-- ---- the frames of one chunk
 
--- these frames were taken, and these octets wait now
-pub record TakesChunk {F S : Type 0} (is_frame : List ℕ → Type 0) (waits : F → List ℕ → Type 0)
-    (frames_of : List ℕ → List (List ℕ)) (took : S → S → List (List ℕ) → Type 0)
-    (framer' : F) (start sink' : S) (before : List (List ℕ)) (octets : List ℕ) : Type 0 where
+-- These frames are at the front of the octets so far, and this is true of them, as that a sink
+-- took them. What came after them waits in the framer, but for `left`, which it hasn't seen.
+pub record HasTaken {F : Type 0} (is_frame : Parameters → List ℕ → Type 0)
+    (waits : F → Parameters → List ℕ → Type 0) (taken : List (List ℕ) → Type 0) (p : Parameters)
+    (framer : F) (octets left : List ℕ) : Type 0 where
   pub frames : List (List ℕ)
   pub rest : List ℕ
-  pub waiting : waits framer' rest
-  pub parts : octets ≡ concat frames ++ rest
-  pub all : (more : List ℕ) → frames_of (octets ++ more) ≡ frames ++ frames_of (rest ++ more)
-  pub none : frames_of rest ≡ []
-  pub taken : took start sink' (before ++ frames)
+  pub waiting : waits framer p rest
+  pub parts : octets ≡ concat frames ++ (rest ++ left)
+  pub whole : AllByRecursion (is_frame p) frames
+  pub done : taken frames
 
--- the sink stopped at one of them
-pub record StopsInChunk {S : Type 0} (frames_of : List ℕ → List (List ℕ))
-    (stopped : S → S → List (List ℕ) → LinkFault → Type 0) (start sink' : S) (before : List (List ℕ)) (octets : List ℕ)
-    (fault : LinkFault) : Type 0 where
-  pub frames : List (List ℕ)
-  pub later : List (List ℕ)
-  pub in_order : frames_of octets ≡ frames ++ later
-  pub at : stopped start sink' (before ++ frames) fault
+-- the framer has seen all octets so far, and these frames are all of theirs
+pub record HasTakenAll {F : Type 0} (is_frame : Parameters → List ℕ → Type 0)
+    (waits : F → Parameters → List ℕ → Type 0) (frames_of : Parameters → List ℕ → List (List ℕ))
+    (taken : List (List ℕ) → Type 0) (p : Parameters) (framer : F) (octets : List ℕ) : Type 0 where
+  pub cut : HasTaken is_frame waits taken p framer octets []
+  pub all : frames_of p octets ≡ cut.frames

@@ -1,7 +1,7 @@
 -- What is counted while frames are listed or delivered.
 use Rattle.std.specs.Prelude.{◌≡◌, ℕ, ◌+◌, ◌-◌, Bool, if◌then◌else◌, List, [], ◌∷◌, length}
 use Rattle.std.specs.List.{concat}
-use Rattle.sl_link.specs.declared.tally.Tally.{Tally}
+use Rattle.sl_link.specs.declared.tally.FrameReport.{FrameReport}
 use Rattle.sl_link.specs.Link.Totals.{Counts}
 
 -- how many frames are skipped
@@ -30,15 +30,22 @@ rest_after frames recording = length recording - length (concat frames)
 abbrev pub listing_counts : (List (List ℕ) → ℕ → Counts) → (List ℕ → List (List ℕ)) → List ℕ → Counts
 listing_counts counts frames_of recording = counts (frames_of recording) (rest_after (frames_of recording) recording)
 
--- these frames were counted; `skipped_of` gives how many frames of a list are skipped
-pub record HasCounted (skipped_of : List (List ℕ) → ℕ) (counted : List (List ℕ)) (t : Tally) : Type 0 where
-  pub octets : t.octets ≡ length (concat counted)
-  pub frames : t.frames ≡ length counted
-  pub skipped : t.skipped ≡ skipped_of counted
+-- ---- while frames are counted, in terms of the code. Contracts of private functions alone cite this section.
 
--- these frames were counted, and no packets or anomalies of them
-pub record HasCountedAlone (skipped_of : List (List ℕ) → ℕ) (frames : List (List ℕ)) (t : Tally) : Type 0 where
-  pub counted : HasCounted skipped_of frames t
-  pub packets : t.packets ≡ 0
-  pub idle : t.idle ≡ 0
-  pub anomalies : t.anomalies ≡ 0
+-- nothing yet
+abbrev pub no_counts : Counts
+no_counts = counts_with 0 0 0 0 0 0 0
+
+-- one frame more
+abbrev pub counts_more : Counts → ℕ → FrameReport → Counts
+counts_more c octets report =
+    counts_with (c.octets + octets) (c.frames + 1) (c.skipped + (if report.is_skipped then 1 else 0)) c.rest
+    (c.packets + report.packets) (c.idle + report.idle) (c.anomalies + report.anomalies)
+
+-- a remainder, and the anomalies after the last frame
+abbrev pub counts_with_rest : Counts → ℕ → ℕ → Counts
+counts_with_rest c rest more = counts_with (c.octets + rest) c.frames c.skipped rest c.packets c.idle (c.anomalies + more)
+
+-- the counts of frames, which brought these packets and anomalies together
+abbrev pub counts_so_far : (List ℕ → Bool) → List (List ℕ) → ℕ → ℕ → ℕ → Counts
+counts_so_far is_skipped frames = counts_with (length (concat frames)) (length frames) (skipped_in is_skipped frames) 0

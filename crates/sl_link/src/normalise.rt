@@ -1,18 +1,18 @@
 //! The normal form of a recording.
-ghost use Rattle.std.specs.Prelude.{◌≡◌, ◌≢◌, ◌<◌, ◌++◌, ◌∷◌, [], ℕ, List, IfOk, IfErr, OnOk};
+ghost use Rattle.std.specs.Prelude.{◌≡◌, ◌≢◌, ◌++◌, ◌∷◌, [], ℕ, List, IfOk, IfErr, OnOk};
 ghost use Rattle.sl_packet.specs.Delivered.{AddsPacket};
 ghost use Rattle.sl_tcframe.specs.TcDelimited.{tc_frames_of};
 ghost use Rattle.sl_tmframe.specs.TmDelimited.{tm_frames_of};
-ghost use Rattle.sl_link.specs.Kind.Delivery.{AreKept, Delivers, MayWantMemory, counted, packets_in, packets_of};
+ghost use Rattle.sl_link.specs.Kind.Delivery.{AreKept, Delivers, MayWantMemory, counted, packets_of};
 ghost use Rattle.sl_link.specs.Kind.Tc.{MayWantMemoryTc, tc_counts};
 ghost use Rattle.sl_link.specs.Kind.Tm.{MayWantMemoryTm, tm_counts};
 ghost use Rattle.sl_link.specs.Link.Managed.{tc_format};
 ghost use Rattle.sl_link.specs.Normalise.Form.{StopsForm};
-ghost use Rattle.sl_link.specs.Normalise.Store.{IsRefused, KeepsAll, StopsKeeping, form_text};
+ghost use Rattle.sl_link.specs.Normalise.Store.{HasSome, IsRefused, KeepsAll, form_text, listed};
 ghost use Rattle.sl_link.specs.Normalise.Tc.{tc_normal_form, tc_packets};
 ghost use Rattle.sl_link.specs.Normalise.Tm.{tm_normal_form, tm_packets};
 ghost use Rattle.sl_link.specs.Tally.{listing_counts};
-ghost use Rattle.sl_link.specs.Io.Streams.{IsRead, KeepsPackets, Stops};
+ghost use Rattle.sl_link.specs.Io.Streams.{IsRead, KeepsPackets, Stops, StopsReadingAll};
 ghost use Rattle.sl_link.specs.Io.Streams.{Translates, TranslatesAndCounts, WritesText};
 ghost use Rattle.sl_link.specs.Verbs.Listing.{WantedMemory};
 ghost use Rattle.sl_link.specs.Pass.{chunk_size};
@@ -26,7 +26,7 @@ use crate::link::managed::Managed;
 use crate::link::totals::Totals;
 use crate::normalise::form::write_form;
 use crate::pass::{CHUNK_SIZE, FrameSink, Framer, read_recording};
-use crate::tally::{FrameReport, Tally};
+use crate::tally::FrameReport;
 use sl_packet::Delivered;
 use sl_tcflow::{Receiver, TcForm};
 use sl_tcframe::TcFramer;
@@ -129,25 +129,18 @@ trait Formed: Delivery {
         delivered: &Delivered,
         writer: &mut Counted<W>,
     ) -> Result<(), LinkFault>
-        // The clauses hold for any recording whose packets these are.
+        // The packets are those of a recording.
         requires { (recording : List ℕ) × AreKept (Self.kind managed.now)
             ((Self.kind managed.now).frames_of recording) delivered.now.lists }
-        ensures written { OnOk result ((recording : List ℕ)
-            → AreKept (Self.kind managed.now) ((Self.kind managed.now).frames_of recording)
-            delivered.now.lists → WritesText W.contents writer.old writer.new
-            (form_text (Self.kind managed.now) (form_of managed.now) recording)) }
+        ensures written { OnOk result (WritesText W.contents writer.old writer.new
+            (form_of managed.now (listed (Self.kind managed.now) delivered.now.lists))) }
         // The normal form delivers these packets again.
-        ensures delivers { (recording : List ℕ)
-            → AreKept (Self.kind managed.now) ((Self.kind managed.now).frames_of recording)
-            delivered.now.lists → packets_of (Self.kind managed.now)
-            (form_text (Self.kind managed.now) (form_of managed.now) recording)
-            ≡ packets_of (Self.kind managed.now) recording }
-        ensures fault { IfErr result (λ fault. (recording : List ℕ)
-            → AreKept (Self.kind managed.now) ((Self.kind managed.now).frames_of recording)
-            delivered.now.lists → StopsForm W.contents writer.old writer.new
-            (form_text (Self.kind managed.now) (form_of managed.now) recording)
-            (0 < packets_in (Self.kind managed.now) ((Self.kind managed.now).frames_of recording))
-            fault) };
+        ensures delivers { packets_of (Self.kind managed.now)
+            (form_of managed.now (listed (Self.kind managed.now) delivered.now.lists))
+            ≡ listed (Self.kind managed.now) delivered.now.lists }
+        ensures fault { IfErr result (StopsForm W.contents writer.old writer.new
+            (form_of managed.now (listed (Self.kind managed.now) delivered.now.lists))
+            (HasSome (Self.kind managed.now) delivered.now.lists)) };
 }
 
 impl Formed for Extractor {
@@ -237,14 +230,17 @@ pub fn deliver<D: Delivery, F: Framer, R: Read>(
         ≡ (D.kind managed.now).frames_of recording }
     ensures all { IfOk result (λ kept. KeepsAll R.remaining reader.old reader.new
         (D.kind managed.now) managed.now.max_octets kept.0.lists kept.1) }
-    ensures stopped { IfErr result (StopsKeeping R.remaining reader.old reader.new
-        (D.kind managed.now) (D.wants_memory managed.now) managed.now.max_octets chunk_size) }
+    ensures stopped { IfErr result (StopsReadingAll R.remaining reader.old reader.new
+        managed.now.max_octets chunk_size) }
+    ensures memory { IfErr result (λ fault. fault ≡ LinkFault.Memory
+        → WantedMemory R.remaining reader.old reader.new (D.kind managed.now).frames_of
+        (MayWantMemory (D.kind managed.now) (D.wants_memory managed.now))) }
 {
     let mut buffer = [0; CHUNK_SIZE];
     let mut store = Store {
         managed: *managed,
         delivery: D::begin(alloc, managed),
-        so_far: Tally::new(),
+        so_far: Totals::none(),
         delivered: Delivered::new(alloc),
     };
     let octets = read_recording(managed, framer, &mut store, reader, &mut buffer)?;
@@ -253,7 +249,7 @@ pub fn deliver<D: Delivery, F: Framer, R: Read>(
         delivered,
         ..
     } = store;
-    Ok((delivered, so_far.totals(octets - so_far.octets, 0)))
+    Ok((delivered, so_far.totals(octets - so_far.octets(), 0)))
 }
 
 // Keeps the packets that frames deliver.
@@ -261,19 +257,19 @@ pub fn deliver<D: Delivery, F: Framer, R: Read>(
 struct Store<D: Delivery> {
     managed: Managed,
     delivery: D,
-    so_far: Tally,
+    so_far: Totals,
     delivered: Delivered,
 }
 
 impl<D: Delivery> FrameSink for Store<D> {
     ghost use Rattle.std.specs.Prelude.{◌≡◌};
-    ghost use Rattle.sl_link.specs.Kind.Delivery.{AreKept, HasHandedOver, MayWantMemory};
+    ghost use Rattle.sl_link.specs.Kind.Delivery.{AreKept, HasDelivered, MayWantMemory};
     ghost use Rattle.sl_link.specs.Normalise.Store.{IsRefused};
 
     ghost is_frame = { λ store frame. D.is_frame store.managed frame };
 
     ghost took = { λ start now frames. (now.managed ≡ start.managed)
-        × HasHandedOver (D.kind start.managed) (D.has_processed now.delivery start.managed) frames
+        × HasDelivered (D.kind start.managed) (D.has_processed now.delivery start.managed) frames 0
         now.so_far × AreKept (D.kind start.managed) frames now.delivered.lists };
 
     ghost stopped = { λ start now frames fault. IsRefused

@@ -1,7 +1,6 @@
 //! A recording that is read once, chunk by chunk, and handed over frame by frame.
-ghost use Rattle.std.specs.Prelude.{◌+◌, ◌^◌, ◌<◌, ◌++◌, [], ℕ, List, length, IfOk, IfErr, OnOk};
-ghost use Rattle.std.specs.List.{concat};
-ghost use Rattle.sl_link.specs.Pass.{PassesOver, StopsPassing, TakesChunk, StopsInChunk};
+ghost use Rattle.std.specs.Prelude.{◌^◌, ◌<◌, [], ℕ, List, length, IfOk, IfErr, OnOk};
+ghost use Rattle.sl_link.specs.Pass.{HasTaken, HasTakenAll, PassesOver, StopsPassing};
 
 mod frame_sink;
 mod framer;
@@ -47,34 +46,33 @@ pub fn read_recording<F: Framer, S: FrameSink, R: Read>(
         }
         octets += taken as u64;
         deliver_chunk(managed, framer, sink, &buffer[..taken])?;
-        sink.pause()?;
     }
 }
 
-// Hands over the frames that a chunk completes. The clauses speak of any past: a sink `start` that
-// has taken the frames `before`, and octets `rest` that wait in the framer.
+// Hands over the frames that a chunk completes, and then pauses. The clauses speak of any past: of a
+// sink `start`, and of all octets so far, which end with the chunk.
 fn deliver_chunk<F: Framer, S: FrameSink>(
     managed: &Managed,
     framer: &mut F,
     sink: &mut S,
     chunk: &[u8],
 ) -> Result<(), LinkFault>
-    requires ready { (start : S) × (before : List (List ℕ)) × (rest : List ℕ)
-        × F.waits framer.old managed.now rest × S.took start sink.old before
+    requires ready { (start : S) × (octets : List ℕ) × HasTaken F.is_frame F.waits
+        (S.took start sink.old) managed.now framer.old octets chunk.now
         × ((frame : List ℕ) → F.is_frame managed.now frame → S.is_frame start frame)
-        × (length (concat before ++ rest) + length chunk.now < 2 ^ 64) }
-    ensures taken { OnOk result ((start : S) (before : List (List ℕ)) (rest : List ℕ)
-        → F.waits framer.old managed.now rest → S.took start sink.old before
-        → TakesChunk (F.is_frame managed.now) (λ f. F.waits f managed.now) (F.frames_of managed.now)
-        S.took framer.new start sink.new before (rest ++ chunk.now)) }
-    ensures fault { IfErr result (λ fault. (start : S) (before : List (List ℕ)) (rest : List ℕ)
-        → F.waits framer.old managed.now rest → S.took start sink.old before
-        → StopsInChunk (F.frames_of managed.now) S.stopped start sink.new before
-        (rest ++ chunk.now) fault) }
+        × (length octets < 2 ^ 64) }
+    ensures taken { OnOk result ((start : S) (octets : List ℕ) → HasTaken F.is_frame F.waits
+        (S.took start sink.old) managed.now framer.old octets chunk.now
+        → HasTakenAll F.is_frame F.waits F.frames_of (S.took start sink.new) managed.now framer.new
+        octets) }
+    ensures fault { IfErr result (λ fault. (start : S) (octets : List ℕ) → HasTaken F.is_frame
+        F.waits (S.took start sink.old) managed.now framer.old octets chunk.now
+        → (left : List ℕ) × HasTaken F.is_frame F.waits
+        (λ frames. S.stopped start sink.new frames fault) managed.now framer.new octets left) }
 {
     let mut left = chunk;
     while let Some(frame) = framer.next_frame(&mut left) {
         sink.frame(frame)?;
     }
-    Ok(())
+    sink.pause()
 }

@@ -2,7 +2,7 @@
 ghost use Rattle.std.specs.Prelude.{◌≡◌, ◌⊎◌, [], ℕ, List, IfOk, IfErr};
 ghost use Rattle.sl_tcframe.specs.TcDelimited.{tc_frames_of};
 ghost use Rattle.sl_tmframe.specs.TmDelimited.{tm_frames_of};
-ghost use Rattle.sl_link.specs.Kind.Delivery.{AreDelivered, MayWantMemory, packets_of};
+ghost use Rattle.sl_link.specs.Kind.Delivery.{MayWantMemory, packets_of};
 ghost use Rattle.sl_link.specs.Kind.Tc.{MayWantMemoryTc};
 ghost use Rattle.sl_link.specs.Kind.Tm.{MayWantMemoryTm};
 ghost use Rattle.sl_link.specs.Link.Managed.{tc_format};
@@ -97,7 +97,6 @@ fn same_packets<D: Delivery, F: Framer + Drop, A: Read, B: Read>(
     one: &mut Counted<A>,
     other: &mut Counted<B>,
 ) -> Result<bool, LinkFault>
-    requires delivered { AreDelivered (D.kind managed.now) }
     requires none { F.waits framers.0 managed.now [] × F.waits framers.1 managed.now [] }
     requires same { (frame : List ℕ) → F.is_frame managed.now frame → D.is_frame managed.now frame }
     requires frames { (recording : List ℕ) → F.frames_of managed.now recording

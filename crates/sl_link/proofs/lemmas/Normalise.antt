@@ -1,6 +1,5 @@
 pub mod Form
-pub mod FormTc
-pub mod FormTm
+pub mod Forms
 pub mod Separation
 pub mod Storing
 pub mod Whole

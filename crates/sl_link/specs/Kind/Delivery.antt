@@ -11,9 +11,8 @@ use Rattle.sl_packet.specs.Packets.{only_idle, without_idle}
 use Rattle.sl_packet.specs.Sink.{TakesAll}
 use Rattle.sl_packet.specs.Stopping.{IsStopped}
 use Rattle.sl_link.specs.declared.tally.FrameReport.{FrameReport}
-use Rattle.sl_link.specs.declared.tally.Tally.{Tally}
 use Rattle.sl_link.specs.Link.Totals.{Counts}
-use Rattle.sl_link.specs.Tally.{HasCounted, counts_with, skipped_in}
+use Rattle.sl_link.specs.Tally.{counts_so_far, counts_with, skipped_in}
 
 -- A kind of frames, under managed parameters.
 pub record Kind : Type 0 where
@@ -112,17 +111,12 @@ pub record StopsDelivering {S : Type 0} (taking : S → ℕ → List ℕ → S �
   pub stopped : IsStopped taking failing failures old (k.channel frame) (without_idle (k.ended before frame)) fault new
   pub wanted : fault ≡ Memory → wants_memory (before ++ frame ∷ [])
 
--- these frames were processed, as `had` says, and counted
-pub record HasDelivered (k : Kind) (had : List (List ℕ) → Type 0) (frames : List (List ℕ)) (t : Tally) : Type 0 where
+-- These frames were processed, as `had` says, and these are their counts, with this number of anomalies. Each frame has
+-- more octets than anomalies.
+pub record HasDelivered (k : Kind) (had : List (List ℕ) → Type 0) (frames : List (List ℕ)) (anomalies : ℕ) (t : Counts) : Type 0 where
   pub processed : had frames
-  pub counted : HasCounted (skipped_in k.is_skipped) frames t
-  pub packets : t.packets ≡ packets_in k frames
-  pub idle : t.idle ≡ idle_in k frames
-
--- these frames were processed and counted, and no anomalies were looked for
-pub record HasHandedOver (k : Kind) (had : List (List ℕ) → Type 0) (frames : List (List ℕ)) (t : Tally) : Type 0 where
-  pub delivered : HasDelivered k had frames t
-  pub no_anomalies : t.anomalies ≡ 0
+  pub counts : t ≡ counts_so_far k.is_skipped frames (packets_in k frames) (idle_in k frames) anomalies
+  pub few : anomalies + length frames ≤ length (concat frames)
 
 -- ---- packets that are kept
 

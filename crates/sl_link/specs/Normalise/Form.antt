@@ -1,9 +1,9 @@
 -- A normal form that is made and written piece by piece, whatever kind its frames are. `left`
 -- relates a form to the octets that are still to come.
-use Rattle.std.specs.Prelude.{◌≡◌, ℕ, ◌<◌, List, [], ◌++◌, Option}
+use Rattle.std.specs.Prelude.{◌≡◌, ◌⊎◌, ℕ, ◌<◌, List, [], ◌++◌, Option}
 use Rattle.sl_link.specs.declared.link.counted.Counted.{Counted}
 use Rattle.sl_link.specs.declared.link.fault.LinkFault.{LinkFault}
-use Rattle.sl_link.specs.declared.link.fault.LinkFault.TheVariants.{Read, TooLong, Memory, Write}
+use Rattle.sl_link.specs.declared.link.fault.LinkFault.TheVariants.{Memory}
 use Rattle.sl_link.specs.Io.Streams.{StopsWriting}
 
 module _ {F : Type 0} (left : F → List ℕ → Type 0) where
@@ -25,14 +25,12 @@ module _ {F : Type 0} (left : F → List ℕ → Type 0) where
   abbrev pub IsFewer : (F → ℕ) → F → F → Type 0
   IsFewer most old new = (octets : List ℕ) → left old octets → most new < most old
 
--- a fault of writing a normal form, or of making it, has its cause: where memory was refused there
--- are packets, and nothing was written
+-- A fault of making a normal form, or of writing it. Where memory was refused there are packets, and
+-- nothing was written.
 abbrev pub StopsForm : {W : Type 0} → (W → Option (List ℕ)) → Counted W → Counted W → List ℕ → Type 0 → LinkFault
     → Type 0
-StopsForm contents old new text packets Read = ⊥
-StopsForm contents old new text packets TooLong = ⊥
-StopsForm contents old new text packets Memory = (new ≡ old) × packets
-StopsForm contents old new text packets Write = StopsWriting contents old new text Write
+StopsForm contents old new text packets fault =
+    ((fault ≡ Memory) × (new ≡ old) × packets) ⊎ StopsWriting contents old new text fault
 
 -- ---- room
 

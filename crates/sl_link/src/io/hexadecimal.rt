@@ -1,6 +1,7 @@
 //! Octets in hexadecimal, as the crate `hex` writes them.
-ghost use Rattle.std.specs.Prelude.{◌≡◌, ◌+◌, ◌*◌, ◌≤◌, ◌++◌, drop, length, take};
+ghost use Rattle.std.specs.Prelude.{◌≡◌, ◌+◌, ◌*◌, ◌≤◌, ◌++◌, length, take};
 ghost use Rattle.hex.specs.Hex.{encode_lower, lower_digits};
+ghost use Rattle.sl_link.specs.Io.Digits.{PutsBlock};
 
 use std::simd::prelude::*;
 
@@ -55,9 +56,7 @@ impl Hexadecimals {
     fn put_eight(&self, octets: &[u8], from: usize, buffer: &mut [u8], at: usize)
         requires inside { from + 8 ≤ length octets.now }
         requires room { at + 2 * (from + 8) ≤ length buffer.old }
-        ensures text { take (at + 2 * (from + 8)) buffer.new
-            ≡ take (at + 2 * from) buffer.old ++ encode_lower (take 8 (drop from octets.now)) }
-        ensures long { length buffer.new ≡ length buffer.old }
+        ensures { PutsBlock octets.now from 8 at buffer.old buffer.new }
     {
         self.of_eight(u8x8::from_slice(&octets[from..]))
             .copy_to_slice(&mut buffer[at + 2 * from..]);
@@ -68,9 +67,7 @@ impl Hexadecimals {
     fn put_four(&self, octets: &[u8], from: usize, buffer: &mut [u8], at: usize)
         requires inside { from + 4 ≤ length octets.now }
         requires room { at + 2 * (from + 4) ≤ length buffer.old }
-        ensures text { take (at + 2 * (from + 4)) buffer.new
-            ≡ take (at + 2 * from) buffer.old ++ encode_lower (take 4 (drop from octets.now)) }
-        ensures long { length buffer.new ≡ length buffer.old }
+        ensures { PutsBlock octets.now from 4 at buffer.old buffer.new }
     {
         self.of_four(u8x4::from_slice(&octets[from..]))
             .copy_to_slice(&mut buffer[at + 2 * from..]);

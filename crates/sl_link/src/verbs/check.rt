@@ -20,7 +20,7 @@ use crate::link::counted::Counted;
 use crate::link::fault::{LinkFault, of_flow};
 use crate::link::managed::Managed;
 use crate::link::totals::Totals;
-use crate::tally::{FrameReport, Tally};
+use crate::tally::FrameReport;
 use crate::verbs::Verb;
 use crate::verbs::check::checked::Checked;
 use crate::verbs::check::lines::{push_totals, remainder_lines};
@@ -31,7 +31,7 @@ use std::io::Write;
 #[derive(Drop)]
 pub struct Check<D: Checked> {
     delivery: D,
-    so_far: Tally,
+    so_far: Totals,
 }
 
 impl<D: Checked> Check<D> {
@@ -42,7 +42,7 @@ impl<D: Checked> Check<D> {
     {
         Check {
             delivery: D::begin(alloc, managed),
-            so_far: Tally::new(),
+            so_far: Totals::none(),
         }
     }
 }
@@ -67,7 +67,7 @@ impl<D: Checked> Verb for Check<D> {
         writer: &mut Counted<W>,
         lines: &mut Lines,
     ) -> Result<(), LinkFault> {
-        let offset = self.so_far.octets;
+        let offset = self.so_far.octets();
         let report = check_frame(&mut self.delivery, managed, frame, offset, writer, lines)?;
         self.so_far.add(frame.len() as u64, report);
         Ok(())
@@ -126,7 +126,7 @@ fn check_end<D: Checked, W: Write>(
     delivery: &D,
     managed: &Managed,
     octets: u64,
-    so_far: Tally,
+    so_far: Totals,
     writer: &mut Counted<W>,
     lines: &mut Lines,
 ) -> Result<Totals, LinkFault>
@@ -150,8 +150,8 @@ fn check_end<D: Checked, W: Write>(
         ++ concat (end_amiss (D.kind managed.now) (D.open_at managed.now) frames
         (octets - length (concat frames)))) fault) }
 {
-    let rest = octets - so_far.octets;
-    let remainders = remainder_lines(lines, so_far.octets, rest);
+    let rest = octets - so_far.octets();
+    let remainders = remainder_lines(lines, so_far.octets(), rest);
     let incomplete = incomplete_lines(delivery, octets, writer, lines)?;
     make_room(writer, lines)?;
     Ok(so_far.totals(rest, remainders + incomplete))

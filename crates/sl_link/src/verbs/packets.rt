@@ -1,6 +1,6 @@
 //! The packets of a recording as lines.
 ghost use Rattle.std.specs.Prelude.{ℕ, ◌++◌, ◌∷◌, [], List, IfOk, IfErr, OnOk};
-ghost use Rattle.sl_link.specs.Kind.Delivery.{Brings, HasHandedOver};
+ghost use Rattle.sl_link.specs.Kind.Delivery.{Brings, HasDelivered};
 ghost use Rattle.sl_link.specs.Io.Streams.{AddsText};
 ghost use Rattle.sl_link.specs.Verbs.Listing.{StopsListingFrames};
 
@@ -13,7 +13,7 @@ use crate::link::counted::Counted;
 use crate::link::fault::{LinkFault, of_flow};
 use crate::link::managed::Managed;
 use crate::link::totals::Totals;
-use crate::tally::{FrameReport, Tally};
+use crate::tally::FrameReport;
 use crate::verbs::Verb;
 use crate::verbs::packets::printer::{ChannelKind, Printer};
 use sl_tcflow::Receiver;
@@ -58,32 +58,32 @@ impl Printed for Receiver {
 #[derive(Drop)]
 pub struct Packets<D: Printed> {
     delivery: D,
-    so_far: Tally,
+    so_far: Totals,
 }
 
 impl<D: Printed> Packets<D> {
     /// No packets yet.
     pub fn begin(alloc: Global, managed: &Managed) -> Packets<D>
-        ensures { HasHandedOver (D.kind managed.now) (D.has_processed result.delivery managed.now)
-            [] result.so_far }
+        ensures { HasDelivered (D.kind managed.now) (D.has_processed result.delivery managed.now)
+            [] 0 result.so_far }
     {
         Packets {
             delivery: D::begin(alloc, managed),
-            so_far: Tally::new(),
+            so_far: Totals::none(),
         }
     }
 }
 
 impl<D: Printed> Verb for Packets<D> {
-    ghost use Rattle.sl_link.specs.Kind.Delivery.{HasHandedOver};
+    ghost use Rattle.sl_link.specs.Kind.Delivery.{HasDelivered};
     ghost use Rattle.sl_link.specs.Verbs.Packets.Printed.{packets_listing};
 
     ghost is_frame = { D.is_frame };
 
     ghost listing = { λ p. packets_listing (D.kind p) (D.lines p) };
 
-    ghost has_listed = { λ verb p frames. HasHandedOver (D.kind p) (D.has_processed verb.delivery p)
-        frames verb.so_far };
+    ghost has_listed = { λ verb p frames. HasDelivered (D.kind p) (D.has_processed verb.delivery p)
+        frames 0 verb.so_far };
 
     ghost wants_memory = { D.wants_memory };
 
@@ -106,7 +106,7 @@ impl<D: Printed> Verb for Packets<D> {
         _writer: &mut Counted<W>,
         _lines: &mut Lines,
     ) -> Result<Totals, LinkFault> {
-        Ok(self.so_far.totals(octets - self.so_far.octets, 0))
+        Ok(self.so_far.totals(octets - self.so_far.octets(), 0))
     }
 }
 

@@ -12,7 +12,7 @@ use crate::link::counted::Counted;
 use crate::link::fault::LinkFault;
 use crate::link::managed::Managed;
 use crate::link::totals::Totals;
-use crate::tally::{FrameReport, SKIPPED, Tally};
+use crate::tally::{FrameReport, SKIPPED};
 use crate::verbs::Verb;
 use crate::verbs::show::shown::Shown;
 use std::io::Write;
@@ -20,7 +20,7 @@ use std::io::Write;
 /// Lists the frames.
 #[derive(Drop)]
 pub struct Show<S: Shown> {
-    so_far: Tally,
+    so_far: Totals,
     shown: S,
 }
 
@@ -31,7 +31,7 @@ impl<S: Shown> Show<S> {
             result.so_far }
     {
         Show {
-            so_far: Tally::new(),
+            so_far: Totals::none(),
             shown: S::begin(managed),
         }
     }
@@ -57,7 +57,7 @@ impl<S: Shown> Verb for Show<S> {
         lines: &mut Lines,
     ) -> Result<(), LinkFault> {
         make_room(writer, lines)?;
-        let is_skipped = self.shown.show(managed, frame, self.so_far.octets, lines);
+        let is_skipped = self.shown.show(managed, frame, self.so_far.octets(), lines);
         let report = FrameReport {
             is_skipped,
             ..SKIPPED
@@ -74,9 +74,9 @@ impl<S: Shown> Verb for Show<S> {
         lines: &mut Lines,
     ) -> Result<Totals, LinkFault> {
         make_room(writer, lines)?;
-        let rest = octets - self.so_far.octets;
+        let rest = octets - self.so_far.octets();
         if rest > 0 {
-            remainder_line(lines, self.so_far.octets, rest);
+            remainder_line(lines, self.so_far.octets(), rest);
         }
         Ok(self.so_far.totals(rest, 0))
     }

@@ -19,16 +19,8 @@ eight_halves octets =
 
 halves_of_eight : (octets : List ℕ) → length octets ≡ 8 → eight_halves octets ≡ halves octets
 unfolding halves
-halves_of_eight [] long = absurd (omega arith)
-halves_of_eight (a ∷ []) long = absurd (omega arith)
-halves_of_eight (a ∷ b ∷ []) long = absurd (omega arith)
-halves_of_eight (a ∷ b ∷ c ∷ []) long = absurd (omega arith)
-halves_of_eight (a ∷ b ∷ c ∷ d ∷ []) long = absurd (omega arith)
-halves_of_eight (a ∷ b ∷ c ∷ d ∷ e ∷ []) long = absurd (omega arith)
-halves_of_eight (a ∷ b ∷ c ∷ d ∷ e ∷ f ∷ []) long = absurd (omega arith)
-halves_of_eight (a ∷ b ∷ c ∷ d ∷ e ∷ f ∷ g ∷ []) long = absurd (omega arith)
 halves_of_eight (a ∷ b ∷ c ∷ d ∷ e ∷ f ∷ g ∷ h ∷ []) long = refl
-halves_of_eight (a ∷ b ∷ c ∷ d ∷ e ∷ f ∷ g ∷ h ∷ i ∷ octets) long = absurd (omega arith)
+halves_of_eight octets long = absurd (omega arith)
 
 -- a half is below 16, and there are two of each octet
 lower_below : (x : ℕ) → bit_and x 15 < 16
@@ -77,9 +69,5 @@ pub first_of_eight : (octets : List ℕ) → length octets ≡ 4
     let digits : List ℕ = encode_lower (pick_l 0 (octets ++ replicate 4 0) places) in
     pick_l 0 (digits ++ digits) places ≡ encode_lower octets)
 unfolding encode_with
-first_of_eight [] long = absurd (omega arith)
-first_of_eight (a ∷ []) long = absurd (omega arith)
-first_of_eight (a ∷ b ∷ []) long = absurd (omega arith)
-first_of_eight (a ∷ b ∷ c ∷ []) long = absurd (omega arith)
 first_of_eight (a ∷ b ∷ c ∷ d ∷ []) long = refl
-first_of_eight (a ∷ b ∷ c ∷ d ∷ e ∷ octets) long = absurd (omega arith)
+first_of_eight octets long = absurd (omega arith)

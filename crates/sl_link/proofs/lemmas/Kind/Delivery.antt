@@ -1,5 +1,5 @@
 -- Frames of a kind that are processed one after another, whichever kind it is: what they deliver, and how much.
-use Rattle.std.proofs.Common.{◌≡◌, ◌≢◌, ℕ, ◌+◌, ◌-◌, ◌<◌, ◌≤◌, Bool, not, if◌then◌else◌, List, [], ◌∷◌, ◌++◌, length, map, take, inl, inr, refl, sym, ◌∙◌, ap, subst, arith, append_assoc, append-nil, length-append, Result, Ok, Err}
+use Rattle.std.proofs.Common.{◌≡◌, ◌≢◌, ℕ, ◌+◌, ◌<◌, ◌≤◌, Bool, not, List, [], ◌∷◌, ◌++◌, length, map, take, inl, inr, refl, sym, ◌∙◌, ap, subst, arith, append_assoc, append-nil, length-append, Result, Ok, Err}
 use Rattle.std.specs.List.{concat, cons_option, filter, slice_index_or, slice_set}
 use Rattle.std.specs.Result.{result_ok}
 use Rattle.std.proofs.lemmas.Bool.Decides.{eqb_tells, leb_tells}
@@ -16,10 +16,10 @@ use Rattle.sl_packet.specs.Sink.{TakesAll}
 use Rattle.sl_packet.specs.Stopping.{IsStopped}
 use Rattle.sl_packet.proofs.DeliveredLemmas.{length-empty_lists, list_at-empty_lists, list_at-with_packet}
 use Rattle.sl_link.specs.declared.tally.FrameReport.{FrameReport}
-use Rattle.sl_link.specs.declared.tally.Tally.{Tally}
-use Rattle.sl_link.specs.Kind.Delivery.{AreDelivered, AreKept, Brings, Delivers, StopsDelivering, HasDelivered, HasHandedOver, IsReport, IsWithin, Kind, count_of, counted, idle_in, lists_in, packets_in, with_frame, with_packets}
-use Rattle.sl_link.specs.Tally.{counts_with, skipped_in}
-use Rattle.sl_link.proofs.lemmas.Tally.{counted_more, totals_are}
+use Rattle.sl_link.specs.Kind.Delivery.{AreDelivered, AreKept, Brings, Delivers, StopsDelivering, HasDelivered, IsReport, IsWithin, Kind, count_of, idle_in, lists_in, packets_in, with_frame, with_packets}
+use Rattle.sl_link.specs.Link.Totals.{Counts}
+use Rattle.sl_link.specs.Tally.{counts_more, no_counts}
+use Rattle.sl_link.proofs.lemmas.Tally.{counted_more}
 use Rattle.sl_link.proofs.lemmas.Kind.Channels.{items_change, map_range, no_items, none_of, take_lists}
 
 -- ---- frames that are read
@@ -63,41 +63,31 @@ module _ (k : Kind) (laws : AreDelivered k) where
   pub none_within : IsWithin k []
   none_within = record { delivered = laws; within = omega (arith, no_packets, no_idle) }
 
-  pub none_delivered : (processed : List (List ℕ) → Type 0) (t : Tally) → processed [] → t.octets ≡ 0 → t.frames ≡ 0 → t.skipped ≡ 0 → t.packets ≡ 0 → t.idle ≡ 0
-      → HasDelivered k processed [] t
-  none_delivered processed t had octets frames skipped packets idle =
-      record {
-        processed = had;
-        counted = record { octets = octets; frames = frames; skipped = skipped };
-        packets = packets ∙ sym no_packets;
-        idle = idle ∙ sym no_idle;
-      }
+  pub none_delivered : {had : List (List ℕ) → Type 0} → had [] → HasDelivered k had [] 0 no_counts
+  none_delivered had = record { processed = had; counts = rw (no_packets, no_idle) refl; few = omega arith }
 
   -- ---- one frame more
 
-  module _ (processed processed' : List (List ℕ) → Type 0) (before : List (List ℕ)) (frame : List ℕ) (t t' : Tally) (report : FrameReport)
-      (d : HasDelivered k processed before t) (r : IsReport k before frame report) where
-    pub delivered_more : processed' (before ++ frame ∷ []) → t'.octets ≡ t.octets + length frame → t'.frames ≡ t.frames + 1
-        → t'.skipped ≡ t.skipped + (if report.is_skipped then 1 else 0) → t'.packets ≡ t.packets + report.packets → t'.idle ≡ t.idle + report.idle
-        → HasDelivered k processed' (before ++ frame ∷ []) t'
-    delivered_more next octets frames skipped packets idle =
+  module _ {had : List (List ℕ) → Type 0} {before : List (List ℕ)} {frame : List ℕ} {anomalies : ℕ} {t : Counts} {report : FrameReport}
+      (d : HasDelivered k had before anomalies t) (r : IsReport k before frame report) where
+    pub delivered_more : {had' : List (List ℕ) → Type 0} {anomalies' : ℕ} → had' (before ++ frame ∷ []) → anomalies + report.anomalies ≡ anomalies' → report.anomalies < length frame
+        → HasDelivered k had' (before ++ frame ∷ []) anomalies' (counts_more t (length frame) report)
+    delivered_more next more few =
         record {
           processed = next;
-          counted = counted_more k.is_skipped before frame t t' report.is_skipped d.counted octets frames skipped r.skipped;
-          packets = omega (arith, packets, d.packets, r.packets, packets_more before frame);
-          idle = omega (arith, idle, d.idle, r.idle, idle_more before frame);
+          counts = counted_more k.is_skipped before frame report d.counts r.skipped (omega (arith, r.packets, packets_more before frame)) (omega (arith, r.idle, idle_more before frame)) more;
+          few = omega (arith, more, few, d.few, length-append before (frame ∷ []), ap length (concat-push before frame), length-append (concat before) frame);
         }
 
     -- what is counted after it fits
     pub fits_more : IsWithin k (before ++ frame ∷ []) → t.packets + report.packets + (t.idle + report.idle) ≤ t.octets + length frame
     fits_more w =
-        let within = w.within in
         omega (
           arith,
-          within,
-          d.packets,
-          d.idle,
-          d.counted.octets,
+          w.within,
+          ap (λ (c : Counts). c.packets) d.counts,
+          ap (λ (c : Counts). c.idle) d.counts,
+          ap (λ (c : Counts). c.octets) d.counts,
           r.packets,
           r.idle,
           packets_more before frame,
@@ -106,27 +96,12 @@ module _ (k : Kind) (laws : AreDelivered k) where
           length-append (concat before) frame,
         )
 
-module _ (k : Kind) (laws : AreDelivered k) (processed processed' : List (List ℕ) → Type 0) where
-  pub none_handed : (t : Tally) → processed [] → t.octets ≡ 0 → t.frames ≡ 0 → t.skipped ≡ 0 → t.packets ≡ 0 → t.idle ≡ 0 → t.anomalies ≡ 0 → HasHandedOver k processed [] t
-  none_handed t had octets frames skipped packets idle anomalies =
-      record { delivered = none_delivered k laws processed t had octets frames skipped packets idle; no_anomalies = anomalies }
-
-  pub handed_more : (before : List (List ℕ)) (frame : List ℕ) (t t' : Tally) (report : FrameReport) → HasHandedOver k processed before t → Brings k before frame report
-      → processed' (before ++ frame ∷ []) → t'.octets ≡ t.octets + length frame → t'.frames ≡ t.frames + 1 → t'.skipped ≡ t.skipped + (if report.is_skipped then 1 else 0)
-      → t'.packets ≡ t.packets + report.packets → t'.idle ≡ t.idle + report.idle → t'.anomalies ≡ t.anomalies + report.anomalies
-      → HasHandedOver k processed' (before ++ frame ∷ []) t'
-  handed_more before frame t t' report h b next octets frames skipped packets idle anomalies =
-      record {
-        delivered = delivered_more k laws processed processed' before frame t t' report h.delivered b.reported next octets frames skipped packets idle;
-        no_anomalies = omega (arith, anomalies, h.no_anomalies, b.no_anomalies);
-      }
-
 -- what a frame brings, by its channel and the packets that end in it
-pub delivers_as : {S : Type 0} (taking : S → ℕ → List ℕ → S → Type 0) (k : Kind) (before : List (List ℕ)) (frame : List ℕ) (old new : S) (report : FrameReport)
-    (channel : ℕ) (ended : List (List ℕ)) (skips : Bool) → k.channel frame ≡ channel → k.ended before frame ≡ ended → k.is_skipped frame ≡ skips → 0 < length frame
+pub delivers_as : {S : Type 0} {taking : S → ℕ → List ℕ → S → Type 0} {k : Kind} {before : List (List ℕ)} {frame : List ℕ} {old new : S} {report : FrameReport}
+    {channel : ℕ} {ended : List (List ℕ)} {skips : Bool} → k.channel frame ≡ channel → k.ended before frame ≡ ended → k.is_skipped frame ≡ skips → 0 < length frame
     → TakesAll taking old channel (without_idle ended) new → report.is_skipped ≡ skips → report.packets ≡ length (without_idle ended) → report.idle ≡ length (only_idle ended)
     → report.anomalies ≡ 0 → Delivers taking k before frame old report new
-delivers_as taking k before frame old new report channel ended skips at ends skipping some accepted skipped packets idle none =
+delivers_as {taking = taking} {k} {before} {frame} {old} {new} {channel = channel} {ended} at ends skipping some accepted skipped packets idle none =
     record {
       accepted = subst (λ c. TakesAll taking old c (without_idle (k.ended before frame)) new) (sym at) (subst (λ e. TakesAll taking old channel (without_idle e) new) (sym ends) accepted);
       brings = record {
@@ -141,23 +116,16 @@ delivers_as taking k before frame old new report channel ended skips at ends ski
     }
 
 -- and where that stops
-pub stops_as : {S : Type 0} (taking : S → ℕ → List ℕ → S → Type 0) (failing : S → ℕ → List ℕ → SinkFault → S → Type 0) (failures : S → ℕ) (k : Kind) (wants_memory : List (List ℕ) → Type 0)
-    (before : List (List ℕ)) (frame : List ℕ) (old new : S) (fault : FlowFault) (channel : ℕ) (ended : List (List ℕ)) → k.channel frame ≡ channel → k.ended before frame ≡ ended
+pub stops_as : {S : Type 0} {taking : S → ℕ → List ℕ → S → Type 0} {failing : S → ℕ → List ℕ → SinkFault → S → Type 0} {failures : S → ℕ} {k : Kind} {wants_memory : List (List ℕ) → Type 0}
+    {before : List (List ℕ)} {frame : List ℕ} {old new : S} {fault : FlowFault} {channel : ℕ} {ended : List (List ℕ)} → k.channel frame ≡ channel → k.ended before frame ≡ ended
     → IsStopped taking failing failures old channel (without_idle ended) fault new → (fault ≡ Memory → wants_memory (before ++ frame ∷ []))
     → StopsDelivering taking failing failures k wants_memory before frame old fault new
-stops_as taking failing failures k wants_memory before frame old new fault channel ended at ends stopped wants =
+stops_as {taking = taking} {failing} {failures} {k} {before = before} {frame} {old} {new} {fault} {channel} {ended} at ends stopped wants =
     record {
       stopped = subst (λ c. IsStopped taking failing failures old c (without_idle (k.ended before frame)) fault new) (sym at)
           (subst (λ e. IsStopped taking failing failures old channel (without_idle e) fault new) (sym ends) stopped);
       wanted = wants;
     }
-
--- the totals of frames that were processed, and of a remainder
-pub handed_totals : (k : Kind) (processed : List (List ℕ) → Type 0) (frames : List (List ℕ)) (t : Tally) → HasHandedOver k processed frames t → (octets : ℕ) → length (concat frames) ≤ octets
-    → counts_with (t.octets + (octets - t.octets)) t.frames t.skipped (octets - t.octets) t.packets t.idle (t.anomalies + 0) ≡ counted k frames (octets - length (concat frames))
-handed_totals k processed frames t h octets inside =
-    let d = h.delivered in
-    totals_are (skipped_in k.is_skipped) frames t d.counted octets (packets_in k frames) (idle_in k frames) 0 inside d.packets d.idle (ap (λ n. n + 0) h.no_anomalies)
 
 -- ---- packets that are kept
 

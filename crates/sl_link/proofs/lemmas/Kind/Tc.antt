@@ -141,9 +141,9 @@ none_processed p state processed =
 pub some_octets : (p : Parameters) (frame : List ℕ) → is_cut (tc_format p) frame ≡ true → 0 < length frame
 some_octets p frame cut = let least = (cut_facts (tc_format p) frame cut).0 in omega (arith, least)
 
-pub one_processed : (p : Parameters) (before : List (List ℕ)) (frame : List ℕ) (state state' : ReceiverState) → HasProcessedTc p state before
-    → HasProcessed (reception_of p) state' (with_frame (views_of (tc_format p) p.spacecraft before) (as_read p frame)) → HasProcessedTc p state' (before ++ frame ∷ [])
-one_processed p before frame state state' had processed =
+pub one_processed : {p : Parameters} {before : List (List ℕ)} (frame : List ℕ) {state state' : ReceiverState} {r : Result TcView TcSkip} → HasProcessedTc p state before → as_read p frame ≡ r
+    → HasProcessed (reception_of p) state' (with_frame (views_of (tc_format p) p.spacecraft before) r) → HasProcessedTc p state' (before ++ frame ∷ [])
+one_processed {p} {before} frame {state' = state'} had is processed =
     let seen = views_of (tc_format p) p.spacecraft before in
     let read = as_read p frame in
     let laws = tc_delivered p in
@@ -164,14 +164,14 @@ one_processed p before frame state state' had processed =
       length-append (concat before) frame,
     ) in
     record {
-      processed = subst (HasProcessed (reception_of p) state') (sym next) processed;
+      processed = subst (HasProcessed (reception_of p) state') (sym (next ∙ ap (with_frame seen) is)) processed;
       within = record { delivered = laws; within = omega (arith, held) };
       held = held;
     }
 
 -- a series is incomplete around a frame
-pub wants_memory : (p : Parameters) (before : List (List ℕ)) (frame : List ℕ) (read : Result TcView TcSkip) → as_read p frame ≡ read
+pub wants_memory : {p : Parameters} (before : List (List ℕ)) (frame : List ℕ) {read : Result TcView TcSkip} → as_read p frame ≡ read
     → is_incomplete_around (reception_of p) (views_of (tc_format p) p.spacecraft before) read → WantsMemoryTc p (before ++ frame ∷ [])
-wants_memory p before frame (Ok view) e incomplete =
+wants_memory before frame {read = Ok view} e incomplete =
     record { before = before; frame = frame; in_order = refl; view = view; is_read = e; incomplete = incomplete }
-wants_memory p before frame (Err reason) e incomplete = absurd incomplete
+wants_memory before frame {read = Err reason} e incomplete = absurd incomplete

@@ -18,8 +18,10 @@ use Rattle.sl_tmflow.specs.Recording.{packets_of_channel}
 use Rattle.sl_tmflow.proofs.lemmas.Delivery.Push.{ended_few, packets_of_channel_step}
 use Rattle.sl_link.specs.Kind.Tm.{HasProcessedTm, WantsMemoryTm, as_read, ended_in, is_incomplete_around, tm_kind, vc_of}
 use Rattle.sl_link.specs.Kind.Delivery.{AreDelivered, with_frame}
-use Rattle.sl_link.specs.Link.Managed.{Parameters, tm_format}
+use Rattle.sl_link.specs.Link.Managed.{Parameters, managed_of, tm_format}
+use Rattle.sl_link.specs.Pass.Tm.{is_tm_frame}
 use Rattle.sl_link.proofs.lemmas.Kind.Delivery.{idle_more, none_within, packets_more, views_step}
+use Rattle.sl_link.proofs.lemmas.Link.Managed.{managed_length}
 
 -- ---- a frame, as it is read
 
@@ -100,15 +102,19 @@ tm_delivered p =
 pub none_processed : (p : Parameters) (e : ExtractorState) → HasProcessed e [] → HasProcessedTm p e []
 none_processed p e processed = record { processed = processed; within = none_within (tm_kind p) (tm_delivered p) }
 
-pub one_processed : (p : Parameters) (before : List (List ℕ)) (frame : List ℕ) (e e' : ExtractorState) → 7 ≤ length frame → HasProcessedTm p e before
-    → HasProcessed e' (with_frame (views_of (tm_format p) p.spacecraft before) (as_read p frame)) → HasProcessedTm p e' (before ++ frame ∷ [])
-one_processed p before frame e e' long had processed =
+-- a frame that the framer cuts
+pub some_octets : {p q : Parameters} (frame : List ℕ) → managed_of q ≡ Ok q → q ≡ p → is_tm_frame p frame → 7 ≤ length frame
+some_octets {q = q} frame allowed same whole = let range = managed_length q allowed in omega (arith, range.0, whole.1, ap (λ (r : Parameters). r.tm_length) same)
+
+pub one_processed : {p : Parameters} {before : List (List ℕ)} (frame : List ℕ) {e e' : ExtractorState} {r : Result TmView TmSkip} → 7 ≤ length frame → HasProcessedTm p e before → as_read p frame ≡ r
+    → HasProcessed e' (with_frame (views_of (tm_format p) p.spacecraft before) r) → HasProcessedTm p e' (before ++ frame ∷ [])
+one_processed {p} {before} frame {e' = e'} long had is processed =
     let seen = views_of (tm_format p) p.spacecraft before in
     let w = had.within in
     let within = w.within in
     let few = ended_within (tm_format p) frame seen (skip_reason (tm_format p) p.spacecraft frame) long in
     record {
-      processed = subst (HasProcessed e') (sym (views_next (tm_format p) p.spacecraft before frame)) processed;
+      processed = subst (HasProcessed e') (sym (views_next (tm_format p) p.spacecraft before frame ∙ ap (with_frame seen) is)) processed;
       within = record {
         delivered = tm_delivered p;
         within = omega (
@@ -125,8 +131,8 @@ one_processed p before frame e e' long had processed =
     }
 
 -- a packet is incomplete around a frame
-pub wants_memory : (p : Parameters) (before : List (List ℕ)) (frame : List ℕ) (r : Result TmView TmSkip) → as_read p frame ≡ r
+pub wants_memory : {p : Parameters} (before : List (List ℕ)) (frame : List ℕ) {r : Result TmView TmSkip} → as_read p frame ≡ r
     → is_incomplete_around (views_of (tm_format p) p.spacecraft before) r → WantsMemoryTm p (before ++ frame ∷ [])
-wants_memory p before frame (Ok view) e incomplete =
+wants_memory before frame {r = Ok view} e incomplete =
     record { before = before; frame = frame; in_order = refl; view = view; is_read = e; incomplete = incomplete }
-wants_memory p before frame (Err reason) e incomplete = absurd incomplete
+wants_memory before frame {r = Err reason} e incomplete = absurd incomplete

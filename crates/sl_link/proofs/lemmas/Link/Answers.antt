@@ -1,6 +1,7 @@
 -- What follows from what a call answers.
-use Rattle.std.proofs.Common.{Option, None, Some}
-use Rattle.std.specs.Prelude.{IfNone, IfSome}
+use Rattle.std.proofs.Common.{◌≡◌, Option, None, Some, Result, Ok, Err, subst, sym}
+use Rattle.std.specs.Prelude.{IfErr, IfNone, IfSome}
+use Rattle.std.specs.Result.{IsErrAnd}
 
 -- from what holds where there is no value
 pub none_then : {X P Q : Type 0} (o : Option X) → IfNone o P → (P → Q) → IfNone o Q
@@ -11,3 +12,8 @@ none_then (Some x) p f = tt
 pub both_some : {X : Type 0} {P Q T : X → Type 0} (o : Option X) → IfSome o P → IfSome o Q → ((x : X) → P x → Q x → T x) → IfSome o T
 both_some None p q f = tt
 both_some (Some x) p q f = f x p q
+
+-- a fault that `?` passes up as it is
+pub passed_up : {T E : Type 0} {e : E} (r : Result T E) (P : E → Type 0) → IsErrAnd r (λ y. y ≡ e) → P e → IfErr r P
+passed_up (Ok x) P given p = tt
+passed_up (Err y) P given p = subst P (sym given) p

@@ -1,9 +1,9 @@
 -- A normal form that is written piece by piece.
-use Rattle.std.proofs.Common.{◌≡◌, ◌≢◌, ℕ, List, [], ◌++◌, Option, refl, sym, subst, ◌∙◌, ap, append_assoc, append-nil}
+use Rattle.std.proofs.Common.{◌≡◌, ◌≢◌, ℕ, List, [], ◌++◌, Option, refl, sym, subst, ◌∙◌, ap, append_assoc, append-nil, inl, inr}
 use Rattle.std.proofs.KnownBytes.{Appends-nil}
 use Rattle.sl_link.specs.declared.link.counted.Counted.{Counted}
 use Rattle.sl_link.specs.declared.link.fault.LinkFault.{LinkFault}
-use Rattle.sl_link.specs.declared.link.fault.LinkFault.TheVariants.{Read, TooLong, Memory, Write}
+use Rattle.sl_link.specs.declared.link.fault.LinkFault.TheVariants.{Memory, Write}
 use Rattle.sl_link.specs.Link.Counted.{stream_of}
 use Rattle.sl_link.specs.Io.Streams.{AddsText, StopsWriting, WritesText}
 use Rattle.sl_link.specs.Normalise.Form.{AddsPiece, IsAllMade, KeepsLeft, StopsForm}
@@ -17,99 +17,71 @@ pub record IsWritingForm {F W : Type 0} (left : F → List ℕ → Type 0) (cont
   pub left_is : left form more
   pub adds : AddsText contents old new [] text made
 
-module _ {F W : Type 0} (left : F → List ℕ → Type 0) (contents : W → Option (List ℕ)) where
-  -- a text that waits is longer
-  waits_more : (writer : Counted W) (text text' piece : List ℕ) → text' ≡ text ++ piece → AddsText contents writer writer text text' piece
-  waits_more writer text text' piece e =
-      record {
-        written = [];
-        parts = sym e;
-        writes = Appends-nil (contents (stream_of writer));
-        no_fault = refl;
-      }
+-- a text that waits is longer
+waits_more : {W : Type 0} {contents : W → Option (List ℕ)} {writer : Counted W} {text text' piece : List ℕ} → text' ≡ text ++ piece → AddsText contents writer writer text text' piece
+waits_more {contents} {writer} e = record { written = []; parts = sym e; writes = Appends-nil (contents (stream_of writer)); no_fault = refl }
 
+module _ {F W : Type 0} {left : F → List ℕ → Type 0} {contents : W → Option (List ℕ)} where
   -- after the first piece
-  pub first_piece : (writer : Counted W) (form form' : F) (text text' octets : List ℕ) → text ≡ [] → AddsPiece left form text form' text' → left form octets
+  pub first_piece : {writer : Counted W} {form form' : F} {text text' octets : List ℕ} → text ≡ [] → AddsPiece left form text form' text' → left form octets
       → IsWritingForm left contents writer writer form' text' octets
-  first_piece writer form form' text text' octets none a l =
+  first_piece {writer} {text'} {octets} none a l =
       let next = a.rest octets l in
-      record {
-        made = a.piece;
-        more = next.0;
-        parts = next.1.0;
-        left_is = next.1.1;
-        adds = subst (λ t. AddsText contents writer writer t text' a.piece) none (waits_more writer text text' a.piece a.added);
-      }
+      record { made = a.piece; more = next.0; parts = next.1.0; left_is = next.1.1; adds = subst (λ t. AddsText contents writer writer t text' a.piece) none (waits_more a.added) }
 
-  module _ (old new : Counted W) (form : F) (text octets : List ℕ) (w : IsWritingForm left contents old new form text octets) where
+  module _ {old new : Counted W} {form : F} {text octets : List ℕ} (w : IsWritingForm left contents old new form text octets) where
     -- where memory was taken
-    pub form_kept : (form' : F) (text' : List ℕ) → KeepsLeft left form form' → text' ≡ text → IsWritingForm left contents old new form' text' octets
-    form_kept form' text' keeps same =
-        record {
-          made = w.made;
-          more = w.more;
-          parts = w.parts;
-          left_is = keeps w.more w.left_is;
-          adds = subst (λ t. AddsText contents old new [] t w.made) (sym same) w.adds;
-        }
+    pub form_kept : {form' : F} {text' : List ℕ} → KeepsLeft left form form' → text' ≡ text → IsWritingForm left contents old new form' text' octets
+    form_kept keeps same = record { made = w.made; more = w.more; parts = w.parts; left_is = keeps w.more w.left_is; adds = subst (λ t. AddsText contents old new [] t w.made) (sym same) w.adds }
 
     -- where what waited was written, or some of it
-    pub chunk_written : (new' : Counted W) (text' : List ℕ) → AddsText contents new new' text text' [] → IsWritingForm left contents old new' form text' octets
-    chunk_written new' text' a =
-        record {
-          made = w.made;
-          more = w.more;
-          parts = w.parts;
-          left_is = w.left_is;
-          adds = subst (λ m. AddsText contents old new' [] text' m) (append-nil w.made) (AddsText-trans contents old new new' [] text text' w.made [] w.adds a);
-        }
+    pub chunk_written : {new' : Counted W} {text' : List ℕ} → AddsText contents new new' text text' [] → IsWritingForm left contents old new' form text' octets
+    chunk_written {new'} {text'} a =
+        let adds = AddsText-trans contents old new new' [] text text' w.made [] w.adds a in
+        record { made = w.made; more = w.more; parts = w.parts; left_is = w.left_is; adds = rw append-nil at adds }
 
     -- after one piece more
-    pub next_piece : (form' : F) (text' : List ℕ) → AddsPiece left form text form' text' → IsWritingForm left contents old new form' text' octets
-    next_piece form' text' a =
+    pub next_piece : {form' : F} {text' : List ℕ} → AddsPiece left form text form' text' → IsWritingForm left contents old new form' text' octets
+    next_piece {text'} a =
         let next = a.rest w.more w.left_is in
         record {
           made = w.made ++ a.piece;
           more = next.0;
           parts = w.parts ∙ ap (λ l. w.made ++ l) next.1.0 ∙ sym (append_assoc w.made a.piece next.0);
           left_is = next.1.1;
-          adds = AddsText-trans contents old new new [] text text' w.made a.piece w.adds (waits_more new text text' a.piece a.added);
+          adds = AddsText-trans contents old new new [] text text' w.made a.piece w.adds (waits_more a.added);
         }
 
     -- where no piece is left, and what waits is written
-    pub form_written : (new' : Counted W) (text' : List ℕ) → IsAllMade left form → text' ≡ text → WritesText contents new new' text' → WritesText contents old new' octets
-    form_written new' text' all same done =
+    pub form_written : {new' : Counted W} {text' : List ℕ} → IsAllMade left form → text' ≡ text → WritesText contents new new' text' → WritesText contents old new' octets
+    form_written {new'} all same done =
         let whole : w.made ≡ octets = sym (append-nil w.made) ∙ ap (λ l. w.made ++ l) (sym (all w.more w.left_is)) ∙ sym w.parts in
         subst (λ o. WritesText contents old new' o) whole
         (all_written contents old new new' text w.made w.adds (subst (λ t. WritesText contents new new' t) same done))
 
     -- a fault while what waits is written
-    pub form_stopped : (new' : Counted W) (text' : List ℕ) (packets : Type 0) (fault : LinkFault) → text' ≡ text → StopsWriting contents new new' text' fault → StopsForm contents old new' octets packets fault
-    form_stopped new' text' packets fault same s =
-        let stopped : StopsWriting contents old new' octets fault = writer_stops_waiting contents old new new' [] text w.made w.more octets fault w.adds (subst (λ t. StopsWriting contents new new' t fault) same s) (sym w.parts) in
-        subst (λ f. StopsForm contents old new' octets packets f) (sym s.is_write) (subst (λ f. StopsWriting contents old new' octets f) s.is_write stopped)
+    pub form_stopped : {new' : Counted W} {text' : List ℕ} {packets : Type 0} {fault : LinkFault} → text' ≡ text → StopsWriting contents new new' text' fault → StopsForm contents old new' octets packets fault
+    form_stopped {new'} {fault} same s =
+        inr (writer_stops_waiting contents old new new' [] text w.made w.more octets fault w.adds (subst (λ t. StopsWriting contents new new' t fault) same s) (sym w.parts))
 
--- where memory was refused
-pub form_refused : {W : Type 0} (contents : W → Option (List ℕ)) (writer : Counted W) (octets : List ℕ) (packets : Type 0) (fault : LinkFault) → fault ≡ Memory → packets → StopsForm contents writer writer octets packets fault
-form_refused contents writer octets packets fault is_memory some = subst (λ f. StopsForm contents writer writer octets packets f) (sym is_memory) (refl, some)
+module _ {W : Type 0} {contents : W → Option (List ℕ)} {old new : Counted W} {octets : List ℕ} {packets : Type 0} {fault : LinkFault} (s : StopsForm contents old new octets packets fault) where
+  -- what is said of the packets may say less
+  pub fewer_packets : {some : Type 0} → (packets → some) → StopsForm contents old new octets some fault
+  fewer_packets tells = elim s [
+    | inl refused ↦ inl (refused.0, refused.1, tells refused.2)
+    | inr stopped ↦ inr stopped
+  ]
 
--- what is said of the packets may say less
-pub fewer_packets : {W : Type 0} (contents : W → Option (List ℕ)) (old new : Counted W) (octets : List ℕ) (packets some : Type 0) (fault : LinkFault) → (packets → some)
-    → StopsForm contents old new octets packets fault → StopsForm contents old new octets some fault
-fewer_packets contents old new octets packets some Read tells s = s
-fewer_packets contents old new octets packets some TooLong tells s = s
-fewer_packets contents old new octets packets some Memory tells s = (s.0, tells s.1)
-fewer_packets contents old new octets packets some Write tells s = s
+  -- only where the writer failed is anything written
+  pub nothing_of_form : fault ≢ Write → new ≡ old
+  nothing_of_form other = elim s [
+    | inl refused ↦ refused.1
+    | inr stopped ↦ absurd (other stopped.is_write)
+  ]
 
--- only where the writer failed is anything written
-pub nothing_of_form : {W : Type 0} (contents : W → Option (List ℕ)) (old new : Counted W) (octets : List ℕ) (packets : Type 0) (fault : LinkFault) → StopsForm contents old new octets packets fault
-    → fault ≢ Write → new ≡ old
-nothing_of_form contents old new octets packets Read s other = absurd s
-nothing_of_form contents old new octets packets TooLong s other = absurd s
-nothing_of_form contents old new octets packets Memory s other = s.0
-nothing_of_form contents old new octets packets Write s other = absurd (other refl)
-
--- and memory is wanted only where there are packets
-pub wanted_for_form : {W : Type 0} (contents : W → Option (List ℕ)) (old new : Counted W) (octets : List ℕ) (packets : Type 0) (fault : LinkFault) → StopsForm contents old new octets packets fault
-    → fault ≡ Memory → packets
-wanted_for_form contents old new octets packets fault s is_memory = (subst (λ f. StopsForm contents old new octets packets f) is_memory s).1
+  -- and memory is wanted only where there are packets
+  pub wanted_for_form : fault ≡ Memory → packets
+  wanted_for_form is_memory = elim s [
+    | inl refused ↦ refused.2
+    | inr stopped ↦ absurd (let is = stopped.is_write in cc)
+  ]

@@ -1,29 +1,19 @@
-use Rattle.std.proofs.Common.{◌≤◌, ◌-◌, ◌∙◌, [], ap₂, arith, length, refl, subst}
+use Rattle.std.proofs.Common.{◌≤◌, ◌-◌, ◌∙◌, [], ap, ap₂, arith, length, refl, subst}
 use Rattle.std.specs.List.{concat}
-use Rattle.std.proofs.lemmas.Result.{err_from_is_err_and}
-use Rattle.sl_link.specs.Kind.Delivery.{AreKept, counted}
-use Rattle.sl_link.proofs.lemmas.Kind.Delivery.{none_handed, none_kept, handed_totals}
-use Rattle.sl_link.proofs.lemmas.Normalise.Storing.{stops_keeping}
+use Rattle.sl_link.specs.Kind.Delivery.{AreKept, HasDelivered, counted}
+use Rattle.sl_link.specs.Link.Totals.{Counts}
+use Rattle.sl_link.specs.Tally.{counts_with_rest}
+use Rattle.sl_link.proofs.lemmas.Kind.Delivery.{none_delivered, none_kept}
+use Rattle.sl_link.proofs.lemmas.Link.Answers.{passed_up}
+use Rattle.sl_link.proofs.lemmas.Normalise.Storing.{stops_keeping, wanted_keeping}
 use Rattle.sl_link.proofs.normalise.deliver.Goals as goal
 
 pub read_recording-requires-clause-begun : goal.read_recording-requires-clause-begun
 read_recording-requires-clause-begun g c =
     let p = c.args.managed.now in
     let k = g.D.Delivery.kind p in
-    let had = c.begin.ensures in
-    let laws = (g.met.D.Delivery.within _ p [] had).delivered in
-    let none = g.D.Delivery.has_processed c.begin.result p in (
-      refl,
-      none_handed k laws none none _ had c.new.ensures.octets c.new.ensures.frames c.new.ensures.skipped c.new.ensures.packets c.new.ensures.idle c.new.ensures.anomalies,
-      none_kept k laws _ c.new-2.ensures.lists,
-    )
-
-pub returns-in_err-octets-clause-stopped : goal.returns-in_err-octets-clause-stopped
-returns-in_err-octets-clause-stopped g c =
-    let p = c.args.managed.now in
-    let out = err_from_is_err_and c.from_residual.result c.from_residual.ensures.1 in
-    rw (out.1, out.2) (stops_keeping g.R.Read.remaining c.args.reader.now c.read_recording.new.reader (g.D.Delivery.kind p) (g.D.Delivery.wants_memory p) _ 65536
-    (g.F.Framer.frames_of p) _ c.requires.frames _ c.in_err-octets.ensures.fault)
+    let laws = (g.met.D.Delivery.within _ p [] c.begin.ensures).delivered in
+    (refl, rw c.none.ensures (none_delivered k laws c.begin.ensures), none_kept k laws _ c.new.ensures.lists)
 
 pub returns-clause-all : goal.returns-clause-all
 returns-clause-all g c =
@@ -32,11 +22,11 @@ returns-clause-all g c =
     let s = c.in_ok-octets.ensures.all in
     let store = c.read_recording.new.sink in
     let frames = c.requires.frames s.octets in
-    let inside : length (concat (g.F.Framer.frames_of p s.octets)) ≤ c.in_ok-octets.octets = omega (arith, s.inside, s.size) in
     record {
       octets = s.octets;
       all = record { within = s.within; read = s.read; to_end = s.to_end; no_fault = s.no_fault };
+      delivered = (g.met.D.Delivery.within _ p [] c.begin.ensures).delivered;
       kept = subst (λ fs. AreKept k fs store.delivered.lists) frames s.all.2;
-      counts = c.totals.ensures ∙ handed_totals k (g.D.Delivery.has_processed store.delivery p) (g.F.Framer.frames_of p s.octets) store.so_far s.all.1 c.in_ok-octets.octets inside
-          ∙ ap₂ (λ fs n. counted k fs (n - length (concat fs))) frames s.size;
+      counts = rw c.octets.ensures at c.totals.ensures ∙ ap₂ (λ (t : Counts) n. counts_with_rest t (n - t.octets) 0) s.all.1.counts s.size
+          ∙ ap (λ fs. counted k fs (length s.octets - length (concat fs))) frames;
     }

@@ -1,11 +1,11 @@
-use Rattle.std.proofs.Common.{ℕ, List, ◌++◌, length}
-use Rattle.sl_link.proofs.lemmas.Pass.Handing.{IsHanding}
+use Rattle.std.proofs.Common.{ℕ, List, length}
+use Rattle.sl_link.specs.Pass.{HasTaken}
 use Rattle.sl_link.proofs.pass.deliver_chunk.Given as goal
 
 abbrev pub invariant-loop-frame : goal.invariant-loop-frame
 invariant-loop-frame g l =
-    (start : g.row.S.Denot) (before : List (List ℕ)) (rest : List ℕ) → g.F.Framer.waits l.fn.framer l.managed rest → g.S.FrameSink.took start l.fn.sink before
-    → IsHanding (g.F.Framer.is_frame l.managed) (λ f. g.F.Framer.waits f l.managed) g.S.FrameSink.took l.framer start l.sink before (rest ++ l.chunk) l.left
+    (start : g.row.S.Denot) (octets : List ℕ) → HasTaken g.F.Framer.is_frame g.F.Framer.waits (g.S.FrameSink.took start l.fn.sink) l.managed l.fn.framer octets l.chunk
+    → HasTaken g.F.Framer.is_frame g.F.Framer.waits (g.S.FrameSink.took start l.sink) l.managed l.framer octets l.left
 
 abbrev pub decreases-loop-frame : goal.decreases-loop-frame
 decreases-loop-frame g l = length l.left

@@ -2,7 +2,7 @@
 use Rattle.std.specs.Prelude.{◌≡◌, ℕ, ◌<◌, List, [], ◌++◌, length}
 use Rattle.std.specs.List.{concat}
 use Rattle.sl_link.specs.declared.tally.FrameReport.{FrameReport}
-use Rattle.sl_link.specs.declared.tally.Tally.{Tally}
+use Rattle.sl_link.specs.Link.Totals.{Counts}
 use Rattle.sl_link.specs.Kind.Delivery.{HasDelivered, IsReport, Kind}
 use Rattle.sl_link.specs.Verbs.Listing.{lines_from}
 
@@ -18,6 +18,5 @@ pub record ChecksFrame (k : Kind) (amiss : List (List ℕ) → List ℕ → List
   pub tells : Tells k amiss before frame report
 
 -- these frames were processed and counted, and so was what is amiss in them
-pub record HasChecked (k : Kind) (amiss : List (List ℕ) → List ℕ → List (List ℕ)) (had : List (List ℕ) → Type 0) (frames : List (List ℕ)) (t : Tally) : Type 0 where
-  pub delivered : HasDelivered k had frames t
-  pub anomalies : t.anomalies ≡ length (lines_from amiss [] frames)
+abbrev pub HasChecked : Kind → (List (List ℕ) → List ℕ → List (List ℕ)) → (List (List ℕ) → Type 0) → List (List ℕ) → Counts → Type 0
+HasChecked k amiss had frames = HasDelivered k had frames (length (lines_from amiss [] frames))

@@ -1,10 +1,9 @@
 -- The listing of the frames of a recording, whatever kind they are.
-use Rattle.std.specs.Prelude.{ℕ, ◌+◌, Bool, List, length}
+use Rattle.std.specs.Prelude.{◌≡◌, ℕ, ◌+◌, Bool, List, length}
 use Rattle.std.specs.List.{concat}
-use Rattle.sl_link.specs.declared.tally.Tally.{Tally}
 use Rattle.sl_link.specs.Io.Line.{remainder_line}
 use Rattle.sl_link.specs.Link.Totals.{Counts}
-use Rattle.sl_link.specs.Tally.{HasCountedAlone, counts_with, skipped_in}
+use Rattle.sl_link.specs.Tally.{counts_so_far, counts_with, skipped_in}
 use Rattle.sl_link.specs.Verbs.Listing.{Listing}
 
 -- what is counted in frames, and a remainder of this many octets
@@ -21,6 +20,6 @@ show_listing is_skipped line =
     }
 
 -- These frames were shown, as `had` says, and counted. Contracts of private functions alone cite this.
-pub record HasShown (is_skipped : List ℕ → Bool) (had : List (List ℕ) → Type 0) (frames : List (List ℕ)) (t : Tally) : Type 0 where
+pub record HasShown (is_skipped : List ℕ → Bool) (had : List (List ℕ) → Type 0) (frames : List (List ℕ)) (t : Counts) : Type 0 where
   pub shown : had frames
-  pub counted : HasCountedAlone (skipped_in is_skipped) frames t
+  pub counts : t ≡ counts_so_far is_skipped frames 0 0 0

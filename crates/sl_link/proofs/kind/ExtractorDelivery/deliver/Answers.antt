@@ -10,9 +10,8 @@ use Rattle.sl_link.specs.Kind.Delivery.{with_frame}
 use Rattle.sl_link.specs.Link.Managed.{Parameters, tm_format}
 use Rattle.sl_link.specs.Link.ManagedModel.{parameters_of}
 use Rattle.sl_link.proofs.lemmas.Kind.Delivery.{delivers_as, stops_as}
-use Rattle.sl_link.proofs.lemmas.Kind.Tm.{one_processed, wants_memory}
+use Rattle.sl_link.proofs.lemmas.Kind.Tm.{one_processed, some_octets, wants_memory}
 use Rattle.sl_link.proofs.lemmas.Link.Fault.{never_failed}
-use Rattle.sl_link.proofs.lemmas.Link.Managed.{managed_length}
 use Rattle.sl_link.proofs.kind.ExtractorDelivery.deliver.Goals as goal
 
 pub returns-in-Err-clause-processed : goal.returns-in-Err-clause-processed
@@ -20,20 +19,8 @@ returns-in-Err-clause-processed g c =
     let p = c.args.managed.now in
     let skipped : as_read p c.args.frame.now ≡ Err c.in-Err.field-0 = search rules in
     λ before h.
-    let range = managed_length (parameters_of c.managed.inside) c.managed.invariant.allowed in
-    let long : 7 ≤ length c.args.frame.now = omega (arith, range.0, c.requires.2.1, ap (λ (q : Parameters). q.tm_length) c.managed.view_is) in
-    one_processed p before c.args.frame.now c.args.self.now c.args.self.now long h
-    (subst (λ (r : Result TmView TmSkip). HasProcessed c.args.self.now (with_frame (views_of (tm_format p) p.spacecraft before) r)) (sym skipped) h.processed)
-
-pub returns-in-Err-clause-delivers : goal.returns-in-Err-clause-delivers
-returns-in-Err-clause-delivers g c =
-    let p = c.args.managed.now in
-    let skipped : as_read p c.args.frame.now ≡ Err c.in-Err.field-0 = search rules in
-    λ before h.
-    let seen = views_of (tm_format p) p.spacecraft before in
-    let range = managed_length (parameters_of c.managed.inside) c.managed.invariant.allowed in
-    delivers_as g.S.PacketSink.taking (tm_kind p) before c.args.frame.now c.args.sink.now c.args.sink.now _ 0 [] true (ap vc_of skipped) (ap (ended_in seen) skipped) (ap is_err skipped)
-    (omega (arith, range.0, c.requires.2.1, ap (λ (q : Parameters). q.tm_length) c.managed.view_is)) refl refl refl refl refl
+    let long = some_octets c.args.frame.now c.managed.invariant.allowed c.managed.view_is c.requires.2 in
+    one_processed c.args.frame.now long h skipped h.processed
 
 pub returns-in-Ok-frame-clause-processed : goal.returns-in-Ok-frame-clause-processed
 returns-in-Ok-frame-clause-processed g c =
@@ -41,10 +28,8 @@ returns-in-Ok-frame-clause-processed g c =
     let read : as_read p c.args.frame.now ≡ Ok c.in-Ok.view = search rules in
     λ before h.
     let seen = views_of (tm_format p) p.spacecraft before in
-    let range = managed_length (parameters_of c.managed.inside) c.managed.invariant.allowed in
-    let long : 7 ≤ length c.args.frame.now = omega (arith, range.0, c.requires.2.1, ap (λ (q : Parameters). q.tm_length) c.managed.view_is) in
-    one_processed p before c.args.frame.now c.args.self.now c.frame.new.self long h
-    (subst (λ (r : Result TmView TmSkip). HasProcessed c.frame.new.self (with_frame seen r)) (sym read) (c.in-Ok-frame.ensures.processed seen h.processed))
+    let long = some_octets c.args.frame.now c.managed.invariant.allowed c.managed.view_is c.requires.2 in
+    one_processed c.args.frame.now long h read (c.in-Ok-frame.ensures.processed seen h.processed)
 
 pub returns-in-Ok-frame-clause-delivers : goal.returns-in-Ok-frame-clause-delivers
 returns-in-Ok-frame-clause-delivers g c =
@@ -53,9 +38,9 @@ returns-in-Ok-frame-clause-delivers g c =
     let read : as_read p c.args.frame.now ≡ Ok view = search rules in
     λ before h.
     let seen = views_of (tm_format p) p.spacecraft before in
-    let range = managed_length (parameters_of c.managed.inside) c.managed.invariant.allowed in
-    delivers_as g.S.PacketSink.taking (tm_kind p) before c.args.frame.now c.args.sink.now c.frame.new.sink _ view.vc (ended_by seen view) false (ap vc_of read) (ap (ended_in seen) read) (ap is_err read)
-    (omega (arith, range.0, c.requires.2.1, ap (λ (q : Parameters). q.tm_length) c.managed.view_is)) (c.in-Ok-frame.ensures.accepted seen h.processed) refl
+    let long = some_octets c.args.frame.now c.managed.invariant.allowed c.managed.view_is c.requires.2 in
+    delivers_as (ap vc_of read) (ap (ended_in seen) read) (ap is_err read)
+    (omega (arith, long)) (c.in-Ok-frame.ensures.accepted seen h.processed) refl
     (c.packets.ensures ∙ c.in-Ok-frame.ensures.packets seen h.processed) (c.idle.ensures ∙ c.in-Ok-frame.ensures.idle seen h.processed) refl
 
 pub returns-in-Err-frame-clause-stopped : goal.returns-in-Err-frame-clause-stopped
@@ -68,6 +53,5 @@ returns-in-Err-frame-clause-stopped g c =
     let seen = views_of (tm_format p) p.spacecraft before in
     let had = h.processed in
     let ne : c.in-Err-frame.fault ≢ Failed = never_failed c.args.self.now.has_failed c.frame.result c.in-Err-frame.fault is (λ e. (c.frame.ensures.left e).0) had.working in
-    stops_as g.S.PacketSink.taking g.S.PacketSink.failing g.S.PacketSink.failures (tm_kind p) (WantsMemoryTm p) before c.args.frame.now c.args.sink.now c.frame.new.sink c.in-Err-frame.fault
-    view.vc (ended_by seen view) (ap vc_of read) (ap (ended_in seen) read) ((c.in-Err-frame.ensures.stopped ne).1 seen had)
-    (λ e. wants_memory p before c.args.frame.now (Ok view) read (c.in-Err-frame.ensures.memory e seen had))
+    stops_as (ap vc_of read) (ap (ended_in seen) read) ((c.in-Err-frame.ensures.stopped ne).1 seen had)
+    (λ e. wants_memory before c.args.frame.now read (c.in-Err-frame.ensures.memory e seen had))

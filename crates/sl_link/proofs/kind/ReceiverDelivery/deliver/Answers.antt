@@ -18,8 +18,7 @@ returns-in-Err-clause-processed g c =
     let p = c.args.managed.now in
     let skipped : as_read p c.args.frame.now ≡ Err c.in-Err.field-0 = search rules in
     λ before h.
-    one_processed p before c.args.frame.now c.args.self.now c.args.self.now h
-    (subst (λ (read : Result TcView TcSkip). HasProcessed (reception_of p) c.args.self.now (with_frame (views_of (tc_format p) p.spacecraft before) read)) (sym skipped) h.processed)
+    one_processed c.args.frame.now h skipped h.processed
 
 pub returns-in-Err-clause-delivers : goal.returns-in-Err-clause-delivers
 returns-in-Err-clause-delivers g c =
@@ -28,7 +27,7 @@ returns-in-Err-clause-delivers g c =
     λ before h.
     let r = reception_of p in
     let seen = views_of (tc_format p) p.spacecraft before in
-    delivers_as g.S.PacketSink.taking (tc_kind p) before c.args.frame.now c.args.sink.now c.args.sink.now _ 0 [] true (ap (channel_of r) skipped) (ap (ended_in r seen) skipped) (ap is_err skipped)
+    delivers_as (ap (channel_of r) skipped) (ap (ended_in r seen) skipped) (ap is_err skipped)
     (some_octets p c.args.frame.now c.requires.2) refl refl refl refl refl
 
 pub returns-in-Ok-frame-clause-processed : goal.returns-in-Ok-frame-clause-processed
@@ -38,8 +37,7 @@ returns-in-Ok-frame-clause-processed g c =
     λ before h.
     let r = reception_of p in
     let seen = views_of (tc_format p) p.spacecraft before in
-    one_processed p before c.args.frame.now c.args.self.now c.frame.new.self h
-    (subst (λ (read : Result TcView TcSkip). HasProcessed r c.frame.new.self (with_frame seen read)) (sym read) (c.in-Ok-frame.ensures.processed r seen h.processed))
+    one_processed c.args.frame.now h read (c.in-Ok-frame.ensures.processed r seen h.processed)
 
 pub returns-in-Ok-frame-clause-delivers : goal.returns-in-Ok-frame-clause-delivers
 returns-in-Ok-frame-clause-delivers g c =
@@ -49,8 +47,7 @@ returns-in-Ok-frame-clause-delivers g c =
     λ before h.
     let r = reception_of p in
     let seen = views_of (tc_format p) p.spacecraft before in
-    delivers_as g.S.PacketSink.taking (tc_kind p) before c.args.frame.now c.args.sink.now c.frame.new.sink _ (unit_channel r view) (ended_by r seen view) false
-    (ap (channel_of r) read) (ap (ended_in r seen) read) (ap is_err read) (some_octets p c.args.frame.now c.requires.2)
+    delivers_as (ap (channel_of r) read) (ap (ended_in r seen) read) (ap is_err read) (some_octets p c.args.frame.now c.requires.2)
     (c.in-Ok-frame.ensures.accepted r seen h.processed) refl
     (c.packets.ensures ∙ c.in-Ok-frame.ensures.packets r seen h.processed) (c.idle.ensures ∙ c.in-Ok-frame.ensures.idle r seen h.processed) refl
 
@@ -65,6 +62,5 @@ returns-in-Err-frame-clause-stopped g c =
     let seen = views_of (tc_format p) p.spacecraft before in
     let had = h.processed in
     let ne : c.in-Err-frame.fault ≢ Failed = never_failed c.args.self.now.has_failed c.frame.result c.in-Err-frame.fault is (λ e. (c.frame.ensures.left e).0) had.working in
-    stops_as g.S.PacketSink.taking g.S.PacketSink.failing g.S.PacketSink.failures (tc_kind p) (WantsMemoryTc p) before c.args.frame.now c.args.sink.now c.frame.new.sink c.in-Err-frame.fault
-    (unit_channel r view) (ended_by r seen view) (ap (channel_of r) read) (ap (ended_in r seen) read) (((c.in-Err-frame.ensures.stopped ne).1 r seen had).1)
-    (λ e. wants_memory p before c.args.frame.now (Ok view) read (c.in-Err-frame.ensures.memory e r seen had))
+    stops_as (ap (channel_of r) read) (ap (ended_in r seen) read) (((c.in-Err-frame.ensures.stopped ne).1 r seen had).1)
+    (λ e. wants_memory before c.args.frame.now read (c.in-Err-frame.ensures.memory e r seen had))

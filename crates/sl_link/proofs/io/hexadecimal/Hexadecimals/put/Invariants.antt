@@ -1,9 +1,6 @@
-use Rattle.std.proofs.Common.{◌≡◌, ◌*◌, length, take}
+use Rattle.std.proofs.Common.{◌*◌}
 use Rattle.sl_link.proofs.lemmas.Io.Hexadecimal.{ArePut}
 use Rattle.sl_link.proofs.io.hexadecimal.Hexadecimals.put.Given as goal
 
 abbrev pub invariant-loop-i : goal.invariant-loop-i
-invariant-loop-i l = record {
-  put : ArePut l.octets (take l.at l.initial.buffer) l.at (8 * l.i) l.buffer;
-  long : length l.buffer ≡ length l.initial.buffer;
-}
+invariant-loop-i l = ArePut l.octets l.initial.buffer l.at (8 * l.i) l.buffer

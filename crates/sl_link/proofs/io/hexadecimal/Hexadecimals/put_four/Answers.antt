@@ -1,13 +1,5 @@
-use Rattle.std.proofs.Common.{◌+◌, ◌*◌, ◌++◌, ◌∙◌, ap, arith, drop, length, take}
-use Rattle.std.proofs.lemmas.Simd.{take_more_put_chunk, length-chunk}
-use Rattle.sl_link.proofs.lemmas.Io.Hexadecimal.{length-encode_lower}
+use Rattle.sl_link.proofs.lemmas.Io.Hexadecimal.{block_put}
 use Rattle.sl_link.proofs.io.hexadecimal.Hexadecimals.put_four.Goals as goal
 
-pub returns-clause-text : goal.returns-clause-text
-returns-clause-text c =
-    let octets = take 4 (drop c.args.from c.args.octets.now) in
-    let place = c.args.at + 2 * c.args.from in
-    let long = length-chunk c.args.from 4 c.args.octets.now c.requires.inside in
-    take_more_put_chunk place c.args.buffer.now c.of_four.result _
-    (omega (arith, ap length c.of_four.ensures, length-encode_lower octets, long)) c.requires.room
-    ∙ ap (λ l. take place c.args.buffer.now ++ l) c.of_four.ensures
+pub returns : goal.returns
+returns c = block_put c.args.octets.now c.args.buffer.now _ c.args.at c.args.from 4 c.requires.inside c.requires.room c.of_four.ensures

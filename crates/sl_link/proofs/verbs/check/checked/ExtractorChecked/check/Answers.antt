@@ -11,9 +11,8 @@ use Rattle.sl_link.specs.Kind.Tm.{as_read, ended_in, tm_kind}
 use Rattle.sl_link.specs.Link.Managed.{Parameters, tm_format}
 use Rattle.sl_link.specs.Link.ManagedModel.{parameters_of}
 use Rattle.sl_link.specs.Verbs.Check.Tm.{tm_amiss, tm_amiss_after, view_amiss}
-use Rattle.sl_link.proofs.lemmas.Kind.Tm.{one_processed, wants_memory}
+use Rattle.sl_link.proofs.lemmas.Kind.Tm.{one_processed, some_octets, wants_memory}
 use Rattle.sl_link.proofs.lemmas.Link.Fault.{memory_alone, never_failed}
-use Rattle.sl_link.proofs.lemmas.Link.Managed.{managed_length}
 use Rattle.sl_link.proofs.lemmas.Verbs.Check.End.{checks_as}
 use Rattle.sl_link.proofs.verbs.check.checked.ExtractorChecked.check.Goals as goal
 
@@ -22,10 +21,8 @@ returns-in-Err-clause-processed c =
     let p = c.args.managed.now in
     let skipped : as_read p c.args.frame.now ≡ Err c.in-Err.reason = search rules in
     λ before h.
-    let range = managed_length (parameters_of c.managed.inside) c.managed.invariant.allowed in
-    let long : 7 ≤ length c.args.frame.now = omega (arith, range.0, c.requires.before.2.1, ap (λ (q : Parameters). q.tm_length) c.managed.view_is) in
-    one_processed p before c.args.frame.now c.args.self.now c.args.self.now long h
-    (subst (λ (r : Result TmView TmSkip). HasProcessed c.args.self.now (with_frame (views_of (tm_format p) p.spacecraft before) r)) (sym skipped) h.processed)
+    let long = some_octets c.args.frame.now c.managed.invariant.allowed c.managed.view_is c.requires.before.2 in
+    one_processed c.args.frame.now long h skipped h.processed
 
 pub returns-in-Err-clause-checks : goal.returns-in-Err-clause-checks
 returns-in-Err-clause-checks c =
@@ -33,11 +30,11 @@ returns-in-Err-clause-checks c =
     let skipped : as_read p c.args.frame.now ≡ Err c.in-Err.reason = search rules in
     λ before h at.
     let seen = views_of (tm_format p) p.spacecraft before in
-    let range = managed_length (parameters_of c.managed.inside) c.managed.invariant.allowed in
+    let long = some_octets c.args.frame.now c.managed.invariant.allowed c.managed.view_is c.requires.before.2 in
     checks_as (tm_kind p) (tm_amiss_after p) before c.args.frame.now c.args.lines.now c.skip_line.new.lines _ (tm_amiss c.args.offset seen (Err c.in-Err.reason)) [] true
     (ap (λ n. tm_amiss n seen (as_read p c.args.frame.now)) (sym at) ∙ ap (tm_amiss c.args.offset seen) skipped) (ap (ended_in seen) skipped) (ap is_err skipped)
     (c.skip_line.ensures ∙ ap (λ l. c.args.lines.now ++ l) (sym (append-nil _))) refl refl refl refl
-    (omega (arith, range.0, c.requires.before.2.1, ap (λ (q : Parameters). q.tm_length) c.managed.view_is))
+    (omega (arith, long))
 
 pub returns-in-Ok-frame-clause-processed : goal.returns-in-Ok-frame-clause-processed
 returns-in-Ok-frame-clause-processed c =
@@ -45,10 +42,8 @@ returns-in-Ok-frame-clause-processed c =
     let read : as_read p c.args.frame.now ≡ Ok c.in-Ok.view = search rules in
     λ before h.
     let seen = views_of (tm_format p) p.spacecraft before in
-    let range = managed_length (parameters_of c.managed.inside) c.managed.invariant.allowed in
-    let long : 7 ≤ length c.args.frame.now = omega (arith, range.0, c.requires.before.2.1, ap (λ (q : Parameters). q.tm_length) c.managed.view_is) in
-    one_processed p before c.args.frame.now c.args.self.now c.frame.new.self long h
-    (subst (λ (r : Result TmView TmSkip). HasProcessed c.frame.new.self (with_frame seen r)) (sym read) (c.in-Ok-frame.ensures.processed seen h.processed))
+    let long = some_octets c.args.frame.now c.managed.invariant.allowed c.managed.view_is c.requires.before.2 in
+    one_processed c.args.frame.now long h read (c.in-Ok-frame.ensures.processed seen h.processed)
 
 pub returns-in-Ok-frame-clause-checks : goal.returns-in-Ok-frame-clause-checks
 returns-in-Ok-frame-clause-checks c =
@@ -59,7 +54,7 @@ returns-in-Ok-frame-clause-checks c =
     let offset = c.args.offset in
     let seen = views_of (tm_format p) p.spacecraft before in
     let step = c.in-Ok-frame.step in
-    let range = managed_length (parameters_of c.managed.inside) c.managed.invariant.allowed in
+    let long = some_octets c.args.frame.now c.managed.invariant.allowed c.managed.view_is c.requires.before.2 in
     let gap = gap_of (channel_of view.vc seen) view in
     let dropped = dropped_of (channel_of view.vc seen) view in
     let told : tm_amiss offset seen (Ok view) ≡ view_amiss offset view step.gap step.dropped step.foreign =
@@ -69,7 +64,7 @@ returns-in-Ok-frame-clause-checks c =
     checks_as (tm_kind p) (tm_amiss_after p) before c.args.frame.now c.args.lines.now c.amiss_lines.new.lines _ (view_amiss offset view step.gap step.dropped step.foreign) (ended_by seen view) false
     (ap (λ n. tm_amiss n seen (as_read p c.args.frame.now)) (sym at) ∙ ap (tm_amiss offset seen) read ∙ told) (ap (ended_in seen) read) (ap is_err read)
     c.amiss_lines.ensures.text refl (c.packets.ensures ∙ c.in-Ok-frame.ensures.packets seen h.processed) (c.idle.ensures ∙ c.in-Ok-frame.ensures.idle seen h.processed)
-    c.amiss_lines.ensures.number (omega (arith, range.0, c.requires.before.2.1, ap (λ (q : Parameters). q.tm_length) c.managed.view_is, c.amiss_lines.ensures.few))
+    c.amiss_lines.ensures.number (omega (arith, long, c.amiss_lines.ensures.few))
 
 pub returns-in-Err-frame-clause-fault : goal.returns-in-Err-frame-clause-fault
 returns-in-Err-frame-clause-fault c =
@@ -87,4 +82,4 @@ returns-in-Err-frame-clause-memory c =
     let had = h.processed in
     let ne : c.in-Err-frame.fault ≢ Failed = never_failed c.args.self.now.has_failed c.frame.result c.in-Err-frame.fault is (λ e. (c.frame.ensures.left e).0) had.working in
     let only : c.in-Err-frame.fault ≡ Memory = memory_alone _ _ _ _ _ _ c.in-Err-frame.fault ((c.in-Err-frame.ensures.stopped ne).1 _ had) in
-    wants_memory p before c.args.frame.now (Ok c.in-Ok.view) read (c.in-Err-frame.ensures.memory only _ had)
+    wants_memory before c.args.frame.now read (c.in-Err-frame.ensures.memory only _ had)

@@ -21,8 +21,7 @@ returns-in-Err-clause-processed c =
     let p = c.args.managed.now in
     let skipped : as_read p c.args.frame.now ≡ Err c.in-Err.reason = search rules in
     λ before h.
-    one_processed p before c.args.frame.now c.args.self.now c.args.self.now h
-    (subst (λ (read : Result TcView TcSkip). HasProcessed (reception_of p) c.args.self.now (with_frame (views_of (tc_format p) p.spacecraft before) read)) (sym skipped) h.processed)
+    one_processed c.args.frame.now h skipped h.processed
 
 pub returns-in-Err-clause-checks : goal.returns-in-Err-clause-checks
 returns-in-Err-clause-checks c =
@@ -45,8 +44,7 @@ returns-in-Ok-frame-clause-processed c =
     λ before h.
     let r = reception_of p in
     let seen = views_of (tc_format p) p.spacecraft before in
-    one_processed p before c.args.frame.now c.args.self.now c.frame.new.self h
-    (subst (λ (read : Result TcView TcSkip). HasProcessed r c.frame.new.self (with_frame seen read)) (sym read) (c.in-Ok-frame.ensures.processed r seen h.processed))
+    one_processed c.args.frame.now h read (c.in-Ok-frame.ensures.processed r seen h.processed)
 
 pub returns-in-Ok-frame-clause-checks : goal.returns-in-Ok-frame-clause-checks
 returns-in-Ok-frame-clause-checks c =
@@ -84,4 +82,4 @@ returns-in-Err-frame-clause-memory c =
     let had = h.processed in
     let ne : c.in-Err-frame.fault ≢ Failed = never_failed c.args.self.now.has_failed c.frame.result c.in-Err-frame.fault is (λ e. (c.frame.ensures.left e).0) had.working in
     let only : c.in-Err-frame.fault ≡ Memory = memory_alone _ _ _ _ _ _ c.in-Err-frame.fault (((c.in-Err-frame.ensures.stopped ne).1 _ _ had).1) in
-    wants_memory p before c.args.frame.now (Ok c.in-Ok.view) read (c.in-Err-frame.ensures.memory only _ _ had)
+    wants_memory before c.args.frame.now read (c.in-Err-frame.ensures.memory only _ _ had)

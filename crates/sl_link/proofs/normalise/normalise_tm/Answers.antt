@@ -1,5 +1,0 @@
-use Rattle.std.proofs.Common.{refl}
-use Rattle.sl_link.proofs.normalise.normalise_tm.Goals as goal
-
-pub normalise-requires-clause-frames : goal.normalise-requires-clause-frames
-normalise-requires-clause-frames g c = λ recording. refl

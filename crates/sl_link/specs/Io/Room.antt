@@ -7,7 +7,7 @@ lines_size = 0x10000
 
 -- the octets that are kept free before lines are added
 abbrev pub reserve : ℕ
-reserve = 256
+reserve = 1024
 
 -- After these lines there is room for some octets more. The contract for a part of a line asks for
 -- what the parts before leave of the reserve.

@@ -12,7 +12,7 @@ use std::marker::Model;
 pub const LINES_SIZE: usize = 0x10000;
 
 /// Octets that are kept free in that buffer: the lines of one frame have no more, those of its packets left out.
-pub const RESERVE: usize = 256;
+pub const RESERVE: usize = 1024;
 
 /// Lines of a listing that are not written yet, 65536 octets at most.
 #[derive(Drop)]

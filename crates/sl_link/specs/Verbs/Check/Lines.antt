@@ -1,26 +1,43 @@
 -- The lines of what is amiss in a recording, as `check` writes them, and of its totals.
-use Rattle.std.specs.Prelude.{ℕ, ◌+◌, ◌==◌, if◌then◌else◌, List, [], ◌∷◌, ◌++◌, length, flat_map, codes, decimal}
+use Rattle.std.specs.Prelude.{ℕ, ◌+◌, ◌==◌, Bool, if◌then◌else◌, List, [], ◌∷◌, ◌++◌, length}
+use Rattle.std.specs.Prelude.{flat_map, codes, decimal, Option, None, Some}
 use Rattle.std.specs.List.{concat}
 use Rattle.sl_link.specs.Io.Line.{line_at}
 use Rattle.sl_link.specs.Kind.Delivery.{Kind, counted}
 use Rattle.sl_link.specs.Link.Totals.{Counts}
 use Rattle.sl_link.specs.Verbs.Listing.{Listing, lines_from}
 
+-- ---- a line
+
+-- a number and the word before it, where there is one
+abbrev pub some_text : List ℕ → Option ℕ → List ℕ
+some_text word None = []
+some_text word (Some number) = word ++ decimal number
+
+-- the line of an event on a virtual channel, and on a MAP if one is given, and of how many octets
+-- the event is, if it is one of octets
+abbrev pub event_line : ℕ → ℕ → Option ℕ → List ℕ → Option ℕ → List ℕ
+event_line offset vc map_id event octets =
+    line_at offset (event ++ codes " vc " ++ decimal vc ++ some_text (codes " map ") map_id
+    ++ some_text (codes " octets ") octets)
+
+-- the same, where the event `holds`
+abbrev pub event_amiss : ℕ → ℕ → Option ℕ → List ℕ → Bool → Option ℕ → List (List ℕ)
+event_amiss offset vc map_id event holds octets =
+    if holds then event_line offset vc map_id event octets ∷ [] else []
+
+-- ---- what comes after the frames
+
 -- the line of a remainder, by where it begins and how many octets it has, where there is one
 abbrev pub remainder_amiss : ℕ → ℕ → List (List ℕ)
 remainder_amiss offset octets = if octets == 0 then [] else line_at offset (codes " rest " ++ decimal octets) ∷ []
 
--- how many frames, and how many packets
-abbrev pub frames_text : Counts → List ℕ
-frames_text counts = codes "frames " ++ decimal counts.frames ++ codes " skipped " ++ decimal counts.skipped
-
-abbrev pub packets_text : Counts → List ℕ
-packets_text counts = codes " packets " ++ decimal counts.packets ++ codes " idle " ++ decimal counts.idle
-
 -- the line of the totals, which comes last
 abbrev pub totals_line : Counts → List ℕ
-totals_line counts = frames_text counts ++ packets_text counts ++ codes " anomalies " ++ decimal counts.anomalies
-    ++ codes "\n"
+totals_line counts =
+    codes "frames " ++ decimal counts.frames ++ codes " skipped " ++ decimal counts.skipped
+    ++ codes " packets " ++ decimal counts.packets ++ codes " idle " ++ decimal counts.idle
+    ++ codes " anomalies " ++ decimal counts.anomalies ++ codes "\n"
 
 -- ---- a recording
 

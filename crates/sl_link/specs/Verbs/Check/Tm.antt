@@ -1,5 +1,5 @@
 -- What is amiss in a TM recording, as `check tm` lists it: a line for each, and then the totals.
-use Rattle.std.specs.Prelude.{ℕ, Bool, ◌==◌, if◌then◌else◌, List, [], ◌∷◌, ◌++◌, length}
+use Rattle.std.specs.Prelude.{ℕ, Bool, true, false, nat_lt, List, [], ◌∷◌, ◌++◌, length}
 use Rattle.std.specs.Prelude.{map, codes, decimal, Option, None, Some, Result, Ok, Err}
 use Rattle.std.specs.List.{concat}
 use Rattle.sl_tmframe.specs.declared.tm_frame.TmSkip.{TmSkip}
@@ -8,7 +8,7 @@ use Rattle.sl_tmframe.specs.TmFrame.{TmView, DataField, Packets, Idle, Opaque}
 use Rattle.sl_tmflow.specs.Anomaly.{dropped_of, foreign_of, gap_of}
 use Rattle.sl_tmflow.specs.Channel.{channel_of, views_of}
 use Rattle.sl_tmflow.specs.Incomplete.{incomplete_of}
-use Rattle.sl_link.specs.Verbs.Check.Lines.{check_listing}
+use Rattle.sl_link.specs.Verbs.Check.Lines.{check_listing, event_amiss, event_line}
 use Rattle.sl_link.specs.Kind.Tm.{as_read, tm_kind}
 use Rattle.sl_link.specs.Io.Line.{line_at}
 use Rattle.sl_link.specs.Link.Managed.{Parameters, tm_format}
@@ -19,36 +19,27 @@ use Rattle.sl_link.specs.Verbs.Listing.{Listing, counts_of, listing_text}
 -- ---- a frame
 
 -- another virtual channel frame count was expected
-abbrev pub gap_text : TmView → ℕ → List ℕ
-gap_text view expected =
-    codes " gap vc " ++ decimal view.vc ++ codes " expected " ++ decimal expected ++ codes " found "
-    ++ decimal view.vc_count
-
 abbrev pub gap_amiss : ℕ → TmView → Option ℕ → List (List ℕ)
 gap_amiss offset view None = []
-gap_amiss offset view (Some expected) = line_at offset (gap_text view expected) ∷ []
-
--- an incomplete packet is broken off, by how many octets of it had come
-abbrev pub dropped_amiss : ℕ → ℕ → ℕ → List (List ℕ)
-dropped_amiss offset vc octets =
-    if octets == 0 then []
-    else line_at offset (codes " dropped vc " ++ decimal vc ++ codes " octets " ++ decimal octets) ∷ []
+gap_amiss offset view (Some expected) =
+    line_at offset (codes " gap vc " ++ decimal view.vc ++ codes " expected " ++ decimal expected
+    ++ codes " found " ++ decimal view.vc_count) ∷ []
 
 -- the frame is opaque
-abbrev pub opaque_amiss : ℕ → ℕ → DataField → List (List ℕ)
-opaque_amiss offset vc (Packets first octets) = []
-opaque_amiss offset vc Idle = []
-opaque_amiss offset vc Opaque = line_at offset (codes " opaque vc " ++ decimal vc) ∷ []
+abbrev pub is_opaque : DataField → Bool
+is_opaque (Packets first octets) = false
+is_opaque Idle = false
+is_opaque Opaque = true
 
--- octets of another packet version stand at a packet start
-abbrev pub foreign_amiss : ℕ → ℕ → Bool → List (List ℕ)
-foreign_amiss offset vc is_foreign = if is_foreign then line_at offset (codes " foreign vc " ++ decimal vc) ∷ [] else []
-
--- the lines of a frame that is read, in their order, by what an extractor made of it
+-- The lines of a frame that is read, in their order, by what an extractor made of it: a gap; an
+-- incomplete packet is broken off, by how many octets of it had come; the frame is opaque; octets of
+-- another packet version stand at a packet start.
 abbrev pub view_amiss : ℕ → TmView → Option ℕ → ℕ → Bool → List (List ℕ)
 view_amiss offset view gap dropped is_foreign =
-    gap_amiss offset view gap ++ dropped_amiss offset view.vc dropped ++ opaque_amiss offset view.vc view.field
-    ++ foreign_amiss offset view.vc is_foreign
+    gap_amiss offset view gap
+    ++ event_amiss offset view.vc None (codes " dropped") (nat_lt 0 dropped) (Some dropped)
+    ++ event_amiss offset view.vc None (codes " opaque") (is_opaque view.field) None
+    ++ event_amiss offset view.vc None (codes " foreign") is_foreign None
 
 -- the lines of a frame, as it is read, at this offset and after the frames `views`
 abbrev pub tm_amiss : ℕ → List TmView → Result TmView TmSkip → List (List ℕ)
@@ -67,8 +58,7 @@ tm_amiss_after p before frame =
 -- the line of the packet that is incomplete after the last frame of a virtual channel, if one is
 abbrev pub tm_open : Parameters → ℕ → List (List ℕ) → ℕ → List (List ℕ)
 tm_open p offset frames vc =
-    map (λ octets. line_at offset
-    (codes " open vc " ++ decimal vc ++ codes " octets " ++ decimal (length octets)))
+    map (λ octets. event_line offset vc None (codes " open") (Some (length octets)))
     (incomplete_of (channel_of vc (views_of (tm_format p) p.spacecraft frames)))
 
 -- the listing

@@ -9,6 +9,7 @@ use crate::kind::Delivery;
 use crate::link::managed::Managed;
 use crate::tally::{FrameReport, SKIPPED};
 use crate::verbs::check::discard::DiscardPackets;
+use crate::verbs::check::lines::{Place, event_lines};
 use crate::verbs::check::{lines_tc, lines_tm};
 use sl_packet::FlowFault;
 use sl_tcflow::Receiver;
@@ -119,8 +120,13 @@ impl Checked for Extractor {
     }
 
     fn open_lines(&self, offset: u64, channel: u16, lines: &mut Lines) -> u64 {
-        let vc = channel as u8;
-        lines_tm::open_lines(lines, offset, vc, self.held(vc))
+        let at = Place {
+            offset,
+            vc: u32::from(channel),
+            map: None,
+        };
+        let octets = self.held(channel as u8);
+        event_lines(lines, &at, b" open", octets > 0, Some(octets))
     }
 }
 
@@ -170,10 +176,12 @@ impl Checked for Receiver {
         // The number of a channel is 64 VC + MAP.
         let vc = (channel / 64) as u8;
         let map = (channel % 64) as u8;
-        if !self.is_open(vc, map) {
-            return 0;
-        }
-        lines_tc::open_line(lines, offset, vc, map, self.held(vc, map));
-        1
+        let at = Place {
+            offset,
+            vc: u32::from(vc),
+            map: Some(u32::from(map)),
+        };
+        let octets = self.held(vc, map);
+        event_lines(lines, &at, b" open", self.is_open(vc, map), Some(octets))
     }
 }

@@ -1,12 +1,60 @@
-//! The lines of what is amiss in a recording, whatever kind its frames are: the remainder, and the totals.
-ghost use Rattle.std.specs.Prelude.{◌≡◌, ◌+◌, ◌≤◌, ◌++◌, length};
+//! The lines of what is amiss in a recording, whatever kind its frames are: events of its frames,
+//! the remainder, and the totals.
+ghost use Rattle.std.specs.Prelude.{◌≡◌, ◌+◌, ◌≤◌, ◌++◌, length, decimal};
 ghost use Rattle.std.specs.List.{concat};
-ghost use Rattle.sl_link.specs.Verbs.Check.Lines.{frames_text, packets_text, remainder_amiss, totals_line};
 ghost use Rattle.sl_link.specs.Io.Room.{HasRoom, HasRoomFor};
+ghost use Rattle.sl_link.specs.Verbs.Check.Checking.{AddsAmiss};
+ghost use Rattle.sl_link.specs.Verbs.Check.Lines.{event_amiss, event_line, remainder_amiss};
+ghost use Rattle.sl_link.specs.Verbs.Check.Lines.{some_text, totals_line};
 
 use crate::io::lines::Lines;
 use crate::io::room::remainder_line;
 use crate::link::totals::Totals;
+
+/// Where an event is amiss: at a frame, on a virtual channel, and in a TC recording on a MAP.
+#[derive(Clone, Copy)]
+pub struct Place {
+    pub offset: u64,
+    pub vc: u32,
+    pub map: Option<u32>,
+}
+
+/// Adds the line of an event, where it `holds`, and answers how many lines that is: one or none.
+/// `octets` is how many octets the event is of, if it is one of octets.
+#[inline(always)]
+pub fn event_lines(
+    lines: &mut Lines,
+    at: &Place,
+    event: &[u8],
+    holds: bool,
+    octets: Option<u32>,
+) -> u64
+    requires room { HasRoomFor 128 lines.old }
+    requires event { length event.now ≤ 8 }
+    ensures { AddsAmiss lines.old (event_amiss at.now.offset at.now.vc at.now.map event.now holds
+        octets) lines.new result }
+{
+    if !holds {
+        return 0;
+    }
+    event_line(lines, at, event, octets);
+    1
+}
+
+fn event_line(lines: &mut Lines, at: &Place, event: &[u8], octets: Option<u32>)
+    requires room { HasRoomFor 128 lines.old }
+    requires event { length event.now ≤ 8 }
+    ensures text { lines.new ≡ lines.old ++ event_line at.now.offset at.now.vc at.now.map
+        event.now octets }
+    ensures short { length lines.new ≤ length lines.old + 128 }
+{
+    lines.push_number(at.offset);
+    lines.push_text(event);
+    push_part(lines, b" vc ", u64::from(at.vc));
+    push_some(lines, b" map ", at.map);
+    push_some(lines, b" octets ", octets);
+    lines.push(b"\n");
+}
 
 /// Adds the line of the remainder, where there is one, and answers how many lines that is: one or none.
 pub fn remainder_lines(lines: &mut Lines, offset: u64, octets: u64) -> u64
@@ -28,31 +76,31 @@ pub fn push_totals(lines: &mut Lines, totals: &Totals)
     requires { HasRoom lines.old }
     ensures { lines.new ≡ lines.old ++ totals_line totals.now }
 {
-    push_frames(lines, totals);
-    push_packets(lines, totals);
-    lines.push(b" anomalies ");
-    lines.push_number(totals.anomalies());
+    push_part(lines, b"frames ", totals.frames());
+    push_part(lines, b" skipped ", totals.skipped());
+    push_part(lines, b" packets ", totals.packets());
+    push_part(lines, b" idle ", totals.idle());
+    push_part(lines, b" anomalies ", totals.anomalies());
     lines.push(b"\n");
 }
 
-fn push_frames(lines: &mut Lines, totals: &Totals)
-    requires { HasRoom lines.old }
-    ensures text { lines.new ≡ lines.old ++ frames_text totals.now }
-    ensures short { length lines.new ≤ length lines.old + 56 }
+// Adds a number and the word before it, if there is one.
+fn push_some(lines: &mut Lines, word: &[u8], number: Option<u32>)
+    requires { HasRoomFor (20 + length word.now) lines.old }
+    ensures text { lines.new ≡ lines.old ++ some_text word.now number }
+    ensures short { length lines.new ≤ length lines.old + (20 + length word.now) }
 {
-    lines.push(b"frames ");
-    lines.push_number(totals.frames());
-    lines.push(b" skipped ");
-    lines.push_number(totals.skipped());
+    if let Some(number) = number {
+        push_part(lines, word, u64::from(number));
+    }
 }
 
-fn push_packets(lines: &mut Lines, totals: &Totals)
-    requires { HasRoomFor 196 lines.old }
-    ensures text { lines.new ≡ lines.old ++ packets_text totals.now }
-    ensures short { length lines.new ≤ length lines.old + 55 }
+/// Adds a word and a number.
+pub fn push_part(lines: &mut Lines, word: &[u8], number: u64)
+    requires { HasRoomFor (20 + length word.now) lines.old }
+    ensures text { lines.new ≡ lines.old ++ (word.now ++ decimal number) }
+    ensures short { length lines.new ≤ length lines.old + (20 + length word.now) }
 {
-    lines.push(b" packets ");
-    lines.push_number(totals.packets());
-    lines.push(b" idle ");
-    lines.push_number(totals.idle());
+    lines.push_text(word);
+    lines.push_number(number);
 }

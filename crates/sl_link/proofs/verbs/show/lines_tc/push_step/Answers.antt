@@ -1,10 +1,7 @@
-use Rattle.std.proofs.Common.{◌≡◌, ◌++◌, ◌∷◌, ◌∙◌, [], ap, codes, append_assoc}
+use Rattle.std.proofs.Common.{◌≡◌, ◌++◌, ◌∷◌, ◌∙◌, [], ap, append_assoc, codes}
 use Rattle.hex.specs.Hex.{encode_lower}
-use Rattle.sl_cop.specs.declared.verdict.Verdict.{Verdict}
-use Rattle.sl_cop.specs.Farm.{farm_step}
 use Rattle.sl_cop.specs.FarmClcw.{clcw_of}
 use Rattle.sl_fields.specs.Clcw.{clcw_octets}
-use Rattle.sl_tcflow.specs.AcceptedUnit.{event_of}
 use Rattle.sl_tcflow.specs.Receiving.{farm_of}
 use Rattle.sl_tcflow.proofs.lemmas.Reception.Farm.{farm_next}
 use Rattle.sl_link.specs.Verbs.Show.Tc.{verdict_word}
@@ -12,15 +9,12 @@ use Rattle.sl_link.proofs.verbs.show.lines_tc.push_step.Goals as goal
 
 pub returns-clause-text : goal.returns-clause-text
 returns-clause-text c = λ r views stepped.
-    let lines = c.args.lines.now in
     let frame = c.args.frame.now in
     let next = views ++ frame ∷ [] in
-    let verdict = verdict_word c.step-verdict.result in
-    let after = (farm_step r.window (farm_of r frame.vc views).state (event_of frame.content)).1 in
     let word = encode_lower c.write.result in
     let clcw : c.clcw.result ≡ clcw_of frame.vc (farm_of r frame.vc next).state =
     c.clcw.ensures r next (c.step-verdict.ensures.farms r views stepped) ∙ ap (λ vc. clcw_of vc (farm_of r vc next).state) c.vc.ensures.value in
     let octets = c.write.ensures.octets ∙ ap clcw_octets (clcw ∙ ap (clcw_of frame.vc) (farm_next r views frame)) in
-    c.push_hex_word.ensures.text ∙ ap (λ l. l ++ word) c.push_verdict.ensures.text ∙ append_assoc lines (codes " " ++ verdict ++ codes " clcw ") word
-    ∙ ap (λ w. lines ++ (codes " " ++ (verdict ++ codes " clcw " ++ encode_lower w))) octets
-    ∙ ap (λ (v : Verdict). lines ++ (codes " " ++ (verdict_word v ++ codes " clcw " ++ encode_lower (clcw_octets (clcw_of frame.vc after))))) (c.step-verdict.ensures.verdict r views stepped)
+    rw (octets, c.step-verdict.ensures.verdict r views stepped)
+    at (c.push_hex_word.ensures.text ∙ ap (λ l. l ++ word) c.push_verdict.ensures.text
+    ∙ append_assoc c.args.lines.now (codes " " ++ verdict_word c.step-verdict.result ++ codes " clcw ") word)

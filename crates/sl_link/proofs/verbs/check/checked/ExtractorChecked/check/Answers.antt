@@ -14,6 +14,7 @@ use Rattle.sl_link.specs.Verbs.Check.Tm.{tm_amiss, tm_amiss_after, view_amiss}
 use Rattle.sl_link.proofs.lemmas.Kind.Tm.{one_processed, some_octets, wants_memory}
 use Rattle.sl_link.proofs.lemmas.Link.Fault.{memory_alone, never_failed}
 use Rattle.sl_link.proofs.lemmas.Verbs.Check.End.{checks_as}
+use Rattle.sl_link.proofs.lemmas.Verbs.Check.FewTm.{four_lines}
 use Rattle.sl_link.proofs.verbs.check.checked.ExtractorChecked.check.Goals as goal
 
 pub returns-in-Err-clause-processed : goal.returns-in-Err-clause-processed
@@ -64,7 +65,7 @@ returns-in-Ok-frame-clause-checks c =
     checks_as (tm_kind p) (tm_amiss_after p) before c.args.frame.now c.args.lines.now c.amiss_lines.new.lines _ (view_amiss offset view step.gap step.dropped step.foreign) (ended_by seen view) false
     (ap (λ n. tm_amiss n seen (as_read p c.args.frame.now)) (sym at) ∙ ap (tm_amiss offset seen) read ∙ told) (ap (ended_in seen) read) (ap is_err read)
     c.amiss_lines.ensures.text refl (c.packets.ensures ∙ c.in-Ok-frame.ensures.packets seen h.processed) (c.idle.ensures ∙ c.in-Ok-frame.ensures.idle seen h.processed)
-    c.amiss_lines.ensures.number (omega (arith, long, c.amiss_lines.ensures.few))
+    c.amiss_lines.ensures.number (omega (arith, long, c.amiss_lines.ensures.number, four_lines offset view step.gap step.dropped step.foreign))
 
 pub returns-in-Err-frame-clause-fault : goal.returns-in-Err-frame-clause-fault
 returns-in-Err-frame-clause-fault c =

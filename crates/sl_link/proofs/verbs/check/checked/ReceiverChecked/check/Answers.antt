@@ -8,12 +8,11 @@ use Rattle.sl_tcflow.specs.Receiving.{HasProcessed, ended_by}
 use Rattle.sl_link.specs.Kind.Delivery.{with_frame}
 use Rattle.sl_link.specs.Kind.Tc.{as_read, ended_in, tc_kind}
 use Rattle.sl_link.specs.Link.Managed.{reception_of, tc_format}
-use Rattle.sl_link.specs.Verbs.Check.CheckingTc.{view_amiss}
-use Rattle.sl_link.specs.Verbs.Check.Tc.{tc_amiss, tc_amiss_after}
+use Rattle.sl_link.specs.Verbs.Check.Tc.{tc_amiss, tc_amiss_after, view_amiss}
 use Rattle.sl_link.proofs.lemmas.Kind.Tc.{one_processed, wants_memory}
 use Rattle.sl_link.proofs.lemmas.Link.Fault.{memory_alone, never_failed}
 use Rattle.sl_link.proofs.lemmas.Verbs.Check.End.{checks_as}
-use Rattle.sl_link.proofs.lemmas.Verbs.Check.FewTc.{few_lines, told_by}
+use Rattle.sl_link.proofs.lemmas.Verbs.Check.FewTc.{few_lines}
 use Rattle.sl_link.proofs.verbs.check.checked.ReceiverChecked.check.Goals as goal
 
 pub returns-in-Err-clause-processed : goal.returns-in-Err-clause-processed
@@ -59,9 +58,10 @@ returns-in-Ok-frame-clause-checks c =
     let step = c.in-Ok-frame.step in
     let had = h.processed in
     let e = c.in-Ok-frame.ensures in
-    let told : tc_amiss r offset seen (Ok view) ≡ view_amiss offset view step =
-    told_by r offset seen view step (e.map r seen had) (e.verdict r seen had) (e.stray r seen had) (e.dropped r seen had) (e.long r seen had) (e.tail r seen had) in
-    checks_as (tc_kind p) (tc_amiss_after p) before frame c.args.lines.now c.amiss_lines.new.lines _ (view_amiss offset view step) (ended_by r seen view) false
+    let lines = view_amiss offset view step.verdict step.map step.stray step.dropped step.long step.tail in
+    let told : tc_amiss r offset seen (Ok view) ≡ lines =
+    rw (e.map r seen had, e.verdict r seen had, e.stray r seen had, e.dropped r seen had, e.long r seen had, e.tail r seen had) refl in
+    checks_as (tc_kind p) (tc_amiss_after p) before frame c.args.lines.now c.amiss_lines.new.lines _ lines (ended_by r seen view) false
     (ap (λ n. tc_amiss r n seen (as_read p frame)) (sym at) ∙ ap (tc_amiss r offset seen) read ∙ told) (ap (ended_in r seen) read) (ap is_err read)
     c.amiss_lines.ensures.text refl (c.packets.ensures ∙ e.packets r seen had) (c.idle.ensures ∙ e.idle r seen had) c.amiss_lines.ensures.number
     (omega (arith, c.amiss_lines.ensures.number, few_lines p frame offset seen c.requires.before.2, ap length (ap (tc_amiss r offset seen) read ∙ told)))

@@ -1,10 +1,8 @@
-use Rattle.std.proofs.Common.{◌≡◌, ◌++◌, ◌∙◌, List, Result, ap, rules, subst, sym}
-use Rattle.sl_tcframe.specs.declared.tc_frame.TcSkip.{TcSkip}
+use Rattle.std.proofs.Common.{◌≡◌, ◌++◌, ◌∙◌, List, ap, rules, subst, sym}
 use Rattle.sl_tcframe.specs.TcFrame.{TcView, tc_frame}
 use Rattle.sl_tcflow.specs.AcceptedUnit.{views_of}
 use Rattle.sl_tcflow.specs.Receiving.{HaveStepped}
 use Rattle.sl_link.specs.Io.Line.{line_at}
-use Rattle.sl_link.specs.Kind.Delivery.{with_frame}
 use Rattle.sl_link.specs.Link.Managed.{Parameters, reception_of, tc_format}
 use Rattle.sl_link.specs.Verbs.Show.Tc.{farm_view, tc_frame_text}
 use Rattle.sl_link.proofs.lemmas.Kind.Tc.{some_octets, views_next}
@@ -17,11 +15,8 @@ pub returns-clause-line : goal.returns-clause-line
 returns-clause-line c = λ before h at.
     let p = c.args.managed.now in
     let read : c.read-read.result ≡ tc_frame (tc_format p) p.spacecraft c.args.frame.now = search rules in
-    let text = c.tc_frame_line.ensures.line (reception_of p) (views_of (tc_format p) p.spacecraft before) h in
-    text
-    ∙ ap (λ (q : Parameters). c.args.lines.now ++ line_at c.args.offset (tc_frame_text q.plain (farm_view p before) c.read-read.result)) c.managed.view_is
-    ∙ ap (λ r. c.args.lines.now ++ line_at c.args.offset (tc_frame_text p.plain (farm_view p before) r)) read
-    ∙ ap (λ n. c.args.lines.now ++ line_at n (tc_frame_text p.plain (farm_view p before) (tc_frame (tc_format p) p.spacecraft c.args.frame.now))) at
+    rw (read, at) at (c.tc_frame_line.ensures.line (reception_of p) (views_of (tc_format p) p.spacecraft before) h
+    ∙ ap (λ (q : Parameters). c.args.lines.now ++ line_at c.args.offset (tc_frame_text q.plain (farm_view p before) c.read-read.result)) c.managed.view_is)
 
 pub returns-clause-shown : goal.returns-clause-shown
 returns-clause-shown c = λ before h.
@@ -30,4 +25,4 @@ returns-clause-shown c = λ before h.
     let seen = views_of (tc_format p) p.spacecraft before in
     let read : c.read-read.result ≡ tc_frame (tc_format p) p.spacecraft c.args.frame.now = search rules in
     subst (λ (views : List TcView). HaveStepped r c.tc_frame_line.new.farms views) (sym (views_next (tc_format p) p.spacecraft before c.args.frame.now))
-    (subst (λ (found : Result TcView TcSkip). HaveStepped r c.tc_frame_line.new.farms (with_frame seen found)) read (c.tc_frame_line.ensures.farms r seen h))
+    (rw read at (c.tc_frame_line.ensures.farms r seen h))

@@ -19,7 +19,7 @@ use std::io::{Read, Write};
 
 /// A verb that lists, `show`, `check` or `packets`, for one kind of frames. A clause with `before`
 /// or `frames` holds whichever frames were listed before.
-pub trait Verb: Drop {
+pub trait Verb {
     ghost use Rattle.sl_link.specs.Link.Managed.{Parameters};
     ghost use Rattle.sl_link.specs.Verbs.Listing.{Frames, Listing};
 
@@ -71,13 +71,13 @@ pub trait Verb: Drop {
 
 /// A verb, with the output that it lists into: a sink of frames.
 #[derive(Drop)]
-pub struct Lister<'a, W: Write, V: Verb> {
+pub struct Lister<'a, 'b, W: Write, V: Verb> {
     pub managed: Managed,
-    pub verb: V,
-    pub out: Output<'a, W>,
+    pub verb: &'a mut V,
+    pub out: Output<'b, W>,
 }
 
-impl<'a, W: Write, V: Verb> FrameSink for Lister<'a, W, V> {
+impl<'a, 'b, W: Write, V: Verb> FrameSink for Lister<'a, 'b, W, V> {
     ghost use Rattle.std.specs.Prelude.{◌≡◌, []};
     ghost use Rattle.sl_link.specs.Io.Output.{Adds, StopsAdding};
     ghost use Rattle.sl_link.specs.Verbs.Listing.{lines_from};
@@ -86,7 +86,7 @@ impl<'a, W: Write, V: Verb> FrameSink for Lister<'a, W, V> {
 
     // The lines of these frames were added.
     ghost took = { λ start now frames. (now.managed ≡ start.managed)
-        × V.has_listed now.verb start.managed frames × Adds W.contents start.out
+        × V.has_listed now.verb.now start.managed frames × Adds W.contents start.out
         (lines_from (V.listing start.managed).line [] frames) now.out };
 
     ghost stopped = { λ start now frames fault. StopsAdding W.contents start.out
@@ -102,7 +102,7 @@ impl<'a, W: Write, V: Verb> FrameSink for Lister<'a, W, V> {
     }
 }
 
-impl<'a, W: Write, V: Verb> Lister<'a, W, V> {
+impl<'a, 'b, W: Write, V: Verb> Lister<'a, 'b, W, V> {
     // Reads a recording to its end, and writes the listing of it.
     fn list<F: Framer, R: Read>(
         &mut self,
@@ -114,7 +114,7 @@ impl<'a, W: Write, V: Verb> Lister<'a, W, V> {
         requires none { F.waits framer.old self.old.managed [] }
         requires same { (frame : List ℕ) → F.is_frame self.old.managed frame
             → V.is_frame self.old.managed frame }
-        requires begun { V.has_listed self.old.verb self.old.managed [] }
+        requires begun { V.has_listed self.old.verb.now self.old.managed [] }
         requires empty { self.old.out.lines ≡ [] }
         ensures { (self.new.out.writer.ghost_name ≡ self.old.out.writer.ghost_name)
             × EndsListing R.remaining W.contents reader.old reader.new self.old.out.writer.now
@@ -134,7 +134,7 @@ impl<'a, W: Write, V: Verb> Lister<'a, W, V> {
 pub fn list<F: Framer, V: Verb, R: Read, W: Write>(
     managed: &Managed,
     framer: &mut F,
-    verb: V,
+    verb: &mut V,
     reader: &mut Counted<R>,
     writer: &mut Counted<W>,
     buffer: &mut [u8],
@@ -142,7 +142,7 @@ pub fn list<F: Framer, V: Verb, R: Read, W: Write>(
     requires room { 0 < length buffer.old }
     requires none { F.waits framer.old managed.now [] }
     requires same { (frame : List ℕ) → F.is_frame managed.now frame → V.is_frame managed.now frame }
-    requires begun { V.has_listed verb managed.now [] }
+    requires begun { V.has_listed verb.old managed.now [] }
     ensures { EndsListing R.remaining W.contents reader.old reader.new writer.old writer.new
         (F.frames_of managed.now) (V.listing managed.now) managed.now.max_octets
         (length buffer.old) (V.wants_memory managed.now) result }

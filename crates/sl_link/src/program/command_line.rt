@@ -126,6 +126,7 @@ pub(crate) fn parse(alloc: Global, words: &[String]) -> Result<Asked, clap::Erro
     let matches = command.try_get_matches_from_mut(words)?;
     match matches.subcommand() {
         Some((verb, found)) => Ok(asked_of(verb, found)),
+        // The parse has refused words without a verb.
         None => unreachable!(),
     }
 }
@@ -348,6 +349,7 @@ fn with_vcs(
     }
 }
 
+// The number that an option has. Words are refused where it has none.
 fn number_of_8_bits(matches: &ArgMatches<'_>, name: &str) -> u8
     ensures { result ≡ number_in 255 name.now (rows_of (found_of matches.now)) }
 {

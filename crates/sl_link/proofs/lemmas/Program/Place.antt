@@ -7,7 +7,7 @@ use Rattle.std.specs.Str.{bytes_eq}
 use Rattle.clap.specs.Faults.{defaults_fault, entered_fault, fault_of, level_fault, positional_fault, settle_fault, stray_fault, use_fault}
 use Rattle.clap.specs.Kinds.{Kinds, values_kinds}
 use Rattle.clap.specs.Simple.{Shape, built, entered, filled, label_of, new_shape, rows_at, subcommand_of, with_index}
-use Rattle.clap.specs.Walk.{Held, Row, Rule, Text, answers_to, arg_by_id, nothing_held, option_word, rows_after, settled_rows, to_positional, used_by_id}
+use Rattle.clap.specs.Walk.{Held, Row, Rule, Text, answers_to, arg_by_id, nothing_held, option_word, settled_rows, to_positional, used_by_id}
 use Rattle.clap.specs.declared.builder.value_parser.ValueParser.TheVariants.{Names as OneOf}
 use Rattle.sl_link.specs.Program.CommandLine.{Address, kind_rule, kinds_at, recording_kinds, sllink_with}
 use Rattle.sl_link.proofs.lemmas.Program.SameWalk.{SameWalk, walk_fault_is, walk_is}

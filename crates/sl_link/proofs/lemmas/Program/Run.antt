@@ -1,5 +1,5 @@
 -- A run: the flush after an engine, and the answers to help and the version.
-use Rattle.std.proofs.Common.{◌≡◌, ℕ, List, Option, inl, inr, refl, subst, sym, ◌∙◌, append-nil, []}
+use Rattle.std.proofs.Common.{◌≡◌, ℕ, List, Option, inl, inr, subst, sym, ◌∙◌, append-nil, []}
 use Rattle.std.specs.Prelude.{◌⊎◌}
 use Rattle.std.specs.Io.KnownBytes.{Keeps}
 use Rattle.std.proofs.KnownBytes.{Appends-kept}

@@ -1,5 +1,5 @@
 -- A recording that is read to its end, and kept of it what its frames deliver.
-use Rattle.std.proofs.Common.{◌≡◌, ℕ, List, [], Option, append-nil, inl, inr, refl, subst, sym, ◌∙◌}
+use Rattle.std.proofs.Common.{◌≡◌, ℕ, List, [], Option, ap, append-nil, inl, inr, refl, subst, sym, ◌∙◌}
 use Rattle.sl_link.specs.declared.link.counted.Counted.{Counted}
 use Rattle.sl_link.specs.declared.link.fault.LinkFault.{LinkFault}
 use Rattle.sl_link.specs.declared.link.fault.LinkFault.TheVariants.{Read, TooLong, Memory, Write}
@@ -25,10 +25,10 @@ module _ {R : Type 0} {remaining : R → Option (List ℕ)} {reader reader' : Co
     ]
 
     -- which may be wanted
-    pub wanted_keeping : {frames_of' : List ℕ → List (List ℕ)} → ((recording : List ℕ) → frames_of recording ≡ frames_of' recording) → fault ≡ Memory → WantedMemory remaining reader reader' frames_of' wanted
+    pub wanted_keeping : {frames_of' : List ℕ → List (List ℕ)} → frames_of ≡ frames_of' → fault ≡ Memory → WantedMemory remaining reader reader' frames_of' wanted
     wanted_keeping same e = elim s.cause [
       | inl at ↦ absurd (subst (IsReadersFault reader reader' limit buffer s.octets) e at.cause)
-      | inr at ↦ record { octets = s.octets; read = s.read; first = s.first; later = s.later; in_order = sym (same s.octets) ∙ s.in_order; wanted = at.at.1 }
+      | inr at ↦ record { octets = s.octets; read = s.read; first = s.first; later = s.later; in_order = ap (λ of. of s.octets) (sym same) ∙ s.in_order; wanted = at.at.1 }
     ]
 
   -- no writer failed

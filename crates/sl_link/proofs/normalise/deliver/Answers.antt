@@ -1,11 +1,9 @@
-use Rattle.std.proofs.Common.{◌≤◌, ◌-◌, ◌∙◌, [], ap, ap₂, arith, length, refl, subst}
+use Rattle.std.proofs.Common.{◌-◌, ◌∙◌, [], ap, ap₂, length, refl, subst}
 use Rattle.std.specs.List.{concat}
-use Rattle.sl_link.specs.Kind.Delivery.{AreKept, HasDelivered, counted}
+use Rattle.sl_link.specs.Kind.Delivery.{AreKept, counted}
 use Rattle.sl_link.specs.Link.Totals.{Counts}
 use Rattle.sl_link.specs.Tally.{counts_with_rest}
 use Rattle.sl_link.proofs.lemmas.Kind.Delivery.{none_delivered, none_kept}
-use Rattle.sl_link.proofs.lemmas.Link.Answers.{passed_up}
-use Rattle.sl_link.proofs.lemmas.Normalise.Storing.{stops_keeping, wanted_keeping}
 use Rattle.sl_link.proofs.normalise.deliver.Goals as goal
 
 pub read_recording-requires-clause-begun : goal.read_recording-requires-clause-begun

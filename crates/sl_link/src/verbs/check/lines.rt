@@ -41,7 +41,8 @@ pub fn event_lines(
     1
 }
 
-// The same, where the event holds. A place would be stored for this call before each test.
+// Adds the line of an event. Its place comes as numbers: a `Place` was stored before each test, also
+// where nothing is amiss. That was measured.
 fn event_line(
     lines: &mut Lines,
     offset: u64,

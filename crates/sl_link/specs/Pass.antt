@@ -36,33 +36,17 @@ WaitsAfter waits new p rest chunk (Some frame) = waits new p []
 -- ---- sinks of frames
 
 -- a sink that has taken some frames may take this one
-pub record MayTake {S : Type 0} (took : S → S → List (List ℕ) → Type 0) (is_frame : S → List ℕ → Type 0) (now : S)
-    (frame : List ℕ) : Type 0 where
+pub record MayTake {S : Type 0} (took : S → S → List (List ℕ) → Type 0) (is_frame : List ℕ → Type 0)
+    (now : S) (frame : List ℕ) : Type 0 where
   pub start : S
   pub before : List (List ℕ)
   pub taken : took start now before
-  pub whole : is_frame start frame
+  pub whole : is_frame frame
   pub fits : length (concat before) + length frame < 2 ^ 64
 
--- the sink has taken one frame more, whatever it had taken before
-abbrev pub TakesFrame : {S : Type 0} → (S → S → List (List ℕ) → Type 0) → S → List ℕ → S → Type 0
-TakesFrame {S} took old frame new = (start : S) (before : List (List ℕ)) → took start old before
-    → took start new (before ++ frame ∷ [])
-
--- a fault stopped the sink at this frame, whatever it had taken before
-abbrev pub StopsAtFrame : {S : Type 0} → (S → S → List (List ℕ) → Type 0) → (S → S → List (List ℕ) → LinkFault → Type 0)
-    → S → List ℕ → S → LinkFault → Type 0
-StopsAtFrame {S} took stopped old frame new fault =
-    (start : S) (before : List (List ℕ)) → took start old before → stopped start new (before ++ frame ∷ []) fault
-
--- a pause changes nothing of what the sink has taken, or a fault stopped the sink at the pause
-abbrev pub Pauses : {S : Type 0} → (S → S → List (List ℕ) → Type 0) → S → S → Type 0
-Pauses {S} took old new = (start : S) (before : List (List ℕ)) → took start old before → took start new before
-
-abbrev pub StopsPausing : {S : Type 0} → (S → S → List (List ℕ) → Type 0) → (S → S → List (List ℕ) → LinkFault → Type 0)
-    → S → S → LinkFault → Type 0
-StopsPausing {S} took stopped old new fault = (start : S) (before : List (List ℕ)) → took start old before
-    → stopped start new before fault
+-- `holds` is true whichever frames the sink has taken, and since whichever value `start`
+abbrev pub After : {S : Type 0} → (S → S → List (List ℕ) → Type 0) → S → (S → List (List ℕ) → Type 0) → Type 0
+After {S} took now holds = (start : S) (before : List (List ℕ)) → took start now before → holds start before
 
 -- ---- a whole recording
 

@@ -56,8 +56,8 @@ pub fn show_tm<R: Read, W: Write>(
 {
     let mut buffer = [0; CHUNK_SIZE];
     let mut framer = TmFramer::new(&managed.tm);
-    let verb = Show::<TmFrames>::begin(managed);
-    list(managed, &mut framer, verb, reader, writer, &mut buffer)
+    let mut verb = Show::<TmFrames>::begin(managed);
+    list(managed, &mut framer, &mut verb, reader, writer, &mut buffer)
 }
 
 /// Reads a recording of TC transfer frames (CCSDS 232.0-B) to its end and writes a line for each frame, with what
@@ -85,8 +85,8 @@ pub fn show_tc<R: Read, W: Write>(
 {
     let mut buffer = [0; CHUNK_SIZE];
     let mut framer = TcFramer::new(&managed.tc);
-    let verb = Show::<Farms>::begin(managed);
-    list(managed, &mut framer, verb, reader, writer, &mut buffer)
+    let mut verb = Show::<Farms>::begin(managed);
+    list(managed, &mut framer, &mut verb, reader, writer, &mut buffer)
 }
 
 /// Reads a recording of TM transfer frames to its end, and writes a line for each thing that is amiss in it, and
@@ -119,8 +119,8 @@ pub fn check_tm<R: Read, W: Write>(
 {
     let mut buffer = [0; CHUNK_SIZE];
     let mut framer = TmFramer::new(&managed.tm);
-    let verb = Check::<Extractor>::begin(alloc, managed);
-    list(managed, &mut framer, verb, reader, writer, &mut buffer)
+    let mut verb = Check::<Extractor>::begin(alloc, managed);
+    list(managed, &mut framer, &mut verb, reader, writer, &mut buffer)
 }
 
 /// Reads a recording of TC transfer frames to its end, and writes a line for each thing that is amiss in it, and
@@ -154,8 +154,8 @@ pub fn check_tc<R: Read, W: Write>(
 {
     let mut buffer = [0; CHUNK_SIZE];
     let mut framer = TcFramer::new(&managed.tc);
-    let verb = Check::<Receiver>::begin(alloc, managed);
-    list(managed, &mut framer, verb, reader, writer, &mut buffer)
+    let mut verb = Check::<Receiver>::begin(alloc, managed);
+    list(managed, &mut framer, &mut verb, reader, writer, &mut buffer)
 }
 
 /// Reads a recording of TM transfer frames to its end, and writes a line for each packet that its frames deliver, in
@@ -188,8 +188,8 @@ pub fn packets_tm<R: Read, W: Write>(
 {
     let mut buffer = [0; CHUNK_SIZE];
     let mut framer = TmFramer::new(&managed.tm);
-    let verb = Packets::<Extractor>::begin(alloc, managed);
-    list(managed, &mut framer, verb, reader, writer, &mut buffer)
+    let mut verb = Packets::<Extractor>::begin(alloc, managed);
+    list(managed, &mut framer, &mut verb, reader, writer, &mut buffer)
 }
 
 /// Reads a recording of TC transfer frames to its end, and writes a line for each packet that its frames deliver, in
@@ -223,6 +223,6 @@ pub fn packets_tc<R: Read, W: Write>(
 {
     let mut buffer = [0; CHUNK_SIZE];
     let mut framer = TcFramer::new(&managed.tc);
-    let verb = Packets::<Receiver>::begin(alloc, managed);
-    list(managed, &mut framer, verb, reader, writer, &mut buffer)
+    let mut verb = Packets::<Receiver>::begin(alloc, managed);
+    list(managed, &mut framer, &mut verb, reader, writer, &mut buffer)
 }

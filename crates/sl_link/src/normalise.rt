@@ -189,8 +189,7 @@ fn normalise<D: Formed, F: Framer, R: Read, W: Write>(
 ) -> Result<Totals, LinkFault>
     requires none { F.waits framer.old managed.now [] }
     requires same { (frame : List ℕ) → F.is_frame managed.now frame → D.is_frame managed.now frame }
-    requires frames { (recording : List ℕ) → F.frames_of managed.now recording
-        ≡ (D.kind managed.now).frames_of recording }
+    requires frames { F.frames_of managed.now ≡ (D.kind managed.now).frames_of }
     ensures normal_form { OnOk result (Translates R.remaining W.contents reader.old reader.new
         writer.old writer.new (form_text (D.kind managed.now) (D.form_of managed.now))
         managed.now.max_octets) }
@@ -224,8 +223,7 @@ pub fn deliver<D: Delivery, F: Framer, R: Read>(
 ) -> Result<(Delivered, Totals), LinkFault>
     requires none { F.waits framer.old managed.now [] }
     requires same { (frame : List ℕ) → F.is_frame managed.now frame → D.is_frame managed.now frame }
-    requires frames { (recording : List ℕ) → F.frames_of managed.now recording
-        ≡ (D.kind managed.now).frames_of recording }
+    requires frames { F.frames_of managed.now ≡ (D.kind managed.now).frames_of }
     ensures all { IfOk result (λ kept. KeepsAll R.remaining reader.old reader.new
         (D.kind managed.now) managed.now.max_octets kept.0.lists kept.1) }
     ensures stopped { IfErr result (StopsReadingAll R.remaining reader.old reader.new
@@ -236,7 +234,6 @@ pub fn deliver<D: Delivery, F: Framer, R: Read>(
 {
     let mut buffer = [0; CHUNK_SIZE];
     let mut store = Store {
-        managed: *managed,
         delivery: D::begin(alloc, managed),
         so_far: Totals::none(),
         delivered: Delivered::new(alloc),
@@ -253,30 +250,25 @@ pub fn deliver<D: Delivery, F: Framer, R: Read>(
 // Keeps the packets that frames deliver.
 #[derive(Drop)]
 struct Store<D: Delivery> {
-    managed: Managed,
     delivery: D,
     so_far: Totals,
     delivered: Delivered,
 }
 
 impl<D: Delivery> FrameSink for Store<D> {
-    ghost use Rattle.std.specs.Prelude.{◌≡◌};
     ghost use Rattle.sl_link.specs.Kind.Delivery.{AreKept, HasDelivered, MayWantMemory};
     ghost use Rattle.sl_link.specs.Normalise.Store.{IsRefused};
 
-    ghost is_frame = { λ store frame. D.is_frame store.managed frame };
+    ghost is_frame = { D.is_frame };
 
-    ghost took = { λ start now frames. (now.managed ≡ start.managed)
-        × HasDelivered (D.kind start.managed) (D.has_processed now.delivery start.managed) frames 0
-        now.so_far × AreKept (D.kind start.managed) frames now.delivered.lists };
+    ghost took = { λ p start now frames. HasDelivered (D.kind p) (D.has_processed now.delivery p)
+        frames 0 now.so_far × AreKept (D.kind p) frames now.delivered.lists };
 
-    ghost stopped = { λ start now frames fault. IsRefused
-        (MayWantMemory (D.kind start.managed) (D.wants_memory start.managed) frames) fault };
+    ghost stopped = { λ p start now frames fault. IsRefused (MayWantMemory (D.kind p)
+        (D.wants_memory p) frames) fault };
 
-    fn frame(&mut self, frame: &[u8]) -> Result<(), LinkFault> {
-        let report = self
-            .delivery
-            .deliver(&self.managed, frame, &mut self.delivered)?;
+    fn frame(&mut self, managed: &Managed, frame: &[u8]) -> Result<(), LinkFault> {
+        let report = self.delivery.deliver(managed, frame, &mut self.delivered)?;
         self.so_far.add(frame.len() as u64, report);
         Ok(())
     }

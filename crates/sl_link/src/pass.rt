@@ -29,13 +29,13 @@ pub fn read_recording<F: Framer, S: FrameSink, R: Read>(
     requires room { 0 < length buffer.old }
     // The framer holds no octets yet, and the sink has taken no frame, but may take each that the framer cuts.
     requires none { F.waits framer.old managed.now [] }
-    requires same { (frame : List ℕ) → F.is_frame managed.now frame → S.is_frame sink.old frame }
-    requires begun { S.took sink.old sink.old [] }
+    requires same { (frame : List ℕ) → F.is_frame managed.now frame → S.is_frame managed.now frame }
+    requires begun { S.took managed.now sink.old sink.old [] }
     ensures all { IfOk result (PassesOver R.remaining reader.old reader.new
-        (F.frames_of managed.now) (S.took sink.old sink.new) managed.now.max_octets) }
+        (F.frames_of managed.now) (S.took managed.now sink.old sink.new) managed.now.max_octets) }
     ensures fault { IfErr result (StopsPassing R.remaining reader.old reader.new
-        (F.frames_of managed.now) (S.took sink.old sink.new) (S.stopped sink.old sink.new)
-        managed.now.max_octets (length buffer.old)) }
+        (F.frames_of managed.now) (S.took managed.now sink.old sink.new)
+        (S.stopped managed.now sink.old sink.new) managed.now.max_octets (length buffer.old)) }
 {
     let limit = managed.max_octets;
     let mut octets = 0;
@@ -58,21 +58,21 @@ fn deliver_chunk<F: Framer, S: FrameSink>(
     chunk: &[u8],
 ) -> Result<(), LinkFault>
     requires ready { (start : S) × (octets : List ℕ) × HasTaken F.is_frame F.waits
-        (S.took start sink.old) managed.now framer.old octets chunk.now
-        × ((frame : List ℕ) → F.is_frame managed.now frame → S.is_frame start frame)
+        (S.took managed.now start sink.old) managed.now framer.old octets chunk.now
+        × ((frame : List ℕ) → F.is_frame managed.now frame → S.is_frame managed.now frame)
         × (length octets < 2 ^ 64) }
     ensures taken { OnOk result ((start : S) (octets : List ℕ) → HasTaken F.is_frame F.waits
-        (S.took start sink.old) managed.now framer.old octets chunk.now
-        → HasTakenAll F.is_frame F.waits F.frames_of (S.took start sink.new) managed.now framer.new
+        (S.took managed.now start sink.old) managed.now framer.old octets chunk.now → HasTakenAll
+        F.is_frame F.waits F.frames_of (S.took managed.now start sink.new) managed.now framer.new
         octets) }
     ensures fault { IfErr result (λ fault. (start : S) (octets : List ℕ) → HasTaken F.is_frame
-        F.waits (S.took start sink.old) managed.now framer.old octets chunk.now
-        → (left : List ℕ) × HasTaken F.is_frame F.waits
-        (λ frames. S.stopped start sink.new frames fault) managed.now framer.new octets left) }
+        F.waits (S.took managed.now start sink.old) managed.now framer.old octets chunk.now
+        → (left : List ℕ) × HasTaken F.is_frame F.waits (λ frames. S.stopped managed.now start
+        sink.new frames fault) managed.now framer.new octets left) }
 {
     let mut left = chunk;
     while let Some(frame) = framer.next_frame(&mut left) {
-        sink.frame(frame)?;
+        sink.frame(managed, frame)?;
     }
     sink.pause()
 }

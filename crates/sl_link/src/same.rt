@@ -99,8 +99,7 @@ fn same_packets<D: Delivery, F: Framer + Drop, A: Read, B: Read>(
 ) -> Result<bool, LinkFault>
     requires none { F.waits framers.0 managed.now [] × F.waits framers.1 managed.now [] }
     requires same { (frame : List ℕ) → F.is_frame managed.now frame → D.is_frame managed.now frame }
-    requires frames { (recording : List ℕ) → F.frames_of managed.now recording
-        ≡ (D.kind managed.now).frames_of recording }
+    requires frames { F.frames_of managed.now ≡ (D.kind managed.now).frames_of }
     ensures same { IfOk result (ComparesPackets A.remaining B.remaining one.old one.new other.old
         other.new (packets_of (D.kind managed.now)) managed.now.max_octets) }
     ensures fault { IfErr result (StopsComparing A.remaining B.remaining one.old one.new other.old

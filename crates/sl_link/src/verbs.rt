@@ -19,7 +19,7 @@ use std::io::{Read, Write};
 
 /// A verb that lists, `show`, `check` or `packets`, for one kind of frames. A clause with `before`
 /// or `frames` holds whichever frames were listed before.
-pub trait Verb: Drop {
+pub trait Verb {
     ghost use Rattle.sl_link.specs.Link.Managed.{Parameters};
     ghost use Rattle.sl_link.specs.Verbs.Listing.{Frames, Listing};
 
@@ -71,30 +71,27 @@ pub trait Verb: Drop {
 
 /// A verb, with the output that it lists into: a sink of frames.
 #[derive(Drop)]
-pub struct Lister<'a, W: Write, V: Verb> {
-    pub managed: Managed,
-    pub verb: V,
-    pub out: Output<'a, W>,
+pub struct Lister<'a, 'b, W: Write, V: Verb> {
+    pub verb: &'a mut V,
+    pub out: Output<'b, W>,
 }
 
-impl<'a, W: Write, V: Verb> FrameSink for Lister<'a, W, V> {
-    ghost use Rattle.std.specs.Prelude.{◌≡◌, []};
+impl<'a, 'b, W: Write, V: Verb> FrameSink for Lister<'a, 'b, W, V> {
+    ghost use Rattle.std.specs.Prelude.{[]};
     ghost use Rattle.sl_link.specs.Io.Output.{Adds, StopsAdding};
     ghost use Rattle.sl_link.specs.Verbs.Listing.{lines_from};
 
-    ghost is_frame = { λ s frame. V.is_frame s.managed frame };
+    ghost is_frame = { V.is_frame };
 
     // The lines of these frames were added.
-    ghost took = { λ start now frames. (now.managed ≡ start.managed)
-        × V.has_listed now.verb start.managed frames × Adds W.contents start.out
-        (lines_from (V.listing start.managed).line [] frames) now.out };
+    ghost took = { λ p start now frames. V.has_listed now.verb.now p frames
+        × Adds W.contents start.out (lines_from (V.listing p).line [] frames) now.out };
 
-    ghost stopped = { λ start now frames fault. StopsAdding W.contents start.out
-        (lines_from (V.listing start.managed).line [] frames) now.out
-        (V.wants_memory start.managed frames) fault };
+    ghost stopped = { λ p start now frames fault. StopsAdding W.contents start.out
+        (lines_from (V.listing p).line [] frames) now.out (V.wants_memory p frames) fault };
 
-    fn frame(&mut self, frame: &[u8]) -> Written {
-        self.verb.frame(&self.managed, frame, &mut self.out)
+    fn frame(&mut self, managed: &Managed, frame: &[u8]) -> Written {
+        self.verb.frame(managed, frame, &mut self.out)
     }
 
     fn pause(&mut self) -> Written {
@@ -102,29 +99,28 @@ impl<'a, W: Write, V: Verb> FrameSink for Lister<'a, W, V> {
     }
 }
 
-impl<'a, W: Write, V: Verb> Lister<'a, W, V> {
+impl<'a, 'b, W: Write, V: Verb> Lister<'a, 'b, W, V> {
     // Reads a recording to its end, and writes the listing of it.
     fn list<F: Framer, R: Read>(
         &mut self,
+        managed: &Managed,
         framer: &mut F,
         reader: &mut Counted<R>,
         buffer: &mut [u8],
     ) -> Result<Totals, LinkFault>
         requires room { 0 < length buffer.old }
-        requires none { F.waits framer.old self.old.managed [] }
-        requires same { (frame : List ℕ) → F.is_frame self.old.managed frame
-            → V.is_frame self.old.managed frame }
-        requires begun { V.has_listed self.old.verb self.old.managed [] }
+        requires none { F.waits framer.old managed.now [] }
+        requires same { (frame : List ℕ) → F.is_frame managed.now frame
+            → V.is_frame managed.now frame }
+        requires begun { V.has_listed self.old.verb.now managed.now [] }
         requires empty { self.old.out.lines ≡ [] }
         ensures { (self.new.out.writer.ghost_name ≡ self.old.out.writer.ghost_name)
             × EndsListing R.remaining W.contents reader.old reader.new self.old.out.writer.now
-            self.new.out.writer.now (F.frames_of self.old.managed) (V.listing self.old.managed)
-            self.old.managed.max_octets (length buffer.old) (V.wants_memory self.old.managed)
-            result }
+            self.new.out.writer.now (F.frames_of managed.now) (V.listing managed.now)
+            managed.now.max_octets (length buffer.old) (V.wants_memory managed.now) result }
     {
-        let managed = self.managed;
-        let octets = read_recording(&managed, framer, self, reader, buffer)?;
-        let totals = self.verb.finish(&managed, octets, &mut self.out)?;
+        let octets = read_recording(managed, framer, self, reader, buffer)?;
+        let totals = self.verb.finish(managed, octets, &mut self.out)?;
         self.out.flush()?;
         Ok(totals)
     }
@@ -134,7 +130,7 @@ impl<'a, W: Write, V: Verb> Lister<'a, W, V> {
 pub fn list<F: Framer, V: Verb, R: Read, W: Write>(
     managed: &Managed,
     framer: &mut F,
-    verb: V,
+    verb: &mut V,
     reader: &mut Counted<R>,
     writer: &mut Counted<W>,
     buffer: &mut [u8],
@@ -142,18 +138,17 @@ pub fn list<F: Framer, V: Verb, R: Read, W: Write>(
     requires room { 0 < length buffer.old }
     requires none { F.waits framer.old managed.now [] }
     requires same { (frame : List ℕ) → F.is_frame managed.now frame → V.is_frame managed.now frame }
-    requires begun { V.has_listed verb managed.now [] }
+    requires begun { V.has_listed verb.old managed.now [] }
     ensures { EndsListing R.remaining W.contents reader.old reader.new writer.old writer.new
         (F.frames_of managed.now) (V.listing managed.now) managed.now.max_octets
         (length buffer.old) (V.wants_memory managed.now) result }
 {
     let mut lister = Lister {
-        managed: *managed,
         verb,
         out: Output {
             writer,
             lines: Lines::new(),
         },
     };
-    lister.list(framer, reader, buffer)
+    lister.list(managed, framer, reader, buffer)
 }

@@ -1,5 +1,4 @@
 pub mod Form
 pub mod Forms
 pub mod Separation
-pub mod Storing
 pub mod Whole

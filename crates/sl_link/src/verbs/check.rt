@@ -1,5 +1,5 @@
 //! What is amiss in a recording as lines.
-ghost use Rattle.std.specs.Prelude.{◌≡◌, ◌-◌, ◌≤◌, [], ℕ, List, length, flat_map, IfOk, IfErr, OnOk};
+ghost use Rattle.std.specs.Prelude.{◌≡◌, ◌-◌, ◌≤◌, [], length, flat_map, IfOk, IfErr, OnOk};
 ghost use Rattle.std.specs.List.{concat};
 ghost use Rattle.sl_link.specs.Io.Output.{Adds, StopsAdding};
 ghost use Rattle.sl_link.specs.Link.Managed.{Parameters};

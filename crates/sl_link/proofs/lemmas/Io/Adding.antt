@@ -12,11 +12,6 @@ use Rattle.sl_link.specs.Io.Output.{Adds, StopsAdding}
 use Rattle.sl_link.specs.Io.Streams.{AddsText, IsListingFault, StopsWriting, WritesText}
 use Rattle.sl_link.proofs.lemmas.Io.Faults.{HadOneFault-since, split_front}
 
--- `?` passes a fault up
-pub passed_up : {T : Type 0} (r : Result T LinkFault) (fault : LinkFault) (P : LinkFault → Type 0) → IsErrAnd r (λ e. e ≡ fault) → P fault → IfErr r P
-passed_up (Ok t) fault P is p = tt
-passed_up (Err e) fault P is p = subst P (sym is) p
-
 module _ {W : Type 0} (contents : W → Option (List ℕ)) where
   pub AddsText-trans : (old mid new : Counted W) (pending pending' pending'' text more : List ℕ)
       → AddsText contents old mid pending pending' text → AddsText contents mid new pending' pending'' more

@@ -16,7 +16,7 @@ use Rattle.sl_packet.specs.Sink.{TakesAll}
 use Rattle.sl_packet.specs.Stopping.{IsStopped}
 use Rattle.sl_packet.proofs.DeliveredLemmas.{length-empty_lists, list_at-empty_lists, list_at-with_packet}
 use Rattle.sl_link.specs.declared.tally.FrameReport.{FrameReport}
-use Rattle.sl_link.specs.Kind.Delivery.{AreDelivered, AreKept, Brings, Delivers, StopsDelivering, HasDelivered, IsReport, IsWithin, Kind, count_of, idle_in, lists_in, packets_in, with_frame, with_packets}
+use Rattle.sl_link.specs.Kind.Delivery.{AreDelivered, AreKept, Delivers, StopsDelivering, HasDelivered, IsReport, IsWithin, Kind, count_of, idle_in, lists_in, packets_in, with_frame, with_packets}
 use Rattle.sl_link.specs.Link.Totals.{Counts}
 use Rattle.sl_link.specs.Tally.{counts_more, no_counts}
 use Rattle.sl_link.proofs.lemmas.Tally.{counted_more}

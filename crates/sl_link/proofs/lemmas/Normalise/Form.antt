@@ -72,13 +72,6 @@ module _ {W : Type 0} {contents : W → Option (List ℕ)} {old new : Counted W}
     | inr stopped ↦ inr stopped
   ]
 
-  -- only where the writer failed is anything written
-  pub nothing_of_form : fault ≢ Write → new ≡ old
-  nothing_of_form other = elim s [
-    | inl refused ↦ refused.1
-    | inr stopped ↦ absurd (other stopped.is_write)
-  ]
-
   -- and memory is wanted only where there are packets
   pub wanted_for_form : fault ≡ Memory → packets
   wanted_for_form is_memory = elim s [

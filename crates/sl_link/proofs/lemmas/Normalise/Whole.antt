@@ -1,12 +1,13 @@
 -- A recording that is read whole, and a normal form of it that is written after that.
-use Rattle.std.proofs.Common.{◌≡◌, ℕ, List, [], Option, inl, inr, refl, subst, sym}
+use Rattle.std.proofs.Common.{◌≡◌, ℕ, List, [], Option, append-nil, inl, inr, refl, subst, sym}
 use Rattle.std.proofs.KnownBytes.{Appends-nil}
 use Rattle.sl_link.specs.declared.link.counted.Counted.{Counted}
 use Rattle.sl_link.specs.declared.link.fault.LinkFault.{LinkFault}
 use Rattle.sl_link.specs.declared.link.fault.LinkFault.TheVariants.{Read, TooLong, Memory, Write}
-use Rattle.sl_link.specs.Io.Streams.{IsCaused, IsReadingAllFault, ReadsAll, Stops, StopsReadingAll, Translates, Writes, WritesPrefix, WritesText}
+use Rattle.sl_link.specs.Io.Streams.{IsCaused, IsReadingAllFault, Reads, ReadsAll, Stops, StopsReadingAll, Translates, Writes, WritesPrefix, WritesText}
 use Rattle.sl_link.specs.Link.Counted.{stream_of}
 use Rattle.sl_link.specs.Normalise.Form.{StopsForm}
+use Rattle.sl_link.specs.Verbs.Listing.{WantedMemory}
 
 module _ {R W : Type 0} {remaining : R → Option (List ℕ)} {contents : W → Option (List ℕ)} {reader reader' : Counted R} {writer : Counted W} {text : List ℕ → List ℕ} {limit : ℕ} where
   -- a fault before anything is written,
@@ -51,3 +52,9 @@ module _ {R W : Type 0} {remaining : R → Option (List ℕ)} {contents : W → 
       reader_kept = r.no_fault;
       writer_kept = w.no_fault;
     }
+
+-- memory is wanted after the last frame
+pub wanted_at_end : {R : Type 0} {remaining : R → Option (List ℕ)} {reader reader' : Counted R} {frames_of : List ℕ → List (List ℕ)} {wants : List (List ℕ) → Type 0} (octets : List ℕ)
+    → Reads remaining reader reader' octets → wants (frames_of octets) → WantedMemory remaining reader reader' frames_of wants
+wanted_at_end {frames_of} octets read wanted =
+    record { octets = octets; read = read; first = frames_of octets; later = []; in_order = sym (append-nil (frames_of octets)); wanted = wanted }

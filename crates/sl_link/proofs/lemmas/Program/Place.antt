@@ -19,11 +19,11 @@ verb_at name kinds = record (unwrap_or (slice_get (built (sllink_with kinds)).su
 abbrev rules_at : Bor (List (Bor Text)) → List Rule
 rules_at kinds = (verb_at [] kinds).rules
 
--- the rule of its kind, and those after it
+-- the rule of its kind, the first
 abbrev kind_at : Bor (List (Bor Text)) → Rule
 kind_at kinds = with_index 1 (filled (kind_rule kinds))
 
--- one of two things in both cases
+-- where the first of two things is taken in both cases, or the other
 choose : {X : Type 0} (P : Option X → Option X → Type 0) {x x' : X} → P (Some x) (Some x') → (o o' : Option X) → P o o' → (b : Bool) → P (cond b (Some x) o) (cond b (Some x') o')
 choose P here o o' later true = here
 choose P here o o' later false = later
@@ -39,7 +39,7 @@ module _ (list tm tc : Address) where
   values_is [] = refl
   values_is (v ∷ vs) = simp (values_is vs)
 
-  -- the rules of an id
+  -- what holds of both rules of the kind, and of any other rule twice, holds of the rules of an id
   by_id_is : (P : Option Rule → Option Rule → Type 0) → P (Some (kind_at k)) (Some (kind_at l)) → ((o : Option Rule) → P o o) → (id : Text) → P (arg_by_id (rules_at k) id) (arg_by_id (rules_at l) id)
   by_id_is P kind same id = choose P kind (arg_by_id (drop 1 (rules_at l)) id) _ (same _) (bytes_eq (codes "kind") id)
 
@@ -69,7 +69,7 @@ module _ (list tm tc : Address) where
         (simp settle_is) None None refl (1 == i);
   }
 
-  -- the verb that a word names
+  -- what holds of both of each verb, and of any other command twice, holds of the commands that a word names
   verb_is : (P : Option Shape → Option Shape → Type 0) → ((name : Text) → P (Some (verb_at name k)) (Some (verb_at name l))) → ((o : Option Shape) → P o o)
       → (word : Text) → P (find (λ s. answers_to word (label_of s)) (built (sllink_with k)).subs) (find (λ s. answers_to word (label_of s)) (built (sllink_with l)).subs)
   verb_is P verb same word = go (codes "show") _ _ (go (codes "check") _ _ (go (codes "packets") _ _ (go (codes "normalise") _ _ (same _))))

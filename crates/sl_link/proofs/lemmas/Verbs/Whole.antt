@@ -70,17 +70,17 @@ module _ {R W : Type 0} (remaining : R → Option (List ℕ)) (contents : W → 
     )
 
     -- a fault before all was read
-    pub stops_frames : (same : Type 0) (has_listed : Frames → Type 0) (fault : LinkFault)
-        → StopsPassing remaining reader reader' frames_of (λ frames. same × has_listed frames × Adds contents start (lines_from l.line [] frames) new)
+    pub stops_frames : (has_listed : Frames → Type 0) (fault : LinkFault)
+        → StopsPassing remaining reader reader' frames_of (λ frames. has_listed frames × Adds contents start (lines_from l.line [] frames) new)
         (λ frames. StopsAdding contents start (lines_from l.line [] frames) new (wants_memory frames)) limit buffer fault
         → Ends (Err fault)
-    stops_frames same has_listed fault s =
+    stops_frames has_listed fault s =
         let more = lines_from l.line s.first s.later ++ l.last (frames_of s.octets) (rest_after (frames_of s.octets) s.octets) in
         let text = later_text s.octets s.first s.later s.in_order in
         elim s.cause [
           | inl at ↦
-              let t = at.done.2.adds in (
-                at.done.2.lent,
+              let t = at.done.1.adds in (
+                at.done.1.lent,
                 record {
                   listing = tt;
                   totals = tt;

@@ -1,9 +1,8 @@
 use Rattle.std.proofs.Common.{◌∙◌, ap, inr}
 use Rattle.sl_link.proofs.lemmas.Kind.Delivery.{all_kept, some_kept}
 use Rattle.sl_link.proofs.lemmas.Link.Answers.{passed_up}
-use Rattle.sl_link.proofs.lemmas.Normalise.Form.{nothing_of_form, wanted_for_form}
-use Rattle.sl_link.proofs.lemmas.Normalise.Storing.{not_writing, wanted_at_end}
-use Rattle.sl_link.proofs.lemmas.Normalise.Whole.{stops_at_form, stops_at_reading, translates}
+use Rattle.sl_link.proofs.lemmas.Normalise.Form.{wanted_for_form}
+use Rattle.sl_link.proofs.lemmas.Normalise.Whole.{stops_at_form, stops_at_reading, translates, wanted_at_end}
 use Rattle.sl_link.proofs.normalise.normalise.Goals as goal
 
 pub returns-in_err-delivered-clause-fault : goal.returns-in_err-delivered-clause-fault

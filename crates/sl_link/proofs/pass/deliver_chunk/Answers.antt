@@ -45,11 +45,11 @@ returns-clause-taken g c =
     on_ok_weaker c.pause.result (λ paused start octets given.
     let h = c.loop-frame.invariant start octets given in
     let w = c.next_frame.follows.holds-at-none p h.rest h.waiting in
-    taken_all h g.met.F.Framer.front {framer' = c.next_frame.follows.lender-at-none} (c.in_default.ensures.none p h.rest h.waiting) (rw c.in_default.is at w) (paused start h.frames h.done)) c.pause.ensures.taken
+    taken_all h g.met.F.Framer.front {framer' = c.next_frame.follows.lender-at-none} (c.in_default.ensures.none p h.rest h.waiting) (rw c.in_default.is at w) (paused p start h.frames h.done)) c.pause.ensures.taken
 
 pub returns-clause-fault : goal.returns-clause-fault
 returns-clause-fault g c =
     MatchResult-weaker c.pause.result c.pause.ensures.fault (λ _ u. u) (λ fault stops start octets given.
     let h = c.loop-frame.invariant start octets given in
     let w = c.next_frame.follows.holds-at-none c.args.managed.now h.rest h.waiting in
-    ([], taken_so_far h {framer' = c.next_frame.follows.lender-at-none} (rw c.in_default.is at w) (stops start h.frames h.done)))
+    ([], taken_so_far h {framer' = c.next_frame.follows.lender-at-none} (rw c.in_default.is at w) (stops c.args.managed.now start h.frames h.done)))

@@ -4,8 +4,8 @@ use Rattle.sl_link.proofs.pass.deliver_chunk.Given as goal
 
 abbrev pub invariant-loop-frame : goal.invariant-loop-frame
 invariant-loop-frame g l =
-    (start : g.row.S.Denot) (octets : List ℕ) → HasTaken g.F.Framer.is_frame g.F.Framer.waits (g.S.FrameSink.took start l.fn.sink) l.managed l.fn.framer octets l.chunk
-    → HasTaken g.F.Framer.is_frame g.F.Framer.waits (g.S.FrameSink.took start l.sink) l.managed l.framer octets l.left
+    (start : g.row.S.Denot) (octets : List ℕ) → HasTaken g.F.Framer.is_frame g.F.Framer.waits (g.S.FrameSink.took l.managed start l.fn.sink) l.managed l.fn.framer octets l.chunk
+    → HasTaken g.F.Framer.is_frame g.F.Framer.waits (g.S.FrameSink.took l.managed start l.sink) l.managed l.framer octets l.left
 
 abbrev pub decreases-loop-frame : goal.decreases-loop-frame
 decreases-loop-frame g l = length l.left

@@ -1,5 +1,3 @@
-use Rattle.std.proofs.Common.{inl, inr, refl}
-use Rattle.sl_link.proofs.lemmas.Link.Answers.{passed_up}
 use Rattle.sl_link.proofs.lemmas.Same.{same_kept}
 use Rattle.sl_link.proofs.same.same_packets.Goals as goal
 

@@ -1,14 +1,9 @@
-use Rattle.std.proofs.Common.{rules, ◌≡◌, ◌≢◌, ◌≤◌, ◌∙◌, [], arith, length, true, false, Ok, Err, ap, refl, subst, sym}
-use Rattle.std.specs.Prelude.{Result, is_err}
+use Rattle.std.proofs.Common.{rules, ◌≡◌, ◌≢◌, ◌∙◌, arith, Ok, Err, ap, refl}
+use Rattle.std.specs.Prelude.{is_err}
 use Rattle.sl_packet.specs.declared.flow_fault.FlowFault.TheVariants.{Failed}
-use Rattle.sl_tmframe.specs.declared.tm_frame.TmSkip.{TmSkip}
-use Rattle.sl_tmframe.specs.TmFrame.{TmView}
 use Rattle.sl_tmflow.specs.Channel.{views_of}
-use Rattle.sl_tmflow.specs.Extraction.{HasProcessed, ended_by}
-use Rattle.sl_link.specs.Kind.Tm.{WantsMemoryTm, as_read, ended_in, tm_kind, vc_of}
-use Rattle.sl_link.specs.Kind.Delivery.{with_frame}
-use Rattle.sl_link.specs.Link.Managed.{Parameters, tm_format}
-use Rattle.sl_link.specs.Link.ManagedModel.{parameters_of}
+use Rattle.sl_link.specs.Kind.Tm.{as_read, ended_in, vc_of}
+use Rattle.sl_link.specs.Link.Managed.{tm_format}
 use Rattle.sl_link.proofs.lemmas.Kind.Delivery.{delivers_as, stops_as}
 use Rattle.sl_link.proofs.lemmas.Kind.Tm.{one_processed, some_octets, wants_memory}
 use Rattle.sl_link.proofs.lemmas.Link.Fault.{never_failed}

@@ -1,12 +1,8 @@
-use Rattle.std.proofs.Common.{rules, ◌≡◌, ◌≢◌, ◌∙◌, [], true, false, Ok, Err, ap, refl, subst, sym}
-use Rattle.std.specs.Prelude.{Result, is_err}
+use Rattle.std.proofs.Common.{rules, ◌≡◌, ◌≢◌, ◌∙◌, Ok, Err, ap, refl}
+use Rattle.std.specs.Prelude.{is_err}
 use Rattle.sl_packet.specs.declared.flow_fault.FlowFault.TheVariants.{Failed}
-use Rattle.sl_tcframe.specs.declared.tc_frame.TcSkip.{TcSkip}
-use Rattle.sl_tcframe.specs.TcFrame.{TcView}
 use Rattle.sl_tcflow.specs.AcceptedUnit.{views_of}
-use Rattle.sl_tcflow.specs.Receiving.{HasProcessed, ended_by, unit_channel}
-use Rattle.sl_link.specs.Kind.Tc.{WantsMemoryTc, as_read, channel_of, ended_in, tc_kind}
-use Rattle.sl_link.specs.Kind.Delivery.{with_frame}
+use Rattle.sl_link.specs.Kind.Tc.{as_read, channel_of, ended_in}
 use Rattle.sl_link.specs.Link.Managed.{reception_of, tc_format}
 use Rattle.sl_link.proofs.lemmas.Kind.Delivery.{delivers_as, stops_as}
 use Rattle.sl_link.proofs.lemmas.Kind.Tc.{one_processed, some_octets, wants_memory}

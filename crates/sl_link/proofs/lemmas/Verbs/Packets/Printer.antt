@@ -14,7 +14,7 @@ use Rattle.sl_link.specs.declared.link.fault.LinkFault.TheVariants.{Memory, Writ
 use Rattle.sl_link.specs.declared.verbs.packets.printer.ChannelKind.{ChannelKind}
 use Rattle.sl_link.specs.declared.verbs.packets.printer.Printer.{Printer}
 use Rattle.sl_link.specs.Io.Output.{Adds, StopsAdding}
-use Rattle.sl_link.specs.Link.Fault.{flow_fault, sink_fault}
+use Rattle.sl_link.specs.Link.Fault.{flow_fault}
 use Rattle.sl_link.specs.Verbs.Packets.ChannelName.{channel_name}
 use Rattle.sl_link.specs.Verbs.Packets.Line.{packet_line}
 use Rattle.sl_link.specs.Verbs.Packets.Printed.{lines_on}

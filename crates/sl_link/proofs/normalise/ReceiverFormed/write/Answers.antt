@@ -1,4 +1,4 @@
-use Rattle.std.proofs.Common.{◌≡◌, ◌≢◌, ◌∙◌, List, [], ℕ, arith, length, refl, subst, sym, take}
+use Rattle.std.proofs.Common.{◌≡◌, ◌≢◌, ◌∙◌, List, [], ℕ, arith, length, refl, subst, sym}
 use Rattle.std.proofs.lemmas.List.{take_all}
 use Rattle.sl_tcflow.specs.FitsTc.{FitsTc}
 use Rattle.sl_tcflow.proofs.lemmas.Form.Left.{none_at_all}

@@ -1,6 +1,4 @@
-use Rattle.std.proofs.Common.{arith, inl, inr, ◌++◌, ◌∷◌, [], sym, subst}
-use Rattle.sl_link.specs.Kind.Delivery.{AreKept, HasDelivered, MayWantMemory}
-use Rattle.sl_link.specs.Link.Managed.{Parameters}
+use Rattle.std.proofs.Common.{arith, inl, inr, ◌++◌, ◌∷◌, []}
 use Rattle.sl_link.proofs.lemmas.Kind.Delivery.{delivered_more, fits_more, kept_more, packets_more}
 use Rattle.sl_link.proofs.lemmas.Link.Answers.{passed_up}
 use Rattle.sl_link.proofs.lemmas.Link.Fault.{memory_refused, wanted_or_some}
@@ -8,43 +6,34 @@ use Rattle.sl_link.proofs.normalise.StoreFrameSink.frame.Goals as goal
 
 pub add-requires-clause-within : goal.add-requires-clause-within
 add-requires-clause-within g c =
-    let p = c.args.self.now.managed in
-    let t = c.requires.taken in
+    let p = c.args.managed.now in
     let before = c.requires.before in
-    let h = subst (λ (q : Parameters). HasDelivered (g.D.Delivery.kind q) (g.D.Delivery.has_processed c.args.self.now.delivery q) before 0 c.args.self.now.so_far) (sym t.0) t.1 in
-    let had = h.processed in
+    let d = c.requires.taken.0 in
     let within = g.met.D.Delivery.within in
-    fits_more (g.D.Delivery.kind p) (within _ p before had).delivered h (c.in_ok-report.ensures.delivers before had).brings.reported
-    (within _ p (before ++ c.args.frame.now ∷ []) (c.in_ok-report.ensures.processed before had))
+    fits_more (g.D.Delivery.kind p) (within _ p before d.processed).delivered d (c.in_ok-report.ensures.delivers before d.processed).brings.reported
+    (within _ p (before ++ c.args.frame.now ∷ []) (c.in_ok-report.ensures.processed before d.processed))
 
 pub returns-in_err-report-clause-fault : goal.returns-in_err-report-clause-fault
 returns-in_err-report-clause-fault g c =
     passed_up _ _ c.from_residual.ensures.1 (λ start before t.
-    let p = c.args.self.now.managed in
-    let frame = c.args.frame.now in
-    let had = subst (λ (q : Parameters). g.D.Delivery.has_processed c.args.self.now.delivery q before) (sym t.0) t.1.processed in
+    let p = c.args.managed.now in
+    let had = t.0.processed in
     let s = c.in_err-report.ensures.stopped before had in (
       memory_refused _ _ (λ old channel packet fault new fails. fails.0) _ _ _ _ _ s.stopped,
-      subst (λ (q : Parameters). MayWantMemory (g.D.Delivery.kind q) (g.D.Delivery.wants_memory q) (before ++ frame ∷ [])) t.0
-          (elim (wanted_or_some _ _ _ _ _ _ _ s.stopped s.wanted) [
-            | inl wanted ↦ inl wanted
-            | inr some ↦ inr (omega (arith, some, packets_more (g.D.Delivery.kind p) (g.met.D.Delivery.within _ p before had).delivered before frame))
-          ]),
+      elim (wanted_or_some _ _ _ _ _ _ _ s.stopped s.wanted) [
+        | inl wanted ↦ inl wanted
+        | inr some ↦ inr (omega (arith, some, packets_more (g.D.Delivery.kind p) (g.met.D.Delivery.within _ p before had).delivered before c.args.frame.now))
+      ],
     ))
 
 pub returns-clause-taken : goal.returns-clause-taken
 returns-clause-taken g c = λ start before t.
-    let p = c.args.self.now.managed in
+    let p = c.args.managed.now in
     let k = g.D.Delivery.kind p in
-    let frame = c.args.frame.now in
-    let h = subst (λ (q : Parameters). HasDelivered (g.D.Delivery.kind q) (g.D.Delivery.has_processed c.args.self.now.delivery q) before 0 c.args.self.now.so_far) (sym t.0) t.1 in
-    let kept = subst (λ (q : Parameters). AreKept (g.D.Delivery.kind q) before c.args.self.now.delivered.lists) (sym t.0) t.2 in
-    let had = h.processed in
+    let had = t.0.processed in
     let laws = (g.met.D.Delivery.within _ p before had).delivered in
     let d = c.in_ok-report.ensures.delivers before had in
-    let more = delivered_more k laws h d.brings.reported {anomalies' = 0} (c.in_ok-report.ensures.processed before had) (omega (arith, d.brings.no_anomalies)) (omega (arith, d.brings.some, d.brings.no_anomalies)) in (
-      t.0,
-      subst (λ (q : Parameters). HasDelivered (g.D.Delivery.kind q) (g.D.Delivery.has_processed c.deliver.new.self q) (before ++ frame ∷ []) 0 c.add.new.self) t.0 (rw c.add.ensures more),
-      subst (λ (q : Parameters). AreKept (g.D.Delivery.kind q) (before ++ frame ∷ []) c.deliver.new.sink.lists) t.0
-          (kept_more k laws before frame c.args.self.now.delivered c.deliver.new.sink kept d.accepted),
+    let b = d.brings in (
+      rw c.add.ensures (delivered_more k laws t.0 b.reported (c.in_ok-report.ensures.processed before had) (omega (arith, b.no_anomalies)) (omega (arith, b.some, b.no_anomalies))),
+      kept_more k laws before c.args.frame.now c.args.self.now.delivered c.deliver.new.sink t.1 d.accepted,
     )

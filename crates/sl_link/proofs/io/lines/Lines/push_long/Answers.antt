@@ -3,23 +3,15 @@ use Rattle.sl_link.specs.Io.Digits.{four_digits}
 use Rattle.sl_link.proofs.lemmas.Io.Digits.{decimal_by_four, decimal_of_four, decimal_of_three}
 use Rattle.sl_link.proofs.io.lines.Lines.push_long.Goals as goal
 
-two : (n : ℕ) (leading last : List ℕ) → 10000 ≤ n → n < 2 ^ 64 → leading ≡ decimal (n / 10000) → last ≡ four_digits (n % 10000) → leading ++ last ≡ decimal n
-two n leading last long fits first end =
-    ap (λ (d : List ℕ). d ++ last) first ∙ ap (λ (d : List ℕ). decimal (n / 10000) ++ d) end ∙ sym (decimal_by_four n long fits)
-
 pub returns-in-Some-clause-text : goal.returns-in-Some-clause-text
 returns-in-Some-clause-text c =
-    c.push_two.ensures.text
-    ∙ ap (λ (d : List ℕ). c.args.self.now ++ d)
-    (two c.args.number _ c.last_four-last.result (omega (arith, c.if-number-ge10000.true)) c.ranges.number.fits c.in-Some.ensures.digits c.last_four-last.ensures)
+    let whole = decimal_by_four c.args.number (omega (arith, c.if-number-ge10000.true)) c.ranges.number.fits in
+    cc (c.push_two.ensures.text, c.in-Some.ensures.digits, c.last_four-last.ensures, whole)
 
 pub returns-in-None-clause-text : goal.returns-in-None-clause-text
 returns-in-None-clause-text c =
-    let number = c.args.number in
-    c.push_anew.ensures.text
-    ∙ ap (λ (d : List ℕ). c.args.self.now ++ d)
-    (ap (λ (d : List ℕ). decimal (number / 10000) ++ d) c.last_four-last.ensures
-    ∙ sym (decimal_by_four number (omega (arith, c.if-number-ge10000.true)) c.ranges.number.fits))
+    let whole = decimal_by_four c.args.number (omega (arith, c.if-number-ge10000.true)) c.ranges.number.fits in
+    cc (c.push_anew.ensures.text, c.last_four-last.ensures, whole)
 
 short : (n : ℕ) (last : List ℕ) → n < 10000 → last ≡ four_digits (n % 10000) → last ≡ four_digits n
 short n last few end =
@@ -29,9 +21,9 @@ short n last few end =
 pub returns-then-number-ge1000-clause-text : goal.returns-then-number-ge1000-clause-text
 returns-then-number-ge1000-clause-text c =
     let few : c.args.number < 10000 = omega (arith, c.if-number-ge10000.false) in
-    c.push.ensures
-    ∙ ap (λ (d : List ℕ). c.args.self.now ++ d)
-    (short c.args.number _ few c.last_four-last.ensures ∙ sym (decimal_of_four c.args.number (omega (arith, c.if-number-ge1000.true)) few))
+    let whole = decimal_of_four c.args.number (omega (arith, c.if-number-ge1000.true)) few in
+    let last = short c.args.number _ few c.last_four-last.ensures in
+    cc (c.push.ensures, last, whole)
 
 pub returns-else-number-ge1000-clause-text : goal.returns-else-number-ge1000-clause-text
 returns-else-number-ge1000-clause-text c =

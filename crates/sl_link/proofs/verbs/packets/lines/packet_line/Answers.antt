@@ -1,16 +1,17 @@
 use Rattle.std.proofs.Common.{codes, refl}
 use Rattle.sl_link.specs.Verbs.Packets.Line.{fields_text}
-use Rattle.sl_link.proofs.lemmas.Io.Adding.{adds_both, adds_lines, adds_none, passed_up, stops_first, stops_last, stops_then}
+use Rattle.sl_link.proofs.lemmas.Io.Adding.{adds_both, adds_lines, adds_none, stops_first, stops_last, stops_then}
+use Rattle.sl_link.proofs.lemmas.Link.Answers.{passed_up}
 use Rattle.sl_link.proofs.verbs.packets.lines.packet_line.Goals as goal
 
 pub returns-in_err-push_octets-clause-fault : goal.returns-in_err-push_octets-clause-fault
 returns-in_err-push_octets-clause-fault g c =
-    passed_up _ _ _ c.from_residual.ensures.1
+    passed_up _ _ c.from_residual.ensures.1
     (stops_first (codes "\n") (stops_then (adds_lines _ c.args.out.now _ (fields_text c.args.packet.now) refl c.push_fields.ensures) c.in_err-push_octets.ensures.fault))
 
 pub returns-in_err-make_room-clause-fault : goal.returns-in_err-make_room-clause-fault
 returns-in_err-make_room-clause-fault g c =
-    passed_up _ _ _ c.from_residual-in_err-make_room.ensures.1
+    passed_up _ _ c.from_residual-in_err-make_room.ensures.1
     (stops_first (codes "\n") (stops_last (adds_both (adds_lines _ c.args.out.now _ (fields_text c.args.packet.now) refl c.push_fields.ensures) c.in_ok-push_octets.ensures.text)
     c.in_err-make_room.ensures.fault))
 

@@ -1,6 +1,7 @@
 use Rattle.std.proofs.Common.{◌≡◌, ◌++◌, refl, sym}
 use Rattle.std.proofs.lemmas.List.{take-append-drop}
-use Rattle.sl_link.proofs.lemmas.Io.Adding.{adds_both, adds_lines, passed_up}
+use Rattle.sl_link.proofs.lemmas.Io.Adding.{adds_both, adds_lines}
+use Rattle.sl_link.proofs.lemmas.Link.Answers.{passed_up}
 use Rattle.sl_link.proofs.lemmas.Verbs.Packets.Octets.{pushing_none, pushing_next, pushing_stops}
 use Rattle.sl_link.proofs.verbs.packets.lines.push_octets.Goals as goal
 
@@ -8,7 +9,7 @@ pub loop-left-init : goal.loop-left-init
 loop-left-init g c = pushing_none c.args.out.now c.args.octets.now
 
 pub returns-in_err-make_room-clause-fault : goal.returns-in_err-make_room-clause-fault
-returns-in_err-make_room-clause-fault g c = passed_up _ _ _ c.from_residual.ensures.1 (pushing_stops c.loop-left.invariant c.in_err-make_room.ensures.fault)
+returns-in_err-make_room-clause-fault g c = passed_up _ _ c.from_residual.ensures.1 (pushing_stops c.loop-left.invariant c.in_err-make_room.ensures.fault)
 
 pub loop-left-preserved : goal.loop-left-preserved
 loop-left-preserved g c =

@@ -126,7 +126,7 @@ impl Checked for Extractor {
             map: None,
         };
         let octets = self.held(channel as u8);
-        event_lines(lines, &at, b" open", octets > 0, Some(octets))
+        event_lines(lines, at, b" open", octets > 0, Some(octets))
     }
 }
 
@@ -182,6 +182,6 @@ impl Checked for Receiver {
             map: Some(u32::from(map)),
         };
         let octets = self.held(vc, map);
-        event_lines(lines, &at, b" open", self.is_open(vc, map), Some(octets))
+        event_lines(lines, at, b" open", self.is_open(vc, map), Some(octets))
     }
 }

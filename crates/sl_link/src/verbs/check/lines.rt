@@ -24,34 +24,42 @@ pub struct Place {
 #[inline(always)]
 pub fn event_lines(
     lines: &mut Lines,
-    at: &Place,
+    at: Place,
     event: &[u8],
     holds: bool,
     octets: Option<u32>,
 ) -> u64
     requires room { HasRoomFor 128 lines.old }
     requires event { length event.now ≤ 8 }
-    ensures { AddsAmiss lines.old (event_amiss at.now.offset at.now.vc at.now.map event.now holds
-        octets) lines.new result }
+    ensures { AddsAmiss lines.old (event_amiss at.offset at.vc at.map event.now holds octets)
+        lines.new result }
 {
     if !holds {
         return 0;
     }
-    event_line(lines, at, event, octets);
+    event_line(lines, at.offset, at.vc, at.map, event, octets);
     1
 }
 
-fn event_line(lines: &mut Lines, at: &Place, event: &[u8], octets: Option<u32>)
+// Adds the line of an event. Its place comes as numbers: a `Place` was stored before each test, also
+// where nothing is amiss. That was measured.
+fn event_line(
+    lines: &mut Lines,
+    offset: u64,
+    vc: u32,
+    map: Option<u32>,
+    event: &[u8],
+    octets: Option<u32>,
+)
     requires room { HasRoomFor 128 lines.old }
     requires event { length event.now ≤ 8 }
-    ensures text { lines.new ≡ lines.old ++ event_line at.now.offset at.now.vc at.now.map
-        event.now octets }
+    ensures text { lines.new ≡ lines.old ++ event_line offset vc map event.now octets }
     ensures short { length lines.new ≤ length lines.old + 128 }
 {
-    lines.push_number(at.offset);
+    lines.push_number(offset);
     lines.push_text(event);
-    push_part(lines, b" vc ", u64::from(at.vc));
-    push_some(lines, b" map ", at.map);
+    push_part(lines, b" vc ", u64::from(vc));
+    push_some(lines, b" map ", map);
     push_some(lines, b" octets ", octets);
     lines.push(b"\n");
 }

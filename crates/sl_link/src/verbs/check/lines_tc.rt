@@ -63,6 +63,7 @@ fn discards(verdict: Verdict) -> bool
 }
 
 // The lines of what is amiss, in their order.
+#[cold]
 fn step_lines(lines: &mut Lines, offset: u64, view: &TcFrame, step: &TcStep) -> u64
     requires { HasRoom lines.old }
     ensures text { lines.new ≡ lines.old ++ concat (view_amiss offset view.now step.now.verdict
@@ -78,10 +79,10 @@ fn step_lines(lines: &mut Lines, offset: u64, view: &TcFrame, step: &TcStep) -> 
     let dropped = step.dropped();
     let tail = step.tail();
     let discarded = discarded_lines(lines, offset, view, step.verdict());
-    let stray = event_lines(lines, &at, b" stray", step.stray(), None);
-    let drops = event_lines(lines, &at, b" dropped", dropped.is_some(), dropped);
-    let long = event_lines(lines, &at, b" long", step.long(), None);
-    let tails = event_lines(lines, &at, b" tail", tail > 0, Some(tail));
+    let stray = event_lines(lines, at, b" stray", step.stray(), None);
+    let drops = event_lines(lines, at, b" dropped", dropped.is_some(), dropped);
+    let long = event_lines(lines, at, b" long", step.long(), None);
+    let tails = event_lines(lines, at, b" tail", tail > 0, Some(tail));
     discarded + stray + drops + long + tails
 }
 

@@ -39,9 +39,9 @@ pub fn amiss_lines(lines: &mut Lines, offset: u64, view: &TmFrame, step: &TmStep
     };
     let dropped = step.dropped();
     let gaps = gap_lines(lines, offset, view, step.gap());
-    let drops = event_lines(lines, &at, b" dropped", dropped > 0, Some(dropped));
-    let opaque = event_lines(lines, &at, b" opaque", is_opaque(view.field()), None);
-    let foreign = event_lines(lines, &at, b" foreign", step.foreign(), None);
+    let drops = event_lines(lines, at, b" dropped", dropped > 0, Some(dropped));
+    let opaque = event_lines(lines, at, b" opaque", is_opaque(view.field()), None);
+    let foreign = event_lines(lines, at, b" foreign", step.foreign(), None);
     gaps + drops + opaque + foreign
 }
 

@@ -2,70 +2,65 @@
 use Rattle.std.proofs.Common.{◌≡◌, ◌≢◌, ℕ, zero, suc, ◌+◌, ◌-◌, ◌<◌, ◌≤◌, List, [], ◌∷◌, ◌++◌, length, map, Option, refl, sym, ◌∙◌, ap, subst, arith, append_assoc, append-nil, length-append}
 use Rattle.std.specs.Prelude.{flat_map}
 use Rattle.std.specs.List.{concat, range_with_len}
-use Rattle.std.proofs.lemmas.Grind.{flat_map-append}
 use Rattle.std.proofs.lemmas.List.Folds.{concat-append}
 use Rattle.sl_link.specs.declared.io.output.Output.{Output}
 use Rattle.sl_link.specs.declared.link.fault.LinkFault.{LinkFault}
 use Rattle.sl_link.specs.Io.Output.{Adds, StopsAdding}
 use Rattle.sl_link.specs.Kind.Delivery.{AreDelivered, Kind, count_of}
-use Rattle.sl_link.proofs.lemmas.Io.Adding.{adds_both, stops_first, stops_last}
+use Rattle.sl_link.proofs.lemmas.Io.Adding.{adds_both, adds_lines, stops_first, stops_last}
 use Rattle.sl_link.proofs.lemmas.Kind.Channels.{items_change, no_items}
-
-range_split : (from m n : ℕ) → range_with_len from (m + n) ≡ range_with_len from m ++ range_with_len (from + m) n
-range_split from zero n =
-    let e : zero + n ≡ n = omega arith in
-    let e' : from ≡ from + zero = omega arith in
-    ap (range_with_len from) e ∙ ap (λ k. range_with_len k n) e'
-range_split from (suc m) n =
-    let e : suc m + n ≡ suc (m + n) = omega arith in
-    let e' : (from + 1) + m ≡ from + suc m = omega arith in
-    ap (range_with_len from) e ∙ ap (λ l. from ∷ l) (range_split (from + 1) m n ∙ ap (λ k. range_with_len (from + 1) m ++ range_with_len k n) e')
 
 -- ---- while they are added, by the line of each channel
 
-module _ (line : ℕ → List (List ℕ)) where
-  -- those of the channels before one
-  abbrev pub lines_to : ℕ → List (List ℕ)
-  lines_to channel = flat_map line (range_with_len 0 channel)
+none_in : (line : ℕ → List (List ℕ)) (from n : ℕ) → ((channel : ℕ) → from ≤ channel → channel < from + n → line channel ≡ []) → flat_map line (range_with_len from n) ≡ []
+none_in line from zero none = refl
+none_in line from (suc n) none =
+    ap (λ l. l ++ flat_map line (range_with_len (from + 1) n)) (none from (omega arith) (omega arith))
+    ∙ none_in line (from + 1) n (λ channel above below. none channel (omega (arith, above)) (omega (arith, below)))
 
-  split_at : (m n : ℕ) → lines_to (m + n) ≡ lines_to m ++ flat_map line (range_with_len m n)
-  split_at m n =
-      let e : 0 + m ≡ m = omega arith in
-      ap (flat_map line) (range_split 0 m n ∙ ap (λ k. range_with_len 0 m ++ range_with_len k n) e) ∙ flat_map-append line (range_with_len 0 m) (range_with_len m n)
+-- the lines of the channels before one were added, and this is their number
+pub record HasAdded {W : Type 0} (contents : W → Option (List ℕ)) (line : ℕ → List (List ℕ)) (k : Kind) (start out : Output W) (channel number : ℕ) : Type 0 where
+  pub lines : List (List ℕ)
+  pub all : flat_map line k.channels ≡ lines ++ flat_map line (range_with_len channel (k.limit - channel))
+  pub added : Adds contents start (concat lines) out
+  pub many : number ≡ length lines
 
-  one_more : (channel : ℕ) → lines_to (channel + 1) ≡ lines_to channel ++ line channel
-  one_more channel = split_at channel 1 ∙ ap (λ l. lines_to channel ++ l) (append-nil (line channel))
+module _ {W : Type 0} {contents : W → Option (List ℕ)} {line : ℕ → List (List ℕ)} {k : Kind} {start : Output W} where
+  pub added_none : k.channels ≡ range_with_len 0 k.limit → HasAdded contents line k start start 0 0
+  added_none all =
+      let whole : k.limit ≡ k.limit - 0 = omega arith in
+      record {
+        lines = [];
+        all = ap (flat_map line) (all ∙ ap (range_with_len 0) whole);
+        added = adds_lines contents start start [] refl (sym (append-nil start.lines));
+        many = refl;
+      }
 
-  none_in : (from n : ℕ) → ((channel : ℕ) → from ≤ channel → channel < from + n → line channel ≡ []) → flat_map line (range_with_len from n) ≡ []
-  none_in from zero none = refl
-  none_in from (suc n) none =
-      ap (λ l. l ++ flat_map line (range_with_len (from + 1) n)) (none from (omega arith) (omega arith))
-      ∙ none_in (from + 1) n (λ channel above below. none channel (omega (arith, above)) (omega (arith, below)))
+  pub added_next : {old new : Output W} {channel number more : ℕ} → HasAdded contents line k start old channel number → channel < k.limit
+      → Adds contents old (concat (line channel)) new → more ≡ length (line channel) → HasAdded contents line k start new (channel + 1) (number + more)
+  added_next {channel = channel} h within adds is =
+      let later = flat_map line (range_with_len (channel + 1) (k.limit - (channel + 1))) in
+      let left : k.limit - channel ≡ suc (k.limit - (channel + 1)) = omega (arith, within) in
+      record {
+        lines = h.lines ++ line channel;
+        all = h.all ∙ ap (λ n. h.lines ++ flat_map line (range_with_len channel n)) left ∙ sym (append_assoc h.lines (line channel) later);
+        added = rw (concat-append h.lines (line channel)) (adds_both h.added adds);
+        many = omega (arith, h.many, is, length-append h.lines (line channel));
+      }
+
+  -- a fault before the next ones leaves a prefix of them
+  pub added_stops : {old new : Output W} {channel number : ℕ} {fault : LinkFault} → HasAdded contents line k start old channel number
+      → StopsAdding contents old [] new ⊥ fault → StopsAdding contents start (concat (flat_map line k.channels)) new ⊥ fault
+  added_stops {channel = channel} h stops =
+      let later = flat_map line (range_with_len channel (k.limit - channel)) in
+      rw (h.all, concat-append h.lines later) (stops_first (concat later) (stops_last h.added stops))
 
   -- where the channels from one on have none, they are those of all channels
-  pub lines_whole : (channels : List ℕ) (limit channel : ℕ) → channels ≡ range_with_len 0 limit → channel ≤ limit
-      → ((other : ℕ) → channel ≤ other → other < limit → line other ≡ []) → lines_to channel ≡ flat_map line channels
-  lines_whole channels limit channel all within none =
-      let sum : channel + (limit - channel) ≡ limit = omega (arith, within) in
-      let past = none_in channel (limit - channel) (λ other above below. none other above (omega (arith, below, within))) in
-      sym (append-nil (lines_to channel)) ∙ ap (λ l. lines_to channel ++ l) (sym past) ∙ sym (split_at channel (limit - channel))
-      ∙ ap lines_to sum ∙ ap (flat_map line) (sym all)
-
-  pub number_next : (number more channel : ℕ) → number ≡ length (lines_to channel) → more ≡ length (line channel) → number + more ≡ length (lines_to (channel + 1))
-  number_next number more channel listed counts = omega (arith, listed, counts, ap length (one_more channel), length-append (lines_to channel) (line channel))
-
-  module _ {W : Type 0} {contents : W → Option (List ℕ)} {start old new : Output W} (channel : ℕ) (listed : Adds contents start (concat (lines_to channel)) old) where
-    pub lines_next : Adds contents old (concat (line channel)) new → Adds contents start (concat (lines_to (channel + 1))) new
-    lines_next next = rw (one_more channel, concat-append (lines_to channel) (line channel)) (adds_both listed next)
-
-    -- a fault before the next one leaves a prefix of them
-    pub lines_stop : (limit : ℕ) (all : List (List ℕ)) {fault : LinkFault} → channel ≤ limit → lines_to limit ≡ all → StopsAdding contents old [] new ⊥ fault
-        → StopsAdding contents start (concat all) new ⊥ fault
-    lines_stop limit all within are stops =
-        let others = flat_map line (range_with_len channel (limit - channel)) in
-        let sum : channel + (limit - channel) ≡ limit = omega (arith, within) in
-        let whole : all ≡ lines_to channel ++ others = sym are ∙ ap lines_to (sym sum) ∙ split_at channel (limit - channel) in
-        rw (whole, concat-append (lines_to channel) others) (stops_first (concat others) (stops_last listed stops))
+  pub added_all : {out : Output W} {channel number : ℕ} → HasAdded contents line k start out channel number → channel ≤ k.limit
+      → ((other : ℕ) → channel ≤ other → other < k.limit → line other ≡ []) → Adds contents start (concat (flat_map line k.channels)) out × (number ≡ length (flat_map line k.channels))
+  added_all {channel = channel} h within none =
+      let past = none_in line channel (k.limit - channel) (λ other above below. none other above (omega (arith, below, within))) in
+      rw (h.all, past, append-nil h.lines) (h.added, h.many)
 
 -- ---- how many they are
 

@@ -14,11 +14,6 @@ returns-in_err-taken-clause-fault g c =
     let limit = ap (λ (p : Parameters). p.max_octets) c.managed.view_is in
     passed_up _ _ c.from_residual.ensures.1 (stops_reading c.loop-taken.invariant g.met.F.Framer.front limit (omega (arith, c.read_some.auto.buffer, c.loop-taken.auto.buffer)) c.in_err-taken.ensures.fault)
 
-pub returns-then-taken-eq0-clause-all : goal.returns-then-taken-eq0-clause-all
-returns-then-taken-eq0-clause-all g c =
-    let limit = ap (λ (p : Parameters). p.max_octets) c.managed.view_is in
-    passed_over c.loop-taken.invariant c.in_ok-taken.ensures.came limit c.if-taken-eq0.true (omega (arith, c.requires.room, c.read_some.auto.buffer, c.loop-taken.auto.buffer))
-
 pub deliver_chunk-requires : goal.deliver_chunk-requires
 deliver_chunk-requires g c =
     let s = c.loop-taken.invariant in

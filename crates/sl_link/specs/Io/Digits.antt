@@ -1,5 +1,6 @@
 -- Digits of numbers, and of octets in hexadecimal. Contracts of private functions alone cite these.
-use Rattle.std.specs.Prelude.{◌≡◌, ◌≤◌, ℕ, ◌+◌, ◌*◌, ◌/◌, ◌%◌, List, [], ◌∷◌, ◌++◌, decimal, drop, length, slice_index, take}
+use Rattle.std.specs.Prelude.{◌≡◌, ◌≤◌, ℕ, ◌+◌, ◌*◌, ◌/◌, ◌%◌, List, [], ◌∷◌, ◌++◌, decimal}
+use Rattle.std.specs.Prelude.{drop, length, slice_index, take}
 use Rattle.hex.specs.Hex.{encode_lower}
 
 -- the places begin with the digits of the number, and the last place says how many these are, three at most
@@ -19,7 +20,8 @@ two_digits n = (48 + n / 10) ∷ (48 + n % 10) ∷ []
 abbrev pub four_digits : ℕ → List ℕ
 four_digits n = two_digits (n / 100) ++ two_digits (n % 100)
 
--- n octets, from one of these on, were put into a buffer in hexadecimal, where those before it stand from the place `at` on
+-- n octets, from one of these on, were put into a buffer in hexadecimal. The first of all has the
+-- place `at`.
 pub record PutsBlock (octets : List ℕ) (from n at : ℕ) (before after : List ℕ) : Type 0 where
   pub text : take (at + 2 * (from + n)) after
       ≡ take (at + 2 * from) before ++ encode_lower (take n (drop from octets))

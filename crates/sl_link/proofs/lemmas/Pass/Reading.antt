@@ -1,14 +1,13 @@
 -- Pieces read one after another, whose frames are handed over.
-use Rattle.std.proofs.Common.{◌≡◌, ℕ, ◌+◌, ◌-◌, ◌<◌, ◌≤◌, List, [], ◌∷◌, ◌++◌, length, take, Option, refl, ◌∙◌, ap, arith, append_assoc, append-nil, length-append, length-take-le, inl, inr}
+use Rattle.std.proofs.Common.{◌≡◌, ℕ, ◌+◌, ◌-◌, ◌≤◌, List, [], ◌∷◌, ◌++◌, length, take, Option, refl, ◌∙◌, ap, arith, append_assoc, append-nil, length-append, length-take-le, inl, inr}
 use Rattle.std.proofs.KnownBytes.{Consumes-nil, Consumes-trans}
-use Rattle.std.specs.List.{concat}
 use Rattle.sl_link.specs.declared.link.counted.Counted.{Counted}
 use Rattle.sl_link.specs.declared.link.fault.LinkFault.{LinkFault}
 use Rattle.sl_link.specs.declared.link.fault.LinkFault.TheVariants.{Read, TooLong, Memory, Write}
 use Rattle.sl_link.specs.Link.Counted.{stream_of, faults_of}
 use Rattle.sl_link.specs.Link.Managed.{Parameters}
 use Rattle.sl_link.specs.Io.Streams.{Reads, ReadsSome, StopsReading, IsReadFault}
-use Rattle.sl_link.specs.Pass.{HasTaken, HasTakenAll, PassesOver, StopsPassing, IsReadersFault}
+use Rattle.sl_link.specs.Pass.{HasTaken, HasTakenAll, StopsPassing, IsReadersFault}
 use Rattle.sl_link.proofs.lemmas.Io.Faults.{HadOneFault-since}
 use Rattle.sl_link.proofs.lemmas.Pass.Handing.{taken_first}
 
@@ -47,19 +46,6 @@ module _ {R F : Type 0} {remaining : R → Option (List ℕ)} {is_frame : Parame
       allowed = omega (arith, came.allowed, s.allowed);
       no_fault = came.no_fault ∙ s.no_fault;
       all = all;
-    }
-
-    -- nothing more came
-    pub passed_over : {most : ℕ} → limit ≡ most → k ≡ 0 → 0 < length buffer → PassesOver remaining reader reader' (frames_of p) taken most n
-    passed_over same none some = record {
-      octets = s.octets;
-      within = omega (arith, same, s.size, s.allowed);
-      read = rw append-nil at (reads_on reader' [] (rw none at came.read));
-      to_end = came.to_end none some;
-      no_fault = came.no_fault ∙ s.no_fault;
-      size = s.size;
-      inside = omega (arith, simp length-append at (ap length s.all.cut.parts), ap (λ fs. length (concat fs)) s.all.all);
-      all = rw s.all.all s.all.cut.done;
     }
 
   caused : (reader' : Counted R) (most room : ℕ) (buffer octets : List ℕ) (fault : LinkFault) → limit ≡ most → length buffer ≡ room → length octets ≤ length buffer → IsReadFault mid reader' (limit - n) octets fault

@@ -4,9 +4,6 @@ use Rattle.sl_link.proofs.lemmas.Link.Answers.{passed_up}
 use Rattle.sl_link.proofs.lemmas.Pass.Handing.{fits_next, taken_next, taken_so_far, taken_all}
 use Rattle.sl_link.proofs.pass.deliver_chunk.Goals as goal
 
-pub loop-frame-init : goal.loop-frame-init
-loop-frame-init g c = λ start octets h. h
-
 pub next_frame-requires : goal.next_frame-requires
 next_frame-requires g c =
     let r = c.requires.ready in

@@ -1,7 +1,7 @@
 use Rattle.std.proofs.Common.{[], ap, arith, refl, take, ◌++◌}
 use Rattle.sl_link.proofs.lemmas.Link.Answers.{passed_up}
 use Rattle.sl_link.specs.Link.Managed.{Parameters}
-use Rattle.sl_link.proofs.lemmas.Pass.Reading.{passing_none, more_came, size_next, passing_next, passed_over, stops_reading, stops_in_chunk}
+use Rattle.sl_link.proofs.lemmas.Pass.Reading.{passing_none, more_came, size_next, passing_next, stops_reading, stops_in_chunk}
 use Rattle.sl_link.proofs.pass.read_recording.Goals as goal
 
 pub loop-taken-init : goal.loop-taken-init
@@ -13,11 +13,6 @@ pub returns-in_err-taken-clause-fault : goal.returns-in_err-taken-clause-fault
 returns-in_err-taken-clause-fault g c =
     let limit = ap (λ (p : Parameters). p.max_octets) c.managed.view_is in
     passed_up _ _ c.from_residual.ensures.1 (stops_reading c.loop-taken.invariant g.met.F.Framer.front limit (omega (arith, c.read_some.auto.buffer, c.loop-taken.auto.buffer)) c.in_err-taken.ensures.fault)
-
-pub returns-then-taken-eq0-clause-all : goal.returns-then-taken-eq0-clause-all
-returns-then-taken-eq0-clause-all g c =
-    let limit = ap (λ (p : Parameters). p.max_octets) c.managed.view_is in
-    passed_over c.loop-taken.invariant c.in_ok-taken.ensures.came limit c.if-taken-eq0.true (omega (arith, c.requires.room, c.read_some.auto.buffer, c.loop-taken.auto.buffer))
 
 pub deliver_chunk-requires : goal.deliver_chunk-requires
 deliver_chunk-requires g c =

@@ -2,7 +2,8 @@
 ghost use Rattle.std.specs.Prelude.{◌≡◌, ◌+◌, ◌-◌, ◌^◌, ◌<◌, ◌≤◌, ◌++◌, ◌∷◌, [], ℕ, List, length, IfOk, IfErr, OnOk};
 ghost use Rattle.std.specs.List.{concat};
 ghost use Rattle.sl_link.specs.Io.Output.{Adds, StopsAdding};
-ghost use Rattle.sl_link.specs.Verbs.Listing.{EndsListing};
+ghost use Rattle.sl_link.specs.Pass.{PassesOver, StopsPassing};
+ghost use Rattle.sl_link.specs.Verbs.Listing.{EndsListing, lines_from};
 
 pub mod check;
 pub mod packets;
@@ -71,27 +72,29 @@ pub trait Verb {
 
 /// A verb, with the output that it lists into: a sink of frames.
 #[derive(Drop)]
-pub struct Lister<'a, 'b, W: Write, V: Verb> {
+pub struct Lister<'a, 'b, 'c, W: Write, V: Verb> {
     pub verb: &'a mut V,
-    pub out: Output<'b, W>,
+    pub out: &'b mut Output<'c, W>,
 }
 
-impl<'a, 'b, W: Write, V: Verb> FrameSink for Lister<'a, 'b, W, V> {
-    ghost use Rattle.std.specs.Prelude.{[]};
+impl<'a, 'b, 'c, W: Write, V: Verb> FrameSink for Lister<'a, 'b, 'c, W, V> {
+    ghost use Rattle.std.specs.Prelude.{◌≡◌, []};
     ghost use Rattle.sl_link.specs.Io.Output.{Adds, StopsAdding};
     ghost use Rattle.sl_link.specs.Verbs.Listing.{lines_from};
 
     ghost is_frame = { V.is_frame };
 
-    // The lines of these frames were added.
-    ghost took = { λ p start now frames. V.has_listed now.verb.now p frames
-        × Adds W.contents start.out (lines_from (V.listing p).line [] frames) now.out };
+    // The verb and the output are those that were lent, and the lines of these frames were added.
+    ghost took = { λ p start now frames. (now.verb.ghost_name ≡ start.verb.ghost_name)
+        × (now.out.ghost_name ≡ start.out.ghost_name) × V.has_listed now.verb.now p frames
+        × Adds W.contents start.out.now (lines_from (V.listing p).line [] frames) now.out.now };
 
-    ghost stopped = { λ p start now frames fault. StopsAdding W.contents start.out
-        (lines_from (V.listing p).line [] frames) now.out (V.wants_memory p frames) fault };
+    ghost stopped = { λ p start now frames fault. (now.out.ghost_name ≡ start.out.ghost_name)
+        × StopsAdding W.contents start.out.now (lines_from (V.listing p).line [] frames)
+        now.out.now (V.wants_memory p frames) fault };
 
     fn frame(&mut self, managed: &Managed, frame: &[u8]) -> Written {
-        self.verb.frame(managed, frame, &mut self.out)
+        self.verb.frame(managed, frame, self.out)
     }
 
     fn pause(&mut self) -> Written {
@@ -99,31 +102,59 @@ impl<'a, 'b, W: Write, V: Verb> FrameSink for Lister<'a, 'b, W, V> {
     }
 }
 
-impl<'a, 'b, W: Write, V: Verb> Lister<'a, 'b, W, V> {
-    // Reads a recording to its end, and writes the listing of it.
-    fn list<F: Framer, R: Read>(
-        &mut self,
-        managed: &Managed,
-        framer: &mut F,
-        reader: &mut Counted<R>,
-        buffer: &mut [u8],
-    ) -> Result<Totals, LinkFault>
-        requires room { 0 < length buffer.old }
-        requires none { F.waits framer.old managed.now [] }
-        requires same { (frame : List ℕ) → F.is_frame managed.now frame
-            → V.is_frame managed.now frame }
-        requires begun { V.has_listed self.old.verb.now managed.now [] }
-        requires empty { self.old.out.lines ≡ [] }
-        ensures { (self.new.out.writer.ghost_name ≡ self.old.out.writer.ghost_name)
-            × EndsListing R.remaining W.contents reader.old reader.new self.old.out.writer.now
-            self.new.out.writer.now (F.frames_of managed.now) (V.listing managed.now)
-            managed.now.max_octets (length buffer.old) (V.wants_memory managed.now) result }
-    {
-        let octets = read_recording(managed, framer, self, reader, buffer)?;
-        let totals = self.verb.finish(managed, octets, &mut self.out)?;
-        self.out.flush()?;
-        Ok(totals)
-    }
+// Lists the frames of a recording, and answers how many octets were read. The last lines may still wait.
+fn list_frames<F: Framer, V: Verb, R: Read, W: Write>(
+    managed: &Managed,
+    framer: &mut F,
+    verb: &mut V,
+    reader: &mut Counted<R>,
+    out: &mut Output<W>,
+    buffer: &mut [u8],
+) -> Result<u64, LinkFault>
+    requires room { 0 < length buffer.old }
+    requires none { F.waits framer.old managed.now [] }
+    requires same { (frame : List ℕ) → F.is_frame managed.now frame → V.is_frame managed.now frame }
+    requires begun { V.has_listed verb.old managed.now [] }
+    requires empty { out.old.lines ≡ [] }
+    ensures all { IfOk result (PassesOver R.remaining reader.old reader.new
+        (F.frames_of managed.now) (λ frames. V.has_listed verb.new managed.now frames
+        × Adds W.contents out.old (lines_from (V.listing managed.now).line [] frames) out.new)
+        managed.now.max_octets) }
+    ensures fault { IfErr result (StopsPassing R.remaining reader.old reader.new
+        (F.frames_of managed.now) (λ frames. V.has_listed verb.new managed.now frames
+        × Adds W.contents out.old (lines_from (V.listing managed.now).line [] frames) out.new)
+        (λ frames. StopsAdding W.contents out.old
+        (lines_from (V.listing managed.now).line [] frames) out.new
+        (V.wants_memory managed.now frames)) managed.now.max_octets (length buffer.old)) }
+{
+    let managed = *managed;
+    let mut lister = Lister { verb, out };
+    read_recording(&managed, framer, &mut lister, reader, buffer)
+}
+
+// Reads a recording to its end, and writes the listing of it into an output in which no line waits.
+fn list_into<F: Framer, V: Verb, R: Read, W: Write>(
+    managed: &Managed,
+    framer: &mut F,
+    verb: &mut V,
+    reader: &mut Counted<R>,
+    out: &mut Output<W>,
+    buffer: &mut [u8],
+) -> Result<Totals, LinkFault>
+    requires room { 0 < length buffer.old }
+    requires none { F.waits framer.old managed.now [] }
+    requires same { (frame : List ℕ) → F.is_frame managed.now frame → V.is_frame managed.now frame }
+    requires begun { V.has_listed verb.old managed.now [] }
+    requires empty { out.old.lines ≡ [] }
+    ensures { (out.new.writer.ghost_name ≡ out.old.writer.ghost_name)
+        × EndsListing R.remaining W.contents reader.old reader.new out.old.writer.now
+        out.new.writer.now (F.frames_of managed.now) (V.listing managed.now)
+        managed.now.max_octets (length buffer.old) (V.wants_memory managed.now) result }
+{
+    let octets = list_frames(managed, framer, verb, reader, out, buffer)?;
+    let totals = verb.finish(managed, octets, out)?;
+    out.flush()?;
+    Ok(totals)
 }
 
 /// Reads a recording to its end, and writes the listing of it.
@@ -143,12 +174,9 @@ pub fn list<F: Framer, V: Verb, R: Read, W: Write>(
         (F.frames_of managed.now) (V.listing managed.now) managed.now.max_octets
         (length buffer.old) (V.wants_memory managed.now) result }
 {
-    let mut lister = Lister {
-        verb,
-        out: Output {
-            writer,
-            lines: Lines::new(),
-        },
+    let mut out = Output {
+        writer,
+        lines: Lines::new(),
     };
-    lister.list(managed, framer, reader, buffer)
+    list_into(managed, framer, verb, reader, &mut out, buffer)
 }

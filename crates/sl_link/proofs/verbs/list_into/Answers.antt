@@ -1,11 +1,12 @@
 use Rattle.std.proofs.lemmas.Result.{err_from_is_err_and}
 use Rattle.sl_link.proofs.lemmas.Verbs.Whole.{stops_frames, stops_finish, stops_flush, lists_all}
-use Rattle.sl_link.proofs.verbs.Lister.list.Goals as goal
+use Rattle.sl_link.proofs.verbs.list_into.Goals as goal
 
 pub returns-in_err-octets : goal.returns-in_err-octets
 returns-in_err-octets g c =
+    let s = c.in_err-octets.ensures.fault in
     let out = err_from_is_err_and c.from_residual.result c.from_residual.ensures.1 in
-    rw (out.1, out.2) (stops_frames _ _ (g.V.Verb.listing c.args.managed.now) _ _ _ _ _ _ _ _ c.requires.empty _ _ c.in_err-octets.ensures.fault)
+    rw (out.1, out.2) (stops_frames _ _ (g.V.Verb.listing c.args.managed.now) _ _ _ _ _ _ _ _ c.requires.empty _ _ s)
 
 pub returns-in_err-totals : goal.returns-in_err-totals
 returns-in_err-totals g c =

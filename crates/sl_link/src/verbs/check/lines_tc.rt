@@ -63,7 +63,6 @@ fn discards(verdict: Verdict) -> bool
 }
 
 // The lines of what is amiss, in their order.
-#[cold]
 fn step_lines(lines: &mut Lines, offset: u64, view: &TcFrame, step: &TcStep) -> u64
     requires { HasRoom lines.old }
     ensures text { lines.new ≡ lines.old ++ concat (view_amiss offset view.now step.now.verdict

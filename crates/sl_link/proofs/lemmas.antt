@@ -6,5 +6,4 @@ pub mod Normalise
 pub mod Pass
 pub mod Program
 pub mod Same
-pub mod Tally
 pub mod Verbs

@@ -1,5 +1,4 @@
 -- The program: its command line, and what a run does.
 pub mod Answer
 pub mod CommandLine
-pub mod Engine
 pub mod Run

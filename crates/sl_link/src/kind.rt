@@ -1,14 +1,19 @@
 //! Delivery of the packets of frames of either kind, TM or TC.
-ghost use Rattle.std.specs.Prelude.{◌++◌, ◌∷◌, [], ℕ, List, OnOk, IfOk, IfErr};
+ghost use Rattle.std.specs.Prelude.{◌≡◌, ◌++◌, ◌∷◌, [], ℕ, List, OnOk, IfOk, IfErr};
+ghost use Rattle.sl_link.specs.Kind.Tc.{ns_of};
+ghost use Rattle.sl_link.specs.Kind.Tm.{is_opaque};
+ghost use Rattle.sl_tcframe.specs.TcContent.{content};
+ghost use Rattle.sl_tmframe.specs.TmField.{data_field};
 ghost use Rattle.sl_link.specs.Kind.Delivery.{Delivers, StopsDelivering};
 
 use crate::link::managed::Managed;
 use crate::tally::{FrameReport, SKIPPED};
+use sl_cop::Verdict;
 use sl_packet::{FlowFault, PacketSink};
 use sl_tcflow::Receiver;
-use sl_tcframe::TcFrame;
+use sl_tcframe::{TcContent, TcFrame, TcSkip};
 use sl_tmflow::Extractor;
-use sl_tmframe::TmFrame;
+use sl_tmframe::{TmField, TmFrame, TmSkip};
 use std::alloc::Global;
 
 /// Delivers the packets of frames of one kind. The frames are given one after another. A clause
@@ -16,6 +21,9 @@ use std::alloc::Global;
 pub trait Delivery: Drop {
     ghost use Rattle.sl_link.specs.Link.Managed.{Parameters};
     ghost use Rattle.sl_link.specs.Kind.Delivery.{IsWithin, Kind};
+
+    /// What is found of a frame.
+    type Found: Copy;
 
     /// Whether octets are a frame.
     ghost is_frame: { Parameters → List ℕ → Type 0 };
@@ -29,25 +37,32 @@ pub trait Delivery: Drop {
     /// Whether memory may be refused at the last of these frames.
     ghost wants_memory: { Parameters → List (List ℕ) → Type 0 };
 
+    /// What is found of a frame that comes after others.
+    ghost found: { Parameters → List (List ℕ) → List ℕ → Self.Found };
+
     /// No frame has been processed yet. Memory is taken only as frames come.
     fn begin(alloc: Global, managed: &Managed) -> Self
         ensures { has_processed result managed.now [] };
 
-    /// Hands a sink the packets that end in the next frame, idle packets left out, and reports on
-    /// the frame. In a skipped frame no packet ends. The fault is the sink's, or `Memory`.
+    /// Hands a sink the packets that end in the next frame, idle packets left out. Answers the report
+    /// on the frame, and what is found of it. In a skipped frame no packet ends. The fault is the
+    /// sink's, or `Memory`.
     fn deliver<S: PacketSink>(
         &mut self,
         managed: &Managed,
         frame: &[u8],
         sink: &mut S,
-    ) -> Result<FrameReport, FlowFault>
+    ) -> Result<(FrameReport, Self::Found), FlowFault>
         requires { (before : List (List ℕ)) × has_processed self.old managed.now before
             × is_frame managed.now frame.now }
         ensures processed { OnOk result ((before : List (List ℕ)) → has_processed self.old managed.now
             before → has_processed self.new managed.now (before ++ frame.now ∷ [])) }
-        ensures delivers { IfOk result (λ report. (before : List (List ℕ))
+        ensures delivers { IfOk result (λ answer. (before : List (List ℕ))
             → has_processed self.old managed.now before
-            → Delivers S.taking (kind managed.now) before frame.now sink.old report sink.new) }
+            → Delivers S.taking (kind managed.now) before frame.now sink.old answer.0 sink.new) }
+        ensures found { IfOk result (λ answer. (before : List (List ℕ))
+            → has_processed self.old managed.now before
+            → answer.1 ≡ found managed.now before frame.now) }
         ensures stopped { IfErr result (λ fault. (before : List (List ℕ))
             → has_processed self.old managed.now before
             → StopsDelivering S.taking S.failing S.failures (kind managed.now)
@@ -58,9 +73,43 @@ pub trait Delivery: Drop {
         → has_processed delivery p frames → IsWithin (kind p) frames };
 }
 
+/// What an extractor finds of a TM frame.
+#[derive(Clone, Copy)]
+pub struct TmFound {
+    pub vc: u8,
+    pub vc_count: u8,
+    /// The count that was expected, where the frame has another one.
+    pub gap: Option<u8>,
+    /// How many octets the packet has that the frame breaks off, and 0 where there is none.
+    pub dropped: u32,
+    pub opaque: bool,
+    /// Whether octets of another packet version stand at a packet start.
+    pub foreign: bool,
+}
+
+/// What a receiver finds of a TC frame.
+#[derive(Clone, Copy)]
+pub struct TcFound {
+    pub vc: u8,
+    pub map: u8,
+    /// N(S), in a frame of type AD.
+    pub ns: Option<u8>,
+    pub verdict: Verdict,
+    /// Whether a segment is out of sequence.
+    pub stray: bool,
+    /// How many octets the series has that is dropped, if one is.
+    pub dropped: Option<u32>,
+    /// Whether a series is given up, because it is too long.
+    pub long: bool,
+    /// How many octets are left after the last packet of a service data unit.
+    pub tail: u32,
+}
+
 impl Delivery for Extractor {
-    ghost use Rattle.sl_link.specs.Kind.Tm.{HasProcessedTm, WantsMemoryTm, tm_kind};
+    ghost use Rattle.sl_link.specs.Kind.Tm.{HasProcessedTm, WantsMemoryTm, tm_found, tm_kind};
     ghost use Rattle.sl_link.specs.Pass.Tm.{is_tm_frame};
+
+    type Found = Result<TmFound, TmSkip>;
 
     ghost is_frame = { is_tm_frame };
 
@@ -69,6 +118,8 @@ impl Delivery for Extractor {
     ghost has_processed = { λ extractor p frames. HasProcessedTm p extractor frames };
 
     ghost wants_memory = { WantsMemoryTm };
+
+    ghost found = { tm_found };
 
     fn begin(alloc: Global, _managed: &Managed) -> Extractor {
         Extractor::new(alloc)
@@ -79,28 +130,40 @@ impl Delivery for Extractor {
         managed: &Managed,
         frame: &[u8],
         sink: &mut S,
-    ) -> Result<FrameReport, FlowFault> {
+    ) -> Result<(FrameReport, Result<TmFound, TmSkip>), FlowFault> {
         let view = match TmFrame::read(&managed.tm, managed.spacecraft, frame) {
             Ok(view) => view,
-            Err(_) => return Ok(SKIPPED),
+            Err(reason) => return Ok((SKIPPED, Err(reason))),
         };
-        match self.frame(&view, sink) {
-            Ok(step) => Ok(FrameReport {
-                is_skipped: false,
-                packets: step.packets(),
-                idle: step.idle(),
-                anomalies: 0,
-            }),
-            Err(fault) => Err(fault),
-        }
+        let step = match self.frame(&view, sink) {
+            Ok(step) => step,
+            Err(fault) => return Err(fault),
+        };
+        let found = TmFound {
+            vc: view.vc(),
+            vc_count: view.vc_count(),
+            gap: step.gap(),
+            dropped: step.dropped(),
+            opaque: is_opaque(view.field()),
+            foreign: step.foreign(),
+        };
+        let report = FrameReport {
+            is_skipped: false,
+            packets: step.packets(),
+            idle: step.idle(),
+            anomalies: 0,
+        };
+        Ok((report, Ok(found)))
     }
 
     ghost within = { λ extractor p frames processed. processed.within };
 }
 
 impl Delivery for Receiver {
-    ghost use Rattle.sl_link.specs.Kind.Tc.{HasProcessedTc, WantsMemoryTc, tc_kind};
+    ghost use Rattle.sl_link.specs.Kind.Tc.{HasProcessedTc, WantsMemoryTc, tc_found, tc_kind};
     ghost use Rattle.sl_link.specs.Pass.Tc.{is_tc_frame};
+
+    type Found = Result<TcFound, TcSkip>;
 
     ghost is_frame = { is_tc_frame };
 
@@ -109,6 +172,8 @@ impl Delivery for Receiver {
     ghost has_processed = { λ receiver p frames. HasProcessedTc p receiver frames };
 
     ghost wants_memory = { WantsMemoryTc };
+
+    ghost found = { tc_found };
 
     fn begin(alloc: Global, managed: &Managed) -> Receiver {
         Receiver::new(alloc, managed.window, &managed.starts, managed.plain)
@@ -119,21 +184,52 @@ impl Delivery for Receiver {
         managed: &Managed,
         frame: &[u8],
         sink: &mut S,
-    ) -> Result<FrameReport, FlowFault> {
+    ) -> Result<(FrameReport, Result<TcFound, TcSkip>), FlowFault> {
         let view = match TcFrame::read(&managed.tc, managed.spacecraft, frame) {
             Ok(view) => view,
-            Err(_) => return Ok(SKIPPED),
+            Err(reason) => return Ok((SKIPPED, Err(reason))),
         };
-        match self.frame(&view, sink) {
-            Ok(step) => Ok(FrameReport {
-                is_skipped: false,
-                packets: step.packets(),
-                idle: step.idle(),
-                anomalies: 0,
-            }),
-            Err(fault) => Err(fault),
-        }
+        let step = match self.frame(&view, sink) {
+            Ok(step) => step,
+            Err(fault) => return Err(fault),
+        };
+        let found = TcFound {
+            vc: view.vc(),
+            map: step.map(),
+            ns: ns_of(view.content()),
+            verdict: step.verdict(),
+            stray: step.stray(),
+            dropped: step.dropped(),
+            long: step.long(),
+            tail: step.tail(),
+        };
+        let report = FrameReport {
+            is_skipped: false,
+            packets: step.packets(),
+            idle: step.idle(),
+            anomalies: 0,
+        };
+        Ok((report, Ok(found)))
     }
 
     ghost within = { λ receiver p frames processed. processed.within };
+}
+
+fn is_opaque(field: TmField) -> bool
+    ensures { result ≡ is_opaque (data_field field.entry) }
+{
+    match field {
+        TmField::Packets { .. } | TmField::Idle => false,
+        TmField::Opaque => true,
+    }
+}
+
+// N(S), in a frame of type AD.
+fn ns_of(unit: TcContent) -> Option<u8>
+    ensures { result ≡ ns_of (content unit.entry) }
+{
+    match unit {
+        TcContent::Ad { ns, .. } => Some(ns),
+        TcContent::Bd { .. } | TcContent::Unlock | TcContent::SetVr(_) => None,
+    }
 }

@@ -6,13 +6,11 @@ ghost use Rattle.sl_link.specs.Kind.Delivery.{AreKept, MayWantMemory, counted, p
 ghost use Rattle.sl_link.specs.Kind.Tc.{MayWantMemoryTc, tc_counts};
 ghost use Rattle.sl_link.specs.Kind.Tm.{MayWantMemoryTm, tm_counts};
 ghost use Rattle.sl_link.specs.Link.Managed.{tc_format};
-ghost use Rattle.sl_link.specs.Normalise.Form.{StopsForm};
-ghost use Rattle.sl_link.specs.Normalise.Store.{HasSome, KeepsAll, form_text, listed};
+ghost use Rattle.sl_link.specs.Normalise.Form.{StopsForm, HasSome, KeepsAll, form_text, listed};
 ghost use Rattle.sl_link.specs.Normalise.Tc.{tc_normal_form, tc_packets};
 ghost use Rattle.sl_link.specs.Normalise.Tm.{tm_normal_form, tm_packets};
 ghost use Rattle.sl_link.specs.Tally.{listing_counts};
-ghost use Rattle.sl_link.specs.Io.Streams.{IsRead, KeepsPackets, Stops, StopsReadingAll};
-ghost use Rattle.sl_link.specs.Io.Streams.{Translates, TranslatesAndCounts, WritesText};
+ghost use Rattle.sl_link.specs.Io.Streams.{IsRead, KeepsPackets, Stops, StopsReadingAll, Translates, TranslatesAndCounts, WritesText};
 ghost use Rattle.sl_link.specs.Verbs.Listing.{WantedMemory};
 ghost use Rattle.sl_link.specs.Pass.{chunk_size};
 
@@ -257,7 +255,7 @@ struct Store<D: Delivery> {
 
 impl<D: Delivery> FrameSink for Store<D> {
     ghost use Rattle.sl_link.specs.Kind.Delivery.{AreKept, HasDelivered, MayWantMemory};
-    ghost use Rattle.sl_link.specs.Normalise.Store.{IsRefused};
+    ghost use Rattle.sl_link.specs.Normalise.Form.{IsRefused};
 
     ghost is_frame = { D.is_frame };
 
@@ -268,7 +266,7 @@ impl<D: Delivery> FrameSink for Store<D> {
         (D.wants_memory p) frames) fault };
 
     fn frame(&mut self, managed: &Managed, frame: &[u8]) -> Result<(), LinkFault> {
-        let report = self.delivery.deliver(managed, frame, &mut self.delivered)?;
+        let (report, _) = self.delivery.deliver(managed, frame, &mut self.delivered)?;
         self.so_far.add(frame.len() as u64, report);
         Ok(())
     }

@@ -6,8 +6,7 @@ ghost use Rattle.sl_link.specs.Program.Answer.{EndsAsHelp, MayLackMemory, WithAn
 ghost use Rattle.sl_link.specs.Program.CommandLine.{AreRefused};
 ghost use Rattle.sl_link.specs.Link.Counted.{stream_of, faults_of, HadOneFault};
 ghost use Rattle.sl_link.specs.Io.Streams.{StopsWriting, WritesText};
-ghost use Rattle.sl_link.specs.Program.Run.{AsksForRefusedParameter, HasMetAnomalies, HasStopped, HasSucceeded};
-ghost use Rattle.sl_link.specs.Program.Run.{HasWritten, IsStoppedBy, WithAsked};
+ghost use Rattle.sl_link.specs.Program.Run.{AsksForRefusedParameter, HasMetAnomalies, HasStopped, HasSucceeded, HasWritten, IsStoppedBy, WithAsked};
 
 pub mod command_line;
 

@@ -1,6 +1,6 @@
 -- Command lines and what becomes of them, computed from the definitions, so that a wrong definition doesn't
 -- check.
-use Rattle.std.proofs.Common.{replicate, ◌≡◌, ◌==◌, ℕ, true, false, cond, List, [], ◌∷◌, Option, Some, None, option_map, map, Result, Ok, Err, codes, refl}
+use Rattle.std.proofs.Common.{replicate, ◌≡◌, ◌==◌, ℕ, true, cond, List, [], ◌∷◌, Option, Some, None, option_map, map, Result, Ok, Err, codes, refl}
 use Prim.Native.String.{String}
 use Rattle.clap.specs.Words.{Kinds, Row, Text, subcommand_of}
 use Rattle.clap.specs.declared.error.kind.ErrorKind.TheVariants.{ArgumentConflict, DisplayHelp, DisplayVersion, InvalidSubcommand, InvalidValue, MissingRequiredArgument, MissingSubcommand, TooManyValues, UnknownArgument, ValueValidation}
@@ -14,6 +14,7 @@ use Rattle.sl_link.specs.declared.program.command_line.RefusedParameter.{Refused
 use Rattle.sl_link.specs.declared.program.command_line.RefusedParameter.TheVariants as refused
 use Rattle.sl_link.specs.declared.program.command_line.VerbName.{VerbName}
 use Rattle.sl_link.specs.declared.program.command_line.VerbName.TheVariants.{Show, Check, Packets, Normalise}
+use Rattle.sl_link.proofs.facts.Rows.{tm}
 
 -- a table of values, and what the function gives for each
 abbrev Have : {A B : Type 0} → (A → B) → List (A × B) → Type 0
@@ -47,19 +48,9 @@ read line = (
 abbrev asks : VerbName → RecordingKind → Parameters → Kinds × Option Request
 asks verb kind parameters = ([], Some (verb, kind, parameters))
 
--- the managed parameters where the spacecraft alone is given
+-- the managed parameters where the spacecraft alone is given: those of the other rows, with frames of 1,115 octets
 abbrev of : ℕ → Parameters
-of scid = record {
-  spacecraft = scid;
-  tm_length = 1115;
-  tm_fecf = false;
-  tc_max = 1024;
-  tc_fecf = false;
-  window = 10;
-  starts = replicate 64 0;
-  plain = [];
-  max_octets = 1073741824;
-}
+of scid = record tm { spacecraft = scid; tm_length = 1115 }
 
 abbrev taken : List (String × (Kinds × Option Request))
 taken =

@@ -1,4 +1,3 @@
 pub mod Form
-pub mod Forms
 pub mod Separation
 pub mod Whole

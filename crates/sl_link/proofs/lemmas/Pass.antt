@@ -1,4 +1,3 @@
-pub mod Handing
 pub mod Reading
 pub mod Tc
 pub mod Tm

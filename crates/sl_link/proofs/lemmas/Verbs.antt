@@ -1,4 +1,3 @@
 pub mod Check
 pub mod Lister
 pub mod Packets
-pub mod Whole

@@ -1,6 +1,5 @@
 -- Digits of numbers, and of octets in hexadecimal. Contracts of private functions alone cite these.
-use Rattle.std.specs.Prelude.{◌≡◌, ◌≤◌, ℕ, ◌+◌, ◌*◌, ◌/◌, ◌%◌, List, [], ◌∷◌, ◌++◌, decimal}
-use Rattle.std.specs.Prelude.{drop, length, slice_index, take}
+use Rattle.std.specs.Prelude.{◌≡◌, ◌≤◌, ℕ, ◌+◌, ◌*◌, ◌/◌, ◌%◌, List, [], ◌∷◌, ◌++◌, decimal, drop, length, slice_index, take}
 use Rattle.hex.specs.Hex.{encode_lower}
 
 -- the places begin with the digits of the number, and the last place says how many these are, three at most

@@ -1,7 +1,6 @@
 -- What frames of a kind deliver, one after another: the packets that end in each frame, each on a
 -- channel. All of it is said of TM and TC frames at once.
-use Rattle.std.specs.Prelude.{◌≡◌, ◌≢◌, ℕ, ◌+◌, ◌<◌, ◌≤◌, ◌⊎◌, Bool}
-use Rattle.std.specs.Prelude.{List, [], ◌∷◌, ◌++◌, length, map, Result, Ok, Err}
+use Rattle.std.specs.Prelude.{◌≡◌, ◌≢◌, ℕ, ◌+◌, ◌<◌, ◌≤◌, ◌⊎◌, Bool, List, [], ◌∷◌, ◌++◌, length, map, Result, Ok, Err}
 use Rattle.std.specs.List.{concat, range_with_len, slice_index_or, slice_set}
 use Rattle.sl_packet.specs.declared.flow_fault.FlowFault.{FlowFault}
 use Rattle.sl_packet.specs.declared.flow_fault.FlowFault.TheVariants.{Memory}
@@ -91,9 +90,9 @@ pub record IsReport (k : Kind) (before : List (List ℕ)) (frame : List ℕ) (re
   pub packets : report.packets ≡ length (without_idle (k.ended before frame))
   pub idle : report.idle ≡ length (only_idle (k.ended before frame))
 
--- the report on a frame of one octet or more in which no anomalies were looked for
+-- the report on a frame of five octets or more in which no anomalies were looked for
 pub record Brings (k : Kind) (before : List (List ℕ)) (frame : List ℕ) (report : FrameReport) : Type 0 where
-  pub some : 0 < length frame
+  pub some : 5 ≤ length frame
   pub reported : IsReport k before frame report
   pub no_anomalies : report.anomalies ≡ 0
 

@@ -1,15 +1,17 @@
 -- TC frames as a kind: their packets are on virtual channels and MAPs.
-use Rattle.std.specs.Prelude.{◌≡◌, ◌≤◌, ℕ, ◌+◌, List, [], ◌∷◌, ◌++◌, length, map, Result, Ok, Err, is_err}
+use Rattle.std.specs.Prelude.{◌≡◌, ◌≤◌, ℕ, ◌+◌, Option, None, Some, List, [], ◌∷◌, ◌++◌, length, map, Result, Ok, Err, is_err}
 use Rattle.std.specs.List.{concat}
 use Rattle.sl_packet.specs.Delivered.{channel_count}
 use Rattle.sl_tcframe.specs.declared.tc_frame.TcSkip.{TcSkip}
 use Rattle.sl_tcframe.specs.TcDelimited.{tc_frames_of}
-use Rattle.sl_tcframe.specs.TcFrame.{TcView, tc_frame}
+use Rattle.sl_tcframe.specs.TcFrame.{TcView, Content, Ad, Bd, Unlock, SetVr, tc_frame}
 use Rattle.sl_tcflow.specs.AcceptedUnit.{views_of}
-use Rattle.sl_tcflow.specs.Receiving.{HasProcessed, IsIncompleteAround, ReceiverState, ended_by, unit_channel}
+use Rattle.sl_tcflow.specs.Anomaly.{dropped_by, long_by, stray_by, tail_by}
+use Rattle.sl_tcflow.specs.Receiving.{HasProcessed, IsIncompleteAround, ReceiverState, ended_by, map_by, unit_channel, verdict_on}
 use Rattle.sl_tcflow.specs.ReceptionParameters.{ReceptionParameters}
 use Rattle.sl_tcflow.specs.Recording.{map_channels, packets_in_channel}
 use Rattle.sl_tcflow.proofs.lemmas.Reception.Channel.{held_in}
+use Rattle.sl_link.specs.declared.kind.TcFound.{TcFound}
 use Rattle.sl_link.specs.Kind.Delivery.{IsWithin, Kind, MayWantMemory, count_of, counted, idle_in, packets_in}
 use Rattle.sl_link.specs.Link.Managed.{Parameters, reception_of, tc_format}
 use Rattle.sl_link.specs.Link.Totals.{Counts}
@@ -33,6 +35,32 @@ is_incomplete_around r views (Err reason) = ⊥
 abbrev pub channel_of : ReceptionParameters → Result TcView TcSkip → ℕ
 channel_of r (Ok view) = unit_channel r view
 channel_of r (Err reason) = 0
+
+-- N(S), in a frame of type AD
+abbrev pub ns_of : Content → Option ℕ
+ns_of (Ad ns unit) = Some ns
+ns_of (Bd unit) = None
+ns_of Unlock = None
+ns_of (SetVr vr) = None
+
+-- what is found of a frame, as it is read, after the frames `views`
+abbrev pub found_after : ReceptionParameters → List TcView → Result TcView TcSkip → Result TcFound TcSkip
+found_after r views (Ok view) =
+    Ok (record {
+      vc = view.vc;
+      map = map_by r view;
+      ns = ns_of view.content;
+      verdict = verdict_on r views view;
+      stray = stray_by r views view;
+      dropped = dropped_by r views view;
+      long = long_by r views view;
+      tail = tail_by r views view;
+    })
+found_after r views (Err reason) = Err reason
+
+-- the same of a frame that comes after others
+abbrev pub tc_found : Parameters → List (List ℕ) → List ℕ → Result TcFound TcSkip
+tc_found p before frame = found_after (reception_of p) (views_of (tc_format p) p.spacecraft before) (as_read p frame)
 
 -- TC frames under these parameters
 abbrev pub tc_kind : Parameters → Kind

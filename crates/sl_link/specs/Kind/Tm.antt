@@ -1,11 +1,13 @@
 -- TM frames as a kind: their packets are on virtual channels.
-use Rattle.std.specs.Prelude.{◌≡◌, ℕ, List, [], ◌∷◌, ◌++◌, Result, Ok, Err, is_err}
+use Rattle.std.specs.Prelude.{◌≡◌, ℕ, Bool, true, false, List, [], ◌∷◌, ◌++◌, Result, Ok, Err, is_err}
 use Rattle.sl_tmframe.specs.declared.tm_frame.TmSkip.{TmSkip}
 use Rattle.sl_tmframe.specs.TmDelimited.{tm_frames_of}
-use Rattle.sl_tmframe.specs.TmFrame.{TmView, tm_frame}
-use Rattle.sl_tmflow.specs.Channel.{views_of}
+use Rattle.sl_tmframe.specs.TmFrame.{TmView, DataField, Packets, Idle, Opaque, tm_frame}
+use Rattle.sl_tmflow.specs.Anomaly.{dropped_of, foreign_of, gap_of}
+use Rattle.sl_tmflow.specs.Channel.{channel_of, views_of}
 use Rattle.sl_tmflow.specs.Extraction.{ExtractorState, HasProcessed, IsIncompleteAround, ended_by}
 use Rattle.sl_tmflow.specs.Recording.{packets_of_channel, virtual_channels}
+use Rattle.sl_link.specs.declared.kind.TmFound.{TmFound}
 use Rattle.sl_link.specs.Kind.Delivery.{IsWithin, Kind, MayWantMemory, counted}
 use Rattle.sl_link.specs.Link.Managed.{Parameters, tm_format}
 use Rattle.sl_link.specs.Link.Totals.{Counts}
@@ -29,6 +31,29 @@ is_incomplete_around views (Err reason) = ⊥
 abbrev pub vc_of : Result TmView TmSkip → ℕ
 vc_of (Ok view) = view.vc
 vc_of (Err reason) = 0
+
+-- a frame is opaque
+abbrev pub is_opaque : DataField → Bool
+is_opaque (Packets first octets) = false
+is_opaque Idle = false
+is_opaque Opaque = true
+
+-- what is found of a frame, as it is read, after the frames `views`
+abbrev pub found_after : List TmView → Result TmView TmSkip → Result TmFound TmSkip
+found_after views (Ok view) =
+    Ok (record {
+      vc = view.vc;
+      vc_count = view.vc_count;
+      gap = gap_of (channel_of view.vc views) view;
+      dropped = dropped_of (channel_of view.vc views) view;
+      opaque = is_opaque view.field;
+      foreign = foreign_of view.field;
+    })
+found_after views (Err reason) = Err reason
+
+-- the same of a frame that comes after others
+abbrev pub tm_found : Parameters → List (List ℕ) → List ℕ → Result TmFound TmSkip
+tm_found p before frame = found_after (views_of (tm_format p) p.spacecraft before) (as_read p frame)
 
 -- TM frames under these parameters
 abbrev pub tm_kind : Parameters → Kind

@@ -1,7 +1,5 @@
 -- The command line of `sllink`: its arguments, what it refuses, and what its words ask for.
-use Rattle.std.specs.Prelude.{◌≡◌, ◌≢◌, ℕ, Bool, true, false, List, [], ◌∷◌}
-use Rattle.std.specs.Prelude.{Option, Some, None, IfSome, Result, Ok, Err}
-use Rattle.std.specs.Prelude.{codes, fold, if◌then◌else◌, pos, replicate}
+use Rattle.std.specs.Prelude.{◌≡◌, ◌≢◌, ℕ, Bool, true, false, List, [], ◌∷◌, Option, Some, None, IfSome, Result, Ok, Err, codes, fold, if◌then◌else◌, pos, replicate}
 use Rattle.std.specs.Borrow.{Bor}
 use Rattle.std.specs.Option.{option_map_or}
 use Rattle.std.specs.Str.{bytes_eq}
@@ -27,8 +25,7 @@ use Rattle.sl_link.specs.declared.program.command_line.RecordingKind.TheVariants
 use Rattle.sl_link.specs.declared.program.command_line.RefusedParameter.{RefusedParameter}
 use Rattle.sl_link.specs.declared.program.command_line.RefusedParameter.TheVariants as refused
 use Rattle.sl_link.specs.declared.program.command_line.VerbName.{VerbName}
-use Rattle.sl_link.specs.declared.program.command_line.VerbName.TheVariants.{Show, Check}
-use Rattle.sl_link.specs.declared.program.command_line.VerbName.TheVariants.{Packets, Normalise}
+use Rattle.sl_link.specs.declared.program.command_line.VerbName.TheVariants.{Show, Check, Packets, Normalise}
 
 -- ---- the arguments
 

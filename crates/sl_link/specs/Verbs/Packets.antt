@@ -1,5 +1,4 @@
 -- What `packets` lists.
-pub mod ChannelName
 pub mod Line
 pub mod Listed
 pub mod Printed

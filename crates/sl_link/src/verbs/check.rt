@@ -4,6 +4,7 @@ ghost use Rattle.std.specs.List.{concat};
 ghost use Rattle.sl_link.specs.Io.Output.{Adds, StopsAdding};
 ghost use Rattle.sl_link.specs.Link.Managed.{Parameters};
 ghost use Rattle.sl_link.specs.Verbs.Check.Checking.{HasChecked};
+ghost use Rattle.sl_link.specs.Verbs.Check.Lines.{amiss_by};
 ghost use Rattle.sl_link.specs.Verbs.Listing.{Frames};
 
 mod checked;
@@ -16,8 +17,10 @@ use crate::io::output::{Output, Written};
 use crate::link::fault::LinkFault;
 use crate::link::managed::Managed;
 use crate::link::totals::Totals;
+use crate::tally::FrameReport;
 use crate::verbs::Verb;
 use crate::verbs::check::checked::Checked;
+use crate::verbs::check::discard::DiscardPackets;
 use crate::verbs::check::lines::{push_totals, remainder_lines};
 use std::alloc::Global;
 use std::io::Write;
@@ -32,7 +35,7 @@ pub struct Check<D: Checked> {
 impl<D: Checked> Check<D> {
     /// No frame has been checked.
     pub fn begin(alloc: Global, managed: &Managed) -> Check<D>
-        ensures { HasChecked (D.kind managed.now) (D.amiss managed.now)
+        ensures { HasChecked (D.kind managed.now) (amiss_by D.lines_of (D.found managed.now))
             (D.has_processed result.delivery managed.now) [] result.so_far }
     {
         Check {
@@ -44,21 +47,25 @@ impl<D: Checked> Check<D> {
 
 impl<D: Checked> Verb for Check<D> {
     ghost use Rattle.sl_link.specs.Verbs.Check.Checking.{HasChecked};
-    ghost use Rattle.sl_link.specs.Verbs.Check.Lines.{check_listing};
+    ghost use Rattle.sl_link.specs.Verbs.Check.Lines.{amiss_by, check_listing};
 
     ghost is_frame = { D.is_frame };
 
-    ghost listing = { λ p. check_listing (D.kind p) (D.amiss p) (D.open_at p) };
+    ghost listing = { λ p. check_listing (D.kind p) (amiss_by D.lines_of (D.found p)) (D.open_at p) };
 
-    ghost has_listed = { λ verb p frames. HasChecked (D.kind p) (D.amiss p)
+    ghost has_listed = { λ verb p frames. HasChecked (D.kind p) (amiss_by D.lines_of (D.found p))
         (D.has_processed verb.delivery p) frames verb.so_far };
 
     ghost wants_memory = { D.wants_memory };
 
     fn frame<W: Write>(&mut self, managed: &Managed, frame: &[u8], out: &mut Output<W>) -> Written {
         out.make_room()?;
-        let offset = self.so_far.octets();
-        let report = self.delivery.check(managed, frame, offset, &mut out.lines)?;
+        let (report, found) = self.delivery.deliver(managed, frame, &mut DiscardPackets)?;
+        let anomalies = D::amiss_lines(&mut out.lines, self.so_far.octets(), found);
+        let report = FrameReport {
+            anomalies,
+            ..report
+        };
         self.so_far.add(frame.len() as u64, report);
         Ok(())
     }

@@ -35,6 +35,7 @@ impl Printed for Extractor {
 
     ghost lines = { packets_tm_lines };
 
+    #[tactic(auto, using(crate::proofs::lemmas::Verbs::Packets::Listed::tm_printed))]
     fn channel_kind(&self) -> ChannelKind {
         ChannelKind::VirtualChannel
     }
@@ -45,6 +46,7 @@ impl Printed for Receiver {
 
     ghost lines = { packets_tc_lines };
 
+    #[tactic(auto, using(crate::proofs::lemmas::Verbs::Packets::Listed::tc_printed))]
     fn channel_kind(&self) -> ChannelKind {
         ChannelKind::Map
     }
@@ -89,7 +91,7 @@ impl<D: Printed> Verb for Packets<D> {
             kind: self.delivery.channel_kind(),
             failures: 0,
         };
-        let report = self.delivery.deliver(managed, frame, &mut printer)?;
+        let (report, _) = self.delivery.deliver(managed, frame, &mut printer)?;
         self.so_far.add(frame.len() as u64, report);
         Ok(())
     }

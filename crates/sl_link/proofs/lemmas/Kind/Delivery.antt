@@ -1,5 +1,5 @@
--- Frames of a kind that are processed one after another, whichever kind it is: what they deliver, and how much.
-use Rattle.std.proofs.Common.{◌≡◌, ◌≢◌, ℕ, ◌+◌, ◌<◌, ◌≤◌, Bool, not, List, [], ◌∷◌, ◌++◌, length, map, take, inl, inr, refl, sym, ◌∙◌, ap, subst, arith, append_assoc, append-nil, length-append, Result, Ok, Err}
+-- Frames of a kind that are counted and processed one after another, whichever kind it is: what they deliver, and how much.
+use Rattle.std.proofs.Common.{◌≡◌, ℕ, ◌+◌, Bool, if◌then◌else◌, List, [], ◌∷◌, ◌++◌, length, ap, arith, refl, length-append, ◌≢◌, ◌<◌, ◌≤◌, not, map, take, inl, inr, sym, ◌∙◌, subst, append_assoc, append-nil, Result, Ok, Err}
 use Rattle.std.specs.List.{concat, cons_option, filter, slice_index_or, slice_set}
 use Rattle.std.specs.Result.{result_ok}
 use Rattle.std.proofs.lemmas.Bool.Decides.{eqb_tells, leb_tells}
@@ -16,11 +16,30 @@ use Rattle.sl_packet.specs.Sink.{TakesAll}
 use Rattle.sl_packet.specs.Stopping.{IsStopped}
 use Rattle.sl_packet.proofs.DeliveredLemmas.{length-empty_lists, list_at-empty_lists, list_at-with_packet}
 use Rattle.sl_link.specs.declared.tally.FrameReport.{FrameReport}
-use Rattle.sl_link.specs.Kind.Delivery.{AreDelivered, AreKept, Delivers, StopsDelivering, HasDelivered, IsReport, IsWithin, Kind, count_of, idle_in, lists_in, packets_in, with_frame, with_packets}
 use Rattle.sl_link.specs.Link.Totals.{Counts}
-use Rattle.sl_link.specs.Tally.{counts_more, no_counts}
-use Rattle.sl_link.proofs.lemmas.Tally.{counted_more}
+use Rattle.sl_link.specs.Tally.{counts_more, counts_so_far, skipped_in, no_counts}
+use Rattle.sl_link.specs.Kind.Delivery.{AreDelivered, AreKept, Delivers, StopsDelivering, HasDelivered, IsReport, IsWithin, Kind, count_of, idle_in, lists_in, packets_in, with_frame, with_packets}
 use Rattle.sl_link.proofs.lemmas.Kind.Channels.{items_change, map_range, no_items, none_of, take_lists}
+
+-- ---- frames that are counted one after another
+
+skipped-append : (is_skipped : List ℕ → Bool) (xs ys : List (List ℕ)) → skipped_in is_skipped (xs ++ ys) ≡ skipped_in is_skipped xs + skipped_in is_skipped ys
+skipped-append is_skipped [] ys = omega arith
+skipped-append is_skipped (x ∷ xs) ys =
+    let here : ℕ = if is_skipped x then 1 else 0 in
+    omega (arith, skipped-append is_skipped xs ys)
+
+-- one frame more, and what it brings
+pub counted_more : (is_skipped : List ℕ → Bool) (frames : List (List ℕ)) (frame : List ℕ) (report : FrameReport) {t : Counts} {packets packets' idle idle' anomalies anomalies' : ℕ}
+    → t ≡ counts_so_far is_skipped frames packets idle anomalies → report.is_skipped ≡ is_skipped frame
+    → packets + report.packets ≡ packets' → idle + report.idle ≡ idle' → anomalies + report.anomalies ≡ anomalies'
+    → counts_more t (length frame) report ≡ counts_so_far is_skipped (frames ++ frame ∷ []) packets' idle' anomalies'
+counted_more is_skipped frames frame report are skips p i a =
+    let here : ℕ = if is_skipped frame then 1 else 0 in
+    let octets : length (concat frames) + length frame ≡ length (concat (frames ++ frame ∷ [])) = omega (arith, ap length (concat-push frames frame), length-append (concat frames) frame) in
+    let more : length frames + 1 ≡ length (frames ++ frame ∷ []) = omega (arith, length-append frames (frame ∷ [])) in
+    let skipped : skipped_in is_skipped frames + here ≡ skipped_in is_skipped (frames ++ frame ∷ []) = omega (arith, skipped-append is_skipped frames (frame ∷ [])) in
+    rw (are, skips, octets, more, skipped, p, i, a) refl
 
 -- ---- frames that are read
 
@@ -101,7 +120,7 @@ module _ (k : Kind) (laws : AreDelivered k) where
 
 -- what a frame brings, by its channel and the packets that end in it
 pub delivers_as : {S : Type 0} {taking : S → ℕ → List ℕ → S → Type 0} {k : Kind} {before : List (List ℕ)} {frame : List ℕ} {old new : S} {report : FrameReport}
-    {channel : ℕ} {ended : List (List ℕ)} {skips : Bool} → k.channel frame ≡ channel → k.ended before frame ≡ ended → k.is_skipped frame ≡ skips → 0 < length frame
+    {channel : ℕ} {ended : List (List ℕ)} {skips : Bool} → k.channel frame ≡ channel → k.ended before frame ≡ ended → k.is_skipped frame ≡ skips → 5 ≤ length frame
     → TakesAll taking old channel (without_idle ended) new → report.is_skipped ≡ skips → report.packets ≡ length (without_idle ended) → report.idle ≡ length (only_idle ended)
     → report.anomalies ≡ 0 → Delivers taking k before frame old report new
 delivers_as {taking = taking} {k} {before} {frame} {old} {new} {channel = channel} {ended} at ends skipping some accepted skipped packets idle none =

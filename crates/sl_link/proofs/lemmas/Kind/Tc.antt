@@ -138,7 +138,7 @@ none_processed p state processed =
     record { processed = processed; within = none_within (tc_kind p) laws; held = omega (arith, no_packets (tc_kind p) laws, no_idle (tc_kind p) laws, held) }
 
 -- a frame has five octets
-pub some_octets : (p : Parameters) (frame : List ℕ) → is_cut (tc_format p) frame ≡ true → 0 < length frame
+pub some_octets : (p : Parameters) (frame : List ℕ) → is_cut (tc_format p) frame ≡ true → 5 ≤ length frame
 some_octets p frame cut = let least = (cut_facts (tc_format p) frame cut).0 in omega (arith, least)
 
 pub one_processed : {p : Parameters} {before : List (List ℕ)} (frame : List ℕ) {state state' : ReceiverState} {r : Result TcView TcSkip} → HasProcessedTc p state before → as_read p frame ≡ r

@@ -1,13 +1,20 @@
 -- A normal form that is written piece by piece.
-use Rattle.std.proofs.Common.{◌≡◌, ◌≢◌, ℕ, List, [], ◌++◌, Option, refl, sym, subst, ◌∙◌, ap, append_assoc, append-nil, inl, inr}
+use Rattle.std.proofs.Common.{◌≡◌, ℕ, List, [], ◌++◌, Option, refl, sym, subst, ◌∙◌, ap, append_assoc, append-nil, inl, inr}
 use Rattle.std.proofs.KnownBytes.{Appends-nil}
+use Rattle.sl_tmflow.specs.NormalForm.{normal_form}
+use Rattle.sl_tmflow.specs.Recording.{tm_lists}
+use Rattle.sl_tcflow.specs.Recording.{tc_lists}
+use Rattle.sl_tcflow.specs.TcNormalForm.{tc_normal_form_of}
 use Rattle.sl_link.specs.declared.link.counted.Counted.{Counted}
 use Rattle.sl_link.specs.declared.link.fault.LinkFault.{LinkFault}
-use Rattle.sl_link.specs.declared.link.fault.LinkFault.TheVariants.{Memory, Write}
+use Rattle.sl_link.specs.declared.link.fault.LinkFault.TheVariants.{Memory}
 use Rattle.sl_link.specs.Link.Counted.{stream_of}
 use Rattle.sl_link.specs.Io.Streams.{AddsText, StopsWriting, WritesText}
 use Rattle.sl_link.specs.Normalise.Form.{AddsPiece, IsAllMade, KeepsLeft, StopsForm}
-use Rattle.sl_link.proofs.lemmas.Io.Adding.{AddsText-trans, all_written, writer_stops_waiting}
+use Rattle.sl_link.specs.Link.Managed.{Parameters, tm_format, tc_format}
+use Rattle.sl_link.specs.Normalise.Tc.{tc_form_of, tc_packets}
+use Rattle.sl_link.specs.Normalise.Tm.{tm_form_of, tm_packets}
+use Rattle.sl_link.proofs.lemmas.Io.Streams.{AddsText-trans, all_written, writer_stops_waiting}
 
 -- some octets of a form are made, and those that wait in a text aren't written yet
 pub record IsWritingForm {F W : Type 0} (left : F → List ℕ → Type 0) (contents : W → Option (List ℕ)) (old new : Counted W) (form : F) (text octets : List ℕ) : Type 0 where
@@ -78,3 +85,26 @@ module _ {W : Type 0} {contents : W → Option (List ℕ)} {old new : Counted W}
     | inl refused ↦ refused.2
     | inr stopped ↦ absurd (let is = stopped.is_write in cc)
   ]
+
+-- ---- under the managed parameters
+
+-- ---- TM
+
+pub tm_form_is : (p q : Parameters) (lists : List (List (List ℕ))) → q ≡ p → normal_form (tm_format q) q.spacecraft lists ≡ tm_form_of p lists
+unfolding tm_form_of
+tm_form_is p q lists same = ap (λ (r : Parameters). tm_form_of r lists) same
+
+pub tm_form_delivers : (p q : Parameters) (lists : List (List (List ℕ))) → tm_lists (tm_format q) q.spacecraft (normal_form (tm_format q) q.spacecraft lists) ≡ lists → q ≡ p
+    → tm_packets p (tm_form_of p lists) ≡ lists
+tm_form_delivers p q lists delivers same = rw (← tm_form_is p q lists same) (ap (λ (r : Parameters). tm_packets r (normal_form (tm_format q) q.spacecraft lists)) (sym same) ∙ delivers)
+
+-- ---- TC
+
+pub tc_form_is : (p q : Parameters) (lists : List (List (List ℕ))) (form : List ℕ) → form ≡ tc_normal_form_of (tc_format q) q.spacecraft q.starts q.plain lists → q ≡ p
+    → form ≡ tc_form_of p lists
+unfolding tc_form_of
+tc_form_is p q lists form is same = is ∙ ap (λ (r : Parameters). tc_form_of r lists) same
+
+pub tc_form_delivers : (p q : Parameters) (lists : List (List (List ℕ))) (form : List ℕ) → ((w : ℕ) → tc_lists (tc_format q) q.spacecraft (record { window = w; starts = q.starts; plain = q.plain }) form ≡ lists) → q ≡ p
+    → tc_packets p form ≡ lists
+tc_form_delivers p q lists form delivers same = ap (λ (r : Parameters). tc_packets r form) (sym same) ∙ delivers q.window

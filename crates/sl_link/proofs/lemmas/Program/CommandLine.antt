@@ -1,6 +1,6 @@
--- The command line: what its builders make, and what its getters read.
-use Rattle.std.proofs.Common.{◌≡◌, ◌∙◌, ◌&&◌, ◌||◌, ◌<◌, ◌^◌, ℕ, suc, Bool, true, false, refl, sym, ap, subst, List, [], ◌∷◌, Option, Some, None, Result, map, codes, arith}
-use Rattle.std.specs.Prelude.{fold, option_map, unwrap_or}
+-- The command line: what its builders make, what its getters read, and what the outcomes of a parse say of the words.
+use Rattle.std.proofs.Common.{◌≡◌, ◌∙◌, ◌&&◌, ◌||◌, ◌<◌, ◌^◌, ℕ, suc, Bool, true, false, refl, sym, ap, subst, List, [], ◌∷◌, Option, Some, None, Result, map, codes, arith, inl, inr, Ok, Err}
+use Rattle.std.specs.Prelude.{fold, option_map, unwrap_or, ◌⊎◌, Box}
 use Rattle.std.specs.List.{list_all}
 use Rattle.std.specs.Borrow.{Bor}
 use Rattle.std.specs.Option.{option_map_or}
@@ -9,17 +9,26 @@ use Rattle.std.specs.Str.Parse.{ExplainsUnsignedError, HasUnsignedDigitsIfOk, Pa
 use Rattle.std.specs.declared.num.ParseIntError.{ParseIntError}
 use Rattle.std.proofs.lemmas.Bool.{false_from_ne_true}
 use Rattle.std.proofs.lemmas.Slice.Eq.{bytes_eq-Decides}
+use Rattle.std.specs.Box.{box_value}
 use Rattle.clap.specs.ValueTests.{accepts}
-use Rattle.clap.specs.Words.{AddsArg, AddsInTurn, App, ReadsOne, Text, app_of, first_of, first_value, one_of, one_text, rows_of, rule_of, with_rule}
+use Rattle.clap.specs.Words.{AddsArg, AddsInTurn, App, ReadsOne, Text, app_of, first_of, first_value, one_of, one_text, rows_of, rule_of, with_rule, BuildsTo, FailsBy, HasMatchesOf, IsParsed, Kinds, Row, fault_of, found_of, has_subcommand, is_simple_and_free, kind_of, subcommand_name_of, subcommand_rows, subcommand_rows_of}
 use Rattle.clap.specs.declared.builder.arg.Arg.{Arg}
 use Rattle.clap.specs.declared.builder.command.Command.{Command}
 use Rattle.clap.specs.declared.builder.command.Command.TheViews.{out-Command as fields_of}
 use Rattle.clap.specs.declared.builder.value_parser.ValueParser.TheVariants.{Unsigned}
 use Rattle.clap.specs.declared.parser.matches.Found.{Found}
-use Rattle.clap.proofs.SimpleLemmas.{is_false}
+use Rattle.clap.proofs.SimpleLemmas.{is_false, plain_fields}
 use Rattle.clap.proofs.ValueTestLemmas.{Accepts-accepts, accepts-Accepts}
 use Rattle.clap.proofs.WalkLemmas.{both, first_value-rows, one_text-rows}
-use Rattle.sl_link.specs.Program.CommandLine.{is_set, number_in, number_read}
+use Rattle.clap.specs.declared.error.Error.{Error}
+use Rattle.clap.specs.declared.error.kind.ErrorKind.TheVariants.{OutOfMemory}
+use Rattle.clap.specs.declared.parser.matches.ArgMatches.{ArgMatches}
+use Rattle.clap.specs.declared.parser.matches.ArgMatches.TheViews.{out-ArgMatches, out-SubCommand}
+use Rattle.clap.specs.declared.parser.matches.SubCommand.{SubCommand}
+use Rattle.clap.proofs.CallerLemmas.{subcommand_required}
+use Rattle.sl_link.specs.Program.CommandLine.{is_set, number_in, number_read, AskFor, Asks, IsRefusal, IsSllink, refusals}
+use Rattle.sl_link.specs.declared.program.command_line.Asked.{Asked}
+use Rattle.sl_link.proofs.lemmas.Program.SameWalk.{same_fault, same_subcommand}
 
 -- ---- arguments
 
@@ -84,3 +93,47 @@ flag_reads E text None h = sym (false_from_ne_true _ (λ e. h.1.0 ((bytes_eq-Dec
 pub flag_got : (E : Type 0) (f : Found) (id : Text) (r : Option Bool) → (one_text f id ≡ None → r ≡ None) → ((t : List ℕ) → one_text f id ≡ Some t → ReadsOne {E = E} ParsesBool t r)
     → unwrap_or r false ≡ is_set id (rows_of f)
 flag_got E = by_rows {E = E} ParsesBool (λ r o. unwrap_or r false ≡ option_map_or (λ text. bytes_eq text (codes "true")) o false) refl (flag_reads E)
+
+-- ---- a parse
+
+-- words that are taken have a verb
+pub verb_there : (old new : Command) (m : ArgMatches) → IsSllink (app_of old) → BuildsTo old new
+    → ((fields_of new).has_globals ≡ false → IsParsed new (found_of m) (has_subcommand m)) → has_subcommand m ≡ true
+verb_there old new m h builds parsed =
+    subcommand_required old m (record { built = new; from = builds; parsed = parsed })
+    (plain_fields old (ap (λ (a : App). a.top.is_plain) h.same)).globals (ap (λ (a : App). a.top.subcommand_required) h.same)
+
+-- the subcommand by its name and its rows
+entered : {Z : Type 0} (o : Option (Box SubCommand Z)) (verb : Text) (rows : List Row) → Some verb ≡ option_map (λ b. (out-SubCommand (box_value b)).name.now) o
+    → Some rows ≡ option_map (λ p. p.1) (subcommand_rows o) → subcommand_rows o ≡ Some (verb, rows)
+entered None verb rows name arguments = absurd (cc)
+entered (Some b) verb rows name arguments =
+    let is_verb : (out-SubCommand (box_value b)).name.now ≡ verb = cc in
+    let are_rows : rows_of (found_of (out-SubCommand (box_value b)).matches) ≡ rows = cc in
+    λ i. Some (is_verb i, are_rows i)
+
+module _ (words : List Text) (c : Command) (h : IsSllink (app_of c)) (r : Result ArgMatches Error) (kinds : is_simple_and_free (app_of c) ≡ true → FailsBy (fault_of (app_of c) words) r) where
+  faults : FailsBy (refusals words) r
+  faults =
+      let at_place = subst (λ (a : App). is_simple_and_free a ≡ true → FailsBy (fault_of a words) r) h.same kinds refl in
+      subst (λ (ks : Kinds). FailsBy ks r) (same_fault h.list h.tm h.tc words) at_place
+
+  -- an error is a refusal, or there was no memory
+  pub error_refused : (e : Error) → r ≡ Err e → (kind_of e ≡ OutOfMemory) ⊎ IsRefusal (kind_of e) words
+  error_refused e is = elim (rw is at faults) [
+    | inl memory ↦ inl memory
+    | inr among ↦ inr (record { among = among })
+  ]
+
+  -- what the verb asks for with its arguments is what the words ask for
+  pub words_ask : (m : ArgMatches) → r ≡ Ok m → HasMatchesOf (app_of c) words m → (verb : Text) (rows : List Row) → Some verb ≡ subcommand_name_of m
+      → Some rows ≡ option_map (λ p. p.1) (subcommand_rows_of m) → (asked : Asked) → Asks verb rows asked → AskFor words asked
+  words_ask m is has verb rows name arguments asked asks =
+      let met = (subst (λ (a : App). HasMatchesOf a words m) h.same has refl).1 ∙ same_subcommand h.list h.tm h.tc words in
+      record {
+        allowed = rw is at faults;
+        verb = verb;
+        rows = rows;
+        is_met = sym met ∙ entered (out-ArgMatches m).subcommand verb rows name arguments;
+        asks = asks;
+      }

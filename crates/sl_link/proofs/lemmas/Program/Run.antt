@@ -15,11 +15,10 @@ use Rattle.sl_link.specs.Program.CommandLine.{AskForHelp, AskForVersion, IsRefus
 use Rattle.sl_link.specs.Io.Streams.{TranslatesAndCounts}
 use Rattle.sl_link.specs.Link.Counted.{stream_of, faults_of, HadOneFault}
 use Rattle.sl_link.specs.Pass.{chunk_size}
-use Rattle.sl_link.specs.Program.Engine.{text_of}
+use Rattle.sl_link.specs.Program.Run.{text_of, HasWritten, IsStoppedBy}
 use Rattle.sl_link.specs.Link.Managed.{Parameters}
-use Rattle.sl_link.specs.Program.Run.{HasWritten, IsStoppedBy}
 use Rattle.sl_link.specs.Link.Totals.{Counts}
-use Rattle.sl_link.proofs.lemmas.Io.Faults.{caused_writing}
+use Rattle.sl_link.proofs.lemmas.Io.Streams.{caused_writing}
 
 module _ {R W : Type 0} {remaining : R → Option (List ℕ)} {contents : W → Option (List ℕ)} {reader reader' : Counted R} {writer mid writer' : Counted W} where
   -- where the flush fails, all of the text is in its place, but the writer had a fault

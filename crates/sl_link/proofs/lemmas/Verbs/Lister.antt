@@ -1,11 +1,21 @@
--- A listing that grows frame by frame.
-use Rattle.std.proofs.Common.{◌≡◌, ℕ, List, [], ◌∷◌, ◌++◌, Option, sym, ◌∙◌, ap, append_assoc, append-nil}
-use Rattle.std.specs.Prelude.{Result, Ok, Err, OnOk, IfErr}
+-- A listing: frame by frame, and of a whole recording, and how it stops.
+use Rattle.std.proofs.Common.{◌≡◌, ℕ, List, [], ◌∷◌, ◌++◌, Option, sym, ◌∙◌, ap, append_assoc, append-nil, ◌-◌, ◌≤◌, length, Result, Ok, Err, subst, inl, inr}
+use Rattle.std.specs.Prelude.{OnOk, IfErr}
+use Rattle.std.specs.List.{concat}
 use Rattle.sl_link.specs.declared.io.output.Output.{Output}
 use Rattle.sl_link.specs.declared.link.fault.LinkFault.{LinkFault}
 use Rattle.sl_link.specs.Io.Output.{Adds, StopsAdding}
-use Rattle.sl_link.specs.Verbs.Listing.{Frames, lines_from}
-use Rattle.sl_link.proofs.lemmas.Io.Adding.{adds_both, stops_then}
+use Rattle.sl_link.specs.Verbs.Listing.{Frames, lines_from, EndsListing, Listing, WantedMemory, listing_text}
+use Rattle.sl_link.specs.declared.link.counted.Counted.{Counted}
+use Rattle.sl_link.specs.declared.link.fault.LinkFault.TheVariants.{Read, TooLong, Memory, Write}
+use Rattle.sl_link.specs.Link.Counted.{faults_of}
+use Rattle.sl_link.specs.Io.Streams.{Reads, Writes, Translates, IsCaused, IsListingFault, WritesPrefix}
+use Rattle.sl_link.specs.Pass.{PassesOver, StopsPassing, IsReadersFault}
+use Rattle.sl_link.specs.Link.Totals.{Counts}
+use Rattle.sl_link.specs.Tally.{rest_after}
+use Rattle.sl_link.proofs.lemmas.Io.Streams.{adds_both, stops_then, adds_none, stops_first, stops_last}
+
+-- ---- frame by frame
 
 pub both_ok : {T E P Q X : Type 0} (r : Result T E) → OnOk r P → OnOk r Q → (P → Q → X) → OnOk r X
 both_ok (Ok t) p q f = f p q
@@ -36,3 +46,128 @@ module _ {W : Type 0} {contents : W → Option (List ℕ)} {start old new : Outp
   pub frame_stopped : {wanted : Type 0} {fault : LinkFault} → StopsAdding contents old (line frames frame) new wanted fault
       → StopsAdding contents start (lines_from line [] (frames ++ frame ∷ [])) new wanted fault
   frame_stopped s = rw (lines_from-last line frames frame) (stops_then a s)
+
+-- ---- of a whole recording
+
+module _ {R W : Type 0} (remaining : R → Option (List ℕ)) (contents : W → Option (List ℕ)) (l : Listing) (frames_of : List ℕ → Frames) (reader reader' : Counted R) (limit buffer : ℕ) (wants_memory : Frames → Type 0) where
+  -- the text after the first frames
+  later_text : (octets : List ℕ) (first later : Frames) → frames_of octets ≡ first ++ later
+      → lines_from l.line [] first ++ (lines_from l.line first later ++ l.last (frames_of octets) (rest_after (frames_of octets) octets)) ≡ listing_text frames_of l octets
+  later_text octets first later e =
+      let end = l.last (frames_of octets) (rest_after (frames_of octets) octets) in
+      sym (append_assoc (lines_from l.line [] first) (lines_from l.line first later) end)
+      ∙ ap (λ t. t ++ end) (sym (lines_from-append l.line [] first later) ∙ ap (lines_from l.line []) (sym e))
+
+  sink_caused : (writer writer' : Counted W) (octets : List ℕ) (fault : LinkFault) → faults_of reader' ≡ faults_of reader → length octets ≤ limit → IsListingFault writer writer' fault
+      → IsCaused remaining contents reader reader' writer writer' limit buffer octets fault
+  sink_caused writer writer' octets Read kept within cause = absurd cause
+  sink_caused writer writer' octets TooLong kept within cause = absurd cause
+  sink_caused writer writer' octets Memory kept within cause = (kept, cause, within)
+  sink_caused writer writer' octets Write kept within cause = (cause, kept, within)
+
+  reader_caused : (writer writer' : Counted W) (octets : List ℕ) (fault : LinkFault) → faults_of writer' ≡ faults_of writer → IsReadersFault reader reader' limit buffer octets fault
+      → IsCaused remaining contents reader reader' writer writer' limit buffer octets fault
+  reader_caused writer writer' octets Read kept cause = (cause.0, kept, cause.1)
+  reader_caused writer writer' octets TooLong kept cause = (cause.0, kept, cause.1, cause.2)
+  reader_caused writer writer' octets Memory kept cause = absurd cause
+  reader_caused writer writer' octets Write kept cause = absurd cause
+
+  module _ (start new : Output W) (empty : start.lines ≡ []) where
+    -- the output keeps the writer that was lent, and the listing ends in this way
+    abbrev pub Ends : Result Counts LinkFault → Type 0
+    Ends result =
+        (new.writer.ghost_name ≡ start.writer.ghost_name)
+        × EndsListing remaining contents reader reader' start.writer.now new.writer.now frames_of l limit buffer wants_memory result
+
+    -- a fault at a text with which the listing of these octets begins
+    stops_at : (wanted : Type 0) (text more octets : List ℕ) (fault : LinkFault) → Reads remaining reader reader' octets → faults_of reader' ≡ faults_of reader → length octets ≤ limit
+        → text ++ more ≡ listing_text frames_of l octets → StopsAdding contents start text new wanted fault
+        → (wanted → WantedMemory remaining reader reader' frames_of wants_memory) → Ends (Err fault)
+    stops_at wanted text more octets fault read kept within e s wants = (
+      s.lent,
+      record {
+        listing = tt;
+        totals = tt;
+        fault = record {
+          octets = octets;
+          read = read;
+          written = subst (WritesPrefix contents start.writer.now new.writer.now) (ap (λ t. t ++ (text ++ more)) empty ∙ e) (stops_first more s).front;
+          cause = sink_caused start.writer.now new.writer.now octets fault kept within s.cause;
+        };
+        memory = λ is_memory. wants (s.memory is_memory);
+      },
+    )
+
+    -- a fault before all was read
+    pub stops_frames : (has_listed : Frames → Type 0) (fault : LinkFault)
+        → StopsPassing remaining reader reader' frames_of (λ frames. has_listed frames × Adds contents start (lines_from l.line [] frames) new)
+        (λ frames. StopsAdding contents start (lines_from l.line [] frames) new (wants_memory frames)) limit buffer fault
+        → Ends (Err fault)
+    stops_frames has_listed fault s =
+        let more = lines_from l.line s.first s.later ++ l.last (frames_of s.octets) (rest_after (frames_of s.octets) s.octets) in
+        let text = later_text s.octets s.first s.later s.in_order in
+        elim s.cause [
+          | inl at ↦
+              let t = at.done.1.adds in (
+                at.done.1.lent,
+                record {
+                  listing = tt;
+                  totals = tt;
+                  fault = record {
+                    octets = s.octets;
+                    read = s.read;
+                    written = record {
+                      written = t.written;
+                      missing = new.lines ++ more;
+                      front = sym (append_assoc t.written new.lines more) ∙ ap (λ x. x ++ more) (sym t.parts ∙ ap (λ x. x ++ lines_from l.line [] s.first) empty) ∙ text;
+                      writes = t.writes;
+                    };
+                    cause = reader_caused start.writer.now new.writer.now s.octets fault t.no_fault at.cause;
+                  };
+                  memory = λ is_memory. absurd (subst (IsReadersFault reader reader' limit buffer s.octets) is_memory at.cause);
+                },
+              )
+          | inr at ↦
+              stops_at (wants_memory s.first) (lines_from l.line [] s.first) more s.octets fault s.read at.no_fault at.within text at.at
+              (λ wanted. record { octets = s.octets; read = s.read; first = s.first; later = s.later; in_order = s.in_order; wanted = wanted })
+        ]
+
+    module _ (n : ℕ) (taken : Frames → Type 0) (s : PassesOver remaining reader reader' frames_of taken limit n) (mid : Output W) (listed : Adds contents start (lines_from l.line [] (frames_of s.octets)) mid) where
+      rest_is : n - length (concat (frames_of s.octets)) ≡ rest_after (frames_of s.octets) s.octets
+      rest_is = ap (λ k. k - length (concat (frames_of s.octets))) s.size
+
+      abbrev last_lines : List ℕ
+      last_lines = l.last (frames_of s.octets) (n - length (concat (frames_of s.octets)))
+
+      whole_text : lines_from l.line [] (frames_of s.octets) ++ last_lines ≡ listing_text frames_of l s.octets
+      whole_text = ap (λ k. lines_from l.line [] (frames_of s.octets) ++ l.last (frames_of s.octets) k) rest_is
+
+      -- a fault of the last lines
+      pub stops_finish : (fault : LinkFault) → StopsAdding contents mid last_lines new ⊥ fault → Ends (Err fault)
+      stops_finish fault f = stops_at ⊥ _ [] s.octets fault s.read s.no_fault s.within (append-nil _ ∙ whole_text) (stops_then listed f) (λ never. absurd never)
+
+      module _ (end : Output W) (added : Adds contents mid last_lines end) where
+        -- a fault of writing what waits
+        pub stops_flush : (fault : LinkFault) → StopsAdding contents end [] new ⊥ fault → Ends (Err fault)
+        stops_flush fault f = stops_at ⊥ _ [] s.octets fault s.read s.no_fault s.within (append-nil _ ∙ whole_text) (stops_last (adds_both listed added) f) (λ never. absurd never)
+
+        -- all is written and counted
+        pub lists_all : (totals : Counts) → Adds contents end [] new → new.lines ≡ [] → totals ≡ l.counts (frames_of s.octets) (n - length (concat (frames_of s.octets))) → Ends (Ok totals)
+        lists_all totals flushed none counts =
+            let all = adds_none (adds_both listed added) flushed in
+            let t = all.adds in
+            let text : t.written ≡ listing_text frames_of l s.octets =
+            sym (append-nil t.written) ∙ ap (λ x. t.written ++ x) (sym none) ∙ sym t.parts ∙ ap (λ x. x ++ (lines_from l.line [] (frames_of s.octets) ++ last_lines)) empty ∙ whole_text in
+            let translated : Translates remaining contents reader reader' start.writer.now new.writer.now (listing_text frames_of l) limit =
+            record {
+              octets = s.octets;
+              within = s.within;
+              read = s.read;
+              to_end = s.to_end;
+              written = subst (λ x. Writes contents start.writer.now new.writer.now x) text t.writes;
+              reader_kept = s.no_fault;
+              writer_kept = t.no_fault;
+            } in (
+              all.lent,
+              record { listing = translated; totals = record { translated = translated; counted = counts ∙ ap (l.counts (frames_of s.octets)) rest_is }; fault = tt; memory = tt },
+            )

@@ -1,4 +1,2 @@
-pub mod Channels
 pub mod Listed
-pub mod Octets
 pub mod Printer

@@ -2,9 +2,6 @@ use Rattle.std.proofs.Common.{inl, inr, refl}
 use Rattle.sl_link.proofs.lemmas.Program.Run.{with_answer}
 use Rattle.sl_link.proofs.program.run.Goals as goal
 
-pub returns-in-Err-clause-succeeded : goal.returns-in-Err-clause-succeeded
-returns-in-Err-clause-succeeded g c = λ is. inl (refl, with_answer c.in-Err.ensures.refused (c.report_refusal.ensures.answered is))
-
 pub returns-in-Err-clause-stopped : goal.returns-in-Err-clause-stopped
 returns-in-Err-clause-stopped g c = λ is. elim (c.report_refusal.ensures.stopped is) [
   | inl lacks ↦ inl (refl, inl lacks.0)

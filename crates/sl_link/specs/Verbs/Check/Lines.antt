@@ -1,6 +1,5 @@
 -- The lines of what is amiss in a recording, as `check` writes them, and of its totals.
-use Rattle.std.specs.Prelude.{ℕ, ◌+◌, ◌==◌, Bool, if◌then◌else◌, List, [], ◌∷◌, ◌++◌, length}
-use Rattle.std.specs.Prelude.{flat_map, codes, decimal, Option, None, Some}
+use Rattle.std.specs.Prelude.{ℕ, ◌+◌, ◌==◌, Bool, if◌then◌else◌, List, [], ◌∷◌, ◌++◌, length, flat_map, codes, decimal, Option, None, Some}
 use Rattle.std.specs.List.{concat}
 use Rattle.sl_link.specs.Io.Line.{line_at}
 use Rattle.sl_link.specs.Kind.Delivery.{Kind, counted}
@@ -40,6 +39,11 @@ totals_line counts =
     ++ codes " anomalies " ++ decimal counts.anomalies ++ codes "\n"
 
 -- ---- a recording
+
+-- the lines of a frame that comes after others, by what is found of it and the lines of what is found
+-- at an offset, which is where the frame begins
+abbrev pub amiss_by : {Found : Type 0} → (ℕ → Found → List (List ℕ)) → (List (List ℕ) → List ℕ → Found) → List (List ℕ) → List ℕ → List (List ℕ)
+amiss_by lines found before frame = lines (length (concat before)) (found before frame)
 
 -- the lines after frames: that of the remainder, which has `rest` octets, and those of what is
 -- incomplete on each channel at the end of the recording

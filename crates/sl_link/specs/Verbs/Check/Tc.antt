@@ -1,21 +1,17 @@
 -- What is amiss in a TC recording, as `check tc` lists it: a line for each, and then the totals.
-use Rattle.std.specs.Prelude.{ℕ, ◌/◌, ◌%◌, Bool, true, false, nat_lt, if◌then◌else◌, length, codes}
-use Rattle.std.specs.Prelude.{List, [], ◌∷◌, ◌++◌, decimal, Option, None, Some, is_some, option_map}
-use Rattle.std.specs.Prelude.{Result, Ok, Err}
-use Rattle.std.specs.List.{concat}
+use Rattle.std.specs.Prelude.{ℕ, ◌/◌, ◌%◌, Bool, true, false, nat_lt, if◌then◌else◌, length, codes, List, [], ◌∷◌, ◌++◌, decimal, Option, None, Some, is_some, option_map, Result, Ok, Err}
 use Rattle.sl_cop.specs.declared.verdict.Verdict.{Verdict}
 use Rattle.sl_cop.specs.declared.verdict.Verdict.TheVariants.{Accept, Early, Late, Outside, Refused, Command}
 use Rattle.sl_tcframe.specs.declared.tc_frame.TcSkip.{TcSkip}
 use Rattle.sl_tcframe.specs.TcDelimited.{tc_frames_of}
-use Rattle.sl_tcframe.specs.TcFrame.{TcView, Content, Ad, Bd, Unlock, SetVr}
+use Rattle.sl_tcframe.specs.TcFrame.{TcView}
 use Rattle.sl_tcflow.specs.AcceptedUnit.{views_of}
-use Rattle.sl_tcflow.specs.Anomaly.{dropped_by, long_by, stray_by, tail_by}
 use Rattle.sl_tcflow.specs.Incomplete.{incomplete_of}
-use Rattle.sl_tcflow.specs.Receiving.{map_by, verdict_on}
 use Rattle.sl_tcflow.specs.Reception.{segments_of}
 use Rattle.sl_tcflow.specs.ReceptionParameters.{ReceptionParameters}
-use Rattle.sl_link.specs.Verbs.Check.Lines.{check_listing, event_amiss}
-use Rattle.sl_link.specs.Kind.Tc.{as_read, tc_kind}
+use Rattle.sl_link.specs.Verbs.Check.Lines.{amiss_by, check_listing, event_amiss}
+use Rattle.sl_link.specs.declared.kind.TcFound.{TcFound}
+use Rattle.sl_link.specs.Kind.Tc.{tc_found, tc_kind}
 use Rattle.sl_link.specs.Io.Line.{line_at}
 use Rattle.sl_link.specs.Link.Managed.{Parameters, reception_of, tc_format}
 use Rattle.sl_link.specs.Verbs.Show.Tc.{tc_skip_word, verdict_word}
@@ -34,39 +30,30 @@ discards Refused = true
 discards Command = false
 
 -- the line of a frame that FARM-1 discards, which is of type AD
-abbrev pub discarded_amiss : ℕ → ℕ → Verdict → Content → List (List ℕ)
-discarded_amiss offset vc verdict (Ad ns unit) =
-    line_at offset (codes " " ++ verdict_word verdict ++ codes " vc " ++ decimal vc
+abbrev pub discarded_amiss : ℕ → TcFound → Option ℕ → List (List ℕ)
+discarded_amiss offset found None = []
+discarded_amiss offset found (Some ns) =
+    line_at offset (codes " " ++ verdict_word found.verdict ++ codes " vc " ++ decimal found.vc
     ++ codes " ad " ++ decimal ns) ∷ []
-discarded_amiss offset vc verdict (Bd unit) = []
-discarded_amiss offset vc verdict Unlock = []
-discarded_amiss offset vc verdict (SetVr vr) = []
 
--- The lines of a frame that is read, in their order, by FARM-1's verdict, the MAP and what became of
--- the frame's unit: FARM-1 discards the frame; a segment is out of sequence; an incomplete series is
--- dropped, by how many octets of it had come; a series is given up, since it is too long; octets are
--- left after the last packet of a service data unit.
-abbrev pub view_amiss : ℕ → TcView → Verdict → ℕ → Bool → Option ℕ → Bool → ℕ → List (List ℕ)
-view_amiss offset view verdict map_id stray dropped long tail =
-    (if discards verdict then discarded_amiss offset view.vc verdict view.content else [])
-    ++ event_amiss offset view.vc (Some map_id) (codes " stray") stray None
-    ++ event_amiss offset view.vc (Some map_id) (codes " dropped") (is_some dropped) dropped
-    ++ event_amiss offset view.vc (Some map_id) (codes " long") long None
-    ++ event_amiss offset view.vc (Some map_id) (codes " tail") (nat_lt 0 tail) (Some tail)
-
--- the lines of a frame, as it is read, at this offset and after the frames `views`
-abbrev pub tc_amiss : ReceptionParameters → ℕ → List TcView → Result TcView TcSkip → List (List ℕ)
-tc_amiss r offset views (Ok view) =
-    view_amiss offset view (verdict_on r views view) (map_by r view) (stray_by r views view)
-    (dropped_by r views view) (long_by r views view) (tail_by r views view)
-tc_amiss r offset views (Err reason) = line_at offset (codes " skip " ++ tc_skip_word reason) ∷ []
+-- The lines of a frame at this offset, in their order, by what is found of it: FARM-1 discards the
+-- frame; a segment is out of sequence; an incomplete series is dropped, by how many octets of it had
+-- come; a series is given up, since it is too long; octets are left after the last packet of a service
+-- data unit.
+abbrev pub tc_lines : ℕ → Result TcFound TcSkip → List (List ℕ)
+tc_lines offset (Ok found) =
+    (if discards found.verdict then discarded_amiss offset found found.ns else [])
+    ++ event_amiss offset found.vc (Some found.map) (codes " stray") found.stray None
+    ++ event_amiss offset found.vc (Some found.map) (codes " dropped") (is_some found.dropped) found.dropped
+    ++ event_amiss offset found.vc (Some found.map) (codes " long") found.long None
+    ++ event_amiss offset found.vc (Some found.map) (codes " tail") (nat_lt 0 found.tail) (Some found.tail)
+tc_lines offset (Err reason) = line_at offset (codes " skip " ++ tc_skip_word reason) ∷ []
 
 -- ---- a recording
 
 -- the lines of a frame that comes after `before`
 abbrev pub tc_amiss_after : Parameters → List (List ℕ) → List ℕ → List (List ℕ)
-tc_amiss_after p before frame =
-    tc_amiss (reception_of p) (length (concat before)) (views_of (tc_format p) p.spacecraft before) (as_read p frame)
+tc_amiss_after p = amiss_by tc_lines (tc_found p)
 
 -- a series that is incomplete after the last frame, with the octets so far, if one is
 abbrev pub incomplete_amiss : ℕ → ℕ → ℕ → Option (List ℕ) → List (List ℕ)

@@ -1,15 +1,12 @@
 -- What is amiss in a TM recording, as `check tm` lists it: a line for each, and then the totals.
-use Rattle.std.specs.Prelude.{ℕ, Bool, true, false, nat_lt, List, [], ◌∷◌, ◌++◌, length}
-use Rattle.std.specs.Prelude.{map, codes, decimal, Option, None, Some, Result, Ok, Err}
-use Rattle.std.specs.List.{concat}
+use Rattle.std.specs.Prelude.{ℕ, nat_lt, List, [], ◌∷◌, ◌++◌, length, map, codes, decimal, Option, None, Some, Result, Ok, Err}
 use Rattle.sl_tmframe.specs.declared.tm_frame.TmSkip.{TmSkip}
 use Rattle.sl_tmframe.specs.TmDelimited.{tm_frames_of}
-use Rattle.sl_tmframe.specs.TmFrame.{TmView, DataField, Packets, Idle, Opaque}
-use Rattle.sl_tmflow.specs.Anomaly.{dropped_of, foreign_of, gap_of}
 use Rattle.sl_tmflow.specs.Channel.{channel_of, views_of}
 use Rattle.sl_tmflow.specs.Incomplete.{incomplete_of}
-use Rattle.sl_link.specs.Verbs.Check.Lines.{check_listing, event_amiss, event_line}
-use Rattle.sl_link.specs.Kind.Tm.{as_read, tm_kind}
+use Rattle.sl_link.specs.Verbs.Check.Lines.{amiss_by, check_listing, event_amiss, event_line}
+use Rattle.sl_link.specs.declared.kind.TmFound.{TmFound}
+use Rattle.sl_link.specs.Kind.Tm.{tm_found, tm_kind}
 use Rattle.sl_link.specs.Io.Line.{line_at}
 use Rattle.sl_link.specs.Link.Managed.{Parameters, tm_format}
 use Rattle.sl_link.specs.Verbs.Show.Tm.{tm_skip_word}
@@ -19,41 +16,28 @@ use Rattle.sl_link.specs.Verbs.Listing.{Listing, counts_of, listing_text}
 -- ---- a frame
 
 -- another virtual channel frame count was expected
-abbrev pub gap_amiss : ℕ → TmView → Option ℕ → List (List ℕ)
-gap_amiss offset view None = []
-gap_amiss offset view (Some expected) =
-    line_at offset (codes " gap vc " ++ decimal view.vc ++ codes " expected " ++ decimal expected
-    ++ codes " found " ++ decimal view.vc_count) ∷ []
+abbrev pub gap_amiss : ℕ → TmFound → Option ℕ → List (List ℕ)
+gap_amiss offset found None = []
+gap_amiss offset found (Some expected) =
+    line_at offset (codes " gap vc " ++ decimal found.vc ++ codes " expected " ++ decimal expected
+    ++ codes " found " ++ decimal found.vc_count) ∷ []
 
--- the frame is opaque
-abbrev pub is_opaque : DataField → Bool
-is_opaque (Packets first octets) = false
-is_opaque Idle = false
-is_opaque Opaque = true
-
--- The lines of a frame that is read, in their order, by what an extractor made of it: a gap; an
--- incomplete packet is broken off, by how many octets of it had come; the frame is opaque; octets of
--- another packet version stand at a packet start.
-abbrev pub view_amiss : ℕ → TmView → Option ℕ → ℕ → Bool → List (List ℕ)
-view_amiss offset view gap dropped is_foreign =
-    gap_amiss offset view gap
-    ++ event_amiss offset view.vc None (codes " dropped") (nat_lt 0 dropped) (Some dropped)
-    ++ event_amiss offset view.vc None (codes " opaque") (is_opaque view.field) None
-    ++ event_amiss offset view.vc None (codes " foreign") is_foreign None
-
--- the lines of a frame, as it is read, at this offset and after the frames `views`
-abbrev pub tm_amiss : ℕ → List TmView → Result TmView TmSkip → List (List ℕ)
-tm_amiss offset views (Ok view) =
-    view_amiss offset view (gap_of (channel_of view.vc views) view) (dropped_of (channel_of view.vc views) view)
-    (foreign_of view.field)
-tm_amiss offset views (Err reason) = line_at offset (codes " skip " ++ tm_skip_word reason) ∷ []
+-- The lines of a frame at this offset, in their order, by what is found of it: a gap; an incomplete
+-- packet is broken off, by how many octets of it had come; the frame is opaque; octets of another
+-- packet version stand at a packet start.
+abbrev pub tm_lines : ℕ → Result TmFound TmSkip → List (List ℕ)
+tm_lines offset (Ok found) =
+    gap_amiss offset found found.gap
+    ++ event_amiss offset found.vc None (codes " dropped") (nat_lt 0 found.dropped) (Some found.dropped)
+    ++ event_amiss offset found.vc None (codes " opaque") found.opaque None
+    ++ event_amiss offset found.vc None (codes " foreign") found.foreign None
+tm_lines offset (Err reason) = line_at offset (codes " skip " ++ tm_skip_word reason) ∷ []
 
 -- ---- a recording
 
 -- the lines of a frame that comes after `before`
 abbrev pub tm_amiss_after : Parameters → List (List ℕ) → List ℕ → List (List ℕ)
-tm_amiss_after p before frame =
-    tm_amiss (length (concat before)) (views_of (tm_format p) p.spacecraft before) (as_read p frame)
+tm_amiss_after p = amiss_by tm_lines (tm_found p)
 
 -- the line of the packet that is incomplete after the last frame of a virtual channel, if one is
 abbrev pub tm_open : Parameters → ℕ → List (List ℕ) → ℕ → List (List ℕ)

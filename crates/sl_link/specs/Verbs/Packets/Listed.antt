@@ -3,7 +3,7 @@ use Rattle.std.specs.Prelude.{◌≡◌, ◌==◌, ℕ, List, [], map}
 use Rattle.std.specs.List.{concat, filter, slice_index_or}
 use Rattle.sl_link.specs.declared.verbs.packets.printer.ChannelKind.{ChannelKind}
 use Rattle.sl_link.specs.declared.verbs.packets.printer.ChannelKind.TheVariants.{VirtualChannel, Map}
-use Rattle.sl_link.specs.Verbs.Packets.ChannelName.{channel_name}
+use Rattle.sl_link.specs.Verbs.Packets.Printed.{channel_name}
 use Rattle.sl_link.specs.Link.Managed.{Parameters}
 use Rattle.sl_link.specs.Normalise.Tc.{tc_packets}
 use Rattle.sl_link.specs.Normalise.Tm.{tm_packets}

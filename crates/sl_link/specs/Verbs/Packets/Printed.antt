@@ -1,12 +1,19 @@
--- The lines of the packets of a kind of frames, and the listing of them.
-use Rattle.std.specs.Prelude.{◌≡◌, ℕ, List, [], map}
+-- The lines of the packets of a kind of frames, how these name their channels, and the listing of them.
+use Rattle.std.specs.Prelude.{ℕ, ◌/◌, ◌%◌, List, ◌≡◌, [], map}
 use Rattle.std.specs.List.{concat}
 use Rattle.sl_packet.specs.Packets.{without_idle}
 use Rattle.sl_link.specs.declared.verbs.packets.printer.ChannelKind.{ChannelKind}
+use Rattle.sl_link.specs.declared.verbs.packets.printer.ChannelKind.TheVariants.{VirtualChannel, Map}
+use Rattle.sl_link.specs.Verbs.Packets.Tm as tm
+use Rattle.sl_link.specs.Verbs.Packets.Tc as tc
 use Rattle.sl_link.specs.Kind.Delivery.{Kind, counted}
 use Rattle.sl_link.specs.Verbs.Listing.{Listing}
-use Rattle.sl_link.specs.Verbs.Packets.ChannelName.{channel_name}
 use Rattle.sl_link.specs.Verbs.Packets.Line.{packet_line}
+
+-- a channel by its number: a virtual channel, or virtual channel v and MAP m, whose number is 64 v + m
+abbrev pub channel_name : ChannelKind → ℕ → List ℕ
+channel_name VirtualChannel channel = tm.channel_text channel
+channel_name Map channel = tc.channel_text (channel / 64) (channel % 64)
 
 -- the lines of packets on a channel
 abbrev pub lines_on : ChannelKind → ℕ → List (List ℕ) → List ℕ

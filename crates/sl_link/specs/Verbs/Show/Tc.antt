@@ -1,6 +1,5 @@
 -- The listing of a TC recording's frames, a line for each, and then its remainder.
-use Rattle.std.specs.Prelude.{ℕ, ◌-◌, ◌==◌, Bool, if◌then◌else◌, List}
-use Rattle.std.specs.Prelude.{◌++◌, length, codes, decimal, Result, Ok, Err, is_err}
+use Rattle.std.specs.Prelude.{ℕ, ◌-◌, ◌==◌, Bool, if◌then◌else◌, List, ◌++◌, length, codes, decimal, Result, Ok, Err, is_err}
 use Rattle.std.specs.List.{concat}
 use Rattle.hex.specs.Hex.{encode_lower}
 use Rattle.sl_cop.specs.declared.verdict.Verdict.{Verdict}

@@ -1,6 +1,5 @@
 -- The listing of a TM recording's frames, a line for each, and then its remainder.
-use Rattle.std.specs.Prelude.{ℕ, Bool, if◌then◌else◌, List, [], ◌++◌, length, codes}
-use Rattle.std.specs.Prelude.{decimal, Option, None, Some, Result, Ok, Err, is_err}
+use Rattle.std.specs.Prelude.{ℕ, Bool, if◌then◌else◌, List, [], ◌++◌, length, codes, decimal, Option, None, Some, Result, Ok, Err, is_err}
 use Rattle.std.specs.List.{concat}
 use Rattle.hex.specs.Hex.{encode_lower}
 use Rattle.sl_fields.specs.Field.{flag, bit_of}

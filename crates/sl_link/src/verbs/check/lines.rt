@@ -4,8 +4,7 @@ ghost use Rattle.std.specs.Prelude.{◌≡◌, ◌+◌, ◌≤◌, ◌++◌, len
 ghost use Rattle.std.specs.List.{concat};
 ghost use Rattle.sl_link.specs.Io.Room.{HasRoom, HasRoomFor};
 ghost use Rattle.sl_link.specs.Verbs.Check.Checking.{AddsAmiss};
-ghost use Rattle.sl_link.specs.Verbs.Check.Lines.{event_amiss, event_line, remainder_amiss};
-ghost use Rattle.sl_link.specs.Verbs.Check.Lines.{some_text, totals_line};
+ghost use Rattle.sl_link.specs.Verbs.Check.Lines.{event_amiss, event_line, remainder_amiss, some_text, totals_line};
 
 use crate::io::lines::Lines;
 use crate::io::output::remainder_line;

@@ -1,7 +1,7 @@
 //! A sink that prints packets.
 ghost use Rattle.std.specs.Prelude.{◌≡◌, ◌+◌, ◌≤◌, ◌++◌, length, IfErr, OnOk};
 ghost use Rattle.sl_packet.specs.Packet.{IsPacket};
-ghost use Rattle.sl_link.specs.Verbs.Packets.ChannelName.{channel_name};
+ghost use Rattle.sl_link.specs.Verbs.Packets.Printed.{channel_name};
 ghost use Rattle.sl_link.specs.Verbs.Packets.Line.{packet_line};
 ghost use Rattle.sl_link.specs.Verbs.Packets.Tc.{channel_text};
 ghost use Rattle.sl_link.specs.Io.Output.{Adds, StopsAdding};
@@ -32,7 +32,7 @@ pub struct Printer<'a, 'b, W: Write> {
 impl<'a, 'b, W: Write> PacketSink for Printer<'a, 'b, W> {
     ghost use Rattle.std.specs.Prelude.{◌≡◌};
     ghost use Rattle.sl_packet.specs.declared.sink.SinkFault.TheVariants.{Device};
-    ghost use Rattle.sl_link.specs.Verbs.Packets.ChannelName.{channel_name};
+    ghost use Rattle.sl_link.specs.Verbs.Packets.Printed.{channel_name};
     ghost use Rattle.sl_link.specs.Verbs.Packets.Line.{packet_line};
     ghost use Rattle.sl_link.specs.Io.Output.{Adds, StopsAdding};
     ghost use Rattle.sl_link.specs.declared.link.fault.LinkFault.TheVariants.{Write};

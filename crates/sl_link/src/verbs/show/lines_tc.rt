@@ -9,8 +9,7 @@ ghost use Rattle.sl_tcflow.specs.ReceptionParameters.{ReceptionParameters};
 ghost use Rattle.sl_tcflow.specs.Series.{header_at};
 ghost use Rattle.sl_link.specs.Kind.Delivery.{with_frame};
 ghost use Rattle.sl_link.specs.Io.Line.{line_at};
-ghost use Rattle.sl_link.specs.Verbs.Show.Tc.{tc_skip_word, flags_word, unit_text, content_text};
-ghost use Rattle.sl_link.specs.Verbs.Show.Tc.{verdict_word, step_text, tc_view_text, tc_frame_text};
+ghost use Rattle.sl_link.specs.Verbs.Show.Tc.{tc_skip_word, flags_word, unit_text, content_text, verdict_word, step_text, tc_view_text, tc_frame_text};
 ghost use Rattle.sl_link.specs.Io.Room.{HasRoom, HasRoomFor};
 
 use crate::io::lines::Lines;

@@ -3,8 +3,7 @@ ghost use Rattle.std.specs.Prelude.{◌≡◌, ◌+◌, ◌≤◌, ◌++◌, len
 ghost use Rattle.sl_fields.specs.Field.{bit_of};
 ghost use Rattle.sl_tmframe.specs.TmField.{data_field};
 ghost use Rattle.sl_link.specs.Io.Line.{line_at};
-ghost use Rattle.sl_link.specs.Verbs.Show.Tm.{clcw_fields_text, word_text, control_text, tm_skip_word};
-ghost use Rattle.sl_link.specs.Verbs.Show.Tm.{field_text, counts_text, tm_view_text, tm_frame_text};
+ghost use Rattle.sl_link.specs.Verbs.Show.Tm.{clcw_fields_text, word_text, control_text, tm_skip_word, field_text, counts_text, tm_view_text, tm_frame_text};
 ghost use Rattle.sl_link.specs.Io.Room.{HasRoom, HasRoomFor};
 
 use crate::io::lines::Lines;

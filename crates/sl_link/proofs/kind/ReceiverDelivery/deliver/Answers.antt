@@ -1,8 +1,8 @@
-use Rattle.std.proofs.Common.{rules, ◌≡◌, ◌≢◌, ◌∙◌, Ok, Err, ap, refl}
+use Rattle.std.proofs.Common.{rules, ◌≡◌, ◌≢◌, ◌∙◌, Ok, Err, ap, refl, sym}
 use Rattle.std.specs.Prelude.{is_err}
 use Rattle.sl_packet.specs.declared.flow_fault.FlowFault.TheVariants.{Failed}
 use Rattle.sl_tcflow.specs.AcceptedUnit.{views_of}
-use Rattle.sl_link.specs.Kind.Tc.{as_read, channel_of, ended_in}
+use Rattle.sl_link.specs.Kind.Tc.{as_read, channel_of, ended_in, found_after}
 use Rattle.sl_link.specs.Link.Managed.{reception_of, tc_format}
 use Rattle.sl_link.proofs.lemmas.Kind.Delivery.{delivers_as, stops_as}
 use Rattle.sl_link.proofs.lemmas.Kind.Tc.{one_processed, some_octets, wants_memory}
@@ -12,22 +12,28 @@ use Rattle.sl_link.proofs.kind.ReceiverDelivery.deliver.Goals as goal
 pub returns-in-Err-clause-processed : goal.returns-in-Err-clause-processed
 returns-in-Err-clause-processed g c =
     let p = c.args.managed.now in
-    let skipped : as_read p c.args.frame.now ≡ Err c.in-Err.field-0 = search rules in
+    let skipped : as_read p c.args.frame.now ≡ Err c.in-Err.reason = search rules in
     λ before h.
     one_processed c.args.frame.now h skipped h.processed
 
 pub returns-in-Err-clause-delivers : goal.returns-in-Err-clause-delivers
 returns-in-Err-clause-delivers g c =
     let p = c.args.managed.now in
-    let skipped : as_read p c.args.frame.now ≡ Err c.in-Err.field-0 = search rules in
+    let skipped : as_read p c.args.frame.now ≡ Err c.in-Err.reason = search rules in
     λ before h.
     let r = reception_of p in
     let seen = views_of (tc_format p) p.spacecraft before in
     delivers_as (ap (channel_of r) skipped) (ap (ended_in r seen) skipped) (ap is_err skipped)
     (some_octets p c.args.frame.now c.requires.2) refl refl refl refl refl
 
-pub returns-in-Ok-frame-clause-processed : goal.returns-in-Ok-frame-clause-processed
-returns-in-Ok-frame-clause-processed g c =
+pub returns-in-Err-clause-found : goal.returns-in-Err-clause-found
+returns-in-Err-clause-found g c =
+    let p = c.args.managed.now in
+    let skipped : as_read p c.args.frame.now ≡ Err c.in-Err.reason = search rules in
+    λ before h. sym (ap (found_after (reception_of p) (views_of (tc_format p) p.spacecraft before)) skipped)
+
+pub returns-clause-processed : goal.returns-clause-processed
+returns-clause-processed g c =
     let p = c.args.managed.now in
     let read : as_read p c.args.frame.now ≡ Ok c.in-Ok.view = search rules in
     λ before h.
@@ -35,8 +41,8 @@ returns-in-Ok-frame-clause-processed g c =
     let seen = views_of (tc_format p) p.spacecraft before in
     one_processed c.args.frame.now h read (c.in-Ok-frame.ensures.processed r seen h.processed)
 
-pub returns-in-Ok-frame-clause-delivers : goal.returns-in-Ok-frame-clause-delivers
-returns-in-Ok-frame-clause-delivers g c =
+pub returns-clause-delivers : goal.returns-clause-delivers
+returns-clause-delivers g c =
     let p = c.args.managed.now in
     let view = c.in-Ok.view in
     let read : as_read p c.args.frame.now ≡ Ok view = search rules in
@@ -46,6 +52,27 @@ returns-in-Ok-frame-clause-delivers g c =
     delivers_as (ap (channel_of r) read) (ap (ended_in r seen) read) (ap is_err read) (some_octets p c.args.frame.now c.requires.2)
     (c.in-Ok-frame.ensures.accepted r seen h.processed) refl
     (c.packets.ensures ∙ c.in-Ok-frame.ensures.packets r seen h.processed) (c.idle.ensures ∙ c.in-Ok-frame.ensures.idle r seen h.processed) refl
+
+pub returns-clause-found : goal.returns-clause-found
+returns-clause-found g c =
+    let p = c.args.managed.now in
+    let read : as_read p c.args.frame.now ≡ Ok c.in-Ok.view = search rules in
+    λ before h.
+    let r = reception_of p in
+    let seen = views_of (tc_format p) p.spacecraft before in
+    let e = c.in-Ok-frame.ensures in
+    rw (
+      c.vc.ensures.value,
+      c.map.ensures ∙ e.map r seen h.processed,
+      c.ns_of.ensures,
+      c.content.ensures.value,
+      c.verdict.ensures ∙ e.verdict r seen h.processed,
+      c.stray.ensures ∙ e.stray r seen h.processed,
+      c.dropped.ensures ∙ e.dropped r seen h.processed,
+      c.long.ensures ∙ e.long r seen h.processed,
+      c.tail.ensures ∙ e.tail r seen h.processed,
+    )
+    (sym (ap (found_after r seen) read))
 
 pub returns-in-Err-frame-clause-stopped : goal.returns-in-Err-frame-clause-stopped
 returns-in-Err-frame-clause-stopped g c =

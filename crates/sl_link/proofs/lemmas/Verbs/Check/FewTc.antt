@@ -4,46 +4,42 @@ use Rattle.std.proofs.Common.{◌≡◌, ◌≢◌, ℕ, ◌/◌, ◌%◌, ◌<�
 use Rattle.std.specs.Prelude.{flat_map, is_some, option_map, unwrap_or}
 use Rattle.std.proofs.lemmas.List.{length-take}
 use Rattle.sl_fields.specs.TcHeader.{TcFields}
-use Rattle.sl_cop.specs.declared.verdict.Verdict.{Verdict}
 use Rattle.sl_tcframe.specs.declared.tc_frame.TcSkip.{TcSkip}
-use Rattle.sl_tcframe.specs.TcFrame.{TcView, Content, Ad, Bd, Unlock, SetVr, content_of, early_reason, field_len, is_cut, read_as, tc_header_of}
-use Rattle.sl_tcframe.proofs.PartLemmas.{cut_facts}
+use Rattle.sl_tcframe.specs.TcFrame.{TcView, Content, content_of, early_reason, field_len, read_as, tc_header_of}
 use Rattle.sl_tcflow.specs.AcceptedUnit.{views_of}
-use Rattle.sl_tcflow.specs.Anomaly.{dropped_by, long_by, stray_by, tail_by}
-use Rattle.sl_tcflow.specs.Receiving.{map_by, verdict_on}
 use Rattle.sl_tcflow.proofs.lemmas.Reception.Channel.{incomplete_other}
 use Rattle.sl_link.specs.Verbs.Check.Lines.{event_amiss}
-use Rattle.sl_link.specs.Verbs.Check.Tc.{discarded_amiss, discards, incomplete_amiss, open_on, tc_amiss, tc_open, view_amiss}
-use Rattle.sl_link.specs.Kind.Tc.{as_read, channel_of, tc_kind}
+use Rattle.sl_link.specs.Verbs.Check.Tc.{discarded_amiss, discards, incomplete_amiss, open_on, tc_lines, tc_open}
+use Rattle.sl_link.specs.declared.kind.TcFound.{TcFound}
+use Rattle.sl_link.specs.Kind.Tc.{as_read, channel_of, found_after, tc_found, tc_kind}
 use Rattle.sl_link.specs.Kind.Delivery.{with_frame}
 use Rattle.sl_link.specs.Link.Managed.{Parameters, reception_of, tc_format}
+use Rattle.sl_link.specs.Pass.Tc.{is_tc_frame}
 use Rattle.sl_link.proofs.lemmas.Kind.Tc.{tc_delivered, views_next}
 use Rattle.sl_link.proofs.lemmas.Verbs.Check.Lines.{one_event}
-use Rattle.sl_link.proofs.lemmas.Verbs.Check.Open as few
+use Rattle.sl_link.proofs.lemmas.Verbs.Check.Lines as few
 
 -- ---- the lines of a frame are few
 
-one_discarded : (offset vc : ℕ) (verdict : Verdict) (content : Content) → length (discarded_amiss offset vc verdict content) ≤ 1
-one_discarded offset vc verdict (Ad ns unit) = omega arith
-one_discarded offset vc verdict (Bd unit) = omega arith
-one_discarded offset vc verdict Unlock = omega arith
-one_discarded offset vc verdict (SetVr vr) = omega arith
+one_discarded : (offset : ℕ) (found : TcFound) (ns : Option ℕ) → length (discarded_amiss offset found ns) ≤ 1
+one_discarded offset found None = omega arith
+one_discarded offset found (Some ns) = omega arith
 
 if_discarded : (holds : Bool) (lines : List (List ℕ)) → length lines ≤ 1 → length (if holds then lines else []) ≤ 1
 if_discarded true lines one = one
 if_discarded false lines one = omega arith
 
-five_lines : (offset : ℕ) (view : TcView) (verdict : Verdict) (mid : ℕ) (stray : Bool) (dropped : Option ℕ) (long : Bool) (tail : ℕ)
-    → length (view_amiss offset view verdict mid stray dropped long tail) ≤ 5
-five_lines offset view verdict mid stray dropped long tail =
-    let one = one_event offset view.vc (Some mid) in
+five_lines : (offset : ℕ) (found : Result TcFound TcSkip) → length (tc_lines offset found) ≤ 5
+five_lines offset (Err reason) = omega arith
+five_lines offset (Ok found) =
+    let one = one_event offset found.vc (Some found.map) in
     simp length-append (omega (
       arith,
-      if_discarded (discards verdict) _ (one_discarded offset view.vc verdict view.content),
-      one (codes " stray") stray None,
-      one (codes " dropped") (is_some dropped) dropped,
-      one (codes " long") long None,
-      one (codes " tail") (nat_lt 0 tail) (Some tail),
+      if_discarded (discards found.verdict) _ (one_discarded offset found found.ns),
+      one (codes " stray") found.stray None,
+      one (codes " dropped") (is_some found.dropped) found.dropped,
+      one (codes " long") found.long None,
+      one (codes " tail") (nat_lt 0 found.tail) (Some found.tail),
     ))
 
 -- a frame that is read has a data field
@@ -59,23 +55,22 @@ some_field None h [] view read =
     absurd (cc)
 some_field None h (x ∷ xs) view read = omega arith
 
-few_by : (p : Parameters) (frame : List ℕ) (offset : ℕ) (views : List TcView) (read : Result TcView TcSkip) → as_read p frame ≡ read → is_cut (tc_format p) frame ≡ true
-    → length (tc_amiss (reception_of p) offset views read) < length frame
-few_by p frame offset views (Err reason) is cut = omega (arith, (cut_facts (tc_format p) frame cut).0)
-few_by p frame offset views (Ok view) is cut =
-    let r = reception_of p in
-    let long = field_len (tc_format p) frame in
+few_by : (p : Parameters) (frame : List ℕ) (offset : ℕ) (views : List TcView) (read : Result TcView TcSkip) → as_read p frame ≡ read → 5 ≤ length frame
+    → length (tc_lines offset (found_after (reception_of p) views read)) < length frame
+few_by p frame offset views (Err reason) is long = omega (arith, long)
+few_by p frame offset views (Ok view) is long =
+    let most = field_len (tc_format p) frame in
     omega (
       arith,
-      five_lines offset view (verdict_on r views view) (map_by r view) (stray_by r views view) (dropped_by r views view) (long_by r views view) (tail_by r views view),
-      length-take long (drop 5 frame),
-      some_field (early_reason (tc_format p) p.spacecraft frame) (tc_header_of frame) (take long (drop 5 frame)) view is,
+      five_lines offset (found_after (reception_of p) views (Ok view)),
+      length-take most (drop 5 frame),
+      some_field (early_reason (tc_format p) p.spacecraft frame) (tc_header_of frame) (take most (drop 5 frame)) view is,
     )
 
--- they are fewer than its octets
-pub few_lines : (p : Parameters) (frame : List ℕ) (offset : ℕ) (views : List TcView) → is_cut (tc_format p) frame ≡ true
-    → length (tc_amiss (reception_of p) offset views (as_read p frame)) < length frame
-few_lines p frame offset views cut = few_by p frame offset views (as_read p frame) refl cut
+-- a frame has fewer lines than octets
+pub few_lines : (offset : ℕ) (p : Parameters) (before : List (List ℕ)) (frame : List ℕ) → is_tc_frame p frame → 5 ≤ length frame
+    → length (tc_lines offset (tc_found p before frame)) < length frame
+few_lines offset p before frame whole long = few_by p frame offset (views_of (tc_format p) p.spacecraft before) (as_read p frame) refl long
 
 -- ---- the series that are incomplete
 

@@ -1,6 +1,6 @@
 -- The lines of what is amiss in TM frames are few: four at most for each frame, and after the last one, for the packets that
 -- are incomplete, no more than frames.
-use Rattle.std.proofs.Common.{◌≡◌, ◌≢◌, ◌==◌, nat_lt, Bool, ℕ, ◌≤◌, List, [], ◌∷◌, length, map, inl, inr, refl, ◌∙◌, ap, arith, append-nil, length-append, codes, Option, None, Some, Result, Ok, Err}
+use Rattle.std.proofs.Common.{◌≡◌, ◌≢◌, ◌==◌, nat_lt, ℕ, ◌<◌, ◌≤◌, List, [], ◌∷◌, length, map, inl, inr, refl, ◌∙◌, ap, arith, append-nil, length-append, codes, Option, None, Some, Result, Ok, Err}
 use Rattle.std.specs.Prelude.{flat_map}
 use Rattle.std.specs.List.{AllByRecursion, concat}
 use Rattle.std.proofs.lemmas.Bool.{lt-ltb}
@@ -12,28 +12,37 @@ use Rattle.sl_tmframe.specs.TmFrame.{TmView}
 use Rattle.sl_tmflow.specs.Channel.{channel_of, views_of}
 use Rattle.sl_tmflow.specs.Incomplete.{IsShort, incomplete_of}
 use Rattle.sl_tmflow.proofs.lemmas.Incomplete.List.{one_is_incomplete, incomplete_is_short}
+use Rattle.sl_link.specs.declared.kind.TmFound.{TmFound}
 use Rattle.sl_link.specs.Kind.Delivery.{with_frame}
-use Rattle.sl_link.specs.Kind.Tm.{as_read, tm_kind, vc_of}
+use Rattle.sl_link.specs.Kind.Tm.{as_read, tm_found, tm_kind, vc_of}
 use Rattle.sl_link.specs.Link.Managed.{Parameters, tm_format}
+use Rattle.sl_link.specs.Pass.Tm.{is_tm_frame}
 use Rattle.sl_link.specs.Verbs.Check.Lines.{event_amiss, event_line}
-use Rattle.sl_link.specs.Verbs.Check.Tm.{gap_amiss, is_opaque, tm_open, view_amiss}
+use Rattle.sl_link.specs.Verbs.Check.Tm.{gap_amiss, tm_lines, tm_open}
 use Rattle.sl_link.proofs.lemmas.Kind.Tm.{tm_delivered, views_next}
 use Rattle.sl_link.proofs.lemmas.Verbs.Check.Lines.{one_event}
-use Rattle.sl_link.proofs.lemmas.Verbs.Check.Open as few
+use Rattle.sl_link.proofs.lemmas.Verbs.Check.Lines as few
 
-one_gap : (offset : ℕ) (view : TmView) (gap : Option ℕ) → length (gap_amiss offset view gap) ≤ 1
-one_gap offset view None = omega arith
-one_gap offset view (Some expected) = omega arith
+one_gap : (offset : ℕ) (found : TmFound) (gap : Option ℕ) → length (gap_amiss offset found gap) ≤ 1
+one_gap offset found None = omega arith
+one_gap offset found (Some expected) = omega arith
 
-pub four_lines : (offset : ℕ) (view : TmView) (gap : Option ℕ) (dropped : ℕ) (is_foreign : Bool) → length (view_amiss offset view gap dropped is_foreign) ≤ 4
-four_lines offset view gap dropped is_foreign =
+four_lines : (offset : ℕ) (found : Result TmFound TmSkip) → length (tm_lines offset found) ≤ 4
+four_lines offset (Err reason) = omega arith
+four_lines offset (Ok found) =
+    let one = one_event offset found.vc None in
     simp length-append (omega (
       arith,
-      one_gap offset view gap,
-      one_event offset view.vc None (codes " dropped") (nat_lt 0 dropped) (Some dropped),
-      one_event offset view.vc None (codes " opaque") (is_opaque view.field) None,
-      one_event offset view.vc None (codes " foreign") is_foreign None,
+      one_gap offset found found.gap,
+      one (codes " dropped") (nat_lt 0 found.dropped) (Some found.dropped),
+      one (codes " opaque") found.opaque None,
+      one (codes " foreign") found.foreign None,
     ))
+
+-- a frame has fewer lines than octets
+pub few_lines : (offset : ℕ) (p : Parameters) (before : List (List ℕ)) (frame : List ℕ) → is_tm_frame p frame → 5 ≤ length frame
+    → length (tm_lines offset (tm_found p before frame)) < length frame
+few_lines offset p before frame whole long = omega (arith, long, four_lines offset (tm_found p before frame))
 
 -- ---- the packets that are incomplete
 

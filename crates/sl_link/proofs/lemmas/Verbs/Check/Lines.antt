@@ -1,9 +1,22 @@
--- Lines of what is amiss, one group after another.
-use Rattle.std.proofs.Common.{◌≡◌, ℕ, ◌≤◌, Bool, true, false, List, ◌++◌, length, Option, arith, append_assoc}
-use Rattle.std.specs.List.{concat}
+-- Lines of what is amiss: of a frame, of what is incomplete at the end of a recording, and all that comes after the last frame.
+use Rattle.std.proofs.Common.{◌≡◌, ℕ, ◌≤◌, Bool, true, false, List, ◌++◌, length, Option, arith, append_assoc, ◌≢◌, zero, suc, ◌+◌, ◌-◌, ◌<◌, [], ◌∷◌, map, refl, sym, ◌∙◌, ap, subst, append-nil, length-append, ap₂}
+use Rattle.std.specs.List.{concat, range_with_len}
 use Rattle.std.proofs.lemmas.List.Folds.{concat-append}
-use Rattle.sl_link.specs.Verbs.Check.Checking.{AddsAmiss}
-use Rattle.sl_link.specs.Verbs.Check.Lines.{event_amiss}
+use Rattle.std.specs.Prelude.{flat_map}
+use Rattle.sl_link.specs.Verbs.Check.Checking.{AddsAmiss, HasChecked}
+use Rattle.sl_link.specs.Verbs.Check.Lines.{event_amiss, check_counted, end_amiss, remainder_amiss}
+use Rattle.sl_link.specs.declared.io.output.Output.{Output}
+use Rattle.sl_link.specs.declared.link.fault.LinkFault.{LinkFault}
+use Rattle.sl_link.specs.Io.Output.{Adds, StopsAdding}
+use Rattle.sl_link.specs.Kind.Delivery.{AreDelivered, Kind, count_of, idle_in, packets_in}
+use Rattle.sl_link.specs.Link.Totals.{Counts}
+use Rattle.sl_link.specs.Tally.{counts_so_far, counts_with_rest}
+use Rattle.sl_link.specs.Verbs.Listing.{Frames, lines_from}
+use Rattle.sl_link.proofs.lemmas.Io.Streams.{adds_both, adds_lines, stops_first, stops_last}
+use Rattle.sl_link.proofs.lemmas.Kind.Channels.{items_change, no_items}
+use Rattle.sl_link.proofs.lemmas.Verbs.Lister.{lines_from-last}
+
+-- ---- one group after another
 
 -- an event has one line at most
 pub one_event : (offset vc : ℕ) (mid : Option ℕ) (event : List ℕ) (holds : Bool) (octets : Option ℕ) → length (event_amiss offset vc mid event holds octets) ≤ 1
@@ -23,3 +36,115 @@ pub joined_five : {a b c d e f : List ℕ} {vs ws xs ys zs : List (List ℕ)} {k
     → AddsAmiss a vs b k → AddsAmiss b ws c l → AddsAmiss c xs d m → AddsAmiss d ys e n → AddsAmiss e zs f o
     → f ≡ a ++ concat (vs ++ ws ++ xs ++ ys ++ zs)
 joined_five p q r s t = rw (t.text, s.text, r.text, q.text, p.text) (simp (append_assoc, concat-append))
+
+-- ---- one channel after another
+
+-- ---- while they are added, by the line of each channel
+
+none_in : (line : ℕ → List (List ℕ)) (from n : ℕ) → ((channel : ℕ) → from ≤ channel → channel < from + n → line channel ≡ []) → flat_map line (range_with_len from n) ≡ []
+none_in line from zero none = refl
+none_in line from (suc n) none =
+    ap (λ l. l ++ flat_map line (range_with_len (from + 1) n)) (none from (omega arith) (omega arith))
+    ∙ none_in line (from + 1) n (λ channel above below. none channel (omega (arith, above)) (omega (arith, below)))
+
+-- the lines of the channels before one were added, and this is their number
+pub record HasAdded {W : Type 0} (contents : W → Option (List ℕ)) (line : ℕ → List (List ℕ)) (k : Kind) (start out : Output W) (channel number : ℕ) : Type 0 where
+  pub lines : List (List ℕ)
+  pub all : flat_map line k.channels ≡ lines ++ flat_map line (range_with_len channel (k.limit - channel))
+  pub added : Adds contents start (concat lines) out
+  pub many : number ≡ length lines
+
+module _ {W : Type 0} {contents : W → Option (List ℕ)} {line : ℕ → List (List ℕ)} {k : Kind} {start : Output W} where
+  pub added_none : k.channels ≡ range_with_len 0 k.limit → HasAdded contents line k start start 0 0
+  added_none all =
+      let whole : k.limit ≡ k.limit - 0 = omega arith in
+      record {
+        lines = [];
+        all = ap (flat_map line) (all ∙ ap (range_with_len 0) whole);
+        added = adds_lines contents start start [] refl (sym (append-nil start.lines));
+        many = refl;
+      }
+
+  pub added_next : {old new : Output W} {channel number more : ℕ} → HasAdded contents line k start old channel number → channel < k.limit
+      → Adds contents old (concat (line channel)) new → more ≡ length (line channel) → HasAdded contents line k start new (channel + 1) (number + more)
+  added_next {channel = channel} h within adds is =
+      let later = flat_map line (range_with_len (channel + 1) (k.limit - (channel + 1))) in
+      let left : k.limit - channel ≡ suc (k.limit - (channel + 1)) = omega (arith, within) in
+      record {
+        lines = h.lines ++ line channel;
+        all = h.all ∙ ap (λ n. h.lines ++ flat_map line (range_with_len channel n)) left ∙ sym (append_assoc h.lines (line channel) later);
+        added = rw (concat-append h.lines (line channel)) (adds_both h.added adds);
+        many = omega (arith, h.many, is, length-append h.lines (line channel));
+      }
+
+  -- a fault before the next ones leaves a prefix of them
+  pub added_stops : {old new : Output W} {channel number : ℕ} {fault : LinkFault} → HasAdded contents line k start old channel number
+      → StopsAdding contents old [] new ⊥ fault → StopsAdding contents start (concat (flat_map line k.channels)) new ⊥ fault
+  added_stops {channel = channel} h stops =
+      let later = flat_map line (range_with_len channel (k.limit - channel)) in
+      rw (h.all, concat-append h.lines later) (stops_first (concat later) (stops_last h.added stops))
+
+  -- where the channels from one on have none, they are those of all channels
+  pub added_all : {out : Output W} {channel number : ℕ} → HasAdded contents line k start out channel number → channel ≤ k.limit
+      → ((other : ℕ) → channel ≤ other → other < k.limit → line other ≡ []) → Adds contents start (concat (flat_map line k.channels)) out × (number ≡ length (flat_map line k.channels))
+  added_all {channel = channel} h within none =
+      let past = none_in line channel (k.limit - channel) (λ other above below. none other above (omega (arith, below, within))) in
+      rw (h.all, past, append-nil h.lines) (h.added, h.many)
+
+-- ---- how many they are
+
+flat_count : (f : ℕ → List (List ℕ)) (xs : List ℕ) → length (flat_map f xs) ≡ count_of (map f xs)
+flat_count f [] = refl
+flat_count f (x ∷ xs) = length-append (f x) (flat_map f xs) ∙ ap (λ n. length (f x) + n) (flat_count f xs)
+
+-- where a channel has at most one, and a frame changes its own channel alone
+module _ (k : Kind) (laws : AreDelivered k) (line : List (List ℕ) → ℕ → List (List ℕ)) (none : (channel : ℕ) → line [] channel ≡ [])
+    (one : (frames : List (List ℕ)) (channel : ℕ) → length (line frames channel) ≤ 1)
+    (other : (frames : List (List ℕ)) (frame : List ℕ) (channel : ℕ) → k.channel frame ≢ channel → length (line (frames ++ frame ∷ []) channel) ≡ length (line frames channel)) where
+  few_next : (frames : List (List ℕ)) (frame : List ℕ) → length (flat_map (line frames) k.channels) ≤ length frames
+      → length (flat_map (line (frames ++ frame ∷ [])) k.channels) ≤ length (frames ++ frame ∷ [])
+  few_next frames frame few =
+      let at = k.channel frame in
+      let old = line frames in
+      let new = line (frames ++ frame ∷ []) in
+      let change = items_change k.limit k.channels laws.all old new at (laws.inside frame) (λ i apart. other frames frame i (λ e. apart (sym e))) in
+      omega (arith, few, change, one (frames ++ frame ∷ []) at, flat_count old k.channels, flat_count new k.channels, length-append frames (frame ∷ []))
+
+  few_from : (before frames : List (List ℕ)) → length (flat_map (line before) k.channels) ≤ length before
+      → length (flat_map (line (before ++ frames)) k.channels) ≤ length (before ++ frames)
+  few_from before [] few = subst (λ l. length (flat_map (line l) k.channels) ≤ length l) (sym (append-nil before)) few
+  few_from before (frame ∷ frames) few =
+      subst (λ l. length (flat_map (line l) k.channels) ≤ length l) (append_assoc before (frame ∷ []) frames) (few_from (before ++ frame ∷ []) frames (few_next before frame few))
+
+  pub few_open : (frames : List (List ℕ)) → length (flat_map (line frames) k.channels) ≤ length frames
+  few_open frames = few_from [] frames (omega (arith, flat_count (line []) k.channels, no_items k.limit k.channels laws.all (line []) none))
+
+-- ---- after the last frame
+
+-- what is amiss in one frame more
+pub amiss_more : (amiss : Frames → List ℕ → List (List ℕ)) (frames : Frames) (frame : List ℕ) (number : ℕ) → number ≡ length (amiss frames frame)
+    → length (lines_from amiss [] frames) + number ≡ length (lines_from amiss [] (frames ++ frame ∷ []))
+amiss_more amiss frames frame number is =
+    omega (arith, is, ap length (lines_from-last amiss frames frame), length-append (lines_from amiss [] frames) (amiss frames frame))
+
+-- the remainder begins at an offset, which is where the frames end
+module _ (k : Kind) (open_at : ℕ → Frames → ℕ → List (List ℕ)) (frames : Frames) (offset octets : ℕ) (ends : offset ≡ length (concat frames)) (inside : length (concat frames) ≤ octets) where
+  end_is : remainder_amiss offset (octets - offset) ++ flat_map (open_at octets frames) k.channels ≡ end_amiss k open_at frames (octets - length (concat frames))
+  end_is =
+      let rest = octets - length (concat frames) in
+      let whole : octets ≡ length (concat frames) + rest = omega (arith, inside) in
+      ap (λ n. remainder_amiss n (octets - n) ++ flat_map (open_at octets frames) k.channels) ends
+      ∙ ap (λ n. remainder_amiss (length (concat frames)) rest ++ flat_map (open_at n frames) k.channels) whole
+
+  -- the lines after them: the remainder's, and then those of what is incomplete
+  pub end_text : concat (remainder_amiss offset (octets - offset)) ++ concat (flat_map (open_at octets frames) k.channels) ≡ concat (end_amiss k open_at frames (octets - length (concat frames)))
+  end_text = sym (concat-append (remainder_amiss offset (octets - offset)) (flat_map (open_at octets frames) k.channels)) ∙ ap concat end_is
+
+  pub all_counted : (amiss : Frames → List ℕ → List (List ℕ)) {had : Frames → Type 0} {t : Counts} {remainders incomplete : ℕ} → HasChecked k amiss had frames t
+      → remainders ≡ length (remainder_amiss offset (octets - offset)) → incomplete ≡ length (flat_map (open_at octets frames) k.channels)
+      → counts_with_rest t (octets - offset) (remainders + incomplete) ≡ check_counted k amiss open_at frames (octets - length (concat frames))
+  all_counted amiss {remainders} {incomplete} h first later =
+      let number : remainders + incomplete ≡ length (end_amiss k open_at frames (octets - length (concat frames))) =
+      omega (arith, first, later, ap length end_is, length-append (remainder_amiss offset (octets - offset)) (flat_map (open_at octets frames) k.channels)) in
+      ap (λ (c : Counts). counts_with_rest c (octets - offset) (remainders + incomplete)) h.counts
+      ∙ ap₂ (λ n more. counts_with_rest (counts_so_far k.is_skipped frames (packets_in k frames) (idle_in k frames) (length (lines_from amiss [] frames))) (octets - n) more) ends number

@@ -1,5 +1,5 @@
--- What a sink that prints packets has written and added.
-use Rattle.std.proofs.Common.{◌≡◌, ℕ, List, [], ◌∷◌, ◌++◌, map, Option, refl, sym, ◌∙◌, ap, subst, append-nil}
+-- What is printed of a packet, and what a sink that prints packets has written and added.
+use Rattle.std.proofs.Common.{◌≡◌, ℕ, List, [], ◌++◌, Option, refl, sym, ◌∙◌, ap, subst, append_assoc, append-nil, ◌∷◌, map}
 use Rattle.std.proofs.lemmas.List.{map-append}
 use Rattle.std.proofs.lemmas.List.Folds.{concat-append}
 use Rattle.std.specs.List.{concat}
@@ -9,16 +9,45 @@ use Rattle.sl_packet.specs.declared.sink.SinkFault.{SinkFault}
 use Rattle.sl_packet.specs.declared.sink.SinkFault.TheVariants.{Device}
 use Rattle.sl_packet.specs.Sink.{TakesAll}
 use Rattle.sl_packet.specs.Stopping.{IsStopped}
+use Rattle.hex.specs.Hex.{encode_lower}
 use Rattle.sl_link.specs.declared.io.output.Output.{Output}
-use Rattle.sl_link.specs.declared.link.fault.LinkFault.TheVariants.{Memory, Write}
+use Rattle.sl_link.specs.declared.link.fault.LinkFault.{LinkFault}
+use Rattle.sl_link.specs.Io.Output.{Adds, StopsAdding}
+use Rattle.sl_link.specs.declared.link.fault.LinkFault.TheVariants.{Write}
 use Rattle.sl_link.specs.declared.verbs.packets.printer.ChannelKind.{ChannelKind}
 use Rattle.sl_link.specs.declared.verbs.packets.printer.Printer.{Printer}
-use Rattle.sl_link.specs.Io.Output.{Adds, StopsAdding}
 use Rattle.sl_link.specs.Link.Fault.{flow_fault}
-use Rattle.sl_link.specs.Verbs.Packets.ChannelName.{channel_name}
+use Rattle.sl_link.specs.Verbs.Packets.Printed.{channel_name, lines_on}
 use Rattle.sl_link.specs.Verbs.Packets.Line.{packet_line}
-use Rattle.sl_link.specs.Verbs.Packets.Printed.{lines_on}
-use Rattle.sl_link.proofs.lemmas.Io.Adding.{adds_both, adds_lines, stops_at_memory, stops_first, stops_for, stops_then}
+use Rattle.sl_link.proofs.lemmas.Io.Streams.{adds_both, adds_lines, stops_first, stops_last, stops_at_memory, stops_for, stops_then}
+use Rattle.sl_link.proofs.lemmas.Io.Hexadecimal.{encode_append, encode_nil}
+
+-- ---- octets in hexadecimal, part by part
+
+-- some of the octets were added, and these are left
+pub record IsPushing {W : Type 0} (contents : W → Option (List ℕ)) (start now : Output W) (octets left : List ℕ) : Type 0 where
+  pub done : List ℕ
+  pub parts : octets ≡ done ++ left
+  pub adds : Adds contents start (encode_lower done) now
+
+module _ {W : Type 0} {contents : W → Option (List ℕ)} where
+  pub pushing_none : (start : Output W) (octets : List ℕ) → IsPushing contents start start octets octets
+  pushing_none start octets =
+      record { done = []; parts = refl; adds = subst (λ l. Adds contents start l start) (sym encode_nil) (adds_lines contents start start [] refl (sym (append-nil start.lines))) }
+
+  module _ {start old : Output W} {octets left : List ℕ} (s : IsPushing contents start old octets left) where
+    pub pushing_next : {new : Output W} (part after : List ℕ) → left ≡ part ++ after → Adds contents old (encode_lower part) new → IsPushing contents start new octets after
+    pushing_next part after parts adds =
+        record {
+          done = s.done ++ part;
+          parts = s.parts ∙ ap (λ l. s.done ++ l) parts ∙ sym (append_assoc s.done part after);
+          adds = rw (encode_append s.done part) (adds_both s.adds adds);
+        }
+
+    pub pushing_stops : {new : Output W} {fault : LinkFault} → StopsAdding contents old [] new ⊥ fault → StopsAdding contents start (encode_lower octets) new ⊥ fault
+    pushing_stops stops = rw (s.parts, encode_append s.done left) (stops_first (encode_lower left) (stops_last s.adds stops))
+
+-- ---- the sink
 
 lines_append : (kind : ChannelKind) (channel : ℕ) (xs ys : List (List ℕ)) → lines_on kind channel (xs ++ ys) ≡ lines_on kind channel xs ++ lines_on kind channel ys
 lines_append kind channel xs ys =

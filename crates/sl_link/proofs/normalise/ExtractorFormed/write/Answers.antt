@@ -4,8 +4,7 @@ use Rattle.sl_tmflow.specs.FormLeft.{HasPackets}
 use Rattle.sl_link.specs.Io.Streams.{WritesText}
 use Rattle.sl_link.specs.Link.ManagedModel.{parameters_of}
 use Rattle.sl_link.specs.Normalise.Form.{StopsForm}
-use Rattle.sl_link.proofs.lemmas.Normalise.Form.{fewer_packets}
-use Rattle.sl_link.proofs.lemmas.Normalise.Forms.{tm_form_delivers, tm_form_is}
+use Rattle.sl_link.proofs.lemmas.Normalise.Form.{fewer_packets, tm_form_delivers, tm_form_is}
 use Rattle.sl_link.proofs.lemmas.Verbs.Lister.{one_err, one_ok}
 use Rattle.sl_link.proofs.normalise.ExtractorFormed.write.Goals as goal
 

@@ -7,12 +7,10 @@ use Rattle.sl_link.specs.Io.Streams.{WritesText}
 use Rattle.sl_link.specs.Kind.Tc.{tc_kind}
 use Rattle.sl_link.specs.Link.Managed.{Parameters, reception_of, tc_format}
 use Rattle.sl_link.specs.Link.ManagedModel.{parameters_of}
-use Rattle.sl_link.specs.Normalise.Form.{StopsForm}
-use Rattle.sl_link.specs.Normalise.Store.{listed}
+use Rattle.sl_link.specs.Normalise.Form.{StopsForm, listed}
 use Rattle.sl_link.proofs.lemmas.Kind.Delivery.{all_kept}
 use Rattle.sl_link.proofs.lemmas.Kind.Tc.{tc_delivered}
-use Rattle.sl_link.proofs.lemmas.Normalise.Form.{fewer_packets}
-use Rattle.sl_link.proofs.lemmas.Normalise.Forms.{tc_form_delivers, tc_form_is}
+use Rattle.sl_link.proofs.lemmas.Normalise.Form.{fewer_packets, tc_form_delivers, tc_form_is}
 use Rattle.sl_link.proofs.lemmas.Verbs.Lister.{one_err, one_ok}
 use Rattle.sl_link.proofs.normalise.ReceiverFormed.write.Goals as goal
 

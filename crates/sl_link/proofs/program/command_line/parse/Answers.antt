@@ -1,6 +1,6 @@
 use Rattle.std.proofs.Common.{rules, ◌≡◌, ◌∙◌, false, true, map, string_bytes}
 use Rattle.clap.proofs.TakesLemmas.{passed_up}
-use Rattle.sl_link.proofs.lemmas.Program.Parse.{error_refused, verb_there, words_ask}
+use Rattle.sl_link.proofs.lemmas.Program.CommandLine.{error_refused, verb_there, words_ask}
 use Rattle.sl_link.proofs.program.command_line.parse.Goals as goal
 
 pub returns-in_err-matches-clause-refused : goal.returns-in_err-matches-clause-refused

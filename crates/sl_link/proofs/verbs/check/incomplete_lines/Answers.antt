@@ -1,7 +1,7 @@
 use Rattle.std.proofs.Common.{◌≡◌, ◌<◌, arith, refl}
-use Rattle.sl_link.proofs.lemmas.Io.Adding.{adds_both, adds_lines}
+use Rattle.sl_link.proofs.lemmas.Io.Streams.{adds_both, adds_lines}
 use Rattle.sl_link.proofs.lemmas.Link.Answers.{passed_up}
-use Rattle.sl_link.proofs.lemmas.Verbs.Check.Open.{added_all, added_next, added_none, added_stops}
+use Rattle.sl_link.proofs.lemmas.Verbs.Check.Lines.{added_all, added_next, added_none, added_stops}
 use Rattle.sl_link.proofs.verbs.check.incomplete_lines.Goals as goal
 
 pub loop-channel-init : goal.loop-channel-init
@@ -13,8 +13,8 @@ loop-channel-preserved g c =
       λ p frames h.
           let within : c.loop-channel.channel < (g.D.Delivery.kind p).limit =
           omega (arith, c.loop-channel-test.true, c.open_below-channel-end.ensures.most, c.open_below-channel-end.ensures.all p) in
-          added_next (i.0 p frames h) within (adds_both c.in_ok-make_room.ensures.kept (adds_lines _ _ _ _ refl (c.open_lines-number.ensures.text p frames h)))
-          (c.open_lines-number.ensures.number p frames h),
+          added_next (i.0 p frames h) within (adds_both c.in_ok-make_room.ensures.kept (adds_lines _ _ _ _ refl ((c.open_lines-number.ensures.added p frames h).text)))
+          ((c.open_lines-number.ensures.added p frames h).number),
       omega (arith, i.1, c.open_lines-number.ensures.few),
     )
 
@@ -35,7 +35,3 @@ returns-clause-number g c = λ p frames h.
     let last : c.loop-channel.channel ≡ c.open_below-channel-end.result = omega (arith, c.loop-channel-test.false, c.loop-channel.auto.channel-end) in
     (added_all (c.loop-channel.invariant.0 p frames h) (omega (arith, last, e.most, e.all p))
     (λ other above below. e.none p c.args.offset frames h other (omega (arith, above, last)) (omega (arith, below, e.all p)))).1
-
-pub returns-clause-few : goal.returns-clause-few
-returns-clause-few g c = λ p frames h.
-    omega (arith, returns-clause-number g c p frames h, c.open_below-channel-end.ensures.few p c.args.offset frames)

@@ -1,6 +1,6 @@
 use Rattle.std.proofs.Common.{◌≤◌, ℕ, List}
 use Rattle.sl_link.specs.Link.Managed.{Parameters}
-use Rattle.sl_link.proofs.lemmas.Verbs.Check.Open.{HasAdded}
+use Rattle.sl_link.proofs.lemmas.Verbs.Check.Lines.{HasAdded}
 use Rattle.sl_link.proofs.verbs.check.incomplete_lines.Given as goal
 
 abbrev pub invariant-loop-channel : goal.invariant-loop-channel

@@ -1,6 +1,6 @@
 use Rattle.std.proofs.Common.{◌∙◌, ap}
 use Rattle.hex.specs.Hex.{encode_with}
-use Rattle.sl_link.proofs.lemmas.Io.Halves.{eight_ok, eight_digits}
+use Rattle.sl_link.proofs.lemmas.Io.Hexadecimal.{eight_ok, eight_digits}
 use Rattle.sl_link.proofs.io.hexadecimal.Hexadecimals.of_eight.Goals as goal
 
 pub swizzle : goal.swizzle

@@ -1,6 +1,6 @@
 use Rattle.std.proofs.Common.{◌∙◌, ◌++◌, ◌∷◌, [], ap, List, ℕ}
 use Rattle.std.specs.Simd.Lanes.{pick_l}
-use Rattle.sl_link.proofs.lemmas.Io.Halves.{first_of_eight}
+use Rattle.sl_link.proofs.lemmas.Io.Hexadecimal.{first_of_eight}
 use Rattle.sl_link.proofs.io.hexadecimal.Hexadecimals.of_four.Goals as goal
 
 pub returns : goal.returns

@@ -1,4 +1,4 @@
-use Rattle.std.proofs.Common.{◌≡◌, [], ◌∷◌, ◌++◌, ◌%◌, ◌/◌, ◌^◌, ◌<◌, ◌≤◌, ◌∙◌, ℕ, List, ap, arith, decimal, slice_index_or, sym}
+use Rattle.std.proofs.Common.{◌≡◌, [], ◌∷◌, ◌++◌, ◌%◌, ◌<◌, ◌∙◌, ℕ, List, ap, arith, slice_index_or, sym}
 use Rattle.sl_link.specs.Io.Digits.{four_digits}
 use Rattle.sl_link.proofs.lemmas.Io.Digits.{decimal_by_four, decimal_of_four, decimal_of_three}
 use Rattle.sl_link.proofs.io.lines.Lines.push_long.Goals as goal

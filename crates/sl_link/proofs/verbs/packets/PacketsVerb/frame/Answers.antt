@@ -4,9 +4,6 @@ use Rattle.sl_link.proofs.lemmas.Link.Answers.{passed_up}
 use Rattle.sl_link.proofs.lemmas.Verbs.Packets.Printer.{all_printed, stops_printing}
 use Rattle.sl_link.proofs.verbs.packets.PacketsVerb.frame.Goals as goal
 
-pub deliver-requires : goal.deliver-requires
-deliver-requires g c = (c.requires.0, c.requires.1.processed, c.requires.2)
-
 pub add-requires-clause-within : goal.add-requires-clause-within
 add-requires-clause-within g c =
     let p = c.args.managed.now in
@@ -15,11 +12,6 @@ add-requires-clause-within g c =
     let within = g.met.D.Delivery.within in
     fits_more (g.D.Delivery.kind p) (within _ p before d.processed).delivered d (c.in_ok-report.ensures.delivers before d.processed).brings.reported
     (within _ p (before ++ c.args.frame.now ∷ []) (c.in_ok-report.ensures.processed before d.processed))
-
-pub add-requires-clause-few : goal.add-requires-clause-few
-add-requires-clause-few g c =
-    let b = (c.in_ok-report.ensures.delivers c.requires.0 c.requires.1.processed).brings in
-    omega (arith, b.some, b.no_anomalies)
 
 pub returns-in_err-report-clause-fault : goal.returns-in_err-report-clause-fault
 returns-in_err-report-clause-fault g c =

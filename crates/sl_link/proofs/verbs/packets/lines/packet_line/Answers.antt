@@ -1,6 +1,6 @@
 use Rattle.std.proofs.Common.{codes, refl}
 use Rattle.sl_link.specs.Verbs.Packets.Line.{fields_text}
-use Rattle.sl_link.proofs.lemmas.Io.Adding.{adds_both, adds_lines, adds_none, stops_first, stops_last, stops_then}
+use Rattle.sl_link.proofs.lemmas.Io.Streams.{adds_both, adds_lines, adds_none, stops_first, stops_last, stops_then}
 use Rattle.sl_link.proofs.lemmas.Link.Answers.{passed_up}
 use Rattle.sl_link.proofs.verbs.packets.lines.packet_line.Goals as goal
 

@@ -1,8 +1,8 @@
 use Rattle.std.proofs.Common.{◌≡◌, ◌++◌, refl, sym}
 use Rattle.std.proofs.lemmas.List.{take-append-drop}
-use Rattle.sl_link.proofs.lemmas.Io.Adding.{adds_both, adds_lines}
+use Rattle.sl_link.proofs.lemmas.Io.Streams.{adds_both, adds_lines}
 use Rattle.sl_link.proofs.lemmas.Link.Answers.{passed_up}
-use Rattle.sl_link.proofs.lemmas.Verbs.Packets.Octets.{pushing_none, pushing_next, pushing_stops}
+use Rattle.sl_link.proofs.lemmas.Verbs.Packets.Printer.{pushing_none, pushing_next, pushing_stops}
 use Rattle.sl_link.proofs.verbs.packets.lines.push_octets.Goals as goal
 
 pub loop-left-init : goal.loop-left-init

@@ -1,5 +1,5 @@
 use Rattle.std.proofs.Common.{length}
-use Rattle.sl_link.proofs.lemmas.Verbs.Packets.Octets.{IsPushing}
+use Rattle.sl_link.proofs.lemmas.Verbs.Packets.Printer.{IsPushing}
 use Rattle.sl_link.proofs.verbs.packets.lines.push_octets.Given as goal
 
 abbrev pub invariant-loop-left : goal.invariant-loop-left

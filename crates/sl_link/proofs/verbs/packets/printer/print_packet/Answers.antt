@@ -1,6 +1,6 @@
 use Rattle.std.proofs.Common.{refl}
-use Rattle.sl_link.specs.Verbs.Packets.ChannelName.{channel_name}
-use Rattle.sl_link.proofs.lemmas.Io.Adding.{adds_both, adds_lines, stops_before, stops_then}
+use Rattle.sl_link.specs.Verbs.Packets.Printed.{channel_name}
+use Rattle.sl_link.proofs.lemmas.Io.Streams.{adds_both, adds_lines, stops_before, stops_then}
 use Rattle.sl_link.proofs.lemmas.Link.Answers.{passed_up}
 use Rattle.sl_link.proofs.verbs.packets.printer.print_packet.Goals as goal
 

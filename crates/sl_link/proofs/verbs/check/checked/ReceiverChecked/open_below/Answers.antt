@@ -1,4 +1,4 @@
-use Rattle.std.proofs.Common.{◌/◌, ◌%◌, ap, arith, refl}
+use Rattle.std.proofs.Common.{◌/◌, ◌%◌, ap, arith}
 use Rattle.sl_tcflow.specs.AcceptedUnit.{views_of}
 use Rattle.sl_link.specs.Link.Managed.{reception_of, tc_format}
 use Rattle.sl_link.specs.Verbs.Check.Tc.{incomplete_amiss}
@@ -12,9 +12,6 @@ returns-clause-none c = λ p offset frames h channel above below.
     ap (incomplete_amiss offset vc mid)
     (c.none_open_from.ensures.none (reception_of p) (views_of (tc_format p) p.spacecraft frames) h.processed vc mid
     (omega (arith, below)) (omega (arith, below)) (omega (arith, above)))
-
-pub returns-clause-all : goal.returns-clause-all
-returns-clause-all c = λ p. refl
 
 pub returns-clause-few : goal.returns-clause-few
 returns-clause-few c = few_open

@@ -5,11 +5,8 @@ use Rattle.sl_tcflow.specs.Receiving.{HaveStepped}
 use Rattle.sl_link.specs.Io.Line.{line_at}
 use Rattle.sl_link.specs.Link.Managed.{Parameters, reception_of, tc_format}
 use Rattle.sl_link.specs.Verbs.Show.Tc.{farm_view, tc_frame_text}
-use Rattle.sl_link.proofs.lemmas.Kind.Tc.{some_octets, views_next}
+use Rattle.sl_link.proofs.lemmas.Kind.Tc.{views_next}
 use Rattle.sl_link.proofs.verbs.show.shown.FarmsShown.show.Goals as goal
-
-pub returns-clause-some : goal.returns-clause-some
-returns-clause-some c = some_octets c.args.managed.now c.args.frame.now c.requires.before.2
 
 pub returns-clause-line : goal.returns-clause-line
 returns-clause-line c = λ before h at.

@@ -1,0 +1,8 @@
+use Rattle.sl_link.proofs.lemmas.Verbs.Check.Lines.{joined_five}
+use Rattle.sl_link.proofs.verbs.check.lines_tc.found_lines.Goals as goal
+
+pub returns-clause-text : goal.returns-clause-text
+returns-clause-text c =
+    rw (c.from.ensures, c.from-2.ensures, c.is_some.ensures)
+    at (joined_five c.discarded_lines-discarded.ensures c.event_lines-stray.ensures c.event_lines-drops.ensures c.event_lines-long.ensures
+    c.event_lines-tails.ensures)

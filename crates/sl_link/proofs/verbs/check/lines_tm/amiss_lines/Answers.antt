@@ -1,7 +1,0 @@
-use Rattle.sl_link.proofs.lemmas.Verbs.Check.Lines.{joined_four}
-use Rattle.sl_link.proofs.verbs.check.lines_tm.amiss_lines.Goals as goal
-
-pub returns-clause-text : goal.returns-clause-text
-returns-clause-text c =
-    rw (c.from.ensures, c.vc.ensures.value, c.is_opaque.ensures, c.field.ensures.value, c.gap.ensures, c.dropped-dropped.ensures, c.foreign.ensures)
-    at (joined_four c.gap_lines-gaps.ensures c.event_lines-drops.ensures c.event_lines-opaque.ensures c.event_lines-foreign.ensures)

@@ -1,7 +1,7 @@
 -- A recording that is read chunk by chunk, whose frames are handed over one by one.
 pub mod Tc
 pub mod Tm
-use Rattle.std.specs.Prelude.{◌≡◌, ℕ, ◌+◌, ◌^◌, ◌<◌, ◌≤◌, ◌⊎◌, List, [], ◌∷◌, ◌++◌, length, Option, None, Some}
+use Rattle.std.specs.Prelude.{◌≡◌, ℕ, ◌+◌, ◌^◌, ◌<◌, ◌≤◌, ◌⊎◌, List, [], ◌++◌, length, Option, None, Some}
 use Rattle.std.specs.Borrow.{Bor}
 use Rattle.std.specs.List.{concat, AllByRecursion}
 use Rattle.sl_link.specs.declared.link.counted.Counted.{Counted}

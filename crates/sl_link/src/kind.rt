@@ -1,4 +1,4 @@
-//! Delivery of the packets of frames of either kind, TM or TC.
+//! Delivery of the packets of frames of either kind, TM or TC, and what is found of the frames.
 ghost use Rattle.std.specs.Prelude.{◌≡◌, ◌++◌, ◌∷◌, [], ℕ, List, OnOk, IfOk, IfErr};
 ghost use Rattle.sl_link.specs.Kind.Tc.{ns_of};
 ghost use Rattle.sl_link.specs.Kind.Tm.{is_opaque};
@@ -16,8 +16,8 @@ use sl_tmflow::Extractor;
 use sl_tmframe::{TmField, TmFrame, TmSkip};
 use std::alloc::Global;
 
-/// Delivers the packets of frames of one kind. The frames are given one after another. A clause
-/// with `before` holds whichever frames were given before.
+/// Delivers the packets of frames of one kind, and reports what is found of the frames. These are
+/// given one after another. A clause with `before` holds whichever frames were given before.
 pub trait Delivery: Drop {
     ghost use Rattle.sl_link.specs.Link.Managed.{Parameters};
     ghost use Rattle.sl_link.specs.Kind.Delivery.{IsWithin, Kind};
@@ -73,7 +73,7 @@ pub trait Delivery: Drop {
         → has_processed delivery p frames → IsWithin (kind p) frames };
 }
 
-/// What an extractor finds of a TM frame.
+/// A TM frame that is read, and what an extractor finds of it.
 #[derive(Clone, Copy)]
 pub struct TmFound {
     pub vc: u8,
@@ -87,7 +87,7 @@ pub struct TmFound {
     pub foreign: bool,
 }
 
-/// What a receiver finds of a TC frame.
+/// A TC frame that is read, and what a receiver finds of it.
 #[derive(Clone, Copy)]
 pub struct TcFound {
     pub vc: u8,

@@ -13,8 +13,7 @@ pub struct FrameReport {
     pub anomalies: u64,
 }
 
-/// The report on a skipped frame: no packets, and no anomalies looked for. `show` and `check` begin
-/// their reports with it.
+/// The report on a skipped frame: no packets, and no anomalies looked for.
 pub const SKIPPED: FrameReport = FrameReport {
     is_skipped: true,
     packets: 0,

@@ -1,5 +1,6 @@
 -- The command line of `sllink`: its arguments, what it refuses, and what its words ask for.
-use Rattle.std.specs.Prelude.{◌≡◌, ◌≢◌, ℕ, Bool, true, false, List, [], ◌∷◌, Option, Some, None, IfSome, Result, Ok, Err, codes, fold, if◌then◌else◌, pos, replicate}
+use Rattle.std.specs.Prelude.{◌≡◌, ◌≢◌, ℕ, Bool, true, false, List, [], ◌∷◌, Option, Some, None, IfSome, Result, Ok}
+use Rattle.std.specs.Prelude.{Err, codes, fold, if◌then◌else◌, pos, replicate}
 use Rattle.std.specs.Borrow.{Bor}
 use Rattle.std.specs.Option.{option_map_or}
 use Rattle.std.specs.Str.{bytes_eq}

@@ -1,9 +1,12 @@
 //! The command line.
-ghost use Rattle.std.specs.Prelude.{◌≡◌, ◌⊎◌, false, codes, map, option_map, string_bytes, IfOk, IfErr};
+ghost use Rattle.std.specs.Prelude.{◌≡◌, ◌⊎◌, false, map, option_map, string_bytes, IfOk, IfErr};
 ghost use Rattle.clap.specs.Words.{app_of, found_of, kind_of, rows_of, rule_of};
 ghost use Rattle.clap.specs.declared.builder.Command.TheViews.{out-Command as fields_of};
 ghost use Rattle.sl_link.specs.Link.Managed.{managed_of};
-ghost use Rattle.sl_link.specs.Program.CommandLine.{AreFrom, AskFor, Asks, IsPlain, IsRefusal, IsSllink, flag_rule, is_set, kind_named, link_options, needed_number, number_in, number_or, number_rule, parameters_in, text_rule, verb_app, verb_named, with_link_options, with_vcs};
+ghost use Rattle.sl_link.specs.Program.CommandLine.{AreFrom, AskFor, Asks, IsPlain, IsRefusal, IsSllink, flag_rule};
+ghost use Rattle.sl_link.specs.Program.CommandLine.{is_set, kind_named, link_options, needed_number, number_in};
+ghost use Rattle.sl_link.specs.Program.CommandLine.{number_or, number_rule, parameters_in, text_rule, verb_app};
+ghost use Rattle.sl_link.specs.Program.CommandLine.{verb_named, with_link_options, with_vcs};
 
 use crate::link::managed::{Managed, ManagedFault};
 use clap::builder::ValueParser;

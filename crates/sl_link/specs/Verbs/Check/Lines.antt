@@ -42,7 +42,8 @@ totals_line counts =
 
 -- the lines of a frame that comes after others, by what is found of it and the lines of what is found
 -- at an offset, which is where the frame begins
-abbrev pub amiss_by : {Found : Type 0} → (ℕ → Found → List (List ℕ)) → (List (List ℕ) → List ℕ → Found) → List (List ℕ) → List ℕ → List (List ℕ)
+abbrev pub amiss_by : {Found : Type 0} → (ℕ → Found → List (List ℕ)) → (List (List ℕ) → List ℕ → Found) → List (List ℕ)
+    → List ℕ → List (List ℕ)
 amiss_by lines found before frame = lines (length (concat before)) (found before frame)
 
 -- the lines after frames: that of the remainder, which has `rest` octets, and those of what is

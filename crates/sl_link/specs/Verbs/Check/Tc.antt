@@ -1,5 +1,6 @@
 -- What is amiss in a TC recording, as `check tc` lists it: a line for each, and then the totals.
-use Rattle.std.specs.Prelude.{ℕ, ◌/◌, ◌%◌, Bool, true, false, nat_lt, if◌then◌else◌, length, codes, List, [], ◌∷◌, ◌++◌, decimal, Option, None, Some, is_some, option_map, Result, Ok, Err}
+use Rattle.std.specs.Prelude.{ℕ, ◌/◌, ◌%◌, Bool, true, false, nat_lt, if◌then◌else◌, length, codes, List, [], ◌∷◌}
+use Rattle.std.specs.Prelude.{◌++◌, decimal, Option, None, Some, is_some, option_map, Result, Ok, Err}
 use Rattle.sl_cop.specs.declared.verdict.Verdict.{Verdict}
 use Rattle.sl_cop.specs.declared.verdict.Verdict.TheVariants.{Accept, Early, Late, Outside, Refused, Command}
 use Rattle.sl_tcframe.specs.declared.tc_frame.TcSkip.{TcSkip}

@@ -1,4 +1,4 @@
-//! What is looked for in frames of a kind, TM or TC.
+//! The lines that `check` has for a kind of frames, TM or TC.
 ghost use Rattle.std.specs.Prelude.{◌≡◌, ◌<◌, ◌≤◌, ◌++◌, [], ℕ, List, length, flat_map};
 ghost use Rattle.std.specs.List.{concat};
 ghost use Rattle.sl_link.specs.Io.Room.{HasRoom};
@@ -13,7 +13,7 @@ use sl_tcframe::TcSkip;
 use sl_tmflow::Extractor;
 use sl_tmframe::TmSkip;
 
-/// What is looked for in frames of a kind.
+/// The lines of what is found of a kind of frames, and of what is incomplete after the last one.
 pub trait Checked: Delivery {
     ghost use Rattle.sl_link.specs.Link.Managed.{Parameters};
 

@@ -37,9 +37,7 @@ pub joined_five : {a b c d e f : List ℕ} {vs ws xs ys zs : List (List ℕ)} {k
     → f ≡ a ++ concat (vs ++ ws ++ xs ++ ys ++ zs)
 joined_five p q r s t = rw (t.text, s.text, r.text, q.text, p.text) (simp (append_assoc, concat-append))
 
--- ---- one channel after another
-
--- ---- while they are added, by the line of each channel
+-- ---- what is incomplete, while it is added, by the line of each channel
 
 none_in : (line : ℕ → List (List ℕ)) (from n : ℕ) → ((channel : ℕ) → from ≤ channel → channel < from + n → line channel ≡ []) → flat_map line (range_with_len from n) ≡ []
 none_in line from zero none = refl
@@ -91,7 +89,7 @@ module _ {W : Type 0} {contents : W → Option (List ℕ)} {line : ℕ → List 
       let past = none_in line channel (k.limit - channel) (λ other above below. none other above (omega (arith, below, within))) in
       rw (h.all, past, append-nil h.lines) (h.added, h.many)
 
--- ---- how many they are
+-- ---- how many lines these are
 
 flat_count : (f : ℕ → List (List ℕ)) (xs : List ℕ) → length (flat_map f xs) ≡ count_of (map f xs)
 flat_count f [] = refl

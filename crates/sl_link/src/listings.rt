@@ -130,8 +130,6 @@ pub fn check_tm<R: Read, W: Write>(
 /// The fault is `Read` or `Write` where the reader or the writer had one, `TooLong` where more octets came than the
 /// managed limit, and `Memory` where memory was refused. Memory is wanted only where the unit of a frame is accepted
 /// and a series is incomplete on its MAP, before the frame or after it.
-// Not within `run`, where the compiler kept fewer of its values in registers: that was measured.
-#[inline(never)]
 pub fn check_tc<R: Read, W: Write>(
     alloc: Global,
     managed: &Managed,

@@ -4,12 +4,11 @@ ghost use Rattle.std.specs.List.{concat};
 ghost use Rattle.sl_link.specs.Io.Room.{HasRoom, HasRoomFor};
 ghost use Rattle.sl_link.specs.Verbs.Check.Checking.{AddsAmiss, is_quiet};
 ghost use Rattle.sl_link.specs.Verbs.Check.Tc.{discarded_amiss, discards, tc_lines};
-ghost use Rattle.sl_link.specs.Verbs.Show.Tc.{verdict_word};
 
 use crate::io::lines::Lines;
 use crate::kind::TcFound;
 use crate::verbs::check::lines::{Place, event_lines, push_part};
-use crate::verbs::show::lines_tc::push_skip;
+use crate::verbs::show::lines_tc::{push_skip, push_verdict};
 use sl_cop::Verdict;
 use sl_tcframe::TcSkip;
 
@@ -25,7 +24,7 @@ pub fn amiss_lines(lines: &mut Lines, offset: u64, found: Result<TcFound, TcSkip
             if is_quiet(&found) {
                 return 0;
             }
-            found_lines(lines, offset, &found)
+            found_lines(lines, offset, found)
         }
         Err(reason) => {
             lines.push_number(offset);
@@ -59,11 +58,14 @@ fn discards(verdict: Verdict) -> bool
     }
 }
 
-// The lines of what is amiss, in their order.
-fn found_lines(lines: &mut Lines, offset: u64, found: &TcFound) -> u64
+// The lines of what is amiss, in their order. It takes `found` by value, and isn't inlined, so that a frame
+// with no lines needs not store it: that was measured.
+#[cold]
+#[inline(never)]
+fn found_lines(lines: &mut Lines, offset: u64, found: TcFound) -> u64
     requires { HasRoom lines.old }
-    ensures text { lines.new ≡ lines.old ++ concat (tc_lines offset (Ok found.now)) }
-    ensures number { result ≡ length (tc_lines offset (Ok found.now)) }
+    ensures text { lines.new ≡ lines.old ++ concat (tc_lines offset (Ok found)) }
+    ensures number { result ≡ length (tc_lines offset (Ok found)) }
 {
     let at = Place {
         offset,
@@ -71,7 +73,7 @@ fn found_lines(lines: &mut Lines, offset: u64, found: &TcFound) -> u64
         map: Some(u32::from(found.map)),
     };
     let dropped = found.dropped;
-    let discarded = discarded_lines(lines, offset, found);
+    let discarded = discarded_lines(lines, offset, &found);
     let stray = event_lines(lines, at, b" stray", found.stray, None);
     let drops = event_lines(lines, at, b" dropped", dropped.is_some(), dropped);
     let long = event_lines(lines, at, b" long", found.long, None);
@@ -97,19 +99,4 @@ fn discarded_lines(lines: &mut Lines, offset: u64, found: &TcFound) -> u64
     push_part(lines, b" ad ", u64::from(ns));
     lines.push(b"\n");
     1
-}
-
-fn push_verdict(lines: &mut Lines, verdict: Verdict)
-    requires { HasRoomFor 96 lines.old }
-    ensures text { lines.new ≡ lines.old ++ (codes " " ++ verdict_word verdict) }
-    ensures short { length lines.new ≤ length lines.old + 8 }
-{
-    lines.push_text(match verdict {
-        Verdict::Accept => b" accept",
-        Verdict::Early => b" early",
-        Verdict::Late => b" late",
-        Verdict::Outside => b" outside",
-        Verdict::Refused => b" refused",
-        Verdict::Command => b" command",
-    });
 }

@@ -43,6 +43,7 @@ pub fn tc_frame_line(
 }
 
 /// Adds why a frame is skipped.
+#[cold]
 pub fn push_skip(lines: &mut Lines, reason: TcSkip)
     requires { HasRoomFor 236 lines.old }
     ensures text { lines.new ≡ lines.old ++ (codes " skip " ++ tc_skip_word reason) }
@@ -85,24 +86,41 @@ fn push_step(lines: &mut Lines, farms: &mut Farms, frame: &TcFrame)
     ensures short { length lines.new ≤ length lines.old + 24 }
 {
     let verdict = farms.step(frame);
-    push_verdict(lines, verdict);
+    push_frame_verdict(lines, verdict);
     lines.push_hex_word(&farms.clcw(frame.vc()).write());
 }
 
-// Each verdict pushes its text at once, since nearly all frames are accepted: that was measured.
-fn push_verdict(lines: &mut Lines, verdict: Verdict)
-    requires { HasRoomFor 96 lines.old }
+// Adds the verdict on a frame, and the name of what follows. Nearly all frames are accepted, and their text is pushed at
+// once: that was measured.
+fn push_frame_verdict(lines: &mut Lines, verdict: Verdict)
+    requires { HasRoomFor 136 lines.old }
     ensures text { lines.new ≡ lines.old ++ (codes " " ++ verdict_word verdict ++ codes " clcw ") }
     ensures short { length lines.new ≤ length lines.old + 16 }
 {
     match verdict {
         Verdict::Accept => lines.push(b" accept clcw "),
-        Verdict::Early => lines.push(b" early clcw "),
-        Verdict::Late => lines.push(b" late clcw "),
-        Verdict::Outside => lines.push(b" outside clcw "),
-        Verdict::Refused => lines.push(b" refused clcw "),
-        Verdict::Command => lines.push(b" command clcw "),
+        Verdict::Early | Verdict::Late | Verdict::Outside | Verdict::Refused | Verdict::Command => {
+            push_verdict(lines, verdict);
+            lines.push(b" clcw ");
+        }
     }
+}
+
+/// Adds a verdict.
+#[cold]
+pub fn push_verdict(lines: &mut Lines, verdict: Verdict)
+    requires { HasRoomFor 96 lines.old }
+    ensures text { lines.new ≡ lines.old ++ (codes " " ++ verdict_word verdict) }
+    ensures short { length lines.new ≤ length lines.old + 8 }
+{
+    lines.push_text(match verdict {
+        Verdict::Accept => b" accept",
+        Verdict::Early => b" early",
+        Verdict::Late => b" late",
+        Verdict::Outside => b" outside",
+        Verdict::Refused => b" refused",
+        Verdict::Command => b" command",
+    });
 }
 
 fn push_content(lines: &mut Lines, plain: bool, carried: TcContent)

@@ -1,6 +1,6 @@
 -- The state of a receiver that was given frames of all virtual channels, CCSDS 232.0-B and 232.1-B,
 -- and what the next frame does.
-use Rattle.std.specs.Prelude.{◌≡◌, ◌≢◌, ◌⊎◌, ℕ, ◌+◌, ◌*◌, ◌<◌, ◌==◌, Bool, true, false, if◌then◌else◌, List, [], ◌∷◌, ◌++◌, length, map, flat_map, Option, None}
+use Rattle.std.specs.Prelude.{◌≡◌, ◌≢◌, ◌⊎◌, ℕ, ◌+◌, ◌*◌, ◌/◌, ◌%◌, ◌<◌, ◌==◌, Bool, true, false, if◌then◌else◌, List, [], ◌∷◌, ◌++◌, length, map, flat_map, Option, None, Some}
 use Rattle.std.specs.List.{slice_index_or}
 use Rattle.sl_cop.specs.declared.verdict.Verdict.{Verdict}
 use Rattle.sl_cop.specs.Farm.{FarmView, farm_start, farm_step}
@@ -52,6 +52,16 @@ pub record HaveStepped (r : ReceptionParameters) (farms : List FarmView) (views 
 abbrev pub AreIncomplete : ReceptionParameters → List (Option (List ℕ)) → List TcView → Type 0
 AreIncomplete r incomplete views =
     (vc map_id : ℕ) → vc < 64 → map_id < 64 → slice_index_or incomplete (channel_at vc map_id) None ≡ incomplete_of (segments_of r vc map_id views)
+
+-- The octets so far of an incomplete series, none where there is no such series. Contracts of private
+-- functions alone stand on this and on `held_in`.
+abbrev pub octets_so_far : Option (List ℕ) → List ℕ
+octets_so_far None = []
+octets_so_far (Some octets) = octets
+
+-- the octets so far of the series that is incomplete on a channel
+abbrev pub held_in : ReceptionParameters → List TcView → ℕ → List ℕ
+held_in r views channel = octets_so_far (incomplete_of (segments_of r (channel / 64) (channel % 64) views))
 
 -- These frames were processed, and no fault came. Other lists of frames may lead to the same state.
 pub record HasProcessed (r : ReceptionParameters) (state : ReceiverState) (views : List TcView) : Type 0 where

@@ -1,5 +1,5 @@
 //! Packets that frames without segment headers can carry.
-ghost use Rattle.std.specs.Prelude.{◌≡◌, ◌≤◌, ◌↔◌, vec_len, IsTrue};
+ghost use Rattle.std.specs.Prelude.{◌≤◌, ◌↔◌, vec_len, IsTrue};
 ghost use Rattle.std.specs.List.{AllByRecursion};
 ghost use Rattle.sl_tcflow.specs.FitsTc.{FitsOn, FitsTc};
 

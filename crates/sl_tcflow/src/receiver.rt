@@ -161,7 +161,7 @@ impl Receiver {
         let verdict = self.farms.step(frame);
         let plain = self.plain.has(frame.vc());
         let map = map_in(plain, &frame.content());
-        let reported = match take(&mut self.series, plain, verdict, frame, sink) {
+        let reported = match take(&mut self.series, plain, map, verdict, frame, sink) {
             Ok(step) => step,
             Err(flow) => return Err(flow),
         };
@@ -247,15 +247,18 @@ fn map_in(plain: bool, carried: &TcContent) -> u8
 }
 
 // Takes the unit of a frame, if the frame carries one and this verdict accepts it. `plain` says
-// that the frame's virtual channel has no segment headers. The fault is `Memory` where memory was
-// refused, and `Sink` where the sink refused a packet.
+// that the frame's virtual channel has no segment headers, and `map` is the MAP of the unit, 0 where
+// there is none. The fault is `Memory` where memory was refused, and `Sink` where the sink refused
+// a packet.
 fn take<S: PacketSink>(
     series: &mut SeriesStore,
     plain: bool,
+    map: u8,
     verdict: Verdict,
     frame: &TcFrame,
     sink: &mut S,
 ) -> Result<TcStep, FlowFault>
+    requires map { map ≡ map_of plain frame.now.content }
     // `r` and `views` in a clause are any parameters and any frames that may have come before and
     // led to these series and this verdict. The unit continues, ends or begins its series, its
     // packets are handed over, and the step reports them.
@@ -281,7 +284,7 @@ fn take<S: PacketSink>(
     ensures not_failed { IfErr result (λ flow. flow ≢ FlowFault.Failed) }
 {
     match accepted_unit(verdict, &frame.content()) {
-        Some(unit) => match series.take(&segment_of(frame.vc(), plain, unit), sink) {
+        Some(unit) => match series.take(&segment_of(frame.vc(), plain, map, unit), sink) {
             Ok(step) => Ok(step),
             Err(flow) => Err(flow),
         },

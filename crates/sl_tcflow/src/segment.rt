@@ -28,11 +28,12 @@ pub struct Segment<'a> {
     pub octets: &'a [u8],
 }
 
-/// Reads a unit of the virtual channel `vc`, 0 to 63, as a segment. The unit has one octet or more.
-/// `plain` says that the virtual channel has no segment headers.
-pub fn segment_of(vc: u8, plain: bool, unit: &[u8]) -> Segment
+/// Reads a unit of the virtual channel `vc`, 0 to 63, as a segment. The unit has one octet or more,
+/// and `map` is its MAP. `plain` says that the virtual channel has no segment headers.
+pub fn segment_of(vc: u8, plain: bool, map: u8, unit: &[u8]) -> Segment
     requires vc { vc ≤ 63 }
     requires some { 0 < length unit.now }
+    requires map { map ≡ (header_at (segment_in plain unit.now)).map }
     // The segment is the one that the unit stands for.
     ensures flags { result.flags ≡ flags_of (segment_in plain unit.now) }
     ensures channel { result.channel ≡ channel_at vc (header_at (segment_in plain unit.now)).map }
@@ -55,7 +56,7 @@ pub fn segment_of(vc: u8, plain: bool, unit: &[u8]) -> Segment
     let header = SegmentHeader::read(header);
     Segment {
         flags: header.flags(),
-        channel: first + u16::from(header.map()),
+        channel: first + u16::from(map),
         octets,
     }
 }

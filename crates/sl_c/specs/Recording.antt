@@ -61,7 +61,7 @@ pub record ComparesPackets (packets : Parameters → List ℕ → List (List (Li
 
 -- ---- the engines
 
--- the listing of its frames, of what is amiss in it or of its packets, or the normal form of its packets
+-- the listing of its frames, of its anomalies or of its packets, or the normal form of its packets
 abbrev pub text_by : Engine → Parameters → List ℕ → List ℕ
 text_by ShowTm = show_tm_text
 text_by ShowTc = show_tc_text

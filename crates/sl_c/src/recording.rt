@@ -89,7 +89,7 @@ pub extern "C" fn sllink_show_tc(
     )
 }
 
-/// Lists what is amiss in a recording of TM transfer frames.
+/// Lists the anomalies of a recording of TM transfer frames.
 #[unsafe(no_mangle)]
 pub extern "C" fn sllink_check_tm(
     alloc: Global,
@@ -113,7 +113,7 @@ pub extern "C" fn sllink_check_tm(
     )
 }
 
-/// Lists what is amiss in a recording of TC transfer frames.
+/// Lists the anomalies of a recording of TC transfer frames.
 #[unsafe(no_mangle)]
 pub extern "C" fn sllink_check_tc(
     alloc: Global,

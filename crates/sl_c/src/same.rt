@@ -1,7 +1,7 @@
 //! Whether two recordings in memory deliver the same packets.
 ghost use Rattle.std.specs.Prelude.{◌≡◌, IfOk, OnErr};
-ghost use Rattle.sl_link.specs.Normalise.Tc.{tc_packets};
-ghost use Rattle.sl_link.specs.Normalise.Tm.{tm_packets};
+ghost use Rattle.sl_link.specs.Kind.Tc.{tc_packets};
+ghost use Rattle.sl_link.specs.Kind.Tm.{tm_packets};
 ghost use Rattle.sl_c.specs.Answer.{Says};
 ghost use Rattle.sl_c.specs.Recording.{ComparesPackets};
 

@@ -1,15 +1,15 @@
 -- A recording that is read chunk by chunk, whose frames are handed over one by one.
 pub mod Tc
 pub mod Tm
-use Rattle.std.specs.Prelude.{◌≡◌, ℕ, ◌+◌, ◌^◌, ◌<◌, ◌≤◌, ◌⊎◌, List, [], ◌++◌, length, Option, None, Some}
+use Rattle.std.specs.Prelude.{◌≡◌, ◌≢◌, ℕ, ◌+◌, ◌^◌, ◌<◌, ◌≤◌, ◌⊎◌, List, [], ◌++◌, length, Option, None, Some}
 use Rattle.std.specs.Borrow.{Bor}
 use Rattle.std.specs.List.{concat, AllByRecursion}
 use Rattle.sl_link.specs.declared.link.counted.Counted.{Counted}
 use Rattle.sl_link.specs.declared.link.fault.LinkFault.{LinkFault}
-use Rattle.sl_link.specs.declared.link.fault.LinkFault.TheVariants.{Read, TooLong, Memory, Write}
-use Rattle.sl_link.specs.Link.Counted.{faults_of, HadOneFault}
+use Rattle.sl_link.specs.declared.link.fault.LinkFault.TheVariants.{Memory}
+use Rattle.sl_link.specs.Link.Counted.{faults_of}
 use Rattle.sl_link.specs.Link.Managed.{Parameters}
-use Rattle.sl_link.specs.Io.Streams.{Reads, IsRead}
+use Rattle.sl_link.specs.Io.Streams.{IsRead, IsReadersFault, Reads}
 
 -- the octets that are read at once, at most
 abbrev pub chunk_size : ℕ
@@ -62,28 +62,8 @@ pub record PassesOver {R : Type 0} (remaining : R → Option (List ℕ)) (reader
   pub inside : length (concat (frames_of octets)) ≤ length octets
   pub all : taken (frames_of octets)
 
--- a fault of reading has its cause
-abbrev pub IsReadersFault : {R : Type 0} → Counted R → Counted R → ℕ → ℕ → List ℕ → LinkFault → Type 0
-IsReadersFault old new limit buffer octets Read = HadOneFault old new × (length octets ≤ limit)
-IsReadersFault old new limit buffer octets TooLong =
-    (faults_of new ≡ faults_of old) × (limit < length octets) × (length octets ≤ limit + buffer)
-IsReadersFault old new limit buffer octets Memory = ⊥
-IsReadersFault old new limit buffer octets Write = ⊥
-
--- the reader stopped after these frames were taken
-pub record StopsAtReader {R : Type 0} (reader reader' : Counted R) (limit buffer : ℕ) (octets : List ℕ)
-    (fault : LinkFault) (taken : Type 0) : Type 0 where
-  pub done : taken
-  pub cause : IsReadersFault reader reader' limit buffer octets fault
-
--- the sink stopped at these frames
-pub record StopsAtSink {R : Type 0} (reader reader' : Counted R) (limit : ℕ) (octets : List ℕ)
-    (stopped : Type 0) : Type 0 where
-  pub at : stopped
-  pub no_fault : faults_of reader' ≡ faults_of reader
-  pub within : length octets ≤ limit
-
--- octets were read, and then a fault came: the first frames were taken, or the sink stopped at the last of them
+-- Octets were read, and then a fault came. It is the reader's, and the first frames were taken; or the
+-- sink stopped at the last of these.
 pub record StopsPassing {R : Type 0} (remaining : R → Option (List ℕ)) (reader reader' : Counted R)
     (frames_of : List ℕ → List (List ℕ)) (taken : List (List ℕ) → Type 0) (stopped : List (List ℕ) → LinkFault → Type 0)
     (limit buffer : ℕ) (fault : LinkFault) : Type 0 where
@@ -92,8 +72,18 @@ pub record StopsPassing {R : Type 0} (remaining : R → Option (List ℕ)) (read
   pub first : List (List ℕ)
   pub later : List (List ℕ)
   pub in_order : frames_of octets ≡ first ++ later
-  pub cause : StopsAtReader reader reader' limit buffer octets fault (taken first)
-      ⊎ StopsAtSink reader reader' limit octets (stopped first fault)
+  pub cause : (taken first × (fault ≢ Memory) × IsReadersFault reader reader' limit buffer octets fault)
+      ⊎ (stopped first fault × (faults_of reader' ≡ faults_of reader) × (length octets ≤ limit))
+
+-- memory may be refused at some frame of what was read
+pub record WantedMemory {R : Type 0} (remaining : R → Option (List ℕ)) (old new : Counted R)
+    (frames_of : List ℕ → List (List ℕ)) (wants_memory : List (List ℕ) → Type 0) : Type 0 where
+  pub octets : List ℕ
+  pub read : Reads remaining old new octets
+  pub first : List (List ℕ)
+  pub later : List (List ℕ)
+  pub in_order : frames_of octets ≡ first ++ later
+  pub wanted : wants_memory first
 
 -- ---- the frames of one chunk
 

@@ -2,7 +2,7 @@
 use Rattle.std.specs.Prelude.{◌≡◌, ◌↔◌, ◌⊎◌, ℕ, List, Bool, IsTrue, Option}
 use Rattle.sl_link.specs.declared.link.counted.Counted.{Counted}
 use Rattle.sl_link.specs.declared.link.fault.LinkFault.{LinkFault}
-use Rattle.sl_link.specs.Io.Streams.{ReadsAll, StopsReadingAll}
+use Rattle.sl_link.specs.Io.Streams.{ReadsAll, StopsReading}
 
 module _ {A B : Type 0} (remaining : A → Option (List ℕ)) (others : B → Option (List ℕ)) where
   -- Both recordings were read, `limit` octets of each at most, and the answer is true exactly where
@@ -18,5 +18,5 @@ module _ {A B : Type 0} (remaining : A → Option (List ℕ)) (others : B → Op
   -- second, and the first was read to its end.
   abbrev pub StopsComparing : Counted A → Counted A → Counted B → Counted B → ℕ → ℕ → LinkFault → Type 0
   StopsComparing one one' other other' limit buffer fault =
-      (StopsReadingAll remaining one one' limit buffer fault × (other' ≡ other))
-      ⊎ (((octets : List ℕ) × ReadsAll remaining one one' limit octets) × StopsReadingAll others other other' limit buffer fault)
+      (StopsReading remaining one one' limit buffer fault × (other' ≡ other))
+      ⊎ (((octets : List ℕ) × ReadsAll remaining one one' limit octets) × StopsReading others other other' limit buffer fault)

@@ -23,12 +23,12 @@ counts_with octets frames skipped rest packets idle anomalies =
     }
 
 -- how many octets of a recording come after the frames
-abbrev pub rest_after : List (List ℕ) → List ℕ → ℕ
-rest_after frames recording = length recording - length (concat frames)
+abbrev pub remainder_after : List (List ℕ) → List ℕ → ℕ
+remainder_after frames recording = length recording - length (concat frames)
 
 -- what is counted in a recording, by the counts of frames and a remainder, and the frames of a recording
 abbrev pub listing_counts : (List (List ℕ) → ℕ → Counts) → (List ℕ → List (List ℕ)) → List ℕ → Counts
-listing_counts counts frames_of recording = counts (frames_of recording) (rest_after (frames_of recording) recording)
+listing_counts counts frames_of recording = counts (frames_of recording) (remainder_after (frames_of recording) recording)
 
 -- ---- while frames are counted, in terms of the code. Contracts of private functions alone cite this section.
 
@@ -43,8 +43,8 @@ counts_more c octets report =
     (c.packets + report.packets) (c.idle + report.idle) (c.anomalies + report.anomalies)
 
 -- a remainder, and the anomalies after the last frame
-abbrev pub counts_with_rest : Counts → ℕ → ℕ → Counts
-counts_with_rest c rest more = counts_with (c.octets + rest) c.frames c.skipped rest c.packets c.idle (c.anomalies + more)
+abbrev pub counts_with_remainder : Counts → ℕ → ℕ → Counts
+counts_with_remainder c rest more = counts_with (c.octets + rest) c.frames c.skipped rest c.packets c.idle (c.anomalies + more)
 
 -- the counts of frames, which brought these packets and anomalies together
 abbrev pub counts_so_far : (List ℕ → Bool) → List (List ℕ) → ℕ → ℕ → ℕ → Counts

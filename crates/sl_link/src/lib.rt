@@ -3,7 +3,7 @@
 //! A recording is TM transfer frames (CCSDS 132.0-B) or TC transfer frames (CCSDS 232.0-B) end to end, nothing else.
 //! Its remainder is the octets after the last whole frame. For each of the two kinds of frames there are these calls:
 //!
-//! - `show_` lists the frames, and `check_` what is amiss in them;
+//! - `show_` lists the frames, and `check_` their anomalies;
 //! - `packets_` lists the packets that the frames deliver;
 //! - `normalise_` writes these packets into new frames in one fixed way, the normal form;
 //! - `same_packets_` reports whether two recordings deliver the same packets.

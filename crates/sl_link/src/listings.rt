@@ -12,8 +12,7 @@ ghost use Rattle.sl_link.specs.Verbs.Packets.Tm.{packets_tm_text};
 ghost use Rattle.sl_link.specs.Verbs.Show.Tc.{show_tc_counts, show_tc_text};
 ghost use Rattle.sl_link.specs.Verbs.Show.Tm.{show_tm_counts, show_tm_text};
 ghost use Rattle.sl_link.specs.Io.Streams.{Stops, Translates, TranslatesAndCounts};
-ghost use Rattle.sl_link.specs.Verbs.Listing.{WantedMemory};
-ghost use Rattle.sl_link.specs.Pass.{chunk_size};
+ghost use Rattle.sl_link.specs.Pass.{WantedMemory, chunk_size};
 
 use crate::link::counted::Counted;
 use crate::link::fault::LinkFault;
@@ -89,7 +88,7 @@ pub fn show_tc<R: Read, W: Write>(
     list(managed, &mut framer, &mut verb, reader, writer, &mut buffer)
 }
 
-/// Reads a recording of TM transfer frames to its end, and writes a line for each thing that is amiss in it, and
+/// Reads a recording of TM transfer frames to its end, and writes a line for each anomaly of it, and
 /// then one of its totals (docs/listings.md). It keeps one frame at most, and the packet that is incomplete on each
 /// virtual channel.
 ///
@@ -123,7 +122,7 @@ pub fn check_tm<R: Read, W: Write>(
     list(managed, &mut framer, &mut verb, reader, writer, &mut buffer)
 }
 
-/// Reads a recording of TC transfer frames to its end, and writes a line for each thing that is amiss in it, and
+/// Reads a recording of TC transfer frames to its end, and writes a line for each anomaly of it, and
 /// then one of its totals (docs/listings.md). It keeps one frame at most, the FARM-1 of 64 virtual channels, and the
 /// series that is incomplete on each MAP.
 ///

@@ -3,16 +3,15 @@ ghost use Rattle.std.specs.Prelude.{◌≡◌, ◌≢◌, [], ℕ, List, IfOk, I
 ghost use Rattle.sl_tcframe.specs.TcDelimited.{tc_frames_of};
 ghost use Rattle.sl_tmframe.specs.TmDelimited.{tm_frames_of};
 ghost use Rattle.sl_link.specs.Kind.Delivery.{AreKept, MayWantMemory, counted, packets_of};
-ghost use Rattle.sl_link.specs.Kind.Tc.{MayWantMemoryTc, tc_counts};
-ghost use Rattle.sl_link.specs.Kind.Tm.{MayWantMemoryTm, tm_counts};
+ghost use Rattle.sl_link.specs.Kind.Tc.{MayWantMemoryTc, tc_counts, tc_packets};
+ghost use Rattle.sl_link.specs.Kind.Tm.{MayWantMemoryTm, tm_counts, tm_packets};
 ghost use Rattle.sl_link.specs.Link.Managed.{tc_format};
 ghost use Rattle.sl_link.specs.Normalise.Form.{StopsForm, HasSome, KeepsAll, form_text, listed};
-ghost use Rattle.sl_link.specs.Normalise.Tc.{tc_normal_form, tc_packets};
-ghost use Rattle.sl_link.specs.Normalise.Tm.{tm_normal_form, tm_packets};
+ghost use Rattle.sl_link.specs.Normalise.Tc.{tc_normal_form};
+ghost use Rattle.sl_link.specs.Normalise.Tm.{tm_normal_form};
 ghost use Rattle.sl_link.specs.Tally.{listing_counts};
-ghost use Rattle.sl_link.specs.Io.Streams.{IsRead, KeepsPackets, Stops, StopsReadingAll, Translates, TranslatesAndCounts, WritesText};
-ghost use Rattle.sl_link.specs.Verbs.Listing.{WantedMemory};
-ghost use Rattle.sl_link.specs.Pass.{chunk_size};
+ghost use Rattle.sl_link.specs.Io.Streams.{IsRead, KeepsPackets, Stops, StopsReading, Translates, TranslatesAndCounts, WritesText};
+ghost use Rattle.sl_link.specs.Pass.{WantedMemory, chunk_size};
 
 mod form;
 
@@ -224,7 +223,7 @@ pub fn deliver<D: Delivery, F: Framer, R: Read>(
     requires frames { F.frames_of managed.now ≡ (D.kind managed.now).frames_of }
     ensures all { IfOk result (λ kept. KeepsAll R.remaining reader.old reader.new
         (D.kind managed.now) managed.now.max_octets kept.0.lists kept.1) }
-    ensures stopped { IfErr result (StopsReadingAll R.remaining reader.old reader.new
+    ensures stopped { IfErr result (StopsReading R.remaining reader.old reader.new
         managed.now.max_octets chunk_size) }
     ensures memory { IfErr result (λ fault. fault ≡ LinkFault.Memory
         → WantedMemory R.remaining reader.old reader.new (D.kind managed.now).frames_of

@@ -3,14 +3,11 @@ ghost use Rattle.std.specs.Prelude.{◌≡◌, ◌⊎◌, [], ℕ, List, IfOk, I
 ghost use Rattle.sl_tcframe.specs.TcDelimited.{tc_frames_of};
 ghost use Rattle.sl_tmframe.specs.TmDelimited.{tm_frames_of};
 ghost use Rattle.sl_link.specs.Kind.Delivery.{MayWantMemory, packets_of};
-ghost use Rattle.sl_link.specs.Kind.Tc.{MayWantMemoryTc};
-ghost use Rattle.sl_link.specs.Kind.Tm.{MayWantMemoryTm};
+ghost use Rattle.sl_link.specs.Kind.Tc.{MayWantMemoryTc, tc_packets};
+ghost use Rattle.sl_link.specs.Kind.Tm.{MayWantMemoryTm, tm_packets};
 ghost use Rattle.sl_link.specs.Link.Managed.{tc_format};
-ghost use Rattle.sl_link.specs.Normalise.Tc.{tc_packets};
-ghost use Rattle.sl_link.specs.Normalise.Tm.{tm_packets};
-ghost use Rattle.sl_link.specs.Pass.{chunk_size};
+ghost use Rattle.sl_link.specs.Pass.{WantedMemory, chunk_size};
 ghost use Rattle.sl_link.specs.Same.{StopsComparing, ComparesPackets};
-ghost use Rattle.sl_link.specs.Verbs.Listing.{WantedMemory};
 
 use crate::kind::Delivery;
 use crate::link::counted::Counted;

@@ -1,6 +1,6 @@
 //! What an engine has counted so far.
 ghost use Rattle.std.specs.Prelude.{◌≡◌, ◌+◌, ◌^◌, ◌<◌, ◌≤◌};
-ghost use Rattle.sl_link.specs.Tally.{counts_more, counts_with_rest, no_counts};
+ghost use Rattle.sl_link.specs.Tally.{counts_more, counts_with_remainder, no_counts};
 
 use crate::link::totals::Totals;
 
@@ -62,7 +62,7 @@ impl Totals {
     pub(crate) fn totals(&self, rest: u64, more: u64) -> Totals
         requires fits { self.now.octets + rest < 2 ^ 64 }
         requires few { self.now.anomalies + more ≤ self.now.octets + rest }
-        ensures { result ≡ counts_with_rest self.now rest more }
+        ensures { result ≡ counts_with_remainder self.now rest more }
     {
         Totals {
             octets: self.octets + rest,

@@ -109,7 +109,7 @@ static BROUGHT: [(&str, &[Frame], &[&[u8]], &[u8]); 3] = [
 type Row<'a> = (&'a [u8; 32], (Option<u8>, u32, bool), (u32, u32), u32);
 
 // One frame after another.
-static AMISS: [Row; 6] = [
+static ANOMALIES: [Row; 6] = [
     (&FOREIGN, (None, 0, true), (1, 0), 0),
     (&BEGUN, (None, 0, false), (1, 0), 3),
     (&ENDED, (Some(1), 3, false), (1, 1), 0),
@@ -151,18 +151,18 @@ fn packets_of_frames_and_their_normal_form(rt: HostRuntime) {
 
 // Whether this is told of a frame.
 fn is_told(extractor: &mut Extractor, sink: &mut Delivered, row: &Row) -> Result<bool, Stop> {
-    let (frame, amiss, counts, octets) = row;
+    let (frame, anomalies, counts, octets) = row;
     let step = step_of(extractor, frame, sink)?;
-    let is_amiss = (step.gap(), step.dropped(), step.foreign()) == *amiss;
+    let is_reported = (step.gap(), step.dropped(), step.foreign()) == *anomalies;
     let is_counted = (step.packets(), step.idle()) == *counts;
-    Ok(is_amiss && is_counted && held(extractor, 0) == *octets && held(extractor, 1) == 0)
+    Ok(is_reported && is_counted && held(extractor, 0) == *octets && held(extractor, 1) == 0)
 }
 
 #[test]
-fn what_is_amiss_in_a_frame_is_told(rt: HostRuntime) {
+fn anomalies_of_a_frame_are_reported(rt: HostRuntime) {
     let mut extractor = extractor(rt.alloc());
     let mut delivered = none(rt.alloc());
-    for row in &AMISS {
+    for row in &ANOMALIES {
         passes(&rt, row, is_told(&mut extractor, &mut delivered, row));
     }
 }

@@ -25,7 +25,7 @@ pub checked :
     (tc, [], codes "frames 0 skipped 0 packets 0 idle 0 anomalies 0\n")
     ∷ (tc, carrying 0, codes "frames 1 skipped 0 packets 1 idle 0 anomalies 0\n")
     ∷ (tc, discarded, codes "0 early vc 0 ad 4\n7 late vc 0 ad 251\n14 outside vc 0 ad 5\n21 refused vc 0 ad 0\nframes 4 skipped 0 packets 0 idle 0 anomalies 4\n")
-    -- nothing is amiss with Set V(R), type BD and Unlock in lockout
+    -- Set V(R), type BD and Unlock in lockout are no anomalies
     ∷ (tc, locked_out, codes "0 outside vc 0 ad 250\nframes 4 skipped 0 packets 1 idle 0 anomalies 1\n")
     -- early, twice in a row, and early again
     ∷ (tc, carrying 1 ++ carrying 0 ++ carrying 0 ++ carrying 2 ++ carrying 1, codes "0 early vc 0 ad 1\n32 late vc 0 ad 0\n48 early vc 0 ad 2\nframes 5 skipped 0 packets 2 idle 0 anomalies 3\n")

@@ -3,7 +3,7 @@ use Rattle.std.specs.Prelude.{◌≡◌, ℕ, List, ◌++◌, Option}
 use Rattle.sl_link.specs.declared.io.output.Output.{Output}
 use Rattle.sl_link.specs.declared.link.fault.LinkFault.{LinkFault}
 use Rattle.sl_link.specs.declared.link.fault.LinkFault.TheVariants.{Memory}
-use Rattle.sl_link.specs.Io.Streams.{AddsText, IsListingFault, WritesPrefix}
+use Rattle.sl_link.specs.Io.Streams.{AddsText, IsWritersFault, WritesPrefix}
 
 module _ {W : Type 0} (contents : W → Option (List ℕ)) where
   -- The text was added: the lines that wait now come after what was written, to the writer that was lent.
@@ -16,5 +16,5 @@ module _ {W : Type 0} (contents : W → Option (List ℕ)) where
       (fault : LinkFault) : Type 0 where
     pub lent : new.writer.ghost_name ≡ old.writer.ghost_name
     pub front : WritesPrefix contents old.writer.now new.writer.now (old.lines ++ text)
-    pub cause : IsListingFault old.writer.now new.writer.now fault
+    pub cause : IsWritersFault old.writer.now new.writer.now fault
     pub memory : fault ≡ Memory → wanted

@@ -9,11 +9,38 @@ lines_size = 0x10000
 abbrev pub reserve : ℕ
 reserve = 1024
 
--- After these lines there is room for some octets more. The contract for a part of a line asks for
--- what the parts before leave of the reserve.
+-- after these lines there is room for some octets more
 abbrev pub HasRoomFor : ℕ → List ℕ → Type 0
 HasRoomFor octets lines = length lines + octets ≤ lines_size
 
 -- after these lines there is room for the lines of one frame more
 abbrev pub HasRoom : List ℕ → Type 0
 HasRoom lines = HasRoomFor reserve lines
+
+-- ---- How long the parts of a line are at most, in octets. What adds a part needs no more room, and adds
+-- no more. Octets of packets come beside these: room is made for them as they are added.
+
+-- a line: a number, a text and the line's end. A frame has five lines at most, 1000 octets of the reserve.
+abbrev pub line_width : ℕ
+line_width = 200
+
+-- a text: what a line says of a frame after the offset, or of a packet between its channel and its octets
+abbrev pub text_width : ℕ
+text_width = 179
+
+-- a part of a text: the control field or the content of a frame, the header of a packet. 13 octets, a part
+-- and fields make a text, and so do a part, an octet and twice some words.
+abbrev pub part_width : ℕ
+part_width = 100
+
+-- fields: of a CLCW, of a unit, the last ones of a header; a packet's channel; a verdict and the CLCW after it
+abbrev pub fields_width : ℕ
+fields_width = 60
+
+-- some words: the counts or the class of a frame, a verdict and the word after it, the size of a packet
+abbrev pub words_width : ℕ
+words_width = 30
+
+-- a number, a verdict, a reason to skip, sequence flags
+abbrev pub number_width : ℕ
+number_width = 20

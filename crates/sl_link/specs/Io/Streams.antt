@@ -1,6 +1,6 @@
 -- What an engine does to the octets that a reader has left and a writer holds. Where a reader or a
 -- writer doesn't report its octets, these definitions speak of its faults alone.
-use Rattle.std.specs.Prelude.{◌≡◌, ℕ, ◌+◌, ◌≤◌, ◌<◌, List, [], ◌++◌, length, take, Option}
+use Rattle.std.specs.Prelude.{◌≡◌, ℕ, ◌+◌, ◌≤◌, ◌<◌, List, ◌++◌, length, take, Option}
 use Rattle.std.specs.Io.KnownBytes.{Consumes, IsAtEnd, Appends}
 use Rattle.sl_link.specs.declared.link.counted.Counted.{Counted}
 use Rattle.sl_link.specs.declared.link.fault.LinkFault.{LinkFault}
@@ -40,21 +40,6 @@ pub record ReadsSome {R : Type 0} (remaining : R → Option (List ℕ)) (old new
   pub to_end : n ≡ 0 → 0 < length buffer → IsRead remaining new
   pub no_fault : faults_of new ≡ faults_of old
 
--- a fault of one read has its cause: the reader failed and gave nothing, or gave more octets than the limit
-abbrev pub IsReadFault : {R : Type 0} → Counted R → Counted R → ℕ → List ℕ → LinkFault → Type 0
-IsReadFault old new limit octets Read = HadOneFault old new × (octets ≡ [])
-IsReadFault old new limit octets TooLong = (faults_of new ≡ faults_of old) × (limit < length octets)
-IsReadFault old new limit octets Memory = ⊥
-IsReadFault old new limit octets Write = ⊥
-
--- octets, or none, came into the buffer, and then a fault
-pub record StopsReading {R : Type 0} (remaining : R → Option (List ℕ)) (old new : Counted R) (buffer : List ℕ)
-    (limit : ℕ) (fault : LinkFault) : Type 0 where
-  pub octets : List ℕ
-  pub inside : length octets ≤ length buffer
-  pub read : Reads remaining old new octets
-  pub cause : IsReadFault old new limit octets fault
-
 -- all octets were read, no more than the limit
 pub record ReadsAll {R : Type 0} (remaining : R → Option (List ℕ)) (old new : Counted R) (limit : ℕ)
     (octets : List ℕ) : Type 0 where
@@ -63,20 +48,20 @@ pub record ReadsAll {R : Type 0} (remaining : R → Option (List ℕ)) (old new 
   pub to_end : IsRead remaining new
   pub no_fault : faults_of new ≡ faults_of old
 
--- a fault of reading all has its cause, or one of keeping what was read; a read gives `buffer` octets at most
-abbrev pub IsReadingAllFault : {R : Type 0} → Counted R → Counted R → ℕ → ℕ → List ℕ → LinkFault → Type 0
-IsReadingAllFault old new limit buffer octets Read = HadOneFault old new × (length octets ≤ limit)
-IsReadingAllFault old new limit buffer octets TooLong =
+-- A fault of reading, or of keeping what was read, has its cause. A read gives `buffer` octets at most.
+abbrev pub IsReadersFault : {R : Type 0} → Counted R → Counted R → ℕ → ℕ → List ℕ → LinkFault → Type 0
+IsReadersFault old new limit buffer octets Read = HadOneFault old new × (length octets ≤ limit)
+IsReadersFault old new limit buffer octets TooLong =
     (faults_of new ≡ faults_of old) × (limit < length octets) × (length octets ≤ limit + buffer)
-IsReadingAllFault old new limit buffer octets Memory = (faults_of new ≡ faults_of old) × (length octets ≤ limit)
-IsReadingAllFault old new limit buffer octets Write = ⊥
+IsReadersFault old new limit buffer octets Memory = (faults_of new ≡ faults_of old) × (length octets ≤ limit)
+IsReadersFault old new limit buffer octets Write = ⊥
 
--- octets were read, and then a fault came
-pub record StopsReadingAll {R : Type 0} (remaining : R → Option (List ℕ)) (old new : Counted R) (limit buffer : ℕ)
+-- octets were read, perhaps none, and then a fault came
+pub record StopsReading {R : Type 0} (remaining : R → Option (List ℕ)) (old new : Counted R) (limit buffer : ℕ)
     (fault : LinkFault) : Type 0 where
   pub octets : List ℕ
   pub read : Reads remaining old new octets
-  pub cause : IsReadingAllFault old new limit buffer octets fault
+  pub cause : IsReadersFault old new limit buffer octets fault
 
 -- the text was written
 pub record WritesText {W : Type 0} (contents : W → Option (List ℕ)) (old new : Counted W) (text : List ℕ) : Type 0 where
@@ -98,12 +83,12 @@ pub record StopsWriting {W : Type 0} (contents : W → Option (List ℕ)) (old n
   pub is_write : fault ≡ Write
   pub cause : HadOneFault old new
 
--- a fault of writing has its cause, or one of keeping what is to be written
-abbrev pub IsListingFault : {W : Type 0} → Counted W → Counted W → LinkFault → Type 0
-IsListingFault old new Read = ⊥
-IsListingFault old new TooLong = ⊥
-IsListingFault old new Memory = faults_of new ≡ faults_of old
-IsListingFault old new Write = HadOneFault old new
+-- a fault of writing, or of making what is to be written, has its cause
+abbrev pub IsWritersFault : {W : Type 0} → Counted W → Counted W → LinkFault → Type 0
+IsWritersFault old new Read = ⊥
+IsWritersFault old new TooLong = ⊥
+IsWritersFault old new Memory = faults_of new ≡ faults_of old
+IsWritersFault old new Write = HadOneFault old new
 
 -- ---- a whole engine, over its reader and its writer before and after the call
 

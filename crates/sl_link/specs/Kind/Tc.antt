@@ -7,10 +7,9 @@ use Rattle.sl_tcframe.specs.TcDelimited.{tc_frames_of}
 use Rattle.sl_tcframe.specs.TcFrame.{TcView, Content, Ad, Bd, Unlock, SetVr, tc_frame}
 use Rattle.sl_tcflow.specs.AcceptedUnit.{views_of}
 use Rattle.sl_tcflow.specs.Anomaly.{dropped_by, long_by, stray_by, tail_by}
-use Rattle.sl_tcflow.specs.Receiving.{HasProcessed, IsIncompleteAround, ReceiverState, ended_by, map_by, unit_channel, verdict_on}
+use Rattle.sl_tcflow.specs.Receiving.{HasProcessed, IsIncompleteAround, ReceiverState, ended_by, held_in, map_by, unit_channel, verdict_on}
 use Rattle.sl_tcflow.specs.ReceptionParameters.{ReceptionParameters}
-use Rattle.sl_tcflow.specs.Recording.{map_channels, packets_in_channel}
-use Rattle.sl_tcflow.proofs.lemmas.Reception.Channel.{held_in}
+use Rattle.sl_tcflow.specs.Recording.{map_channels, packets_in_channel, tc_lists}
 use Rattle.sl_link.specs.declared.kind.TcFound.{TcFound}
 use Rattle.sl_link.specs.Kind.Delivery.{IsWithin, Kind, MayWantMemory, count_of, counted, idle_in, packets_in}
 use Rattle.sl_link.specs.Link.Managed.{Parameters, reception_of, tc_format}
@@ -75,6 +74,10 @@ tc_kind p =
       packets = λ frames channel.
           packets_in_channel (reception_of p) (views_of (tc_format p) p.spacecraft frames) channel;
     }
+
+-- the packets that a recording delivers on each virtual channel and MAP, without idle ones
+abbrev pub tc_packets : Parameters → List ℕ → List (List (List ℕ))
+tc_packets p recording = tc_lists (tc_format p) p.spacecraft (reception_of p) recording
 
 -- what is counted in frames, and a remainder of this many octets
 abbrev pub tc_counted : Parameters → List (List ℕ) → ℕ → Counts

@@ -6,7 +6,7 @@ use Rattle.sl_tmframe.specs.TmFrame.{TmView, DataField, Packets, Idle, Opaque, t
 use Rattle.sl_tmflow.specs.Anomaly.{dropped_of, foreign_of, gap_of}
 use Rattle.sl_tmflow.specs.Channel.{channel_of, views_of}
 use Rattle.sl_tmflow.specs.Extraction.{ExtractorState, HasProcessed, IsIncompleteAround, ended_by}
-use Rattle.sl_tmflow.specs.Recording.{packets_of_channel, virtual_channels}
+use Rattle.sl_tmflow.specs.Recording.{packets_of_channel, tm_lists, virtual_channels}
 use Rattle.sl_link.specs.declared.kind.TmFound.{TmFound}
 use Rattle.sl_link.specs.Kind.Delivery.{IsWithin, Kind, MayWantMemory, counted}
 use Rattle.sl_link.specs.Link.Managed.{Parameters, tm_format}
@@ -67,6 +67,10 @@ tm_kind p =
       ended = λ before frame. ended_in (views_of (tm_format p) p.spacecraft before) (as_read p frame);
       packets = λ frames vc. packets_of_channel (views_of (tm_format p) p.spacecraft frames) vc;
     }
+
+-- the packets that a recording delivers on each virtual channel, without idle ones
+abbrev pub tm_packets : Parameters → List ℕ → List (List (List ℕ))
+tm_packets p recording = tm_lists (tm_format p) p.spacecraft recording
 
 -- what is counted in frames, and a remainder of this many octets
 abbrev pub tm_counted : Parameters → List (List ℕ) → ℕ → Counts

@@ -2,8 +2,8 @@
 use Rattle.sl_link.specs.Link.Totals.{Counts, AreWithinOctets}
 use Rattle.sl_link.specs.declared.link.totals.Totals.TheInside.{Inside}
 
-abbrev pub counts_of : Inside → Counts
-counts_of t =
+abbrev pub totals_counts : Inside → Counts
+totals_counts t =
     record {
       octets = t.octets;
       frames = t.frames;
@@ -15,7 +15,7 @@ counts_of t =
     }
 
 abbrev pub AreTotals : Inside → Type 0
-AreTotals t = AreWithinOctets (counts_of t)
+AreTotals t = AreWithinOctets (totals_counts t)
 
 abbrev pub inside_of : Counts → Inside
 inside_of c =

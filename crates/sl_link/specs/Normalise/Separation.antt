@@ -1,8 +1,10 @@
 -- What normal forms tell of the packets of recordings, under one and the same managed parameters.
 use Rattle.std.specs.Prelude.{◌≡◌, ◌↔◌, ℕ, List}
+use Rattle.sl_link.specs.Kind.Tc.{tc_packets}
+use Rattle.sl_link.specs.Kind.Tm.{tm_packets}
 use Rattle.sl_link.specs.Link.Managed.{AreAccepted, Parameters}
-use Rattle.sl_link.specs.Normalise.Tc.{tc_normal_form, tc_packets}
-use Rattle.sl_link.specs.Normalise.Tm.{tm_normal_form, tm_packets}
+use Rattle.sl_link.specs.Normalise.Tc.{tc_normal_form}
+use Rattle.sl_link.specs.Normalise.Tm.{tm_normal_form}
 
 -- The normal form of a recording delivers the packets that the recording delivers. So two normal forms are equal
 -- octet for octet exactly where the recordings deliver the same packets, and a normal form is its own normal form.

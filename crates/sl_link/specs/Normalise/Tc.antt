@@ -1,12 +1,8 @@
 -- The normal form of a TC recording, which `normalise_tc` writes: this project's mission profile.
 use Rattle.std.specs.Prelude.{ℕ, List}
-use Rattle.sl_tcflow.specs.Recording.{tc_lists}
 use Rattle.sl_tcflow.specs.TcNormalForm.{tc_normal_form_of}
-use Rattle.sl_link.specs.Link.Managed.{Parameters, reception_of, tc_format}
-
--- the packets of each virtual channel and MAP, without idle ones
-abbrev pub tc_packets : Parameters → List ℕ → List (List (List ℕ))
-tc_packets p recording = tc_lists (tc_format p) p.spacecraft (reception_of p) recording
+use Rattle.sl_link.specs.Kind.Tc.{tc_packets}
+use Rattle.sl_link.specs.Link.Managed.{Parameters, tc_format}
 
 -- the normal form of lists of packets
 unfoldable pub tc_form_of : Parameters → List (List (List ℕ)) → List ℕ

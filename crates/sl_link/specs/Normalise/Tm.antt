@@ -1,12 +1,8 @@
 -- The normal form of a TM recording, which `normalise_tm` writes: this project's mission profile.
 use Rattle.std.specs.Prelude.{ℕ, List}
 use Rattle.sl_tmflow.specs.NormalForm.{normal_form}
-use Rattle.sl_tmflow.specs.Recording.{tm_lists}
+use Rattle.sl_link.specs.Kind.Tm.{tm_packets}
 use Rattle.sl_link.specs.Link.Managed.{Parameters, tm_format}
-
--- the packets of each virtual channel, without idle ones
-abbrev pub tm_packets : Parameters → List ℕ → List (List (List ℕ))
-tm_packets p recording = tm_lists (tm_format p) p.spacecraft recording
 
 -- the normal form of lists of packets
 unfoldable pub tm_form_of : Parameters → List (List (List ℕ)) → List ℕ

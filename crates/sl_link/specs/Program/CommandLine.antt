@@ -94,6 +94,12 @@ with_link_options app = fold with_rule app link_options
 abbrev pub verb_app : Text → Bor (List (Bor Text)) → App
 verb_app name kinds = with_link_options (with_rule (new_app name) (kind_rule kinds))
 
+-- `sllink` before its verbs are added. The contract of a private function alone cites this.
+abbrev pub top_app : App
+top_app = record (new_app (codes "sllink")) {
+  top = record (new_shape (codes "sllink")) { has_version = true; subcommand_required = true };
+}
+
 -- `sllink VERB ..`, where each verb takes these kinds
 abbrev pub sllink_with : Bor (List (Bor Text)) → App
 sllink_with kinds = record {

@@ -25,25 +25,25 @@ use Rattle.sl_link.specs.Program.CommandLine.{AskFor}
 use Rattle.sl_link.specs.Pass.{chunk_size}
 use Rattle.sl_link.specs.Io.Streams.{IsRead, TranslatesAndCounts, Stops}
 
--- the listing of its frames, of what is amiss in it or of its packets, or the normal form of its packets
-abbrev pub text_of : VerbName → RecordingKind → Parameters → List ℕ → List ℕ
-text_of Show Tm p = show_tm_text p
-text_of Show Tc p = show_tc_text p
-text_of Check Tm p = check_tm_text p
-text_of Check Tc p = check_tc_text p
-text_of Packets Tm p = packets_tm_text p
-text_of Packets Tc p = packets_tc_text p
-text_of Normalise Tm p = tm_normal_form p
-text_of Normalise Tc p = tc_normal_form p
+-- the listing of its frames, of its anomalies or of its packets, or the normal form of its packets
+abbrev pub engine_text : VerbName → RecordingKind → Parameters → List ℕ → List ℕ
+engine_text Show Tm p = show_tm_text p
+engine_text Show Tc p = show_tc_text p
+engine_text Check Tm p = check_tm_text p
+engine_text Check Tc p = check_tc_text p
+engine_text Packets Tm p = packets_tm_text p
+engine_text Packets Tc p = packets_tc_text p
+engine_text Normalise Tm p = tm_normal_form p
+engine_text Normalise Tc p = tc_normal_form p
 
 -- the counts of what the engine meets
-abbrev pub counts_of : VerbName → RecordingKind → Parameters → List ℕ → Counts
-counts_of Show Tm p = show_tm_counts p
-counts_of Show Tc p = show_tc_counts p
-counts_of Check Tm p = check_tm_counts p
-counts_of Check Tc p = check_tc_counts p
-counts_of verb Tm p = tm_counts p
-counts_of verb Tc p = tc_counts p
+abbrev pub engine_counts : VerbName → RecordingKind → Parameters → List ℕ → Counts
+engine_counts Show Tm p = show_tm_counts p
+engine_counts Show Tc p = show_tc_counts p
+engine_counts Check Tm p = check_tm_counts p
+engine_counts Check Tc p = check_tc_counts p
+engine_counts verb Tm p = tm_counts p
+engine_counts verb Tc p = tc_counts p
 
 -- ---- a run
 
@@ -52,7 +52,7 @@ module _ {R W : Type 0} (remaining : R → Option (List ℕ)) (contents : W → 
   abbrev pub HasWritten : Counted R → Counted R → Counted W → Counted W → Asked → Parameters → Counts → Type 0
   HasWritten reader reader' writer writer' asked managed =
       TranslatesAndCounts remaining contents reader reader' writer writer'
-      (text_of asked.verb asked.kind managed) (counts_of asked.verb asked.kind managed)
+      (engine_text asked.verb asked.kind managed) (engine_counts asked.verb asked.kind managed)
       managed.max_octets
 
   -- A fault stopped the engine, or the flush after it. A listing of frames needs no memory. Of a normal form
@@ -60,7 +60,7 @@ module _ {R W : Type 0} (remaining : R → Option (List ℕ)) (contents : W → 
   pub record IsStoppedBy (reader reader' : Counted R) (writer writer' : Counted W) (asked : Asked)
       (managed : Parameters) (fault : LinkFault) : Type 0 where
     pub cause : Stops remaining contents reader reader' writer writer'
-        (text_of asked.verb asked.kind managed) managed.max_octets chunk_size fault
+        (engine_text asked.verb asked.kind managed) managed.max_octets chunk_size fault
     pub not_memory : asked.verb ≡ Show → fault ≢ Memory
     pub all_read : asked.verb ≡ Normalise → fault ≡ Write → IsRead remaining reader'
     pub nothing : asked.verb ≡ Normalise → fault ≢ Write → writer' ≡ writer

@@ -3,9 +3,10 @@ use Rattle.std.specs.Prelude.{◌≡◌, ℕ, List, [], ◌∷◌, ◌++◌, Opt
 use Rattle.sl_link.specs.declared.link.counted.Counted.{Counted}
 use Rattle.sl_link.specs.declared.link.fault.LinkFault.{LinkFault}
 use Rattle.sl_link.specs.declared.link.fault.LinkFault.TheVariants.{Memory}
-use Rattle.sl_link.specs.Io.Streams.{Reads, Stops, Translates, TranslatesAndCounts}
+use Rattle.sl_link.specs.Io.Streams.{Stops, Translates, TranslatesAndCounts}
 use Rattle.sl_link.specs.Link.Totals.{Counts}
-use Rattle.sl_link.specs.Tally.{listing_counts, rest_after}
+use Rattle.sl_link.specs.Pass.{WantedMemory}
+use Rattle.sl_link.specs.Tally.{listing_counts, remainder_after}
 
 -- frames, as octets
 abbrev pub Frames : Type 0
@@ -26,29 +27,9 @@ lines_from line before [] = []
 lines_from line before (frame ∷ frames) = line before frame ++ lines_from line (before ++ frame ∷ []) frames
 
 -- the text of a recording: the lines of its frames, and those after the last one
-abbrev pub listing : (Frames → List ℕ → List ℕ) → (Frames → ℕ → List ℕ) → (List ℕ → Frames)
-    → List ℕ → List ℕ
-listing line last frames_of recording = lines_from line [] (frames_of recording)
-    ++ last (frames_of recording) (rest_after (frames_of recording) recording)
-
--- the text of a recording, and its counts
 abbrev pub listing_text : (List ℕ → Frames) → Listing → List ℕ → List ℕ
-listing_text frames_of l = listing l.line l.last frames_of
-
-abbrev pub counts_of : (List ℕ → Frames) → Listing → List ℕ → Counts
-counts_of frames_of l = listing_counts l.counts frames_of
-
--- ---- while it is written
-
--- memory may be refused at some frame of what was read
-pub record WantedMemory {R : Type 0} (remaining : R → Option (List ℕ)) (old new : Counted R)
-    (frames_of : List ℕ → Frames) (wants_memory : Frames → Type 0) : Type 0 where
-  pub octets : List ℕ
-  pub read : Reads remaining old new octets
-  pub first : Frames
-  pub later : Frames
-  pub in_order : frames_of octets ≡ first ++ later
-  pub wanted : wants_memory first
+listing_text frames_of l recording = lines_from l.line [] (frames_of recording)
+    ++ l.last (frames_of recording) (remainder_after (frames_of recording) recording)
 
 -- How a listing ends: all is read, and its listing written and counted; or a fault came, which has its cause. Contracts
 -- of private functions alone cite this.
@@ -58,7 +39,7 @@ pub record EndsListing {R W : Type 0} (remaining : R → Option (List ℕ)) (con
   pub listing : OnOk result
       (Translates remaining contents reader reader' writer writer' (listing_text frames_of l) limit)
   pub totals : IfOk result (TranslatesAndCounts remaining contents reader reader' writer writer'
-      (listing_text frames_of l) (counts_of frames_of l) limit)
+      (listing_text frames_of l) (listing_counts l.counts frames_of) limit)
   pub fault : IfErr result
       (Stops remaining contents reader reader' writer writer' (listing_text frames_of l) limit buffer)
   pub memory : IfErr result

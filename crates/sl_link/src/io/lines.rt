@@ -1,7 +1,7 @@
 //! Lines of a listing, put together in a buffer before they are written.
 ghost use Rattle.std.specs.Prelude.{◌≡◌, ◌+◌, ◌*◌, ◌^◌, ◌≤◌, ◌<◌, [], ◌++◌, length, decimal, drop, nat_lt, take};
 ghost use Rattle.hex.specs.Hex.{encode_lower};
-ghost use Rattle.sl_link.specs.Io.Room.{HasRoomFor, lines_size, reserve};
+ghost use Rattle.sl_link.specs.Io.Room.{HasRoomFor, lines_size, number_width, reserve};
 
 use crate::io::digits::Decimals;
 use crate::io::hexadecimal::Hexadecimals;
@@ -111,9 +111,9 @@ impl Lines {
 
     /// Adds a number in decimal.
     pub fn push_number(&mut self, number: u64)
-        requires { HasRoomFor 20 self.old }
+        requires { HasRoomFor number_width self.old }
         ensures text { self.new ≡ self.old ++ decimal number }
-        ensures long { length self.new ≤ length self.old + 20 }
+        ensures long { length self.new ≤ length self.old + number_width }
     {
         match u8::try_from(number) {
             Ok(small) => self.push_small_number(small),
@@ -123,10 +123,10 @@ impl Lines {
 
     // Adds a number of more than two digits.
     fn push_long(&mut self, number: u64)
-        requires room { HasRoomFor 20 self.old }
+        requires room { HasRoomFor number_width self.old }
         requires long { 100 ≤ number }
         ensures text { self.new ≡ self.old ++ decimal number }
-        ensures long { length self.new ≤ length self.old + 20 }
+        ensures long { length self.new ≤ length self.old + number_width }
     {
         let last = self.decimals.last_four((number % 10_000) as u16);
         if number >= 10_000 {
@@ -146,10 +146,10 @@ impl Lines {
     // Adds leading digits that aren't kept yet, and the last four.
     #[cold]
     fn push_anew(&mut self, leading: u64, last: &[u8; 4])
-        requires room { HasRoomFor 20 self.old }
+        requires room { HasRoomFor number_width self.old }
         requires leading { leading * 10000 < 2 ^ 64 }
         ensures text { self.new ≡ self.old ++ (decimal leading ++ last.now) }
-        ensures short { length self.new ≤ length self.old + 20 }
+        ensures short { length self.new ≤ length self.old + number_width }
     {
         let leading = self.decimals.new_leading(leading);
         self.push_two(leading, last);
@@ -158,10 +158,10 @@ impl Lines {
     // Adds leading digits, as `Decimals` gives them, and the last four digits.
     #[inline(always)]
     fn push_two(&mut self, leading: ([u8; 16], usize), last: &[u8; 4])
-        requires room { HasRoomFor 20 self.old }
+        requires room { HasRoomFor number_width self.old }
         requires few { leading.1 ≤ 16 }
         ensures text { self.new ≡ self.old ++ (take leading.1 leading.0 ++ last.now) }
-        ensures short { length self.new ≤ length self.old + 20 }
+        ensures short { length self.new ≤ length self.old + number_width }
     {
         let (places, many) = leading;
         self.push_first(&places, many);

@@ -2,7 +2,7 @@
 ghost use Rattle.std.specs.Prelude.{◌≡◌, ◌+◌, ◌≤◌, ◌++◌, [], length, codes, decimal, IfErr, OnOk};
 ghost use Rattle.sl_link.specs.Io.Line.{line_at};
 ghost use Rattle.sl_link.specs.Io.Output.{Adds, StopsAdding};
-ghost use Rattle.sl_link.specs.Io.Room.{HasRoom};
+ghost use Rattle.sl_link.specs.Io.Room.{HasRoom, line_width};
 
 use crate::io::lines::Lines;
 use crate::io::streams::write_text;
@@ -51,7 +51,7 @@ impl<'a, W: Write> Output<'a, W> {
 pub fn remainder_line(lines: &mut Lines, offset: u64, octets: u64)
     requires { HasRoom lines.old }
     ensures text { lines.new ≡ lines.old ++ line_at offset (codes " rest " ++ decimal octets) }
-    ensures short { length lines.new ≤ length lines.old + 50 }
+    ensures short { length lines.new ≤ length lines.old + line_width }
 {
     lines.push_number(offset);
     lines.push(b" rest ");

@@ -1,6 +1,6 @@
 //! Single reads, and single writes until a text is written. None is tried again after an error, an
 //! interrupted call included.
-ghost use Rattle.std.specs.Prelude.{IfOk, IfErr, OnOk};
+ghost use Rattle.std.specs.Prelude.{◌≢◌, IfOk, IfErr, OnOk, length};
 ghost use Rattle.sl_link.specs.Io.Streams.{ReadsSome, StopsReading, WritesText, StopsWriting};
 
 use crate::link::counted::Counted;
@@ -15,8 +15,13 @@ pub fn read_some<R: Read>(
     buffer: &mut [u8],
     limit: u64,
 ) -> Result<usize, LinkFault>
-    ensures came { IfOk result (λ n. ReadsSome R.remaining reader.old reader.new buffer.new limit n) }
-    ensures fault { IfErr result (λ fault. StopsReading R.remaining reader.old reader.new buffer.new limit fault) }
+    ensures came { IfOk result (ReadsSome R.remaining reader.old reader.new buffer.new limit) }
+    ensures fault { IfErr result
+        (StopsReading R.remaining reader.old reader.new limit (length buffer.new)) }
+    // It is one read: no octets came at `Read`, and no more than a buffer at `TooLong`.
+    ensures once { IfErr result
+        (StopsReading R.remaining reader.old reader.new 0 (length buffer.new)) }
+    ensures not_memory { IfErr result (λ fault. fault ≢ LinkFault.Memory) }
 {
     let taken = match reader.read(buffer) {
         Ok(taken) => taken,
@@ -31,7 +36,7 @@ pub fn read_some<R: Read>(
 /// Writes all of a text. An error of the writer, or a write that takes nothing, is the fault `Write`.
 pub fn write_text<W: Write>(writer: &mut Counted<W>, text: &[u8]) -> Result<(), LinkFault>
     ensures written { OnOk result (WritesText W.contents writer.old writer.new text.now) }
-    ensures fault { IfErr result (λ fault. StopsWriting W.contents writer.old writer.new text.now fault) }
+    ensures fault { IfErr result (StopsWriting W.contents writer.old writer.new text.now) }
 {
     let mut left = text;
     while !left.is_empty() {

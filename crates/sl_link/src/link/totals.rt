@@ -20,9 +20,9 @@ impl Model for Totals {
 
     ghost Value = { Counts };
 
-    ghost use Rattle.sl_link.specs.Link.TotalsModel.{counts_of, inside_of, AreTotals};
+    ghost use Rattle.sl_link.specs.Link.TotalsModel.{totals_counts, inside_of, AreTotals};
 
-    ghost view = { counts_of };
+    ghost view = { totals_counts };
 
     ghost invariant = { AreTotals };
 

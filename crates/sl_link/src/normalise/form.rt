@@ -49,7 +49,8 @@ pub trait Form {
             → text.new.items ≡ text.old.items) }
         ensures some { IfOk result (λ more. IsTrue more → (octets : List ℕ)
             → left self.old octets → packets self.old) }
-        ensures packets { OnErr result ((octets : List ℕ) → left self.old octets → packets self.old) }
+        ensures packets { OnErr result ((octets : List ℕ)
+            → left self.old octets → packets self.old) }
         ensures fault { IfErr result (λ fault. fault ≡ LinkFault.Memory) }
         ensures full { OnErr result (ready self.old
             → vec_capacity text.old < vec_len text.old + piece_size) }

@@ -1,12 +1,12 @@
 //! The command line.
 ghost use Rattle.std.specs.Prelude.{◌≡◌, ◌⊎◌, false, map, option_map, string_bytes, IfOk, IfErr};
-ghost use Rattle.clap.specs.Words.{app_of, found_of, kind_of, rows_of, rule_of};
+ghost use Rattle.clap.specs.Words.{app_of, found_of, kind_of, rows_of, rule_of, with_subcommand};
 ghost use Rattle.clap.specs.declared.builder.Command.TheViews.{out-Command as fields_of};
 ghost use Rattle.sl_link.specs.Link.Managed.{managed_of};
 ghost use Rattle.sl_link.specs.Program.CommandLine.{AreFrom, AskFor, Asks, IsPlain, IsRefusal, IsSllink, flag_rule};
 ghost use Rattle.sl_link.specs.Program.CommandLine.{is_set, kind_named, link_options, needed_number, number_in};
-ghost use Rattle.sl_link.specs.Program.CommandLine.{number_or, number_rule, parameters_in, text_rule, verb_app};
-ghost use Rattle.sl_link.specs.Program.CommandLine.{verb_named, with_link_options, with_vcs};
+ghost use Rattle.sl_link.specs.Program.CommandLine.{number_or, number_rule, parameters_in, text_rule, top_app};
+ghost use Rattle.sl_link.specs.Program.CommandLine.{verb_app, verb_named, with_link_options, with_vcs};
 
 use crate::link::managed::{Managed, ManagedFault};
 use clap::builder::ValueParser;
@@ -22,7 +22,7 @@ use thiserror::Error;
 pub(crate) enum VerbName {
     /// Its frames are listed.
     Show,
-    /// What is amiss in it is listed.
+    /// Its anomalies are listed.
     Check,
     /// Its packets are listed.
     Packets,
@@ -133,23 +133,41 @@ fn sllink<'a>(alloc: Global) -> Result<Command<'a>, AllocError>
     ensures { IfOk result (λ command. IsSllink (app_of command)) }
 {
     let kinds = &KINDS;
+    let command = without_verbs(alloc);
     let about = "List the frames of a recording";
-    let show = verb_command(alloc, "show", about, SHOW_EXAMPLE, kinds)?;
-    let about = "List what is amiss in a recording";
-    let check = verb_command(alloc, "check", about, CHECK_EXAMPLE, kinds)?;
+    let command = with_verb(alloc, command, "show", about, SHOW_EXAMPLE, kinds)?;
+    let about = "List the anomalies of a recording";
+    let command = with_verb(alloc, command, "check", about, CHECK_EXAMPLE, kinds)?;
     let about = "List the packets of a recording";
-    let packets = verb_command(alloc, "packets", about, PACKETS_EXAMPLE, kinds)?;
+    let command = with_verb(alloc, command, "packets", about, PACKETS_EXAMPLE, kinds)?;
     let about = "Write the normal form of a recording";
-    let normalise = verb_command(alloc, "normalise", about, NORMALISE_EXAMPLE, kinds)?;
+    with_verb(alloc, command, "normalise", about, NORMALISE_EXAMPLE, kinds)
+}
+
+// `sllink` before its verbs are added.
+fn without_verbs<'a>(alloc: Global) -> Command<'a>
+    ensures { app_of result ≡ top_app }
+{
     Command::new(alloc, "sllink")
         .about("Read recordings of a spacecraft's link")
         .version(VERSION)
         .after_help(VERBS)
         .subcommand_required(true)
-        .subcommand(show)?
-        .subcommand(check)?
-        .subcommand(packets)?
-        .subcommand(normalise)
+}
+
+// The command with one verb more.
+fn with_verb<'a>(
+    alloc: Global,
+    command: Command<'a>,
+    name: &'a str,
+    about: &'a str,
+    example: &'a str,
+    kinds: &'a [&'a str],
+) -> Result<Command<'a>, AllocError>
+    ensures { IfOk result (λ with. app_of with
+        ≡ with_subcommand (app_of command.entry) (verb_app name.entry.now kinds.entry).top) }
+{
+    command.subcommand(verb_command(alloc, name, about, example, kinds)?)
 }
 
 // A verb, with the kinds of recording that it takes and the options of the link.

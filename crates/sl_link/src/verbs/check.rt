@@ -1,10 +1,10 @@
-//! What is amiss in a recording as lines.
-ghost use Rattle.std.specs.Prelude.{◌≡◌, ◌-◌, ◌≤◌, [], length, flat_map, IfOk, IfErr, OnOk};
+//! The anomalies of a recording as lines.
+ghost use Rattle.std.specs.Prelude.{◌≡◌, ◌≤◌, [], length, flat_map, IfOk, IfErr, OnOk};
 ghost use Rattle.std.specs.List.{concat};
 ghost use Rattle.sl_link.specs.Io.Output.{Adds, StopsAdding};
 ghost use Rattle.sl_link.specs.Link.Managed.{Parameters};
 ghost use Rattle.sl_link.specs.Verbs.Check.Checking.{HasChecked};
-ghost use Rattle.sl_link.specs.Verbs.Check.Lines.{amiss_by};
+ghost use Rattle.sl_link.specs.Verbs.Check.Lines.{anomalies_by};
 ghost use Rattle.sl_link.specs.Verbs.Listing.{Frames};
 
 mod checked;
@@ -25,7 +25,7 @@ use crate::verbs::check::lines::{push_totals, remainder_lines};
 use std::alloc::Global;
 use std::io::Write;
 
-/// Lists what is amiss in the frames and after them.
+/// Lists the anomalies of the frames, and those after them.
 #[derive(Drop)]
 pub struct Check<D: Checked> {
     delivery: D,
@@ -35,7 +35,7 @@ pub struct Check<D: Checked> {
 impl<D: Checked> Check<D> {
     /// No frame has been checked.
     pub fn begin(alloc: Global, managed: &Managed) -> Check<D>
-        ensures { HasChecked (D.kind managed.now) (amiss_by D.lines_of (D.found managed.now))
+        ensures { HasChecked (D.kind managed.now) (anomalies_by D.lines_of (D.found managed.now))
             (D.has_processed result.delivery managed.now) [] result.so_far }
     {
         Check {
@@ -47,13 +47,13 @@ impl<D: Checked> Check<D> {
 
 impl<D: Checked> Verb for Check<D> {
     ghost use Rattle.sl_link.specs.Verbs.Check.Checking.{HasChecked};
-    ghost use Rattle.sl_link.specs.Verbs.Check.Lines.{amiss_by, check_listing};
+    ghost use Rattle.sl_link.specs.Verbs.Check.Lines.{anomalies_by, check_listing};
 
     ghost is_frame = { D.is_frame };
 
-    ghost listing = { λ p. check_listing (D.kind p) (amiss_by D.lines_of (D.found p)) (D.open_at p) };
+    ghost listing = { λ p. check_listing (D.kind p) (anomalies_by D.lines_of (D.found p)) (D.open_at p) };
 
-    ghost has_listed = { λ verb p frames. HasChecked (D.kind p) (amiss_by D.lines_of (D.found p))
+    ghost has_listed = { λ verb p frames. HasChecked (D.kind p) (anomalies_by D.lines_of (D.found p))
         (D.has_processed verb.delivery p) frames verb.so_far };
 
     ghost wants_memory = { D.wants_memory };
@@ -61,7 +61,7 @@ impl<D: Checked> Verb for Check<D> {
     fn frame<W: Write>(&mut self, managed: &Managed, frame: &[u8], out: &mut Output<W>) -> Written {
         out.make_room()?;
         let (report, found) = self.delivery.deliver(managed, frame, &mut DiscardPackets)?;
-        let anomalies = D::amiss_lines(&mut out.lines, self.so_far.octets(), found);
+        let anomalies = D::anomaly_lines(&mut out.lines, self.so_far.octets(), found);
         let report = FrameReport {
             anomalies,
             ..report

@@ -74,7 +74,7 @@ impl<D: Printed> Packets<D> {
 
 impl<D: Printed> Verb for Packets<D> {
     ghost use Rattle.sl_link.specs.Kind.Delivery.{HasDelivered};
-    ghost use Rattle.sl_link.specs.Verbs.Packets.Printed.{packets_listing};
+    ghost use Rattle.sl_link.specs.Verbs.Packets.Line.{packets_listing};
 
     ghost is_frame = { D.is_frame };
 

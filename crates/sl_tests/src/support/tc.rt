@@ -93,7 +93,7 @@ pub fn counts(step: &TcStep) -> (Verdict, u32, u32) {
     (step.verdict(), step.packets(), step.idle())
 }
 
-/// What is amiss with a unit: whether it is out of sequence, how many octets of an incomplete series are dropped,
+/// The anomalies of a unit: whether it is out of sequence, how many octets of an incomplete series are dropped,
 /// whether its series is too long, and how many octets are left after its packets.
 pub fn anomalies(step: &TcStep) -> (bool, Option<u32>, bool, u32) {
     (step.stray(), step.dropped(), step.long(), step.tail())
@@ -109,8 +109,8 @@ pub fn received<S: PacketSink>(
     Ok(counts(&step))
 }
 
-/// What is amiss with the unit of a frame of spacecraft 1.
-pub fn amiss<S: PacketSink>(
+/// The anomalies of the unit of a frame of spacecraft 1.
+pub fn anomalies_of<S: PacketSink>(
     receiver: &mut Receiver,
     octets: &[u8],
     sink: &mut S,

@@ -1,4 +1,4 @@
-//! What is amiss with the units of frames of known octets, and what is held after them.
+//! The anomalies of the units of frames of known octets, and what is held after them.
 use super::long_series::segments_received;
 use super::{
     AGAIN_ON_2, FIRST_OF_3, FIRST_ON_1, FIRST_ON_2, LAST_OF_3, LAST_ON_1, LAST_ON_2, MIDDLE_OF_3,
@@ -7,7 +7,7 @@ use super::{
 use crate::support::packets::{has, longest, none};
 use crate::support::recordings::{LEAST, LONGER};
 use crate::support::rows::{Stop, passes};
-use crate::support::tc::{amiss, held, receiver, step_of};
+use crate::support::tc::{anomalies_of, held, receiver, step_of};
 use sl_packet::Delivered;
 use sl_tcflow::Receiver;
 use std::alloc::Global;
@@ -28,7 +28,7 @@ const LAST_BYPASSING: [u8; 7] = [0x20, 0x01, 0x00, 0x06, 0x00, 0x80, 0x33];
 // A first segment without octets on virtual channel 63 and MAP 63, in a frame of type BD.
 const FIRST_ON_LAST: [u8; 6] = [0x20, 0x01, 0xFC, 0x05, 0x00, 0x7F];
 
-// A frame; what is amiss with its unit; and a virtual channel, a MAP, and what is held there after it.
+// A frame; the anomalies of its unit; and a virtual channel, a MAP, and what is held there after it.
 type Frame<'a> = (
     &'a [u8],
     (bool, Option<u32>, bool, u32),
@@ -84,8 +84,8 @@ fn is_told(receiver: &mut Receiver, delivered: &mut Delivered, row: &Frame) -> R
     if *vc > 63 || *map > 63 {
         return Err(Stop::Absent);
     }
-    let amiss = amiss(receiver, frame, delivered)?;
-    Ok(amiss == *told && held(receiver, *vc, *map) == *octets)
+    let anomalies = anomalies_of(receiver, frame, delivered)?;
+    Ok(anomalies == *told && held(receiver, *vc, *map) == *octets)
 }
 
 // Whether nothing is held before the frames, and the packets are these after them.
@@ -105,7 +105,7 @@ fn is_series(
 }
 
 #[test]
-fn what_is_amiss_is_told(rt: HostRuntime) {
+fn anomalies_are_reported(rt: HostRuntime) {
     for (name, frames, packets) in &SERIES {
         passes(&rt, name, is_series(&rt, rt.alloc(), frames, *packets));
     }

@@ -51,7 +51,7 @@ const WITH_TAIL: [u8; 20] = [
     0x00,
 ];
 
-// A frame; the verdict on it, and the packets and the idle ones that end with its unit; and what is amiss with that.
+// A frame; the verdict on it, and the packets and the idle ones that end with its unit; and the anomalies of that.
 type Frame<'a> = (
     &'a [u8],
     (Verdict, u32, u32),
@@ -130,9 +130,9 @@ static FITS: [((u16, bool), &[u8], &[(u16, &[u8])], bool); 13] = [
 
 // Whether that is so of a frame.
 fn is_told(receiver: &mut Receiver, delivered: &mut Delivered, row: &Frame) -> Result<bool, Stop> {
-    let (frame, wanted, amiss) = row;
+    let (frame, wanted, found) = row;
     let step = step_of(receiver, frame, delivered)?;
-    Ok(counts(&step) == *wanted && anomalies(&step) == *amiss)
+    Ok(counts(&step) == *wanted && anomalies(&step) == *found)
 }
 
 // Whether nothing is held on virtual channel 5, whose CLCW is this.

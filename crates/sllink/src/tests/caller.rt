@@ -1,7 +1,9 @@
 //! Callers whose own contract is what the normal forms promise, and nothing else of the engines.
 ghost use Rattle.std.specs.Prelude.{◌≡◌, ◌↔◌, IsTrue, IfOk};
-ghost use Rattle.sl_link.specs.Normalise.Tm.{tm_normal_form, tm_packets};
-ghost use Rattle.sl_link.specs.Normalise.Tc.{tc_normal_form, tc_packets};
+ghost use Rattle.sl_link.specs.Kind.Tm.{tm_packets};
+ghost use Rattle.sl_link.specs.Normalise.Tm.{tm_normal_form};
+ghost use Rattle.sl_link.specs.Kind.Tc.{tc_packets};
+ghost use Rattle.sl_link.specs.Normalise.Tc.{tc_normal_form};
 
 use super::support::recordings::{TC_BYPASSING, TC_FRAME, TM_FRAME};
 use super::support::rows::{Stop, passes};

@@ -153,7 +153,7 @@ const HELP: [(&str, &[&str]); 23] = [
 // The verbs in their order, each with what is said of it.
 const VERBS: [(&str, &str); 4] = [
     ("show", "List the frames of a recording\n"),
-    ("check", "List what is amiss in a recording\n"),
+    ("check", "List the anomalies of a recording\n"),
     ("packets", "List the packets of a recording\n"),
     ("normalise", "Write the normal form of a recording\n"),
 ];

@@ -34,7 +34,7 @@ const RECORDED: [Recorded; 14] = [
     (Kind::Tc, 24, false, 0, &[WITH_IDLE]),
 ];
 
-// What is amiss in long recordings.
+// The anomalies of long recordings.
 const OF_LONGEST: &str = "frames 2522 skipped 0 packets 1 idle 1 anomalies 0\n";
 
 const OF_WAITING: &str = "frames 258 skipped 0 packets 3 idle 1 anomalies 0\n";
@@ -45,7 +45,7 @@ const OF_TOO_LONG: &str =
 const OF_NO_OCTETS: &str =
     "6000 open vc 0 map 0 octets 0\nframes 1000 skipped 0 packets 0 idle 0 anomalies 1\n";
 
-// Kind and length of long recordings, and what is amiss in them.
+// Kind and length of long recordings, and their anomalies.
 const LONG_RECORDINGS: [(Kind, u16, &str); 4] = [
     (Kind::Tm, 32, OF_LONGEST),
     (Kind::Tm, 32, OF_WAITING),
@@ -219,9 +219,9 @@ fn without_octets(alloc: Global) -> Result<Vec<u8>, AllocError> {
     Ok(recording)
 }
 
-// The recordings by their listings of what is amiss.
-fn long(alloc: Global, amiss: &str) -> Result<Vec<u8>, Stop> {
-    match amiss {
+// The recordings by the listings of their anomalies.
+fn long(alloc: Global, anomalies: &str) -> Result<Vec<u8>, Stop> {
+    match anomalies {
         OF_LONGEST => Ok(longest(alloc)?),
         OF_WAITING => waiting(alloc),
         OF_TOO_LONG => Ok(too_long(alloc)?),
@@ -230,18 +230,22 @@ fn long(alloc: Global, amiss: &str) -> Result<Vec<u8>, Stop> {
     }
 }
 
-// Whether a recording passes, also in pieces, and this is what is amiss with it.
-fn is_long(alloc: Global, kind: Kind, length: u16, amiss: &str) -> Result<bool, Stop> {
-    let recording = long(alloc, amiss)?;
+// Whether a recording passes, also in pieces, and these are its anomalies.
+fn is_long(alloc: Global, kind: Kind, length: u16, anomalies: &str) -> Result<bool, Stop> {
+    let recording = long(alloc, anomalies)?;
     let link = Link::new(kind, length, false, 0, 1_000_000)?;
-    let is_checked = link.writes(alloc, Verb::Check, &recording, amiss.as_bytes())?;
+    let is_checked = link.writes(alloc, Verb::Check, &recording, anomalies.as_bytes())?;
     Ok(is_checked && is_passed_in_pieces(alloc, &link, &recording)?)
 }
 
 #[test]
 fn recordings_are_long(rt: HostRuntime) {
-    for (kind, length, amiss) in &LONG_RECORDINGS {
-        passes(&rt, amiss, is_long(rt.alloc(), *kind, *length, amiss));
+    for (kind, length, anomalies) in &LONG_RECORDINGS {
+        passes(
+            &rt,
+            anomalies,
+            is_long(rt.alloc(), *kind, *length, anomalies),
+        );
     }
 }
 

@@ -1,4 +1,4 @@
-//! The listings of what is amiss in TC recordings, and of their packets.
+//! The listings of the anomalies of TC recordings, and of their packets.
 use super::support::engines::ALL;
 use super::support::recordings::{
     DIVIDED, FIRST_OF_3, IN_WINDOW, LAST_OF_3, LOCKED_OUT, MIDDLE_OF_3, MIXED, SECOND, SKIPPED,

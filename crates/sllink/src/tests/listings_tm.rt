@@ -1,4 +1,4 @@
-//! The listings of what is amiss in TM recordings, and of their packets.
+//! The listings of the anomalies of TM recordings, and of their packets.
 use super::support::engines::{ALL, Kind, Link, Verb};
 use super::support::recordings::{
     AROUND_IDLE, BEGUN, ENDED, FIRST, FIVES, FOREIGN, FULL, LONG, TEN_FILLED, THROUGH,
@@ -143,7 +143,7 @@ fn listings_of_recordings(rt: HostRuntime) {
     }
 }
 
-// Whether a frame whose error control field is wrong is amiss.
+// Whether a frame whose error control field is wrong is an anomaly.
 fn is_skipped(alloc: Global) -> Result<bool, Stop> {
     let recording = octets(alloc, &WITH_FECF)?;
     let link = Link::new(Kind::Tm, 34, true, 0, 1000)?;
@@ -152,6 +152,6 @@ fn is_skipped(alloc: Global) -> Result<bool, Stop> {
 }
 
 #[test]
-fn a_frame_with_a_wrong_error_control_field_is_amiss(rt: HostRuntime) {
+fn a_frame_with_a_wrong_error_control_field_is_an_anomaly(rt: HostRuntime) {
     passes(&rt, &WITH_FECF, is_skipped(rt.alloc()));
 }

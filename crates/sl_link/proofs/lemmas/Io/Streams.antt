@@ -8,7 +8,7 @@ use Rattle.sl_link.specs.declared.link.counted.Counted.{Counted}
 use Rattle.sl_link.specs.declared.link.fault.LinkFault.{LinkFault}
 use Rattle.sl_link.specs.declared.link.fault.LinkFault.TheVariants.{Write, Read, TooLong, Memory}
 use Rattle.sl_link.specs.Link.Counted.{faults_of, HadOneFault, stream_of}
-use Rattle.sl_link.specs.Io.Streams.{IsCaused, Writes, AddsText, IsListingFault, StopsWriting, WritesText}
+use Rattle.sl_link.specs.Io.Streams.{IsCaused, Writes, AddsText, IsWritersFault, StopsWriting, WritesText}
 use Rattle.sl_link.specs.declared.io.output.Output.{Output}
 use Rattle.sl_link.specs.Io.Output.{Adds, StopsAdding}
 
@@ -88,7 +88,7 @@ module _ {W : Type 0} (contents : W → Option (List ℕ)) where
 
 -- ---- an output
 
-since : {W : Type 0} (old mid new : Counted W) (fault : LinkFault) → faults_of mid ≡ faults_of old → IsListingFault mid new fault → IsListingFault old new fault
+since : {W : Type 0} (old mid new : Counted W) (fault : LinkFault) → faults_of mid ≡ faults_of old → IsWritersFault mid new fault → IsWritersFault old new fault
 since old mid new Read kept cause = cause
 since old mid new TooLong kept cause = cause
 since old mid new Memory kept cause = cause ∙ kept

@@ -14,10 +14,10 @@ use Rattle.sl_tcframe.specs.declared.tc_frame.TcSkip.{TcSkip}
 use Rattle.sl_tcframe.specs.TcFrame.{TcFormat, TcView, Content, Ad, Bd, Unlock, SetVr, command_of, content_of, early_reason, field_len, is_cut, tc_header_of, tc_parts_of, read_as, tc_frame, unit_content}
 use Rattle.sl_tcframe.proofs.PartLemmas.{cut_facts}
 use Rattle.sl_tcflow.specs.AcceptedUnit.{views_of}
-use Rattle.sl_tcflow.specs.Receiving.{ReceiverState, HasProcessed, ended_by, unit_channel}
+use Rattle.sl_tcflow.specs.Receiving.{ReceiverState, HasProcessed, ended_by, unit_channel, held_in}
 use Rattle.sl_tcflow.specs.ReceptionParameters.{ReceptionParameters, is_plain}
 use Rattle.sl_tcflow.specs.Recording.{map_channels, packets_in_channel}
-use Rattle.sl_tcflow.proofs.lemmas.Reception.Channel.{held_in, held_other, held_own, packets_other, packets_own, small_map, unit_len}
+use Rattle.sl_tcflow.proofs.lemmas.Reception.Channel.{held_other, held_own, packets_other, packets_own, small_map, unit_len}
 use Rattle.sl_link.specs.Kind.Tc.{HasProcessedTc, WantsMemoryTc, as_read, channel_of, ended_in, held_after, is_incomplete_around, tc_kind}
 use Rattle.sl_link.specs.Kind.Delivery.{AreDelivered, count_of, idle_in, packets_in, with_frame}
 use Rattle.sl_link.specs.Link.Managed.{Parameters, reception_of, tc_format}

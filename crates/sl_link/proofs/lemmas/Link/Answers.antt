@@ -1,6 +1,6 @@
 -- What follows from what a call answers.
 use Rattle.std.proofs.Common.{◌≡◌, Option, None, Some, Result, Ok, Err, subst, sym}
-use Rattle.std.specs.Prelude.{IfErr, IfNone, IfSome}
+use Rattle.std.specs.Prelude.{IfErr, IfNone, IfSome, OnOk}
 use Rattle.std.specs.Result.{IsErrAnd}
 
 -- from what holds where there is no value
@@ -12,6 +12,11 @@ none_then (Some x) p f = tt
 pub both_some : {X : Type 0} {P Q T : X → Type 0} (o : Option X) → IfSome o P → IfSome o Q → ((x : X) → P x → Q x → T x) → IfSome o T
 both_some None p q f = tt
 both_some (Some x) p q f = f x p q
+
+-- from two things that hold at `Ok`
+pub both_ok : {T E P Q X : Type 0} (r : Result T E) → OnOk r P → OnOk r Q → (P → Q → X) → OnOk r X
+both_ok (Ok t) p q f = f p q
+both_ok (Err e) p q f = tt
 
 -- a fault that `?` passes up as it is
 pub passed_up : {T E : Type 0} {e : E} (r : Result T E) (P : E → Type 0) → IsErrAnd r (λ y. y ≡ e) → P e → IfErr r P

@@ -12,8 +12,10 @@ use Rattle.sl_link.specs.Link.Counted.{stream_of}
 use Rattle.sl_link.specs.Io.Streams.{AddsText, StopsWriting, WritesText}
 use Rattle.sl_link.specs.Normalise.Form.{AddsPiece, IsAllMade, KeepsLeft, StopsForm}
 use Rattle.sl_link.specs.Link.Managed.{Parameters, tm_format, tc_format}
-use Rattle.sl_link.specs.Normalise.Tc.{tc_form_of, tc_packets}
-use Rattle.sl_link.specs.Normalise.Tm.{tm_form_of, tm_packets}
+use Rattle.sl_link.specs.Kind.Tc.{tc_packets}
+use Rattle.sl_link.specs.Normalise.Tc.{tc_form_of}
+use Rattle.sl_link.specs.Kind.Tm.{tm_packets}
+use Rattle.sl_link.specs.Normalise.Tm.{tm_form_of}
 use Rattle.sl_link.proofs.lemmas.Io.Streams.{AddsText-trans, all_written, writer_stops_waiting}
 
 -- some octets of a form are made, and those that wait in a text aren't written yet

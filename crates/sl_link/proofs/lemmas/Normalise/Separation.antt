@@ -8,8 +8,10 @@ use Rattle.sl_tmflow.specs.Canonical as tm
 use Rattle.sl_tmflow.proofs.lemmas.Form.Canonical.{delivers}
 use Rattle.sl_tmflow.proofs.lemmas.Delivery.Recording as tm_recording
 use Rattle.sl_link.specs.Link.Managed.{AreAccepted, Parameters, managed_of, reception_of, tc_format, tm_format}
-use Rattle.sl_link.specs.Normalise.Tc.{tc_form_of, tc_normal_form, tc_packets}
-use Rattle.sl_link.specs.Normalise.Tm.{tm_form_of, tm_normal_form, tm_packets}
+use Rattle.sl_link.specs.Kind.Tc.{tc_packets}
+use Rattle.sl_link.specs.Normalise.Tc.{tc_form_of, tc_normal_form}
+use Rattle.sl_link.specs.Kind.Tm.{tm_packets}
+use Rattle.sl_link.specs.Normalise.Tm.{tm_form_of, tm_normal_form}
 use Rattle.sl_link.specs.Normalise.Separation.{FormsTellPackets, TmFormsTellPackets, TcFormsTellPackets}
 use Rattle.sl_link.proofs.lemmas.Link.Managed.{managed_length, managed_greatest, managed_spacecraft}
 

@@ -4,14 +4,14 @@ use Rattle.std.proofs.KnownBytes.{Appends-nil}
 use Rattle.sl_link.specs.declared.link.counted.Counted.{Counted}
 use Rattle.sl_link.specs.declared.link.fault.LinkFault.{LinkFault}
 use Rattle.sl_link.specs.declared.link.fault.LinkFault.TheVariants.{Read, TooLong, Memory, Write}
-use Rattle.sl_link.specs.Io.Streams.{IsCaused, IsReadingAllFault, Reads, ReadsAll, Stops, StopsReadingAll, Translates, Writes, WritesPrefix, WritesText}
+use Rattle.sl_link.specs.Io.Streams.{IsCaused, IsReadersFault, Reads, ReadsAll, Stops, StopsReading, Translates, Writes, WritesPrefix, WritesText}
 use Rattle.sl_link.specs.Link.Counted.{stream_of}
 use Rattle.sl_link.specs.Normalise.Form.{StopsForm}
-use Rattle.sl_link.specs.Verbs.Listing.{WantedMemory}
+use Rattle.sl_link.specs.Pass.{WantedMemory}
 
 module _ {R W : Type 0} {remaining : R → Option (List ℕ)} {contents : W → Option (List ℕ)} {reader reader' : Counted R} {writer : Counted W} {text : List ℕ → List ℕ} {limit : ℕ} where
   -- a fault before anything is written,
-  pub stops_at_reading : {buffer : ℕ} {fault : LinkFault} → StopsReadingAll remaining reader reader' limit buffer fault → Stops remaining contents reader reader' writer writer text limit buffer fault
+  pub stops_at_reading : {buffer : ℕ} {fault : LinkFault} → StopsReading remaining reader reader' limit buffer fault → Stops remaining contents reader reader' writer writer text limit buffer fault
   stops_at_reading {buffer} {fault} s =
       record {
         octets = s.octets;
@@ -20,7 +20,7 @@ module _ {R W : Type 0} {remaining : R → Option (List ℕ)} {contents : W → 
         cause = caused fault s.cause;
       }
     where
-      caused : (f : LinkFault) → IsReadingAllFault reader reader' limit buffer s.octets f → IsCaused remaining contents reader reader' writer writer limit buffer s.octets f
+      caused : (f : LinkFault) → IsReadersFault reader reader' limit buffer s.octets f → IsCaused remaining contents reader reader' writer writer limit buffer s.octets f
       caused Read cause = (cause.0, refl, cause.1)
       caused TooLong cause = (cause.0, refl, cause.1, cause.2)
       caused Memory cause = (cause.0, refl, cause.1)
@@ -32,7 +32,7 @@ module _ {R W : Type 0} {remaining : R → Option (List ℕ)} {contents : W → 
         → Stops remaining contents reader reader' writer writer' text limit buffer fault
     stops_at_form {buffer} {fault} s = elim s [
       | inl refused ↦ subst (λ w. Stops remaining contents reader reader' writer w text limit buffer fault) (sym refused.1)
-          (stops_at_reading (subst (StopsReadingAll remaining reader reader' limit buffer) (sym refused.0) (record { octets = octets; read = r.read; cause = (r.no_fault, r.within) })))
+          (stops_at_reading (subst (StopsReading remaining reader reader' limit buffer) (sym refused.0) (record { octets = octets; read = r.read; cause = (r.no_fault, r.within) })))
       | inr stopped ↦ record {
         octets = octets;
         read = r.read;

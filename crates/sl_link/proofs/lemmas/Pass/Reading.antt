@@ -1,15 +1,15 @@
 -- Pieces read one after another, whose frames are handed over one by one.
-use Rattle.std.proofs.Common.{◌≡◌, ℕ, ◌+◌, ◌^◌, ◌<◌, List, [], ◌∷◌, ◌++◌, length, refl, sym, ◌∙◌, ap, arith, append_assoc, append-nil, length-append, ◌-◌, ◌≤◌, take, Option, length-take-le, inl, inr}
+use Rattle.std.proofs.Common.{◌≡◌, ◌≢◌, ℕ, ◌+◌, ◌^◌, ◌<◌, List, [], ◌∷◌, ◌++◌, length, refl, sym, ◌∙◌, ap, arith, append_assoc, append-nil, length-append, ◌-◌, ◌≤◌, take, Option, length-take-le, inl, inr}
 use Rattle.std.specs.List.{concat, AllByRecursion}
 use Rattle.std.proofs.KnownBytes.{Consumes-nil, Consumes-trans}
 use Rattle.sl_fields.proofs.ListLemmas.{concat-push, each-append}
 use Rattle.sl_link.specs.Link.Managed.{Parameters}
-use Rattle.sl_link.specs.Pass.{CutsFrame, HasTaken, HasTakenAll, StopsPassing, IsReadersFault}
+use Rattle.sl_link.specs.Pass.{CutsFrame, HasTaken, HasTakenAll, StopsPassing}
 use Rattle.sl_link.specs.declared.link.counted.Counted.{Counted}
 use Rattle.sl_link.specs.declared.link.fault.LinkFault.{LinkFault}
 use Rattle.sl_link.specs.declared.link.fault.LinkFault.TheVariants.{Read, TooLong, Memory, Write}
 use Rattle.sl_link.specs.Link.Counted.{stream_of, faults_of}
-use Rattle.sl_link.specs.Io.Streams.{Reads, ReadsSome, StopsReading, IsReadFault}
+use Rattle.sl_link.specs.Io.Streams.{IsReadersFault, Reads, ReadsSome, StopsReading}
 use Rattle.sl_link.proofs.lemmas.Io.Streams.{HadOneFault-since}
 
 -- ---- frames handed over
@@ -91,25 +91,26 @@ module _ {R F : Type 0} {remaining : R → Option (List ℕ)} {is_frame : Parame
       all = all;
     }
 
-  caused : (reader' : Counted R) (most room : ℕ) (buffer octets : List ℕ) (fault : LinkFault) → limit ≡ most → length buffer ≡ room → length octets ≤ length buffer → IsReadFault mid reader' (limit - n) octets fault
+  caused : (reader' : Counted R) (most room buffer : ℕ) (octets : List ℕ) (fault : LinkFault) → limit ≡ most → buffer ≡ room → IsReadersFault mid reader' (limit - n) buffer octets fault
       → IsReadersFault reader reader' most room (s.octets ++ octets) fault
-  caused reader' most room buffer octets Read same fits inside cause =
-      (HadOneFault-since reader mid reader' s.no_fault cause.0, omega (arith, same, s.size, s.allowed, length-append s.octets octets, ap length cause.1))
-  caused reader' most room buffer octets TooLong same fits inside cause =
-      (cause.0 ∙ s.no_fault, omega (arith, same, cause.1, s.size, s.allowed, length-append s.octets octets), omega (arith, same, fits, inside, s.size, s.allowed, length-append s.octets octets))
-  caused reader' most room buffer octets Memory same fits inside cause = absurd cause
-  caused reader' most room buffer octets Write same fits inside cause = absurd cause
+  caused reader' most room buffer octets Read same fits cause =
+      (HadOneFault-since reader mid reader' s.no_fault cause.0, omega (arith, same, cause.1, s.size, s.allowed, length-append s.octets octets))
+  caused reader' most room buffer octets TooLong same fits cause =
+      (cause.0 ∙ s.no_fault, omega (arith, same, cause.1, s.size, s.allowed, length-append s.octets octets), omega (arith, same, fits, cause.2, s.size, s.allowed, length-append s.octets octets))
+  caused reader' most room buffer octets Memory same fits cause = (cause.0 ∙ s.no_fault, omega (arith, same, cause.1, s.size, s.allowed, length-append s.octets octets))
+  caused reader' most room buffer octets Write same fits cause = absurd cause
 
   module _ (front : (p : Parameters) (frame more : List ℕ) → is_frame p frame → frames_of p (frame ++ more) ≡ frame ∷ frames_of p more) {reader' : Counted R} {stopped : List (List ℕ) → LinkFault → Type 0} {fault : LinkFault} where
     -- the reader stopped
-    pub stops_reading : {most room : ℕ} {buffer : List ℕ} → limit ≡ most → length buffer ≡ room → StopsReading remaining mid reader' buffer (limit - n) fault → StopsPassing remaining reader reader' (frames_of p) taken stopped most room fault
-    stops_reading {most} {room} {buffer} same fits r = record {
+    pub stops_reading : {most room buffer : ℕ} → limit ≡ most → buffer ≡ room → StopsReading remaining mid reader' (limit - n) buffer fault → fault ≢ Memory
+        → StopsPassing remaining reader reader' (frames_of p) taken stopped most room fault
+    stops_reading {most} {room} {buffer} same fits r not_memory = record {
       octets = s.octets ++ r.octets;
       read = reads_on reader' r.octets r.read;
       first = s.all.cut.frames;
       later = frames_of p (s.all.cut.rest ++ r.octets);
       in_order = taken_first (more_came r.octets) front;
-      cause = inl (record { done = s.all.cut.done; cause = caused reader' most room buffer r.octets fault same fits r.inside r.cause });
+      cause = inl (s.all.cut.done, not_memory, caused reader' most room buffer r.octets fault same fits r.cause);
     }
 
     -- the sink stopped at a frame of a chunk, or after it
@@ -121,5 +122,5 @@ module _ {R F : Type 0} {remaining : R → Option (List ℕ)} {is_frame : Parame
       first = h.frames;
       later = frames_of p (h.rest ++ left);
       in_order = taken_first h front;
-      cause = inr (record { at = h.done; no_fault = came.no_fault ∙ s.no_fault; within = omega (arith, same, size_next came, came.allowed, s.allowed) });
+      cause = inr (h.done, came.no_fault ∙ s.no_fault, omega (arith, same, size_next came, came.allowed, s.allowed));
     }

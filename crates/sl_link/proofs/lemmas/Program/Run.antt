@@ -15,7 +15,7 @@ use Rattle.sl_link.specs.Program.CommandLine.{AskForHelp, AskForVersion, IsRefus
 use Rattle.sl_link.specs.Io.Streams.{TranslatesAndCounts}
 use Rattle.sl_link.specs.Link.Counted.{stream_of, faults_of, HadOneFault}
 use Rattle.sl_link.specs.Pass.{chunk_size}
-use Rattle.sl_link.specs.Program.Run.{text_of, HasWritten, IsStoppedBy}
+use Rattle.sl_link.specs.Program.Run.{engine_text, HasWritten, IsStoppedBy}
 use Rattle.sl_link.specs.Link.Managed.{Parameters}
 use Rattle.sl_link.specs.Link.Totals.{Counts}
 use Rattle.sl_link.proofs.lemmas.Io.Streams.{caused_writing}
@@ -26,7 +26,7 @@ module _ {R W : Type 0} {remaining : R → Option (List ℕ)} {contents : W → 
       → Keeps (contents (stream_of mid)) (contents (stream_of writer')) → fault ≡ Write → HadOneFault mid writer' → IsStoppedBy remaining contents reader reader' writer writer' asked managed fault
   stopped_flushing {asked} {managed} {fault = fault} counted kept is_write failed =
       let t = counted.translated in
-      let text = text_of asked.verb asked.kind managed t.octets in
+      let text = engine_text asked.verb asked.kind managed t.octets in
       record {
         cause = record {
           octets = t.octets;

@@ -1,33 +1,20 @@
 -- A listing: frame by frame, and of a whole recording, and how it stops.
 use Rattle.std.proofs.Common.{◌≡◌, ℕ, List, [], ◌∷◌, ◌++◌, Option, sym, ◌∙◌, ap, append_assoc, append-nil, ◌-◌, ◌≤◌, length, Result, Ok, Err, subst, inl, inr}
-use Rattle.std.specs.Prelude.{OnOk, IfErr}
 use Rattle.std.specs.List.{concat}
 use Rattle.sl_link.specs.declared.io.output.Output.{Output}
 use Rattle.sl_link.specs.declared.link.fault.LinkFault.{LinkFault}
 use Rattle.sl_link.specs.Io.Output.{Adds, StopsAdding}
-use Rattle.sl_link.specs.Verbs.Listing.{Frames, lines_from, EndsListing, Listing, WantedMemory, listing_text}
+use Rattle.sl_link.specs.Verbs.Listing.{Frames, lines_from, EndsListing, Listing, listing_text}
 use Rattle.sl_link.specs.declared.link.counted.Counted.{Counted}
 use Rattle.sl_link.specs.declared.link.fault.LinkFault.TheVariants.{Read, TooLong, Memory, Write}
 use Rattle.sl_link.specs.Link.Counted.{faults_of}
-use Rattle.sl_link.specs.Io.Streams.{Reads, Writes, Translates, IsCaused, IsListingFault, WritesPrefix}
-use Rattle.sl_link.specs.Pass.{PassesOver, StopsPassing, IsReadersFault}
+use Rattle.sl_link.specs.Io.Streams.{IsCaused, IsReadersFault, IsWritersFault, Reads, Translates, Writes, WritesPrefix}
+use Rattle.sl_link.specs.Pass.{PassesOver, StopsPassing, WantedMemory}
 use Rattle.sl_link.specs.Link.Totals.{Counts}
-use Rattle.sl_link.specs.Tally.{rest_after}
+use Rattle.sl_link.specs.Tally.{remainder_after}
 use Rattle.sl_link.proofs.lemmas.Io.Streams.{adds_both, stops_then, adds_none, stops_first, stops_last}
 
 -- ---- frame by frame
-
-pub both_ok : {T E P Q X : Type 0} (r : Result T E) → OnOk r P → OnOk r Q → (P → Q → X) → OnOk r X
-both_ok (Ok t) p q f = f p q
-both_ok (Err e) p q f = tt
-
-pub one_ok : {T E P X : Type 0} (r : Result T E) → OnOk r P → (P → X) → OnOk r X
-one_ok (Ok t) p f = f p
-one_ok (Err e) p f = tt
-
-pub one_err : {T E : Type 0} {P X : E → Type 0} (r : Result T E) → IfErr r P → ((e : E) → P e → X e) → IfErr r X
-one_err (Ok t) p f = tt
-one_err (Err e) p f = f e p
 
 module _ {X : Type 0} (line : Frames → List ℕ → List X) where
   pub lines_from-append : (before xs ys : Frames) → lines_from line before (xs ++ ys) ≡ lines_from line before xs ++ lines_from line (before ++ xs) ys
@@ -52,13 +39,13 @@ module _ {W : Type 0} {contents : W → Option (List ℕ)} {start old new : Outp
 module _ {R W : Type 0} (remaining : R → Option (List ℕ)) (contents : W → Option (List ℕ)) (l : Listing) (frames_of : List ℕ → Frames) (reader reader' : Counted R) (limit buffer : ℕ) (wants_memory : Frames → Type 0) where
   -- the text after the first frames
   later_text : (octets : List ℕ) (first later : Frames) → frames_of octets ≡ first ++ later
-      → lines_from l.line [] first ++ (lines_from l.line first later ++ l.last (frames_of octets) (rest_after (frames_of octets) octets)) ≡ listing_text frames_of l octets
+      → lines_from l.line [] first ++ (lines_from l.line first later ++ l.last (frames_of octets) (remainder_after (frames_of octets) octets)) ≡ listing_text frames_of l octets
   later_text octets first later e =
-      let end = l.last (frames_of octets) (rest_after (frames_of octets) octets) in
+      let end = l.last (frames_of octets) (remainder_after (frames_of octets) octets) in
       sym (append_assoc (lines_from l.line [] first) (lines_from l.line first later) end)
       ∙ ap (λ t. t ++ end) (sym (lines_from-append l.line [] first later) ∙ ap (lines_from l.line []) (sym e))
 
-  sink_caused : (writer writer' : Counted W) (octets : List ℕ) (fault : LinkFault) → faults_of reader' ≡ faults_of reader → length octets ≤ limit → IsListingFault writer writer' fault
+  sink_caused : (writer writer' : Counted W) (octets : List ℕ) (fault : LinkFault) → faults_of reader' ≡ faults_of reader → length octets ≤ limit → IsWritersFault writer writer' fault
       → IsCaused remaining contents reader reader' writer writer' limit buffer octets fault
   sink_caused writer writer' octets Read kept within cause = absurd cause
   sink_caused writer writer' octets TooLong kept within cause = absurd cause
@@ -69,7 +56,7 @@ module _ {R W : Type 0} (remaining : R → Option (List ℕ)) (contents : W → 
       → IsCaused remaining contents reader reader' writer writer' limit buffer octets fault
   reader_caused writer writer' octets Read kept cause = (cause.0, kept, cause.1)
   reader_caused writer writer' octets TooLong kept cause = (cause.0, kept, cause.1, cause.2)
-  reader_caused writer writer' octets Memory kept cause = absurd cause
+  reader_caused writer writer' octets Memory kept cause = (cause.0, kept, cause.1)
   reader_caused writer writer' octets Write kept cause = absurd cause
 
   module _ (start new : Output W) (empty : start.lines ≡ []) where
@@ -104,12 +91,12 @@ module _ {R W : Type 0} (remaining : R → Option (List ℕ)) (contents : W → 
         (λ frames. StopsAdding contents start (lines_from l.line [] frames) new (wants_memory frames)) limit buffer fault
         → Ends (Err fault)
     stops_frames has_listed fault s =
-        let more = lines_from l.line s.first s.later ++ l.last (frames_of s.octets) (rest_after (frames_of s.octets) s.octets) in
+        let more = lines_from l.line s.first s.later ++ l.last (frames_of s.octets) (remainder_after (frames_of s.octets) s.octets) in
         let text = later_text s.octets s.first s.later s.in_order in
         elim s.cause [
           | inl at ↦
-              let t = at.done.1.adds in (
-                at.done.1.lent,
+              let t = at.0.1.adds in (
+                at.0.1.lent,
                 record {
                   listing = tt;
                   totals = tt;
@@ -122,18 +109,18 @@ module _ {R W : Type 0} (remaining : R → Option (List ℕ)) (contents : W → 
                       front = sym (append_assoc t.written new.lines more) ∙ ap (λ x. x ++ more) (sym t.parts ∙ ap (λ x. x ++ lines_from l.line [] s.first) empty) ∙ text;
                       writes = t.writes;
                     };
-                    cause = reader_caused start.writer.now new.writer.now s.octets fault t.no_fault at.cause;
+                    cause = reader_caused start.writer.now new.writer.now s.octets fault t.no_fault at.2;
                   };
-                  memory = λ is_memory. absurd (subst (IsReadersFault reader reader' limit buffer s.octets) is_memory at.cause);
+                  memory = λ is_memory. absurd (at.1 is_memory);
                 },
               )
           | inr at ↦
-              stops_at (wants_memory s.first) (lines_from l.line [] s.first) more s.octets fault s.read at.no_fault at.within text at.at
+              stops_at (wants_memory s.first) (lines_from l.line [] s.first) more s.octets fault s.read at.1 at.2 text at.0
               (λ wanted. record { octets = s.octets; read = s.read; first = s.first; later = s.later; in_order = s.in_order; wanted = wanted })
         ]
 
     module _ (n : ℕ) (taken : Frames → Type 0) (s : PassesOver remaining reader reader' frames_of taken limit n) (mid : Output W) (listed : Adds contents start (lines_from l.line [] (frames_of s.octets)) mid) where
-      rest_is : n - length (concat (frames_of s.octets)) ≡ rest_after (frames_of s.octets) s.octets
+      rest_is : n - length (concat (frames_of s.octets)) ≡ remainder_after (frames_of s.octets) s.octets
       rest_is = ap (λ k. k - length (concat (frames_of s.octets))) s.size
 
       abbrev last_lines : List ℕ

@@ -12,7 +12,7 @@ loop-taken-init g c =
 pub returns-in_err-taken-clause-fault : goal.returns-in_err-taken-clause-fault
 returns-in_err-taken-clause-fault g c =
     let limit = ap (λ (p : Parameters). p.max_octets) c.managed.view_is in
-    passed_up _ _ c.from_residual.ensures.1 (stops_reading c.loop-taken.invariant g.met.F.Framer.front limit (omega (arith, c.read_some.auto.buffer, c.loop-taken.auto.buffer)) c.in_err-taken.ensures.fault)
+    passed_up _ _ c.from_residual.ensures.1 (stops_reading c.loop-taken.invariant g.met.F.Framer.front limit (omega (arith, c.read_some.auto.buffer, c.loop-taken.auto.buffer)) c.in_err-taken.ensures.fault c.in_err-taken.ensures.not_memory)
 
 pub deliver_chunk-requires : goal.deliver_chunk-requires
 deliver_chunk-requires g c =

@@ -5,3 +5,9 @@ returns-in-Check-Tm-clause-written g c = rw (c.in-Check-Tm.is-0, c.in-Check-Tm.i
 
 pub returns-in-Check-Tc-clause-written : goal.returns-in-Check-Tc-clause-written
 returns-in-Check-Tc-clause-written g c = rw (c.in-Check-Tc.is-0, c.in-Check-Tc.is-1) c.check_tc.ensures.totals
+
+pub returns-in-Packets-Tm-clause-written : goal.returns-in-Packets-Tm-clause-written
+returns-in-Packets-Tm-clause-written g c = rw (c.in-Packets-Tm.is-0, c.in-Packets-Tm.is-1) c.packets_tm.ensures.totals
+
+pub returns-in-Packets-Tc-clause-written : goal.returns-in-Packets-Tc-clause-written
+returns-in-Packets-Tc-clause-written g c = rw (c.in-Packets-Tc.is-0, c.in-Packets-Tc.is-1) c.packets_tc.ensures.totals

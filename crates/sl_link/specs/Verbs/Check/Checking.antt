@@ -2,17 +2,18 @@
 use Rattle.std.specs.Prelude.{◌≡◌, ℕ, ◌+◌, ◌==◌, ◌≤◌, Bool, not, ◌&&◌, is_some, List, [], ◌++◌, length}
 use Rattle.std.specs.List.{concat}
 use Rattle.sl_link.specs.declared.kind.TcFound.{TcFound}
+use Rattle.sl_link.specs.Io.Room.{line_width}
 use Rattle.sl_link.specs.Link.Totals.{Counts}
 use Rattle.sl_link.specs.Kind.Delivery.{HasDelivered, Kind}
 use Rattle.sl_link.specs.Verbs.Check.Tc.{discards}
 use Rattle.sl_link.specs.Verbs.Listing.{lines_from}
 
--- this line was added, of 128 octets at most, or none, and this is the number of lines
-pub record AddsAmiss (old : List ℕ) (amiss : List (List ℕ)) (new : List ℕ) (many : ℕ) : Type 0 where
-  pub text : new ≡ old ++ concat amiss
-  pub number : many ≡ length amiss
+-- this line was added, or none, and this is the number of lines
+pub record AddsAnomalies (old : List ℕ) (lines : List (List ℕ)) (new : List ℕ) (many : ℕ) : Type 0 where
+  pub text : new ≡ old ++ concat lines
+  pub number : many ≡ length lines
   pub few : many ≤ 1
-  pub short : length new ≤ length old + 128
+  pub short : length new ≤ length old + line_width
 
 -- a TC frame has no line, by what is found of it
 abbrev pub is_quiet : TcFound → Bool
@@ -20,6 +21,6 @@ is_quiet found =
     not (discards found.verdict) && (not found.stray && (not (is_some found.dropped)
     && (not found.long && (found.tail == 0))))
 
--- these frames were processed and counted, and so was what is amiss in them
+-- these frames were processed and counted, and so were their anomalies
 abbrev pub HasChecked : Kind → (List (List ℕ) → List ℕ → List (List ℕ)) → (List (List ℕ) → Type 0) → List (List ℕ) → Counts → Type 0
-HasChecked k amiss had frames = HasDelivered k had frames (length (lines_from amiss [] frames))
+HasChecked k anomalies_at had frames = HasDelivered k had frames (length (lines_from anomalies_at [] frames))

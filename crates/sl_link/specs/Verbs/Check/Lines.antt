@@ -1,4 +1,4 @@
--- The lines of what is amiss in a recording, as `check` writes them, and of its totals.
+-- The lines of the anomalies of a recording, as `check` writes them, and of its totals.
 use Rattle.std.specs.Prelude.{ℕ, ◌+◌, ◌==◌, Bool, if◌then◌else◌, List, [], ◌∷◌, ◌++◌, length, flat_map, codes, decimal, Option, None, Some}
 use Rattle.std.specs.List.{concat}
 use Rattle.sl_link.specs.Io.Line.{line_at}
@@ -21,15 +21,15 @@ event_line offset vc map_id event octets =
     ++ some_text (codes " octets ") octets)
 
 -- the same, where the event `holds`
-abbrev pub event_amiss : ℕ → ℕ → Option ℕ → List ℕ → Bool → Option ℕ → List (List ℕ)
-event_amiss offset vc map_id event holds octets =
+abbrev pub event_anomaly : ℕ → ℕ → Option ℕ → List ℕ → Bool → Option ℕ → List (List ℕ)
+event_anomaly offset vc map_id event holds octets =
     if holds then event_line offset vc map_id event octets ∷ [] else []
 
 -- ---- what comes after the frames
 
 -- the line of a remainder, by where it begins and how many octets it has, where there is one
-abbrev pub remainder_amiss : ℕ → ℕ → List (List ℕ)
-remainder_amiss offset octets = if octets == 0 then [] else line_at offset (codes " rest " ++ decimal octets) ∷ []
+abbrev pub remainder_anomaly : ℕ → ℕ → List (List ℕ)
+remainder_anomaly offset octets = if octets == 0 then [] else line_at offset (codes " rest " ++ decimal octets) ∷ []
 
 -- the line of the totals, which comes last
 abbrev pub totals_line : Counts → List ℕ
@@ -42,25 +42,25 @@ totals_line counts =
 
 -- the lines of a frame that comes after others, by what is found of it and the lines of what is found
 -- at an offset, which is where the frame begins
-abbrev pub amiss_by : {Found : Type 0} → (ℕ → Found → List (List ℕ)) → (List (List ℕ) → List ℕ → Found) → List (List ℕ)
+abbrev pub anomalies_by : {Found : Type 0} → (ℕ → Found → List (List ℕ)) → (List (List ℕ) → List ℕ → Found) → List (List ℕ)
     → List ℕ → List (List ℕ)
-amiss_by lines found before frame = lines (length (concat before)) (found before frame)
+anomalies_by lines found before frame = lines (length (concat before)) (found before frame)
 
 -- the lines after frames: that of the remainder, which has `rest` octets, and those of what is
 -- incomplete on each channel at the end of the recording
-abbrev pub end_amiss : Kind → (ℕ → List (List ℕ) → ℕ → List (List ℕ)) → List (List ℕ) → ℕ → List (List ℕ)
-end_amiss k open_at frames rest = remainder_amiss (length (concat frames)) rest ++ flat_map (open_at (length (concat frames) + rest) frames) k.channels
+abbrev pub end_anomalies : Kind → (ℕ → List (List ℕ) → ℕ → List (List ℕ)) → List (List ℕ) → ℕ → List (List ℕ)
+end_anomalies k open_at frames rest = remainder_anomaly (length (concat frames)) rest ++ flat_map (open_at (length (concat frames) + rest) frames) k.channels
 
 -- what is counted: each line but that of the totals is an anomaly
 abbrev pub check_counted : Kind → (List (List ℕ) → List ℕ → List (List ℕ)) → (ℕ → List (List ℕ) → ℕ → List (List ℕ)) → List (List ℕ) → ℕ → Counts
-check_counted k amiss open_at frames rest =
-    record (counted k frames rest) { anomalies = length (lines_from amiss [] frames) + length (end_amiss k open_at frames rest) }
+check_counted k anomalies_at open_at frames rest =
+    record (counted k frames rest) { anomalies = length (lines_from anomalies_at [] frames) + length (end_anomalies k open_at frames rest) }
 
 -- the listing: the lines of each frame, those after the last one, and the totals
 abbrev pub check_listing : Kind → (List (List ℕ) → List ℕ → List (List ℕ)) → (ℕ → List (List ℕ) → ℕ → List (List ℕ)) → Listing
-check_listing k amiss open_at =
+check_listing k anomalies_at open_at =
     record {
-      line = λ before frame. concat (amiss before frame);
-      last = λ frames rest. concat (end_amiss k open_at frames rest) ++ totals_line (check_counted k amiss open_at frames rest);
-      counts = check_counted k amiss open_at;
+      line = λ before frame. concat (anomalies_at before frame);
+      last = λ frames rest. concat (end_anomalies k open_at frames rest) ++ totals_line (check_counted k anomalies_at open_at frames rest);
+      counts = check_counted k anomalies_at open_at;
     }

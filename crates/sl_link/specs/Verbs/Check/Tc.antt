@@ -1,4 +1,4 @@
--- What is amiss in a TC recording, as `check tc` lists it: a line for each, and then the totals.
+-- The anomalies of a TC recording, as `check tc` lists them: a line for each, and then the totals.
 use Rattle.std.specs.Prelude.{ℕ, ◌/◌, ◌%◌, Bool, true, false, nat_lt, if◌then◌else◌, length, codes, List, [], ◌∷◌}
 use Rattle.std.specs.Prelude.{◌++◌, decimal, Option, None, Some, is_some, option_map, Result, Ok, Err}
 use Rattle.sl_cop.specs.declared.verdict.Verdict.{Verdict}
@@ -10,14 +10,15 @@ use Rattle.sl_tcflow.specs.AcceptedUnit.{views_of}
 use Rattle.sl_tcflow.specs.Incomplete.{incomplete_of}
 use Rattle.sl_tcflow.specs.Reception.{segments_of}
 use Rattle.sl_tcflow.specs.ReceptionParameters.{ReceptionParameters}
-use Rattle.sl_link.specs.Verbs.Check.Lines.{amiss_by, check_listing, event_amiss}
+use Rattle.sl_link.specs.Verbs.Check.Lines.{anomalies_by, check_listing, event_anomaly}
 use Rattle.sl_link.specs.declared.kind.TcFound.{TcFound}
 use Rattle.sl_link.specs.Kind.Tc.{tc_found, tc_kind}
 use Rattle.sl_link.specs.Io.Line.{line_at}
 use Rattle.sl_link.specs.Link.Managed.{Parameters, reception_of, tc_format}
 use Rattle.sl_link.specs.Verbs.Show.Tc.{tc_skip_word, verdict_word}
 use Rattle.sl_link.specs.Link.Totals.{Counts}
-use Rattle.sl_link.specs.Verbs.Listing.{Listing, counts_of, listing_text}
+use Rattle.sl_link.specs.Tally.{listing_counts}
+use Rattle.sl_link.specs.Verbs.Listing.{Listing, listing_text}
 
 -- ---- a frame
 
@@ -31,9 +32,9 @@ discards Refused = true
 discards Command = false
 
 -- the line of a frame that FARM-1 discards, which is of type AD
-abbrev pub discarded_amiss : ℕ → TcFound → Option ℕ → List (List ℕ)
-discarded_amiss offset found None = []
-discarded_amiss offset found (Some ns) =
+abbrev pub discarded_anomaly : ℕ → TcFound → Option ℕ → List (List ℕ)
+discarded_anomaly offset found None = []
+discarded_anomaly offset found (Some ns) =
     line_at offset (codes " " ++ verdict_word found.verdict ++ codes " vc " ++ decimal found.vc
     ++ codes " ad " ++ decimal ns) ∷ []
 
@@ -43,28 +44,28 @@ discarded_amiss offset found (Some ns) =
 -- data unit.
 abbrev pub tc_lines : ℕ → Result TcFound TcSkip → List (List ℕ)
 tc_lines offset (Ok found) =
-    (if discards found.verdict then discarded_amiss offset found found.ns else [])
-    ++ event_amiss offset found.vc (Some found.map) (codes " stray") found.stray None
-    ++ event_amiss offset found.vc (Some found.map) (codes " dropped") (is_some found.dropped) found.dropped
-    ++ event_amiss offset found.vc (Some found.map) (codes " long") found.long None
-    ++ event_amiss offset found.vc (Some found.map) (codes " tail") (nat_lt 0 found.tail) (Some found.tail)
+    (if discards found.verdict then discarded_anomaly offset found found.ns else [])
+    ++ event_anomaly offset found.vc (Some found.map) (codes " stray") found.stray None
+    ++ event_anomaly offset found.vc (Some found.map) (codes " dropped") (is_some found.dropped) found.dropped
+    ++ event_anomaly offset found.vc (Some found.map) (codes " long") found.long None
+    ++ event_anomaly offset found.vc (Some found.map) (codes " tail") (nat_lt 0 found.tail) (Some found.tail)
 tc_lines offset (Err reason) = line_at offset (codes " skip " ++ tc_skip_word reason) ∷ []
 
 -- ---- a recording
 
 -- the lines of a frame that comes after `before`
-abbrev pub tc_amiss_after : Parameters → List (List ℕ) → List ℕ → List (List ℕ)
-tc_amiss_after p = amiss_by tc_lines (tc_found p)
+abbrev pub tc_anomalies_after : Parameters → List (List ℕ) → List ℕ → List (List ℕ)
+tc_anomalies_after p = anomalies_by tc_lines (tc_found p)
 
 -- a series that is incomplete after the last frame, with the octets so far, if one is
-abbrev pub incomplete_amiss : ℕ → ℕ → ℕ → Option (List ℕ) → List (List ℕ)
-incomplete_amiss offset vc map_id held =
-    event_amiss offset vc (Some map_id) (codes " open") (is_some held) (option_map length held)
+abbrev pub incomplete_anomaly : ℕ → ℕ → ℕ → Option (List ℕ) → List (List ℕ)
+incomplete_anomaly offset vc map_id held =
+    event_anomaly offset vc (Some map_id) (codes " open") (is_some held) (option_map length held)
 
 -- the same of the virtual channel and MAP with this channel number, 64 VC + MAP
 abbrev pub open_on : ReceptionParameters → ℕ → List TcView → ℕ → List (List ℕ)
 open_on r offset views channel =
-    incomplete_amiss offset (channel / 64) (channel % 64)
+    incomplete_anomaly offset (channel / 64) (channel % 64)
     (incomplete_of (segments_of r (channel / 64) (channel % 64) views))
 
 -- the same after the frames of a recording
@@ -73,7 +74,7 @@ tc_open p offset frames = open_on (reception_of p) offset (views_of (tc_format p
 
 -- the listing
 abbrev pub check_tc_listing : Parameters → Listing
-check_tc_listing p = check_listing (tc_kind p) (tc_amiss_after p) (tc_open p)
+check_tc_listing p = check_listing (tc_kind p) (tc_anomalies_after p) (tc_open p)
 
 -- the text of a recording
 abbrev pub check_tc_text : Parameters → List ℕ → List ℕ
@@ -81,4 +82,4 @@ check_tc_text p = listing_text (tc_frames_of (tc_format p)) (check_tc_listing p)
 
 -- what is counted in a recording
 abbrev pub check_tc_counts : Parameters → List ℕ → Counts
-check_tc_counts p = counts_of (tc_frames_of (tc_format p)) (check_tc_listing p)
+check_tc_counts p = listing_counts (check_tc_listing p).counts (tc_frames_of (tc_format p))

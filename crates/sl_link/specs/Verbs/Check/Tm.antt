@@ -1,24 +1,25 @@
--- What is amiss in a TM recording, as `check tm` lists it: a line for each, and then the totals.
+-- The anomalies of a TM recording, as `check tm` lists them: a line for each, and then the totals.
 use Rattle.std.specs.Prelude.{ℕ, nat_lt, List, [], ◌∷◌, ◌++◌, length, map, codes, decimal, Option, None, Some, Result, Ok, Err}
 use Rattle.sl_tmframe.specs.declared.tm_frame.TmSkip.{TmSkip}
 use Rattle.sl_tmframe.specs.TmDelimited.{tm_frames_of}
 use Rattle.sl_tmflow.specs.Channel.{channel_of, views_of}
 use Rattle.sl_tmflow.specs.Incomplete.{incomplete_of}
-use Rattle.sl_link.specs.Verbs.Check.Lines.{amiss_by, check_listing, event_amiss, event_line}
+use Rattle.sl_link.specs.Verbs.Check.Lines.{anomalies_by, check_listing, event_anomaly, event_line}
 use Rattle.sl_link.specs.declared.kind.TmFound.{TmFound}
 use Rattle.sl_link.specs.Kind.Tm.{tm_found, tm_kind}
 use Rattle.sl_link.specs.Io.Line.{line_at}
 use Rattle.sl_link.specs.Link.Managed.{Parameters, tm_format}
 use Rattle.sl_link.specs.Verbs.Show.Tm.{tm_skip_word}
 use Rattle.sl_link.specs.Link.Totals.{Counts}
-use Rattle.sl_link.specs.Verbs.Listing.{Listing, counts_of, listing_text}
+use Rattle.sl_link.specs.Tally.{listing_counts}
+use Rattle.sl_link.specs.Verbs.Listing.{Listing, listing_text}
 
 -- ---- a frame
 
 -- another virtual channel frame count was expected
-abbrev pub gap_amiss : ℕ → TmFound → Option ℕ → List (List ℕ)
-gap_amiss offset found None = []
-gap_amiss offset found (Some expected) =
+abbrev pub gap_anomaly : ℕ → TmFound → Option ℕ → List (List ℕ)
+gap_anomaly offset found None = []
+gap_anomaly offset found (Some expected) =
     line_at offset (codes " gap vc " ++ decimal found.vc ++ codes " expected " ++ decimal expected
     ++ codes " found " ++ decimal found.vc_count) ∷ []
 
@@ -27,17 +28,17 @@ gap_amiss offset found (Some expected) =
 -- packet version stand at a packet start.
 abbrev pub tm_lines : ℕ → Result TmFound TmSkip → List (List ℕ)
 tm_lines offset (Ok found) =
-    gap_amiss offset found found.gap
-    ++ event_amiss offset found.vc None (codes " dropped") (nat_lt 0 found.dropped) (Some found.dropped)
-    ++ event_amiss offset found.vc None (codes " opaque") found.opaque None
-    ++ event_amiss offset found.vc None (codes " foreign") found.foreign None
+    gap_anomaly offset found found.gap
+    ++ event_anomaly offset found.vc None (codes " dropped") (nat_lt 0 found.dropped) (Some found.dropped)
+    ++ event_anomaly offset found.vc None (codes " opaque") found.opaque None
+    ++ event_anomaly offset found.vc None (codes " foreign") found.foreign None
 tm_lines offset (Err reason) = line_at offset (codes " skip " ++ tm_skip_word reason) ∷ []
 
 -- ---- a recording
 
 -- the lines of a frame that comes after `before`
-abbrev pub tm_amiss_after : Parameters → List (List ℕ) → List ℕ → List (List ℕ)
-tm_amiss_after p = amiss_by tm_lines (tm_found p)
+abbrev pub tm_anomalies_after : Parameters → List (List ℕ) → List ℕ → List (List ℕ)
+tm_anomalies_after p = anomalies_by tm_lines (tm_found p)
 
 -- the line of the packet that is incomplete after the last frame of a virtual channel, if one is
 abbrev pub tm_open : Parameters → ℕ → List (List ℕ) → ℕ → List (List ℕ)
@@ -47,7 +48,7 @@ tm_open p offset frames vc =
 
 -- the listing
 abbrev pub check_tm_listing : Parameters → Listing
-check_tm_listing p = check_listing (tm_kind p) (tm_amiss_after p) (tm_open p)
+check_tm_listing p = check_listing (tm_kind p) (tm_anomalies_after p) (tm_open p)
 
 -- the text of a recording
 abbrev pub check_tm_text : Parameters → List ℕ → List ℕ
@@ -55,4 +56,4 @@ check_tm_text p = listing_text (tm_frames_of p.tm_length) (check_tm_listing p)
 
 -- what is counted in a recording
 abbrev pub check_tm_counts : Parameters → List ℕ → Counts
-check_tm_counts p = counts_of (tm_frames_of p.tm_length) (check_tm_listing p)
+check_tm_counts p = listing_counts (check_tm_listing p).counts (tm_frames_of p.tm_length)

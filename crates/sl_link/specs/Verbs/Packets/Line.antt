@@ -1,9 +1,11 @@
 -- A packet as `packets` lists it (CCSDS 133.0-B): the fields of its primary header, how many octets
--- it has, and these in hexadecimal.
-use Rattle.std.specs.Prelude.{ℕ, List, ◌++◌, length, take, codes, decimal}
+-- it has, and these in hexadecimal. The listing of frames by such lines.
+use Rattle.std.specs.Prelude.{ℕ, List, [], ◌++◌, length, take, codes, decimal}
 use Rattle.hex.specs.Hex.{encode_lower}
 use Rattle.sl_fields.specs.Field.{bit_of}
 use Rattle.sl_fields.specs.PacketHeader.{PacketFields, packet_header}
+use Rattle.sl_link.specs.Kind.Delivery.{Kind, counted}
+use Rattle.sl_link.specs.Verbs.Listing.{Listing}
 
 -- the primary header: its fields from the secondary header flag on, and then all of them
 abbrev pub numbers_text : PacketFields → List ℕ
@@ -28,3 +30,7 @@ packet_text packet = fields_text packet ++ encode_lower packet ++ codes "\n"
 -- the whole line, which begins with the name of the channel
 abbrev pub packet_line : List ℕ → List ℕ → List ℕ
 packet_line channel packet = channel ++ packet_text packet
+
+-- the listing of frames of a kind with these lines
+abbrev pub packets_listing : Kind → (List (List ℕ) → List ℕ → List ℕ) → Listing
+packets_listing k lines = record { line = lines; last = λ frames rest. []; counts = counted k }

@@ -5,8 +5,8 @@ use Rattle.sl_link.specs.declared.verbs.packets.printer.ChannelKind.{ChannelKind
 use Rattle.sl_link.specs.declared.verbs.packets.printer.ChannelKind.TheVariants.{VirtualChannel, Map}
 use Rattle.sl_link.specs.Verbs.Packets.Printed.{channel_name}
 use Rattle.sl_link.specs.Link.Managed.{Parameters}
-use Rattle.sl_link.specs.Normalise.Tc.{tc_packets}
-use Rattle.sl_link.specs.Normalise.Tm.{tm_packets}
+use Rattle.sl_link.specs.Kind.Tc.{tc_packets}
+use Rattle.sl_link.specs.Kind.Tm.{tm_packets}
 use Rattle.sl_link.specs.Verbs.Packets.Line.{packet_line}
 use Rattle.sl_link.specs.Verbs.Packets.Tc.{packets_tc_text}
 use Rattle.sl_link.specs.Verbs.Packets.Tm.{packets_tm_text}

@@ -1,13 +1,12 @@
--- The lines of the packets of a kind of frames, how these name their channels, and the listing of them.
-use Rattle.std.specs.Prelude.{ℕ, ◌/◌, ◌%◌, List, ◌≡◌, [], map}
+-- The lines of the packets of a kind of frames, and how these name their channels.
+use Rattle.std.specs.Prelude.{ℕ, ◌/◌, ◌%◌, List, ◌≡◌, map}
 use Rattle.std.specs.List.{concat}
 use Rattle.sl_packet.specs.Packets.{without_idle}
 use Rattle.sl_link.specs.declared.verbs.packets.printer.ChannelKind.{ChannelKind}
 use Rattle.sl_link.specs.declared.verbs.packets.printer.ChannelKind.TheVariants.{VirtualChannel, Map}
 use Rattle.sl_link.specs.Verbs.Packets.Tm as tm
 use Rattle.sl_link.specs.Verbs.Packets.Tc as tc
-use Rattle.sl_link.specs.Kind.Delivery.{Kind, counted}
-use Rattle.sl_link.specs.Verbs.Listing.{Listing}
+use Rattle.sl_link.specs.Kind.Delivery.{Kind}
 use Rattle.sl_link.specs.Verbs.Packets.Line.{packet_line}
 
 -- a channel by its number: a virtual channel, or virtual channel v and MAP m, whose number is 64 v + m
@@ -23,12 +22,3 @@ lines_on kind channel packets = concat (map (packet_line (channel_name kind chan
 abbrev pub ArePrinted : Kind → ChannelKind → (List (List ℕ) → List ℕ → List ℕ) → Type 0
 ArePrinted k kind lines = (before : List (List ℕ)) (frame : List ℕ)
     → lines before frame ≡ lines_on kind (k.channel frame) (without_idle (k.ended before frame))
-
--- the listing of frames with these lines
-abbrev pub packets_listing : Kind → (List (List ℕ) → List ℕ → List ℕ) → Listing
-packets_listing k lines =
-    record {
-      line = lines;
-      last = λ frames rest. [];
-      counts = counted k;
-    }

@@ -9,9 +9,9 @@ use Rattle.sl_tcframe.specs.TcFrame.{TcView}
 use Rattle.sl_tcflow.specs.AcceptedUnit.{views_of}
 use Rattle.sl_tcflow.specs.Receiving.{ended_by, map_by}
 use Rattle.sl_tcflow.specs.ReceptionParameters.{ReceptionParameters}
-use Rattle.sl_link.specs.Kind.Tc.{as_read, tc_counted}
+use Rattle.sl_link.specs.Kind.Tc.{as_read, tc_kind}
 use Rattle.sl_link.specs.Link.Managed.{Parameters, reception_of, tc_format}
-use Rattle.sl_link.specs.Verbs.Packets.Line.{packet_line}
+use Rattle.sl_link.specs.Verbs.Packets.Line.{packet_line, packets_listing}
 use Rattle.sl_link.specs.Verbs.Listing.{Listing, listing_text}
 
 -- a virtual channel and a MAP
@@ -32,12 +32,7 @@ packets_tc_lines p before frame =
 
 -- the listing: the lines of the packets that end with each frame's unit
 abbrev pub packets_tc_listing : Parameters → Listing
-packets_tc_listing p =
-    record {
-      line = packets_tc_lines p;
-      last = λ frames rest. [];
-      counts = tc_counted p;
-    }
+packets_tc_listing p = packets_listing (tc_kind p) (packets_tc_lines p)
 
 -- the text of a recording
 abbrev pub packets_tc_text : Parameters → List ℕ → List ℕ

@@ -8,9 +8,9 @@ use Rattle.sl_tmframe.specs.TmDelimited.{tm_frames_of}
 use Rattle.sl_tmframe.specs.TmFrame.{TmView}
 use Rattle.sl_tmflow.specs.Channel.{views_of}
 use Rattle.sl_tmflow.specs.Extraction.{ended_by}
-use Rattle.sl_link.specs.Kind.Tm.{as_read, tm_counted}
+use Rattle.sl_link.specs.Kind.Tm.{as_read, tm_kind}
 use Rattle.sl_link.specs.Link.Managed.{Parameters, tm_format}
-use Rattle.sl_link.specs.Verbs.Packets.Line.{packet_line}
+use Rattle.sl_link.specs.Verbs.Packets.Line.{packet_line, packets_listing}
 use Rattle.sl_link.specs.Verbs.Listing.{Listing, listing_text}
 
 -- a virtual channel
@@ -28,12 +28,7 @@ packets_tm_lines p before frame = tm_packet_lines (views_of (tm_format p) p.spac
 
 -- the listing: the lines of the packets that end in each frame
 abbrev pub packets_tm_listing : Parameters → Listing
-packets_tm_listing p =
-    record {
-      line = packets_tm_lines p;
-      last = λ frames rest. [];
-      counts = tm_counted p;
-    }
+packets_tm_listing p = packets_listing (tm_kind p) (packets_tm_lines p)
 
 -- the text of a recording
 abbrev pub packets_tm_text : Parameters → List ℕ → List ℕ

@@ -20,7 +20,8 @@ use Rattle.sl_link.specs.Io.Line.{line_at}
 use Rattle.sl_link.specs.Link.Managed.{Parameters, reception_of, tc_format}
 use Rattle.sl_link.specs.Link.Totals.{Counts}
 use Rattle.sl_link.specs.Verbs.Show.Shown.{show_listing}
-use Rattle.sl_link.specs.Verbs.Listing.{Listing, counts_of, listing_text}
+use Rattle.sl_link.specs.Tally.{listing_counts}
+use Rattle.sl_link.specs.Verbs.Listing.{Listing, listing_text}
 
 -- why a frame is skipped
 abbrev pub tc_skip_word : TcSkip → List ℕ
@@ -106,4 +107,4 @@ show_tc_text p = listing_text (tc_frames_of (tc_format p)) (show_tc_listing p)
 
 -- what is counted in a recording
 abbrev pub show_tc_counts : Parameters → List ℕ → Counts
-show_tc_counts p = counts_of (tc_frames_of (tc_format p)) (show_tc_listing p)
+show_tc_counts p = listing_counts (show_tc_listing p).counts (tc_frames_of (tc_format p))

@@ -12,7 +12,8 @@ use Rattle.sl_link.specs.Io.Line.{line_at}
 use Rattle.sl_link.specs.Link.Managed.{Parameters, tm_format}
 use Rattle.sl_link.specs.Link.Totals.{Counts}
 use Rattle.sl_link.specs.Verbs.Show.Shown.{show_listing}
-use Rattle.sl_link.specs.Verbs.Listing.{Listing, counts_of, listing_text}
+use Rattle.sl_link.specs.Tally.{listing_counts}
+use Rattle.sl_link.specs.Verbs.Listing.{Listing, listing_text}
 
 -- why a frame is skipped
 abbrev pub tm_skip_word : TmSkip → List ℕ
@@ -83,4 +84,4 @@ show_tm_text p = listing_text (tm_frames_of p.tm_length) (show_tm_listing p)
 
 -- what is counted in a recording
 abbrev pub show_tm_counts : Parameters → List ℕ → Counts
-show_tm_counts p = counts_of (tm_frames_of p.tm_length) (show_tm_listing p)
+show_tm_counts p = listing_counts (show_tm_listing p).counts (tm_frames_of p.tm_length)

@@ -2,7 +2,7 @@
 ghost use Rattle.std.specs.Prelude.{◌≡◌, ◌<◌, ◌≤◌, ◌++◌, [], ℕ, List, length, flat_map};
 ghost use Rattle.std.specs.List.{concat};
 ghost use Rattle.sl_link.specs.Io.Room.{HasRoom};
-ghost use Rattle.sl_link.specs.Verbs.Check.Checking.{AddsAmiss};
+ghost use Rattle.sl_link.specs.Verbs.Check.Checking.{AddsAnomalies};
 
 use crate::io::lines::Lines;
 use crate::kind::{Delivery, TcFound, TmFound};
@@ -26,7 +26,7 @@ pub trait Checked: Delivery {
 
     /// Adds the lines of what is found of a frame that begins at `offset`, and answers how many lines
     /// these are.
-    fn amiss_lines(lines: &mut Lines, offset: u64, found: Self::Found) -> u64
+    fn anomaly_lines(lines: &mut Lines, offset: u64, found: Self::Found) -> u64
         requires { HasRoom lines.old }
         ensures text { lines.new ≡ lines.old ++ concat (lines_of offset found) }
         ensures number { result ≡ length (lines_of offset found) }
@@ -55,7 +55,7 @@ pub trait Checked: Delivery {
         requires channel { channel < limit }
         requires room { HasRoom lines.old }
         ensures added { (p : Parameters) (frames : List (List ℕ)) → Self.has_processed self.now p frames
-            → AddsAmiss lines.old (open_at p offset frames channel) lines.new result }
+            → AddsAnomalies lines.old (open_at p offset frames channel) lines.new result }
         ensures few { result ≤ 1 };
 }
 
@@ -68,8 +68,8 @@ impl Checked for Extractor {
 
     ghost limit = { 8 };
 
-    fn amiss_lines(lines: &mut Lines, offset: u64, found: Result<TmFound, TmSkip>) -> u64 {
-        lines_tm::amiss_lines(lines, offset, found)
+    fn anomaly_lines(lines: &mut Lines, offset: u64, found: Result<TmFound, TmSkip>) -> u64 {
+        lines_tm::anomaly_lines(lines, offset, found)
     }
 
     fn open_below(&self) -> u16 {
@@ -97,8 +97,8 @@ impl Checked for Receiver {
 
     ghost limit = { channel_count };
 
-    fn amiss_lines(lines: &mut Lines, offset: u64, found: Result<TcFound, TcSkip>) -> u64 {
-        lines_tc::amiss_lines(lines, offset, found)
+    fn anomaly_lines(lines: &mut Lines, offset: u64, found: Result<TcFound, TcSkip>) -> u64 {
+        lines_tc::anomaly_lines(lines, offset, found)
     }
 
     fn open_below(&self) -> u16 {

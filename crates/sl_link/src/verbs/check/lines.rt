@@ -1,16 +1,16 @@
-//! The lines of what is amiss in a recording, whatever kind its frames are: events of its frames,
+//! The lines of the anomalies of a recording, whatever kind its frames are: events of its frames,
 //! the remainder, and the totals.
 ghost use Rattle.std.specs.Prelude.{◌≡◌, ◌+◌, ◌≤◌, ◌++◌, length, decimal};
 ghost use Rattle.std.specs.List.{concat};
-ghost use Rattle.sl_link.specs.Io.Room.{HasRoom, HasRoomFor};
-ghost use Rattle.sl_link.specs.Verbs.Check.Checking.{AddsAmiss};
-ghost use Rattle.sl_link.specs.Verbs.Check.Lines.{event_amiss, event_line, remainder_amiss, some_text, totals_line};
+ghost use Rattle.sl_link.specs.Io.Room.{HasRoom, HasRoomFor, line_width, number_width};
+ghost use Rattle.sl_link.specs.Verbs.Check.Checking.{AddsAnomalies};
+ghost use Rattle.sl_link.specs.Verbs.Check.Lines.{event_anomaly, event_line, remainder_anomaly, some_text, totals_line};
 
 use crate::io::lines::Lines;
 use crate::io::output::remainder_line;
 use crate::link::totals::Totals;
 
-/// Where an event is amiss: at a frame, on a virtual channel, and in a TC recording on a MAP.
+/// Where an anomaly is: at a frame, on a virtual channel, and in a TC recording on a MAP.
 #[derive(Clone, Copy)]
 pub struct Place {
     pub offset: u64,
@@ -28,9 +28,9 @@ pub fn event_lines(
     holds: bool,
     octets: Option<u32>,
 ) -> u64
-    requires room { HasRoomFor 128 lines.old }
+    requires room { HasRoomFor line_width lines.old }
     requires event { length event.now ≤ 8 }
-    ensures { AddsAmiss lines.old (event_amiss at.offset at.vc at.map event.now holds octets)
+    ensures { AddsAnomalies lines.old (event_anomaly at.offset at.vc at.map event.now holds octets)
         lines.new result }
 {
     if !holds {
@@ -41,7 +41,7 @@ pub fn event_lines(
 }
 
 // Adds the line of an event. Its place comes as numbers: a `Place` was stored before each test, also
-// where nothing is amiss. That was measured.
+// where there is no anomaly. That was measured.
 fn event_line(
     lines: &mut Lines,
     offset: u64,
@@ -50,10 +50,10 @@ fn event_line(
     event: &[u8],
     octets: Option<u32>,
 )
-    requires room { HasRoomFor 128 lines.old }
+    requires room { HasRoomFor line_width lines.old }
     requires event { length event.now ≤ 8 }
     ensures text { lines.new ≡ lines.old ++ event_line offset vc map event.now octets }
-    ensures short { length lines.new ≤ length lines.old + 128 }
+    ensures short { length lines.new ≤ length lines.old + line_width }
 {
     lines.push_number(offset);
     lines.push_text(event);
@@ -66,10 +66,10 @@ fn event_line(
 /// Adds the line of the remainder, where there is one, and answers how many lines that is: one or none.
 pub fn remainder_lines(lines: &mut Lines, offset: u64, octets: u64) -> u64
     requires { HasRoom lines.old }
-    ensures text { lines.new ≡ lines.old ++ concat (remainder_amiss offset octets) }
-    ensures number { result ≡ length (remainder_amiss offset octets) }
+    ensures text { lines.new ≡ lines.old ++ concat (remainder_anomaly offset octets) }
+    ensures number { result ≡ length (remainder_anomaly offset octets) }
     ensures few { result ≤ octets }
-    ensures short { length lines.new ≤ length lines.old + 50 }
+    ensures short { length lines.new ≤ length lines.old + line_width }
 {
     if octets == 0 {
         return 0;
@@ -93,9 +93,9 @@ pub fn push_totals(lines: &mut Lines, totals: &Totals)
 
 // Adds a number and the word before it, if there is one.
 fn push_some(lines: &mut Lines, word: &[u8], number: Option<u32>)
-    requires { HasRoomFor (20 + length word.now) lines.old }
+    requires { HasRoomFor (number_width + length word.now) lines.old }
     ensures text { lines.new ≡ lines.old ++ some_text word.now number }
-    ensures short { length lines.new ≤ length lines.old + (20 + length word.now) }
+    ensures short { length lines.new ≤ length lines.old + (number_width + length word.now) }
 {
     if let Some(number) = number {
         push_part(lines, word, u64::from(number));
@@ -104,9 +104,9 @@ fn push_some(lines: &mut Lines, word: &[u8], number: Option<u32>)
 
 /// Adds a word and a number.
 pub fn push_part(lines: &mut Lines, word: &[u8], number: u64)
-    requires { HasRoomFor (20 + length word.now) lines.old }
+    requires { HasRoomFor (number_width + length word.now) lines.old }
     ensures text { lines.new ≡ lines.old ++ (word.now ++ decimal number) }
-    ensures short { length lines.new ≤ length lines.old + (20 + length word.now) }
+    ensures short { length lines.new ≤ length lines.old + (number_width + length word.now) }
 {
     lines.push_text(word);
     lines.push_number(number);

@@ -1,9 +1,9 @@
-//! The lines of what is amiss in a TC recording.
-ghost use Rattle.std.specs.Prelude.{◌≡◌, ◌+◌, ◌≤◌, if◌then◌else◌, [], ◌++◌, length, codes, Ok};
+//! The lines of the anomalies of a TC recording.
+ghost use Rattle.std.specs.Prelude.{◌≡◌, if◌then◌else◌, [], ◌++◌, length, Ok};
 ghost use Rattle.std.specs.List.{concat};
-ghost use Rattle.sl_link.specs.Io.Room.{HasRoom, HasRoomFor};
-ghost use Rattle.sl_link.specs.Verbs.Check.Checking.{AddsAmiss, is_quiet};
-ghost use Rattle.sl_link.specs.Verbs.Check.Tc.{discarded_amiss, discards, tc_lines};
+ghost use Rattle.sl_link.specs.Io.Room.{HasRoom, HasRoomFor, line_width};
+ghost use Rattle.sl_link.specs.Verbs.Check.Checking.{AddsAnomalies, is_quiet};
+ghost use Rattle.sl_link.specs.Verbs.Check.Tc.{discarded_anomaly, discards, tc_lines};
 
 use crate::io::lines::Lines;
 use crate::kind::TcFound;
@@ -14,7 +14,7 @@ use sl_tcframe::TcSkip;
 
 /// Adds the lines of a frame, and answers how many they are.
 #[inline(always)]
-pub fn amiss_lines(lines: &mut Lines, offset: u64, found: Result<TcFound, TcSkip>) -> u64
+pub fn anomaly_lines(lines: &mut Lines, offset: u64, found: Result<TcFound, TcSkip>) -> u64
     requires { HasRoom lines.old }
     ensures text { lines.new ≡ lines.old ++ concat (tc_lines offset found) }
     ensures number { result ≡ length (tc_lines offset found) }
@@ -35,7 +35,7 @@ pub fn amiss_lines(lines: &mut Lines, offset: u64, found: Result<TcFound, TcSkip
     }
 }
 
-// Whether nothing is amiss, as with most frames.
+// Whether there is no anomaly, as with most frames.
 #[inline(always)]
 fn is_quiet(found: &TcFound) -> bool
     ensures { result ≡ is_quiet found.now }
@@ -58,7 +58,7 @@ fn discards(verdict: Verdict) -> bool
     }
 }
 
-// The lines of what is amiss, in their order. It takes `found` by value, and isn't inlined, so that a frame
+// The lines of the anomalies, in their order. It takes `found` by value, and isn't inlined, so that a frame
 // with no lines needs not store it: that was measured.
 #[cold]
 #[inline(never)]
@@ -83,9 +83,9 @@ fn found_lines(lines: &mut Lines, offset: u64, found: TcFound) -> u64
 
 // Adds the line of a frame of type AD that FARM-1 discards, if the frame is one.
 fn discarded_lines(lines: &mut Lines, offset: u64, found: &TcFound) -> u64
-    requires { HasRoomFor 128 lines.old }
-    ensures { AddsAmiss lines.old (if discards found.now.verdict then
-        discarded_amiss offset found.now found.now.ns else []) lines.new result }
+    requires { HasRoomFor line_width lines.old }
+    ensures { AddsAnomalies lines.old (if discards found.now.verdict then
+        discarded_anomaly offset found.now found.now.ns else []) lines.new result }
 {
     if !discards(found.verdict) {
         return 0;

@@ -1,9 +1,9 @@
-//! The lines of what is amiss in a TM recording.
+//! The lines of the anomalies of a TM recording.
 ghost use Rattle.std.specs.Prelude.{◌≡◌, ◌++◌, length, Ok};
 ghost use Rattle.std.specs.List.{concat};
-ghost use Rattle.sl_link.specs.Io.Room.{HasRoom, HasRoomFor};
-ghost use Rattle.sl_link.specs.Verbs.Check.Checking.{AddsAmiss};
-ghost use Rattle.sl_link.specs.Verbs.Check.Tm.{gap_amiss, tm_lines};
+ghost use Rattle.sl_link.specs.Io.Room.{HasRoom, HasRoomFor, line_width};
+ghost use Rattle.sl_link.specs.Verbs.Check.Checking.{AddsAnomalies};
+ghost use Rattle.sl_link.specs.Verbs.Check.Tm.{gap_anomaly, tm_lines};
 
 use crate::io::lines::Lines;
 use crate::kind::TmFound;
@@ -13,7 +13,7 @@ use sl_tmframe::TmSkip;
 
 /// Adds the lines of a frame, and answers how many they are.
 #[inline(always)]
-pub fn amiss_lines(lines: &mut Lines, offset: u64, found: Result<TmFound, TmSkip>) -> u64
+pub fn anomaly_lines(lines: &mut Lines, offset: u64, found: Result<TmFound, TmSkip>) -> u64
     requires { HasRoom lines.old }
     ensures text { lines.new ≡ lines.old ++ concat (tm_lines offset found) }
     ensures number { result ≡ length (tm_lines offset found) }
@@ -29,7 +29,7 @@ pub fn amiss_lines(lines: &mut Lines, offset: u64, found: Result<TmFound, TmSkip
     }
 }
 
-// The lines of what is amiss, in their order.
+// The lines of the anomalies, in their order.
 #[inline(always)]
 fn found_lines(lines: &mut Lines, offset: u64, found: &TmFound) -> u64
     requires { HasRoom lines.old }
@@ -52,8 +52,9 @@ fn found_lines(lines: &mut Lines, offset: u64, found: &TmFound) -> u64
 // Adds the line of a gap, if another virtual channel frame count was expected.
 #[inline(always)]
 fn gap_lines(lines: &mut Lines, offset: u64, found: &TmFound) -> u64
-    requires { HasRoomFor 128 lines.old }
-    ensures { AddsAmiss lines.old (gap_amiss offset found.now found.now.gap) lines.new result }
+    requires { HasRoomFor line_width lines.old }
+    ensures { AddsAnomalies lines.old (gap_anomaly offset found.now found.now.gap)
+        lines.new result }
 {
     let Some(expected) = found.gap else {
         return 0;

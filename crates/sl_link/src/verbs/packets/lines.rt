@@ -3,7 +3,7 @@ ghost use Rattle.std.specs.Prelude.{◌≡◌, ◌+◌, ◌≤◌, ◌++◌, len
 ghost use Rattle.hex.specs.Hex.{encode_lower};
 ghost use Rattle.sl_link.specs.Verbs.Packets.Line.{fields_text, header_text, numbers_text, packet_text, size_text};
 ghost use Rattle.sl_link.specs.Io.Output.{Adds, StopsAdding};
-ghost use Rattle.sl_link.specs.Io.Room.{HasRoomFor};
+ghost use Rattle.sl_link.specs.Io.Room.{HasRoomFor, fields_width, part_width, text_width, words_width};
 
 use crate::io::lines::Lines;
 use crate::io::output::{Output, Written};
@@ -12,11 +12,12 @@ use sl_fields::{PacketHeader, front};
 use std::io::Write;
 
 /// Adds the line of a packet but for its channel, whose name was added before.
-pub fn packet_line<W: Write>(out: &mut Output<W>, packet: &[u8]) -> Written
+pub fn push_packet_text<W: Write>(out: &mut Output<W>, packet: &[u8]) -> Written
     requires packet { 6 ≤ length packet.now }
-    requires room { HasRoomFor 196 out.old.lines }
+    requires room { HasRoomFor text_width out.old.lines }
     ensures line { OnOk result (Adds W.contents out.old (packet_text packet.now) out.new) }
-    ensures fault { IfErr result (StopsAdding W.contents out.old (packet_text packet.now) out.new ⊥) }
+    ensures fault { IfErr result
+        (StopsAdding W.contents out.old (packet_text packet.now) out.new ⊥) }
 {
     push_fields(&mut out.lines, packet);
     push_octets(out, packet)?;
@@ -28,7 +29,7 @@ pub fn packet_line<W: Write>(out: &mut Output<W>, packet: &[u8]) -> Written
 // Adds the fields of the primary header, and how many octets there are.
 fn push_fields(lines: &mut Lines, packet: &[u8])
     requires packet { 6 ≤ length packet.now }
-    requires room { HasRoomFor 196 lines.old }
+    requires room { HasRoomFor text_width lines.old }
     ensures { lines.new ≡ lines.old ++ fields_text packet.now }
 {
     let (header, _) = front::<6>(packet);
@@ -37,7 +38,7 @@ fn push_fields(lines: &mut Lines, packet: &[u8])
 }
 
 fn push_size(lines: &mut Lines, octets: u64)
-    requires { HasRoomFor 36 lines.old }
+    requires { HasRoomFor words_width lines.old }
     ensures { lines.new ≡ lines.old ++ size_text octets }
 {
     lines.push(b" octets ");
@@ -46,9 +47,9 @@ fn push_size(lines: &mut Lines, octets: u64)
 }
 
 fn push_header(lines: &mut Lines, header: &PacketHeader)
-    requires { HasRoomFor 196 lines.old }
+    requires { HasRoomFor part_width lines.old }
     ensures text { lines.new ≡ lines.old ++ header_text header.now }
-    ensures short { length lines.new ≤ length lines.old + 110 }
+    ensures short { length lines.new ≤ length lines.old + part_width }
 {
     lines.push(b" apid ");
     lines.push_number(u64::from(header.apid()));
@@ -58,9 +59,9 @@ fn push_header(lines: &mut Lines, header: &PacketHeader)
 }
 
 fn push_numbers(lines: &mut Lines, header: &PacketHeader)
-    requires { HasRoomFor 146 lines.old }
+    requires { HasRoomFor fields_width lines.old }
     ensures text { lines.new ≡ lines.old ++ numbers_text header.now }
-    ensures short { length lines.new ≤ length lines.old + 75 }
+    ensures short { length lines.new ≤ length lines.old + fields_width }
 {
     lines.push(b" secondary ");
     push_flag(lines, header.secondary());
@@ -73,7 +74,8 @@ fn push_numbers(lines: &mut Lines, header: &PacketHeader)
 // Adds octets in hexadecimal, in parts for which there is room.
 fn push_octets<W: Write>(out: &mut Output<W>, octets: &[u8]) -> Written
     ensures text { OnOk result (Adds W.contents out.old (encode_lower octets.now) out.new) }
-    ensures fault { IfErr result (StopsAdding W.contents out.old (encode_lower octets.now) out.new ⊥) }
+    ensures fault { IfErr result
+        (StopsAdding W.contents out.old (encode_lower octets.now) out.new ⊥) }
 {
     let mut left = octets;
     while !left.is_empty() {

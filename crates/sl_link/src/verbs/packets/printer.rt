@@ -5,11 +5,11 @@ ghost use Rattle.sl_link.specs.Verbs.Packets.Printed.{channel_name};
 ghost use Rattle.sl_link.specs.Verbs.Packets.Line.{packet_line};
 ghost use Rattle.sl_link.specs.Verbs.Packets.Tc.{channel_text};
 ghost use Rattle.sl_link.specs.Io.Output.{Adds, StopsAdding};
-ghost use Rattle.sl_link.specs.Io.Room.{HasRoom};
+ghost use Rattle.sl_link.specs.Io.Room.{HasRoom, fields_width};
 
 use crate::io::lines::Lines;
 use crate::io::output::{Output, Written};
-use crate::verbs::packets::lines::packet_line;
+use crate::verbs::packets::lines::push_packet_text;
 use sl_packet::{PacketSink, SinkFault};
 use std::io::Write;
 
@@ -73,15 +73,15 @@ fn print_packet<W: Write>(
 {
     out.make_room()?;
     push_channel(&mut out.lines, kind, channel);
-    // No tail call: the proof needs success and fault apart.
-    packet_line(out, packet)?;
+    // Here the whole line was added, at a fault a beginning of it was written: a clause for each.
+    push_packet_text(out, packet)?;
     Ok(())
 }
 
 fn push_channel(lines: &mut Lines, kind: ChannelKind, channel: u16)
     requires { HasRoom lines.old }
     ensures text { lines.new ≡ lines.old ++ channel_name kind channel }
-    ensures short { length lines.new ≤ length lines.old + 50 }
+    ensures short { length lines.new ≤ length lines.old + fields_width }
 {
     match kind {
         ChannelKind::VirtualChannel => {
@@ -96,7 +96,7 @@ fn push_channel(lines: &mut Lines, kind: ChannelKind, channel: u16)
 fn push_map(lines: &mut Lines, vc: u16, map: u16)
     requires { HasRoom lines.old }
     ensures text { lines.new ≡ lines.old ++ channel_text vc map }
-    ensures short { length lines.new ≤ length lines.old + 50 }
+    ensures short { length lines.new ≤ length lines.old + fields_width }
 {
     lines.push(b"vc ");
     lines.push_number(u64::from(vc));

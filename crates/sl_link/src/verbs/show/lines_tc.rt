@@ -10,7 +10,7 @@ ghost use Rattle.sl_tcflow.specs.Series.{header_at};
 ghost use Rattle.sl_link.specs.Kind.Delivery.{with_frame};
 ghost use Rattle.sl_link.specs.Io.Line.{line_at};
 ghost use Rattle.sl_link.specs.Verbs.Show.Tc.{tc_skip_word, flags_word, unit_text, content_text, verdict_word, step_text, tc_view_text, tc_frame_text};
-ghost use Rattle.sl_link.specs.Io.Room.{HasRoom, HasRoomFor};
+ghost use Rattle.sl_link.specs.Io.Room.{HasRoom, HasRoomFor, fields_width, number_width, part_width, text_width, words_width};
 
 use crate::io::lines::Lines;
 use sl_cop::Verdict;
@@ -45,9 +45,9 @@ pub fn tc_frame_line(
 /// Adds why a frame is skipped.
 #[cold]
 pub fn push_skip(lines: &mut Lines, reason: TcSkip)
-    requires { HasRoomFor 236 lines.old }
+    requires { HasRoomFor number_width lines.old }
     ensures text { lines.new ≡ lines.old ++ (codes " skip " ++ tc_skip_word reason) }
-    ensures short { length lines.new ≤ length lines.old + 16 }
+    ensures short { length lines.new ≤ length lines.old + number_width }
 {
     lines.push(b" skip ");
     lines.push_text(match reason {
@@ -62,12 +62,12 @@ pub fn push_skip(lines: &mut Lines, reason: TcSkip)
 }
 
 fn push_view(lines: &mut Lines, plain: bool, farms: &mut Farms, frame: &TcFrame)
-    requires { HasRoomFor 236 lines.old }
+    requires { HasRoomFor text_width lines.old }
     ensures text { (r : ReceptionParameters) (views : List TcView) → HaveStepped r farms.old views
         → lines.new ≡ lines.old ++ tc_view_text plain (farm_of r frame.now.vc views) frame.now }
     ensures farms { (r : ReceptionParameters) (views : List TcView) → HaveStepped r farms.old views
         → HaveStepped r farms.new (views ++ frame.now ∷ []) }
-    ensures short { length lines.new ≤ length lines.old + 120 }
+    ensures short { length lines.new ≤ length lines.old + text_width }
 {
     lines.push(b" frame vc ");
     lines.push_small_number(frame.vc());
@@ -77,13 +77,13 @@ fn push_view(lines: &mut Lines, plain: bool, farms: &mut Farms, frame: &TcFrame)
 
 // Hands a frame to FARM-1 of its virtual channel, and adds the verdict and the CLCW after it.
 fn push_step(lines: &mut Lines, farms: &mut Farms, frame: &TcFrame)
-    requires { HasRoomFor 136 lines.old }
+    requires { HasRoomFor fields_width lines.old }
     ensures text { (r : ReceptionParameters) (views : List TcView) → HaveStepped r farms.old views
         → lines.new ≡ lines.old ++ (codes " " ++ step_text frame.now.vc
         (farm_step r.window (farm_of r frame.now.vc views).state (event_of frame.now.content))) }
     ensures farms { (r : ReceptionParameters) (views : List TcView) → HaveStepped r farms.old views
         → HaveStepped r farms.new (views ++ frame.now ∷ []) }
-    ensures short { length lines.new ≤ length lines.old + 24 }
+    ensures short { length lines.new ≤ length lines.old + fields_width }
 {
     let verdict = farms.step(frame);
     push_frame_verdict(lines, verdict);
@@ -93,9 +93,9 @@ fn push_step(lines: &mut Lines, farms: &mut Farms, frame: &TcFrame)
 // Adds the verdict on a frame, and the name of what follows. Nearly all frames are accepted, and their text is pushed at
 // once: that was measured.
 fn push_frame_verdict(lines: &mut Lines, verdict: Verdict)
-    requires { HasRoomFor 136 lines.old }
+    requires { HasRoomFor words_width lines.old }
     ensures text { lines.new ≡ lines.old ++ (codes " " ++ verdict_word verdict ++ codes " clcw ") }
-    ensures short { length lines.new ≤ length lines.old + 16 }
+    ensures short { length lines.new ≤ length lines.old + words_width }
 {
     match verdict {
         Verdict::Accept => lines.push(b" accept clcw "),
@@ -109,9 +109,9 @@ fn push_frame_verdict(lines: &mut Lines, verdict: Verdict)
 /// Adds a verdict.
 #[cold]
 pub fn push_verdict(lines: &mut Lines, verdict: Verdict)
-    requires { HasRoomFor 96 lines.old }
+    requires { HasRoomFor number_width lines.old }
     ensures text { lines.new ≡ lines.old ++ (codes " " ++ verdict_word verdict) }
-    ensures short { length lines.new ≤ length lines.old + 8 }
+    ensures short { length lines.new ≤ length lines.old + number_width }
 {
     lines.push_text(match verdict {
         Verdict::Accept => b" accept",
@@ -124,10 +124,11 @@ pub fn push_verdict(lines: &mut Lines, verdict: Verdict)
 }
 
 fn push_content(lines: &mut Lines, plain: bool, carried: TcContent)
-    requires room { HasRoomFor 216 lines.old }
+    requires room { HasRoomFor part_width lines.old }
     requires unit { IsContent (content carried) }
-    ensures text { lines.new ≡ lines.old ++ (codes " " ++ content_text plain (content carried.entry)) }
-    ensures short { length lines.new ≤ length lines.old + 70 }
+    ensures text { lines.new
+        ≡ lines.old ++ (codes " " ++ content_text plain (content carried.entry)) }
+    ensures short { length lines.new ≤ length lines.old + part_width }
 {
     match carried {
         TcContent::Ad { ns, unit } => {
@@ -148,10 +149,10 @@ fn push_content(lines: &mut Lines, plain: bool, carried: TcContent)
 }
 
 fn push_unit(lines: &mut Lines, plain: bool, unit: &[u8])
-    requires room { HasRoomFor 196 lines.old }
+    requires room { HasRoomFor fields_width lines.old }
     requires some { 0 < length unit.now }
     ensures text { lines.new ≡ lines.old ++ unit_text plain unit.now }
-    ensures short { length lines.new ≤ length lines.old + 60 }
+    ensures short { length lines.new ≤ length lines.old + fields_width }
 {
     if plain {
         lines.push(b" unit octets ");
@@ -167,9 +168,9 @@ fn push_unit(lines: &mut Lines, plain: bool, unit: &[u8])
 
 // Adds how many octets there are. Most units are short.
 fn push_octet_count(lines: &mut Lines, octets: usize)
-    requires { HasRoomFor 96 lines.old }
+    requires { HasRoomFor number_width lines.old }
     ensures text { lines.new ≡ lines.old ++ decimal octets }
-    ensures short { length lines.new ≤ length lines.old + 20 }
+    ensures short { length lines.new ≤ length lines.old + number_width }
 {
     if octets < 256 {
         lines.push_small_number(octets as u8);
@@ -190,11 +191,11 @@ fn split_unit(unit: &[u8]) -> (SegmentHeader, &[u8])
 
 // The flags can't be foreseen. So one of the texts is chosen and pushed, filled up to the longest: that was measured.
 fn push_flags(lines: &mut Lines, flags: u8)
-    requires room { HasRoomFor 96 lines.old }
+    requires room { HasRoomFor number_width lines.old }
     requires fits { flags < 4 }
     ensures text { lines.new ≡ lines.old ++ (codes " segment " ++ flags_word flags
         ++ codes " map ") }
-    ensures short { length lines.new ≤ length lines.old + 20 }
+    ensures short { length lines.new ≤ length lines.old + number_width }
 {
     let (text, many) = match flags {
         0 => (b" segment middle map ", 20),

@@ -4,7 +4,7 @@ ghost use Rattle.sl_fields.specs.Field.{bit_of};
 ghost use Rattle.sl_tmframe.specs.TmField.{data_field};
 ghost use Rattle.sl_link.specs.Io.Line.{line_at};
 ghost use Rattle.sl_link.specs.Verbs.Show.Tm.{clcw_fields_text, word_text, control_text, tm_skip_word, field_text, counts_text, tm_view_text, tm_frame_text};
-ghost use Rattle.sl_link.specs.Io.Room.{HasRoom, HasRoomFor};
+ghost use Rattle.sl_link.specs.Io.Room.{HasRoom, HasRoomFor, fields_width, number_width, part_width, text_width, words_width};
 
 use crate::io::lines::Lines;
 use sl_fields::Clcw;
@@ -25,9 +25,9 @@ pub fn tm_frame_line(lines: &mut Lines, offset: u64, read: &Result<TmFrame, TmSk
 
 /// Adds why a frame is skipped.
 pub fn push_skip(lines: &mut Lines, reason: TmSkip)
-    requires { HasRoomFor 236 lines.old }
+    requires { HasRoomFor number_width lines.old }
     ensures text { lines.new ≡ lines.old ++ (codes " skip " ++ tm_skip_word reason) }
-    ensures short { length lines.new ≤ length lines.old + 16 }
+    ensures short { length lines.new ≤ length lines.old + number_width }
 {
     lines.push(b" skip ");
     lines.push_text(match reason {
@@ -38,9 +38,9 @@ pub fn push_skip(lines: &mut Lines, reason: TmSkip)
 }
 
 fn push_view(lines: &mut Lines, frame: &TmFrame)
-    requires { HasRoomFor 236 lines.old }
+    requires { HasRoomFor text_width lines.old }
     ensures text { lines.new ≡ lines.old ++ tm_view_text frame.now }
-    ensures short { length lines.new ≤ length lines.old + 135 }
+    ensures short { length lines.new ≤ length lines.old + text_width }
 {
     push_counts(lines, frame);
     lines.push(b" ");
@@ -49,9 +49,9 @@ fn push_view(lines: &mut Lines, frame: &TmFrame)
 }
 
 fn push_counts(lines: &mut Lines, frame: &TmFrame)
-    requires { HasRoomFor 236 lines.old }
+    requires { HasRoomFor words_width lines.old }
     ensures text { lines.new ≡ lines.old ++ counts_text frame.now }
-    ensures short { length lines.new ≤ length lines.old + 28 }
+    ensures short { length lines.new ≤ length lines.old + words_width }
 {
     lines.push(b" frame vc ");
     lines.push_small_number(frame.vc());
@@ -62,9 +62,9 @@ fn push_counts(lines: &mut Lines, frame: &TmFrame)
 }
 
 fn push_field(lines: &mut Lines, field: TmField)
-    requires { HasRoomFor 196 lines.old }
+    requires { HasRoomFor words_width lines.old }
     ensures text { lines.new ≡ lines.old ++ field_text (data_field field.entry) }
-    ensures short { length lines.new ≤ length lines.old + 26 }
+    ensures short { length lines.new ≤ length lines.old + words_width }
 {
     match field {
         TmField::Packets {
@@ -81,9 +81,9 @@ fn push_field(lines: &mut Lines, field: TmField)
 }
 
 fn push_control(lines: &mut Lines, control: Option<[u8; 4]>)
-    requires { HasRoomFor 176 lines.old }
+    requires { HasRoomFor part_width lines.old }
     ensures text { lines.new ≡ lines.old ++ control_text control }
-    ensures short { length lines.new ≤ length lines.old + 80 }
+    ensures short { length lines.new ≤ length lines.old + part_width }
 {
     if let Some(word) = control {
         push_word(lines, &word);
@@ -92,9 +92,9 @@ fn push_control(lines: &mut Lines, control: Option<[u8; 4]>)
 
 // Adds an operational control field: a CLCW, unless its first bit is 1.
 fn push_word(lines: &mut Lines, word: &[u8; 4])
-    requires { HasRoomFor 176 lines.old }
+    requires { HasRoomFor part_width lines.old }
     ensures text { lines.new ≡ lines.old ++ word_text word.now }
-    ensures short { length lines.new ≤ length lines.old + 80 }
+    ensures short { length lines.new ≤ length lines.old + part_width }
 {
     let clcw = Clcw::read(word);
     if clcw.word() == 1 {
@@ -108,9 +108,9 @@ fn push_word(lines: &mut Lines, word: &[u8; 4])
 }
 
 fn push_clcw(lines: &mut Lines, clcw: &Clcw)
-    requires { HasRoomFor 162 lines.old }
+    requires { HasRoomFor fields_width lines.old }
     ensures text { lines.new ≡ lines.old ++ clcw_fields_text clcw.now }
-    ensures short { length lines.new ≤ length lines.old + 60 }
+    ensures short { length lines.new ≤ length lines.old + fields_width }
 {
     lines.push(b" vc ");
     lines.push_small_number(clcw.vc());
@@ -128,7 +128,7 @@ fn push_clcw(lines: &mut Lines, clcw: &Clcw)
 
 /// Adds a flag as 0 or 1.
 pub fn push_flag(lines: &mut Lines, is_set: bool)
-    requires { HasRoomFor 2 lines.old }
+    requires { HasRoomFor 1 lines.old }
     ensures text { lines.new ≡ lines.old ++ decimal (bit_of is_set) }
     ensures short { length lines.new ≡ length lines.old + 1 }
 {

@@ -1,4 +1,4 @@
--- The lines of what is amiss in TC frames are few: fewer for each frame than its octets, and after the last one, for the
+-- The lines of the anomalies of TC frames are few: fewer for each frame than its octets, and after the last one, for the
 -- series that are incomplete, no more than frames.
 use Rattle.std.proofs.Common.{◌≡◌, ◌≢◌, ℕ, ◌/◌, ◌%◌, ◌<◌, ◌≤◌, nat_lt, Bool, true, false, not, if◌then◌else◌, List, [], ◌∷◌, length, take, drop, Option, None, Some, Result, Ok, Err, refl, sym, ◌∙◌, ap, arith, codes, length-append}
 use Rattle.std.specs.Prelude.{flat_map, is_some, option_map, unwrap_or}
@@ -8,8 +8,8 @@ use Rattle.sl_tcframe.specs.declared.tc_frame.TcSkip.{TcSkip}
 use Rattle.sl_tcframe.specs.TcFrame.{TcView, Content, content_of, early_reason, field_len, read_as, tc_header_of}
 use Rattle.sl_tcflow.specs.AcceptedUnit.{views_of}
 use Rattle.sl_tcflow.proofs.lemmas.Reception.Channel.{incomplete_other}
-use Rattle.sl_link.specs.Verbs.Check.Lines.{event_amiss}
-use Rattle.sl_link.specs.Verbs.Check.Tc.{discarded_amiss, discards, incomplete_amiss, open_on, tc_lines, tc_open}
+use Rattle.sl_link.specs.Verbs.Check.Lines.{event_anomaly}
+use Rattle.sl_link.specs.Verbs.Check.Tc.{discarded_anomaly, discards, incomplete_anomaly, open_on, tc_lines, tc_open}
 use Rattle.sl_link.specs.declared.kind.TcFound.{TcFound}
 use Rattle.sl_link.specs.Kind.Tc.{as_read, channel_of, found_after, tc_found, tc_kind}
 use Rattle.sl_link.specs.Kind.Delivery.{with_frame}
@@ -21,7 +21,7 @@ use Rattle.sl_link.proofs.lemmas.Verbs.Check.Lines as few
 
 -- ---- the lines of a frame are few
 
-one_discarded : (offset : ℕ) (found : TcFound) (ns : Option ℕ) → length (discarded_amiss offset found ns) ≤ 1
+one_discarded : (offset : ℕ) (found : TcFound) (ns : Option ℕ) → length (discarded_anomaly offset found ns) ≤ 1
 one_discarded offset found None = omega arith
 one_discarded offset found (Some ns) = omega arith
 
@@ -75,17 +75,17 @@ few_lines offset p before frame whole long = few_by p frame offset (views_of (tc
 -- ---- the series that are incomplete
 
 -- the line of a channel, by whether a series is incomplete there, and by its octets
-pub open_is : (offset vc mid : ℕ) (held : Option (List ℕ)) {octets : ℕ} {opened : Bool} → opened ≡ is_some held → octets ≡ unwrap_or (option_map length held) 0
-    → event_amiss offset vc (Some mid) (codes " open") opened (Some octets) ≡ incomplete_amiss offset vc mid held
-open_is offset vc mid None is has = rw is refl
-open_is offset vc mid (Some held) is has = rw (is, has) refl
+pub open_is : (offset vc map_id : ℕ) (held : Option (List ℕ)) {octets : ℕ} {opened : Bool} → opened ≡ is_some held → octets ≡ unwrap_or (option_map length held) 0
+    → event_anomaly offset vc (Some map_id) (codes " open") opened (Some octets) ≡ incomplete_anomaly offset vc map_id held
+open_is offset vc map_id None is has = rw is refl
+open_is offset vc map_id (Some held) is has = rw (is, has) refl
 
 -- a frame of another channel leaves it
 open_other : (p : Parameters) (offset : ℕ) (views : List TcView) (read : Result TcView TcSkip) (channel : ℕ) → channel_of (reception_of p) read ≢ channel
     → length (open_on (reception_of p) offset (with_frame views read) channel) ≡ length (open_on (reception_of p) offset views channel)
 open_other p offset views (Err reason) channel other = refl
 open_other p offset views (Ok view) channel other =
-    ap (λ (held : Option (List ℕ)). length (incomplete_amiss offset (channel / 64) (channel % 64) held)) (incomplete_other (reception_of p) views view channel (λ e. other (sym e)))
+    ap (λ (held : Option (List ℕ)). length (incomplete_anomaly offset (channel / 64) (channel % 64) held)) (incomplete_other (reception_of p) views view channel (λ e. other (sym e)))
 
 pub few_open : (p : Parameters) (offset : ℕ) (frames : List (List ℕ)) → length (flat_map (tc_open p offset frames) (tc_kind p).channels) ≤ length frames
 few_open p offset frames =

@@ -1,4 +1,4 @@
--- The lines of what is amiss in TM frames are few: four at most for each frame, and after the last one, for the packets that
+-- The lines of the anomalies of TM frames are few: four at most for each frame, and after the last one, for the packets that
 -- are incomplete, no more than frames.
 use Rattle.std.proofs.Common.{◌≡◌, ◌≢◌, ◌==◌, nat_lt, ℕ, ◌<◌, ◌≤◌, List, [], ◌∷◌, length, map, inl, inr, refl, ◌∙◌, ap, arith, append-nil, length-append, codes, Option, None, Some, Result, Ok, Err}
 use Rattle.std.specs.Prelude.{flat_map}
@@ -17,13 +17,13 @@ use Rattle.sl_link.specs.Kind.Delivery.{with_frame}
 use Rattle.sl_link.specs.Kind.Tm.{as_read, tm_found, tm_kind, vc_of}
 use Rattle.sl_link.specs.Link.Managed.{Parameters, tm_format}
 use Rattle.sl_link.specs.Pass.Tm.{is_tm_frame}
-use Rattle.sl_link.specs.Verbs.Check.Lines.{event_amiss, event_line}
-use Rattle.sl_link.specs.Verbs.Check.Tm.{gap_amiss, tm_lines, tm_open}
+use Rattle.sl_link.specs.Verbs.Check.Lines.{event_anomaly, event_line}
+use Rattle.sl_link.specs.Verbs.Check.Tm.{gap_anomaly, tm_lines, tm_open}
 use Rattle.sl_link.proofs.lemmas.Kind.Tm.{tm_delivered, views_next}
 use Rattle.sl_link.proofs.lemmas.Verbs.Check.Lines.{one_event}
 use Rattle.sl_link.proofs.lemmas.Verbs.Check.Lines as few
 
-one_gap : (offset : ℕ) (found : TmFound) (gap : Option ℕ) → length (gap_amiss offset found gap) ≤ 1
+one_gap : (offset : ℕ) (found : TmFound) (gap : Option ℕ) → length (gap_anomaly offset found gap) ≤ 1
 one_gap offset found None = omega arith
 one_gap offset found (Some expected) = omega arith
 
@@ -47,7 +47,7 @@ few_lines offset p before frame whole long = omega (arith, long, four_lines offs
 -- ---- the packets that are incomplete
 
 one_line : (offset vc : ℕ) (xs : List (List ℕ)) → length xs ≤ 1 → AllByRecursion IsShort xs
-    → event_amiss offset vc None (codes " open") (nat_lt 0 (length (concat xs))) (Some (length (concat xs)))
+    → event_anomaly offset vc None (codes " open") (nat_lt 0 (length (concat xs))) (Some (length (concat xs)))
     ≡ map (λ octets. event_line offset vc None (codes " open") (Some (length octets))) xs
 one_line offset vc [] few short = refl
 one_line offset vc (x ∷ []) few short = rw (append-nil x, lt-ltb 0 (length x) short.0.0) refl
@@ -56,7 +56,7 @@ one_line offset vc (x ∷ y ∷ ys) few short = absurd (omega arith)
 -- the line of a virtual channel, by the octets that are held
 pub open_is : (p : Parameters) (offset vc : ℕ) (frames : List (List ℕ)) {octets : ℕ}
     → octets ≡ length (concat (incomplete_of (channel_of vc (views_of (tm_format p) p.spacecraft frames))))
-    → event_amiss offset vc None (codes " open") (nat_lt 0 octets) (Some octets) ≡ tm_open p offset frames vc
+    → event_anomaly offset vc None (codes " open") (nat_lt 0 octets) (Some octets) ≡ tm_open p offset frames vc
 open_is p offset vc frames held =
     let channel = channel_of vc (views_of (tm_format p) p.spacecraft frames) in
     rw held (one_line offset vc (incomplete_of channel) (one_is_incomplete channel) (incomplete_is_short channel))

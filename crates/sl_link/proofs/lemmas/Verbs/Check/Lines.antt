@@ -1,16 +1,16 @@
--- Lines of what is amiss: of a frame, of what is incomplete at the end of a recording, and all that comes after the last frame.
+-- Lines of anomalies: of a frame, of what is incomplete at the end of a recording, and all that comes after the last frame.
 use Rattle.std.proofs.Common.{◌≡◌, ℕ, ◌≤◌, Bool, true, false, List, ◌++◌, length, Option, arith, append_assoc, ◌≢◌, zero, suc, ◌+◌, ◌-◌, ◌<◌, [], ◌∷◌, map, refl, sym, ◌∙◌, ap, subst, append-nil, length-append, ap₂}
 use Rattle.std.specs.List.{concat, range_with_len}
 use Rattle.std.proofs.lemmas.List.Folds.{concat-append}
 use Rattle.std.specs.Prelude.{flat_map}
-use Rattle.sl_link.specs.Verbs.Check.Checking.{AddsAmiss, HasChecked}
-use Rattle.sl_link.specs.Verbs.Check.Lines.{event_amiss, check_counted, end_amiss, remainder_amiss}
+use Rattle.sl_link.specs.Verbs.Check.Checking.{AddsAnomalies, HasChecked}
+use Rattle.sl_link.specs.Verbs.Check.Lines.{event_anomaly, check_counted, end_anomalies, remainder_anomaly}
 use Rattle.sl_link.specs.declared.io.output.Output.{Output}
 use Rattle.sl_link.specs.declared.link.fault.LinkFault.{LinkFault}
 use Rattle.sl_link.specs.Io.Output.{Adds, StopsAdding}
 use Rattle.sl_link.specs.Kind.Delivery.{AreDelivered, Kind, count_of, idle_in, packets_in}
 use Rattle.sl_link.specs.Link.Totals.{Counts}
-use Rattle.sl_link.specs.Tally.{counts_so_far, counts_with_rest}
+use Rattle.sl_link.specs.Tally.{counts_so_far, counts_with_remainder}
 use Rattle.sl_link.specs.Verbs.Listing.{Frames, lines_from}
 use Rattle.sl_link.proofs.lemmas.Io.Streams.{adds_both, adds_lines, stops_first, stops_last}
 use Rattle.sl_link.proofs.lemmas.Kind.Channels.{items_change, no_items}
@@ -19,9 +19,9 @@ use Rattle.sl_link.proofs.lemmas.Verbs.Lister.{lines_from-last}
 -- ---- one group after another
 
 -- an event has one line at most
-pub one_event : (offset vc : ℕ) (mid : Option ℕ) (event : List ℕ) (holds : Bool) (octets : Option ℕ) → length (event_amiss offset vc mid event holds octets) ≤ 1
-one_event offset vc mid event true octets = omega arith
-one_event offset vc mid event false octets = omega arith
+pub one_event : (offset vc : ℕ) (map_id : Option ℕ) (event : List ℕ) (holds : Bool) (octets : Option ℕ) → length (event_anomaly offset vc map_id event holds octets) ≤ 1
+one_event offset vc map_id event true octets = omega arith
+one_event offset vc map_id event false octets = omega arith
 
 -- two groups, end to end
 pub joined : (text : List ℕ) (xs ys : List (List ℕ)) → (text ++ concat xs) ++ concat ys ≡ text ++ concat (xs ++ ys)
@@ -29,11 +29,11 @@ joined text xs ys = simp (append_assoc, concat-append)
 
 -- the groups of a TM frame, and of a TC frame
 pub joined_four : {a b c d e : List ℕ} {ws xs ys zs : List (List ℕ)} {k l m n : ℕ}
-    → AddsAmiss a ws b k → AddsAmiss b xs c l → AddsAmiss c ys d m → AddsAmiss d zs e n → e ≡ a ++ concat (ws ++ xs ++ ys ++ zs)
+    → AddsAnomalies a ws b k → AddsAnomalies b xs c l → AddsAnomalies c ys d m → AddsAnomalies d zs e n → e ≡ a ++ concat (ws ++ xs ++ ys ++ zs)
 joined_four p q r s = rw (s.text, r.text, q.text, p.text) (simp (append_assoc, concat-append))
 
 pub joined_five : {a b c d e f : List ℕ} {vs ws xs ys zs : List (List ℕ)} {k l m n o : ℕ}
-    → AddsAmiss a vs b k → AddsAmiss b ws c l → AddsAmiss c xs d m → AddsAmiss d ys e n → AddsAmiss e zs f o
+    → AddsAnomalies a vs b k → AddsAnomalies b ws c l → AddsAnomalies c xs d m → AddsAnomalies d ys e n → AddsAnomalies e zs f o
     → f ≡ a ++ concat (vs ++ ws ++ xs ++ ys ++ zs)
 joined_five p q r s t = rw (t.text, s.text, r.text, q.text, p.text) (simp (append_assoc, concat-append))
 
@@ -119,30 +119,30 @@ module _ (k : Kind) (laws : AreDelivered k) (line : List (List ℕ) → ℕ → 
 
 -- ---- after the last frame
 
--- what is amiss in one frame more
-pub amiss_more : (amiss : Frames → List ℕ → List (List ℕ)) (frames : Frames) (frame : List ℕ) (number : ℕ) → number ≡ length (amiss frames frame)
-    → length (lines_from amiss [] frames) + number ≡ length (lines_from amiss [] (frames ++ frame ∷ []))
-amiss_more amiss frames frame number is =
-    omega (arith, is, ap length (lines_from-last amiss frames frame), length-append (lines_from amiss [] frames) (amiss frames frame))
+-- the anomalies of one frame more
+pub anomalies_more : (anomalies_at : Frames → List ℕ → List (List ℕ)) (frames : Frames) (frame : List ℕ) (number : ℕ) → number ≡ length (anomalies_at frames frame)
+    → length (lines_from anomalies_at [] frames) + number ≡ length (lines_from anomalies_at [] (frames ++ frame ∷ []))
+anomalies_more anomalies_at frames frame number is =
+    omega (arith, is, ap length (lines_from-last anomalies_at frames frame), length-append (lines_from anomalies_at [] frames) (anomalies_at frames frame))
 
 -- the remainder begins at an offset, which is where the frames end
 module _ (k : Kind) (open_at : ℕ → Frames → ℕ → List (List ℕ)) (frames : Frames) (offset octets : ℕ) (ends : offset ≡ length (concat frames)) (inside : length (concat frames) ≤ octets) where
-  end_is : remainder_amiss offset (octets - offset) ++ flat_map (open_at octets frames) k.channels ≡ end_amiss k open_at frames (octets - length (concat frames))
+  end_is : remainder_anomaly offset (octets - offset) ++ flat_map (open_at octets frames) k.channels ≡ end_anomalies k open_at frames (octets - length (concat frames))
   end_is =
       let rest = octets - length (concat frames) in
       let whole : octets ≡ length (concat frames) + rest = omega (arith, inside) in
-      ap (λ n. remainder_amiss n (octets - n) ++ flat_map (open_at octets frames) k.channels) ends
-      ∙ ap (λ n. remainder_amiss (length (concat frames)) rest ++ flat_map (open_at n frames) k.channels) whole
+      ap (λ n. remainder_anomaly n (octets - n) ++ flat_map (open_at octets frames) k.channels) ends
+      ∙ ap (λ n. remainder_anomaly (length (concat frames)) rest ++ flat_map (open_at n frames) k.channels) whole
 
   -- the lines after them: the remainder's, and then those of what is incomplete
-  pub end_text : concat (remainder_amiss offset (octets - offset)) ++ concat (flat_map (open_at octets frames) k.channels) ≡ concat (end_amiss k open_at frames (octets - length (concat frames)))
-  end_text = sym (concat-append (remainder_amiss offset (octets - offset)) (flat_map (open_at octets frames) k.channels)) ∙ ap concat end_is
+  pub end_text : concat (remainder_anomaly offset (octets - offset)) ++ concat (flat_map (open_at octets frames) k.channels) ≡ concat (end_anomalies k open_at frames (octets - length (concat frames)))
+  end_text = sym (concat-append (remainder_anomaly offset (octets - offset)) (flat_map (open_at octets frames) k.channels)) ∙ ap concat end_is
 
-  pub all_counted : (amiss : Frames → List ℕ → List (List ℕ)) {had : Frames → Type 0} {t : Counts} {remainders incomplete : ℕ} → HasChecked k amiss had frames t
-      → remainders ≡ length (remainder_amiss offset (octets - offset)) → incomplete ≡ length (flat_map (open_at octets frames) k.channels)
-      → counts_with_rest t (octets - offset) (remainders + incomplete) ≡ check_counted k amiss open_at frames (octets - length (concat frames))
-  all_counted amiss {remainders} {incomplete} h first later =
-      let number : remainders + incomplete ≡ length (end_amiss k open_at frames (octets - length (concat frames))) =
-      omega (arith, first, later, ap length end_is, length-append (remainder_amiss offset (octets - offset)) (flat_map (open_at octets frames) k.channels)) in
-      ap (λ (c : Counts). counts_with_rest c (octets - offset) (remainders + incomplete)) h.counts
-      ∙ ap₂ (λ n more. counts_with_rest (counts_so_far k.is_skipped frames (packets_in k frames) (idle_in k frames) (length (lines_from amiss [] frames))) (octets - n) more) ends number
+  pub all_counted : (anomalies_at : Frames → List ℕ → List (List ℕ)) {had : Frames → Type 0} {t : Counts} {remainders incomplete : ℕ} → HasChecked k anomalies_at had frames t
+      → remainders ≡ length (remainder_anomaly offset (octets - offset)) → incomplete ≡ length (flat_map (open_at octets frames) k.channels)
+      → counts_with_remainder t (octets - offset) (remainders + incomplete) ≡ check_counted k anomalies_at open_at frames (octets - length (concat frames))
+  all_counted anomalies_at {remainders} {incomplete} h first later =
+      let number : remainders + incomplete ≡ length (end_anomalies k open_at frames (octets - length (concat frames))) =
+      omega (arith, first, later, ap length end_is, length-append (remainder_anomaly offset (octets - offset)) (flat_map (open_at octets frames) k.channels)) in
+      ap (λ (c : Counts). counts_with_remainder c (octets - offset) (remainders + incomplete)) h.counts
+      ∙ ap₂ (λ n more. counts_with_remainder (counts_so_far k.is_skipped frames (packets_in k frames) (idle_in k frames) (length (lines_from anomalies_at [] frames))) (octets - n) more) ends number

@@ -20,7 +20,7 @@ use Rattle.sl_tcflow.proofs.lemmas.Reception.Channel.{small_map}
 use Rattle.sl_link.specs.declared.verbs.packets.printer.ChannelKind.{ChannelKind}
 use Rattle.sl_link.specs.Kind.Delivery.{AreDelivered, Kind, lists_in, packets_of}
 use Rattle.sl_link.specs.Verbs.Packets.Listed.{ListedPacket, ListsPackets, line_of, packets_listed_on, TmPacketsAreListed, TcPacketsAreListed}
-use Rattle.sl_link.specs.Verbs.Packets.Printed.{ArePrinted, lines_on, packets_listing}
+use Rattle.sl_link.specs.Verbs.Packets.Printed.{ArePrinted, lines_on}
 use Rattle.sl_link.specs.Verbs.Listing.{lines_from, listing_text}
 use Rattle.sl_link.specs.declared.verbs.packets.printer.ChannelKind.TheVariants.{VirtualChannel, Map}
 use Rattle.sl_link.specs.Kind.Tc as tc_deliver
@@ -30,7 +30,7 @@ use Rattle.sl_link.specs.Kind.Tm.{tm_kind, vc_of}
 use Rattle.sl_link.specs.Link.Managed.{Parameters, reception_of, tc_format, tm_format}
 use Rattle.sl_link.specs.Verbs.Packets.Tc.{channel_text, packets_tc_lines, tc_packet_lines}
 use Rattle.sl_link.specs.Verbs.Packets.Tm.{packets_tm_lines, tm_packet_lines}
-use Rattle.sl_link.specs.Verbs.Packets.Line.{packet_line}
+use Rattle.sl_link.specs.Verbs.Packets.Line.{packet_line, packets_listing}
 use Rattle.sl_link.proofs.lemmas.Kind.Tc.{tc_delivered}
 use Rattle.sl_link.proofs.lemmas.Kind.Tm.{tm_delivered}
 
@@ -164,8 +164,8 @@ tc_lines r views (Err reason) = refl
 tc_lines r views (Ok view) =
     let small = small_map (is_plain r view.vc) view.content in
     let vc : unit_channel r view / 64 ≡ view.vc = omega (arith, small) in
-    let mid : unit_channel r view % 64 ≡ map_by r view = omega (arith, small) in
-    sym (ap₂ (λ v m. concat (map (packet_line (channel_text v m)) (without_idle (ended_by r views view)))) vc mid)
+    let map_is : unit_channel r view % 64 ≡ map_by r view = omega (arith, small) in
+    sym (ap₂ (λ v m. concat (map (packet_line (channel_text v m)) (without_idle (ended_by r views view)))) vc map_is)
 
 pub tc_printed : (p : Parameters) → ArePrinted (tc_kind p) Map (packets_tc_lines p)
 tc_printed p before frame = tc_lines (reception_of p) (accepted.views_of (tc_format p) p.spacecraft before) (tc_deliver.as_read p frame)

@@ -1,4 +1,5 @@
 use Rattle.std.proofs.Common.{◌≡◌, ◌≢◌, ◌∙◌, List, [], ℕ, arith, length, refl, subst, sym}
+use Rattle.std.proofs.lemmas.Result.{MatchResult-weaker, on_ok_weaker}
 use Rattle.std.proofs.lemmas.List.{take_all}
 use Rattle.sl_tcflow.specs.FitsTc.{FitsTc}
 use Rattle.sl_tcflow.proofs.lemmas.Form.Left.{none_at_all}
@@ -11,7 +12,6 @@ use Rattle.sl_link.specs.Normalise.Form.{StopsForm, listed}
 use Rattle.sl_link.proofs.lemmas.Kind.Delivery.{all_kept}
 use Rattle.sl_link.proofs.lemmas.Kind.Tc.{tc_delivered}
 use Rattle.sl_link.proofs.lemmas.Normalise.Form.{fewer_packets, tc_form_delivers, tc_form_is}
-use Rattle.sl_link.proofs.lemmas.Verbs.Lister.{one_err, one_ok}
 use Rattle.sl_link.proofs.normalise.ReceiverFormed.write.Goals as goal
 
 -- each list is of a channel
@@ -31,7 +31,7 @@ returns-clause-written g c =
     let p = c.args.managed.now in
     let lists = c.args.delivered.now.lists in
     let is = tc_form_is p (parameters_of c.managed.inside) lists c.new-form.result c.new-form.ensures.all c.managed.view_is in
-    rw (← all_listed p lists c.requires.1.size) (one_ok c.write_form.result c.write_form.ensures.written (λ written. subst (WritesText g.W.Write.contents c.args.writer.now c.write_form.new.writer) is (written _ refl)))
+    rw (← all_listed p lists c.requires.1.size) (on_ok_weaker c.write_form.result (λ written. subst (WritesText g.W.Write.contents c.args.writer.now c.write_form.new.writer) is (written _ refl)) c.write_form.ensures.written)
 
 pub returns-clause-delivers : goal.returns-clause-delivers
 returns-clause-delivers g c =
@@ -48,6 +48,6 @@ returns-clause-fault g c =
     let lists = c.args.delivered.now.lists in
     let is = tc_form_is p q lists c.new-form.result c.new-form.ensures.all c.managed.view_is in
     let size = c.requires.1.size in
-    rw (← all_listed p lists size) (one_err c.write_form.result c.write_form.ensures.fault (λ fault s.
+    rw (← all_listed p lists size) (MatchResult-weaker c.write_form.result c.write_form.ensures.fault (λ _ u. u) (λ fault s.
     fewer_packets (subst (λ t. StopsForm g.W.Write.contents c.args.writer.now c.write_form.new.writer t (c.new-form.result ≢ []) fault) is (s _ refl))
     (λ some none. some (c.new-form.ensures.all ∙ none_at_all (tc_format q) q.spacecraft q.starts q.plain lists size (λ channel above below. none channel below)))))

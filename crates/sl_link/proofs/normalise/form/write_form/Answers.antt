@@ -1,7 +1,7 @@
 use Rattle.std.proofs.Common.{◌∙◌, arith, refl}
+use Rattle.std.proofs.lemmas.Result.{MatchResult-weaker, on_ok_weaker}
 use Rattle.sl_link.proofs.lemmas.Link.Answers.{passed_up}
 use Rattle.sl_link.proofs.lemmas.Normalise.Form.{chunk_written, first_piece, form_kept, form_stopped, form_written, next_piece}
-use Rattle.sl_link.proofs.lemmas.Verbs.Lister.{one_err, one_ok}
 use Rattle.sl_link.proofs.normalise.form.write_form.Goals as goal
 
 pub returns-in_err-write_chunk-clause-fault : goal.returns-in_err-write_chunk-clause-fault
@@ -31,10 +31,10 @@ returns-in_err-write_chunk-2-clause-fault g c =
 pub returns-clause-written : goal.returns-clause-written
 returns-clause-written g c =
     let same = c.as_slice.ensures.value ∙ c.in_ok-next-2.ensures.none c.if-branch.false in
-    one_ok c.write_text.result c.write_text.ensures.written (λ done octets l.
-    form_written (c.loop-text.invariant.0 octets l) (c.in_ok-next-2.ensures.all c.if-branch.false) same done)
+    on_ok_weaker c.write_text.result (λ done octets l.
+    form_written (c.loop-text.invariant.0 octets l) (c.in_ok-next-2.ensures.all c.if-branch.false) same done) c.write_text.ensures.written
 
 pub returns-clause-fault : goal.returns-clause-fault
 returns-clause-fault g c =
     let same = c.as_slice.ensures.value ∙ c.in_ok-next-2.ensures.none c.if-branch.false in
-    one_err c.write_text.result c.write_text.ensures.fault (λ fault s octets l. form_stopped (c.loop-text.invariant.0 octets l) same s)
+    MatchResult-weaker c.write_text.result c.write_text.ensures.fault (λ _ u. u) (λ fault s octets l. form_stopped (c.loop-text.invariant.0 octets l) same s)

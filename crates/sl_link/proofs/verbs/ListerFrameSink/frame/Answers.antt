@@ -1,4 +1,6 @@
-use Rattle.sl_link.proofs.lemmas.Verbs.Lister.{both_ok, one_err, frame_added, frame_stopped}
+use Rattle.std.proofs.lemmas.Result.{MatchResult-weaker}
+use Rattle.sl_link.proofs.lemmas.Link.Answers.{both_ok}
+use Rattle.sl_link.proofs.lemmas.Verbs.Lister.{frame_added, frame_stopped}
 use Rattle.sl_link.proofs.verbs.ListerFrameSink.frame.Goals as goal
 
 pub returns-clause-taken : goal.returns-clause-taken
@@ -8,4 +10,4 @@ returns-clause-taken g c =
 
 pub returns-clause-fault : goal.returns-clause-fault
 returns-clause-fault g c =
-    one_err c.frame.result c.frame.ensures.fault (λ fault s start before t. (t.1, frame_stopped (g.V.Verb.listing c.args.managed.now).line before c.args.frame.now t.3 (s before t.2)))
+    MatchResult-weaker c.frame.result c.frame.ensures.fault (λ _ u. u) (λ fault s start before t. (t.1, frame_stopped (g.V.Verb.listing c.args.managed.now).line before c.args.frame.now t.3 (s before t.2)))

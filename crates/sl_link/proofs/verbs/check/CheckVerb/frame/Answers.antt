@@ -3,7 +3,7 @@ use Rattle.sl_link.proofs.lemmas.Io.Streams.{adds_both, adds_lines, stops_at_mem
 use Rattle.sl_link.proofs.lemmas.Kind.Delivery.{delivered_more, fits_more, octets_counted}
 use Rattle.sl_link.proofs.lemmas.Link.Answers.{passed_up}
 use Rattle.sl_link.proofs.lemmas.Link.Fault.{memory_alone}
-use Rattle.sl_link.proofs.lemmas.Verbs.Check.Lines.{amiss_more}
+use Rattle.sl_link.proofs.lemmas.Verbs.Check.Lines.{anomalies_more}
 use Rattle.sl_link.proofs.verbs.check.CheckVerb.frame.Goals as goal
 
 pub add-requires-clause-within : goal.add-requires-clause-within
@@ -28,16 +28,16 @@ returns-in_err-report-clause-fault g c =
 
 pub returns-clause-lines : goal.returns-clause-lines
 returns-clause-lines g c = λ before h.
-    adds_both c.in_ok-make_room.ensures.kept (adds_lines _ _ _ _ refl (rw (c.octets.ensures ∙ octets_counted h, c.in_ok-report.ensures.found before h.processed) at c.amiss_lines-anomalies.ensures.text))
+    adds_both c.in_ok-make_room.ensures.kept (adds_lines _ _ _ _ refl (rw (c.octets.ensures ∙ octets_counted h, c.in_ok-report.ensures.found before h.processed) at c.anomaly_lines-anomalies.ensures.text))
 
 pub returns-clause-has_listed : goal.returns-clause-has_listed
 returns-clause-has_listed g c = λ before h.
     let p = c.args.managed.now in
     let frame = c.args.frame.now in
-    let e = c.amiss_lines-anomalies.ensures in
+    let e = c.anomaly_lines-anomalies.ensures in
     let d = c.in_ok-report.ensures.delivers before h.processed in
     let r = d.brings.reported in
     let found = c.in_ok-report.ensures.found before h.processed in
-    let few : c.amiss_lines-anomalies.result < length frame = rw (e.number, found) (e.few p before frame c.requires.2 d.brings.some) in
+    let few : c.anomaly_lines-anomalies.result < length frame = rw (e.number, found) (e.few p before frame c.requires.2 d.brings.some) in
     rw c.add.ensures (delivered_more (g.D.Delivery.kind p) (g.met.D.Delivery.within _ p before h.processed).delivered h (record { skipped = r.skipped; packets = r.packets; idle = r.idle }) (c.in_ok-report.ensures.processed before h.processed)
-    (amiss_more _ before frame _ (rw (c.octets.ensures ∙ octets_counted h, found) at e.number)) few)
+    (anomalies_more _ before frame _ (rw (c.octets.ensures ∙ octets_counted h, found) at e.number)) few)

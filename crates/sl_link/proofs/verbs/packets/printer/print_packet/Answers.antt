@@ -7,11 +7,11 @@ use Rattle.sl_link.proofs.verbs.packets.printer.print_packet.Goals as goal
 pub returns-in_err-make_room-clause-fault : goal.returns-in_err-make_room-clause-fault
 returns-in_err-make_room-clause-fault g c = passed_up _ _ c.from_residual.ensures.1 (stops_before _ _ c.in_err-make_room.ensures.fault)
 
-pub returns-in_err-packet_line-clause-fault : goal.returns-in_err-packet_line-clause-fault
-returns-in_err-packet_line-clause-fault g c =
-    passed_up _ _ c.from_residual-in_err-packet_line.ensures.1
-    (stops_then (adds_both c.in_ok-make_room.ensures.kept (adds_lines _ _ _ (channel_name c.args.kind c.args.channel) refl c.push_channel.ensures.text)) c.in_err-packet_line.ensures.fault)
+pub returns-in_err-push_packet_text-clause-fault : goal.returns-in_err-push_packet_text-clause-fault
+returns-in_err-push_packet_text-clause-fault g c =
+    passed_up _ _ c.from_residual-in_err-push_packet_text.ensures.1
+    (stops_then (adds_both c.in_ok-make_room.ensures.kept (adds_lines _ _ _ (channel_name c.args.kind c.args.channel) refl c.push_channel.ensures.text)) c.in_err-push_packet_text.ensures.fault)
 
 pub returns-clause-line : goal.returns-clause-line
 returns-clause-line g c =
-    adds_both (adds_both c.in_ok-make_room.ensures.kept (adds_lines _ _ _ (channel_name c.args.kind c.args.channel) refl c.push_channel.ensures.text)) c.in_ok-packet_line.ensures.line
+    adds_both (adds_both c.in_ok-make_room.ensures.kept (adds_lines _ _ _ (channel_name c.args.kind c.args.channel) refl c.push_channel.ensures.text)) c.in_ok-push_packet_text.ensures.line

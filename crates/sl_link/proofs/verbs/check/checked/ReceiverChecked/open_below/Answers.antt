@@ -1,16 +1,16 @@
 use Rattle.std.proofs.Common.{◌/◌, ◌%◌, ap, arith}
 use Rattle.sl_tcflow.specs.AcceptedUnit.{views_of}
 use Rattle.sl_link.specs.Link.Managed.{reception_of, tc_format}
-use Rattle.sl_link.specs.Verbs.Check.Tc.{incomplete_amiss}
+use Rattle.sl_link.specs.Verbs.Check.Tc.{incomplete_anomaly}
 use Rattle.sl_link.proofs.lemmas.Verbs.Check.FewTc.{few_open}
 use Rattle.sl_link.proofs.verbs.check.checked.ReceiverChecked.open_below.Goals as goal
 
 pub returns-clause-none : goal.returns-clause-none
 returns-clause-none c = λ p offset frames h channel above below.
     let vc = channel / 64 in
-    let mid = channel % 64 in
-    ap (incomplete_amiss offset vc mid)
-    (c.none_open_from.ensures.none (reception_of p) (views_of (tc_format p) p.spacecraft frames) h.processed vc mid
+    let map_id = channel % 64 in
+    ap (incomplete_anomaly offset vc map_id)
+    (c.none_open_from.ensures.none (reception_of p) (views_of (tc_format p) p.spacecraft frames) h.processed vc map_id
     (omega (arith, below)) (omega (arith, below)) (omega (arith, above)))
 
 pub returns-clause-few : goal.returns-clause-few

@@ -2,7 +2,7 @@ use Rattle.std.proofs.Common.{codes, refl}
 use Rattle.sl_link.specs.Verbs.Packets.Line.{fields_text}
 use Rattle.sl_link.proofs.lemmas.Io.Streams.{adds_both, adds_lines, adds_none, stops_first, stops_last, stops_then}
 use Rattle.sl_link.proofs.lemmas.Link.Answers.{passed_up}
-use Rattle.sl_link.proofs.verbs.packets.lines.packet_line.Goals as goal
+use Rattle.sl_link.proofs.verbs.packets.lines.push_packet_text.Goals as goal
 
 pub returns-in_err-push_octets-clause-fault : goal.returns-in_err-push_octets-clause-fault
 returns-in_err-push_octets-clause-fault g c =

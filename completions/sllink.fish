@@ -7,7 +7,7 @@ set -l name
 
 complete -c sllink -f
 complete -c sllink -n __fish_use_subcommand -a show -d 'List the frames of a recording'
-complete -c sllink -n __fish_use_subcommand -a check -d 'List what is amiss in a recording'
+complete -c sllink -n __fish_use_subcommand -a check -d 'List the anomalies of a recording'
 complete -c sllink -n __fish_use_subcommand -a packets -d 'List the packets of a recording'
 complete -c sllink -n __fish_use_subcommand -a normalise -d 'Write the normal form of a recording'
 complete -c sllink -n __fish_use_subcommand -a help -d 'Print help, also of a verb'

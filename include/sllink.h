@@ -96,12 +96,12 @@ sllink_answer sllink_show_tm(const sllink_managed *managed, const uint8_t *recor
 sllink_answer sllink_show_tc(const sllink_managed *managed, const uint8_t *recording, size_t length,
                              uint8_t *output, size_t room, size_t *size, sllink_totals *totals);
 
-/* Lists what is amiss in a TM recording. */
+/* Lists the anomalies of a TM recording. */
 sllink_answer sllink_check_tm(const sllink_managed *managed, const uint8_t *recording,
                               size_t length, uint8_t *output, size_t room, size_t *size,
                               sllink_totals *totals);
 
-/* Lists what is amiss in a TC recording. */
+/* Lists the anomalies of a TC recording. */
 sllink_answer sllink_check_tc(const sllink_managed *managed, const uint8_t *recording,
                               size_t length, uint8_t *output, size_t room, size_t *size,
                               sllink_totals *totals);

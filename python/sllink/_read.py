@@ -75,7 +75,7 @@ class Anomalies(Iterator[Anomaly]):
 
 
 def anomalies(kind: str, recording: Recording, options: Words, *, program: Program = None) -> Anomalies:
-    """What is amiss in a recording, and its totals."""
+    """The anomalies of a recording, and its totals."""
     return Anomalies(kind, recording, options, program)
 
 

@@ -122,7 +122,7 @@ class Remainder(Line):
 
 @dataclass(frozen=True)
 class Anomaly(Line):
-    """What is amiss: its word, such as `gap`, and the numbers of its line. `reason` is that of a `skip`."""
+    """An anomaly: its word, such as `gap`, and the numbers of its line. `reason` is that of a `skip`."""
 
     __slots__ = ("offset", "word", "vc", "map", "reason", "expected", "found", "ns", "octets")
     offset: int

@@ -53,15 +53,15 @@ abbrev pub AreIncomplete : ReceptionParameters → List (Option (List ℕ)) → 
 AreIncomplete r incomplete views =
     (vc map_id : ℕ) → vc < 64 → map_id < 64 → slice_index_or incomplete (channel_at vc map_id) None ≡ incomplete_of (segments_of r vc map_id views)
 
--- The octets so far of an incomplete series, none where there is no such series. Contracts of private
--- functions alone stand on this and on `held_in`.
-abbrev pub octets_so_far : Option (List ℕ) → List ℕ
-octets_so_far None = []
-octets_so_far (Some octets) = octets
+-- The octets so far of an incomplete series, none where there is no such series. Only contracts of
+-- private functions stand on this and on `held_in`.
+abbrev pub octets_of_series : Option (List ℕ) → List ℕ
+octets_of_series None = []
+octets_of_series (Some octets) = octets
 
 -- the octets so far of the series that is incomplete on a channel
 abbrev pub held_in : ReceptionParameters → List TcView → ℕ → List ℕ
-held_in r views channel = octets_so_far (incomplete_of (segments_of r (channel / 64) (channel % 64) views))
+held_in r views channel = octets_of_series (incomplete_of (segments_of r (channel / 64) (channel % 64) views))
 
 -- These frames were processed, and no fault came. Other lists of frames may lead to the same state.
 pub record HasProcessed (r : ReceptionParameters) (state : ReceiverState) (views : List TcView) : Type 0 where

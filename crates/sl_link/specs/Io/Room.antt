@@ -17,19 +17,20 @@ HasRoomFor octets lines = length lines + octets ≤ lines_size
 abbrev pub HasRoom : List ℕ → Type 0
 HasRoom lines = HasRoomFor reserve lines
 
--- ---- How long the parts of a line are at most, in octets. What adds a part needs no more room, and adds
--- no more. Octets of packets come beside these: room is made for them as they are added.
+-- ---- How long the parts of a line are at most, in octets: a part has no more. Room for the octets of a
+-- packet is made as they are added.
 
--- a line: a number, a text and the line's end. A frame has five lines at most, 1000 octets of the reserve.
+-- a line that isn't a packet's: of a frame there are five at most, 1000 octets of the reserve
 abbrev pub line_width : ℕ
 line_width = 200
 
--- a text: what a line says of a frame after the offset, or of a packet between its channel and its octets
+-- what a line says of a frame after the offset, or of a packet between its channel and its octets; a line
+-- is a number, such a text and the line's end
 abbrev pub text_width : ℕ
 text_width = 179
 
--- a part of a text: the control field or the content of a frame, the header of a packet. 13 octets, a part
--- and fields make a text, and so do a part, an octet and twice some words.
+-- the control field or the content of a frame, the header of a packet; a text of TC is 13 octets, a part
+-- and fields, one of TM a part, an octet and twice some words
 abbrev pub part_width : ℕ
 part_width = 100
 

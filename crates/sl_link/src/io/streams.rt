@@ -18,7 +18,7 @@ pub fn read_some<R: Read>(
     ensures came { IfOk result (ReadsSome R.remaining reader.old reader.new buffer.new limit) }
     ensures fault { IfErr result
         (StopsReading R.remaining reader.old reader.new limit (length buffer.new)) }
-    // It is one read: no octets came at `Read`, and no more than a buffer at `TooLong`.
+    // No octets came at `Read`, and no more than a buffer at `TooLong`.
     ensures once { IfErr result
         (StopsReading R.remaining reader.old reader.new 0 (length buffer.new)) }
     ensures not_memory { IfErr result (λ fault. fault ≢ LinkFault.Memory) }

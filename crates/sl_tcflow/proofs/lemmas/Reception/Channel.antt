@@ -10,7 +10,7 @@ use Rattle.sl_tcframe.specs.TcFrame.{TcView, Content, Ad, Bd, Unlock, SetVr}
 use Rattle.sl_tcflow.specs.AcceptedUnit.{accepted_units, unit_by}
 use Rattle.sl_tcflow.specs.Incomplete.{if_fits, incomplete_of}
 use Rattle.sl_tcflow.specs.NextSegment.{extended, incomplete_after, packets_after, packets_of_service_unit, service_unit_ended}
-use Rattle.sl_tcflow.specs.Receiving.{channel_at, ended_by, map_by, map_of, segment_by, unit_channel, verdict_on, held_in, octets_so_far}
+use Rattle.sl_tcflow.specs.Receiving.{channel_at, ended_by, map_by, map_of, segment_by, unit_channel, verdict_on, held_in, octets_of_series}
 use Rattle.sl_tcflow.specs.Recording.{packets_in_channel}
 use Rattle.sl_tcflow.specs.Reception.{packets_ended, packets_of_segments, segments_of}
 use Rattle.sl_tcflow.specs.ReceptionParameters.{ReceptionParameters, is_plain, initial_vr}
@@ -23,15 +23,15 @@ use Rattle.sl_tcflow.proofs.lemmas.Reception.Unit.{ended_none, segments_next}
 
 -- ---- the octets of a service data unit
 
-fitting : (octets : List ℕ) (b : Bool) → length (octets_so_far (if b then Some octets else None)) ≤ length octets
+fitting : (octets : List ℕ) (b : Bool) → length (octets_of_series (if b then Some octets else None)) ≤ length octets
 fitting octets true = omega arith
 fitting octets false = omega arith
 
-extending : (held : Option (List ℕ)) (octets : List ℕ) → length (octets_so_far (extended held octets)) ≤ length (octets_so_far held) + length octets
+extending : (held : Option (List ℕ)) (octets : List ℕ) → length (octets_of_series (extended held octets)) ≤ length (octets_of_series held) + length octets
 extending None octets = omega arith
 extending (Some before) octets = let most = fitting (before ++ octets) (nat_le (length (before ++ octets)) 65542) in omega (arith, most, length-append before octets)
 
-ending : (ended : Option (List ℕ)) → length (packets_of_service_unit ended) ≤ length (octets_so_far ended)
+ending : (ended : Option (List ℕ)) → length (packets_of_service_unit ended) ≤ length (octets_of_series ended)
 ending None = omega arith
 ending (Some octets) = omega (arith, packets_within octets, split_count (packets_of octets))
 
@@ -42,13 +42,13 @@ module _ (held : Option (List ℕ)) (next : List ℕ) where
   -- the series that is incomplete after the next segment, and the unit that ends with it, have no octets but those
   -- before and the segment's
   incomplete_most : (first continuing : Bool)
-      → length (octets_so_far (if first then if_fits octets else if continuing then extended held octets else None)) ≤ length (octets_so_far held) + length octets
+      → length (octets_of_series (if first then if_fits octets else if continuing then extended held octets else None)) ≤ length (octets_of_series held) + length octets
   incomplete_most true continuing = let most = fitting octets (nat_le (length octets) 65542) in omega (arith, most)
   incomplete_most false true = extending held octets
   incomplete_most false false = omega arith
 
   ended_most : (whole last : Bool)
-      → length (octets_so_far (if whole then if_fits octets else if last then extended held octets else None)) ≤ length (octets_so_far held) + length octets
+      → length (octets_of_series (if whole then if_fits octets else if last then extended held octets else None)) ≤ length (octets_of_series held) + length octets
   ended_most true last = let most = fitting octets (nat_le (length octets) 65542) in omega (arith, most)
   ended_most false true = extending held octets
   ended_most false false = omega arith
@@ -64,7 +64,7 @@ module _ (held : Option (List ℕ)) (next : List ℕ) where
       ∙ ap (λ b. if b then extended held octets else None) (ne_eqb (flags_of next) 0 not_0)
 
   begun : (flags : ℕ) → flags ≢ 3 → flags ≢ 2 → flags_of next ≡ flags
-      → length (packets_after held next) + length (octets_so_far (incomplete_after held next)) ≤ length (octets_so_far held) + length octets
+      → length (packets_after held next) + length (octets_of_series (incomplete_after held next)) ≤ length (octets_of_series held) + length octets
   begun flags not_3 not_2 is =
       let none = ap (λ o. length (packets_of_service_unit o)) (goes_on flags not_3 not_2 is) in
       let most = incomplete_most (flags_of next == 1) (flags_of next == 0) in
@@ -72,7 +72,7 @@ module _ (held : Option (List ℕ)) (next : List ℕ) where
 
   -- the packets that end with a segment and the octets held after it, counted together, are no more than the octets
   -- held before it and the segment's
-  pub ended_within : length (packets_after held next) + length (octets_so_far (incomplete_after held next)) ≤ length (octets_so_far held) + length octets
+  pub ended_within : length (packets_after held next) + length (octets_of_series (incomplete_after held next)) ≤ length (octets_of_series held) + length octets
   ended_within =
       elim (eqb_tells (flags_of next) 1) [
         | inl (test, is) ↦ begun 1 (λ e. absurd (omega (arith, e))) (λ e. absurd (omega (arith, e))) is
@@ -80,7 +80,7 @@ module _ (held : Option (List ℕ)) (next : List ℕ) where
             elim (eqb_tells (flags_of next) 0) [
               | inl (test', is) ↦ begun 0 (λ e. absurd (omega (arith, e))) (λ e. absurd (omega (arith, e))) is
               | inr (test', not_0) ↦
-                  let none = ap (λ o. length (octets_so_far o)) (ends not_1 not_0) in
+                  let none = ap (λ o. length (octets_of_series o)) (ends not_1 not_0) in
                   let few = ending (service_unit_ended held next) in
                   let most = ended_most (flags_of next == 3) (flags_of next == 2) in
                   omega (arith, none, few, most)
@@ -178,16 +178,16 @@ module _ (r : ReceptionParameters) (views : List TcView) (next : TcView) where
             ap packets_of_segments (own_next unit is map_is) ∙ packets_next own unit ∙ ap (λ l. packets_of_segments own ++ l) (sym (ended_of unit is))
       ]
 
-  own_held : length (ended_by r views next) + length (octets_so_far (incomplete_of (segments_of r next.vc (map_by r next) after)))
-      ≤ length (octets_so_far (incomplete_of own)) + unit_len next.content
+  own_held : length (ended_by r views next) + length (octets_of_series (incomplete_of (segments_of r next.vc (map_by r next) after)))
+      ≤ length (octets_of_series (incomplete_of own)) + unit_len next.content
   own_held =
       elim (none_or_accepted (is_plain r next.vc) (verdict_on r views next) next.content) [
         | inl none ↦
-            let same = ap (λ l. length (octets_so_far (incomplete_of l))) (own_none none) in
+            let same = ap (λ l. length (octets_of_series (incomplete_of l))) (own_none none) in
             let no_packets = ap length (ended_none r views next none) in
             omega (arith, same, no_packets)
         | inr (unit, is, map_is, len) ↦
-            let same = ap (λ l. length (octets_so_far (incomplete_of l))) (own_next unit is map_is) ∙ ap (λ o. length (octets_so_far o)) (incomplete_next own unit) in
+            let same = ap (λ l. length (octets_of_series (incomplete_of l))) (own_next unit is map_is) ∙ ap (λ o. length (octets_of_series o)) (incomplete_next own unit) in
             let packets = ap length (ended_of unit is ∙ ended_next own unit) in
             omega (arith, same, packets, ended_within (incomplete_of own) unit, len)
       ]
@@ -214,8 +214,8 @@ module _ (r : ReceptionParameters) (views : List TcView) (next : TcView) where
       → length (ended_by r views next) + length (held_in r after channel) ≤ length (held_in r views channel) + unit_len next.content
   held_own channel is =
       let (vc, map_id) = of_channel channel is in
-      let now = ap₂ (λ v m. length (octets_so_far (incomplete_of (segments_of r v m after)))) vc map_id in
-      let before = ap₂ (λ v m. length (octets_so_far (incomplete_of (segments_of r v m views)))) vc map_id in
+      let now = ap₂ (λ v m. length (octets_of_series (incomplete_of (segments_of r v m after)))) vc map_id in
+      let before = ap₂ (λ v m. length (octets_of_series (incomplete_of (segments_of r v m views)))) vc map_id in
       omega (arith, now, before, own_held)
 
   pub incomplete_other : (channel : ℕ) → channel ≢ unit_channel r next
@@ -224,4 +224,4 @@ module _ (r : ReceptionParameters) (views : List TcView) (next : TcView) where
       ap incomplete_of (segments_other (channel / 64) (channel % 64) (λ e. other (sym (channel_is channel) ∙ e)))
 
   pub held_other : (channel : ℕ) → channel ≢ unit_channel r next → held_in r after channel ≡ held_in r views channel
-  held_other channel other = ap octets_so_far (incomplete_other channel other)
+  held_other channel other = ap octets_of_series (incomplete_other channel other)

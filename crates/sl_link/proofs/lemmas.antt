@@ -5,5 +5,4 @@ pub mod Link
 pub mod Normalise
 pub mod Pass
 pub mod Program
-pub mod Same
 pub mod Verbs

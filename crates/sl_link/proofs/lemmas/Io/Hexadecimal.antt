@@ -50,9 +50,7 @@ eight_ok octets long fits =
 
 -- and a look-up in the i-th of sixteen lanes gives a half's digit,
 digit : (t : List ℕ) (i h : ℕ) → i < 16 → h < 16 → cond (leb 128 h) 0 (get_or t (16 * (i / 16) + h) 0) ≡ slice_index t h
-digit t i h inside below =
-    let place : 16 * (i / 16) + h ≡ h = omega arith in
-    λ k. cond (lt-leb 128 h (omega arith) k) 0 (get_or t (place k) 0)
+digit t i h inside below = let place : 16 * (i / 16) + h ≡ h = omega arith in rw (place, lt-leb 128 h (omega arith)) refl
 
 -- which together are those of the octets
 digits_of_halves : (t octets : List ℕ) (i : ℕ) → i + 2 * length octets ≤ 16 → Each1 (Fits w8) octets
@@ -60,14 +58,11 @@ digits_of_halves : (t octets : List ℕ) (i : ℕ) → i + 2 * length octets ≤
 unfolding halves encode_with
 digits_of_halves t [] i inside fits = refl
 digits_of_halves t (x ∷ octets) i inside fits =
-    let upper = digit t i (x / 16) (omega arith) (omega (arith, fits.0.fits)) in
-    let lower = digit t (suc i) (bit_and x 15) (omega arith) (lower_below x) ∙ ap (λ h. slice_index t h) (and_mask x 4) in
-    let later = digits_of_halves t octets (suc (suc i)) (omega arith) fits.1 in
-    λ k. upper k ∷ lower k ∷ later k
+    rw (digit t i (x / 16) (omega arith) (omega (arith, fits.0.fits)), digit t (suc i) (bit_and x 15) (omega arith) (lower_below x), and_mask x 4)
+    (ap (λ l. slice_index t (x / 16) ∷ slice_index t (x % 16) ∷ l) (digits_of_halves t octets (suc (suc i)) (omega arith) fits.1))
 
 pub eight_digits : (t octets : List ℕ) → length octets ≡ 8 → Each1 (Fits w8) octets → swz_l w8 16 t 0 (eight_halves octets) ≡ encode_with t octets
-eight_digits t octets long fits =
-    ap (swz_l w8 16 t 0) (halves_of_eight octets long) ∙ digits_of_halves t octets 0 (omega (arith, long)) fits
+eight_digits t octets long fits = ap (swz_l w8 16 t 0) (halves_of_eight octets long) ∙ digits_of_halves t octets 0 (omega (arith, long)) fits
 
 -- the first eight digits of four octets and four more are those of the four
 pub first_of_eight : (octets : List ℕ) → length octets ≡ 4
@@ -90,9 +85,6 @@ pub encode_nil : encode_lower [] ≡ []
 unfolding encode_with
 encode_nil = refl
 
-pub length-encode_lower : (octets : List ℕ) → length (encode_lower octets) ≡ 2 * length octets
-length-encode_lower octets = length-encode_with lower_digits octets
-
 -- eight octets that have the sixteen digits
 pub sixteen_digits : encode_lower (0x01 ∷ 0x23 ∷ 0x45 ∷ 0x67 ∷ 0x89 ∷ 0xab ∷ 0xcd ∷ 0xef ∷ []) ≡ lower_digits
 unfolding encode_with
@@ -103,23 +95,14 @@ take-encode_lower : (k : ℕ) (xs : List ℕ) → take (2 * k) (encode_lower xs)
 unfolding encode_with
 take-encode_lower zero xs = refl
 take-encode_lower (suc k) [] = take-nil (2 * suc k)
-take-encode_lower (suc k) (x ∷ xs) =
-    let two : 2 * suc k ≡ suc (suc (2 * k)) = omega arith in
-    ap (λ n. take n (slice_index lower_digits (x / 16) ∷ slice_index lower_digits (x % 16) ∷ encode_lower xs)) two
-    ∙ ap (λ l. slice_index lower_digits (x / 16) ∷ slice_index lower_digits (x % 16) ∷ l) (take-encode_lower k xs)
+take-encode_lower (suc k) (x ∷ xs) = let two : 2 * suc k ≡ suc (suc (2 * k)) = omega arith in rw (two, take-encode_lower k xs) refl
 
 -- ---- octets that are put at a place of a buffer, block by block
 
 -- a block of n of them
 pub block_put : (octets buffer digits : List ℕ) (at from n : ℕ) → from + n ≤ length octets → at + 2 * (from + n) ≤ length buffer
     → digits ≡ encode_lower (take n (drop from octets)) → PutsBlock octets from n at buffer (put_chunk (at + 2 * from) buffer digits)
-block_put octets buffer digits at from n inside room are =
-    let many : at + 2 * (from + n) ≡ at + 2 * from + length digits =
-    omega (arith, ap length are, length-encode_lower (take n (drop from octets)), length-chunk from n octets inside) in
-    record {
-      text = take_more_put_chunk (at + 2 * from) buffer digits (at + 2 * (from + n)) many room ∙ ap (λ l. take (at + 2 * from) buffer ++ l) are;
-      long = length-put_chunk (at + 2 * from) buffer digits;
-    }
+block_put octets buffer digits at from n inside room are = grind (arith, length-chunk, length-encode_with, length-put_chunk, take_more_put_chunk)
 
 -- the first k of them are there, after what was there before
 pub record ArePut (octets initial : List ℕ) (at k : ℕ) (buffer : List ℕ) : Type 0 where
@@ -127,30 +110,17 @@ pub record ArePut (octets initial : List ℕ) (at k : ℕ) (buffer : List ℕ) :
   pub long : length buffer ≡ length initial
 
 pub none_put : (octets buffer : List ℕ) (at : ℕ) → ArePut octets buffer at 0 buffer
-none_put octets buffer at =
-    record {
-      text = ap (λ i. take i buffer) (add-zero at) ∙ sym (append-nil (take at buffer)) ∙ ap (λ l. take at buffer ++ l) (sym encode_nil);
-      long = refl;
-    }
+none_put octets buffer at = record { text = simp (add-zero, append-nil, encode_nil); long = refl }
 
 -- a block of them, from one of these on, is put where it belongs
 pub more_put : {octets initial before after : List ℕ} {at k from n : ℕ} (m : ℕ) → ArePut octets initial at k before → PutsBlock octets from n at before after
     → at ≤ length initial → from ≤ k → m ≡ from + n → ArePut octets initial at m after
 more_put {octets} {initial} {before} {after} {at} {k} {from} {n} m so_far put inside some more =
     let start = take at initial in
+    let seam = rw (length-take-le at initial inside) at (take-append-add start (encode_lower (take k octets)) (2 * from)) in
     let front : take (at + 2 * from) before ≡ start ++ encode_lower (take from octets) =
-    sym (take-take (at + 2 * from) (at + 2 * k) before (omega (arith, some))) ∙ ap (take (at + 2 * from)) so_far.text
-    ∙ ap (λ i. take (i + 2 * from) (start ++ encode_lower (take k octets))) (sym (length-take-le at initial inside))
-    ∙ take-append-add start (encode_lower (take k octets)) (2 * from)
-    ∙ ap (λ l. start ++ l) (take-encode_lower from (take k octets) ∙ ap encode_lower (take-take from k octets some)) in
-    record {
-      text =
-          ap (λ i. take (at + 2 * i) after) more ∙ put.text ∙ ap (λ l. l ++ encode_lower (take n (drop from octets))) front
-          ∙ append_assoc start (encode_lower (take from octets)) (encode_lower (take n (drop from octets)))
-          ∙ ap (λ l. start ++ l) (sym (encode_append (take from octets) (take n (drop from octets))))
-          ∙ ap (λ l. start ++ encode_lower l) (sym (take-add from n octets) ∙ ap (λ i. take i octets) (sym more));
-      long = put.long ∙ so_far.long;
-    }
+    rw (← take-take (at + 2 * from) (at + 2 * k) before (omega (arith, some)), so_far.text, seam) (simp (take-encode_lower, take-take)) in
+    record { text = rw (more, put.text, front, take-add from n octets, encode_append) (simp append_assoc); long = put.long ∙ so_far.long }
 
 pub all_put : {octets initial buffer : List ℕ} {at : ℕ} → ArePut octets initial at (length octets) buffer
     → take (at + 2 * length octets) buffer ≡ take at initial ++ encode_lower octets

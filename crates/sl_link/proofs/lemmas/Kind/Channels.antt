@@ -1,24 +1,19 @@
 -- Lists for the channels of a kind: what they are together, and how many items they have.
-use Rattle.std.proofs.Common.{◌≡◌, ◌≢◌, ℕ, zero, suc, ◌+◌, ◌<◌, ◌≤◌, List, [], ◌∷◌, ◌++◌, length, take, map, inl, inr, refl, sym, ◌∙◌, ap, arith, add-one}
-use Rattle.std.specs.List.{range_with_len, slice_index_or}
+use Rattle.std.proofs.Common.{◌≡◌, ◌≢◌, ℕ, zero, suc, ◌+◌, ◌<◌, ◌≤◌, get_or, zero-add, length-append, List, [], ◌∷◌, length, map, refl, ◌∙◌, ap, arith}
+use Rattle.std.specs.Prelude.{flat_map}
+use Rattle.std.specs.List.{range_with_len}
 use Rattle.std.proofs.lemmas.Bool.Decides.{eqb_tells}
-use Rattle.std.proofs.lemmas.List.FromFn.{map-range_with_len_more}
-use Rattle.std.proofs.Math.Seq.{take-suc}
+use Rattle.std.proofs.lemmas.List.{nil_from_length}
+use Rattle.std.proofs.lemmas.List.Concat.{length-flat_map}
+use Rattle.std.proofs.lemmas.List.FromFn.{get_or-range_with_len, length-range_with_len}
+use Rattle.std.proofs.lemmas.List.Sums.{get_or-le-sum_by}
 use Rattle.sl_link.specs.Kind.Delivery.{count_of}
 
 -- ---- the lists
 
-pub take_lists : (n : ℕ) (lists : List (List (List ℕ))) → n ≤ length lists → take n lists ≡ map (λ channel. slice_index_or lists channel []) (range_with_len 0 n)
-take_lists zero lists inside = refl
-take_lists (suc n) lists inside =
-    take-suc lists n [] (omega arith) ∙ ap (λ l. l ++ slice_index_or lists n [] ∷ []) (take_lists n lists (omega arith))
-    ∙ sym (map-range_with_len_more (λ channel. slice_index_or lists channel []) 0 n n (omega arith))
-    ∙ ap (λ k. map (λ channel. slice_index_or lists channel []) (range_with_len 0 k)) (add-one n)
-
 pub map_range : {X : Type 0} (f h : ℕ → X) (from n : ℕ) → ((i : ℕ) → i < from + n → f i ≡ h i) → map f (range_with_len from n) ≡ map h (range_with_len from n)
 map_range f h from zero same = refl
-map_range f h from (suc n) same =
-    rw (same from (omega arith), map_range f h (from + 1) n (λ i below. same i (omega arith))) refl
+map_range f h from (suc n) same = rw (same from (omega arith), map_range f h (from + 1) n (λ i below. same i (omega arith))) refl
 
 -- ---- their items
 
@@ -28,54 +23,31 @@ items_from f from n = count_of (map f (range_with_len from n))
 items_same : {X : Type 0} (f h : ℕ → List X) (from n : ℕ) → ((i : ℕ) → from ≤ i → length (h i) ≡ length (f i))
     → items_from h from n ≡ items_from f from n
 items_same f h from zero same = refl
-items_same f h from (suc n) same =
-    let here = same from (omega arith) in
-    let later = items_same f h (from + 1) n (λ i above. same i (omega (arith, above))) in
-    omega (arith, here, later)
+items_same f h from (suc n) same = omega (arith, same from (omega arith), items_same f h (from + 1) n (λ i above. same i (omega (arith, above))))
 
 items_one : {X : Type 0} (f h : ℕ → List X) (from n at : ℕ) → from ≤ at → at < from + n → ((i : ℕ) → i ≢ at → length (h i) ≡ length (f i))
     → items_from h from n + length (f at) ≡ items_from f from n + length (h at)
 items_one f h from zero at above below others = absurd (omega arith)
-items_one f h from (suc n) at above below others =
-    elim (eqb_tells at from) [
-      | inl (is, same) ↦
-          let later = items_same f h (from + 1) n (λ i over. others i (λ e. absurd (omega (arith, over, e, same)))) in
-          let old = ap (λ i. length (f i)) same in
-          let new = ap (λ i. length (h i)) same in
-          omega (arith, later, old, new)
-      | inr (is, other) ↦
-          let here = others from (λ e. other (sym e)) in
-          let later = items_one f h (from + 1) n at (omega (arith, above, other)) (omega (arith, below)) others in
-          omega (arith, here, later)
-    ]
+items_one f h from (suc n) at above below others = grind (arith, eqb_tells at from, items_same f h (from + 1) n, items_one f h (from + 1) n at)
 
-items_none : {X : Type 0} (f : ℕ → List X) (from n : ℕ) → ((i : ℕ) → f i ≡ []) → items_from f from n ≡ 0
-items_none f from zero none = refl
-items_none f from (suc n) none = let here = ap length (none from) in let later = items_none f (from + 1) n none in omega (arith, here, later)
+-- where no list has any
+pub no_items : {X : Type 0} (f : ℕ → List X) (channels : List ℕ) → ((i : ℕ) → f i ≡ []) → count_of (map f channels) ≡ 0
+no_items f [] none = refl
+no_items f (channel ∷ channels) none = omega (arith, ap length (none channel), no_items f channels none)
+
+pub flat_count : {X : Type 0} (f : ℕ → List X) (channels : List ℕ) → length (flat_map f channels) ≡ count_of (map f channels)
+flat_count f [] = refl
+flat_count f (channel ∷ channels) = rw (length-append, flat_count f channels) refl
 
 module _ {X : Type 0} (limit : ℕ) (channels : List ℕ) (all : channels ≡ range_with_len 0 limit) where
-  pub no_items : (f : ℕ → List X) → ((i : ℕ) → f i ≡ []) → count_of (map f channels) ≡ 0
-  no_items f none = ap (λ l. count_of (map f l)) all ∙ items_none f 0 limit none
-
   -- where one channel alone has other items, they are as many more or fewer
   pub items_change : (f h : ℕ → List X) (at : ℕ) → at < limit → ((i : ℕ) → i ≢ at → length (h i) ≡ length (f i))
       → count_of (map h channels) + length (f at) ≡ count_of (map f channels) + length (h at)
-  items_change f h at inside others =
-      ap (λ l. count_of (map h l) + length (f at)) all ∙ items_one f h 0 limit at (omega arith) (omega (arith, inside)) others
-      ∙ ap (λ l. count_of (map f l) + length (h at)) (sym all)
+  items_change f h at inside others = rw all (items_one f h 0 limit at (omega arith) (omega (arith, inside)) others)
 
   -- where there are no items each list is empty
   pub none_of : (f : ℕ → List X) → count_of (map f channels) ≡ 0 → (i : ℕ) → i < limit → f i ≡ []
-  none_of f none i below = none_from 0 limit (ap (λ l. count_of (map f l)) (sym all) ∙ none) i (omega arith) (omega (arith, below))
-    where
-      no_length : (xs : List X) → length xs ≡ 0 → xs ≡ []
-      no_length [] e = refl
-      no_length (x ∷ xs) e = absurd (omega (arith, e))
-
-      none_from : (from n : ℕ) → items_from f from n ≡ 0 → (i : ℕ) → from ≤ i → i < from + n → f i ≡ []
-      none_from from zero none i above below = absurd (omega (arith, above, below))
-      none_from from (suc n) none i above below =
-          elim (eqb_tells i from) [
-            | inl (is, same) ↦ ap f same ∙ no_length (f from) (omega (arith, none))
-            | inr (is, other) ↦ none_from (from + 1) n (omega (arith, none)) i (omega (arith, above, other)) (omega (arith, below))
-          ]
+  none_of f none i below =
+      let at : get_or channels i 0 ≡ i = rw all (get_or-range_with_len 0 limit i 0 below ∙ zero-add i) in
+      let most = rw at at (get_or-le-sum_by (λ c. length (f c)) channels i 0 (omega (arith, ap length all, length-range_with_len 0 limit, below))) in
+      nil_from_length (f i) (omega (arith, none, length-flat_map (λ c. f c) channels, flat_count f channels, most))

@@ -1,5 +1,5 @@
 -- Why the handing over of packets stopped, and what that says of the engine.
-use Rattle.std.proofs.Common.{◌≡◌, ◌≢◌, ℕ, ◌<◌, ◌⊎◌, ◌∷◌, Bool, true, false, List, length, length-append, Result, Err, refl, ◌∙◌, ap, arith, inl, inr}
+use Rattle.std.proofs.Common.{◌≡◌, ◌≢◌, ℕ, ◌<◌, ◌⊎◌, Bool, true, false, List, length, length-append, Result, Err, ◌∙◌, ap, arith}
 use Rattle.sl_packet.specs.declared.flow_fault.FlowFault.{FlowFault}
 use Rattle.sl_packet.specs.declared.flow_fault.FlowFault.TheVariants as flow
 use Rattle.sl_packet.specs.declared.sink.SinkFault.{SinkFault}
@@ -7,7 +7,7 @@ use Rattle.sl_packet.specs.declared.sink.SinkFault.TheVariants as sink
 use Rattle.sl_packet.specs.Delivered.{PacketLists, AddsPacket}
 use Rattle.sl_packet.specs.Stopping.{IsStopped}
 use Rattle.sl_link.specs.declared.link.fault.LinkFault.TheVariants.{Memory}
-use Rattle.sl_link.specs.Link.Fault.{flow_fault, sink_fault}
+use Rattle.sl_link.specs.Link.Fault.{flow_fault}
 
 -- where no call had failed before, that isn't why one fails now
 pub never_failed : {A : Type 0} (has_failed : Bool) (result : Result A FlowFault) (fault : FlowFault) → result ≡ Err fault
@@ -17,9 +17,7 @@ never_failed has_failed result fault is left working e = absurd (let failed = le
 -- a sink that refuses none leaves memory alone
 pub memory_alone : {S : Type 0} (taking : S → ℕ → List ℕ → S → Type 0) (failures : S → ℕ) (packets : List (List ℕ)) (old new : S) (channel : ℕ) (fault : FlowFault)
     → IsStopped taking (λ old channel packet fault new. ⊥) failures old channel packets fault new → fault ≡ flow.Memory
-memory_alone taking failures packets old new channel flow.Memory stopped = refl
-memory_alone taking failures packets old new channel (flow.Sink fault) stopped = absurd stopped.0.fails
-memory_alone taking failures packets old new channel flow.Failed stopped = absurd stopped
+memory_alone taking failures packets old new channel fault stopped = grind arith
 
 -- ---- the store of delivered packets
 
@@ -28,16 +26,9 @@ module _ (failing : PacketLists → ℕ → List ℕ → SinkFault → PacketLis
   pub memory_refused : ((old : PacketLists) (channel : ℕ) (packet : List ℕ) (fault : SinkFault) (new : PacketLists) → failing old channel packet fault new → fault ≡ sink.Memory)
       → (packets : List (List ℕ)) (old new : PacketLists) (channel : ℕ) (fault : FlowFault)
       → IsStopped AddsPacket failing failures old channel packets fault new → flow_fault fault ≡ Memory
-  memory_refused only packets old new channel flow.Memory stopped = refl
-  memory_refused only packets old new channel (flow.Sink fault) stopped =
-      ap sink_fault (only stopped.0.before channel stopped.0.refused fault new stopped.0.fails)
-  memory_refused only packets old new channel flow.Failed stopped = absurd stopped
+  memory_refused only packets old new channel fault stopped = grind arith
 
   -- where memory was wanted for something else, or there was a packet
   pub wanted_or_some : {X : Type 0} (packets : List (List ℕ)) (old new : PacketLists) (channel : ℕ) (fault : FlowFault)
       → IsStopped AddsPacket failing failures old channel packets fault new → (fault ≡ flow.Memory → X) → X ⊎ (0 < length packets)
-  wanted_or_some packets old new channel flow.Memory stopped wants = inl (wants refl)
-  wanted_or_some packets old new channel (flow.Sink fault) stopped wants =
-      let s = stopped.0 in
-      inr (omega (arith, ap length s.in_order, length-append s.accepted (s.refused ∷ s.later)))
-  wanted_or_some packets old new channel flow.Failed stopped wants = absurd stopped
+  wanted_or_some packets old new channel fault stopped wants = grind (arith, length-append)

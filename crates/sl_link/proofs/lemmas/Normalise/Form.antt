@@ -41,37 +41,29 @@ module _ {F W : Type 0} {left : F → List ℕ → Type 0} {contents : W → Opt
   module _ {old new : Counted W} {form : F} {text octets : List ℕ} (w : IsWritingForm left contents old new form text octets) where
     -- where memory was taken
     pub form_kept : {form' : F} {text' : List ℕ} → KeepsLeft left form form' → text' ≡ text → IsWritingForm left contents old new form' text' octets
-    form_kept keeps same = record { made = w.made; more = w.more; parts = w.parts; left_is = keeps w.more w.left_is; adds = subst (λ t. AddsText contents old new [] t w.made) (sym same) w.adds }
+    form_kept keeps same = record { made = w.made; more = w.more; parts = w.parts; left_is = keeps w.more w.left_is; adds = rw same w.adds }
 
     -- where what waited was written, or some of it
     pub chunk_written : {new' : Counted W} {text' : List ℕ} → AddsText contents new new' text text' [] → IsWritingForm left contents old new' form text' octets
     chunk_written {new'} {text'} a =
-        let adds = AddsText-trans contents old new new' [] text text' w.made [] w.adds a in
-        record { made = w.made; more = w.more; parts = w.parts; left_is = w.left_is; adds = rw append-nil at adds }
+        record { made = w.made; more = w.more; parts = w.parts; left_is = w.left_is; adds = rw append-nil at (AddsText-trans contents old new new' [] text text' w.made [] w.adds a) }
 
     -- after one piece more
     pub next_piece : {form' : F} {text' : List ℕ} → AddsPiece left form text form' text' → IsWritingForm left contents old new form' text' octets
     next_piece {text'} a =
         let next = a.rest w.more w.left_is in
-        record {
-          made = w.made ++ a.piece;
-          more = next.0;
-          parts = w.parts ∙ ap (λ l. w.made ++ l) next.1.0 ∙ sym (append_assoc w.made a.piece next.0);
-          left_is = next.1.1;
-          adds = AddsText-trans contents old new new [] text text' w.made a.piece w.adds (waits_more a.added);
-        }
+        let adds = AddsText-trans contents old new new [] text text' w.made a.piece w.adds (waits_more a.added) in
+        record { made = w.made ++ a.piece; more = next.0; parts = rw (append_assoc w.made a.piece next.0, ← next.1.0) w.parts; left_is = next.1.1; adds = adds }
 
     -- where no piece is left, and what waits is written
     pub form_written : {new' : Counted W} {text' : List ℕ} → IsAllMade left form → text' ≡ text → WritesText contents new new' text' → WritesText contents old new' octets
     form_written {new'} all same done =
-        let whole : w.made ≡ octets = sym (append-nil w.made) ∙ ap (λ l. w.made ++ l) (sym (all w.more w.left_is)) ∙ sym w.parts in
-        subst (λ o. WritesText contents old new' o) whole
-        (all_written contents old new new' text w.made w.adds (subst (λ t. WritesText contents new new' t) same done))
+        let whole : w.made ≡ octets = rw (w.parts, all w.more w.left_is) (sym (append-nil w.made)) in
+        rw (← whole) (all_written contents old new new' text w.made w.adds (rw same at done))
 
     -- a fault while what waits is written
     pub form_stopped : {new' : Counted W} {text' : List ℕ} {packets : Type 0} {fault : LinkFault} → text' ≡ text → StopsWriting contents new new' text' fault → StopsForm contents old new' octets packets fault
-    form_stopped {new'} {fault} same s =
-        inr (writer_stops_waiting contents old new new' [] text w.made w.more octets fault w.adds (subst (λ t. StopsWriting contents new new' t fault) same s) (sym w.parts))
+    form_stopped {new'} {fault} same s = inr (writer_stops_waiting contents old new new' [] text w.made w.more octets fault w.adds (rw same at s) (sym w.parts))
 
 module _ {W : Type 0} {contents : W → Option (List ℕ)} {old new : Counted W} {octets : List ℕ} {packets : Type 0} {fault : LinkFault} (s : StopsForm contents old new octets packets fault) where
   -- what is said of the packets may say less

@@ -1,10 +1,8 @@
 -- What normal forms tell of the packets of recordings.
-use Rattle.std.proofs.Common.{ℕ, List, ◌≡◌, sym, ◌∙◌, ap, Ok}
-use Rattle.sl_tcflow.specs.Canonical as tc
+use Rattle.std.proofs.Common.{arith, ℕ, List, ◌≡◌, Ok}
 use Rattle.sl_tcflow.proofs.lemmas.Form.Canonical.{normal_form_delivers}
 use Rattle.sl_tcflow.proofs.lemmas.Reception.PlainRecording.{recorded_lists_fit}
 use Rattle.sl_tcflow.proofs.lemmas.Reception.Recording as tc_recording
-use Rattle.sl_tmflow.specs.Canonical as tm
 use Rattle.sl_tmflow.proofs.lemmas.Form.Canonical.{delivers}
 use Rattle.sl_tmflow.proofs.lemmas.Delivery.Recording as tm_recording
 use Rattle.sl_link.specs.Link.Managed.{AreAccepted, Parameters, managed_of, reception_of, tc_format, tm_format}
@@ -18,22 +16,15 @@ use Rattle.sl_link.proofs.lemmas.Link.Managed.{managed_length, managed_greatest,
 -- a form that is made of the packets alone, and delivers them
 told : (packets : List ℕ → List (List (List ℕ))) (form_of : List (List (List ℕ)) → List ℕ) → ((recording : List ℕ) → packets (form_of (packets recording)) ≡ packets recording)
     → FormsTellPackets packets (λ recording. form_of (packets recording))
-told packets form_of deliver =
-    record {
-      deliver = deliver;
-      exactly = λ x y. (λ same. sym (deliver x) ∙ ap packets same ∙ deliver y, λ same. ap form_of same);
-      once = λ recording. ap form_of (deliver recording);
-    }
+told packets form_of deliver = grind arith
 
 -- ---- TM
-
-tm_is : (p : Parameters) → managed_of p ≡ Ok p → tm.IsFormat (tm_format p)
-tm_is p are = let range = managed_length p are in record { least = range.0; most = range.1 }
 
 pub tm_form_delivers : (p : Parameters) (recording : List ℕ) → managed_of p ≡ Ok p → tm_packets p (tm_normal_form p recording) ≡ tm_packets p recording
 unfolding tm_form_of
 tm_form_delivers p recording are =
-    delivers (tm_format p) p.spacecraft (tm_packets p recording) (tm_is p are) (managed_spacecraft p are)
+    let range = managed_length p are in
+    delivers (tm_format p) p.spacecraft (tm_packets p recording) (record { least = range.0; most = range.1 }) (managed_spacecraft p are)
     (tm_recording.recorded_lists_are_deliverable (tm_format p) p.spacecraft recording)
 
 pub tm_forms_tell_packets : TmFormsTellPackets
@@ -41,13 +32,11 @@ tm_forms_tell_packets p are = told (tm_packets p) (tm_form_of p) (λ recording. 
 
 -- ---- TC
 
-tc_is : (p : Parameters) → AreAccepted p → tc.IsFormat (tc_format p)
-tc_is p are = let range = managed_greatest p are.allowed in record { least = range.0; most = range.1 }
-
 tc_form_delivers : (p : Parameters) (recording : List ℕ) → AreAccepted p → tc_packets p (tc_normal_form p recording) ≡ tc_packets p recording
 unfolding tc_form_of
 tc_form_delivers p recording are =
-    normal_form_delivers (tc_format p) p.spacecraft (reception_of p) (tc_packets p recording) (tc_is p are) (managed_spacecraft p are.allowed) are.starts
+    let range = managed_greatest p are.allowed in
+    normal_form_delivers (tc_format p) p.spacecraft (reception_of p) (tc_packets p recording) (record { least = range.0; most = range.1 }) (managed_spacecraft p are.allowed) are.starts
     (tc_recording.recorded_lists_are_deliverable (tc_format p) p.spacecraft (reception_of p) recording)
     (recorded_lists_fit (tc_format p) p.spacecraft (reception_of p) recording)
 

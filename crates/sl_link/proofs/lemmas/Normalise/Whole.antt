@@ -3,42 +3,29 @@ use Rattle.std.proofs.Common.{◌≡◌, ℕ, List, [], Option, append-nil, inl,
 use Rattle.std.proofs.KnownBytes.{Appends-nil}
 use Rattle.sl_link.specs.declared.link.counted.Counted.{Counted}
 use Rattle.sl_link.specs.declared.link.fault.LinkFault.{LinkFault}
-use Rattle.sl_link.specs.declared.link.fault.LinkFault.TheVariants.{Read, TooLong, Memory, Write}
-use Rattle.sl_link.specs.Io.Streams.{IsCaused, IsReadersFault, Reads, ReadsAll, Stops, StopsReading, Translates, Writes, WritesPrefix, WritesText}
+use Rattle.sl_link.specs.Io.Streams.{Reads, ReadsAll, Stops, StopsReading, Translates, Writes, WritesText}
 use Rattle.sl_link.specs.Link.Counted.{stream_of}
 use Rattle.sl_link.specs.Normalise.Form.{StopsForm}
 use Rattle.sl_link.specs.Pass.{WantedMemory}
+use Rattle.sl_link.proofs.lemmas.Io.Streams.{reader_caused}
 
 module _ {R W : Type 0} {remaining : R → Option (List ℕ)} {contents : W → Option (List ℕ)} {reader reader' : Counted R} {writer : Counted W} {text : List ℕ → List ℕ} {limit : ℕ} where
   -- a fault before anything is written,
   pub stops_at_reading : {buffer : ℕ} {fault : LinkFault} → StopsReading remaining reader reader' limit buffer fault → Stops remaining contents reader reader' writer writer text limit buffer fault
-  stops_at_reading {buffer} {fault} s =
-      record {
-        octets = s.octets;
-        read = s.read;
-        written = record { written = []; missing = text s.octets; front = refl; writes = Appends-nil (contents (stream_of writer)) };
-        cause = caused fault s.cause;
-      }
-    where
-      caused : (f : LinkFault) → IsReadersFault reader reader' limit buffer s.octets f → IsCaused remaining contents reader reader' writer writer limit buffer s.octets f
-      caused Read cause = (cause.0, refl, cause.1)
-      caused TooLong cause = (cause.0, refl, cause.1, cause.2)
-      caused Memory cause = (cause.0, refl, cause.1)
-      caused Write cause = absurd cause
+  stops_at_reading {buffer} {fault} s = record {
+    octets = s.octets;
+    read = s.read;
+    written = record { written = []; missing = text s.octets; front = refl; writes = Appends-nil (contents (stream_of writer)) };
+    cause = reader_caused remaining contents reader reader' writer writer limit buffer s.octets fault refl s.cause;
+  }
 
   module _ {octets written : List ℕ} (r : ReadsAll remaining reader reader' limit octets) {writer' : Counted W} (same : written ≡ text octets) where
     -- or while a normal form is made or written
     pub stops_at_form : {buffer : ℕ} {packets : Type 0} {fault : LinkFault} → StopsForm contents writer writer' written packets fault
         → Stops remaining contents reader reader' writer writer' text limit buffer fault
-    stops_at_form {buffer} {fault} s = elim s [
-      | inl refused ↦ subst (λ w. Stops remaining contents reader reader' writer w text limit buffer fault) (sym refused.1)
-          (stops_at_reading (subst (StopsReading remaining reader reader' limit buffer) (sym refused.0) (record { octets = octets; read = r.read; cause = (r.no_fault, r.within) })))
-      | inr stopped ↦ record {
-        octets = octets;
-        read = r.read;
-        written = subst (WritesPrefix contents writer writer') same stopped.front;
-        cause = subst (IsCaused remaining contents reader reader' writer writer' limit buffer octets) (sym stopped.is_write) (stopped.cause, r.no_fault, r.within);
-      }
+    stops_at_form s = elim s [
+      | inl refused ↦ rw (refused.1, refused.0) (stops_at_reading (record { octets = octets; read = r.read; cause = (r.no_fault, r.within) }))
+      | inr stopped ↦ record { octets = octets; read = r.read; written = rw (← same) stopped.front; cause = rw stopped.is_write (stopped.cause, r.no_fault, r.within) }
     ]
 
     -- all of it is written
@@ -56,5 +43,4 @@ module _ {R W : Type 0} {remaining : R → Option (List ℕ)} {contents : W → 
 -- memory is wanted after the last frame
 pub wanted_at_end : {R : Type 0} {remaining : R → Option (List ℕ)} {reader reader' : Counted R} {frames_of : List ℕ → List (List ℕ)} {wants : List (List ℕ) → Type 0} (octets : List ℕ)
     → Reads remaining reader reader' octets → wants (frames_of octets) → WantedMemory remaining reader reader' frames_of wants
-wanted_at_end {frames_of} octets read wanted =
-    record { octets = octets; read = read; first = frames_of octets; later = []; in_order = sym (append-nil (frames_of octets)); wanted = wanted }
+wanted_at_end {frames_of} octets read wanted = record { octets = octets; read = read; first = frames_of octets; later = []; in_order = sym (append-nil (frames_of octets)); wanted = wanted }

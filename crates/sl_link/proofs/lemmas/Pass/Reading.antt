@@ -7,10 +7,9 @@ use Rattle.sl_link.specs.Link.Managed.{Parameters}
 use Rattle.sl_link.specs.Pass.{CutsFrame, HasTaken, HasTakenAll, StopsPassing}
 use Rattle.sl_link.specs.declared.link.counted.Counted.{Counted}
 use Rattle.sl_link.specs.declared.link.fault.LinkFault.{LinkFault}
-use Rattle.sl_link.specs.declared.link.fault.LinkFault.TheVariants.{Read, TooLong, Memory, Write}
+use Rattle.sl_link.specs.declared.link.fault.LinkFault.TheVariants.{Memory}
 use Rattle.sl_link.specs.Link.Counted.{stream_of, faults_of}
 use Rattle.sl_link.specs.Io.Streams.{IsReadersFault, Reads, ReadsSome, StopsReading}
-use Rattle.sl_link.proofs.lemmas.Io.Streams.{HadOneFault-since}
 
 -- ---- frames handed over
 
@@ -18,8 +17,7 @@ use Rattle.sl_link.proofs.lemmas.Io.Streams.{HadOneFault-since}
 fronts : (is_frame : List ℕ → Type 0) (frames_of : List ℕ → List (List ℕ)) → ((frame more : List ℕ) → is_frame frame → frames_of (frame ++ more) ≡ frame ∷ frames_of more)
     → (frames : List (List ℕ)) (more : List ℕ) → AllByRecursion is_frame frames → frames_of (concat frames ++ more) ≡ frames ++ frames_of more
 fronts is_frame frames_of front [] more a = refl
-fronts is_frame frames_of front (frame ∷ frames) more a =
-    ap frames_of (append_assoc frame (concat frames) more) ∙ front frame (concat frames ++ more) a.0 ∙ ap (λ fs. frame ∷ fs) (fronts is_frame frames_of front frames more a.1)
+fronts is_frame frames_of front (frame ∷ frames) more a = rw (append_assoc, front frame (concat frames ++ more) a.0, fronts is_frame frames_of front frames more a.1) refl
 
 module _ {F : Type 0} {is_frame : Parameters → List ℕ → Type 0} {waits : F → Parameters → List ℕ → Type 0} {taken : List (List ℕ) → Type 0} {p : Parameters} {framer : F} {octets left : List ℕ}
     (h : HasTaken is_frame waits taken p framer octets left) where
@@ -33,9 +31,7 @@ module _ {F : Type 0} {is_frame : Parameters → List ℕ → Type 0} {waits : F
     frames = h.frames ++ frame ∷ [];
     rest = [];
     waiting = w;
-    parts =
-        h.parts ∙ ap (λ l. concat h.frames ++ l) g.parts ∙ sym (append_assoc (concat h.frames) frame left')
-        ∙ ap (λ l. l ++ left') (sym (concat-push h.frames frame));
+    parts = rw (concat-push h.frames frame, append_assoc (concat h.frames) frame left', ← g.parts) h.parts;
     whole = each-append (is_frame p) h.frames (frame ∷ []) h.whole (g.whole, tt);
     done = t;
   }
@@ -93,12 +89,7 @@ module _ {R F : Type 0} {remaining : R → Option (List ℕ)} {is_frame : Parame
 
   caused : (reader' : Counted R) (most room buffer : ℕ) (octets : List ℕ) (fault : LinkFault) → limit ≡ most → buffer ≡ room → IsReadersFault mid reader' (limit - n) buffer octets fault
       → IsReadersFault reader reader' most room (s.octets ++ octets) fault
-  caused reader' most room buffer octets Read same fits cause =
-      (HadOneFault-since reader mid reader' s.no_fault cause.0, omega (arith, same, cause.1, s.size, s.allowed, length-append s.octets octets))
-  caused reader' most room buffer octets TooLong same fits cause =
-      (cause.0 ∙ s.no_fault, omega (arith, same, cause.1, s.size, s.allowed, length-append s.octets octets), omega (arith, same, fits, cause.2, s.size, s.allowed, length-append s.octets octets))
-  caused reader' most room buffer octets Memory same fits cause = (cause.0 ∙ s.no_fault, omega (arith, same, cause.1, s.size, s.allowed, length-append s.octets octets))
-  caused reader' most room buffer octets Write same fits cause = absurd cause
+  caused reader' most room buffer octets fault same fits cause = grind (arith, length-append, s.no_fault, s.size, s.allowed)
 
   module _ (front : (p : Parameters) (frame more : List ℕ) → is_frame p frame → frames_of p (frame ++ more) ≡ frame ∷ frames_of p more) {reader' : Counted R} {stopped : List (List ℕ) → LinkFault → Type 0} {fault : LinkFault} where
     -- the reader stopped

@@ -1,10 +1,10 @@
 -- What a framer of TC frames has taken, and what came after the last frame.
-use Rattle.std.proofs.Common.{◌≡◌, ◌<◌, true, ℕ, List, [], ◌++◌, length, Option, None, Some, inl, inr, refl, sym, ◌∙◌, ap, subst, arith, append-nil, append_assoc, length-append}
+use Rattle.std.proofs.Common.{◌≡◌, ◌<◌, true, ℕ, List, [], ◌++◌, length, Option, None, inl, inr, refl, sym, ◌∙◌, ap, subst, arith, append-nil, append_assoc, length-append}
 use Rattle.std.specs.Prelude.{IfNone}
 use Rattle.std.specs.Borrow.{Bor}
 use Rattle.std.proofs.lemmas.List.Elements.{All-append, All-nil}
 use Rattle.sl_fields.specs.Field.{IsOctets}
-use Rattle.sl_tcframe.specs.TcDelimited.{front_len, tc_frames_of}
+use Rattle.sl_tcframe.specs.TcDelimited.{front_len}
 use Rattle.sl_tcframe.specs.TcFrame.{is_cut}
 use Rattle.sl_tcframe.specs.TcFraming.{HasTaken, IsRest, IsStuck, TcFraming, WholeFrame, YieldsFrame, YieldsNone, after_call}
 use Rattle.sl_tcframe.proofs.ChunkLemmas.{below_again, less_than_whole, none_below, pause_parts, pause_rest, rest_is_no_frame}
@@ -46,36 +46,22 @@ module _ (f : TcFraming) (p : Parameters) (rest chunk left : List ℕ) (w : TcWa
         | inr stuck ↦ absurd (below_is_not_whole (length frame) (sym (below_stays f.format f.rest chunk stuck) ∙ y.whole))
       ] in
       let less = less_than_whole f.format f.rest chunk (length frame) w.taken (front_tells f.format (f.rest ++ chunk) (WholeFrame (length frame)) y.whole) in
-      record {
-        parts = ap (λ l. l ++ chunk) alone ∙ y.parts;
-        some = omega (arith, less, ap length y.parts, length-append f.rest chunk, length-append frame left);
-        whole = subst (λ g. is_cut g frame ≡ true) w.format cut;
-      }
+      record { parts = rw alone y.parts; some = omega (arith, less, ap length y.parts, length-append f.rest chunk, length-append frame left); whole = rw w.format at cut }
 
   -- ---- no frame
 
   -- none begins at the front
   no_front : YieldsNone f chunk left → front_len f.format (rest ++ chunk) ≡ None
-  no_front y =
-      elim w.later [
-        | inr stuck ↦
-            ap (front_len f.format) rest_with
-            ∙ none_below f.format f.rest (w.more ++ chunk) (subst IsOctets rest_with all) stuck
-        | inl none ↦
-            let alone = ap (λ l. l ++ chunk) (rest_alone none) in
-            ap (front_len f.format) alone
-            ∙ elim y.front [
-              | inl more ↦ rest_is_no_frame f.format (f.rest ++ chunk) (subst IsOctets alone all) (inl more)
-              | inr below ↦
-                  let same = append-nil (f.rest ++ chunk) in
-                  ap (front_len f.format) (sym same)
-                  ∙ none_below f.format (f.rest ++ chunk) [] (subst IsOctets (sym same) (subst IsOctets alone all)) below
-            ]
-      ]
+  no_front y = elim w.later [
+    | inr stuck ↦ rw rest_with (none_below f.format f.rest (w.more ++ chunk) (rw rest_with at all) stuck)
+    | inl none ↦ rw (rest_alone none) (elim y.front [
+      | inl more ↦ rest_is_no_frame f.format (f.rest ++ chunk) (rw (rest_alone none) at all) (inl more)
+      | inr below ↦ rw append-nil at (none_below f.format (f.rest ++ chunk) [] (rw append-nil (rw (rest_alone none) at all)) below)
+    ])
+  ]
 
   pub cuts_none : YieldsNone f chunk left → tc_frames p (rest ++ chunk) ≡ []
-  cuts_none y =
-      subst (λ g. tc_frames_of g (rest ++ chunk) ≡ []) w.format (frames_of-none f.format (rest ++ chunk) (no_front y))
+  cuts_none y = rw w.format at (frames_of-none f.format (rest ++ chunk) (no_front y))
 
   -- ---- what waits then
 
@@ -85,9 +71,9 @@ module _ (f : TcFraming) (p : Parameters) (rest chunk left : List ℕ) (w : TcWa
     octets = all;
     taken = pause_rest f chunk left y;
     more = left;
-    rest_is = ap (λ l. l ++ chunk) (rest_alone none) ∙ pause_parts f chunk left y;
+    rest_is = rw (rest_alone none) (pause_parts f chunk left y);
     later = elim y.front [
-      | inl more ↦ inl (y.left_is ∙ rw more refl)
+      | inl more ↦ inl (rw y.left_is (rw more refl))
       | inr below ↦ inr (rw below (below_again f.format (f.rest ++ chunk) below))
     ];
   }
@@ -97,10 +83,4 @@ module _ (f : TcFraming) (p : Parameters) (rest chunk left : List ℕ) (w : TcWa
 
   pub waits_next : (new : TcFraming) (answer : Option (Bor (List ℕ))) → HasTaken f chunk answer new → IfNone answer (YieldsNone f chunk left)
       → WaitsAfter TcWaits new p rest chunk answer
-  waits_next new None taken y =
-      elim w.later [
-        | inl none ↦ subst (λ g. TcWaits g p (rest ++ chunk)) (sym taken.after) (waits_none y none)
-        | inr stuck ↦ subst (λ g. TcWaits g p (rest ++ chunk)) (sym (taken.stuck stuck)) (waits_stuck stuck)
-      ]
-  waits_next new (Some frame) taken y =
-      waits_nothing new p (ap (λ (g : TcFraming). g.format) taken.after ∙ w.format) (ap (λ (g : TcFraming). g.rest) taken.after)
+  waits_next new answer taken y = grind (arith, waits_none, waits_nothing, waits_stuck, taken.after, taken.stuck, w.format)

@@ -1,5 +1,5 @@
 -- What a framer of TM frames has taken, and what came after the last frame.
-use Rattle.std.proofs.Common.{◌≡◌, ℕ, List, [], ◌++◌, length, Option, None, Some, sym, ◌∙◌, ap, arith, length-append}
+use Rattle.std.proofs.Common.{◌≡◌, ℕ, ◌<◌, List, [], ◌++◌, length, Option, sym, ◌∙◌, ap, arith, length-append}
 use Rattle.std.specs.Prelude.{IfNone}
 use Rattle.std.specs.Borrow.{Bor}
 use Rattle.sl_tmframe.specs.TmFraming.{HasTaken, TmFraming, UsesUpChunk, YieldsFrame}
@@ -16,20 +16,12 @@ module _ (f : TmFraming) (p : Parameters) (rest chunk left : List ℕ) (w : TmWa
     whole = (omega (arith, w.short), y.whole ∙ w.len);
   }
 
+  few : UsesUpChunk f chunk left → length (rest ++ chunk) < p.tm_length
+  few u = omega (arith, u.short, w.len, ap length w.rest_is, length-append f.rest chunk, length-append rest chunk)
+
   pub cuts_none : UsesUpChunk f chunk left → tm_frames p (rest ++ chunk) ≡ []
-  cuts_none u =
-      frames_of-short p.tm_length (rest ++ chunk)
-      (omega (arith, u.short, w.len, ap length w.rest_is, length-append f.rest chunk, length-append rest chunk))
+  cuts_none u = frames_of-short p.tm_length (rest ++ chunk) (few u)
 
   pub waits_next : (new : TmFraming) (answer : Option (Bor (List ℕ))) → HasTaken f chunk answer new → IfNone answer (UsesUpChunk f chunk left)
       → WaitsAfter TmWaits new p rest chunk answer
-  waits_next new None taken u = record {
-    len = ap (λ (g : TmFraming). g.len) taken ∙ w.len;
-    rest_is = ap (λ (g : TmFraming). g.rest) taken ∙ ap (λ l. l ++ chunk) w.rest_is;
-    short = omega (arith, u.short, w.len, ap length w.rest_is, length-append f.rest chunk, length-append rest chunk);
-  }
-  waits_next new (Some frame) taken u = record {
-    len = ap (λ (g : TmFraming). g.len) taken ∙ w.len;
-    rest_is = ap (λ (g : TmFraming). g.rest) taken;
-    short = omega (arith, w.short);
-  }
+  waits_next new answer taken u = grind (arith, few, w.len, w.rest_is, w.short)

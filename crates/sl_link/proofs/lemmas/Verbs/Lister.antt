@@ -1,27 +1,24 @@
 -- A listing: frame by frame, and of a whole recording, and how it stops.
-use Rattle.std.proofs.Common.{◌≡◌, ℕ, List, [], ◌∷◌, ◌++◌, Option, sym, ◌∙◌, ap, append_assoc, append-nil, ◌-◌, ◌≤◌, length, Result, Ok, Err, subst, inl, inr}
+use Rattle.std.proofs.Common.{◌≡◌, ℕ, List, [], ◌∷◌, ◌++◌, Option, sym, ◌∙◌, ap, append_assoc, append-nil, ◌-◌, ◌≤◌, length, Result, Ok, Err, inl, inr, arith}
 use Rattle.std.specs.List.{concat}
 use Rattle.sl_link.specs.declared.io.output.Output.{Output}
 use Rattle.sl_link.specs.declared.link.fault.LinkFault.{LinkFault}
 use Rattle.sl_link.specs.Io.Output.{Adds, StopsAdding}
 use Rattle.sl_link.specs.Verbs.Listing.{Frames, lines_from, EndsListing, Listing, listing_text}
 use Rattle.sl_link.specs.declared.link.counted.Counted.{Counted}
-use Rattle.sl_link.specs.declared.link.fault.LinkFault.TheVariants.{Read, TooLong, Memory, Write}
 use Rattle.sl_link.specs.Link.Counted.{faults_of}
-use Rattle.sl_link.specs.Io.Streams.{IsCaused, IsReadersFault, IsWritersFault, Reads, Translates, Writes, WritesPrefix}
+use Rattle.sl_link.specs.Io.Streams.{IsCaused, Reads, Translates, WritesPrefix}
 use Rattle.sl_link.specs.Pass.{PassesOver, StopsPassing, WantedMemory}
 use Rattle.sl_link.specs.Link.Totals.{Counts}
 use Rattle.sl_link.specs.Tally.{remainder_after}
-use Rattle.sl_link.proofs.lemmas.Io.Streams.{adds_both, stops_then, adds_none, stops_first, stops_last}
+use Rattle.sl_link.proofs.lemmas.Io.Streams.{adds_both, stops_then, adds_none, reader_caused, stops_first, stops_last}
 
 -- ---- frame by frame
 
 module _ {X : Type 0} (line : Frames → List ℕ → List X) where
   pub lines_from-append : (before xs ys : Frames) → lines_from line before (xs ++ ys) ≡ lines_from line before xs ++ lines_from line (before ++ xs) ys
   lines_from-append before [] ys = ap (λ b. lines_from line b ys) (sym (append-nil before))
-  lines_from-append before (x ∷ xs) ys =
-      ap (λ l. line before x ++ l) (lines_from-append (before ++ x ∷ []) xs ys ∙ ap (λ b. lines_from line (before ++ x ∷ []) xs ++ lines_from line b ys) (append_assoc before (x ∷ []) xs))
-      ∙ sym (append_assoc (line before x) (lines_from line (before ++ x ∷ []) xs) (lines_from line (before ++ x ∷ xs) ys))
+  lines_from-append before (x ∷ xs) ys = rw (lines_from-append (before ++ x ∷ []) xs ys, append_assoc before (x ∷ []) xs, append_assoc (line before x))
 
   pub lines_from-last : (xs : Frames) (x : List ℕ) → lines_from line [] (xs ++ x ∷ []) ≡ lines_from line [] xs ++ line xs x
   lines_from-last xs x = lines_from-append [] xs (x ∷ []) ∙ ap (λ l. lines_from line [] xs ++ l) (append-nil (line xs x))
@@ -40,24 +37,7 @@ module _ {R W : Type 0} (remaining : R → Option (List ℕ)) (contents : W → 
   -- the text after the first frames
   later_text : (octets : List ℕ) (first later : Frames) → frames_of octets ≡ first ++ later
       → lines_from l.line [] first ++ (lines_from l.line first later ++ l.last (frames_of octets) (remainder_after (frames_of octets) octets)) ≡ listing_text frames_of l octets
-  later_text octets first later e =
-      let end = l.last (frames_of octets) (remainder_after (frames_of octets) octets) in
-      sym (append_assoc (lines_from l.line [] first) (lines_from l.line first later) end)
-      ∙ ap (λ t. t ++ end) (sym (lines_from-append l.line [] first later) ∙ ap (lines_from l.line []) (sym e))
-
-  sink_caused : (writer writer' : Counted W) (octets : List ℕ) (fault : LinkFault) → faults_of reader' ≡ faults_of reader → length octets ≤ limit → IsWritersFault writer writer' fault
-      → IsCaused remaining contents reader reader' writer writer' limit buffer octets fault
-  sink_caused writer writer' octets Read kept within cause = absurd cause
-  sink_caused writer writer' octets TooLong kept within cause = absurd cause
-  sink_caused writer writer' octets Memory kept within cause = (kept, cause, within)
-  sink_caused writer writer' octets Write kept within cause = (cause, kept, within)
-
-  reader_caused : (writer writer' : Counted W) (octets : List ℕ) (fault : LinkFault) → faults_of writer' ≡ faults_of writer → IsReadersFault reader reader' limit buffer octets fault
-      → IsCaused remaining contents reader reader' writer writer' limit buffer octets fault
-  reader_caused writer writer' octets Read kept cause = (cause.0, kept, cause.1)
-  reader_caused writer writer' octets TooLong kept cause = (cause.0, kept, cause.1, cause.2)
-  reader_caused writer writer' octets Memory kept cause = (cause.0, kept, cause.1)
-  reader_caused writer writer' octets Write kept cause = absurd cause
+  later_text octets first later e = rw (← append_assoc (lines_from l.line [] first), ← lines_from-append l.line [] first later, ← e)
 
   module _ (start new : Output W) (empty : start.lines ≡ []) where
     -- the output keeps the writer that was lent, and the listing ends in this way
@@ -70,20 +50,10 @@ module _ {R W : Type 0} (remaining : R → Option (List ℕ)) (contents : W → 
     stops_at : (wanted : Type 0) (text more octets : List ℕ) (fault : LinkFault) → Reads remaining reader reader' octets → faults_of reader' ≡ faults_of reader → length octets ≤ limit
         → text ++ more ≡ listing_text frames_of l octets → StopsAdding contents start text new wanted fault
         → (wanted → WantedMemory remaining reader reader' frames_of wants_memory) → Ends (Err fault)
-    stops_at wanted text more octets fault read kept within e s wants = (
-      s.lent,
-      record {
-        listing = tt;
-        totals = tt;
-        fault = record {
-          octets = octets;
-          read = read;
-          written = subst (WritesPrefix contents start.writer.now new.writer.now) (ap (λ t. t ++ (text ++ more)) empty ∙ e) (stops_first more s).front;
-          cause = sink_caused start.writer.now new.writer.now octets fault kept within s.cause;
-        };
-        memory = λ is_memory. wants (s.memory is_memory);
-      },
-    )
+    stops_at wanted text more octets fault read kept within e s wants =
+        let written = rw (empty, e) at (stops_first more s).front in
+        let cause : IsCaused remaining contents reader reader' start.writer.now new.writer.now limit buffer octets fault = grind (arith, kept, within, s.cause) in
+        (s.lent, record { listing = tt; totals = tt; fault = record { octets = octets; read = read; written = written; cause = cause }; memory = λ is_memory. wants (s.memory is_memory) })
 
     -- a fault before all was read
     pub stops_frames : (has_listed : Frames → Type 0) (fault : LinkFault)
@@ -95,39 +65,22 @@ module _ {R W : Type 0} (remaining : R → Option (List ℕ)) (contents : W → 
         let text = later_text s.octets s.first s.later s.in_order in
         elim s.cause [
           | inl at ↦
-              let t = at.0.1.adds in (
-                at.0.1.lent,
-                record {
-                  listing = tt;
-                  totals = tt;
-                  fault = record {
-                    octets = s.octets;
-                    read = s.read;
-                    written = record {
-                      written = t.written;
-                      missing = new.lines ++ more;
-                      front = sym (append_assoc t.written new.lines more) ∙ ap (λ x. x ++ more) (sym t.parts ∙ ap (λ x. x ++ lines_from l.line [] s.first) empty) ∙ text;
-                      writes = t.writes;
-                    };
-                    cause = reader_caused start.writer.now new.writer.now s.octets fault t.no_fault at.2;
-                  };
-                  memory = λ is_memory. absurd (at.1 is_memory);
-                },
-              )
+              let t = at.0.1.adds in
+              let front : t.written ++ (new.lines ++ more) ≡ listing_text frames_of l s.octets = rw (← append_assoc t.written new.lines more, ← t.parts, empty) text in
+              let written : WritesPrefix contents start.writer.now new.writer.now (listing_text frames_of l s.octets) = record { written = t.written; missing = new.lines ++ more; front = front; writes = t.writes } in
+              let cause = reader_caused remaining contents reader reader' start.writer.now new.writer.now limit buffer s.octets fault t.no_fault at.2 in
+              (at.0.1.lent, record { listing = tt; totals = tt; fault = record { octets = s.octets; read = s.read; written = written; cause = cause }; memory = λ is_memory. absurd (at.1 is_memory) })
           | inr at ↦
               stops_at (wants_memory s.first) (lines_from l.line [] s.first) more s.octets fault s.read at.1 at.2 text at.0
               (λ wanted. record { octets = s.octets; read = s.read; first = s.first; later = s.later; in_order = s.in_order; wanted = wanted })
         ]
 
     module _ (n : ℕ) (taken : Frames → Type 0) (s : PassesOver remaining reader reader' frames_of taken limit n) (mid : Output W) (listed : Adds contents start (lines_from l.line [] (frames_of s.octets)) mid) where
-      rest_is : n - length (concat (frames_of s.octets)) ≡ remainder_after (frames_of s.octets) s.octets
-      rest_is = ap (λ k. k - length (concat (frames_of s.octets))) s.size
-
       abbrev last_lines : List ℕ
       last_lines = l.last (frames_of s.octets) (n - length (concat (frames_of s.octets)))
 
       whole_text : lines_from l.line [] (frames_of s.octets) ++ last_lines ≡ listing_text frames_of l s.octets
-      whole_text = ap (λ k. lines_from l.line [] (frames_of s.octets) ++ l.last (frames_of s.octets) k) rest_is
+      whole_text = ap (λ k. lines_from l.line [] (frames_of s.octets) ++ l.last (frames_of s.octets) (k - length (concat (frames_of s.octets)))) s.size
 
       -- a fault of the last lines
       pub stops_finish : (fault : LinkFault) → StopsAdding contents mid last_lines new ⊥ fault → Ends (Err fault)
@@ -143,18 +96,14 @@ module _ {R W : Type 0} (remaining : R → Option (List ℕ)) (contents : W → 
         lists_all totals flushed none counts =
             let all = adds_none (adds_both listed added) flushed in
             let t = all.adds in
-            let text : t.written ≡ listing_text frames_of l s.octets =
-            sym (append-nil t.written) ∙ ap (λ x. t.written ++ x) (sym none) ∙ sym t.parts ∙ ap (λ x. x ++ (lines_from l.line [] (frames_of s.octets) ++ last_lines)) empty ∙ whole_text in
-            let translated : Translates remaining contents reader reader' start.writer.now new.writer.now (listing_text frames_of l) limit =
-            record {
+            let text : t.written ≡ listing_text frames_of l s.octets = rw (← whole_text) (simp (empty, none, append-nil) at (sym t.parts)) in
+            let translated : Translates remaining contents reader reader' start.writer.now new.writer.now (listing_text frames_of l) limit = record {
               octets = s.octets;
               within = s.within;
               read = s.read;
               to_end = s.to_end;
-              written = subst (λ x. Writes contents start.writer.now new.writer.now x) text t.writes;
+              written = rw (← text) t.writes;
               reader_kept = s.no_fault;
               writer_kept = t.no_fault;
-            } in (
-              all.lent,
-              record { listing = translated; totals = record { translated = translated; counted = counts ∙ ap (l.counts (frames_of s.octets)) rest_is }; fault = tt; memory = tt },
-            )
+            } in
+            (all.lent, record { listing = translated; totals = record { translated = translated; counted = rw (← s.size) counts }; fault = tt; memory = tt })

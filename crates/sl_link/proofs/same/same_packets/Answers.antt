@@ -1,4 +1,4 @@
-use Rattle.sl_link.proofs.lemmas.Same.{same_kept}
+use Rattle.sl_link.proofs.lemmas.Kind.Delivery.{same_kept}
 use Rattle.sl_link.proofs.same.same_packets.Goals as goal
 
 pub returns-clause-same : goal.returns-clause-same

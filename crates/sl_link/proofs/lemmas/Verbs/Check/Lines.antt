@@ -1,5 +1,5 @@
 -- Lines of anomalies: of a frame, of what is incomplete at the end of a recording, and all that comes after the last frame.
-use Rattle.std.proofs.Common.{◌≡◌, ℕ, ◌≤◌, Bool, true, false, List, ◌++◌, length, Option, arith, append_assoc, ◌≢◌, zero, suc, ◌+◌, ◌-◌, ◌<◌, [], ◌∷◌, map, refl, sym, ◌∙◌, ap, subst, append-nil, length-append, ap₂}
+use Rattle.std.proofs.Common.{◌≡◌, ℕ, ◌≤◌, Bool, List, ◌++◌, length, Option, arith, append_assoc, ◌≢◌, zero, suc, ◌+◌, ◌-◌, ◌<◌, [], ◌∷◌, refl, sym, ◌∙◌, ap, append-nil, length-append}
 use Rattle.std.specs.List.{concat, range_with_len}
 use Rattle.std.proofs.lemmas.List.Folds.{concat-append}
 use Rattle.std.specs.Prelude.{flat_map}
@@ -8,24 +8,19 @@ use Rattle.sl_link.specs.Verbs.Check.Lines.{event_anomaly, check_counted, end_an
 use Rattle.sl_link.specs.declared.io.output.Output.{Output}
 use Rattle.sl_link.specs.declared.link.fault.LinkFault.{LinkFault}
 use Rattle.sl_link.specs.Io.Output.{Adds, StopsAdding}
-use Rattle.sl_link.specs.Kind.Delivery.{AreDelivered, Kind, count_of, idle_in, packets_in}
+use Rattle.sl_link.specs.Kind.Delivery.{AreDelivered, Kind}
 use Rattle.sl_link.specs.Link.Totals.{Counts}
-use Rattle.sl_link.specs.Tally.{counts_so_far, counts_with_remainder}
+use Rattle.sl_link.specs.Tally.{counts_with_remainder}
 use Rattle.sl_link.specs.Verbs.Listing.{Frames, lines_from}
 use Rattle.sl_link.proofs.lemmas.Io.Streams.{adds_both, adds_lines, stops_first, stops_last}
-use Rattle.sl_link.proofs.lemmas.Kind.Channels.{items_change, no_items}
+use Rattle.sl_link.proofs.lemmas.Kind.Channels.{flat_count, items_change, no_items}
 use Rattle.sl_link.proofs.lemmas.Verbs.Lister.{lines_from-last}
 
 -- ---- one group after another
 
 -- an event has one line at most
 pub one_event : (offset vc : ℕ) (map_id : Option ℕ) (event : List ℕ) (holds : Bool) (octets : Option ℕ) → length (event_anomaly offset vc map_id event holds octets) ≤ 1
-one_event offset vc map_id event true octets = omega arith
-one_event offset vc map_id event false octets = omega arith
-
--- two groups, end to end
-pub joined : (text : List ℕ) (xs ys : List (List ℕ)) → (text ++ concat xs) ++ concat ys ≡ text ++ concat (xs ++ ys)
-joined text xs ys = simp (append_assoc, concat-append)
+one_event offset vc map_id event holds octets = grind arith
 
 -- the groups of a TM frame, and of a TC frame
 pub joined_four : {a b c d e : List ℕ} {ws xs ys zs : List (List ℕ)} {k l m n : ℕ}
@@ -42,8 +37,7 @@ joined_five p q r s t = rw (t.text, s.text, r.text, q.text, p.text) (simp (appen
 none_in : (line : ℕ → List (List ℕ)) (from n : ℕ) → ((channel : ℕ) → from ≤ channel → channel < from + n → line channel ≡ []) → flat_map line (range_with_len from n) ≡ []
 none_in line from zero none = refl
 none_in line from (suc n) none =
-    ap (λ l. l ++ flat_map line (range_with_len (from + 1) n)) (none from (omega arith) (omega arith))
-    ∙ none_in line (from + 1) n (λ channel above below. none channel (omega (arith, above)) (omega (arith, below)))
+    rw (none from (omega arith) (omega arith)) (none_in line (from + 1) n (λ channel above below. none channel (omega (arith, above)) (omega (arith, below))))
 
 -- the lines of the channels before one were added, and this is their number
 pub record HasAdded {W : Type 0} (contents : W → Option (List ℕ)) (line : ℕ → List (List ℕ)) (k : Kind) (start out : Output W) (channel number : ℕ) : Type 0 where
@@ -56,21 +50,15 @@ module _ {W : Type 0} {contents : W → Option (List ℕ)} {line : ℕ → List 
   pub added_none : k.channels ≡ range_with_len 0 k.limit → HasAdded contents line k start start 0 0
   added_none all =
       let whole : k.limit ≡ k.limit - 0 = omega arith in
-      record {
-        lines = [];
-        all = ap (flat_map line) (all ∙ ap (range_with_len 0) whole);
-        added = adds_lines contents start start [] refl (sym (append-nil start.lines));
-        many = refl;
-      }
+      record { lines = []; all = ap (flat_map line) (all ∙ ap (range_with_len 0) whole); added = adds_lines contents start start [] refl (sym (append-nil start.lines)); many = refl }
 
   pub added_next : {old new : Output W} {channel number more : ℕ} → HasAdded contents line k start old channel number → channel < k.limit
       → Adds contents old (concat (line channel)) new → more ≡ length (line channel) → HasAdded contents line k start new (channel + 1) (number + more)
   added_next {channel = channel} h within adds is =
-      let later = flat_map line (range_with_len (channel + 1) (k.limit - (channel + 1))) in
       let left : k.limit - channel ≡ suc (k.limit - (channel + 1)) = omega (arith, within) in
       record {
         lines = h.lines ++ line channel;
-        all = h.all ∙ ap (λ n. h.lines ++ flat_map line (range_with_len channel n)) left ∙ sym (append_assoc h.lines (line channel) later);
+        all = rw left at h.all ∙ sym (append_assoc h.lines (line channel) (flat_map line (range_with_len (channel + 1) (k.limit - (channel + 1)))));
         added = rw (concat-append h.lines (line channel)) (adds_both h.added adds);
         many = omega (arith, h.many, is, length-append h.lines (line channel));
       }
@@ -78,9 +66,7 @@ module _ {W : Type 0} {contents : W → Option (List ℕ)} {line : ℕ → List 
   -- a fault before the next ones leaves a prefix of them
   pub added_stops : {old new : Output W} {channel number : ℕ} {fault : LinkFault} → HasAdded contents line k start old channel number
       → StopsAdding contents old [] new ⊥ fault → StopsAdding contents start (concat (flat_map line k.channels)) new ⊥ fault
-  added_stops {channel = channel} h stops =
-      let later = flat_map line (range_with_len channel (k.limit - channel)) in
-      rw (h.all, concat-append h.lines later) (stops_first (concat later) (stops_last h.added stops))
+  added_stops h stops = rw (h.all, concat-append) (stops_first _ (stops_last h.added stops))
 
   -- where the channels from one on have none, they are those of all channels
   pub added_all : {out : Output W} {channel number : ℕ} → HasAdded contents line k start out channel number → channel ≤ k.limit
@@ -91,10 +77,6 @@ module _ {W : Type 0} {contents : W → Option (List ℕ)} {line : ℕ → List 
 
 -- ---- how many lines these are
 
-flat_count : (f : ℕ → List (List ℕ)) (xs : List ℕ) → length (flat_map f xs) ≡ count_of (map f xs)
-flat_count f [] = refl
-flat_count f (x ∷ xs) = length-append (f x) (flat_map f xs) ∙ ap (λ n. length (f x) + n) (flat_count f xs)
-
 -- where a channel has at most one, and a frame changes its own channel alone
 module _ (k : Kind) (laws : AreDelivered k) (line : List (List ℕ) → ℕ → List (List ℕ)) (none : (channel : ℕ) → line [] channel ≡ [])
     (one : (frames : List (List ℕ)) (channel : ℕ) → length (line frames channel) ≤ 1)
@@ -103,36 +85,29 @@ module _ (k : Kind) (laws : AreDelivered k) (line : List (List ℕ) → ℕ → 
       → length (flat_map (line (frames ++ frame ∷ [])) k.channels) ≤ length (frames ++ frame ∷ [])
   few_next frames frame few =
       let at = k.channel frame in
-      let old = line frames in
-      let new = line (frames ++ frame ∷ []) in
-      let change = items_change k.limit k.channels laws.all old new at (laws.inside frame) (λ i apart. other frames frame i (λ e. apart (sym e))) in
-      omega (arith, few, change, one (frames ++ frame ∷ []) at, flat_count old k.channels, flat_count new k.channels, length-append frames (frame ∷ []))
+      let next = frames ++ frame ∷ [] in
+      let change = items_change k.limit k.channels laws.all (line frames) (line next) at (laws.inside frame) (λ i apart. other frames frame i (λ e. apart (sym e))) in
+      omega (arith, few, change, one next at, flat_count (line frames) k.channels, flat_count (line next) k.channels, length-append frames (frame ∷ []))
 
   few_from : (before frames : List (List ℕ)) → length (flat_map (line before) k.channels) ≤ length before
       → length (flat_map (line (before ++ frames)) k.channels) ≤ length (before ++ frames)
-  few_from before [] few = subst (λ l. length (flat_map (line l) k.channels) ≤ length l) (sym (append-nil before)) few
-  few_from before (frame ∷ frames) few =
-      subst (λ l. length (flat_map (line l) k.channels) ≤ length l) (append_assoc before (frame ∷ []) frames) (few_from (before ++ frame ∷ []) frames (few_next before frame few))
+  few_from before [] few = rw append-nil few
+  few_from before (frame ∷ frames) few = rw append_assoc at (few_from (before ++ frame ∷ []) frames (few_next before frame few))
 
   pub few_open : (frames : List (List ℕ)) → length (flat_map (line frames) k.channels) ≤ length frames
-  few_open frames = few_from [] frames (omega (arith, flat_count (line []) k.channels, no_items k.limit k.channels laws.all (line []) none))
+  few_open frames = few_from [] frames (omega (arith, flat_count (line []) k.channels, no_items (line []) k.channels none))
 
 -- ---- after the last frame
 
 -- the anomalies of one frame more
 pub anomalies_more : (anomalies_at : Frames → List ℕ → List (List ℕ)) (frames : Frames) (frame : List ℕ) (number : ℕ) → number ≡ length (anomalies_at frames frame)
     → length (lines_from anomalies_at [] frames) + number ≡ length (lines_from anomalies_at [] (frames ++ frame ∷ []))
-anomalies_more anomalies_at frames frame number is =
-    omega (arith, is, ap length (lines_from-last anomalies_at frames frame), length-append (lines_from anomalies_at [] frames) (anomalies_at frames frame))
+anomalies_more anomalies_at frames frame number is = grind (arith, length-append, lines_from-last)
 
 -- the remainder begins at an offset, which is where the frames end
 module _ (k : Kind) (open_at : ℕ → Frames → ℕ → List (List ℕ)) (frames : Frames) (offset octets : ℕ) (ends : offset ≡ length (concat frames)) (inside : length (concat frames) ≤ octets) where
   end_is : remainder_anomaly offset (octets - offset) ++ flat_map (open_at octets frames) k.channels ≡ end_anomalies k open_at frames (octets - length (concat frames))
-  end_is =
-      let rest = octets - length (concat frames) in
-      let whole : octets ≡ length (concat frames) + rest = omega (arith, inside) in
-      ap (λ n. remainder_anomaly n (octets - n) ++ flat_map (open_at octets frames) k.channels) ends
-      ∙ ap (λ n. remainder_anomaly (length (concat frames)) rest ++ flat_map (open_at n frames) k.channels) whole
+  end_is = grind arith
 
   -- the lines after them: the remainder's, and then those of what is incomplete
   pub end_text : concat (remainder_anomaly offset (octets - offset)) ++ concat (flat_map (open_at octets frames) k.channels) ≡ concat (end_anomalies k open_at frames (octets - length (concat frames)))
@@ -141,8 +116,4 @@ module _ (k : Kind) (open_at : ℕ → Frames → ℕ → List (List ℕ)) (fram
   pub all_counted : (anomalies_at : Frames → List ℕ → List (List ℕ)) {had : Frames → Type 0} {t : Counts} {remainders incomplete : ℕ} → HasChecked k anomalies_at had frames t
       → remainders ≡ length (remainder_anomaly offset (octets - offset)) → incomplete ≡ length (flat_map (open_at octets frames) k.channels)
       → counts_with_remainder t (octets - offset) (remainders + incomplete) ≡ check_counted k anomalies_at open_at frames (octets - length (concat frames))
-  all_counted anomalies_at {remainders} {incomplete} h first later =
-      let number : remainders + incomplete ≡ length (end_anomalies k open_at frames (octets - length (concat frames))) =
-      omega (arith, first, later, ap length end_is, length-append (remainder_anomaly offset (octets - offset)) (flat_map (open_at octets frames) k.channels)) in
-      ap (λ (c : Counts). counts_with_remainder c (octets - offset) (remainders + incomplete)) h.counts
-      ∙ ap₂ (λ n more. counts_with_remainder (counts_so_far k.is_skipped frames (packets_in k frames) (idle_in k frames) (length (lines_from anomalies_at [] frames))) (octets - n) more) ends number
+  all_counted anomalies_at {remainders} {incomplete} h first later = grind (arith, end_is, length-append, h.counts)

@@ -1,8 +1,7 @@
 -- What is printed of a packet, and what a sink that prints packets has written and added.
-use Rattle.std.proofs.Common.{◌≡◌, ℕ, List, [], ◌++◌, Option, refl, sym, ◌∙◌, ap, subst, append_assoc, append-nil, ◌∷◌, map}
+use Rattle.std.proofs.Common.{arith, ◌≡◌, ℕ, List, [], ◌++◌, Option, refl, sym, ◌∙◌, append_assoc, append-nil, ◌∷◌}
 use Rattle.std.proofs.lemmas.List.{map-append}
 use Rattle.std.proofs.lemmas.List.Folds.{concat-append}
-use Rattle.std.specs.List.{concat}
 use Rattle.sl_packet.specs.declared.flow_fault.FlowFault.{FlowFault}
 use Rattle.sl_packet.specs.declared.flow_fault.FlowFault.TheVariants as flow
 use Rattle.sl_packet.specs.declared.sink.SinkFault.{SinkFault}
@@ -32,17 +31,15 @@ pub record IsPushing {W : Type 0} (contents : W → Option (List ℕ)) (start no
 
 module _ {W : Type 0} {contents : W → Option (List ℕ)} where
   pub pushing_none : (start : Output W) (octets : List ℕ) → IsPushing contents start start octets octets
-  pushing_none start octets =
-      record { done = []; parts = refl; adds = subst (λ l. Adds contents start l start) (sym encode_nil) (adds_lines contents start start [] refl (sym (append-nil start.lines))) }
+  pushing_none start octets = record { done = []; parts = refl; adds = rw encode_nil (adds_lines contents start start [] refl (sym (append-nil start.lines))) }
 
   module _ {start old : Output W} {octets left : List ℕ} (s : IsPushing contents start old octets left) where
     pub pushing_next : {new : Output W} (part after : List ℕ) → left ≡ part ++ after → Adds contents old (encode_lower part) new → IsPushing contents start new octets after
-    pushing_next part after parts adds =
-        record {
-          done = s.done ++ part;
-          parts = s.parts ∙ ap (λ l. s.done ++ l) parts ∙ sym (append_assoc s.done part after);
-          adds = rw (encode_append s.done part) (adds_both s.adds adds);
-        }
+    pushing_next part after parts adds = record {
+      done = s.done ++ part;
+      parts = rw (append_assoc s.done part after, ← parts) s.parts;
+      adds = rw (encode_append s.done part) (adds_both s.adds adds);
+    }
 
     pub pushing_stops : {new : Output W} {fault : LinkFault} → StopsAdding contents old [] new ⊥ fault → StopsAdding contents start (encode_lower octets) new ⊥ fault
     pushing_stops stops = rw (s.parts, encode_append s.done left) (stops_first (encode_lower left) (stops_last s.adds stops))
@@ -50,9 +47,7 @@ module _ {W : Type 0} {contents : W → Option (List ℕ)} where
 -- ---- the sink
 
 lines_append : (kind : ChannelKind) (channel : ℕ) (xs ys : List (List ℕ)) → lines_on kind channel (xs ++ ys) ≡ lines_on kind channel xs ++ lines_on kind channel ys
-lines_append kind channel xs ys =
-    let line = packet_line (channel_name kind channel) in
-    ap concat (map-append line xs ys) ∙ concat-append (map line xs) (map line ys)
+lines_append kind channel xs ys = simp (map-append, concat-append)
 
 module _ {W : Type 0} (contents : W → Option (List ℕ)) where
   -- a packet was printed, to the same output
@@ -65,35 +60,29 @@ module _ {W : Type 0} (contents : W → Option (List ℕ)) where
       (fault ≡ Device) × (new.out.ghost_name ≡ old.out.ghost_name) × StopsAdding contents old.out.now (packet_line (channel_name old.kind channel) packet) new.out.now ⊥ Write
 
   -- packets that were printed in turn
-  printed_all : (packets : List (List ℕ)) (old new : Printer W) (channel : ℕ) → TakesAll Prints old channel packets new → Adds contents old.out.now (lines_on old.kind channel packets) new.out.now
-  printed_all [] old new channel same = subst (λ (s : Printer W). Adds contents old.out.now [] s.out.now) (sym same) (adds_lines contents _ _ _ refl (sym (append-nil old.out.now.lines)))
-  printed_all (packet ∷ packets) old new channel t =
-      adds_both t.1.2 (subst (λ k. Adds contents t.0.out.now (lines_on k channel packets) new.out.now) t.1.0 (printed_all packets t.0 new channel t.2))
-
-  same_kind : (packets : List (List ℕ)) (old new : Printer W) (channel : ℕ) → TakesAll Prints old channel packets new → new.kind ≡ old.kind
-  same_kind [] old new channel same = ap (λ (s : Printer W). s.kind) same
-  same_kind (packet ∷ packets) old new channel t = same_kind packets t.0 new channel t.2 ∙ t.1.0
-
-  same_out : (packets : List (List ℕ)) (old new : Printer W) (channel : ℕ) → TakesAll Prints old channel packets new → new.out.ghost_name ≡ old.out.ghost_name
-  same_out [] old new channel same = ap (λ (s : Printer W). s.out.ghost_name) same
-  same_out (packet ∷ packets) old new channel t = same_out packets t.0 new channel t.2 ∙ t.1.1
+  printed : (packets : List (List ℕ)) (old new : Printer W) (channel : ℕ) → TakesAll Prints old channel packets new
+      → (new.kind ≡ old.kind) × (new.out.ghost_name ≡ old.out.ghost_name) × Adds contents old.out.now (lines_on old.kind channel packets) new.out.now
+  printed [] old new channel same = rw same (refl, refl, adds_lines contents old.out.now old.out.now [] refl (sym (append-nil old.out.now.lines)))
+  printed (packet ∷ packets) old new channel t =
+      let later = printed packets t.0 new channel t.2 in
+      (later.0 ∙ t.1.0, later.1 ∙ t.1.1, adds_both t.1.2 (rw t.1.0 at later.2))
 
   -- where the lent output ends as this, and the packets' lines are this text
   module _ (packets : List (List ℕ)) (old new : Printer W) (channel : ℕ) (out : Output W) (text : List ℕ)
       (ends : old.out.ghost_name ≡ new.out.ghost_name → out ≡ new.out.now) (text_is : text ≡ lines_on old.kind channel packets) where
     pub all_printed : TakesAll Prints old channel packets new → Adds contents old.out.now text out
-    all_printed t = rw (ends (sym (same_out packets old new channel t)), text_is) (printed_all packets old new channel t)
+    all_printed t = grind (arith, printed)
 
     -- memory was refused, or the writer failed
     pub stops_printing : (failures : Printer W → ℕ) (wanted : Type 0) (fault : FlowFault) → IsStopped Prints FailsToPrint failures old channel packets fault new → (fault ≡ flow.Memory → wanted)
         → StopsAdding contents old.out.now text out wanted (flow_fault fault)
     stops_printing failures wanted flow.Memory stopped wants =
         let s = stopped.0 in
-        rw (ends (sym (same_out s.accepted old new channel s.takes)), text_is, s.in_order, lines_append old.kind channel s.accepted s.later)
-        (stops_then (printed_all s.accepted old new channel s.takes) (stops_at_memory contents _ _ _ refl (wants refl)))
+        let p = printed s.accepted old new channel s.takes in
+        rw (ends (sym p.1), text_is, s.in_order, lines_append old.kind channel s.accepted s.later) (stops_then p.2 (stops_at_memory contents _ _ _ refl (wants refl)))
     stops_printing failures wanted (flow.Sink fault) stopped wants =
         let s = stopped.0 in
-        let stops = subst (λ k. StopsAdding contents s.before.out.now (packet_line (channel_name k channel) s.refused) new.out.now ⊥ Write) (same_kind s.accepted old s.before channel s.takes) s.fails.2 in
-        rw (s.fails.0, ends (sym (s.fails.1 ∙ same_out s.accepted old s.before channel s.takes)), text_is, s.in_order, lines_append old.kind channel s.accepted (s.refused ∷ s.later))
-        (stops_for wanted (stops_then (printed_all s.accepted old s.before channel s.takes) (stops_first _ stops)))
+        let p = printed s.accepted old s.before channel s.takes in
+        rw (s.fails.0, ends (sym (s.fails.1 ∙ p.1)), text_is, s.in_order, lines_append old.kind channel s.accepted (s.refused ∷ s.later))
+        (stops_for wanted (stops_then p.2 (stops_first _ (rw p.0 at s.fails.2))))
     stops_printing failures wanted flow.Failed stopped wants = absurd stopped

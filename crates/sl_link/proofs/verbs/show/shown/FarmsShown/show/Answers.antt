@@ -5,7 +5,7 @@ use Rattle.sl_tcflow.specs.Receiving.{HaveStepped}
 use Rattle.sl_link.specs.Io.Line.{line_at}
 use Rattle.sl_link.specs.Link.Managed.{Parameters, reception_of, tc_format}
 use Rattle.sl_link.specs.Verbs.Show.Tc.{farm_view, tc_frame_text}
-use Rattle.sl_link.proofs.lemmas.Kind.Tc.{views_next}
+use Rattle.sl_link.proofs.lemmas.Kind.Delivery.{views_next}
 use Rattle.sl_link.proofs.verbs.show.shown.FarmsShown.show.Goals as goal
 
 pub returns-clause-line : goal.returns-clause-line
@@ -21,5 +21,5 @@ returns-clause-shown c = λ before h.
     let r = reception_of p in
     let seen = views_of (tc_format p) p.spacecraft before in
     let read : c.read-read.result ≡ tc_frame (tc_format p) p.spacecraft c.args.frame.now = search rules in
-    subst (λ (views : List TcView). HaveStepped r c.tc_frame_line.new.farms views) (sym (views_next (tc_format p) p.spacecraft before c.args.frame.now))
+    subst (λ (views : List TcView). HaveStepped r c.tc_frame_line.new.farms views) (sym (views_next (tc_frame (tc_format p) p.spacecraft) before c.args.frame.now))
     (rw read at (c.tc_frame_line.ensures.farms r seen h))

@@ -42,10 +42,9 @@ pub struct Managed {
 
 impl Model for Managed {
     ghost use Rattle.sl_link.specs.Link.Managed.{Parameters};
+    ghost use Rattle.sl_link.specs.Link.ManagedModel.{parameters_of, inside_of, IsManaged};
 
     ghost Value = { Parameters };
-
-    ghost use Rattle.sl_link.specs.Link.ManagedModel.{parameters_of, inside_of, IsManaged};
 
     ghost view = { parameters_of };
 

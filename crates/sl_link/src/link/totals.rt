@@ -17,10 +17,9 @@ pub struct Totals {
 
 impl Model for Totals {
     ghost use Rattle.sl_link.specs.Link.Totals.{Counts};
+    ghost use Rattle.sl_link.specs.Link.TotalsModel.{totals_counts, inside_of, AreTotals};
 
     ghost Value = { Counts };
-
-    ghost use Rattle.sl_link.specs.Link.TotalsModel.{totals_counts, inside_of, AreTotals};
 
     ghost view = { totals_counts };
 

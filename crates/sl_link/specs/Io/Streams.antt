@@ -48,20 +48,21 @@ pub record ReadsAll {R : Type 0} (remaining : R → Option (List ℕ)) (old new 
   pub to_end : IsRead remaining new
   pub no_fault : faults_of new ≡ faults_of old
 
--- A fault of reading, or of keeping what was read, has its cause. A read gives `buffer` octets at most.
+-- A fault of reading, or of keeping what was read, has its cause. At `TooLong` more octets than the limit were read, by
+-- `past` at most.
 abbrev pub IsReadersFault : {R : Type 0} → Counted R → Counted R → ℕ → ℕ → List ℕ → LinkFault → Type 0
-IsReadersFault old new limit buffer octets Read = HadOneFault old new × (length octets ≤ limit)
-IsReadersFault old new limit buffer octets TooLong =
-    (faults_of new ≡ faults_of old) × (limit < length octets) × (length octets ≤ limit + buffer)
-IsReadersFault old new limit buffer octets Memory = (faults_of new ≡ faults_of old) × (length octets ≤ limit)
-IsReadersFault old new limit buffer octets Write = ⊥
+IsReadersFault old new limit past octets Read = HadOneFault old new × (length octets ≤ limit)
+IsReadersFault old new limit past octets TooLong =
+    (faults_of new ≡ faults_of old) × (limit < length octets) × (length octets ≤ limit + past)
+IsReadersFault old new limit past octets Memory = (faults_of new ≡ faults_of old) × (length octets ≤ limit)
+IsReadersFault old new limit past octets Write = ⊥
 
 -- octets were read, perhaps none, and then a fault came
-pub record StopsReading {R : Type 0} (remaining : R → Option (List ℕ)) (old new : Counted R) (limit buffer : ℕ)
+pub record StopsReading {R : Type 0} (remaining : R → Option (List ℕ)) (old new : Counted R) (limit past : ℕ)
     (fault : LinkFault) : Type 0 where
   pub octets : List ℕ
   pub read : Reads remaining old new octets
-  pub cause : IsReadersFault old new limit buffer octets fault
+  pub cause : IsReadersFault old new limit past octets fault
 
 -- the text was written
 pub record WritesText {W : Type 0} (contents : W → Option (List ℕ)) (old new : Counted W) (text : List ℕ) : Type 0 where

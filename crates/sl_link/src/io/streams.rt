@@ -1,7 +1,7 @@
 //! Single reads, and single writes until a text is written. None is tried again after an error, an
 //! interrupted call included.
-ghost use Rattle.std.specs.Prelude.{◌≢◌, IfOk, IfErr, OnOk, length};
-ghost use Rattle.sl_link.specs.Io.Streams.{ReadsSome, StopsReading, WritesText, StopsWriting};
+ghost use Rattle.std.specs.Prelude.{◌≡◌, ◌≢◌, ◌-◌, [], IfOk, IfErr, OnOk, length};
+ghost use Rattle.sl_link.specs.Io.Streams.{Reads, ReadsSome, StopsReading, WritesText, StopsWriting};
 
 use crate::link::counted::Counted;
 use crate::link::fault::LinkFault;
@@ -16,11 +16,12 @@ pub fn read_some<R: Read>(
     limit: u64,
 ) -> Result<usize, LinkFault>
     ensures came { IfOk result (ReadsSome R.remaining reader.old reader.new buffer.new limit) }
+    // At `TooLong` more octets came than the limit, and no more than the buffer holds.
     ensures fault { IfErr result
-        (StopsReading R.remaining reader.old reader.new limit (length buffer.new)) }
-    // No octets came at `Read`, and no more than a buffer at `TooLong`.
-    ensures once { IfErr result
-        (StopsReading R.remaining reader.old reader.new 0 (length buffer.new)) }
+        (StopsReading R.remaining reader.old reader.new limit (length buffer.new - limit)) }
+    // At `Read` no octets came.
+    ensures none_lost { IfErr result
+        (λ fault. fault ≡ LinkFault.Read → Reads R.remaining reader.old reader.new []) }
     ensures not_memory { IfErr result (λ fault. fault ≢ LinkFault.Memory) }
 {
     let taken = match reader.read(buffer) {

@@ -87,21 +87,21 @@ module _ {R F : Type 0} {remaining : R → Option (List ℕ)} {is_frame : Parame
       all = all;
     }
 
-  caused : (reader' : Counted R) (most room buffer : ℕ) (octets : List ℕ) (fault : LinkFault) → limit ≡ most → buffer ≡ room → IsReadersFault mid reader' (limit - n) buffer octets fault
+  caused : (reader' : Counted R) (most room past : ℕ) (octets : List ℕ) (fault : LinkFault) → limit ≡ most → past ≤ room → IsReadersFault mid reader' (limit - n) past octets fault
       → IsReadersFault reader reader' most room (s.octets ++ octets) fault
-  caused reader' most room buffer octets fault same fits cause = grind (arith, length-append, s.no_fault, s.size, s.allowed)
+  caused reader' most room past octets fault same fits cause = grind (arith, length-append, s.no_fault, s.size, s.allowed)
 
   module _ (front : (p : Parameters) (frame more : List ℕ) → is_frame p frame → frames_of p (frame ++ more) ≡ frame ∷ frames_of p more) {reader' : Counted R} {stopped : List (List ℕ) → LinkFault → Type 0} {fault : LinkFault} where
     -- the reader stopped
-    pub stops_reading : {most room buffer : ℕ} → limit ≡ most → buffer ≡ room → StopsReading remaining mid reader' (limit - n) buffer fault → fault ≢ Memory
+    pub stops_reading : {most room past : ℕ} → limit ≡ most → past ≤ room → StopsReading remaining mid reader' (limit - n) past fault → fault ≢ Memory
         → StopsPassing remaining reader reader' (frames_of p) taken stopped most room fault
-    stops_reading {most} {room} {buffer} same fits r not_memory = record {
+    stops_reading {most} {room} {past} same fits r not_memory = record {
       octets = s.octets ++ r.octets;
       read = reads_on reader' r.octets r.read;
       first = s.all.cut.frames;
       later = frames_of p (s.all.cut.rest ++ r.octets);
       in_order = taken_first (more_came r.octets) front;
-      cause = inl (s.all.cut.done, not_memory, caused reader' most room buffer r.octets fault same fits r.cause);
+      cause = inl (s.all.cut.done, not_memory, caused reader' most room past r.octets fault same fits r.cause);
     }
 
     -- the sink stopped at a frame of a chunk, or after it

@@ -1,11 +1,11 @@
 -- Command lines and what becomes of them, computed from the definitions, so that a wrong definition doesn't
 -- check.
-use Rattle.std.proofs.Common.{replicate, ◌≡◌, ◌==◌, ℕ, true, cond, List, [], ◌∷◌, Option, Some, None, option_map, map, Result, Ok, Err, codes, refl}
+use Rattle.std.proofs.Common.{replicate, ◌≡◌, ◌==◌, ℕ, Bool, true, false, cond, List, [], ◌∷◌, Option, Some, None, option_map, map, Result, Ok, Err, codes, refl}
 use Prim.Native.String.{String}
 use Rattle.clap.specs.Words.{Kinds, Row, Text, subcommand_of}
 use Rattle.clap.specs.declared.error.kind.ErrorKind.TheVariants.{ArgumentConflict, DisplayHelp, DisplayVersion, InvalidSubcommand, InvalidValue, MissingRequiredArgument, MissingSubcommand, TooManyValues, UnknownArgument, ValueValidation}
 use Rattle.clap.proofs.OnLiterals.{clap_on_literals}
-use Rattle.sl_link.specs.Program.CommandLine.{kind_in, parameters_in, plain_in, refusals, sllink_app, starts_in, verb_named, with_vcs}
+use Rattle.sl_link.specs.Program.CommandLine.{is_complete, kind_in, parameters_in, plain_in, refusals, sllink_app, starts_in, verb_named, with_vcs}
 use Rattle.sl_link.specs.Link.Managed.{Parameters, managed_of}
 use Rattle.sl_link.specs.declared.link.managed.ManagedFault.TheVariants.{Window}
 use Rattle.sl_link.specs.declared.program.command_line.RecordingKind.{RecordingKind}
@@ -84,6 +84,27 @@ taken =
     ∷ ("sllink show tc --scid 7 --tc-length=65535", asks Show Tc (record (of 7) { tc_max = 65535 }))
     ∷ ("sllink show tc --scid 7 --window 255", asks Show Tc (record (of 7) { window = 255 }))
     ∷ ("sllink show tm --scid +7 --limit 18446744073709551615", asks Show Tm (record (of 7) { max_octets = 18446744073709551615 }))
+    ∷ []
+
+-- the words name a verb, its kind, and each number
+abbrev complete : String → Option Bool
+complete line = option_map (λ (met : Text × List Row). is_complete met.0 met.1) (subcommand_of sllink_app (words line))
+
+-- each number at its greatest, and then lines of which one thing is missing or wrong
+abbrev whole : List (String × Option Bool)
+whole =
+    ("sllink check tc --scid +7 --vr=-0", Some true)
+    ∷ ("sllink show tm --scid 65535 --tm-length 65535 --tc-length 65535 --window 255 --vr 255 --limit 18446744073709551615", Some true)
+    ∷ ("sllink help", Some false)
+    ∷ ("sllink packets --scid 7", Some false)
+    ∷ ("sllink packets tx --scid 7", Some false)
+    ∷ ("sllink normalise tm", Some false)
+    ∷ ("sllink show tm --scid 65536", Some false)
+    ∷ ("sllink show tm --scid 7 --tm-length 65536", Some false)
+    ∷ ("sllink show tm --scid 7 --tc-length 65536", Some false)
+    ∷ ("sllink show tm --scid 7 --window 256", Some false)
+    ∷ ("sllink show tm --scid 7 --vr 256", Some false)
+    ∷ ("sllink show tm --scid 7 --limit 18446744073709551616", Some false)
     ∷ []
 
 -- the texts of the options that name virtual channels
@@ -171,6 +192,10 @@ wrong =
 pub lines_are_read : Have read taken
 unfolding clap_on_literals
 lines_are_read = refl
+
+pub whole_lines_are_complete : Have complete whole
+unfolding clap_on_literals
+whole_lines_are_complete = refl
 
 pub channels_are_named : Have texts_in named
 unfolding clap_on_literals

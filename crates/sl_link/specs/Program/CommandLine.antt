@@ -1,7 +1,8 @@
 -- The command line of `sllink`: its arguments, what it refuses, and what its words ask for.
-use Rattle.std.specs.Prelude.{◌≡◌, ◌≢◌, ℕ, Bool, true, false, List, [], ◌∷◌, Option, Some, None, IfSome, Result, Ok}
+use Rattle.std.specs.Prelude.{◌≡◌, ◌≢◌, ◌&&◌, ℕ, Bool, true, false, List, [], ◌∷◌, Option, Some, None, IfSome, Result, Ok}
 use Rattle.std.specs.Prelude.{Err, codes, fold, if◌then◌else◌, pos, replicate}
 use Rattle.std.specs.Borrow.{Bor}
+use Rattle.std.specs.List.{list_any}
 use Rattle.std.specs.Option.{option_map_or}
 use Rattle.std.specs.Str.{bytes_eq}
 use Rattle.std.specs.Str.Parse.{digits_value, without_leading_plus}
@@ -144,10 +145,8 @@ pub record IsSllink (app : App) : Type 0 where
 
 -- ---- what the words ask for
 
--- Each reader has an answer for any words. In words of which nothing is refused the verb is one of
--- the four, the kind is `tm` or `tc`, and each number is there, given or by its default, and can be
--- read. So what the readers answer otherwise is never met in such words: `Normalise` for another
--- verb, `Tc` for another kind, 0 for a missing number.
+-- Each definition here answers for any words: `Normalise` for another verb, `Tc` for another kind or none, 0 where an
+-- option has no number that fits. Where nothing of the words is refused, no such case comes up: `is_complete`.
 
 -- the verb of that name
 abbrev pub verb_named : Text → VerbName
@@ -165,10 +164,13 @@ kind_named kind = if option_map_or (λ name. bytes_eq name (codes "tm")) kind fa
 abbrev pub kind_in : List Row → RecordingKind
 kind_in rows = kind_named (first_of (codes "kind") rows)
 
--- the decimal number that a text writes, `most` at most, or 0 where it writes none
+-- the text writes a decimal number, `most` at most
+abbrev pub writes_number : ℕ → Text → Bool
+writes_number most = accepts false (Unsigned 0 most)
+
+-- that number, or 0 where it writes none
 abbrev pub number_read : ℕ → Text → ℕ
-number_read most text =
-    if accepts false (Unsigned 0 most) text then digits_value 10 (without_leading_plus text) else 0
+number_read most text = if writes_number most text then digits_value 10 (without_leading_plus text) else 0
 
 -- the number that an option has
 abbrev pub number_in : ℕ → Text → List Row → ℕ
@@ -192,6 +194,30 @@ parameters_in rows =
       plain = [];
       max_octets = number_in 18446744073709551615 (codes "limit") rows;
     }
+
+-- the text is one of these
+abbrev pub is_one_of : List Text → Text → Bool
+is_one_of texts text = list_any (λ one. bytes_eq one text) texts
+
+-- the verb has one of the four names
+abbrev pub is_verb : Text → Bool
+is_verb = is_one_of (codes "show" ∷ codes "check" ∷ codes "packets" ∷ codes "normalise" ∷ [])
+
+-- a kind is there, and it is `tm` or `tc`
+abbrev pub has_kind : List Row → Bool
+has_kind rows =
+    option_map_or (is_one_of (codes "tm" ∷ codes "tc" ∷ [])) (first_of (codes "kind") rows) false
+
+-- the option has a value, given or by default, and its text writes a decimal number, `most` at most
+abbrev pub has_number : ℕ → Text → List Row → Bool
+has_number most name rows = option_map_or (writes_number most) (one_of name rows) false
+
+-- the verb is one of the four, the kind of the recording is there, and so is each number, given or by default
+abbrev pub is_complete : Text → List Row → Bool
+is_complete verb rows = is_verb verb && (has_kind rows
+    && (has_number 65535 (codes "scid") rows && (has_number 65535 (codes "tm-length") rows
+    && (has_number 65535 (codes "tc-length") rows && (has_number 255 (codes "window") rows
+    && (has_number 255 (codes "vr") rows && has_number 18446744073709551615 (codes "limit") rows))))))
 
 -- the text that names virtual channels without segment headers
 abbrev pub plain_in : List Row → Option Text
@@ -270,4 +296,5 @@ pub record AskFor (words : List Text) (asked : Asked) : Type 0 where
   pub verb : Text
   pub rows : List Row
   pub is_met : subcommand_of sllink_app words ≡ Some (verb, rows)
+  pub complete : is_complete verb rows ≡ true
   pub asks : Asks verb rows asked

@@ -3,7 +3,7 @@ use Rattle.std.proofs.Common.{◌≡◌, ◌∙◌, ◌&&◌, ◌||◌, ◌<◌,
 use Rattle.std.specs.Prelude.{fold, option_map, unwrap_or, ◌⊎◌, Box}
 use Rattle.std.specs.List.{list_all}
 use Rattle.std.specs.Borrow.{Bor}
-use Rattle.std.specs.Option.{option_map_or}
+use Rattle.std.specs.Option.{IsSomeAnd, option_map_or}
 use Rattle.std.specs.Str.{bytes_eq}
 use Rattle.std.specs.Str.Parse.{ExplainsUnsignedError, HasUnsignedDigitsIfOk, ParsesBool, ParsesUnsigned}
 use Rattle.std.specs.declared.num.ParseIntError.{ParseIntError}
@@ -26,8 +26,9 @@ use Rattle.clap.specs.declared.parser.matches.ArgMatches.{ArgMatches}
 use Rattle.clap.specs.declared.parser.matches.ArgMatches.TheViews.{out-ArgMatches, out-SubCommand}
 use Rattle.clap.specs.declared.parser.matches.SubCommand.{SubCommand}
 use Rattle.clap.proofs.CallerLemmas.{subcommand_required}
-use Rattle.sl_link.specs.Program.CommandLine.{is_set, number_in, number_read, AskFor, Asks, IsRefusal, IsSllink, refusals}
+use Rattle.sl_link.specs.Program.CommandLine.{is_complete, is_set, number_in, number_read, AskFor, Asks, IsRefusal, IsSllink, refusals}
 use Rattle.sl_link.specs.declared.program.command_line.Asked.{Asked}
+use Rattle.sl_link.proofs.lemmas.Program.Complete.{words_ask_something}
 use Rattle.sl_link.proofs.lemmas.Program.SameWalk.{same_fault, same_subcommand}
 
 -- ---- arguments
@@ -130,10 +131,6 @@ module _ (words : List Text) (c : Command) (h : IsSllink (app_of c)) (r : Result
       → Some rows ≡ option_map (λ p. p.1) (subcommand_rows_of m) → (asked : Asked) → Asks verb rows asked → AskFor words asked
   words_ask m is has verb rows name arguments asked asks =
       let met = (subst (λ (a : App). HasMatchesOf a words m) h.same has refl).1 ∙ same_subcommand h.list h.tm h.tc words in
-      record {
-        allowed = rw is at faults;
-        verb = verb;
-        rows = rows;
-        is_met = sym met ∙ entered (out-ArgMatches m).subcommand verb rows name arguments;
-        asks = asks;
-      }
+      let is_met = sym met ∙ entered (out-ArgMatches m).subcommand verb rows name arguments in
+      let allowed = rw is at faults in
+      record { allowed = allowed; verb = verb; rows = rows; is_met = is_met; complete = subst (λ (met : Option (Text × List Row)). IsSomeAnd met (λ p. is_complete p.0 p.1 ≡ true)) is_met (words_ask_something words allowed); asks = asks }

@@ -130,10 +130,10 @@ module _ {s : Shape} {c c' : List Rule} (same : SameWalk s c c') where
 -- ---- where the names lie
 
 -- a verb with the kinds that it takes, as it is built: verbs differ in their names alone
-abbrev verb_at : Text → Bor (List (Bor Text)) → Shape
+abbrev pub verb_at : Text → Bor (List (Bor Text)) → Shape
 verb_at name kinds = record (unwrap_or (slice_get (built (sllink_with kinds)).subs 0) (new_shape [])) { name = name }
 
-abbrev rules_at : Bor (List (Bor Text)) → List Rule
+abbrev pub rules_at : Bor (List (Bor Text)) → List Rule
 rules_at kinds = (verb_at [] kinds).rules
 
 -- the rule of its kind, the first

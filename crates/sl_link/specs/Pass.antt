@@ -7,9 +7,9 @@ use Rattle.std.specs.List.{concat, AllByRecursion}
 use Rattle.sl_link.specs.declared.link.counted.Counted.{Counted}
 use Rattle.sl_link.specs.declared.link.fault.LinkFault.{LinkFault}
 use Rattle.sl_link.specs.declared.link.fault.LinkFault.TheVariants.{Memory}
-use Rattle.sl_link.specs.Link.Counted.{faults_of}
+use Rattle.sl_link.specs.Link.Counted.{faults_of, no_stream}
 use Rattle.sl_link.specs.Link.Managed.{Parameters}
-use Rattle.sl_link.specs.Io.Streams.{IsRead, IsReadersFault, Reads}
+use Rattle.sl_link.specs.Io.Streams.{IsCaused, IsRead, Reads}
 
 -- the octets that are read at once, at most
 abbrev pub chunk_size : ℕ
@@ -72,7 +72,7 @@ pub record StopsPassing {R : Type 0} (remaining : R → Option (List ℕ)) (read
   pub first : List (List ℕ)
   pub later : List (List ℕ)
   pub in_order : frames_of octets ≡ first ++ later
-  pub cause : (taken first × (fault ≢ Memory) × IsReadersFault reader reader' limit buffer octets fault)
+  pub cause : (taken first × (fault ≢ Memory) × IsCaused reader reader' no_stream no_stream limit buffer octets fault)
       ⊎ (stopped first fault × (faults_of reader' ≡ faults_of reader) × (length octets ≤ limit))
 
 -- memory may be refused at some frame of what was read

@@ -1,8 +1,7 @@
 -- Whether two recordings deliver the same packets. `packets` gives those of a recording.
-use Rattle.std.specs.Prelude.{◌≡◌, ◌↔◌, ◌⊎◌, ℕ, List, Bool, IsTrue, Option}
+use Rattle.std.specs.Prelude.{◌≡◌, ◌↔◌, ℕ, List, Bool, IsTrue, Option}
 use Rattle.sl_link.specs.declared.link.counted.Counted.{Counted}
-use Rattle.sl_link.specs.declared.link.fault.LinkFault.{LinkFault}
-use Rattle.sl_link.specs.Io.Streams.{ReadsAll, StopsReading}
+use Rattle.sl_link.specs.Io.Streams.{ReadsAll}
 
 module _ {A B : Type 0} (remaining : A → Option (List ℕ)) (others : B → Option (List ℕ)) where
   -- Both recordings were read, `limit` octets of each at most, and the answer is true exactly where
@@ -13,10 +12,3 @@ module _ {A B : Type 0} (remaining : A → Option (List ℕ)) (others : B → Op
     pub first_read : ReadsAll remaining one one' limit first
     pub second_read : ReadsAll others other other' limit second
     pub reported : IsTrue same ↔ (packets first ≡ packets second)
-
-  -- A fault has its cause: at the first recording, and nothing of the second was read; or at the
-  -- second, and the first was read to its end.
-  abbrev pub StopsComparing : Counted A → Counted A → Counted B → Counted B → ℕ → ℕ → LinkFault → Type 0
-  StopsComparing one one' other other' limit buffer fault =
-      (StopsReading remaining one one' limit buffer fault × (other' ≡ other))
-      ⊎ (((octets : List ℕ) × ReadsAll remaining one one' limit octets) × StopsReading others other other' limit buffer fault)

@@ -4,7 +4,9 @@ ghost use Rattle.sl_link.specs.Kind.Tc.{ns_of};
 ghost use Rattle.sl_link.specs.Kind.Tm.{is_opaque};
 ghost use Rattle.sl_tcframe.specs.TcContent.{content};
 ghost use Rattle.sl_tmframe.specs.TmField.{data_field};
-ghost use Rattle.sl_link.specs.Kind.Delivery.{Delivers, StopsDelivering};
+ghost use Rattle.sl_packet.specs.Packets.{without_idle};
+ghost use Rattle.sl_packet.specs.Stopping.{IsStopped};
+ghost use Rattle.sl_link.specs.Kind.Delivery.{Delivers};
 
 use crate::link::managed::Managed;
 use crate::tally::{FrameReport, SKIPPED};
@@ -65,8 +67,12 @@ pub trait Delivery: Drop {
             → answer.1 ≡ found managed.now before frame.now) }
         ensures stopped { IfErr result (λ fault. (before : List (List ℕ))
             → has_processed self.old managed.now before
-            → StopsDelivering S.taking S.failing S.failures (kind managed.now)
-            (wants_memory managed.now) before frame.now sink.old fault sink.new) };
+            → IsStopped S.taking S.failing S.failures sink.old ((kind managed.now).channel frame.now)
+            (without_idle ((kind managed.now).ended before frame.now)) fault sink.new) }
+        // Memory is refused only where it may be.
+        ensures memory { IfErr result (λ fault. (before : List (List ℕ))
+            → has_processed self.old managed.now before → fault ≡ FlowFault.Memory
+            → wants_memory managed.now (before ++ frame.now ∷ [])) };
 
     /// The frames that were processed deliver at most as many packets as they have octets.
     ghost within: { (delivery : Self) (p : Parameters) (frames : List (List ℕ))

@@ -6,11 +6,11 @@ ghost use Rattle.sl_link.specs.Kind.Delivery.{AreKept, MayWantMemory, counted, p
 ghost use Rattle.sl_link.specs.Kind.Tc.{MayWantMemoryTc, tc_counts, tc_packets};
 ghost use Rattle.sl_link.specs.Kind.Tm.{MayWantMemoryTm, tm_counts, tm_packets};
 ghost use Rattle.sl_link.specs.Link.Managed.{tc_format};
-ghost use Rattle.sl_link.specs.Normalise.Form.{StopsForm, HasSome, KeepsAll, form_text, listed};
+ghost use Rattle.sl_link.specs.Normalise.Form.{HasSome, KeepsAll, form_text, listed};
 ghost use Rattle.sl_link.specs.Normalise.Tc.{tc_normal_form};
 ghost use Rattle.sl_link.specs.Normalise.Tm.{tm_normal_form};
 ghost use Rattle.sl_link.specs.Tally.{listing_counts};
-ghost use Rattle.sl_link.specs.Io.Streams.{IsRead, KeepsPackets, Stops, StopsReading, Translates, TranslatesAndCounts, WritesText};
+ghost use Rattle.sl_link.specs.Io.Streams.{IsRead, KeepsPackets, Stops, StopsReading, StopsWriting, Translates, TranslatesAndCounts, WritesText};
 ghost use Rattle.sl_link.specs.Pass.{WantedMemory, chunk_size};
 
 mod form;
@@ -133,9 +133,10 @@ trait Formed: Delivery {
         ensures delivers { packets_of (Self.kind managed.now)
             (form_of managed.now (listed (Self.kind managed.now) delivered.now.lists))
             ≡ listed (Self.kind managed.now) delivered.now.lists }
-        ensures fault { IfErr result (StopsForm W.contents writer.old writer.new
+        // Nothing is written where memory was refused, and it is refused only where there are packets.
+        ensures fault { IfErr result (StopsWriting W.contents writer.old writer.new
             (form_of managed.now (listed (Self.kind managed.now) delivered.now.lists))
-            (HasSome (Self.kind managed.now) delivered.now.lists)) };
+            ((writer.new ≡ writer.old) × HasSome (Self.kind managed.now) delivered.now.lists)) };
 }
 
 impl Formed for Extractor {

@@ -88,7 +88,7 @@ pub fn run<R: Read, W: Write, E: Write>(
     // written, since memory was refused: no clause can say that, so any words may end like this.
     ensures stopped { result ≡ 3 → ((reader.new ≡ reader.old) × ((writer.new ≡ writer.old)
         ⊎ WithAnswer (map string_bytes words.now)
-        (λ text. StopsWriting W.contents writer.old writer.new text LinkFault.Write)))
+        (λ text. StopsWriting W.contents writer.old writer.new text ⊥ LinkFault.Write)))
         ⊎ WithAsked (map string_bytes words.now)
         (HasStopped R.remaining W.contents reader.old reader.new writer.old writer.new) }
 {
@@ -212,7 +212,7 @@ fn report_refusal<W: Write, E: Write>(
     ensures stopped { result ≡ 3
         → ((writer.new ≡ writer.old) × MayLackMemory (kind_of refusal.now))
         ⊎ WithText (kind_of refusal.now)
-        (λ text. StopsWriting W.contents writer.old writer.new text LinkFault.Write) }
+        (λ text. StopsWriting W.contents writer.old writer.new text ⊥ LinkFault.Write) }
 {
     match refusal.kind() {
         ErrorKind::DisplayHelp => match help_text(alloc, refusal) {
@@ -242,7 +242,7 @@ fn answer<W: Write, E: Write>(text: &str, writer: &mut Counted<W>, errors: &mut 
     ensures status { (result ≡ 0) ⊎ (result ≡ 3) }
     ensures written { result ≡ 0 → WritesText W.contents writer.old writer.new text.now }
     ensures stopped { result ≡ 3
-        → StopsWriting W.contents writer.old writer.new text.now LinkFault.Write }
+        → StopsWriting W.contents writer.old writer.new text.now ⊥ LinkFault.Write }
 {
     match write_and_flush(text, writer) {
         Ok(()) => SUCCESS,
@@ -253,7 +253,7 @@ fn answer<W: Write, E: Write>(text: &str, writer: &mut Counted<W>, errors: &mut 
 // Writes a text and flushes it.
 fn write_and_flush<W: Write>(text: &str, writer: &mut Counted<W>) -> Result<(), LinkFault>
     ensures written { OnOk result (WritesText W.contents writer.old writer.new text.now) }
-    ensures stopped { IfErr result (StopsWriting W.contents writer.old writer.new text.now) }
+    ensures stopped { IfErr result (StopsWriting W.contents writer.old writer.new text.now ⊥) }
 {
     write_text(writer, text.as_bytes())?;
     flush(writer)

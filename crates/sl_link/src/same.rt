@@ -2,12 +2,13 @@
 ghost use Rattle.std.specs.Prelude.{◌≡◌, ◌⊎◌, [], ℕ, List, IfOk, IfErr};
 ghost use Rattle.sl_tcframe.specs.TcDelimited.{tc_frames_of};
 ghost use Rattle.sl_tmframe.specs.TmDelimited.{tm_frames_of};
+ghost use Rattle.sl_link.specs.Io.Streams.{ReadsAll, StopsReading};
 ghost use Rattle.sl_link.specs.Kind.Delivery.{MayWantMemory, packets_of};
 ghost use Rattle.sl_link.specs.Kind.Tc.{MayWantMemoryTc, tc_packets};
 ghost use Rattle.sl_link.specs.Kind.Tm.{MayWantMemoryTm, tm_packets};
 ghost use Rattle.sl_link.specs.Link.Managed.{tc_format};
 ghost use Rattle.sl_link.specs.Pass.{WantedMemory, chunk_size};
-ghost use Rattle.sl_link.specs.Same.{StopsComparing, ComparesPackets};
+ghost use Rattle.sl_link.specs.Same.{ComparesPackets};
 
 use crate::kind::Delivery;
 use crate::link::counted::Counted;
@@ -40,9 +41,12 @@ pub fn same_packets_tm<A: Read, B: Read>(
     // Both recordings are read to their ends, and the answer is true exactly where their packets are the same.
     ensures same { IfOk result (ComparesPackets A.remaining B.remaining one.old one.new other.old
         other.new (tm_packets managed.now) managed.now.max_octets) }
-    // A fault has its cause, at the first recording, or at the other once the first was read to its end.
-    ensures fault { IfErr result (StopsComparing A.remaining B.remaining one.old one.new other.old
-        other.new managed.now.max_octets chunk_size) }
+    // A fault has its cause: at the first recording, and nothing was read of the other; or at the other,
+    // once the first was read to its end.
+    ensures fault { IfErr result (λ fault. (StopsReading A.remaining one.old one.new
+        managed.now.max_octets chunk_size fault × (other.new ≡ other.old))
+        ⊎ (((octets : List ℕ) × ReadsAll A.remaining one.old one.new managed.now.max_octets octets)
+        × StopsReading B.remaining other.old other.new managed.now.max_octets chunk_size fault)) }
     // Memory is refused only where, in one recording, a packet is incomplete before a frame or
     // after it, or was delivered.
     ensures memory { IfErr result (λ fault. fault ≡ LinkFault.Memory
@@ -72,9 +76,12 @@ pub fn same_packets_tc<A: Read, B: Read>(
     // Both recordings are read to their ends, and the answer is true exactly where their packets are the same.
     ensures same { IfOk result (ComparesPackets A.remaining B.remaining one.old one.new other.old
         other.new (tc_packets managed.now) managed.now.max_octets) }
-    // A fault has its cause, at the first recording, or at the other once the first was read to its end.
-    ensures fault { IfErr result (StopsComparing A.remaining B.remaining one.old one.new other.old
-        other.new managed.now.max_octets chunk_size) }
+    // A fault has its cause: at the first recording, and nothing was read of the other; or at the other,
+    // once the first was read to its end.
+    ensures fault { IfErr result (λ fault. (StopsReading A.remaining one.old one.new
+        managed.now.max_octets chunk_size fault × (other.new ≡ other.old))
+        ⊎ (((octets : List ℕ) × ReadsAll A.remaining one.old one.new managed.now.max_octets octets)
+        × StopsReading B.remaining other.old other.new managed.now.max_octets chunk_size fault)) }
     // Memory is refused only where, in one recording, a series is incomplete before a frame or
     // after it, or a packet was delivered.
     ensures memory { IfErr result (λ fault. fault ≡ LinkFault.Memory
@@ -99,8 +106,10 @@ fn same_packets<D: Delivery, F: Framer + Drop, A: Read, B: Read>(
     requires frames { F.frames_of managed.now ≡ (D.kind managed.now).frames_of }
     ensures same { IfOk result (ComparesPackets A.remaining B.remaining one.old one.new other.old
         other.new (packets_of (D.kind managed.now)) managed.now.max_octets) }
-    ensures fault { IfErr result (StopsComparing A.remaining B.remaining one.old one.new other.old
-        other.new managed.now.max_octets chunk_size) }
+    ensures fault { IfErr result (λ fault. (StopsReading A.remaining one.old one.new
+        managed.now.max_octets chunk_size fault × (other.new ≡ other.old))
+        ⊎ (((octets : List ℕ) × ReadsAll A.remaining one.old one.new managed.now.max_octets octets)
+        × StopsReading B.remaining other.old other.new managed.now.max_octets chunk_size fault)) }
     ensures memory { IfErr result (λ fault. fault ≡ LinkFault.Memory
         → WantedMemory A.remaining one.old one.new (D.kind managed.now).frames_of
         (MayWantMemory (D.kind managed.now) (D.wants_memory managed.now))

@@ -1,7 +1,8 @@
 //! Listings of a recording, written while it is read.
-ghost use Rattle.std.specs.Prelude.{◌≡◌, ◌+◌, ◌-◌, ◌^◌, ◌<◌, ◌≤◌, ◌++◌, ◌∷◌, [], ℕ, List, length, IfOk, IfErr, OnOk};
+ghost use Rattle.std.specs.Prelude.{◌≡◌, ◌+◌, ◌-◌, ◌^◌, ◌<◌, ◌≤◌, ◌++◌, ◌∷◌, [], ℕ, List, length, IfOk, IfErr, OnErr, OnOk};
 ghost use Rattle.std.specs.List.{concat};
-ghost use Rattle.sl_link.specs.Io.Output.{Adds, StopsAdding};
+ghost use Rattle.sl_link.specs.Io.Output.{Adds, KeepsWriter};
+ghost use Rattle.sl_link.specs.Io.Streams.{StopsWriting};
 ghost use Rattle.sl_link.specs.Pass.{PassesOver, StopsPassing};
 ghost use Rattle.sl_link.specs.Verbs.Listing.{EndsListing, lines_from};
 
@@ -45,9 +46,11 @@ pub trait Verb {
             before → has_listed self.new managed.now (before ++ frame.now ∷ [])) }
         ensures lines { OnOk result ((before : Frames) → has_listed self.old managed.now before
             → Adds W.contents out.old ((listing managed.now).line before frame.now) out.new) }
+        ensures lent { OnErr result (KeepsWriter out.old out.new) }
         ensures fault { IfErr result (λ fault. (before : Frames)
             → has_listed self.old managed.now before
-            → StopsAdding W.contents out.old ((listing managed.now).line before frame.now) out.new
+            → StopsWriting W.contents out.old.writer.now out.new.writer.now
+            (out.old.lines ++ (listing managed.now).line before frame.now)
             (wants_memory managed.now (before ++ frame.now ∷ [])) fault) };
 
     /// Adds the lines after the last frame of a recording of `octets` octets, and answers the totals.
@@ -65,9 +68,11 @@ pub trait Verb {
         ensures counts { IfOk result (λ totals. (frames : Frames)
             → has_listed self.now managed.now frames → totals ≡ (listing managed.now).counts frames
             (octets - length (concat frames))) }
+        ensures lent { OnErr result (KeepsWriter out.old out.new) }
         ensures fault { IfErr result (λ fault. (frames : Frames)
-            → has_listed self.now managed.now frames → StopsAdding W.contents out.old
-            ((listing managed.now).last frames (octets - length (concat frames))) out.new ⊥ fault) };
+            → has_listed self.now managed.now frames
+            → StopsWriting W.contents out.old.writer.now out.new.writer.now (out.old.lines
+            ++ (listing managed.now).last frames (octets - length (concat frames))) ⊥ fault) };
 }
 
 /// A verb, with the output that it lists into: a sink of frames.
@@ -78,8 +83,9 @@ pub struct Lister<'a, 'b, 'c, W: Write, V: Verb> {
 }
 
 impl<'a, 'b, 'c, W: Write, V: Verb> FrameSink for Lister<'a, 'b, 'c, W, V> {
-    ghost use Rattle.std.specs.Prelude.{◌≡◌, []};
-    ghost use Rattle.sl_link.specs.Io.Output.{Adds, StopsAdding};
+    ghost use Rattle.std.specs.Prelude.{◌≡◌, ◌++◌, []};
+    ghost use Rattle.sl_link.specs.Io.Output.{Adds, KeepsWriter};
+    ghost use Rattle.sl_link.specs.Io.Streams.{StopsWriting};
     ghost use Rattle.sl_link.specs.Verbs.Listing.{lines_from};
 
     ghost is_frame = { V.is_frame };
@@ -90,8 +96,10 @@ impl<'a, 'b, 'c, W: Write, V: Verb> FrameSink for Lister<'a, 'b, 'c, W, V> {
         × Adds W.contents start.out.now (lines_from (V.listing p).line [] frames) now.out.now };
 
     ghost stopped = { λ p start now frames fault. (now.out.ghost_name ≡ start.out.ghost_name)
-        × StopsAdding W.contents start.out.now (lines_from (V.listing p).line [] frames)
-        now.out.now (V.wants_memory p frames) fault };
+        × KeepsWriter start.out.now now.out.now
+        × StopsWriting W.contents start.out.now.writer.now now.out.now.writer.now
+        (start.out.now.lines ++ lines_from (V.listing p).line [] frames)
+        (V.wants_memory p frames) fault };
 
     fn frame(&mut self, managed: &Managed, frame: &[u8]) -> Written {
         self.verb.frame(managed, frame, self.out)
@@ -123,9 +131,10 @@ fn list_frames<F: Framer, V: Verb, R: Read, W: Write>(
     ensures fault { IfErr result (StopsPassing R.remaining reader.old reader.new
         (F.frames_of managed.now) (λ frames. V.has_listed verb.new managed.now frames
         × Adds W.contents out.old (lines_from (V.listing managed.now).line [] frames) out.new)
-        (λ frames. StopsAdding W.contents out.old
-        (lines_from (V.listing managed.now).line [] frames) out.new
-        (V.wants_memory managed.now frames)) managed.now.max_octets (length buffer.old)) }
+        (λ frames fault. KeepsWriter out.old out.new
+        × StopsWriting W.contents out.old.writer.now out.new.writer.now
+        (out.old.lines ++ lines_from (V.listing managed.now).line [] frames)
+        (V.wants_memory managed.now frames) fault) managed.now.max_octets (length buffer.old)) }
 {
     let managed = *managed;
     let mut lister = Lister { verb, out };

@@ -1,11 +1,11 @@
 -- What an engine does to the octets that a reader has left and a writer holds. Where a reader or a
 -- writer doesn't report its octets, these definitions speak of its faults alone.
-use Rattle.std.specs.Prelude.{◌≡◌, ℕ, ◌+◌, ◌≤◌, ◌<◌, List, ◌++◌, length, take, Option}
+use Rattle.std.specs.Prelude.{◌≡◌, ℕ, ◌+◌, ◌≤◌, ◌<◌, List, [], ◌++◌, length, take, Option}
 use Rattle.std.specs.Io.KnownBytes.{Consumes, IsAtEnd, Appends}
 use Rattle.sl_link.specs.declared.link.counted.Counted.{Counted}
 use Rattle.sl_link.specs.declared.link.fault.LinkFault.{LinkFault}
 use Rattle.sl_link.specs.declared.link.fault.LinkFault.TheVariants.{Read, TooLong, Memory, Write}
-use Rattle.sl_link.specs.Link.Counted.{stream_of, faults_of, HadOneFault}
+use Rattle.sl_link.specs.Link.Counted.{stream_of, faults_of, no_stream, HadOneFault}
 use Rattle.sl_link.specs.Link.Totals.{Counts}
 
 module _ {R : Type 0} (remaining : R → Option (List ℕ)) where
@@ -48,21 +48,27 @@ pub record ReadsAll {R : Type 0} (remaining : R → Option (List ℕ)) (old new 
   pub to_end : IsRead remaining new
   pub no_fault : faults_of new ≡ faults_of old
 
--- A fault of reading, or of keeping what was read, has its cause. At `TooLong` more octets than the limit were read, by
--- `past` at most.
-abbrev pub IsReadersFault : {R : Type 0} → Counted R → Counted R → ℕ → ℕ → List ℕ → LinkFault → Type 0
-IsReadersFault old new limit past octets Read = HadOneFault old new × (length octets ≤ limit)
-IsReadersFault old new limit past octets TooLong =
-    (faults_of new ≡ faults_of old) × (limit < length octets) × (length octets ≤ limit + past)
-IsReadersFault old new limit past octets Memory = (faults_of new ≡ faults_of old) × (length octets ≤ limit)
-IsReadersFault old new limit past octets Write = ⊥
+-- A fault has its cause, and no other: at most the stream that it names had a fault. Once the
+-- limit was passed nothing more was read, and it was passed by `past` octets at most. No clause
+-- can say that memory was refused. `no_stream` has had no fault, so where it stands for a stream no
+-- fault names that stream.
+abbrev pub IsCaused : {R W : Type 0} → Counted R → Counted R → Counted W → Counted W → ℕ → ℕ → List ℕ → LinkFault → Type 0
+IsCaused reader reader' writer writer' limit past octets Read =
+    HadOneFault reader reader' × (faults_of writer' ≡ faults_of writer) × (length octets ≤ limit)
+IsCaused reader reader' writer writer' limit past octets TooLong =
+    (faults_of reader' ≡ faults_of reader) × (faults_of writer' ≡ faults_of writer)
+    × (limit < length octets) × (length octets ≤ limit + past)
+IsCaused reader reader' writer writer' limit past octets Memory =
+    (faults_of reader' ≡ faults_of reader) × (faults_of writer' ≡ faults_of writer) × (length octets ≤ limit)
+IsCaused reader reader' writer writer' limit past octets Write =
+    HadOneFault writer writer' × (faults_of reader' ≡ faults_of reader) × (length octets ≤ limit)
 
--- octets were read, perhaps none, and then a fault came
+-- octets were read, perhaps none, and then a fault came, of reading or of keeping what was read
 pub record StopsReading {R : Type 0} (remaining : R → Option (List ℕ)) (old new : Counted R) (limit past : ℕ)
     (fault : LinkFault) : Type 0 where
   pub octets : List ℕ
   pub read : Reads remaining old new octets
-  pub cause : IsReadersFault old new limit past octets fault
+  pub cause : IsCaused old new no_stream no_stream limit past octets fault
 
 -- the text was written
 pub record WritesText {W : Type 0} (contents : W → Option (List ℕ)) (old new : Counted W) (text : List ℕ) : Type 0 where
@@ -77,19 +83,12 @@ pub record AddsText {W : Type 0} (contents : W → Option (List ℕ)) (old new :
   pub writes : Writes contents old new written
   pub no_fault : faults_of new ≡ faults_of old
 
--- a prefix of the text was written, and then the writer failed
+-- a prefix of the text was written, and then the writer failed, or memory was refused where it is wanted
 pub record StopsWriting {W : Type 0} (contents : W → Option (List ℕ)) (old new : Counted W) (text : List ℕ)
-    (fault : LinkFault) : Type 0 where
+    (wanted : Type 0) (fault : LinkFault) : Type 0 where
   pub front : WritesPrefix contents old new text
-  pub is_write : fault ≡ Write
-  pub cause : HadOneFault old new
-
--- a fault of writing, or of making what is to be written, has its cause
-abbrev pub IsWritersFault : {W : Type 0} → Counted W → Counted W → LinkFault → Type 0
-IsWritersFault old new Read = ⊥
-IsWritersFault old new TooLong = ⊥
-IsWritersFault old new Memory = faults_of new ≡ faults_of old
-IsWritersFault old new Write = HadOneFault old new
+  pub cause : IsCaused no_stream no_stream old new 0 0 [] fault
+  pub memory : fault ≡ Memory → wanted
 
 -- ---- a whole engine, over its reader and its writer before and after the call
 
@@ -121,20 +120,6 @@ module _ {R W : Type 0} (remaining : R → Option (List ℕ)) (contents : W → 
     pub form : List ℕ
     pub written : Writes contents writer writer' form
     pub same : packets form ≡ packets recording
-
-  -- A fault has its cause, and no other: at most the stream that it names had a fault. Once the
-  -- limit was passed nothing more was read, and the read that passed it gave `buffer` octets at
-  -- most. No clause can say that memory was refused.
-  abbrev pub IsCaused : Counted R → Counted R → Counted W → Counted W → ℕ → ℕ → List ℕ → LinkFault → Type 0
-  IsCaused reader reader' writer writer' limit buffer octets Read =
-      HadOneFault reader reader' × (faults_of writer' ≡ faults_of writer) × (length octets ≤ limit)
-  IsCaused reader reader' writer writer' limit buffer octets TooLong =
-      (faults_of reader' ≡ faults_of reader) × (faults_of writer' ≡ faults_of writer)
-      × (limit < length octets) × (length octets ≤ limit + buffer)
-  IsCaused reader reader' writer writer' limit buffer octets Memory =
-      (faults_of reader' ≡ faults_of reader) × (faults_of writer' ≡ faults_of writer) × (length octets ≤ limit)
-  IsCaused reader reader' writer writer' limit buffer octets Write =
-      HadOneFault writer writer' × (faults_of reader' ≡ faults_of reader) × (length octets ≤ limit)
 
   -- Octets were read and a prefix of their text was written, and then came a fault, which has its cause.
   pub record Stops (reader reader' : Counted R) (writer writer' : Counted W) (text : List ℕ → List ℕ) (limit buffer : ℕ)

@@ -2,13 +2,9 @@
 -- channel. All of it is said of TM and TC frames at once.
 use Rattle.std.specs.Prelude.{◌≡◌, ◌≢◌, ℕ, ◌+◌, ◌<◌, ◌≤◌, ◌⊎◌, Bool, List, [], ◌∷◌, ◌++◌, length, map, Result, Ok, Err}
 use Rattle.std.specs.List.{concat, range_with_len, slice_index_or, slice_set}
-use Rattle.sl_packet.specs.declared.flow_fault.FlowFault.{FlowFault}
-use Rattle.sl_packet.specs.declared.flow_fault.FlowFault.TheVariants.{Memory}
-use Rattle.sl_packet.specs.declared.sink.SinkFault.{SinkFault}
 use Rattle.sl_packet.specs.Delivered.{channel_count}
 use Rattle.sl_packet.specs.Packets.{only_idle, without_idle}
 use Rattle.sl_packet.specs.Sink.{TakesAll}
-use Rattle.sl_packet.specs.Stopping.{IsStopped}
 use Rattle.sl_link.specs.declared.tally.FrameReport.{FrameReport}
 use Rattle.sl_link.specs.Link.Totals.{Counts}
 use Rattle.sl_link.specs.Tally.{counts_so_far, counts_with, skipped_in}
@@ -101,14 +97,6 @@ pub record Delivers {S : Type 0} (taking : S → ℕ → List ℕ → S → Type
     (frame : List ℕ) (old : S) (report : FrameReport) (new : S) : Type 0 where
   pub accepted : TakesAll taking old (k.channel frame) (without_idle (k.ended before frame)) new
   pub brings : Brings k before frame report
-
--- handing over the packets of a frame stopped at a fault, and memory was refused only where it may be
-pub record StopsDelivering {S : Type 0} (taking : S → ℕ → List ℕ → S → Type 0)
-    (failing : S → ℕ → List ℕ → SinkFault → S → Type 0) (failures : S → ℕ) (k : Kind)
-    (wants_memory : List (List ℕ) → Type 0) (before : List (List ℕ)) (frame : List ℕ)
-    (old : S) (fault : FlowFault) (new : S) : Type 0 where
-  pub stopped : IsStopped taking failing failures old (k.channel frame) (without_idle (k.ended before frame)) fault new
-  pub wanted : fault ≡ Memory → wants_memory (before ++ frame ∷ [])
 
 -- These frames were processed, as `had` says, and these are their counts, with this number of anomalies. Each frame has
 -- more octets than anomalies.

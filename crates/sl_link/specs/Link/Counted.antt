@@ -1,5 +1,5 @@
 -- A stream with the number of its faults.
-use Rattle.std.specs.Prelude.{◌≡◌, ℕ, ◌==◌, ◌&&◌, Bool, true, not, List, length, Result, Ok, Err}
+use Rattle.std.specs.Prelude.{◌≡◌, ⊤, ℕ, ◌==◌, ◌&&◌, Bool, true, not, List, length, Result, Ok, Err}
 use Rattle.sl_packet.specs.Sink.{one_more}
 use Rattle.sl_link.specs.declared.link.counted.Counted.{Counted}
 
@@ -10,6 +10,10 @@ stream_of c = c.stream
 -- the count of its faults: of errors, and of writes that took none of one or more octets
 abbrev pub faults_of : {T : Type 0} → Counted T → ℕ
 faults_of c = c.faults
+
+-- stands where no reader or no writer takes part
+abbrev pub no_stream : Counted ⊤
+no_stream = record { stream = tt; faults = 0 }
 
 -- one fault came: the count rose by one, unless it was at its greatest
 abbrev pub HadOneFault : {T : Type 0} → Counted T → Counted T → Type 0

@@ -1,11 +1,11 @@
 -- The packets of a recording that are kept, and their normal form, which is made and written piece by piece, whatever
 -- kind its frames are.
-use Rattle.std.specs.Prelude.{◌≡◌, ◌<◌, ℕ, List, [], Option, take, ◌⊎◌, ◌++◌}
+use Rattle.std.specs.Prelude.{◌≡◌, ◌<◌, ℕ, List, [], Option, take, ◌++◌}
 use Rattle.std.specs.List.{slice_index_or}
 use Rattle.sl_link.specs.declared.link.counted.Counted.{Counted}
 use Rattle.sl_link.specs.declared.link.fault.LinkFault.{LinkFault}
 use Rattle.sl_link.specs.declared.link.fault.LinkFault.TheVariants.{Memory}
-use Rattle.sl_link.specs.Io.Streams.{ReadsAll, StopsWriting}
+use Rattle.sl_link.specs.Io.Streams.{ReadsAll}
 use Rattle.sl_link.specs.Kind.Delivery.{AreDelivered, AreKept, Kind, counted, packets_of}
 use Rattle.sl_link.specs.Link.Totals.{Counts}
 use Rattle.sl_link.specs.Tally.{listing_counts}
@@ -57,13 +57,6 @@ module _ {F : Type 0} (left : F → List ℕ → Type 0) where
   -- fewer pieces follow
   abbrev pub IsFewer : (F → ℕ) → F → F → Type 0
   IsFewer most old new = (octets : List ℕ) → left old octets → most new < most old
-
--- A fault of making a normal form, or of writing it. Where memory was refused there are packets, and
--- nothing was written.
-abbrev pub StopsForm : {W : Type 0} → (W → Option (List ℕ)) → Counted W → Counted W → List ℕ → Type 0 → LinkFault
-    → Type 0
-StopsForm contents old new text packets fault =
-    ((fault ≡ Memory) × (new ≡ old) × packets) ⊎ StopsWriting contents old new text fault
 
 -- ---- room
 

@@ -1,8 +1,9 @@
 //! Lines that wait, and the writer that they go to.
-ghost use Rattle.std.specs.Prelude.{◌≡◌, ◌+◌, ◌≤◌, ◌++◌, [], length, codes, decimal, IfErr, OnOk};
+ghost use Rattle.std.specs.Prelude.{◌≡◌, ◌+◌, ◌≤◌, ◌++◌, [], length, codes, decimal, IfErr, OnErr, OnOk};
 ghost use Rattle.sl_link.specs.Io.Line.{line_at};
-ghost use Rattle.sl_link.specs.Io.Output.{Adds, StopsAdding};
+ghost use Rattle.sl_link.specs.Io.Output.{Adds, KeepsWriter};
 ghost use Rattle.sl_link.specs.Io.Room.{HasRoom, line_width};
+ghost use Rattle.sl_link.specs.Io.Streams.{StopsWriting};
 
 use crate::io::lines::Lines;
 use crate::io::streams::write_text;
@@ -13,7 +14,7 @@ use std::io::Write;
 /// What a step answers that writes.
 pub type Written = Result<(), LinkFault>;
 
-/// Lines that are written where room is wanted. Each step keeps the writer that was lent.
+/// Lines that are written where room is wanted. Each step keeps the writer that was lent, also where it fails.
 #[derive(Drop)]
 pub struct Output<'a, W: Write> {
     pub writer: &'a mut Counted<W>,
@@ -26,7 +27,9 @@ impl<'a, W: Write> Output<'a, W> {
     pub fn make_room(&mut self) -> Written
         ensures kept { OnOk result (Adds W.contents self.old [] self.new) }
         ensures room { OnOk result (HasRoom self.new.lines) }
-        ensures fault { IfErr result (StopsAdding W.contents self.old [] self.new ⊥) }
+        ensures lent { OnErr result (KeepsWriter self.old self.new) }
+        ensures fault { IfErr result
+            (StopsWriting W.contents self.old.writer.now self.new.writer.now self.old.lines ⊥) }
     {
         if !self.lines.lacks_room_for_a_frame() {
             return Ok(());
@@ -39,7 +42,9 @@ impl<'a, W: Write> Output<'a, W> {
     pub fn flush(&mut self) -> Written
         ensures kept { OnOk result (Adds W.contents self.old [] self.new) }
         ensures emptied { OnOk result (self.new.lines ≡ []) }
-        ensures fault { IfErr result (StopsAdding W.contents self.old [] self.new ⊥) }
+        ensures lent { OnErr result (KeepsWriter self.old self.new) }
+        ensures fault { IfErr result
+            (StopsWriting W.contents self.old.writer.now self.new.writer.now self.old.lines ⊥) }
     {
         write_text(self.writer, self.lines.octets())?;
         self.lines.clear();

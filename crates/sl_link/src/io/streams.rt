@@ -37,7 +37,7 @@ pub fn read_some<R: Read>(
 /// Writes all of a text. An error of the writer, or a write that takes nothing, is the fault `Write`.
 pub fn write_text<W: Write>(writer: &mut Counted<W>, text: &[u8]) -> Result<(), LinkFault>
     ensures written { OnOk result (WritesText W.contents writer.old writer.new text.now) }
-    ensures fault { IfErr result (StopsWriting W.contents writer.old writer.new text.now) }
+    ensures fault { IfErr result (StopsWriting W.contents writer.old writer.new text.now ⊥) }
 {
     let mut left = text;
     while !left.is_empty() {

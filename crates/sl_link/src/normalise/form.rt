@@ -2,7 +2,6 @@
 ghost use Rattle.std.specs.Prelude.{◌≡◌, ◌≤◌, [], ℕ, List, IfErr, OnOk, vec_len};
 ghost use Rattle.std.specs.Vec.{vec_capacity};
 ghost use Rattle.sl_link.specs.Io.Streams.{AddsText, StopsWriting, WritesText};
-ghost use Rattle.sl_link.specs.Normalise.Form.{StopsForm};
 ghost use Rattle.sl_link.specs.Pass.{chunk_size};
 
 mod tc;
@@ -78,7 +77,8 @@ pub fn write_form<F: Form, W: Write>(
         → WritesText W.contents writer.old writer.new octets) }
     // Nothing is written where memory was refused, and it is refused only where there are packets.
     ensures fault { IfErr result (λ fault. (octets : List ℕ) → F.left form.old octets
-        → StopsForm W.contents writer.old writer.new octets (F.packets form.old) fault) }
+        → StopsWriting W.contents writer.old writer.new octets
+        ((writer.new ≡ writer.old) × F.packets form.old) fault) }
 {
     let mut text = Vec::new(alloc);
     if !form.next(&mut text)? {
@@ -102,7 +102,7 @@ fn write_chunk<W: Write>(writer: &mut Counted<W>, waiting: &mut Vec<u8>) -> Resu
     ensures few { OnOk result (vec_len waiting.new ≤ chunk_size) }
     ensures capacity { OnOk result (vec_capacity waiting.new ≡ vec_capacity waiting.old) }
     ensures fault { IfErr result
-        (StopsWriting W.contents writer.old writer.new waiting.old.items) }
+        (StopsWriting W.contents writer.old writer.new waiting.old.items ⊥) }
 {
     if waiting.len() <= CHUNK_SIZE {
         return Ok(());

@@ -1,7 +1,8 @@
 //! The anomalies of a recording as lines.
-ghost use Rattle.std.specs.Prelude.{◌≡◌, ◌≤◌, [], length, flat_map, IfOk, IfErr, OnOk};
+ghost use Rattle.std.specs.Prelude.{◌≡◌, ◌≤◌, ◌++◌, [], length, flat_map, IfOk, IfErr, OnErr, OnOk};
 ghost use Rattle.std.specs.List.{concat};
-ghost use Rattle.sl_link.specs.Io.Output.{Adds, StopsAdding};
+ghost use Rattle.sl_link.specs.Io.Output.{Adds, KeepsWriter};
+ghost use Rattle.sl_link.specs.Io.Streams.{StopsWriting};
 ghost use Rattle.sl_link.specs.Link.Managed.{Parameters};
 ghost use Rattle.sl_link.specs.Verbs.Check.Checking.{HasChecked};
 ghost use Rattle.sl_link.specs.Verbs.Check.Lines.{anomalies_by};
@@ -103,9 +104,11 @@ fn incomplete_lines<D: Checked, W: Write>(
     ensures most { IfOk result (λ number. number ≤ 65535) }
     ensures few { IfOk result (λ number. (p : Parameters) (frames : Frames)
         → D.has_processed delivery.now p frames → number ≤ length frames) }
+    ensures lent { OnErr result (KeepsWriter out.old out.new) }
     ensures fault { IfErr result (λ fault. (p : Parameters) (frames : Frames)
-        → D.has_processed delivery.now p frames → StopsAdding W.contents out.old
-        (concat (flat_map (D.open_at p offset frames) (D.kind p).channels)) out.new ⊥ fault) }
+        → D.has_processed delivery.now p frames
+        → StopsWriting W.contents out.old.writer.now out.new.writer.now (out.old.lines
+        ++ concat (flat_map (D.open_at p offset frames) (D.kind p).channels)) ⊥ fault) }
 {
     let mut number: u64 = 0;
     for channel in 0..delivery.open_below() {

@@ -1,27 +1,32 @@
 -- Streams: their faults, reads and writes one after another, and texts that are added to an output.
-use Rattle.std.proofs.Common.{◌≡◌, ℕ, ◌≤◌, List, ◌++◌, length, Option, sym, ◌∙◌, ap, append_assoc, ◌-◌, take, drop, take-append-drop, [], refl, append-nil, arith}
+use Rattle.std.proofs.Common.{◌≡◌, ℕ, ◌≤◌, List, ◌++◌, length, Option, rules, sym, ◌∙◌, append_assoc, ◌-◌, take, drop, take-append-drop, [], refl, append-nil, arith}
 use Rattle.std.proofs.lemmas.List.{take_rest}
 use Rattle.std.proofs.KnownBytes.{Appends-nil, Appends-trans}
-use Rattle.sl_packet.specs.Sink.{one_more}
 use Rattle.sl_link.specs.declared.link.counted.Counted.{Counted}
 use Rattle.sl_link.specs.declared.link.fault.LinkFault.{LinkFault}
-use Rattle.sl_link.specs.declared.link.fault.LinkFault.TheVariants.{Write, Memory}
-use Rattle.sl_link.specs.Link.Counted.{faults_of, HadOneFault, stream_of}
-use Rattle.sl_link.specs.Io.Streams.{IsCaused, IsReadersFault, Writes, AddsText, IsWritersFault, StopsWriting, WritesPrefix, WritesText}
+use Rattle.sl_link.specs.declared.link.fault.LinkFault.TheVariants.{Memory}
+use Rattle.sl_link.specs.Link.Counted.{faults_of, no_stream, stream_of}
+use Rattle.sl_link.specs.Io.Streams.{IsCaused, Writes, AddsText, StopsWriting, WritesPrefix, WritesText}
 use Rattle.sl_link.specs.declared.io.output.Output.{Output}
-use Rattle.sl_link.specs.Io.Output.{Adds, StopsAdding}
+use Rattle.sl_link.specs.Io.Output.{Adds}
 
--- ---- faults, and a line that is written in part
-
-pub caused_writing : {R W : Type 0} (remaining : R → Option (List ℕ)) (contents : W → Option (List ℕ)) (reader reader' : Counted R) (writer mid writer' : Counted W) (octets : List ℕ) (greatest buffer : ℕ) (fault : LinkFault)
-    → fault ≡ Write → faults_of reader' ≡ faults_of reader → faults_of mid ≡ faults_of writer → HadOneFault mid writer' → length octets ≤ greatest
-    → IsCaused remaining contents reader reader' writer writer' greatest buffer octets fault
-caused_writing remaining contents reader reader' writer mid writer' octets greatest buffer fault is_write other kept cause within = rw is_write (cause ∙ ap one_more kept, other, within)
+-- ---- faults and their causes
 
 -- a reader's fault, where the writer had none
-pub reader_caused : {R W : Type 0} (remaining : R → Option (List ℕ)) (contents : W → Option (List ℕ)) (reader reader' : Counted R) (writer writer' : Counted W) (limit buffer : ℕ) (octets : List ℕ) (fault : LinkFault)
-    → faults_of writer' ≡ faults_of writer → IsReadersFault reader reader' limit buffer octets fault → IsCaused remaining contents reader reader' writer writer' limit buffer octets fault
-reader_caused remaining contents reader reader' writer writer' limit buffer octets fault kept cause = grind arith
+pub reader_caused : {R W : Type 0} (reader reader' : Counted R) (writer writer' : Counted W) (limit past : ℕ) (octets : List ℕ) (fault : LinkFault)
+    → faults_of writer' ≡ faults_of writer → IsCaused reader reader' no_stream no_stream limit past octets fault → IsCaused reader reader' writer writer' limit past octets fault
+reader_caused reader reader' writer writer' limit past octets fault kept cause = grind arith
+
+-- a writer's, where the reader had none
+pub writer_caused : {R W : Type 0} (reader reader' : Counted R) (writer writer' : Counted W) (limit past : ℕ) (octets : List ℕ) (fault : LinkFault)
+    → faults_of reader' ≡ faults_of reader → length octets ≤ limit → IsCaused no_stream no_stream writer writer' 0 0 [] fault
+    → IsCaused reader reader' writer writer' limit past octets fault
+writer_caused reader reader' writer writer' limit past octets fault kept within cause = grind arith
+
+-- a writer's, after a step at which it had none
+caused_later : {W : Type 0} (old mid new : Counted W) (fault : LinkFault) → faults_of mid ≡ faults_of old → IsCaused no_stream no_stream mid new 0 0 [] fault
+    → IsCaused no_stream no_stream old new 0 0 [] fault
+caused_later old mid new fault kept cause = grind arith
 
 -- ---- reads into a buffer and writes of a text
 
@@ -72,10 +77,10 @@ module _ {W : Type 0} (contents : W → Option (List ℕ)) where
 
   -- a fault while what waits is written
   pub writer_stops_waiting : (old mid new : Counted W) (pending pending' text more whole : List ℕ) (fault : LinkFault)
-      → AddsText contents old mid pending pending' text → StopsWriting contents mid new pending' fault
-      → pending ++ (text ++ more) ≡ whole → StopsWriting contents old new whole fault
+      {wanted : Type 0} → AddsText contents old mid pending pending' text → StopsWriting contents mid new pending' ⊥ fault
+      → pending ++ (text ++ more) ≡ whole → StopsWriting contents old new whole wanted fault
   writer_stops_waiting old mid new pending pending' text more whole fault a s e =
-      record { front = rw e at (prefix_then text more a (prefix_first more s.front)); is_write = s.is_write; cause = s.cause ∙ ap one_more a.no_fault }
+      record { front = rw e at (prefix_then text more a (prefix_first more s.front)); cause = caused_later old mid new fault a.no_fault s.cause; memory = λ m. absurd (s.memory m) }
 
 -- ---- an output
 
@@ -85,10 +90,9 @@ module _ {W : Type 0} (contents : W → Option (List ℕ)) where
   adds_lines old new text same e = record { lent = rw same refl; adds = rw same (record { written = []; parts = sym e; writes = Appends-nil (contents (stream_of old.writer.now)); no_fault = refl }) }
 
   -- memory was refused, and nothing written
-  pub stops_at_memory : (old new : Output W) (text : List ℕ) {wanted : Type 0} → new.writer ≡ old.writer → wanted → StopsAdding contents old text new wanted Memory
-  stops_at_memory old new text {wanted} same wants =
-      let front : WritesPrefix contents old.writer.now old.writer.now (old.lines ++ text) = record { written = []; missing = old.lines ++ text; front = refl; writes = Appends-nil (contents (stream_of old.writer.now)) } in
-      record { lent = rw same refl; front = rw same front; cause = rw same refl; memory = λ e. wants }
+  pub stops_at_memory : (writer : Counted W) (text : List ℕ) {wanted : Type 0} → wanted → StopsWriting contents writer writer text wanted Memory
+  stops_at_memory writer text wants =
+      record { front = record { written = []; missing = text; front = refl; writes = Appends-nil (contents (stream_of writer)) }; cause = (refl, refl, search rules); memory = λ e. wants }
 
 module _ {W : Type 0} {contents : W → Option (List ℕ)} where
   pub adds_both : {old mid new : Output W} {text more : List ℕ} → Adds contents old text mid → Adds contents mid more new → Adds contents old (text ++ more) new
@@ -98,30 +102,28 @@ module _ {W : Type 0} {contents : W → Option (List ℕ)} where
   pub adds_none : {old mid new : Output W} {text : List ℕ} → Adds contents old text mid → Adds contents mid [] new → Adds contents old text new
   adds_none a b = rw append-nil at (adds_both a b)
 
+module _ {W : Type 0} {contents : W → Option (List ℕ)} {new : Counted W} {fault : LinkFault} where
+  -- what is said of memory may say less
+  pub wanted_less : {old : Counted W} {text : List ℕ} {wanted some : Type 0} → (wanted → some) → StopsWriting contents old new text wanted fault → StopsWriting contents old new text some fault
+  wanted_less tells s = record { front = s.front; cause = s.cause; memory = λ e. tells (s.memory e) }
+
   -- a fault at the first text stops both
-  pub stops_first : {old new : Output W} {text : List ℕ} {wanted : Type 0} {fault : LinkFault} (more : List ℕ) → StopsAdding contents old text new wanted fault
-      → StopsAdding contents old (text ++ more) new wanted fault
-  stops_first {old} {text = text} more s =
-      record { lent = s.lent; front = rw append_assoc at (prefix_first contents more s.front); cause = s.cause; memory = s.memory }
+  pub stops_first : {old : Counted W} {wanted : Type 0} (lines text more : List ℕ) → StopsWriting contents old new (lines ++ text) wanted fault
+      → StopsWriting contents old new (lines ++ (text ++ more)) wanted fault
+  stops_first lines text more s = record { front = rw (append_assoc lines text more) at (prefix_first contents more s.front); cause = s.cause; memory = s.memory }
 
-  -- and so does one at the second
-  pub stops_then : {old mid new : Output W} {text more : List ℕ} {wanted : Type 0} {fault : LinkFault} → Adds contents old text mid
-      → StopsAdding contents mid more new wanted fault → StopsAdding contents old (text ++ more) new wanted fault
-  stops_then {old} {mid} {new} {text} {more} {fault = fault} a s =
-      let cause : IsWritersFault old.writer.now new.writer.now fault = grind (arith, a.adds.no_fault, s.cause) in
-      record { lent = s.lent ∙ a.lent; front = prefix_then contents text more a.adds s.front; cause = cause; memory = s.memory }
+  -- so does one where room is made for them
+  pub stops_before : {old : Counted W} {lines : List ℕ} (text : List ℕ) (wanted : Type 0) → StopsWriting contents old new lines ⊥ fault → StopsWriting contents old new (lines ++ text) wanted fault
+  stops_before text wanted s = record { front = prefix_first contents text s.front; cause = s.cause; memory = λ e. absurd (s.memory e) }
 
-  -- after the whole text, at a flush
-  pub stops_last : {old mid new : Output W} {text : List ℕ} {wanted : Type 0} {fault : LinkFault} → Adds contents old text mid
-      → StopsAdding contents mid [] new wanted fault → StopsAdding contents old text new wanted fault
-  stops_last a s = rw append-nil at (stops_then a s)
+  -- and one at the second
+  pub stops_then : {old mid : Output W} {text : List ℕ} {wanted : Type 0} (more : List ℕ) → Adds contents old text mid → StopsWriting contents mid.writer.now new (mid.lines ++ more) wanted fault
+      → StopsWriting contents old.writer.now new (old.lines ++ (text ++ more)) wanted fault
+  stops_then {old} {mid} {text} more a s =
+      let cause = caused_later old.writer.now mid.writer.now new fault a.adds.no_fault s.cause in
+      record { front = prefix_then contents text more a.adds s.front; cause = cause; memory = s.memory }
 
-  -- a fault that no want of memory makes
-  pub stops_for : {old new : Output W} {text : List ℕ} {fault : LinkFault} (wanted : Type 0) → StopsAdding contents old text new ⊥ fault
-      → StopsAdding contents old text new wanted fault
-  stops_for wanted s = record { lent = s.lent; front = s.front; cause = s.cause; memory = λ e. absurd (s.memory e) }
-
-  -- before the text, where room is made for it
-  pub stops_before : {old new : Output W} {fault : LinkFault} (text : List ℕ) (wanted : Type 0) → StopsAdding contents old [] new ⊥ fault
-      → StopsAdding contents old text new wanted fault
-  stops_before text wanted s = stops_for wanted (stops_first text s)
+  -- or after it, where what waits is written
+  pub stops_last : {old mid : Output W} {text : List ℕ} {wanted : Type 0} → Adds contents old text mid → StopsWriting contents mid.writer.now new mid.lines wanted fault
+      → StopsWriting contents old.writer.now new (old.lines ++ text) wanted fault
+  stops_last {wanted = wanted} a s = rw append-nil at (stops_then {wanted = wanted} [] a (rw append-nil s))

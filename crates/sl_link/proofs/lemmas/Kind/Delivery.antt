@@ -8,20 +8,16 @@ use Rattle.std.proofs.lemmas.List.{ext_get_or, get_or-take, length-set, set-get_
 use Rattle.std.proofs.lemmas.List.Elements.{filter-append, filter_map-append}
 use Rattle.std.proofs.lemmas.Simd.{pick_l-range_with_len}
 use Rattle.sl_fields.proofs.ListLemmas.{concat-push}
-use Rattle.sl_packet.specs.declared.flow_fault.FlowFault.{FlowFault}
-use Rattle.sl_packet.specs.declared.flow_fault.FlowFault.TheVariants.{Memory}
-use Rattle.sl_packet.specs.declared.sink.SinkFault.{SinkFault}
 use Rattle.sl_packet.specs.Delivered.{AddsPacket, PacketLists, empty_lists}
 use Rattle.sl_packet.specs.Packet.{is_idle_packet}
 use Rattle.sl_packet.specs.Packets.{only_idle, without_idle}
 use Rattle.sl_packet.specs.Sink.{TakesAll}
-use Rattle.sl_packet.specs.Stopping.{IsStopped}
 use Rattle.sl_packet.proofs.DeliveredLemmas.{length-empty_lists, list_at-empty_lists}
 use Rattle.sl_packet.proofs.WithoutIdleLemmas.{without_idle-append}
 use Rattle.sl_link.specs.declared.tally.FrameReport.{FrameReport}
 use Rattle.sl_link.specs.Link.Totals.{Counts}
 use Rattle.sl_link.specs.Tally.{counts_more, counts_so_far, skipped_in, no_counts}
-use Rattle.sl_link.specs.Kind.Delivery.{AreDelivered, AreKept, Delivers, StopsDelivering, HasDelivered, IsReport, IsWithin, Kind, count_of, idle_in, lists_in, packets_in, with_frame, with_packets}
+use Rattle.sl_link.specs.Kind.Delivery.{AreDelivered, AreKept, Delivers, HasDelivered, IsReport, IsWithin, Kind, count_of, idle_in, lists_in, packets_in, with_frame, with_packets}
 use Rattle.sl_link.proofs.lemmas.Kind.Channels.{items_change, map_range, no_items, none_of}
 
 -- ---- frames that are counted one after another
@@ -105,13 +101,6 @@ pub delivers_as : {S : Type 0} {taking : S → ℕ → List ℕ → S → Type 0
     → TakesAll taking old channel (without_idle ended) new → report.is_skipped ≡ skips → report.packets ≡ length (without_idle ended) → report.idle ≡ length (only_idle ended)
     → report.anomalies ≡ 0 → Delivers taking k before frame old report new
 delivers_as at ends skipping some accepted skipped packets idle none = grind arith
-
--- and where that stops
-pub stops_as : {S : Type 0} {taking : S → ℕ → List ℕ → S → Type 0} {failing : S → ℕ → List ℕ → SinkFault → S → Type 0} {failures : S → ℕ} {k : Kind} {wants_memory : List (List ℕ) → Type 0}
-    {before : List (List ℕ)} {frame : List ℕ} {old new : S} {fault : FlowFault} {channel : ℕ} {ended : List (List ℕ)} → k.channel frame ≡ channel → k.ended before frame ≡ ended
-    → IsStopped taking failing failures old channel (without_idle ended) fault new → (fault ≡ Memory → wants_memory (before ++ frame ∷ []))
-    → StopsDelivering taking failing failures k wants_memory before frame old fault new
-stops_as at ends stopped wants = record { stopped = rw (at, ends) stopped; wanted = wants }
 
 -- ---- packets that are kept
 

@@ -1,7 +1,7 @@
 -- What follows from what a call answers.
 use Rattle.std.proofs.Common.{◌≡◌, Option, None, Some, Result, Ok, Err, subst, sym}
 use Rattle.std.specs.Prelude.{IfErr, IfNone, IfSome, OnOk}
-use Rattle.std.specs.Result.{IsErrAnd}
+use Rattle.std.specs.Result.{IsErrAnd, OnErr}
 
 -- from what holds where there is no value
 pub none_then : {X P Q : Type 0} (o : Option X) → IfNone o P → (P → Q) → IfNone o Q
@@ -17,6 +17,11 @@ both_some (Some x) p q f = f x p q
 pub both_ok : {T E P Q X : Type 0} (r : Result T E) → OnOk r P → OnOk r Q → (P → Q → X) → OnOk r X
 both_ok (Ok t) p q f = f p q
 both_ok (Err e) p q f = tt
+
+-- from what holds at any error, and what holds of the error
+pub both_err : {T E P : Type 0} {Q X : E → Type 0} (r : Result T E) → OnErr r P → IfErr r Q → (P → (e : E) → Q e → X e) → IfErr r X
+both_err (Ok t) p q f = tt
+both_err (Err e) p q f = f p e q
 
 -- a fault that `?` passes up as it is
 pub passed_up : {T E : Type 0} {e : E} (r : Result T E) (P : E → Type 0) → IsErrAnd r (λ y. y ≡ e) → P e → IfErr r P

@@ -1,5 +1,5 @@
 -- A normal form that is written piece by piece.
-use Rattle.std.proofs.Common.{◌≡◌, ℕ, List, [], ◌++◌, Option, refl, sym, subst, ◌∙◌, ap, append_assoc, append-nil, inl, inr}
+use Rattle.std.proofs.Common.{◌≡◌, ℕ, List, [], ◌++◌, Option, refl, sym, subst, ◌∙◌, ap, append_assoc, append-nil}
 use Rattle.std.proofs.KnownBytes.{Appends-nil}
 use Rattle.sl_tmflow.specs.NormalForm.{normal_form}
 use Rattle.sl_tmflow.specs.Recording.{tm_lists}
@@ -7,10 +7,9 @@ use Rattle.sl_tcflow.specs.Recording.{tc_lists}
 use Rattle.sl_tcflow.specs.TcNormalForm.{tc_normal_form_of}
 use Rattle.sl_link.specs.declared.link.counted.Counted.{Counted}
 use Rattle.sl_link.specs.declared.link.fault.LinkFault.{LinkFault}
-use Rattle.sl_link.specs.declared.link.fault.LinkFault.TheVariants.{Memory}
 use Rattle.sl_link.specs.Link.Counted.{stream_of}
 use Rattle.sl_link.specs.Io.Streams.{AddsText, StopsWriting, WritesText}
-use Rattle.sl_link.specs.Normalise.Form.{AddsPiece, IsAllMade, KeepsLeft, StopsForm}
+use Rattle.sl_link.specs.Normalise.Form.{AddsPiece, IsAllMade, KeepsLeft}
 use Rattle.sl_link.specs.Link.Managed.{Parameters, tm_format, tc_format}
 use Rattle.sl_link.specs.Kind.Tc.{tc_packets}
 use Rattle.sl_link.specs.Normalise.Tc.{tc_form_of}
@@ -62,23 +61,8 @@ module _ {F W : Type 0} {left : F → List ℕ → Type 0} {contents : W → Opt
         rw (← whole) (all_written contents old new new' text w.made w.adds (rw same at done))
 
     -- a fault while what waits is written
-    pub form_stopped : {new' : Counted W} {text' : List ℕ} {packets : Type 0} {fault : LinkFault} → text' ≡ text → StopsWriting contents new new' text' fault → StopsForm contents old new' octets packets fault
-    form_stopped {new'} {fault} same s = inr (writer_stops_waiting contents old new new' [] text w.made w.more octets fault w.adds (rw same at s) (sym w.parts))
-
-module _ {W : Type 0} {contents : W → Option (List ℕ)} {old new : Counted W} {octets : List ℕ} {packets : Type 0} {fault : LinkFault} (s : StopsForm contents old new octets packets fault) where
-  -- what is said of the packets may say less
-  pub fewer_packets : {some : Type 0} → (packets → some) → StopsForm contents old new octets some fault
-  fewer_packets tells = elim s [
-    | inl refused ↦ inl (refused.0, refused.1, tells refused.2)
-    | inr stopped ↦ inr stopped
-  ]
-
-  -- and memory is wanted only where there are packets
-  pub wanted_for_form : fault ≡ Memory → packets
-  wanted_for_form is_memory = elim s [
-    | inl refused ↦ refused.2
-    | inr stopped ↦ absurd (let is = stopped.is_write in cc)
-  ]
+    pub form_stopped : {new' : Counted W} {text' : List ℕ} {wanted : Type 0} {fault : LinkFault} → text' ≡ text → StopsWriting contents new new' text' ⊥ fault → StopsWriting contents old new' octets wanted fault
+    form_stopped {new'} {fault = fault} same s = writer_stops_waiting contents old new new' [] text w.made w.more octets fault w.adds (rw same at s) (sym w.parts)
 
 -- ---- under the managed parameters
 

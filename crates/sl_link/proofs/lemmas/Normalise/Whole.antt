@@ -1,13 +1,12 @@
 -- A recording that is read whole, and a normal form of it that is written after that.
-use Rattle.std.proofs.Common.{◌≡◌, ℕ, List, [], Option, append-nil, inl, inr, refl, subst, sym}
+use Rattle.std.proofs.Common.{◌≡◌, ℕ, List, [], Option, append-nil, refl, subst, sym}
 use Rattle.std.proofs.KnownBytes.{Appends-nil}
 use Rattle.sl_link.specs.declared.link.counted.Counted.{Counted}
 use Rattle.sl_link.specs.declared.link.fault.LinkFault.{LinkFault}
-use Rattle.sl_link.specs.Io.Streams.{Reads, ReadsAll, Stops, StopsReading, Translates, Writes, WritesText}
+use Rattle.sl_link.specs.Io.Streams.{Reads, ReadsAll, Stops, StopsReading, StopsWriting, Translates, Writes, WritesText}
 use Rattle.sl_link.specs.Link.Counted.{stream_of}
-use Rattle.sl_link.specs.Normalise.Form.{StopsForm}
 use Rattle.sl_link.specs.Pass.{WantedMemory}
-use Rattle.sl_link.proofs.lemmas.Io.Streams.{reader_caused}
+use Rattle.sl_link.proofs.lemmas.Io.Streams.{reader_caused, writer_caused}
 
 module _ {R W : Type 0} {remaining : R → Option (List ℕ)} {contents : W → Option (List ℕ)} {reader reader' : Counted R} {writer : Counted W} {text : List ℕ → List ℕ} {limit : ℕ} where
   -- a fault before anything is written,
@@ -16,17 +15,19 @@ module _ {R W : Type 0} {remaining : R → Option (List ℕ)} {contents : W → 
     octets = s.octets;
     read = s.read;
     written = record { written = []; missing = text s.octets; front = refl; writes = Appends-nil (contents (stream_of writer)) };
-    cause = reader_caused remaining contents reader reader' writer writer limit buffer s.octets fault refl s.cause;
+    cause = reader_caused reader reader' writer writer limit buffer s.octets fault refl s.cause;
   }
 
   module _ {octets written : List ℕ} (r : ReadsAll remaining reader reader' limit octets) {writer' : Counted W} (same : written ≡ text octets) where
     -- or while a normal form is made or written
-    pub stops_at_form : {buffer : ℕ} {packets : Type 0} {fault : LinkFault} → StopsForm contents writer writer' written packets fault
+    pub stops_at_form : {buffer : ℕ} {wanted : Type 0} {fault : LinkFault} → StopsWriting contents writer writer' written wanted fault
         → Stops remaining contents reader reader' writer writer' text limit buffer fault
-    stops_at_form s = elim s [
-      | inl refused ↦ rw (refused.1, refused.0) (stops_at_reading (record { octets = octets; read = r.read; cause = (r.no_fault, r.within) }))
-      | inr stopped ↦ record { octets = octets; read = r.read; written = rw (← same) stopped.front; cause = rw stopped.is_write (stopped.cause, r.no_fault, r.within) }
-    ]
+    stops_at_form {buffer} {fault = fault} s = record {
+      octets = octets;
+      read = r.read;
+      written = rw (← same) s.front;
+      cause = writer_caused reader reader' writer writer' limit buffer octets fault r.no_fault r.within s.cause;
+    }
 
     -- all of it is written
     abbrev pub translates : WritesText contents writer writer' written → Translates remaining contents reader reader' writer writer' text limit

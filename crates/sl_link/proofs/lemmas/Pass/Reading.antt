@@ -8,8 +8,8 @@ use Rattle.sl_link.specs.Pass.{CutsFrame, HasTaken, HasTakenAll, StopsPassing}
 use Rattle.sl_link.specs.declared.link.counted.Counted.{Counted}
 use Rattle.sl_link.specs.declared.link.fault.LinkFault.{LinkFault}
 use Rattle.sl_link.specs.declared.link.fault.LinkFault.TheVariants.{Memory}
-use Rattle.sl_link.specs.Link.Counted.{stream_of, faults_of}
-use Rattle.sl_link.specs.Io.Streams.{IsReadersFault, Reads, ReadsSome, StopsReading}
+use Rattle.sl_link.specs.Link.Counted.{stream_of, faults_of, no_stream}
+use Rattle.sl_link.specs.Io.Streams.{IsCaused, Reads, ReadsSome, StopsReading}
 
 -- ---- frames handed over
 
@@ -87,8 +87,8 @@ module _ {R F : Type 0} {remaining : R → Option (List ℕ)} {is_frame : Parame
       all = all;
     }
 
-  caused : (reader' : Counted R) (most room past : ℕ) (octets : List ℕ) (fault : LinkFault) → limit ≡ most → past ≤ room → IsReadersFault mid reader' (limit - n) past octets fault
-      → IsReadersFault reader reader' most room (s.octets ++ octets) fault
+  caused : (reader' : Counted R) (most room past : ℕ) (octets : List ℕ) (fault : LinkFault) → limit ≡ most → past ≤ room → IsCaused mid reader' no_stream no_stream (limit - n) past octets fault
+      → IsCaused reader reader' no_stream no_stream most room (s.octets ++ octets) fault
   caused reader' most room past octets fault same fits cause = grind (arith, length-append, s.no_fault, s.size, s.allowed)
 
   module _ (front : (p : Parameters) (frame more : List ℕ) → is_frame p frame → frames_of p (frame ++ more) ≡ frame ∷ frames_of p more) {reader' : Counted R} {stopped : List (List ℕ) → LinkFault → Type 0} {fault : LinkFault} where

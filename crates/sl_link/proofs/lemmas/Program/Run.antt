@@ -1,11 +1,12 @@
 -- A run: the flush after an engine, and the answers to help and the version.
-use Rattle.std.proofs.Common.{◌≡◌, ℕ, List, Option, inl, inr, subst, sym, ◌∙◌, append-nil, []}
+use Rattle.std.proofs.Common.{◌≡◌, ℕ, List, Option, ap, inl, inr, subst, sym, ◌∙◌, append-nil, []}
 use Rattle.std.specs.Prelude.{◌⊎◌}
 use Rattle.std.specs.Io.KnownBytes.{Keeps}
 use Rattle.std.proofs.KnownBytes.{Appends-kept}
 use Rattle.clap.specs.Walk.{Text}
 use Rattle.clap.specs.declared.error.kind.ErrorKind.{ErrorKind}
 use Rattle.clap.specs.declared.error.kind.ErrorKind.TheVariants.{DisplayHelp, DisplayVersion, OutOfMemory}
+use Rattle.sl_packet.specs.Sink.{one_more}
 use Rattle.sl_link.specs.declared.link.counted.Counted.{Counted}
 use Rattle.sl_link.specs.declared.link.fault.LinkFault.{LinkFault}
 use Rattle.sl_link.specs.declared.link.fault.LinkFault.TheVariants.{Memory, Write}
@@ -14,11 +15,9 @@ use Rattle.sl_link.specs.Program.Answer.{EndsAsHelp, WithAnswer, WithText, versi
 use Rattle.sl_link.specs.Program.CommandLine.{AskForHelp, AskForVersion, IsRefusal}
 use Rattle.sl_link.specs.Io.Streams.{TranslatesAndCounts}
 use Rattle.sl_link.specs.Link.Counted.{stream_of, faults_of, HadOneFault}
-use Rattle.sl_link.specs.Pass.{chunk_size}
 use Rattle.sl_link.specs.Program.Run.{engine_text, HasWritten, IsStoppedBy}
 use Rattle.sl_link.specs.Link.Managed.{Parameters}
 use Rattle.sl_link.specs.Link.Totals.{Counts}
-use Rattle.sl_link.proofs.lemmas.Io.Streams.{caused_writing}
 
 module _ {R W : Type 0} {remaining : R → Option (List ℕ)} {contents : W → Option (List ℕ)} {reader reader' : Counted R} {writer mid writer' : Counted W} where
   -- where the flush fails, all of the text is in its place, but the writer had a fault
@@ -32,7 +31,7 @@ module _ {R W : Type 0} {remaining : R → Option (List ℕ)} {contents : W → 
           octets = t.octets;
           read = t.read;
           written = record { written = text; missing = []; front = append-nil text; writes = Appends-kept _ _ _ text t.written kept };
-          cause = caused_writing remaining contents reader reader' writer mid writer' t.octets managed.max_octets chunk_size fault is_write t.reader_kept t.writer_kept failed t.within;
+          cause = rw is_write (failed ∙ ap one_more t.writer_kept, t.reader_kept, t.within);
         };
         not_memory = λ lists is_memory. let bad : Memory ≡ Write = sym is_memory ∙ is_write in cc;
         all_read = λ form same. t.to_end;

@@ -1,17 +1,17 @@
 -- A listing: frame by frame, and of a whole recording, and how it stops.
-use Rattle.std.proofs.Common.{◌≡◌, ℕ, List, [], ◌∷◌, ◌++◌, Option, sym, ◌∙◌, ap, append_assoc, append-nil, ◌-◌, ◌≤◌, length, Result, Ok, Err, inl, inr, arith}
+use Rattle.std.proofs.Common.{◌≡◌, ℕ, List, [], ◌∷◌, ◌++◌, Option, sym, ◌∙◌, ap, append_assoc, append-nil, ◌-◌, ◌≤◌, length, Result, Ok, Err, inl, inr}
 use Rattle.std.specs.List.{concat}
 use Rattle.sl_link.specs.declared.io.output.Output.{Output}
 use Rattle.sl_link.specs.declared.link.fault.LinkFault.{LinkFault}
-use Rattle.sl_link.specs.Io.Output.{Adds, StopsAdding}
+use Rattle.sl_link.specs.Io.Output.{Adds, KeepsWriter}
 use Rattle.sl_link.specs.Verbs.Listing.{Frames, lines_from, EndsListing, Listing, listing_text}
 use Rattle.sl_link.specs.declared.link.counted.Counted.{Counted}
 use Rattle.sl_link.specs.Link.Counted.{faults_of}
-use Rattle.sl_link.specs.Io.Streams.{IsCaused, Reads, Translates, WritesPrefix}
+use Rattle.sl_link.specs.Io.Streams.{Reads, StopsWriting, Translates, WritesPrefix}
 use Rattle.sl_link.specs.Pass.{PassesOver, StopsPassing, WantedMemory}
 use Rattle.sl_link.specs.Link.Totals.{Counts}
 use Rattle.sl_link.specs.Tally.{remainder_after}
-use Rattle.sl_link.proofs.lemmas.Io.Streams.{adds_both, stops_then, adds_none, reader_caused, stops_first, stops_last}
+use Rattle.sl_link.proofs.lemmas.Io.Streams.{adds_both, stops_then, adds_none, reader_caused, stops_first, stops_last, writer_caused}
 
 -- ---- frame by frame
 
@@ -23,13 +23,13 @@ module _ {X : Type 0} (line : Frames → List ℕ → List X) where
   pub lines_from-last : (xs : Frames) (x : List ℕ) → lines_from line [] (xs ++ x ∷ []) ≡ lines_from line [] xs ++ line xs x
   lines_from-last xs x = lines_from-append [] xs (x ∷ []) ∙ ap (λ l. lines_from line [] xs ++ l) (append-nil (line xs x))
 
-module _ {W : Type 0} {contents : W → Option (List ℕ)} {start old new : Output W} (line : Frames → List ℕ → List ℕ) (frames : Frames) (frame : List ℕ) (a : Adds contents start (lines_from line [] frames) old) where
-  pub frame_added : Adds contents old (line frames frame) new → Adds contents start (lines_from line [] (frames ++ frame ∷ [])) new
+module _ {W : Type 0} {contents : W → Option (List ℕ)} {start old : Output W} (line : Frames → List ℕ → List ℕ) (frames : Frames) (frame : List ℕ) (a : Adds contents start (lines_from line [] frames) old) where
+  pub frame_added : {new : Output W} → Adds contents old (line frames frame) new → Adds contents start (lines_from line [] (frames ++ frame ∷ [])) new
   frame_added b = rw (lines_from-last line frames frame) (adds_both a b)
 
-  pub frame_stopped : {wanted : Type 0} {fault : LinkFault} → StopsAdding contents old (line frames frame) new wanted fault
-      → StopsAdding contents start (lines_from line [] (frames ++ frame ∷ [])) new wanted fault
-  frame_stopped s = rw (lines_from-last line frames frame) (stops_then a s)
+  pub frame_stopped : {new : Counted W} {wanted : Type 0} {fault : LinkFault} → StopsWriting contents old.writer.now new (old.lines ++ line frames frame) wanted fault
+      → StopsWriting contents start.writer.now new (start.lines ++ lines_from line [] (frames ++ frame ∷ [])) wanted fault
+  frame_stopped s = rw (lines_from-last line frames frame) (stops_then (line frames frame) a s)
 
 -- ---- of a whole recording
 
@@ -43,22 +43,22 @@ module _ {R W : Type 0} (remaining : R → Option (List ℕ)) (contents : W → 
     -- the output keeps the writer that was lent, and the listing ends in this way
     abbrev pub Ends : Result Counts LinkFault → Type 0
     Ends result =
-        (new.writer.ghost_name ≡ start.writer.ghost_name)
+        KeepsWriter start new
         × EndsListing remaining contents reader reader' start.writer.now new.writer.now frames_of l limit buffer wants_memory result
 
     -- a fault at a text with which the listing of these octets begins
     stops_at : (wanted : Type 0) (text more octets : List ℕ) (fault : LinkFault) → Reads remaining reader reader' octets → faults_of reader' ≡ faults_of reader → length octets ≤ limit
-        → text ++ more ≡ listing_text frames_of l octets → StopsAdding contents start text new wanted fault
+        → text ++ more ≡ listing_text frames_of l octets → KeepsWriter start new → StopsWriting contents start.writer.now new.writer.now (start.lines ++ text) wanted fault
         → (wanted → WantedMemory remaining reader reader' frames_of wants_memory) → Ends (Err fault)
-    stops_at wanted text more octets fault read kept within e s wants =
-        let written = rw (empty, e) at (stops_first more s).front in
-        let cause : IsCaused remaining contents reader reader' start.writer.now new.writer.now limit buffer octets fault = grind (arith, kept, within, s.cause) in
-        (s.lent, record { listing = tt; totals = tt; fault = record { octets = octets; read = read; written = written; cause = cause }; memory = λ is_memory. wants (s.memory is_memory) })
+    stops_at wanted text more octets fault read kept within e lent s wants =
+        let written = rw (empty, e) at (stops_first start.lines text more s).front in
+        let cause = writer_caused reader reader' start.writer.now new.writer.now limit buffer octets fault kept within s.cause in
+        (lent, record { listing = tt; totals = tt; fault = record { octets = octets; read = read; written = written; cause = cause }; memory = λ is_memory. wants (s.memory is_memory) })
 
     -- a fault before all was read
     pub stops_frames : (has_listed : Frames → Type 0) (fault : LinkFault)
         → StopsPassing remaining reader reader' frames_of (λ frames. has_listed frames × Adds contents start (lines_from l.line [] frames) new)
-        (λ frames. StopsAdding contents start (lines_from l.line [] frames) new (wants_memory frames)) limit buffer fault
+        (λ frames fault. KeepsWriter start new × StopsWriting contents start.writer.now new.writer.now (start.lines ++ lines_from l.line [] frames) (wants_memory frames) fault) limit buffer fault
         → Ends (Err fault)
     stops_frames has_listed fault s =
         let more = lines_from l.line s.first s.later ++ l.last (frames_of s.octets) (remainder_after (frames_of s.octets) s.octets) in
@@ -68,10 +68,10 @@ module _ {R W : Type 0} (remaining : R → Option (List ℕ)) (contents : W → 
               let t = at.0.1.adds in
               let front : t.written ++ (new.lines ++ more) ≡ listing_text frames_of l s.octets = rw (← append_assoc t.written new.lines more, ← t.parts, empty) text in
               let written : WritesPrefix contents start.writer.now new.writer.now (listing_text frames_of l s.octets) = record { written = t.written; missing = new.lines ++ more; front = front; writes = t.writes } in
-              let cause = reader_caused remaining contents reader reader' start.writer.now new.writer.now limit buffer s.octets fault t.no_fault at.2 in
+              let cause = reader_caused reader reader' start.writer.now new.writer.now limit buffer s.octets fault t.no_fault at.2 in
               (at.0.1.lent, record { listing = tt; totals = tt; fault = record { octets = s.octets; read = s.read; written = written; cause = cause }; memory = λ is_memory. absurd (at.1 is_memory) })
           | inr at ↦
-              stops_at (wants_memory s.first) (lines_from l.line [] s.first) more s.octets fault s.read at.1 at.2 text at.0
+              stops_at (wants_memory s.first) (lines_from l.line [] s.first) more s.octets fault s.read at.1 at.2 text at.0.0 at.0.1
               (λ wanted. record { octets = s.octets; read = s.read; first = s.first; later = s.later; in_order = s.in_order; wanted = wanted })
         ]
 
@@ -83,13 +83,13 @@ module _ {R W : Type 0} (remaining : R → Option (List ℕ)) (contents : W → 
       whole_text = ap (λ k. lines_from l.line [] (frames_of s.octets) ++ l.last (frames_of s.octets) (k - length (concat (frames_of s.octets)))) s.size
 
       -- a fault of the last lines
-      pub stops_finish : (fault : LinkFault) → StopsAdding contents mid last_lines new ⊥ fault → Ends (Err fault)
-      stops_finish fault f = stops_at ⊥ _ [] s.octets fault s.read s.no_fault s.within (append-nil _ ∙ whole_text) (stops_then listed f) (λ never. absurd never)
+      pub stops_finish : (fault : LinkFault) → KeepsWriter mid new → StopsWriting contents mid.writer.now new.writer.now (mid.lines ++ last_lines) ⊥ fault → Ends (Err fault)
+      stops_finish fault lent f = stops_at ⊥ _ [] s.octets fault s.read s.no_fault s.within (append-nil _ ∙ whole_text) (lent ∙ listed.lent) (stops_then last_lines listed f) (λ never. absurd never)
 
       module _ (end : Output W) (added : Adds contents mid last_lines end) where
         -- a fault of writing what waits
-        pub stops_flush : (fault : LinkFault) → StopsAdding contents end [] new ⊥ fault → Ends (Err fault)
-        stops_flush fault f = stops_at ⊥ _ [] s.octets fault s.read s.no_fault s.within (append-nil _ ∙ whole_text) (stops_last (adds_both listed added) f) (λ never. absurd never)
+        pub stops_flush : (fault : LinkFault) → KeepsWriter end new → StopsWriting contents end.writer.now new.writer.now end.lines ⊥ fault → Ends (Err fault)
+        stops_flush fault lent f = stops_at ⊥ _ [] s.octets fault s.read s.no_fault s.within (append-nil _ ∙ whole_text) (lent ∙ added.lent ∙ listed.lent) (stops_last (adds_both listed added) f) (λ never. absurd never)
 
         -- all is written and counted
         pub lists_all : (totals : Counts) → Adds contents end [] new → new.lines ≡ [] → totals ≡ l.counts (frames_of s.octets) (n - length (concat (frames_of s.octets))) → Ends (Ok totals)

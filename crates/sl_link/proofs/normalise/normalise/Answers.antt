@@ -1,7 +1,6 @@
 use Rattle.std.proofs.Common.{◌∙◌, ap, inr}
 use Rattle.sl_link.proofs.lemmas.Kind.Delivery.{all_kept, some_kept}
 use Rattle.sl_link.proofs.lemmas.Link.Answers.{passed_up}
-use Rattle.sl_link.proofs.lemmas.Normalise.Form.{wanted_for_form}
 use Rattle.sl_link.proofs.lemmas.Normalise.Whole.{stops_at_form, stops_at_reading, translates, wanted_at_end}
 use Rattle.sl_link.proofs.normalise.normalise.Goals as goal
 
@@ -16,7 +15,7 @@ returns-in_err-write-clause-fault g c =
 pub returns-in_err-write-clause-memory : goal.returns-in_err-write-clause-memory
 returns-in_err-write-clause-memory g c =
     let d = c.in_ok-delivered.ensures.all in
-    passed_up _ _ c.from_residual-in_err-write.ensures.1 (λ e. wanted_at_end d.octets d.all.read (inr (some_kept _ d.delivered _ _ d.kept (wanted_for_form c.in_err-write.ensures.fault e))))
+    passed_up _ _ c.from_residual-in_err-write.ensures.1 (λ e. wanted_at_end d.octets d.all.read (inr (some_kept _ d.delivered _ _ d.kept (c.in_err-write.ensures.fault.memory e).1)))
 
 pub returns-clause-normal_form : goal.returns-clause-normal_form
 returns-clause-normal_form g c =

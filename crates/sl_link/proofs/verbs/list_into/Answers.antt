@@ -12,13 +12,13 @@ pub returns-in_err-totals : goal.returns-in_err-totals
 returns-in_err-totals g c =
     let s = c.in_ok-octets.ensures.all in
     let out = err_from_is_err_and c.from_residual-in_err-totals.result c.from_residual-in_err-totals.ensures.1 in
-    rw (out.1, out.2) (stops_finish _ _ (g.V.Verb.listing c.args.managed.now) _ _ _ _ _ _ _ _ c.requires.empty _ _ s _ s.all.1 _ (c.in_err-totals.ensures.fault _ s.all.0))
+    rw (out.1, out.2) (stops_finish _ _ (g.V.Verb.listing c.args.managed.now) _ _ _ _ _ _ _ c.finish.new.out c.requires.empty _ _ s _ s.all.1 _ c.in_err-totals.ensures.lent (c.in_err-totals.ensures.fault _ s.all.0))
 
 pub returns-in_err-flush : goal.returns-in_err-flush
 returns-in_err-flush g c =
     let s = c.in_ok-octets.ensures.all in
     let out = err_from_is_err_and c.from_residual-in_err-flush.result c.from_residual-in_err-flush.ensures.1 in
-    rw (out.1, out.2) (stops_flush _ _ (g.V.Verb.listing c.args.managed.now) _ _ _ _ _ _ _ _ c.requires.empty _ _ s _ s.all.1 _ (c.in_ok-totals.ensures.lines _ s.all.0) _ c.in_err-flush.ensures.fault)
+    rw (out.1, out.2) (stops_flush _ _ (g.V.Verb.listing c.args.managed.now) _ _ _ _ _ _ _ c.flush.new.self c.requires.empty _ _ s _ s.all.1 _ (c.in_ok-totals.ensures.lines _ s.all.0) _ c.in_err-flush.ensures.lent c.in_err-flush.ensures.fault)
 
 pub returns : goal.returns
 returns g c =

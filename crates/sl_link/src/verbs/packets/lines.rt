@@ -1,9 +1,10 @@
 //! The lines of packets, whose octets are written part by part.
-ghost use Rattle.std.specs.Prelude.{◌≡◌, ◌+◌, ◌≤◌, ◌++◌, length, IfErr, OnOk};
+ghost use Rattle.std.specs.Prelude.{◌≡◌, ◌+◌, ◌≤◌, ◌++◌, length, IfErr, OnErr, OnOk};
 ghost use Rattle.hex.specs.Hex.{encode_lower};
 ghost use Rattle.sl_link.specs.Verbs.Packets.Line.{fields_text, header_text, numbers_text, packet_text, size_text};
-ghost use Rattle.sl_link.specs.Io.Output.{Adds, StopsAdding};
+ghost use Rattle.sl_link.specs.Io.Output.{Adds, KeepsWriter};
 ghost use Rattle.sl_link.specs.Io.Room.{HasRoomFor, fields_width, part_width, text_width, words_width};
+ghost use Rattle.sl_link.specs.Io.Streams.{StopsWriting};
 
 use crate::io::lines::Lines;
 use crate::io::output::{Output, Written};
@@ -16,8 +17,9 @@ pub fn push_packet_text<W: Write>(out: &mut Output<W>, packet: &[u8]) -> Written
     requires packet { 6 ≤ length packet.now }
     requires room { HasRoomFor text_width out.old.lines }
     ensures line { OnOk result (Adds W.contents out.old (packet_text packet.now) out.new) }
-    ensures fault { IfErr result
-        (StopsAdding W.contents out.old (packet_text packet.now) out.new ⊥) }
+    ensures lent { OnErr result (KeepsWriter out.old out.new) }
+    ensures fault { IfErr result (StopsWriting W.contents out.old.writer.now out.new.writer.now
+        (out.old.lines ++ packet_text packet.now) ⊥) }
 {
     push_fields(&mut out.lines, packet);
     push_octets(out, packet)?;
@@ -74,8 +76,9 @@ fn push_numbers(lines: &mut Lines, header: &PacketHeader)
 // Adds octets in hexadecimal, in parts for which there is room.
 fn push_octets<W: Write>(out: &mut Output<W>, octets: &[u8]) -> Written
     ensures text { OnOk result (Adds W.contents out.old (encode_lower octets.now) out.new) }
-    ensures fault { IfErr result
-        (StopsAdding W.contents out.old (encode_lower octets.now) out.new ⊥) }
+    ensures lent { OnErr result (KeepsWriter out.old out.new) }
+    ensures fault { IfErr result (StopsWriting W.contents out.old.writer.now out.new.writer.now
+        (out.old.lines ++ encode_lower octets.now) ⊥) }
 {
     let mut left = octets;
     while !left.is_empty() {

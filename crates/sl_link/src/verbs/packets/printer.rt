@@ -1,11 +1,12 @@
 //! A sink that prints packets.
-ghost use Rattle.std.specs.Prelude.{◌≡◌, ◌+◌, ◌≤◌, ◌++◌, length, IfErr, OnOk};
+ghost use Rattle.std.specs.Prelude.{◌≡◌, ◌+◌, ◌≤◌, ◌++◌, length, IfErr, OnErr, OnOk};
 ghost use Rattle.sl_packet.specs.Packet.{IsPacket};
 ghost use Rattle.sl_link.specs.Verbs.Packets.Printed.{channel_name};
 ghost use Rattle.sl_link.specs.Verbs.Packets.Line.{packet_line};
 ghost use Rattle.sl_link.specs.Verbs.Packets.Tc.{channel_text};
-ghost use Rattle.sl_link.specs.Io.Output.{Adds, StopsAdding};
+ghost use Rattle.sl_link.specs.Io.Output.{Adds, KeepsWriter};
 ghost use Rattle.sl_link.specs.Io.Room.{HasRoom, fields_width};
+ghost use Rattle.sl_link.specs.Io.Streams.{StopsWriting};
 
 use crate::io::lines::Lines;
 use crate::io::output::{Output, Written};
@@ -30,11 +31,12 @@ pub struct Printer<'a, 'b, W: Write> {
 }
 
 impl<'a, 'b, W: Write> PacketSink for Printer<'a, 'b, W> {
-    ghost use Rattle.std.specs.Prelude.{◌≡◌};
+    ghost use Rattle.std.specs.Prelude.{◌≡◌, ◌++◌};
     ghost use Rattle.sl_packet.specs.declared.sink.SinkFault.TheVariants.{Device};
     ghost use Rattle.sl_link.specs.Verbs.Packets.Printed.{channel_name};
     ghost use Rattle.sl_link.specs.Verbs.Packets.Line.{packet_line};
-    ghost use Rattle.sl_link.specs.Io.Output.{Adds, StopsAdding};
+    ghost use Rattle.sl_link.specs.Io.Output.{Adds, KeepsWriter};
+    ghost use Rattle.sl_link.specs.Io.Streams.{StopsWriting};
     ghost use Rattle.sl_link.specs.declared.link.fault.LinkFault.TheVariants.{Write};
 
     ghost taking = { λ old channel packet new. (new.kind ≡ old.kind)
@@ -42,8 +44,9 @@ impl<'a, 'b, W: Write> PacketSink for Printer<'a, 'b, W> {
         (packet_line (channel_name old.kind channel) packet) new.out.now };
 
     ghost failing = { λ old channel packet fault new. (fault ≡ Device)
-        × (new.out.ghost_name ≡ old.out.ghost_name) × StopsAdding W.contents old.out.now
-        (packet_line (channel_name old.kind channel) packet) new.out.now ⊥ Write };
+        × (new.out.ghost_name ≡ old.out.ghost_name) × KeepsWriter old.out.now new.out.now
+        × StopsWriting W.contents old.out.now.writer.now new.out.now.writer.now
+        (old.out.now.lines ++ packet_line (channel_name old.kind channel) packet) ⊥ Write };
 
     ghost failures = { λ printer. printer.failures };
 
@@ -68,8 +71,9 @@ fn print_packet<W: Write>(
     requires packet { IsPacket packet.now }
     ensures line { OnOk result (Adds W.contents out.old
         (packet_line (channel_name kind channel) packet.now) out.new) }
-    ensures fault { IfErr result (StopsAdding W.contents out.old
-        (packet_line (channel_name kind channel) packet.now) out.new ⊥) }
+    ensures lent { OnErr result (KeepsWriter out.old out.new) }
+    ensures fault { IfErr result (StopsWriting W.contents out.old.writer.now out.new.writer.now
+        (out.old.lines ++ packet_line (channel_name kind channel) packet.now) ⊥) }
 {
     out.make_room()?;
     push_channel(&mut out.lines, kind, channel);

@@ -4,7 +4,7 @@ use Rattle.sl_packet.specs.declared.flow_fault.FlowFault.TheVariants.{Failed}
 use Rattle.sl_tcflow.specs.AcceptedUnit.{views_of}
 use Rattle.sl_link.specs.Kind.Tc.{as_read, channel_of, ended_in, found_after}
 use Rattle.sl_link.specs.Link.Managed.{reception_of, tc_format}
-use Rattle.sl_link.proofs.lemmas.Kind.Delivery.{delivers_as, stops_as}
+use Rattle.sl_link.proofs.lemmas.Kind.Delivery.{delivers_as}
 use Rattle.sl_link.proofs.lemmas.Kind.Tc.{one_processed, some_octets, wants_memory}
 use Rattle.sl_link.proofs.lemmas.Link.Fault.{never_failed}
 use Rattle.sl_link.proofs.kind.ReceiverDelivery.deliver.Goals as goal
@@ -85,5 +85,10 @@ returns-in-Err-frame-clause-stopped g c =
     let seen = views_of (tc_format p) p.spacecraft before in
     let had = h.processed in
     let ne : c.in-Err-frame.fault ≢ Failed = never_failed c.args.self.now.has_failed c.frame.result c.in-Err-frame.fault is (λ e. (c.frame.ensures.left e).0) had.working in
-    stops_as (ap (channel_of r) read) (ap (ended_in r seen) read) (((c.in-Err-frame.ensures.stopped ne).1 r seen had).1)
-    (λ e. wants_memory before c.args.frame.now read (c.in-Err-frame.ensures.memory e r seen had))
+    rw (ap (channel_of r) read, ap (ended_in r seen) read) (((c.in-Err-frame.ensures.stopped ne).1 r seen had).1)
+
+pub returns-in-Err-frame-clause-memory : goal.returns-in-Err-frame-clause-memory
+returns-in-Err-frame-clause-memory g c =
+    let p = c.args.managed.now in
+    let read : as_read p c.args.frame.now ≡ Ok c.in-Ok.view = search rules in
+    λ before h e. wants_memory before c.args.frame.now read (c.in-Err-frame.ensures.memory e (reception_of p) (views_of (tc_format p) p.spacecraft before) h.processed)

@@ -7,7 +7,9 @@ use Rattle.sl_link.specs.Verbs.Check.Checking.{AddsAnomalies, HasChecked}
 use Rattle.sl_link.specs.Verbs.Check.Lines.{event_anomaly, check_counted, end_anomalies, remainder_anomaly}
 use Rattle.sl_link.specs.declared.io.output.Output.{Output}
 use Rattle.sl_link.specs.declared.link.fault.LinkFault.{LinkFault}
-use Rattle.sl_link.specs.Io.Output.{Adds, StopsAdding}
+use Rattle.sl_link.specs.Io.Output.{Adds}
+use Rattle.sl_link.specs.Io.Streams.{StopsWriting}
+use Rattle.sl_link.specs.declared.link.counted.Counted.{Counted}
 use Rattle.sl_link.specs.Kind.Delivery.{AreDelivered, Kind}
 use Rattle.sl_link.specs.Link.Totals.{Counts}
 use Rattle.sl_link.specs.Tally.{counts_with_remainder}
@@ -64,9 +66,9 @@ module _ {W : Type 0} {contents : W → Option (List ℕ)} {line : ℕ → List 
       }
 
   -- a fault before the next ones leaves a prefix of them
-  pub added_stops : {old new : Output W} {channel number : ℕ} {fault : LinkFault} → HasAdded contents line k start old channel number
-      → StopsAdding contents old [] new ⊥ fault → StopsAdding contents start (concat (flat_map line k.channels)) new ⊥ fault
-  added_stops h stops = rw (h.all, concat-append) (stops_first _ (stops_last h.added stops))
+  pub added_stops : {old : Output W} {new : Counted W} {channel number : ℕ} {fault : LinkFault} → HasAdded contents line k start old channel number
+      → StopsWriting contents old.writer.now new old.lines ⊥ fault → StopsWriting contents start.writer.now new (start.lines ++ concat (flat_map line k.channels)) ⊥ fault
+  added_stops h stops = rw (h.all, concat-append) (stops_first _ (concat h.lines) _ (stops_last h.added stops))
 
   -- where the channels from one on have none, they are those of all channels
   pub added_all : {out : Output W} {channel number : ℕ} → HasAdded contents line k start out channel number → channel ≤ k.limit

@@ -11,14 +11,16 @@ use Rattle.sl_packet.specs.Stopping.{IsStopped}
 use Rattle.hex.specs.Hex.{encode_lower}
 use Rattle.sl_link.specs.declared.io.output.Output.{Output}
 use Rattle.sl_link.specs.declared.link.fault.LinkFault.{LinkFault}
-use Rattle.sl_link.specs.Io.Output.{Adds, StopsAdding}
+use Rattle.sl_link.specs.Io.Output.{Adds, KeepsWriter}
+use Rattle.sl_link.specs.Io.Streams.{StopsWriting}
+use Rattle.sl_link.specs.declared.link.counted.Counted.{Counted}
 use Rattle.sl_link.specs.declared.link.fault.LinkFault.TheVariants.{Write}
 use Rattle.sl_link.specs.declared.verbs.packets.printer.ChannelKind.{ChannelKind}
 use Rattle.sl_link.specs.declared.verbs.packets.printer.Printer.{Printer}
 use Rattle.sl_link.specs.Link.Fault.{flow_fault}
 use Rattle.sl_link.specs.Verbs.Packets.Printed.{channel_name, lines_on}
 use Rattle.sl_link.specs.Verbs.Packets.Line.{packet_line}
-use Rattle.sl_link.proofs.lemmas.Io.Streams.{adds_both, adds_lines, stops_first, stops_last, stops_at_memory, stops_for, stops_then}
+use Rattle.sl_link.proofs.lemmas.Io.Streams.{adds_both, adds_lines, stops_first, stops_last, stops_at_memory, stops_then, wanted_less}
 use Rattle.sl_link.proofs.lemmas.Io.Hexadecimal.{encode_append, encode_nil}
 
 -- ---- octets in hexadecimal, part by part
@@ -41,8 +43,9 @@ module _ {W : Type 0} {contents : W → Option (List ℕ)} where
       adds = rw (encode_append s.done part) (adds_both s.adds adds);
     }
 
-    pub pushing_stops : {new : Output W} {fault : LinkFault} → StopsAdding contents old [] new ⊥ fault → StopsAdding contents start (encode_lower octets) new ⊥ fault
-    pushing_stops stops = rw (s.parts, encode_append s.done left) (stops_first (encode_lower left) (stops_last s.adds stops))
+    pub pushing_stops : {new : Counted W} {fault : LinkFault} → StopsWriting contents old.writer.now new old.lines ⊥ fault
+        → StopsWriting contents start.writer.now new (start.lines ++ encode_lower octets) ⊥ fault
+    pushing_stops stops = rw (s.parts, encode_append s.done left) (stops_first start.lines (encode_lower s.done) (encode_lower left) (stops_last s.adds stops))
 
 -- ---- the sink
 
@@ -57,7 +60,8 @@ module _ {W : Type 0} (contents : W → Option (List ℕ)) where
 
   abbrev pub FailsToPrint : Printer W → ℕ → List ℕ → SinkFault → Printer W → Type 0
   FailsToPrint old channel packet fault new =
-      (fault ≡ Device) × (new.out.ghost_name ≡ old.out.ghost_name) × StopsAdding contents old.out.now (packet_line (channel_name old.kind channel) packet) new.out.now ⊥ Write
+      (fault ≡ Device) × (new.out.ghost_name ≡ old.out.ghost_name) × KeepsWriter old.out.now new.out.now
+      × StopsWriting contents old.out.now.writer.now new.out.now.writer.now (old.out.now.lines ++ packet_line (channel_name old.kind channel) packet) ⊥ Write
 
   -- packets that were printed in turn
   printed : (packets : List (List ℕ)) (old new : Printer W) (channel : ℕ) → TakesAll Prints old channel packets new
@@ -67,22 +71,28 @@ module _ {W : Type 0} (contents : W → Option (List ℕ)) where
       let later = printed packets t.0 new channel t.2 in
       (later.0 ∙ t.1.0, later.1 ∙ t.1.1, adds_both t.1.2 (rw t.1.0 at later.2))
 
-  -- where the lent output ends as this, and the packets' lines are this text
-  module _ (packets : List (List ℕ)) (old new : Printer W) (channel : ℕ) (out : Output W) (text : List ℕ)
-      (ends : old.out.ghost_name ≡ new.out.ghost_name → out ≡ new.out.now) (text_is : text ≡ lines_on old.kind channel packets) where
-    pub all_printed : TakesAll Prints old channel packets new → Adds contents old.out.now text out
-    all_printed t = grind (arith, printed)
+  module _ (packets : List (List ℕ)) (old new : Printer W) (channel : ℕ) where
+    -- where the lent output ends as this, and the packets' lines are this text
+    pub all_printed : (out : Output W) (text : List ℕ) → (old.out.ghost_name ≡ new.out.ghost_name → out ≡ new.out.now) → text ≡ lines_on old.kind channel packets
+        → TakesAll Prints old channel packets new → Adds contents old.out.now text out
+    all_printed out text ends text_is t = grind (arith, printed)
 
-    -- memory was refused, or the writer failed
-    pub stops_printing : (failures : Printer W → ℕ) (wanted : Type 0) (fault : FlowFault) → IsStopped Prints FailsToPrint failures old channel packets fault new → (fault ≡ flow.Memory → wanted)
-        → StopsAdding contents old.out.now text out wanted (flow_fault fault)
-    stops_printing failures wanted flow.Memory stopped wants =
+    -- where memory was refused or the writer failed, the output is the same one, with the same writer,
+    pub lent_printing : (failures : Printer W → ℕ) (fault : FlowFault) → IsStopped Prints FailsToPrint failures old channel packets fault new
+        → (new.out.ghost_name ≡ old.out.ghost_name) × KeepsWriter old.out.now new.out.now
+    lent_printing failures fault stopped = grind (arith, printed)
+
+    -- and where the writer ends as this, it has a beginning of the text
+    pub stops_printing : (writer : Counted W) (text : List ℕ) → (old.out.ghost_name ≡ new.out.ghost_name → writer ≡ new.out.now.writer.now) → text ≡ lines_on old.kind channel packets
+        → (failures : Printer W → ℕ) (wanted : Type 0) (fault : FlowFault) → IsStopped Prints FailsToPrint failures old channel packets fault new → (fault ≡ flow.Memory → wanted)
+        → StopsWriting contents old.out.now.writer.now writer (old.out.now.lines ++ text) wanted (flow_fault fault)
+    stops_printing writer text ends text_is failures wanted flow.Memory stopped wants =
         let s = stopped.0 in
         let p = printed s.accepted old new channel s.takes in
-        rw (ends (sym p.1), text_is, s.in_order, lines_append old.kind channel s.accepted s.later) (stops_then p.2 (stops_at_memory contents _ _ _ refl (wants refl)))
-    stops_printing failures wanted (flow.Sink fault) stopped wants =
+        rw (ends (sym p.1), text_is, s.in_order, lines_append old.kind channel s.accepted s.later) (stops_then _ p.2 (stops_at_memory contents _ _ (wants refl)))
+    stops_printing writer text ends text_is failures wanted (flow.Sink fault) stopped wants =
         let s = stopped.0 in
         let p = printed s.accepted old s.before channel s.takes in
         rw (s.fails.0, ends (sym (s.fails.1 ∙ p.1)), text_is, s.in_order, lines_append old.kind channel s.accepted (s.refused ∷ s.later))
-        (stops_for wanted (stops_then p.2 (stops_first _ (rw p.0 at s.fails.2))))
-    stops_printing failures wanted flow.Failed stopped wants = absurd stopped
+        (wanted_less (λ never. absurd never) (stops_then _ p.2 (stops_first s.before.out.now.lines (packet_line (channel_name old.kind channel) s.refused) (lines_on old.kind channel s.later) (rw p.0 at s.fails.3))))
+    stops_printing writer text ends text_is failures wanted flow.Failed stopped wants = absurd stopped

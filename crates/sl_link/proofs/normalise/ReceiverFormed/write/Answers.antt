@@ -4,14 +4,15 @@ use Rattle.std.proofs.lemmas.List.{take_all}
 use Rattle.sl_tcflow.specs.FitsTc.{FitsTc}
 use Rattle.sl_tcflow.proofs.lemmas.Form.Left.{none_at_all}
 use Rattle.sl_tcflow.proofs.lemmas.Reception.PlainRecording.{recorded_lists_fit}
-use Rattle.sl_link.specs.Io.Streams.{WritesText}
+use Rattle.sl_link.specs.Io.Streams.{StopsWriting, WritesText}
 use Rattle.sl_link.specs.Kind.Tc.{tc_kind}
 use Rattle.sl_link.specs.Link.Managed.{Parameters, reception_of, tc_format}
 use Rattle.sl_link.specs.Link.ManagedModel.{parameters_of}
-use Rattle.sl_link.specs.Normalise.Form.{StopsForm, listed}
+use Rattle.sl_link.specs.Normalise.Form.{listed}
 use Rattle.sl_link.proofs.lemmas.Kind.Delivery.{all_kept}
 use Rattle.sl_link.proofs.lemmas.Kind.Tc.{tc_delivered}
-use Rattle.sl_link.proofs.lemmas.Normalise.Form.{fewer_packets, tc_form_delivers, tc_form_is}
+use Rattle.sl_link.proofs.lemmas.Io.Streams.{wanted_less}
+use Rattle.sl_link.proofs.lemmas.Normalise.Form.{tc_form_delivers, tc_form_is}
 use Rattle.sl_link.proofs.normalise.ReceiverFormed.write.Goals as goal
 
 -- each list is of a channel
@@ -49,5 +50,5 @@ returns-clause-fault g c =
     let is = tc_form_is p q lists c.new-form.result c.new-form.ensures.all c.managed.view_is in
     let size = c.requires.1.size in
     rw (← all_listed p lists size) (MatchResult-weaker c.write_form.result c.write_form.ensures.fault (λ _ u. u) (λ fault s.
-    fewer_packets (subst (λ t. StopsForm g.W.Write.contents c.args.writer.now c.write_form.new.writer t (c.new-form.result ≢ []) fault) is (s _ refl))
-    (λ some none. some (c.new-form.ensures.all ∙ none_at_all (tc_format q) q.spacecraft q.starts q.plain lists size (λ channel above below. none channel below)))))
+    wanted_less (λ w. (w.0, λ none. w.1 (c.new-form.ensures.all ∙ none_at_all (tc_format q) q.spacecraft q.starts q.plain lists size (λ channel above below. none channel below))))
+    (subst (λ t. StopsWriting g.W.Write.contents c.args.writer.now c.write_form.new.writer t ((c.write_form.new.writer ≡ c.args.writer.now) × (c.new-form.result ≢ [])) fault) is (s _ refl))))

@@ -1,5 +1,5 @@
-use Rattle.std.proofs.lemmas.Result.{MatchResult-weaker}
-use Rattle.sl_link.proofs.lemmas.Link.Answers.{both_ok}
+use Rattle.std.proofs.Common.{◌∙◌}
+use Rattle.sl_link.proofs.lemmas.Link.Answers.{both_err, both_ok}
 use Rattle.sl_link.proofs.lemmas.Verbs.Lister.{frame_added, frame_stopped}
 use Rattle.sl_link.proofs.verbs.ListerFrameSink.frame.Goals as goal
 
@@ -10,4 +10,4 @@ returns-clause-taken g c =
 
 pub returns-clause-fault : goal.returns-clause-fault
 returns-clause-fault g c =
-    MatchResult-weaker c.frame.result c.frame.ensures.fault (λ _ u. u) (λ fault s start before t. (t.1, frame_stopped (g.V.Verb.listing c.args.managed.now).line before c.args.frame.now t.3 (s before t.2)))
+    both_err c.frame.result c.frame.ensures.lent c.frame.ensures.fault (λ lent fault s start before t. (t.1, lent ∙ t.3.lent, frame_stopped (g.V.Verb.listing c.args.managed.now).line before c.args.frame.now t.3 (s before t.2)))

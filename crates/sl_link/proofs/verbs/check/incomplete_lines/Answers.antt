@@ -1,11 +1,11 @@
-use Rattle.std.proofs.Common.{◌≡◌, ◌<◌, arith, refl}
+use Rattle.std.proofs.Common.{◌≡◌, ◌<◌, ◌∙◌, arith, refl}
 use Rattle.sl_link.proofs.lemmas.Io.Streams.{adds_both, adds_lines}
 use Rattle.sl_link.proofs.lemmas.Link.Answers.{passed_up}
 use Rattle.sl_link.proofs.lemmas.Verbs.Check.Lines.{added_all, added_next, added_none, added_stops}
 use Rattle.sl_link.proofs.verbs.check.incomplete_lines.Goals as goal
 
 pub loop-channel-init : goal.loop-channel-init
-loop-channel-init g c = (λ p frames h. added_none (g.met.D.Delivery.within _ p frames h).delivered.all, omega arith)
+loop-channel-init g c = (λ p frames h. added_none (g.met.D.Delivery.within _ p frames h).delivered.all, (omega arith, refl))
 
 pub loop-channel-preserved : goal.loop-channel-preserved
 loop-channel-preserved g c =
@@ -15,7 +15,7 @@ loop-channel-preserved g c =
           omega (arith, c.loop-channel-test.true, c.open_below-channel-end.ensures.most, c.open_below-channel-end.ensures.all p) in
           added_next (i.0 p frames h) within (adds_both c.in_ok-make_room.ensures.kept (adds_lines _ _ _ _ refl ((c.open_lines-number.ensures.added p frames h).text)))
           ((c.open_lines-number.ensures.added p frames h).number),
-      omega (arith, i.1, c.open_lines-number.ensures.few),
+      (omega (arith, i.1.0, c.open_lines-number.ensures.few), c.in_ok-make_room.ensures.kept.lent ∙ i.1.1),
     )
 
 pub returns-in_err-make_room-clause-fault : goal.returns-in_err-make_room-clause-fault

@@ -1,4 +1,5 @@
 use Rattle.std.proofs.Common.{◌≤◌, ℕ, List}
+use Rattle.sl_link.specs.Io.Output.{KeepsWriter}
 use Rattle.sl_link.specs.Link.Managed.{Parameters}
 use Rattle.sl_link.proofs.lemmas.Verbs.Check.Lines.{HasAdded}
 use Rattle.sl_link.proofs.verbs.check.incomplete_lines.Given as goal
@@ -7,4 +8,4 @@ abbrev pub invariant-loop-channel : goal.invariant-loop-channel
 invariant-loop-channel g l =
     ((p : Parameters) (frames : List (List ℕ)) → g.D.Delivery.has_processed l.delivery p frames
     → HasAdded g.W.Write.contents (g.D.Checked.open_at p l.offset frames) (g.D.Delivery.kind p) l.fn.out l.out l.channel l.number)
-    × (l.number ≤ l.channel)
+    × ((l.number ≤ l.channel) × KeepsWriter l.fn.out l.out)

@@ -19,8 +19,9 @@ returns-in_err-incomplete-clause-fault g c =
     let offset = c.octets-offset.result in
     passed_up _ _ c.from_residual-in_err-incomplete.ensures.1 (λ frames h.
     let inside : length (concat frames) ≤ c.args.octets = omega (arith, octets_counted h, octets_counted c.requires.1, c.requires.2) in
-    rw (sym (end_text (g.D.Delivery.kind p) (g.D.Checked.open_at p) frames offset c.args.octets (c.octets-offset.ensures ∙ octets_counted h) inside)) (stops_first _
-    (stops_then (adds_both c.in_ok-make_room.ensures.kept (adds_lines _ _ _ (concat (remainder_anomaly offset (c.args.octets - offset))) refl c.remainder_lines-remainders.ensures.text))
+    rw (sym (end_text (g.D.Delivery.kind p) (g.D.Checked.open_at p) frames offset c.args.octets (c.octets-offset.ensures ∙ octets_counted h) inside)) (stops_first c.args.out.now.lines
+    (concat (remainder_anomaly offset (c.args.octets - offset)) ++ concat (flat_map (g.D.Checked.open_at p c.args.octets frames) (g.D.Delivery.kind p).channels)) _
+    (stops_then _ (adds_both c.in_ok-make_room.ensures.kept (adds_lines _ _ _ (concat (remainder_anomaly offset (c.args.octets - offset))) refl c.remainder_lines-remainders.ensures.text))
     (c.in_err-incomplete.ensures.fault p frames h.processed))))
 
 pub returns-in_err-make_room-2-clause-fault : goal.returns-in_err-make_room-2-clause-fault
@@ -29,7 +30,8 @@ returns-in_err-make_room-2-clause-fault g c =
     let offset = c.octets-offset.result in
     passed_up _ _ c.from_residual-in_err-make_room-2.ensures.1 (λ frames h.
     let inside : length (concat frames) ≤ c.args.octets = omega (arith, octets_counted h, octets_counted c.requires.1, c.requires.2) in
-    rw (sym (end_text (g.D.Delivery.kind p) (g.D.Checked.open_at p) frames offset c.args.octets (c.octets-offset.ensures ∙ octets_counted h) inside)) (stops_first _ (stops_last
+    rw (sym (end_text (g.D.Delivery.kind p) (g.D.Checked.open_at p) frames offset c.args.octets (c.octets-offset.ensures ∙ octets_counted h) inside)) (stops_first c.args.out.now.lines
+    (concat (remainder_anomaly offset (c.args.octets - offset)) ++ concat (flat_map (g.D.Checked.open_at p c.args.octets frames) (g.D.Delivery.kind p).channels)) _ (stops_last
     (adds_both (adds_both c.in_ok-make_room.ensures.kept (adds_lines _ _ _ (concat (remainder_anomaly offset (c.args.octets - offset))) refl c.remainder_lines-remainders.ensures.text))
     (c.in_ok-incomplete.ensures.lines p frames h.processed)) c.in_err-make_room-2.ensures.fault)))
 

@@ -22,9 +22,8 @@ returns-in_err-make_room-clause-fault g c =
 pub returns-in_err-report-clause-fault : goal.returns-in_err-report-clause-fault
 returns-in_err-report-clause-fault g c =
     passed_up _ _ c.from_residual-in_err-report.ensures.1 (λ before h.
-    let s = c.in_err-report.ensures.stopped before h.processed in
-    let only = memory_alone _ _ _ _ _ _ _ s.stopped in
-    rw only (stops_then c.in_ok-make_room.ensures.kept (stops_at_memory _ _ _ _ refl (s.wanted only))))
+    let only = memory_alone _ _ _ _ _ _ _ (c.in_err-report.ensures.stopped before h.processed) in
+    rw only (stops_then _ c.in_ok-make_room.ensures.kept (stops_at_memory _ _ _ (c.in_err-report.ensures.memory before h.processed only))))
 
 pub returns-clause-lines : goal.returns-clause-lines
 returns-clause-lines g c = λ before h.

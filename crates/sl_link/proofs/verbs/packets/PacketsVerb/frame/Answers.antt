@@ -1,7 +1,7 @@
 use Rattle.std.proofs.Common.{arith, rules, ◌++◌, ◌∷◌, []}
 use Rattle.sl_link.proofs.lemmas.Kind.Delivery.{delivered_more, fits_more}
 use Rattle.sl_link.proofs.lemmas.Link.Answers.{passed_up}
-use Rattle.sl_link.proofs.lemmas.Verbs.Packets.Printer.{all_printed, stops_printing}
+use Rattle.sl_link.proofs.lemmas.Verbs.Packets.Printer.{all_printed, lent_printing, stops_printing}
 use Rattle.sl_link.proofs.verbs.packets.PacketsVerb.frame.Goals as goal
 
 pub add-requires-clause-within : goal.add-requires-clause-within
@@ -13,11 +13,16 @@ add-requires-clause-within g c =
     fits_more (g.D.Delivery.kind p) (within _ p before d.processed).delivered d (c.in_ok-report.ensures.delivers before d.processed).brings.reported
     (within _ p (before ++ c.args.frame.now ∷ []) (c.in_ok-report.ensures.processed before d.processed))
 
+pub returns-in_err-report-clause-lent : goal.returns-in_err-report-clause-lent
+returns-in_err-report-clause-lent g c =
+    let lent = lent_printing g.W.Write.contents _ _ c.deliver.new.sink _ _ _ (c.in_err-report.ensures.stopped c.requires.0 c.requires.1.processed) in
+    passed_up _ _ c.from_residual.ensures.1 (search (rules, lent))
+
 pub returns-in_err-report-clause-fault : goal.returns-in_err-report-clause-fault
 returns-in_err-report-clause-fault g c =
+    let e = c.in_err-report.ensures in
     passed_up _ _ c.from_residual.ensures.1 (λ before h.
-    let s = c.in_err-report.ensures.stopped before h.processed in
-    stops_printing g.W.Write.contents _ _ c.deliver.new.sink _ _ _ (search rules) (c.channel_kind.ensures c.args.managed.now before c.args.frame.now) _ _ _ s.stopped s.wanted)
+    stops_printing g.W.Write.contents _ _ c.deliver.new.sink _ _ _ (search rules) (c.channel_kind.ensures c.args.managed.now before c.args.frame.now) _ _ _ (e.stopped before h.processed) (e.memory before h.processed))
 
 pub returns-clause-lines : goal.returns-clause-lines
 returns-clause-lines g c = λ before h.

@@ -44,8 +44,8 @@ abbrev pub reading_of : ManagedFields → ℕ → Result Parameters Answer
 reading_of m octets = reading_under octets (managed_of (parameters_of m))
 
 -- what is counted
-abbrev pub counts_of : TotalsFields → Counts
-counts_of t =
+abbrev pub counts_of_totals : TotalsFields → Counts
+counts_of_totals t =
     record {
       octets = t.octets;
       frames = t.frames;

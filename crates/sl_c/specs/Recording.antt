@@ -18,7 +18,7 @@ use Rattle.sl_c.specs.declared.link.ManagedFields.{ManagedFields}
 use Rattle.sl_c.specs.declared.link.TotalsFields.{TotalsFields}
 use Rattle.sl_c.specs.declared.recording.Engine.{Engine}
 use Rattle.sl_c.specs.declared.recording.Engine.TheVariants.{ShowTm, ShowTc, CheckTm, CheckTc, PacketsTm, PacketsTc, NormaliseTm, NormaliseTc}
-use Rattle.sl_c.specs.Link.{counts_of, reading_of}
+use Rattle.sl_c.specs.Link.{counts_of_totals, reading_of}
 
 -- ---- the text of a recording
 
@@ -36,7 +36,7 @@ lent output size totals = record { output = output; size = size; totals = totals
 pub record HasText (text : List ℕ) (counts : Counts) (old new : Lent) : Type 0 where
   pub front : new.output ≡ take (length old.output) text ++ drop (length text) old.output
   pub size : new.size ≡ length text
-  pub totals : counts_of new.totals ≡ counts
+  pub totals : counts_of_totals new.totals ≡ counts
 
 -- the text is given under the parameters `p`, and the answer says whether there was room for all of it
 pub record Outcome (text : Parameters → List ℕ → List ℕ) (counts : Parameters → List ℕ → Counts) (recording : List ℕ) (old new : Lent) (answer : ℕ) (p : Parameters) : Type 0 where

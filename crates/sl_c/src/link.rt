@@ -1,7 +1,7 @@
 //! The managed parameters of a link, and what is counted in a recording, as C has them.
 ghost use Rattle.std.specs.Prelude.{◌≡◌};
 ghost use Rattle.sl_tcframe.specs.VcSetModel.{numbers_from};
-ghost use Rattle.sl_c.specs.Link.{counts_of, reading_of, refusal_of};
+ghost use Rattle.sl_c.specs.Link.{counts_of_totals, reading_of, refusal_of};
 
 use crate::answer::Answer;
 use sl_cop::Starts;
@@ -71,7 +71,7 @@ pub fn managed_for(fields: &ManagedFields, octets: usize) -> Result<Managed, Ans
 
 /// The totals of a recording as C has them.
 pub fn totals_fields(totals: &Totals) -> TotalsFields
-    ensures { counts_of result ≡ totals.now }
+    ensures { counts_of_totals result ≡ totals.now }
 {
     TotalsFields {
         octets: totals.octets(),

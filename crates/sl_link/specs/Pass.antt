@@ -62,7 +62,7 @@ pub record PassesOver {R : Type 0} (remaining : R → Option (List ℕ)) (reader
   pub inside : length (concat (frames_of octets)) ≤ length octets
   pub all : taken (frames_of octets)
 
--- Octets were read, and then a fault came. It is the reader's, and the first frames were taken; or the
+-- Octets were read, and then a fault came. It came of reading, and the first frames were taken; or the
 -- sink stopped at the last of these.
 pub record StopsPassing {R : Type 0} (remaining : R → Option (List ℕ)) (reader reader' : Counted R)
     (frames_of : List ℕ → List (List ℕ)) (taken : List (List ℕ) → Type 0) (stopped : List (List ℕ) → LinkFault → Type 0)

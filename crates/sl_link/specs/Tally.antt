@@ -11,12 +11,12 @@ skipped_in is_skipped (frame ∷ frames) = (if is_skipped frame then 1 else 0) +
 
 -- the seven counts
 abbrev pub counts_with : ℕ → ℕ → ℕ → ℕ → ℕ → ℕ → ℕ → Counts
-counts_with octets frames skipped rest packets idle anomalies =
+counts_with octets frames skipped remainder packets idle anomalies =
     record {
       octets = octets;
       frames = frames;
       skipped = skipped;
-      rest = rest;
+      rest = remainder;
       packets = packets;
       idle = idle;
       anomalies = anomalies;
@@ -44,7 +44,7 @@ counts_more c octets report =
 
 -- a remainder, and the anomalies after the last frame
 abbrev pub counts_with_remainder : Counts → ℕ → ℕ → Counts
-counts_with_remainder c rest more = counts_with (c.octets + rest) c.frames c.skipped rest c.packets c.idle (c.anomalies + more)
+counts_with_remainder c remainder more = counts_with (c.octets + remainder) c.frames c.skipped remainder c.packets c.idle (c.anomalies + more)
 
 -- the counts of frames, which brought these packets and anomalies together
 abbrev pub counts_so_far : (List ℕ → Bool) → List (List ℕ) → ℕ → ℕ → ℕ → Counts

@@ -33,7 +33,7 @@ pub trait Delivery: Drop {
     /// The kind of the frames, which says what they deliver.
     ghost kind: { Parameters → Kind };
 
-    /// Whether exactly these frames have been processed, in this order.
+    /// Whether the state is the one after these frames, processed in this order.
     ghost has_processed: { Self → Parameters → List (List ℕ) → Type 0 };
 
     /// Whether memory may be refused at the last of these frames.
@@ -69,7 +69,7 @@ pub trait Delivery: Drop {
             → has_processed self.old managed.now before
             → IsStopped S.taking S.failing S.failures sink.old ((kind managed.now).channel frame.now)
             (without_idle ((kind managed.now).ended before frame.now)) fault sink.new) }
-        // Memory is refused only where it may be.
+        // The fault is `Memory` only where memory may be refused. A sink that is refused memory has another fault.
         ensures memory { IfErr result (λ fault. (before : List (List ℕ))
             → has_processed self.old managed.now before → fault ≡ FlowFault.Memory
             → wants_memory managed.now (before ++ frame.now ∷ [])) };

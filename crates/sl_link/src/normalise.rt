@@ -2,7 +2,7 @@
 ghost use Rattle.std.specs.Prelude.{◌≡◌, ◌≢◌, [], ℕ, List, IfOk, IfErr, OnOk};
 ghost use Rattle.sl_tcframe.specs.TcDelimited.{tc_frames_of};
 ghost use Rattle.sl_tmframe.specs.TmDelimited.{tm_frames_of};
-ghost use Rattle.sl_link.specs.Kind.Delivery.{AreKept, MayWantMemory, counted, packets_of};
+ghost use Rattle.sl_link.specs.Kind.Delivery.{AreStored, MayWantMemory, counted, packets_of};
 ghost use Rattle.sl_link.specs.Kind.Tc.{MayWantMemoryTc, tc_counts, tc_packets};
 ghost use Rattle.sl_link.specs.Kind.Tm.{MayWantMemoryTm, tm_counts, tm_packets};
 ghost use Rattle.sl_link.specs.Link.Managed.{tc_format};
@@ -125,7 +125,7 @@ trait Formed: Delivery {
         writer: &mut Counted<W>,
     ) -> Result<(), LinkFault>
         // The packets are those of a recording.
-        requires { (recording : List ℕ) × AreKept (Self.kind managed.now)
+        requires { (recording : List ℕ) × AreStored (Self.kind managed.now)
             ((Self.kind managed.now).frames_of recording) delivered.now.lists }
         ensures written { OnOk result (WritesText W.contents writer.old writer.new
             (form_of managed.now (listed (Self.kind managed.now) delivered.now.lists))) }
@@ -254,13 +254,13 @@ struct Store<D: Delivery> {
 }
 
 impl<D: Delivery> FrameSink for Store<D> {
-    ghost use Rattle.sl_link.specs.Kind.Delivery.{AreKept, HasDelivered, MayWantMemory};
+    ghost use Rattle.sl_link.specs.Kind.Delivery.{AreStored, HasDelivered, MayWantMemory};
     ghost use Rattle.sl_link.specs.Normalise.Form.{IsRefused};
 
     ghost is_frame = { D.is_frame };
 
     ghost took = { λ p start now frames. HasDelivered (D.kind p) (D.has_processed now.delivery p)
-        frames 0 now.so_far × AreKept (D.kind p) frames now.delivered.lists };
+        frames 0 now.so_far × AreStored (D.kind p) frames now.delivered.lists };
 
     ghost stopped = { λ p start now frames fault. IsRefused (MayWantMemory (D.kind p)
         (D.wants_memory p) frames) fault };

@@ -31,7 +31,7 @@ use std::io::Read;
 /// The fault is `Read` where a reader had one, `TooLong` where more octets came from a reader than
 /// the managed limit, and `Memory` where memory was refused. Memory is wanted only where a packet
 /// is incomplete on the virtual channel of a frame, before the frame or after it, or where a packet
-/// was delivered. After a fault of the first recording nothing is read of the other one.
+/// was delivered. Where the first recording isn't read to its end, nothing is read of the other one.
 pub fn same_packets_tm<A: Read, B: Read>(
     alloc: Global,
     managed: &Managed,
@@ -65,8 +65,8 @@ pub fn same_packets_tm<A: Read, B: Read>(
 ///
 /// The fault is `Read` where a reader had one, `TooLong` where more octets came from a reader than the managed limit,
 /// and `Memory` where memory was refused. Memory is wanted only where the unit of a frame is accepted and a series is
-/// incomplete on its MAP, before the frame or after it, or where a packet was delivered. After a fault of the first
-/// recording nothing is read of the other one.
+/// incomplete on its MAP, before the frame or after it, or where a packet was delivered. Where the first recording isn't
+/// read to its end, nothing is read of the other one.
 pub fn same_packets_tc<A: Read, B: Read>(
     alloc: Global,
     managed: &Managed,

@@ -57,16 +57,16 @@ impl Totals {
         self.anomalies += report.anomalies;
     }
 
-    /// The totals of a recording whose remainder has `rest` octets, where `more` anomalies were met
+    /// The totals of a recording whose remainder has `remainder` octets, where `more` anomalies were met
     /// after the last frame.
-    pub(crate) fn totals(&self, rest: u64, more: u64) -> Totals
-        requires fits { self.now.octets + rest < 2 ^ 64 }
-        requires few { self.now.anomalies + more ≤ self.now.octets + rest }
-        ensures { result ≡ counts_with_remainder self.now rest more }
+    pub(crate) fn totals(&self, remainder: u64, more: u64) -> Totals
+        requires fits { self.now.octets + remainder < 2 ^ 64 }
+        requires few { self.now.anomalies + more ≤ self.now.octets + remainder }
+        ensures { result ≡ counts_with_remainder self.now remainder more }
     {
         Totals {
-            octets: self.octets + rest,
-            rest,
+            octets: self.octets + remainder,
+            rest: remainder,
             anomalies: self.anomalies + more,
             ..*self
         }

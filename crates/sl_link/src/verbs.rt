@@ -20,7 +20,8 @@ use crate::pass::{FrameSink, Framer, read_recording};
 use std::io::{Read, Write};
 
 /// A verb that lists, `show`, `check` or `packets`, for one kind of frames. A clause with `before`
-/// or `frames` holds whichever frames were listed before.
+/// or `frames` holds whichever frames were listed before. After a fault too the output has the writer
+/// that was lent (`lent`), and a beginning of what waited and was added is written (`fault`).
 pub trait Verb {
     ghost use Rattle.sl_link.specs.Link.Managed.{Parameters};
     ghost use Rattle.sl_link.specs.Verbs.Listing.{Frames, Listing};
@@ -95,6 +96,7 @@ impl<'a, 'b, 'c, W: Write, V: Verb> FrameSink for Lister<'a, 'b, 'c, W, V> {
         × (now.out.ghost_name ≡ start.out.ghost_name) × V.has_listed now.verb.now p frames
         × Adds W.contents start.out.now (lines_from (V.listing p).line [] frames) now.out.now };
 
+    // The output is the one that was lent, and a beginning of the lines of these frames was written.
     ghost stopped = { λ p start now frames fault. (now.out.ghost_name ≡ start.out.ghost_name)
         × KeepsWriter start.out.now now.out.now
         × StopsWriting W.contents start.out.now.writer.now now.out.now.writer.now
@@ -155,7 +157,7 @@ fn list_into<F: Framer, V: Verb, R: Read, W: Write>(
     requires same { (frame : List ℕ) → F.is_frame managed.now frame → V.is_frame managed.now frame }
     requires begun { V.has_listed verb.old managed.now [] }
     requires empty { out.old.lines ≡ [] }
-    ensures { (out.new.writer.ghost_name ≡ out.old.writer.ghost_name)
+    ensures { KeepsWriter out.old out.new
         × EndsListing R.remaining W.contents reader.old reader.new out.old.writer.now
         out.new.writer.now (F.frames_of managed.now) (V.listing managed.now)
         managed.now.max_octets (length buffer.old) (V.wants_memory managed.now) result }

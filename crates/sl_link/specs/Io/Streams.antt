@@ -48,10 +48,10 @@ pub record ReadsAll {R : Type 0} (remaining : R → Option (List ℕ)) (old new 
   pub to_end : IsRead remaining new
   pub no_fault : faults_of new ≡ faults_of old
 
--- A fault has its cause, and no other: at most the stream that it names had a fault. Once the
--- limit was passed nothing more was read, and it was passed by `past` octets at most. No clause
--- can say that memory was refused. `no_stream` has had no fault, so where it stands for a stream no
--- fault names that stream.
+-- A fault has its cause, and no other: at most the stream that it names had a fault. At `TooLong`
+-- more octets than the limit were read, by `past` at most, and at any other fault no more than the
+-- limit. No clause can say that memory was refused. Where no reader or no writer takes part
+-- `no_stream` stands for it. That has had no fault, so no fault names it.
 abbrev pub IsCaused : {R W : Type 0} → Counted R → Counted R → Counted W → Counted W → ℕ → ℕ → List ℕ → LinkFault → Type 0
 IsCaused reader reader' writer writer' limit past octets Read =
     HadOneFault reader reader' × (faults_of writer' ≡ faults_of writer) × (length octets ≤ limit)
@@ -83,12 +83,13 @@ pub record AddsText {W : Type 0} (contents : W → Option (List ℕ)) (old new :
   pub writes : Writes contents old new written
   pub no_fault : faults_of new ≡ faults_of old
 
--- a prefix of the text was written, and then the writer failed, or memory was refused where it is wanted
+-- A prefix of the text was written, and then the fault came: `Write`, or `Memory` where `at_memory`
+-- holds. So it is `Write` where `at_memory` is ⊥. No octet is read, so it is never `Read` or `TooLong`.
 pub record StopsWriting {W : Type 0} (contents : W → Option (List ℕ)) (old new : Counted W) (text : List ℕ)
-    (wanted : Type 0) (fault : LinkFault) : Type 0 where
+    (at_memory : Type 0) (fault : LinkFault) : Type 0 where
   pub front : WritesPrefix contents old new text
   pub cause : IsCaused no_stream no_stream old new 0 0 [] fault
-  pub memory : fault ≡ Memory → wanted
+  pub memory : fault ≡ Memory → at_memory
 
 -- ---- a whole engine, over its reader and its writer before and after the call
 

@@ -46,18 +46,18 @@ abbrev pub packets_of : Kind → List ℕ → List (List (List ℕ))
 packets_of k recording = lists_in k (k.frames_of recording)
 
 -- the number of packets that frames deliver, idle packets left out
-abbrev pub packets_in : Kind → List (List ℕ) → ℕ
-packets_in k frames = count_of (lists_in k frames)
+abbrev pub number_of_packets : Kind → List (List ℕ) → ℕ
+number_of_packets k frames = count_of (lists_in k frames)
 
 -- the number of idle packets that frames deliver
-abbrev pub idle_in : Kind → List (List ℕ) → ℕ
-idle_in k frames = count_of (map (λ channel. only_idle (k.packets frames channel)) k.channels)
+abbrev pub number_of_idle : Kind → List (List ℕ) → ℕ
+number_of_idle k frames = count_of (map (λ channel. only_idle (k.packets frames channel)) k.channels)
 
--- the counts of frames and of a remainder of `rest` octets
+-- the counts of frames and of a remainder of so many octets
 abbrev pub counted : Kind → List (List ℕ) → ℕ → Counts
-counted k frames rest =
-    counts_with (length (concat frames) + rest) (length frames) (skipped_in k.is_skipped frames) rest
-    (packets_in k frames) (idle_in k frames) 0
+counted k frames remainder =
+    counts_with (length (concat frames) + remainder) (length frames) (skipped_in k.is_skipped frames) remainder
+    (number_of_packets k frames) (number_of_idle k frames) 0
 
 -- ---- what holds of a kind
 
@@ -78,7 +78,7 @@ pub record AreDelivered (k : Kind) : Type 0 where
 -- included, as they have octets.
 pub record IsWithin (k : Kind) (frames : List (List ℕ)) : Type 0 where
   pub delivered : AreDelivered k
-  pub within : packets_in k frames + idle_in k frames ≤ length (concat frames)
+  pub within : number_of_packets k frames + number_of_idle k frames ≤ length (concat frames)
 
 -- the report on a frame that comes after these frames
 pub record IsReport (k : Kind) (before : List (List ℕ)) (frame : List ℕ) (report : FrameReport) : Type 0 where
@@ -98,11 +98,11 @@ pub record Delivers {S : Type 0} (taking : S → ℕ → List ℕ → S → Type
   pub accepted : TakesAll taking old (k.channel frame) (without_idle (k.ended before frame)) new
   pub brings : Brings k before frame report
 
--- These frames were processed, as `had` says, and these are their counts, with this number of anomalies. Each frame has
--- more octets than anomalies.
+-- These frames were processed, as `had` says, and these are their counts, with this number of anomalies. Frames
+-- and anomalies together are no more than the octets of the frames.
 pub record HasDelivered (k : Kind) (had : List (List ℕ) → Type 0) (frames : List (List ℕ)) (anomalies : ℕ) (t : Counts) : Type 0 where
   pub processed : had frames
-  pub counts : t ≡ counts_so_far k.is_skipped frames (packets_in k frames) (idle_in k frames) anomalies
+  pub counts : t ≡ counts_so_far k.is_skipped frames (number_of_packets k frames) (number_of_idle k frames) anomalies
   pub few : anomalies + length frames ≤ length (concat frames)
 
 -- ---- packets that are kept
@@ -112,7 +112,7 @@ abbrev pub with_packets : List (List (List ℕ)) → ℕ → List (List ℕ) →
 with_packets lists channel packets = slice_set lists channel (slice_index_or lists channel [] ++ packets)
 
 -- each list has the packets of its channel, idle packets left out, and the lists past the last channel have none
-pub record AreKept (k : Kind) (frames : List (List ℕ)) (lists : List (List (List ℕ))) : Type 0 where
+pub record AreStored (k : Kind) (frames : List (List ℕ)) (lists : List (List (List ℕ))) : Type 0 where
   pub size : length lists ≡ channel_count
   pub each : (channel : ℕ) → channel < k.limit
       → slice_index_or lists channel [] ≡ without_idle (k.packets frames channel)
@@ -121,4 +121,4 @@ pub record AreKept (k : Kind) (frames : List (List ℕ)) (lists : List (List (Li
 -- memory may be refused at the last of these frames: for what is incomplete before or after it, or
 -- since they deliver a packet
 abbrev pub MayWantMemory : Kind → (List (List ℕ) → Type 0) → List (List ℕ) → Type 0
-MayWantMemory k wants_memory frames = wants_memory frames ⊎ (0 < packets_in k frames)
+MayWantMemory k wants_memory frames = wants_memory frames ⊎ (0 < number_of_packets k frames)

@@ -11,7 +11,7 @@ use Rattle.sl_tcflow.specs.Receiving.{HasProcessed, IsIncompleteAround, Receiver
 use Rattle.sl_tcflow.specs.ReceptionParameters.{ReceptionParameters}
 use Rattle.sl_tcflow.specs.Recording.{map_channels, packets_in_channel, tc_lists}
 use Rattle.sl_link.specs.declared.kind.TcFound.{TcFound}
-use Rattle.sl_link.specs.Kind.Delivery.{IsWithin, Kind, MayWantMemory, count_of, counted, idle_in, packets_in}
+use Rattle.sl_link.specs.Kind.Delivery.{IsWithin, Kind, MayWantMemory, count_of, counted, number_of_idle, number_of_packets}
 use Rattle.sl_link.specs.Link.Managed.{Parameters, reception_of, tc_format}
 use Rattle.sl_link.specs.Link.Totals.{Counts}
 use Rattle.sl_link.specs.Tally.{listing_counts}
@@ -31,9 +31,9 @@ is_incomplete_around r views (Ok view) = IsIncompleteAround r views view
 is_incomplete_around r views (Err reason) = ⊥
 
 -- the channel of the unit of a frame, 0 where the frame is skipped
-abbrev pub channel_of : ReceptionParameters → Result TcView TcSkip → ℕ
-channel_of r (Ok view) = unit_channel r view
-channel_of r (Err reason) = 0
+abbrev pub unit_channel_of : ReceptionParameters → Result TcView TcSkip → ℕ
+unit_channel_of r (Ok view) = unit_channel r view
+unit_channel_of r (Err reason) = 0
 
 -- N(S), in a frame of type AD
 abbrev pub ns_of : Content → Option ℕ
@@ -69,7 +69,7 @@ tc_kind p =
       is_skipped = λ frame. is_err (as_read p frame);
       channels = map_channels;
       limit = channel_count;
-      channel = λ frame. channel_of (reception_of p) (as_read p frame);
+      channel = λ frame. unit_channel_of (reception_of p) (as_read p frame);
       ended = λ before frame. ended_in (reception_of p) (views_of (tc_format p) p.spacecraft before) (as_read p frame);
       packets = λ frames channel.
           packets_in_channel (reception_of p) (views_of (tc_format p) p.spacecraft frames) channel;
@@ -112,4 +112,4 @@ held_after p frames =
 pub record HasProcessedTc (p : Parameters) (state : ReceiverState) (frames : List (List ℕ)) : Type 0 where
   pub processed : HasProcessed (reception_of p) state (views_of (tc_format p) p.spacecraft frames)
   pub within : IsWithin (tc_kind p) frames
-  pub held : packets_in (tc_kind p) frames + idle_in (tc_kind p) frames + held_after p frames ≤ length (concat frames)
+  pub held : number_of_packets (tc_kind p) frames + number_of_idle (tc_kind p) frames + held_after p frames ≤ length (concat frames)

@@ -6,7 +6,7 @@ use Rattle.sl_link.specs.declared.link.counted.Counted.{Counted}
 use Rattle.sl_link.specs.declared.link.fault.LinkFault.{LinkFault}
 use Rattle.sl_link.specs.declared.link.fault.LinkFault.TheVariants.{Memory}
 use Rattle.sl_link.specs.Io.Streams.{ReadsAll}
-use Rattle.sl_link.specs.Kind.Delivery.{AreDelivered, AreKept, Kind, counted, packets_of}
+use Rattle.sl_link.specs.Kind.Delivery.{AreDelivered, AreStored, Kind, counted, packets_of}
 use Rattle.sl_link.specs.Link.Totals.{Counts}
 use Rattle.sl_link.specs.Tally.{listing_counts}
 
@@ -30,7 +30,7 @@ pub record KeepsAll {R : Type 0} (remaining : R → Option (List ℕ)) (reader r
   pub octets : List ℕ
   pub all : ReadsAll remaining reader reader' limit octets
   pub delivered : AreDelivered k
-  pub kept : AreKept k (k.frames_of octets) lists
+  pub kept : AreStored k (k.frames_of octets) lists
   pub counts : totals ≡ listing_counts (counted k) k.frames_of octets
 
 -- memory was refused, where it may be wanted

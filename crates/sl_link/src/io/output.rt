@@ -34,8 +34,7 @@ impl<'a, W: Write> Output<'a, W> {
         if !self.lines.lacks_room_for_a_frame() {
             return Ok(());
         }
-        self.flush()?;
-        Ok(())
+        self.flush()
     }
 
     /// Writes the lines so far, and empties the buffer. The stream itself isn't flushed.

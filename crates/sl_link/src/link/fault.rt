@@ -30,7 +30,8 @@ impl From<FlowFault> for LinkFault {
     ghost from_gives = { λ fault e. e ≡ flow_fault fault };
 
     /// The fault of an engine that couldn't hand packets on to its sink: `Memory` where memory was
-    /// refused, and `Write` where the writer failed.
+    /// refused, or an earlier call had failed (`FlowFault::Failed`), and `Write` where the sink failed
+    /// for another reason.
     fn from(fault: FlowFault) -> LinkFault {
         match fault {
             FlowFault::Sink(fault) => of_sink(fault),

@@ -79,11 +79,11 @@ impl<D: Checked> Verb for Check<D> {
     ) -> Result<Totals, LinkFault> {
         out.make_room()?;
         let offset = self.so_far.octets();
-        let rest = octets - offset;
-        let remainders = remainder_lines(&mut out.lines, offset, rest);
+        let remainder = octets - offset;
+        let remainders = remainder_lines(&mut out.lines, offset, remainder);
         let incomplete = incomplete_lines(&self.delivery, octets, out)?;
         out.make_room()?;
-        let totals = self.so_far.totals(rest, remainders + incomplete);
+        let totals = self.so_far.totals(remainder, remainders + incomplete);
         push_totals(&mut out.lines, &totals);
         Ok(totals)
     }

@@ -10,7 +10,7 @@ use crate::io::output::{Output, Written, remainder_line};
 use crate::link::fault::LinkFault;
 use crate::link::managed::Managed;
 use crate::link::totals::Totals;
-use crate::tally::{FrameReport, SKIPPED};
+use crate::tally::FrameReport;
 use crate::verbs::Verb;
 use crate::verbs::show::shown::Shown;
 use std::io::Write;
@@ -53,7 +53,9 @@ impl<S: Shown> Verb for Show<S> {
         let is_skipped = self.shown.show(managed, frame, offset, &mut out.lines);
         let report = FrameReport {
             is_skipped,
-            ..SKIPPED
+            packets: 0,
+            idle: 0,
+            anomalies: 0,
         };
         self.so_far.add(frame.len() as u64, report);
         Ok(())
@@ -67,10 +69,10 @@ impl<S: Shown> Verb for Show<S> {
     ) -> Result<Totals, LinkFault> {
         out.make_room()?;
         let offset = self.so_far.octets();
-        let rest = octets - offset;
-        if rest > 0 {
-            remainder_line(&mut out.lines, offset, rest);
+        let remainder = octets - offset;
+        if remainder > 0 {
+            remainder_line(&mut out.lines, offset, remainder);
         }
-        Ok(self.so_far.totals(rest, 0))
+        Ok(self.so_far.totals(remainder, 0))
     }
 }

@@ -17,7 +17,7 @@ use Rattle.sl_packet.proofs.WithoutIdleLemmas.{without_idle-append}
 use Rattle.sl_link.specs.declared.tally.FrameReport.{FrameReport}
 use Rattle.sl_link.specs.Link.Totals.{Counts}
 use Rattle.sl_link.specs.Tally.{counts_more, counts_so_far, skipped_in, no_counts}
-use Rattle.sl_link.specs.Kind.Delivery.{AreDelivered, AreKept, Delivers, HasDelivered, IsReport, IsWithin, Kind, count_of, idle_in, lists_in, packets_in, with_frame, with_packets}
+use Rattle.sl_link.specs.Kind.Delivery.{AreDelivered, AreStored, Delivers, HasDelivered, IsReport, IsWithin, Kind, count_of, number_of_idle, lists_in, number_of_packets, with_frame, with_packets}
 use Rattle.sl_link.proofs.lemmas.Kind.Channels.{items_change, map_range, no_items, none_of}
 
 -- ---- frames that are counted one after another
@@ -60,16 +60,16 @@ module _ (k : Kind) (laws : AreDelivered k) where
       (λ i other. ap (λ l. length (filter test l)) (laws.other frames frame i (λ e. other (sym e)))) in
       omega (arith, change, simp (filter-append, length-append) at (ap (λ l. length (filter test l)) (laws.own frames frame)))
 
-  pub packets_more : (frames : List (List ℕ)) (frame : List ℕ) → packets_in k (frames ++ frame ∷ []) ≡ packets_in k frames + length (without_idle (k.ended frames frame))
+  pub packets_more : (frames : List (List ℕ)) (frame : List ℕ) → number_of_packets k (frames ++ frame ∷ []) ≡ number_of_packets k frames + length (without_idle (k.ended frames frame))
   packets_more = count_more (λ packet. not (is_idle_packet packet))
 
-  pub idle_more : (frames : List (List ℕ)) (frame : List ℕ) → idle_in k (frames ++ frame ∷ []) ≡ idle_in k frames + length (only_idle (k.ended frames frame))
+  pub idle_more : (frames : List (List ℕ)) (frame : List ℕ) → number_of_idle k (frames ++ frame ∷ []) ≡ number_of_idle k frames + length (only_idle (k.ended frames frame))
   idle_more = count_more is_idle_packet
 
-  pub no_packets : packets_in k [] ≡ 0
+  pub no_packets : number_of_packets k [] ≡ 0
   no_packets = no_items (λ channel. without_idle (k.packets [] channel)) k.channels (λ channel. ap without_idle (laws.none channel))
 
-  pub no_idle : idle_in k [] ≡ 0
+  pub no_idle : number_of_idle k [] ≡ 0
   no_idle = no_items (λ channel. only_idle (k.packets [] channel)) k.channels (λ channel. ap only_idle (laws.none channel))
 
   -- none yet
@@ -112,30 +112,30 @@ takes_all (packet ∷ packets) old new channel inside t =
     takes_all packets t.0 new channel (omega (arith, inside, ap length t.1, length-set {A = List (List ℕ)})) t.2 ∙ simp (t.1, get_or-set_same, set-set, append_assoc)
 
 module _ (k : Kind) (laws : AreDelivered k) where
-  pub none_kept : (lists : List (List (List ℕ))) → lists ≡ empty_lists → AreKept k [] lists
+  pub none_kept : (lists : List (List (List ℕ))) → lists ≡ empty_lists → AreStored k [] lists
   none_kept lists none = grind (arith, length-empty_lists, list_at-empty_lists, laws.none)
 
   -- one frame more
-  pub kept_more : (frames : List (List ℕ)) (frame : List ℕ) (old new : PacketLists) → AreKept k frames old.lists
-      → TakesAll AddsPacket old (k.channel frame) (without_idle (k.ended frames frame)) new → AreKept k (frames ++ frame ∷ []) new.lists
+  pub kept_more : (frames : List (List ℕ)) (frame : List ℕ) (old new : PacketLists) → AreStored k frames old.lists
+      → TakesAll AddsPacket old (k.channel frame) (without_idle (k.ended frames frame)) new → AreStored k (frames ++ frame ∷ []) new.lists
   kept_more frames frame old new kept taken = grind (arith, eqb_tells, get_or-set_other, get_or-set_same, length-set, takes_all, without_idle-append, kept.each, kept.none_past, kept.size, laws.few, laws.inside, laws.other)
 
-  module _ (frames : List (List ℕ)) (lists : List (List (List ℕ))) (kept : AreKept k frames lists) where
+  module _ (frames : List (List ℕ)) (lists : List (List (List ℕ))) (kept : AreStored k frames lists) where
     -- the lists of the channels are those of the frames,
     pub all_kept : take k.limit lists ≡ lists_in k frames
     all_kept = rw (laws.all, ← pick_l-range_with_len [] lists 0 k.limit (omega (arith, kept.size, laws.few)))
         (map_range _ (λ channel. without_idle (k.packets frames channel)) 0 k.limit (λ channel below. kept.each channel (omega (arith, below))))
 
     -- and where some channel's is not empty, they deliver a packet
-    pub some_kept : (((channel : ℕ) → channel < k.limit → slice_index_or lists channel [] ≡ []) → ⊥) → 0 < packets_in k frames
-    some_kept some = elim (leb_tells 1 (packets_in k frames)) [
+    pub some_kept : (((channel : ℕ) → channel < k.limit → slice_index_or lists channel [] ≡ []) → ⊥) → 0 < number_of_packets k frames
+    some_kept some = elim (leb_tells 1 (number_of_packets k frames)) [
       | inl (is, more) ↦ more
       | inr (is, few) ↦
           absurd (some (λ channel below. kept.each channel below ∙ none_of k.limit k.channels laws.all (λ c. without_idle (k.packets frames c)) (omega (arith, few)) channel below))
     ]
 
 -- what is kept is the same exactly where the packets are: past the last channel there are none
-pub same_kept : (k : Kind) → AreDelivered k → (frames others : List (List ℕ)) (lists kept : List (List (List ℕ))) → AreKept k frames lists → AreKept k others kept
+pub same_kept : (k : Kind) → AreDelivered k → (frames others : List (List ℕ)) (lists kept : List (List (List ℕ))) → AreStored k frames lists → AreStored k others kept
     → {P : Type 0} → (P ↔ (lists ≡ kept)) → P ↔ (lists_in k frames ≡ lists_in k others)
 same_kept k laws frames others lists kept one other reported =
     let mine = all_kept k laws frames lists one in

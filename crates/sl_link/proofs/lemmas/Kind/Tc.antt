@@ -15,8 +15,8 @@ use Rattle.sl_tcflow.specs.Receiving.{ReceiverState, HasProcessed, unit_channel,
 use Rattle.sl_tcflow.specs.ReceptionParameters.{ReceptionParameters, is_plain}
 use Rattle.sl_tcflow.specs.Recording.{map_channels, packets_in_channel}
 use Rattle.sl_tcflow.proofs.lemmas.Reception.Channel.{held_other, held_own, packets_other, packets_own, small_map, unit_len}
-use Rattle.sl_link.specs.Kind.Tc.{HasProcessedTc, WantsMemoryTc, as_read, channel_of, ended_in, held_after, is_incomplete_around, tc_kind}
-use Rattle.sl_link.specs.Kind.Delivery.{AreDelivered, count_of, idle_in, packets_in, with_frame}
+use Rattle.sl_link.specs.Kind.Tc.{HasProcessedTc, WantsMemoryTc, as_read, unit_channel_of, ended_in, held_after, is_incomplete_around, tc_kind}
+use Rattle.sl_link.specs.Kind.Delivery.{AreDelivered, count_of, number_of_idle, number_of_packets, with_frame}
 use Rattle.sl_link.specs.Link.Managed.{Parameters, reception_of, tc_format}
 use Rattle.sl_link.proofs.lemmas.Kind.Delivery.{idle_more, no_idle, no_packets, none_within, octets_more, packets_more, views_next}
 use Rattle.sl_link.proofs.lemmas.Kind.Channels.{items_change, no_items}
@@ -24,11 +24,11 @@ use Rattle.sl_link.proofs.lemmas.Kind.Channels.{items_change, no_items}
 -- ---- a frame, as it is read
 
 -- its channel is one of 4,096
-read_channel : (r : ReceptionParameters) (reason : Option TcSkip) (frame : List ℕ) (content : Option Content) → channel_of r (read_as reason (tc_header_of frame) content) < channel_count
+read_channel : (r : ReceptionParameters) (reason : Option TcSkip) (frame : List ℕ) (content : Option Content) → unit_channel_of r (read_as reason (tc_header_of frame) content) < channel_count
 read_channel r reason frame content =
     grind (arith, small_map (is_plain r (tc_header_of frame).vc), mod_below (number_of (take 5 frame) / 2 ^ 18) 64 (omega arith))
 
-pub small_channel : (p : Parameters) (frame : List ℕ) → channel_of (reception_of p) (as_read p frame) < channel_count
+pub small_channel : (p : Parameters) (frame : List ℕ) → unit_channel_of (reception_of p) (as_read p frame) < channel_count
 small_channel p frame =
     read_channel (reception_of p) (early_reason (tc_format p) p.spacecraft frame) frame (content_of (tc_header_of frame) (tc_parts_of (tc_format p) frame).field)
 
@@ -53,10 +53,10 @@ channels_are n all = ap (range_with_len 0) (sym all)
 
 module _ (r : ReceptionParameters) where
   -- it adds the packets that end with its unit to those of its own channel, and none to another's
-  own_step : (views : List TcView) (read : Result TcView TcSkip) → packets_in_channel r (with_frame views read) (channel_of r read) ≡ packets_in_channel r views (channel_of r read) ++ ended_in r views read
+  own_step : (views : List TcView) (read : Result TcView TcSkip) → packets_in_channel r (with_frame views read) (unit_channel_of r read) ≡ packets_in_channel r views (unit_channel_of r read) ++ ended_in r views read
   own_step views read = grind (arith, append-nil, packets_own)
 
-  other_step : (views : List TcView) (read : Result TcView TcSkip) (channel : ℕ) → channel_of r read ≢ channel → packets_in_channel r (with_frame views read) channel ≡ packets_in_channel r views channel
+  other_step : (views : List TcView) (read : Result TcView TcSkip) (channel : ℕ) → unit_channel_of r read ≢ channel → packets_in_channel r (with_frame views read) channel ≡ packets_in_channel r views channel
   other_step views read channel other = grind (arith, packets_other)
 
 pub tc_delivered : (p : Parameters) → AreDelivered (tc_kind p)
@@ -72,7 +72,7 @@ tc_delivered p = record {
 -- ---- a receiver
 
 -- the packets that end and the octets that are held after them are no more than those held before and the frame's own
-held_next : (p : Parameters) (views : List TcView) (read : Result TcView TcSkip) → channel_of (reception_of p) read < channel_count
+held_next : (p : Parameters) (views : List TcView) (read : Result TcView TcSkip) → unit_channel_of (reception_of p) read < channel_count
     → count_of (map (held_in (reception_of p) (with_frame views read)) map_channels) + length (ended_in (reception_of p) views read)
     ≤ count_of (map (held_in (reception_of p) views) map_channels) + unit_len_of read
 held_next p views (Err reason) range = omega arith
@@ -104,7 +104,7 @@ one_processed {p} {before} frame had is processed =
     let held_is = ap (λ views. count_of (map (held_in (reception_of p) views) map_channels)) next in
     let few = held_next p seen read (small_channel p frame) in
     let split = split_count (ended_in (reception_of p) seen read) in
-    let held : packets_in (tc_kind p) (before ++ frame ∷ []) + idle_in (tc_kind p) (before ++ frame ∷ []) + held_after p (before ++ frame ∷ []) ≤ length (concat (before ++ frame ∷ [])) =
+    let held : number_of_packets (tc_kind p) (before ++ frame ∷ []) + number_of_idle (tc_kind p) (before ++ frame ∷ []) + held_after p (before ++ frame ∷ []) ≤ length (concat (before ++ frame ∷ [])) =
     omega (arith, within, few, held_is, unit_within p frame, split, packets_more (tc_kind p) laws before frame, idle_more (tc_kind p) laws before frame, octets_more before frame) in
     record { processed = rw (next, is) processed; within = record { delivered = laws; within = omega (arith, held) }; held = held }
 

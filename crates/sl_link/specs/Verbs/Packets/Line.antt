@@ -33,4 +33,4 @@ packet_line channel packet = channel ++ packet_text packet
 
 -- the listing of frames of a kind with these lines
 abbrev pub packets_listing : Kind → (List (List ℕ) → List ℕ → List ℕ) → Listing
-packets_listing k lines = record { line = lines; last = λ frames rest. []; counts = counted k }
+packets_listing k lines = record { line = lines; last = λ frames remainder. []; counts = counted k }

@@ -8,14 +8,14 @@ use Rattle.sl_link.specs.Verbs.Listing.{Listing}
 
 -- what is counted in frames, and a remainder of this many octets
 abbrev pub show_counted : (List ℕ → Bool) → List (List ℕ) → ℕ → Counts
-show_counted is_skipped frames rest = counts_with (length (concat frames) + rest) (length frames) (skipped_in is_skipped frames) rest 0 0 0
+show_counted is_skipped frames remainder = counts_with (length (concat frames) + remainder) (length frames) (skipped_in is_skipped frames) remainder 0 0 0
 
 -- the listing: a line for each frame, and one for a remainder
 abbrev pub show_listing : (List ℕ → Bool) → (List (List ℕ) → List ℕ → List ℕ) → Listing
 show_listing is_skipped line =
     record {
       line = line;
-      last = λ frames rest. remainder_line (length (concat frames)) rest;
+      last = λ frames remainder. remainder_line (length (concat frames)) remainder;
       counts = show_counted is_skipped;
     }
 

@@ -8,7 +8,7 @@ ghost use Rattle.sl_link.specs.Verbs.Check.Tc.{discarded_anomaly, discards, tc_l
 use crate::io::lines::Lines;
 use crate::kind::TcFound;
 use crate::verbs::check::lines::{Place, event_lines, push_part};
-use crate::verbs::show::lines_tc::{push_skip, push_verdict};
+use crate::verbs::show::lines_tc::{push_tc_skip, push_verdict};
 use sl_cop::Verdict;
 use sl_tcframe::TcSkip;
 
@@ -24,11 +24,11 @@ pub fn anomaly_lines(lines: &mut Lines, offset: u64, found: Result<TcFound, TcSk
             if is_quiet(&found) {
                 return 0;
             }
-            found_lines(lines, offset, found)
+            tc_found_lines(lines, offset, found)
         }
         Err(reason) => {
             lines.push_number(offset);
-            push_skip(lines, reason);
+            push_tc_skip(lines, reason);
             lines.push(b"\n");
             1
         }
@@ -62,7 +62,7 @@ fn discards(verdict: Verdict) -> bool
 // with no lines needs not store it: that was measured.
 #[cold]
 #[inline(never)]
-fn found_lines(lines: &mut Lines, offset: u64, found: TcFound) -> u64
+fn tc_found_lines(lines: &mut Lines, offset: u64, found: TcFound) -> u64
     requires { HasRoom lines.old }
     ensures text { lines.new ≡ lines.old ++ concat (tc_lines offset (Ok found)) }
     ensures number { result ≡ length (tc_lines offset (Ok found)) }

@@ -8,7 +8,7 @@ ghost use Rattle.sl_link.specs.Verbs.Check.Tm.{gap_anomaly, tm_lines};
 use crate::io::lines::Lines;
 use crate::kind::TmFound;
 use crate::verbs::check::lines::{Place, event_lines, push_part};
-use crate::verbs::show::lines_tm::push_skip;
+use crate::verbs::show::lines_tm::push_tm_skip;
 use sl_tmframe::TmSkip;
 
 /// Adds the lines of a frame, and answers how many they are.
@@ -19,10 +19,10 @@ pub fn anomaly_lines(lines: &mut Lines, offset: u64, found: Result<TmFound, TmSk
     ensures number { result ≡ length (tm_lines offset found) }
 {
     match found {
-        Ok(found) => found_lines(lines, offset, &found),
+        Ok(found) => tm_found_lines(lines, offset, &found),
         Err(reason) => {
             lines.push_number(offset);
-            push_skip(lines, reason);
+            push_tm_skip(lines, reason);
             lines.push(b"\n");
             1
         }
@@ -31,7 +31,7 @@ pub fn anomaly_lines(lines: &mut Lines, offset: u64, found: Result<TmFound, TmSk
 
 // The lines of the anomalies, in their order.
 #[inline(always)]
-fn found_lines(lines: &mut Lines, offset: u64, found: &TmFound) -> u64
+fn tm_found_lines(lines: &mut Lines, offset: u64, found: &TmFound) -> u64
     requires { HasRoom lines.old }
     ensures text { lines.new ≡ lines.old ++ concat (tm_lines offset (Ok found.now)) }
     ensures number { result ≡ length (tm_lines offset (Ok found.now)) }

@@ -77,7 +77,7 @@ fn print_packet<W: Write>(
 {
     out.make_room()?;
     push_channel(&mut out.lines, kind, channel);
-    // Here the whole line was added, at a fault a beginning of it was written: a clause for each.
+    // After this call the whole line was added, or at a fault a beginning of it was written: a clause for each.
     push_packet_text(out, packet)?;
     Ok(())
 }

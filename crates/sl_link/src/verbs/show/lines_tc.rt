@@ -36,15 +36,15 @@ pub fn tc_frame_line(
 {
     lines.push_number(offset);
     match read {
-        Ok(frame) => push_view(lines, plain.has(frame.vc()), farms, frame),
-        Err(reason) => push_skip(lines, *reason),
+        Ok(frame) => push_tc_view(lines, plain.has(frame.vc()), farms, frame),
+        Err(reason) => push_tc_skip(lines, *reason),
     }
     lines.push(b"\n");
 }
 
 /// Adds why a frame is skipped.
 #[cold]
-pub fn push_skip(lines: &mut Lines, reason: TcSkip)
+pub fn push_tc_skip(lines: &mut Lines, reason: TcSkip)
     requires { HasRoomFor number_width lines.old }
     ensures text { lines.new ≡ lines.old ++ (codes " skip " ++ tc_skip_word reason) }
     ensures short { length lines.new ≤ length lines.old + number_width }
@@ -61,7 +61,7 @@ pub fn push_skip(lines: &mut Lines, reason: TcSkip)
     });
 }
 
-fn push_view(lines: &mut Lines, plain: bool, farms: &mut Farms, frame: &TcFrame)
+fn push_tc_view(lines: &mut Lines, plain: bool, farms: &mut Farms, frame: &TcFrame)
     requires { HasRoomFor text_width lines.old }
     ensures text { (r : ReceptionParameters) (views : List TcView) → HaveStepped r farms.old views
         → lines.new ≡ lines.old ++ tc_view_text plain (farm_of r frame.now.vc views) frame.now }

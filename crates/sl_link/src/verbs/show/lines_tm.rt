@@ -17,14 +17,14 @@ pub fn tm_frame_line(lines: &mut Lines, offset: u64, read: &Result<TmFrame, TmSk
 {
     lines.push_number(offset);
     match read {
-        Ok(frame) => push_view(lines, frame),
-        Err(reason) => push_skip(lines, *reason),
+        Ok(frame) => push_tm_view(lines, frame),
+        Err(reason) => push_tm_skip(lines, *reason),
     }
     lines.push(b"\n");
 }
 
 /// Adds why a frame is skipped.
-pub fn push_skip(lines: &mut Lines, reason: TmSkip)
+pub fn push_tm_skip(lines: &mut Lines, reason: TmSkip)
     requires { HasRoomFor number_width lines.old }
     ensures text { lines.new ≡ lines.old ++ (codes " skip " ++ tm_skip_word reason) }
     ensures short { length lines.new ≤ length lines.old + number_width }
@@ -37,7 +37,7 @@ pub fn push_skip(lines: &mut Lines, reason: TmSkip)
     });
 }
 
-fn push_view(lines: &mut Lines, frame: &TmFrame)
+fn push_tm_view(lines: &mut Lines, frame: &TmFrame)
     requires { HasRoomFor text_width lines.old }
     ensures text { lines.new ≡ lines.old ++ tm_view_text frame.now }
     ensures short { length lines.new ≤ length lines.old + text_width }

@@ -2,7 +2,7 @@ use Rattle.std.proofs.Common.{rules, ◌≡◌, ◌≢◌, ◌∙◌, Ok, Err, a
 use Rattle.std.specs.Prelude.{is_err}
 use Rattle.sl_packet.specs.declared.flow_fault.FlowFault.TheVariants.{Failed}
 use Rattle.sl_tcflow.specs.AcceptedUnit.{views_of}
-use Rattle.sl_link.specs.Kind.Tc.{as_read, channel_of, ended_in, found_after}
+use Rattle.sl_link.specs.Kind.Tc.{as_read, unit_channel_of, ended_in, found_after}
 use Rattle.sl_link.specs.Link.Managed.{reception_of, tc_format}
 use Rattle.sl_link.proofs.lemmas.Kind.Delivery.{delivers_as}
 use Rattle.sl_link.proofs.lemmas.Kind.Tc.{one_processed, some_octets, wants_memory}
@@ -23,7 +23,7 @@ returns-in-Err-clause-delivers g c =
     λ before h.
     let r = reception_of p in
     let seen = views_of (tc_format p) p.spacecraft before in
-    delivers_as (ap (channel_of r) skipped) (ap (ended_in r seen) skipped) (ap is_err skipped)
+    delivers_as (ap (unit_channel_of r) skipped) (ap (ended_in r seen) skipped) (ap is_err skipped)
     (some_octets p c.args.frame.now c.requires.2) refl refl refl refl refl
 
 pub returns-in-Err-clause-found : goal.returns-in-Err-clause-found
@@ -49,7 +49,7 @@ returns-clause-delivers g c =
     λ before h.
     let r = reception_of p in
     let seen = views_of (tc_format p) p.spacecraft before in
-    delivers_as (ap (channel_of r) read) (ap (ended_in r seen) read) (ap is_err read) (some_octets p c.args.frame.now c.requires.2)
+    delivers_as (ap (unit_channel_of r) read) (ap (ended_in r seen) read) (ap is_err read) (some_octets p c.args.frame.now c.requires.2)
     (c.in-Ok-frame.ensures.accepted r seen h.processed) refl
     (c.packets.ensures ∙ c.in-Ok-frame.ensures.packets r seen h.processed) (c.idle.ensures ∙ c.in-Ok-frame.ensures.idle r seen h.processed) refl
 
@@ -85,7 +85,7 @@ returns-in-Err-frame-clause-stopped g c =
     let seen = views_of (tc_format p) p.spacecraft before in
     let had = h.processed in
     let ne : c.in-Err-frame.fault ≢ Failed = never_failed c.args.self.now.has_failed c.frame.result c.in-Err-frame.fault is (λ e. (c.frame.ensures.left e).0) had.working in
-    rw (ap (channel_of r) read, ap (ended_in r seen) read) (((c.in-Err-frame.ensures.stopped ne).1 r seen had).1)
+    rw (ap (unit_channel_of r) read, ap (ended_in r seen) read) (((c.in-Err-frame.ensures.stopped ne).1 r seen had).1)
 
 pub returns-in-Err-frame-clause-memory : goal.returns-in-Err-frame-clause-memory
 returns-in-Err-frame-clause-memory g c =

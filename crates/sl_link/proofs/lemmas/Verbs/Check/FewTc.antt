@@ -11,7 +11,7 @@ use Rattle.sl_tcflow.proofs.lemmas.Reception.Channel.{incomplete_other}
 use Rattle.sl_link.specs.Verbs.Check.Lines.{event_anomaly}
 use Rattle.sl_link.specs.Verbs.Check.Tc.{discarded_anomaly, incomplete_anomaly, open_on, tc_lines, tc_open}
 use Rattle.sl_link.specs.declared.kind.TcFound.{TcFound}
-use Rattle.sl_link.specs.Kind.Tc.{as_read, channel_of, found_after, tc_found, tc_kind}
+use Rattle.sl_link.specs.Kind.Tc.{as_read, unit_channel_of, found_after, tc_found, tc_kind}
 use Rattle.sl_link.specs.Kind.Delivery.{with_frame}
 use Rattle.sl_link.specs.Link.Managed.{Parameters, reception_of, tc_format}
 use Rattle.sl_link.specs.Pass.Tc.{is_tc_frame}
@@ -49,7 +49,7 @@ pub open_is : (offset vc map_id : ℕ) (held : Option (List ℕ)) {octets : ℕ}
 open_is offset vc map_id held is has = grind arith
 
 -- a frame of another channel leaves it
-open_other : (p : Parameters) (offset : ℕ) (views : List TcView) (read : Result TcView TcSkip) (channel : ℕ) → channel_of (reception_of p) read ≢ channel
+open_other : (p : Parameters) (offset : ℕ) (views : List TcView) (read : Result TcView TcSkip) (channel : ℕ) → unit_channel_of (reception_of p) read ≢ channel
     → length (open_on (reception_of p) offset (with_frame views read) channel) ≡ length (open_on (reception_of p) offset views channel)
 open_other p offset views (Err reason) channel other = refl
 open_other p offset views (Ok view) channel other = rw (incomplete_other (reception_of p) views view channel (λ e. other (sym e))) refl

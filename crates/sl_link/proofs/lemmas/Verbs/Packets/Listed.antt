@@ -24,7 +24,7 @@ use Rattle.sl_link.specs.Verbs.Listing.{lines_from, listing_text}
 use Rattle.sl_link.specs.declared.verbs.packets.printer.ChannelKind.TheVariants.{VirtualChannel, Map}
 use Rattle.sl_link.specs.Kind.Tc as tc_deliver
 use Rattle.sl_link.specs.Kind.Tm as tm_deliver
-use Rattle.sl_link.specs.Kind.Tc.{channel_of, tc_kind}
+use Rattle.sl_link.specs.Kind.Tc.{unit_channel_of, tc_kind}
 use Rattle.sl_link.specs.Kind.Tm.{tm_kind, vc_of}
 use Rattle.sl_link.specs.Link.Managed.{Parameters, reception_of, tc_format, tm_format}
 use Rattle.sl_link.specs.Verbs.Packets.Tc.{packets_tc_lines, tc_packet_lines}
@@ -120,7 +120,7 @@ tm_packets_are_listed p recording = packets_are_listed (tm_kind p) (tm_delivered
 -- ---- TC
 
 -- the channel of a unit is named by its virtual channel and its MAP
-tc_lines : (r : ReceptionParameters) (views : List TcView) (read : Result TcView TcSkip) → tc_packet_lines r views read ≡ lines_on Map (channel_of r read) (without_idle (tc_deliver.ended_in r views read))
+tc_lines : (r : ReceptionParameters) (views : List TcView) (read : Result TcView TcSkip) → tc_packet_lines r views read ≡ lines_on Map (unit_channel_of r read) (without_idle (tc_deliver.ended_in r views read))
 tc_lines r views read = grind (arith, small_map)
 
 pub tc_printed : (p : Parameters) → ArePrinted (tc_kind p) Map (packets_tc_lines p)

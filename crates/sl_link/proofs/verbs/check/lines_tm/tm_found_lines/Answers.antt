@@ -1,5 +1,5 @@
 use Rattle.sl_link.proofs.lemmas.Verbs.Check.Lines.{joined_four}
-use Rattle.sl_link.proofs.verbs.check.lines_tm.found_lines.Goals as goal
+use Rattle.sl_link.proofs.verbs.check.lines_tm.tm_found_lines.Goals as goal
 
 pub returns-clause-text : goal.returns-clause-text
 returns-clause-text c =

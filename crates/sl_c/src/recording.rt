@@ -5,7 +5,7 @@
 //! answer is `Done`, or `Room` where the text is longer than `output`. Under any other answer, a
 //! refused parameter, `TooLong` or `Memory`, nothing is written.
 ghost use Rattle.std.specs.Prelude.{◌≡◌, ◌++◌, ◌<◌, ◌≤◌, length, take, drop, IfOk, IfSome};
-ghost use Rattle.sl_link.specs.Io.Streams.{TranslatesAndCounts};
+ghost use Rattle.sl_link.specs.Io.Streams.{TranslatesWithTotals};
 ghost use Rattle.sl_link.specs.Kind.Tc.{tc_counts};
 ghost use Rattle.sl_link.specs.Kind.Tm.{tm_counts};
 ghost use Rattle.sl_link.specs.Normalise.Tc.{tc_normal_form};
@@ -305,7 +305,7 @@ fn run<R: Read, W: Write>(
     reader: &mut Counted<R>,
     writer: &mut Counted<W>,
 ) -> Result<Totals, LinkFault>
-    ensures { IfOk result (TranslatesAndCounts R.remaining W.contents reader.old reader.new
+    ensures { IfOk result (TranslatesWithTotals R.remaining W.contents reader.old reader.new
         writer.old writer.new (text_by engine managed.now) (counts_by engine managed.now)
         managed.now.max_octets) }
 {

@@ -76,14 +76,14 @@ pub record StopsPassing {R : Type 0} (remaining : R → Option (List ℕ)) (read
       ⊎ (stopped first fault × (faults_of reader' ≡ faults_of reader) × (length octets ≤ limit))
 
 -- memory may be refused at some frame of what was read
-pub record WantedMemory {R : Type 0} (remaining : R → Option (List ℕ)) (old new : Counted R)
-    (frames_of : List ℕ → List (List ℕ)) (wants_memory : List (List ℕ) → Type 0) : Type 0 where
+pub record MayRefuseMemoryAtSome {R : Type 0} (remaining : R → Option (List ℕ)) (old new : Counted R)
+    (frames_of : List ℕ → List (List ℕ)) (may_refuse_memory : List (List ℕ) → Type 0) : Type 0 where
   pub octets : List ℕ
   pub read : Reads remaining old new octets
   pub first : List (List ℕ)
   pub later : List (List ℕ)
   pub in_order : frames_of octets ≡ first ++ later
-  pub wanted : wants_memory first
+  pub at_last : may_refuse_memory first
 
 -- ---- the frames of one chunk
 

@@ -37,7 +37,7 @@ pub trait Delivery: Drop {
     ghost has_processed: { Self → Parameters → List (List ℕ) → Type 0 };
 
     /// Whether memory may be refused at the last of these frames.
-    ghost wants_memory: { Parameters → List (List ℕ) → Type 0 };
+    ghost may_refuse_memory: { Parameters → List (List ℕ) → Type 0 };
 
     /// What is found of a frame that comes after others.
     ghost found: { Parameters → List (List ℕ) → List ℕ → Self.Found };
@@ -72,7 +72,7 @@ pub trait Delivery: Drop {
         // The fault is `Memory` only where memory may be refused. A sink that is refused memory has another fault.
         ensures memory { IfErr result (λ fault. (before : List (List ℕ))
             → has_processed self.old managed.now before → fault ≡ FlowFault.Memory
-            → wants_memory managed.now (before ++ frame.now ∷ [])) };
+            → may_refuse_memory managed.now (before ++ frame.now ∷ [])) };
 
     /// The frames that were processed deliver at most as many packets as they have octets.
     ghost within: { (delivery : Self) (p : Parameters) (frames : List (List ℕ))
@@ -112,7 +112,7 @@ pub struct TcFound {
 }
 
 impl Delivery for Extractor {
-    ghost use Rattle.sl_link.specs.Kind.Tm.{HasProcessedTm, WantsMemoryTm, tm_found, tm_kind};
+    ghost use Rattle.sl_link.specs.Kind.Tm.{HasProcessedTm, IsIncompleteAtLastTm, tm_found, tm_kind};
     ghost use Rattle.sl_link.specs.Pass.Tm.{is_tm_frame};
 
     type Found = Result<TmFound, TmSkip>;
@@ -123,7 +123,7 @@ impl Delivery for Extractor {
 
     ghost has_processed = { λ extractor p frames. HasProcessedTm p extractor frames };
 
-    ghost wants_memory = { WantsMemoryTm };
+    ghost may_refuse_memory = { IsIncompleteAtLastTm };
 
     ghost found = { tm_found };
 
@@ -166,7 +166,7 @@ impl Delivery for Extractor {
 }
 
 impl Delivery for Receiver {
-    ghost use Rattle.sl_link.specs.Kind.Tc.{HasProcessedTc, WantsMemoryTc, tc_found, tc_kind};
+    ghost use Rattle.sl_link.specs.Kind.Tc.{HasProcessedTc, IsIncompleteAtLastTc, tc_found, tc_kind};
     ghost use Rattle.sl_link.specs.Pass.Tc.{is_tc_frame};
 
     type Found = Result<TcFound, TcSkip>;
@@ -177,7 +177,7 @@ impl Delivery for Receiver {
 
     ghost has_processed = { λ receiver p frames. HasProcessedTc p receiver frames };
 
-    ghost wants_memory = { WantsMemoryTc };
+    ghost may_refuse_memory = { IsIncompleteAtLastTc };
 
     ghost found = { tc_found };
 

@@ -2,8 +2,8 @@
 ghost use Rattle.std.specs.Prelude.{◌≡◌, ◌≢◌, IfOk, IfErr, OnOk, Err};
 ghost use Rattle.sl_tcframe.specs.TcDelimited.{tc_frames_of};
 ghost use Rattle.sl_tmframe.specs.TmDelimited.{tm_frames_of};
-ghost use Rattle.sl_link.specs.Kind.Tc.{WantsMemoryTc, tc_counts};
-ghost use Rattle.sl_link.specs.Kind.Tm.{WantsMemoryTm, tm_counts};
+ghost use Rattle.sl_link.specs.Kind.Tc.{IsIncompleteAtLastTc, tc_counts};
+ghost use Rattle.sl_link.specs.Kind.Tm.{IsIncompleteAtLastTm, tm_counts};
 ghost use Rattle.sl_link.specs.Link.Managed.{tc_format};
 ghost use Rattle.sl_link.specs.Verbs.Check.Tc.{check_tc_counts, check_tc_text};
 ghost use Rattle.sl_link.specs.Verbs.Check.Tm.{check_tm_counts, check_tm_text};
@@ -11,8 +11,8 @@ ghost use Rattle.sl_link.specs.Verbs.Packets.Tc.{packets_tc_text};
 ghost use Rattle.sl_link.specs.Verbs.Packets.Tm.{packets_tm_text};
 ghost use Rattle.sl_link.specs.Verbs.Show.Tc.{show_tc_counts, show_tc_text};
 ghost use Rattle.sl_link.specs.Verbs.Show.Tm.{show_tm_counts, show_tm_text};
-ghost use Rattle.sl_link.specs.Io.Streams.{Stops, Translates, TranslatesAndCounts};
-ghost use Rattle.sl_link.specs.Pass.{WantedMemory, chunk_size};
+ghost use Rattle.sl_link.specs.Io.Streams.{Stops, Translates, TranslatesWithTotals};
+ghost use Rattle.sl_link.specs.Pass.{MayRefuseMemoryAtSome, chunk_size};
 
 use crate::link::counted::Counted;
 use crate::link::fault::LinkFault;
@@ -45,7 +45,7 @@ pub fn show_tm<R: Read, W: Write>(
     ensures listing { OnOk result (Translates R.remaining W.contents reader.old reader.new
         writer.old writer.new (show_tm_text managed.now) managed.now.max_octets) }
     // The totals are those of what was read.
-    ensures totals { IfOk result (TranslatesAndCounts R.remaining W.contents reader.old reader.new
+    ensures totals { IfOk result (TranslatesWithTotals R.remaining W.contents reader.old reader.new
         writer.old writer.new (show_tm_text managed.now) (show_tm_counts managed.now)
         managed.now.max_octets) }
     // A fault has its cause (`IsCaused`), and a prefix of the listing of what was read is written.
@@ -74,7 +74,7 @@ pub fn show_tc<R: Read, W: Write>(
     ensures listing { OnOk result (Translates R.remaining W.contents reader.old reader.new
         writer.old writer.new (show_tc_text managed.now) managed.now.max_octets) }
     // The totals are those of what was read.
-    ensures totals { IfOk result (TranslatesAndCounts R.remaining W.contents reader.old reader.new
+    ensures totals { IfOk result (TranslatesWithTotals R.remaining W.contents reader.old reader.new
         writer.old writer.new (show_tc_text managed.now) (show_tc_counts managed.now)
         managed.now.max_octets) }
     // A fault has its cause (`IsCaused`), and a prefix of the listing of what was read is written.
@@ -105,7 +105,7 @@ pub fn check_tm<R: Read, W: Write>(
     ensures listing { OnOk result (Translates R.remaining W.contents reader.old reader.new
         writer.old writer.new (check_tm_text managed.now) managed.now.max_octets) }
     // The totals are those of what was read.
-    ensures totals { IfOk result (TranslatesAndCounts R.remaining W.contents reader.old reader.new
+    ensures totals { IfOk result (TranslatesWithTotals R.remaining W.contents reader.old reader.new
         writer.old writer.new (check_tm_text managed.now) (check_tm_counts managed.now)
         managed.now.max_octets) }
     // A fault has its cause (`IsCaused`), and a prefix of the listing of what was read is written.
@@ -113,8 +113,8 @@ pub fn check_tm<R: Read, W: Write>(
         writer.old writer.new (check_tm_text managed.now) managed.now.max_octets chunk_size) }
     // Memory is refused only where a packet is incomplete on the virtual channel of a frame, before or after it.
     ensures memory { IfErr result (λ fault. fault ≡ LinkFault.Memory
-        → WantedMemory R.remaining reader.old reader.new (tm_frames_of managed.now.tm_length)
-        (WantsMemoryTm managed.now)) }
+        → MayRefuseMemoryAtSome R.remaining reader.old reader.new (tm_frames_of managed.now.tm_length)
+        (IsIncompleteAtLastTm managed.now)) }
 {
     let mut buffer = [0; CHUNK_SIZE];
     let mut framer = TmFramer::new(&managed.tm);
@@ -139,7 +139,7 @@ pub fn check_tc<R: Read, W: Write>(
     ensures listing { OnOk result (Translates R.remaining W.contents reader.old reader.new
         writer.old writer.new (check_tc_text managed.now) managed.now.max_octets) }
     // The totals are those of what was read.
-    ensures totals { IfOk result (TranslatesAndCounts R.remaining W.contents reader.old reader.new
+    ensures totals { IfOk result (TranslatesWithTotals R.remaining W.contents reader.old reader.new
         writer.old writer.new (check_tc_text managed.now) (check_tc_counts managed.now)
         managed.now.max_octets) }
     // A fault has its cause (`IsCaused`), and a prefix of the listing of what was read is written.
@@ -148,8 +148,8 @@ pub fn check_tc<R: Read, W: Write>(
     // Memory is refused only where the unit of a frame is accepted and a series is incomplete on
     // its MAP, before the frame or after it.
     ensures memory { IfErr result (λ fault. fault ≡ LinkFault.Memory
-        → WantedMemory R.remaining reader.old reader.new (tc_frames_of (tc_format managed.now))
-        (WantsMemoryTc managed.now)) }
+        → MayRefuseMemoryAtSome R.remaining reader.old reader.new (tc_frames_of (tc_format managed.now))
+        (IsIncompleteAtLastTc managed.now)) }
 {
     let mut buffer = [0; CHUNK_SIZE];
     let mut framer = TcFramer::new(&managed.tc);
@@ -174,7 +174,7 @@ pub fn packets_tm<R: Read, W: Write>(
     ensures listing { OnOk result (Translates R.remaining W.contents reader.old reader.new
         writer.old writer.new (packets_tm_text managed.now) managed.now.max_octets) }
     // The totals are those of what was read.
-    ensures totals { IfOk result (TranslatesAndCounts R.remaining W.contents reader.old reader.new
+    ensures totals { IfOk result (TranslatesWithTotals R.remaining W.contents reader.old reader.new
         writer.old writer.new (packets_tm_text managed.now) (tm_counts managed.now)
         managed.now.max_octets) }
     // A fault has its cause (`IsCaused`), and a prefix of the listing of what was read is written.
@@ -182,8 +182,8 @@ pub fn packets_tm<R: Read, W: Write>(
         writer.old writer.new (packets_tm_text managed.now) managed.now.max_octets chunk_size) }
     // Memory is refused only where a packet is incomplete on the virtual channel of a frame, before or after it.
     ensures memory { IfErr result (λ fault. fault ≡ LinkFault.Memory
-        → WantedMemory R.remaining reader.old reader.new (tm_frames_of managed.now.tm_length)
-        (WantsMemoryTm managed.now)) }
+        → MayRefuseMemoryAtSome R.remaining reader.old reader.new (tm_frames_of managed.now.tm_length)
+        (IsIncompleteAtLastTm managed.now)) }
 {
     let mut buffer = [0; CHUNK_SIZE];
     let mut framer = TmFramer::new(&managed.tm);
@@ -208,7 +208,7 @@ pub fn packets_tc<R: Read, W: Write>(
     ensures listing { OnOk result (Translates R.remaining W.contents reader.old reader.new
         writer.old writer.new (packets_tc_text managed.now) managed.now.max_octets) }
     // The totals are those of what was read.
-    ensures totals { IfOk result (TranslatesAndCounts R.remaining W.contents reader.old reader.new
+    ensures totals { IfOk result (TranslatesWithTotals R.remaining W.contents reader.old reader.new
         writer.old writer.new (packets_tc_text managed.now) (tc_counts managed.now)
         managed.now.max_octets) }
     // A fault has its cause (`IsCaused`), and a prefix of the listing of what was read is written.
@@ -217,8 +217,8 @@ pub fn packets_tc<R: Read, W: Write>(
     // Memory is refused only where the unit of a frame is accepted and a series is incomplete on
     // its MAP, before the frame or after it.
     ensures memory { IfErr result (λ fault. fault ≡ LinkFault.Memory
-        → WantedMemory R.remaining reader.old reader.new (tc_frames_of (tc_format managed.now))
-        (WantsMemoryTc managed.now)) }
+        → MayRefuseMemoryAtSome R.remaining reader.old reader.new (tc_frames_of (tc_format managed.now))
+        (IsIncompleteAtLastTc managed.now)) }
 {
     let mut buffer = [0; CHUNK_SIZE];
     let mut framer = TcFramer::new(&managed.tc);

@@ -2,16 +2,16 @@
 ghost use Rattle.std.specs.Prelude.{◌≡◌, ◌≢◌, [], ℕ, List, IfOk, IfErr, OnOk};
 ghost use Rattle.sl_tcframe.specs.TcDelimited.{tc_frames_of};
 ghost use Rattle.sl_tmframe.specs.TmDelimited.{tm_frames_of};
-ghost use Rattle.sl_link.specs.Kind.Delivery.{AreStored, MayWantMemory, counted, packets_of};
-ghost use Rattle.sl_link.specs.Kind.Tc.{MayWantMemoryTc, tc_counts, tc_packets};
-ghost use Rattle.sl_link.specs.Kind.Tm.{MayWantMemoryTm, tm_counts, tm_packets};
+ghost use Rattle.sl_link.specs.Kind.Delivery.{AreStored, MayRefuseMemory, counts_in, packets_of};
+ghost use Rattle.sl_link.specs.Kind.Tc.{MayRefuseMemoryTc, tc_counts, tc_packets};
+ghost use Rattle.sl_link.specs.Kind.Tm.{MayRefuseMemoryTm, tm_counts, tm_packets};
 ghost use Rattle.sl_link.specs.Link.Managed.{tc_format};
-ghost use Rattle.sl_link.specs.Normalise.Form.{HasSome, KeepsAll, form_text, listed};
+ghost use Rattle.sl_link.specs.Normalise.Form.{HasSome, StoresAll, form_text, listed};
 ghost use Rattle.sl_link.specs.Normalise.Tc.{tc_normal_form};
 ghost use Rattle.sl_link.specs.Normalise.Tm.{tm_normal_form};
 ghost use Rattle.sl_link.specs.Tally.{listing_counts};
-ghost use Rattle.sl_link.specs.Io.Streams.{IsRead, KeepsPackets, Stops, StopsReading, StopsWriting, Translates, TranslatesAndCounts, WritesText};
-ghost use Rattle.sl_link.specs.Pass.{WantedMemory, chunk_size};
+ghost use Rattle.sl_link.specs.Io.Streams.{IsRead, KeepsPackets, Stops, StopsReading, StopsWriting, Translates, TranslatesWithTotals, WritesText};
+ghost use Rattle.sl_link.specs.Pass.{MayRefuseMemoryAtSome, chunk_size};
 
 mod form;
 
@@ -48,7 +48,7 @@ pub fn normalise_tm<R: Read, W: Write>(
     ensures normal_form { OnOk result (Translates R.remaining W.contents reader.old reader.new
         writer.old writer.new (tm_normal_form managed.now) managed.now.max_octets) }
     // The totals are those of what was read.
-    ensures totals { IfOk result (TranslatesAndCounts R.remaining W.contents reader.old reader.new
+    ensures totals { IfOk result (TranslatesWithTotals R.remaining W.contents reader.old reader.new
         writer.old writer.new (tm_normal_form managed.now) (tm_counts managed.now)
         managed.now.max_octets) }
     // The normal form delivers the packets of the recording.
@@ -63,8 +63,8 @@ pub fn normalise_tm<R: Read, W: Write>(
     ensures nothing { IfErr result (λ fault. fault ≢ LinkFault.Write → writer.new ≡ writer.old) }
     // Memory is refused only where a packet is incomplete before a frame or after it, or was delivered.
     ensures memory { IfErr result (λ fault. fault ≡ LinkFault.Memory
-        → WantedMemory R.remaining reader.old reader.new (tm_frames_of managed.now.tm_length)
-        (MayWantMemoryTm managed.now)) }
+        → MayRefuseMemoryAtSome R.remaining reader.old reader.new (tm_frames_of managed.now.tm_length)
+        (MayRefuseMemoryTm managed.now)) }
 {
     let mut framer = TmFramer::new(&managed.tm);
     normalise::<Extractor, TmFramer, R, W>(alloc, managed, &mut framer, reader, writer)
@@ -88,7 +88,7 @@ pub fn normalise_tc<R: Read, W: Write>(
     ensures normal_form { OnOk result (Translates R.remaining W.contents reader.old reader.new
         writer.old writer.new (tc_normal_form managed.now) managed.now.max_octets) }
     // The totals are those of what was read.
-    ensures totals { IfOk result (TranslatesAndCounts R.remaining W.contents reader.old reader.new
+    ensures totals { IfOk result (TranslatesWithTotals R.remaining W.contents reader.old reader.new
         writer.old writer.new (tc_normal_form managed.now) (tc_counts managed.now)
         managed.now.max_octets) }
     // The normal form delivers the packets of the recording.
@@ -103,8 +103,8 @@ pub fn normalise_tc<R: Read, W: Write>(
     ensures nothing { IfErr result (λ fault. fault ≢ LinkFault.Write → writer.new ≡ writer.old) }
     // Memory is refused only where a series is incomplete before a frame or after it, or a packet was delivered.
     ensures memory { IfErr result (λ fault. fault ≡ LinkFault.Memory
-        → WantedMemory R.remaining reader.old reader.new (tc_frames_of (tc_format managed.now))
-        (MayWantMemoryTc managed.now)) }
+        → MayRefuseMemoryAtSome R.remaining reader.old reader.new (tc_frames_of (tc_format managed.now))
+        (MayRefuseMemoryTc managed.now)) }
 {
     let mut framer = TcFramer::new(&managed.tc);
     normalise::<Receiver, TcFramer, R, W>(alloc, managed, &mut framer, reader, writer)
@@ -191,9 +191,9 @@ fn normalise<D: Formed, F: Framer, R: Read, W: Write>(
     ensures normal_form { OnOk result (Translates R.remaining W.contents reader.old reader.new
         writer.old writer.new (form_text (D.kind managed.now) (D.form_of managed.now))
         managed.now.max_octets) }
-    ensures totals { IfOk result (TranslatesAndCounts R.remaining W.contents reader.old reader.new
+    ensures totals { IfOk result (TranslatesWithTotals R.remaining W.contents reader.old reader.new
         writer.old writer.new (form_text (D.kind managed.now) (D.form_of managed.now))
-        (listing_counts (counted (D.kind managed.now)) (D.kind managed.now).frames_of)
+        (listing_counts (counts_in (D.kind managed.now)) (D.kind managed.now).frames_of)
         managed.now.max_octets) }
     ensures packets { OnOk result (KeepsPackets R.remaining W.contents reader.old reader.new
         writer.old writer.new (packets_of (D.kind managed.now))) }
@@ -204,16 +204,16 @@ fn normalise<D: Formed, F: Framer, R: Read, W: Write>(
         → IsRead R.remaining reader.new) }
     ensures nothing { IfErr result (λ fault. fault ≢ LinkFault.Write → writer.new ≡ writer.old) }
     ensures memory { IfErr result (λ fault. fault ≡ LinkFault.Memory
-        → WantedMemory R.remaining reader.old reader.new (D.kind managed.now).frames_of
-        (MayWantMemory (D.kind managed.now) (D.wants_memory managed.now))) }
+        → MayRefuseMemoryAtSome R.remaining reader.old reader.new (D.kind managed.now).frames_of
+        (MayRefuseMemory (D.kind managed.now) (D.may_refuse_memory managed.now))) }
 {
-    let (delivered, totals) = deliver::<D, F, R>(alloc, managed, framer, reader)?;
+    let (delivered, totals) = store_packets::<D, F, R>(alloc, managed, framer, reader)?;
     D::write(alloc, managed, &delivered, writer)?;
     Ok(totals)
 }
 
-/// Reads a recording to its end, and keeps the packets that its frames deliver.
-pub fn deliver<D: Delivery, F: Framer, R: Read>(
+/// Reads a recording to its end, and stores the packets that its frames deliver.
+pub fn store_packets<D: Delivery, F: Framer, R: Read>(
     alloc: Global,
     managed: &Managed,
     framer: &mut F,
@@ -222,13 +222,13 @@ pub fn deliver<D: Delivery, F: Framer, R: Read>(
     requires none { F.waits framer.old managed.now [] }
     requires same { (frame : List ℕ) → F.is_frame managed.now frame → D.is_frame managed.now frame }
     requires frames { F.frames_of managed.now ≡ (D.kind managed.now).frames_of }
-    ensures all { IfOk result (λ kept. KeepsAll R.remaining reader.old reader.new
-        (D.kind managed.now) managed.now.max_octets kept.0.lists kept.1) }
+    ensures all { IfOk result (λ stored. StoresAll R.remaining reader.old reader.new
+        (D.kind managed.now) managed.now.max_octets stored.0.lists stored.1) }
     ensures stopped { IfErr result (StopsReading R.remaining reader.old reader.new
         managed.now.max_octets chunk_size) }
     ensures memory { IfErr result (λ fault. fault ≡ LinkFault.Memory
-        → WantedMemory R.remaining reader.old reader.new (D.kind managed.now).frames_of
-        (MayWantMemory (D.kind managed.now) (D.wants_memory managed.now))) }
+        → MayRefuseMemoryAtSome R.remaining reader.old reader.new (D.kind managed.now).frames_of
+        (MayRefuseMemory (D.kind managed.now) (D.may_refuse_memory managed.now))) }
 {
     let mut buffer = [0; CHUNK_SIZE];
     let mut store = Store {
@@ -245,7 +245,7 @@ pub fn deliver<D: Delivery, F: Framer, R: Read>(
     Ok((delivered, so_far.totals(octets - so_far.octets(), 0)))
 }
 
-// Keeps the packets that frames deliver.
+// Stores the packets that frames deliver.
 #[derive(Drop)]
 struct Store<D: Delivery> {
     delivery: D,
@@ -254,7 +254,7 @@ struct Store<D: Delivery> {
 }
 
 impl<D: Delivery> FrameSink for Store<D> {
-    ghost use Rattle.sl_link.specs.Kind.Delivery.{AreStored, HasDelivered, MayWantMemory};
+    ghost use Rattle.sl_link.specs.Kind.Delivery.{AreStored, HasDelivered, MayRefuseMemory};
     ghost use Rattle.sl_link.specs.Normalise.Form.{IsRefused};
 
     ghost is_frame = { D.is_frame };
@@ -262,8 +262,8 @@ impl<D: Delivery> FrameSink for Store<D> {
     ghost took = { λ p start now frames. HasDelivered (D.kind p) (D.has_processed now.delivery p)
         frames 0 now.so_far × AreStored (D.kind p) frames now.delivered.lists };
 
-    ghost stopped = { λ p start now frames fault. IsRefused (MayWantMemory (D.kind p)
-        (D.wants_memory p) frames) fault };
+    ghost stopped = { λ p start now frames fault. IsRefused (MayRefuseMemory (D.kind p)
+        (D.may_refuse_memory p) frames) fault };
 
     fn frame(&mut self, managed: &Managed, frame: &[u8]) -> Result<(), LinkFault> {
         let (report, _) = self.delivery.deliver(managed, frame, &mut self.delivered)?;

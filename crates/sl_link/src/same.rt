@@ -3,18 +3,18 @@ ghost use Rattle.std.specs.Prelude.{◌≡◌, ◌⊎◌, [], ℕ, List, IfOk, I
 ghost use Rattle.sl_tcframe.specs.TcDelimited.{tc_frames_of};
 ghost use Rattle.sl_tmframe.specs.TmDelimited.{tm_frames_of};
 ghost use Rattle.sl_link.specs.Io.Streams.{ReadsAll, StopsReading};
-ghost use Rattle.sl_link.specs.Kind.Delivery.{MayWantMemory, packets_of};
-ghost use Rattle.sl_link.specs.Kind.Tc.{MayWantMemoryTc, tc_packets};
-ghost use Rattle.sl_link.specs.Kind.Tm.{MayWantMemoryTm, tm_packets};
+ghost use Rattle.sl_link.specs.Kind.Delivery.{MayRefuseMemory, packets_of};
+ghost use Rattle.sl_link.specs.Kind.Tc.{MayRefuseMemoryTc, tc_packets};
+ghost use Rattle.sl_link.specs.Kind.Tm.{MayRefuseMemoryTm, tm_packets};
 ghost use Rattle.sl_link.specs.Link.Managed.{tc_format};
-ghost use Rattle.sl_link.specs.Pass.{WantedMemory, chunk_size};
+ghost use Rattle.sl_link.specs.Pass.{MayRefuseMemoryAtSome, chunk_size};
 ghost use Rattle.sl_link.specs.Same.{ComparesPackets};
 
 use crate::kind::Delivery;
 use crate::link::counted::Counted;
 use crate::link::fault::LinkFault;
 use crate::link::managed::Managed;
-use crate::normalise::deliver;
+use crate::normalise::store_packets;
 use crate::pass::Framer;
 use sl_tcflow::Receiver;
 use sl_tcframe::TcFramer;
@@ -50,9 +50,9 @@ pub fn same_packets_tm<A: Read, B: Read>(
     // Memory is refused only where, in one recording, a packet is incomplete before a frame or
     // after it, or was delivered.
     ensures memory { IfErr result (λ fault. fault ≡ LinkFault.Memory
-        → WantedMemory A.remaining one.old one.new (tm_frames_of managed.now.tm_length)
-        (MayWantMemoryTm managed.now) ⊎ WantedMemory B.remaining other.old other.new
-        (tm_frames_of managed.now.tm_length) (MayWantMemoryTm managed.now)) }
+        → MayRefuseMemoryAtSome A.remaining one.old one.new (tm_frames_of managed.now.tm_length)
+        (MayRefuseMemoryTm managed.now) ⊎ MayRefuseMemoryAtSome B.remaining other.old other.new
+        (tm_frames_of managed.now.tm_length) (MayRefuseMemoryTm managed.now)) }
 {
     let framers = (TmFramer::new(&managed.tm), TmFramer::new(&managed.tm));
     same_packets::<Extractor, TmFramer, A, B>(alloc, managed, framers, one, other)
@@ -65,8 +65,8 @@ pub fn same_packets_tm<A: Read, B: Read>(
 ///
 /// The fault is `Read` where a reader had one, `TooLong` where more octets came from a reader than the managed limit,
 /// and `Memory` where memory was refused. Memory is wanted only where the unit of a frame is accepted and a series is
-/// incomplete on its MAP, before the frame or after it, or where a packet was delivered. Where the first recording isn't
-/// read to its end, nothing is read of the other one.
+/// incomplete on its MAP, before the frame or after it, or where a packet was delivered. Where the first recording
+/// isn't read to its end, nothing is read of the other one.
 pub fn same_packets_tc<A: Read, B: Read>(
     alloc: Global,
     managed: &Managed,
@@ -85,9 +85,9 @@ pub fn same_packets_tc<A: Read, B: Read>(
     // Memory is refused only where, in one recording, a series is incomplete before a frame or
     // after it, or a packet was delivered.
     ensures memory { IfErr result (λ fault. fault ≡ LinkFault.Memory
-        → WantedMemory A.remaining one.old one.new (tc_frames_of (tc_format managed.now))
-        (MayWantMemoryTc managed.now) ⊎ WantedMemory B.remaining other.old other.new
-        (tc_frames_of (tc_format managed.now)) (MayWantMemoryTc managed.now)) }
+        → MayRefuseMemoryAtSome A.remaining one.old one.new (tc_frames_of (tc_format managed.now))
+        (MayRefuseMemoryTc managed.now) ⊎ MayRefuseMemoryAtSome B.remaining other.old other.new
+        (tc_frames_of (tc_format managed.now)) (MayRefuseMemoryTc managed.now)) }
 {
     let framers = (TcFramer::new(&managed.tc), TcFramer::new(&managed.tc));
     same_packets::<Receiver, TcFramer, A, B>(alloc, managed, framers, one, other)
@@ -111,13 +111,13 @@ fn same_packets<D: Delivery, F: Framer + Drop, A: Read, B: Read>(
         ⊎ (((octets : List ℕ) × ReadsAll A.remaining one.old one.new managed.now.max_octets octets)
         × StopsReading B.remaining other.old other.new managed.now.max_octets chunk_size fault)) }
     ensures memory { IfErr result (λ fault. fault ≡ LinkFault.Memory
-        → WantedMemory A.remaining one.old one.new (D.kind managed.now).frames_of
-        (MayWantMemory (D.kind managed.now) (D.wants_memory managed.now))
-        ⊎ WantedMemory B.remaining other.old other.new (D.kind managed.now).frames_of
-        (MayWantMemory (D.kind managed.now) (D.wants_memory managed.now))) }
+        → MayRefuseMemoryAtSome A.remaining one.old one.new (D.kind managed.now).frames_of
+        (MayRefuseMemory (D.kind managed.now) (D.may_refuse_memory managed.now))
+        ⊎ MayRefuseMemoryAtSome B.remaining other.old other.new (D.kind managed.now).frames_of
+        (MayRefuseMemory (D.kind managed.now) (D.may_refuse_memory managed.now))) }
 {
     let (mut framer, mut other_framer) = framers;
-    let (kept, _) = deliver::<D, F, A>(alloc, managed, &mut framer, one)?;
-    let (others, _) = deliver::<D, F, B>(alloc, managed, &mut other_framer, other)?;
-    Ok(kept.has_same_packets(&others))
+    let (stored, _) = store_packets::<D, F, A>(alloc, managed, &mut framer, one)?;
+    let (others, _) = store_packets::<D, F, B>(alloc, managed, &mut other_framer, other)?;
+    Ok(stored.has_same_packets(&others))
 }

@@ -20,8 +20,8 @@ use crate::pass::{FrameSink, Framer, read_recording};
 use std::io::{Read, Write};
 
 /// A verb that lists, `show`, `check` or `packets`, for one kind of frames. A clause with `before`
-/// or `frames` holds whichever frames were listed before. After a fault too the output has the writer
-/// that was lent (`lent`), and a beginning of what waited and was added is written (`fault`).
+/// or `frames` holds whichever frames were listed before. Also after a fault the output has the writer
+/// that was lent (`lent`), and a beginning of what waited and was to be added is written (`fault`).
 pub trait Verb {
     ghost use Rattle.sl_link.specs.Link.Managed.{Parameters};
     ghost use Rattle.sl_link.specs.Verbs.Listing.{Frames, Listing};
@@ -36,7 +36,7 @@ pub trait Verb {
     ghost has_listed: { Self → Parameters → Frames → Type 0 };
 
     /// Memory may be refused at the last of these frames.
-    ghost wants_memory: { Parameters → Frames → Type 0 };
+    ghost may_refuse_memory: { Parameters → Frames → Type 0 };
 
     /// Adds the lines of the next frame. Lines are written where room is wanted.
     fn frame<W: Write>(&mut self, managed: &Managed, frame: &[u8], out: &mut Output<W>) -> Written
@@ -52,7 +52,7 @@ pub trait Verb {
             → has_listed self.old managed.now before
             → StopsWriting W.contents out.old.writer.now out.new.writer.now
             (out.old.lines ++ (listing managed.now).line before frame.now)
-            (wants_memory managed.now (before ++ frame.now ∷ [])) fault) };
+            (may_refuse_memory managed.now (before ++ frame.now ∷ [])) fault) };
 
     /// Adds the lines after the last frame of a recording of `octets` octets, and answers the totals.
     fn finish<W: Write>(
@@ -96,12 +96,13 @@ impl<'a, 'b, 'c, W: Write, V: Verb> FrameSink for Lister<'a, 'b, 'c, W, V> {
         × (now.out.ghost_name ≡ start.out.ghost_name) × V.has_listed now.verb.now p frames
         × Adds W.contents start.out.now (lines_from (V.listing p).line [] frames) now.out.now };
 
-    // The output is the one that was lent, and a beginning of the lines of these frames was written.
+    // The output and its writer are those that were lent, and a beginning of what waited and of the lines of these
+    // frames was written.
     ghost stopped = { λ p start now frames fault. (now.out.ghost_name ≡ start.out.ghost_name)
         × KeepsWriter start.out.now now.out.now
         × StopsWriting W.contents start.out.now.writer.now now.out.now.writer.now
         (start.out.now.lines ++ lines_from (V.listing p).line [] frames)
-        (V.wants_memory p frames) fault };
+        (V.may_refuse_memory p frames) fault };
 
     fn frame(&mut self, managed: &Managed, frame: &[u8]) -> Written {
         self.verb.frame(managed, frame, self.out)
@@ -136,7 +137,7 @@ fn list_frames<F: Framer, V: Verb, R: Read, W: Write>(
         (λ frames fault. KeepsWriter out.old out.new
         × StopsWriting W.contents out.old.writer.now out.new.writer.now
         (out.old.lines ++ lines_from (V.listing managed.now).line [] frames)
-        (V.wants_memory managed.now frames) fault) managed.now.max_octets (length buffer.old)) }
+        (V.may_refuse_memory managed.now frames) fault) managed.now.max_octets (length buffer.old)) }
 {
     let managed = *managed;
     let mut lister = Lister { verb, out };
@@ -160,7 +161,7 @@ fn list_into<F: Framer, V: Verb, R: Read, W: Write>(
     ensures { KeepsWriter out.old out.new
         × EndsListing R.remaining W.contents reader.old reader.new out.old.writer.now
         out.new.writer.now (F.frames_of managed.now) (V.listing managed.now)
-        managed.now.max_octets (length buffer.old) (V.wants_memory managed.now) result }
+        managed.now.max_octets (length buffer.old) (V.may_refuse_memory managed.now) result }
 {
     let octets = list_frames(managed, framer, verb, reader, out, buffer)?;
     let totals = verb.finish(managed, octets, out)?;
@@ -183,7 +184,7 @@ pub fn list<F: Framer, V: Verb, R: Read, W: Write>(
     requires begun { V.has_listed verb.old managed.now [] }
     ensures { EndsListing R.remaining W.contents reader.old reader.new writer.old writer.new
         (F.frames_of managed.now) (V.listing managed.now) managed.now.max_octets
-        (length buffer.old) (V.wants_memory managed.now) result }
+        (length buffer.old) (V.may_refuse_memory managed.now) result }
 {
     let mut out = Output {
         writer,

@@ -10,7 +10,7 @@ use Rattle.sl_tcflow.specs.AcceptedUnit.{channel_of, event_of, farm_after, unit_
 use Rattle.sl_tcflow.specs.Incomplete.{incomplete_of}
 use Rattle.sl_tcflow.specs.Reception.{packets_ended, segments_of}
 use Rattle.sl_tcflow.specs.ReceptionParameters.{ReceptionParameters, is_plain, initial_vr}
-use Rattle.sl_tcflow.specs.Recording.{packets_in_channel}
+use Rattle.sl_tcflow.specs.Recording.{packets_of_channel}
 use Rattle.sl_tcflow.specs.Series.{header_at, segment_in}
 
 -- the channel of a virtual channel and a MAP
@@ -152,4 +152,4 @@ handed_over r channel views (next ∷ later) =
 abbrev pub DeliveredAreHandedOver : Type 0
 DeliveredAreHandedOver =
     (r : ReceptionParameters) (channel : ℕ) (views : List TcView)
-    → handed_over r channel [] views ≡ without_idle (packets_in_channel r views channel)
+    → handed_over r channel [] views ≡ without_idle (packets_of_channel r views channel)

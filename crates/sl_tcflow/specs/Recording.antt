@@ -19,11 +19,11 @@ unfoldable pub map_channels : List ℕ
 map_channels = range_with_len 0 channel_count
 
 -- the packets of a channel, idle ones included
-abbrev pub packets_in_channel : ReceptionParameters → List TcView → ℕ → List (List ℕ)
-packets_in_channel r views channel = packets_of_segments (segments_of r (channel / 64) (channel % 64) views)
+abbrev pub packets_of_channel : ReceptionParameters → List TcView → ℕ → List (List ℕ)
+packets_of_channel r views channel = packets_of_segments (segments_of r (channel / 64) (channel % 64) views)
 
 -- the packets that a recording delivers under these parameters of reception, idle packets left out:
 -- 4,096 lists, one for each channel in order
 abbrev pub tc_lists : TcFormat → ℕ → ReceptionParameters → List ℕ → List (List (List ℕ))
 tc_lists format spacecraft r recording =
-    map (λ channel. without_idle (packets_in_channel r (recorded_views format spacecraft recording) channel)) map_channels
+    map (λ channel. without_idle (packets_of_channel r (recorded_views format spacecraft recording) channel)) map_channels

@@ -1,18 +1,19 @@
 //! Callers whose own contract is what the laws of FARM-1 promise, of a FARM-1 and a window that they
 //! are lent: nothing is known of how these were made.
-mod extractor;
+pub mod extractor;
+pub mod forms;
+#[cfg(test)]
+mod tests;
 
 ghost use Rattle.std.specs.Prelude.{◌≡◌, [], ◌∷◌, List};
 ghost use Rattle.sl_cop.specs.Farm.{FarmState, IsRun, IsStep, farm_start};
 ghost use Rattle.sl_cop.specs.declared.verdict.Verdict as specs;
 
-use crate::support::cop::{farm, window};
-use crate::support::rows::{Stop, passes};
 use sl_cop::laws::{events_have_one_run, events_have_one_step};
 use sl_cop::{Farm, FarmEvent, Verdict, Window};
 
-// The next step of FARM-1, on a copy. The step is a case of the table, and the table has no other.
-fn next_step(farm: &Farm, event: FarmEvent) -> (Verdict, Farm)
+/// The next step of FARM-1, on a copy. The step is a case of the table, and the table has no other.
+pub fn next_step(farm: &Farm, event: FarmEvent) -> (Verdict, Farm)
     ensures is { IsStep farm.now.window farm.now.state event result.0 result.1.state }
     ensures only { (verdict : specs.Verdict) (t : FarmState)
         → IsStep farm.now.window farm.now.state event verdict t
@@ -26,8 +27,8 @@ fn next_step(farm: &Farm, event: FarmEvent) -> (Verdict, Farm)
     (verdict, next)
 }
 
-// The verdicts on two events from a V(R) on. Every run over these events has these verdicts.
-fn two_steps(window: &Window, vr: u8, first: FarmEvent, second: FarmEvent) -> (Verdict, Verdict)
+/// The verdicts on two events from a V(R) on. Every run over these events has these verdicts.
+pub fn two_steps(window: &Window, vr: u8, first: FarmEvent, second: FarmEvent) -> (Verdict, Verdict)
     ensures { (verdicts : List specs.Verdict) (t : FarmState)
         → IsRun window.now (farm_start vr) (first ∷ second ∷ []) verdicts t
         → result.0 ∷ result.1 ∷ [] ≡ verdicts }
@@ -38,28 +39,4 @@ fn two_steps(window: &Window, vr: u8, first: FarmEvent, second: FarmEvent) -> (V
     let mut farm = Farm::new(*window, vr);
     let verdict = farm.step(first);
     (verdict, farm.step(second))
-}
-
-// Whether a FARM-1 that is lent stays, and its next step is that of the table.
-fn is_left_as_it_was() -> Result<bool, Stop> {
-    let lent = farm(10, 255)?;
-    let (verdict, next) = next_step(&lent, FarmEvent::Ad(255));
-    Ok(verdict == Verdict::Accept && next.vr() == 0 && lent.vr() == 255)
-}
-
-// Whether the second of two frames is refused, since the first has locked FARM-1 out.
-fn is_decided() -> Result<bool, Stop> {
-    let lent = window(10).ok_or(Stop::Absent)?;
-    let verdicts = two_steps(&lent, 0, FarmEvent::Ad(5), FarmEvent::Ad(0));
-    Ok(verdicts == (Verdict::Outside, Verdict::Refused))
-}
-
-#[test]
-fn a_lent_farm_takes_the_step_of_the_table(rt: HostRuntime) {
-    passes(&rt, &"N(S) 255 at V(R) 255", is_left_as_it_was());
-}
-
-#[test]
-fn a_lent_window_decides_a_run(rt: HostRuntime) {
-    passes(&rt, &"N(S) 5, then 0, at V(R) 0", is_decided());
 }

@@ -1,9 +1,9 @@
 //! Tests of the public calls of the libraries below `sl_link`, a module each: what is expected is known from outside.
-//! They stand in a crate of their own, since a crate with tests is proved once more with them.
+//! They stand in a crate of their own, since a crate with tests is proved once more with them. The functions of
+//! `callers` have contracts, so they stand outside the tests, where a wrong body of one is refused.
 #![tactic(auto)]
 
-#[cfg(test)]
-mod callers;
+pub mod callers;
 #[cfg(test)]
 mod cop;
 #[cfg(test)]

@@ -1,4 +1,3 @@
-mod caller;
 mod channels;
 mod command_line;
 mod faults;

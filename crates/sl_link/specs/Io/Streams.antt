@@ -48,10 +48,10 @@ pub record ReadsAll {R : Type 0} (remaining : R → Option (List ℕ)) (old new 
   pub to_end : IsRead remaining new
   pub no_fault : faults_of new ≡ faults_of old
 
--- A fault has its cause, and no other: at most the stream that it names had a fault. At `TooLong`
--- more octets than the limit were read, by `past` at most, and at any other fault no more than the
--- limit. No clause can say that memory was refused. Where no reader or no writer takes part
--- `no_stream` stands for it. That has had no fault, so no fault names it.
+-- An engine's fault has its cause, and no other: at most the stream that it names had a fault of its own. At `TooLong`
+-- more octets than the limit were read, by `past` at most, and at any other fault no more than the limit. No clause can
+-- say that memory was refused. Where no reader or no writer takes part, `no_stream` stands for it. That stream has had no
+-- fault, so no engine's fault names it.
 abbrev pub IsCaused : {R W : Type 0} → Counted R → Counted R → Counted W → Counted W → ℕ → ℕ → List ℕ → LinkFault → Type 0
 IsCaused reader reader' writer writer' limit past octets Read =
     HadOneFault reader reader' × (faults_of writer' ≡ faults_of writer) × (length octets ≤ limit)
@@ -84,7 +84,8 @@ pub record AddsText {W : Type 0} (contents : W → Option (List ℕ)) (old new :
   pub no_fault : faults_of new ≡ faults_of old
 
 -- A prefix of the text was written, and then the fault came: `Write`, or `Memory` where `at_memory`
--- holds. So it is `Write` where `at_memory` is ⊥. No octet is read, so it is never `Read` or `TooLong`.
+-- holds. So it is `Write` where `at_memory` is ⊥. No reader takes part and no octet is read, so it is never
+-- `Read` or `TooLong`.
 pub record StopsWriting {W : Type 0} (contents : W → Option (List ℕ)) (old new : Counted W) (text : List ℕ)
     (at_memory : Type 0) (fault : LinkFault) : Type 0 where
   pub front : WritesPrefix contents old new text
@@ -107,10 +108,10 @@ module _ {R W : Type 0} (remaining : R → Option (List ℕ)) (contents : W → 
 
   -- The same, and the totals are the counts of the same octets. Streams that don't report these
   -- leave the totals open.
-  pub record TranslatesAndCounts (reader reader' : Counted R) (writer writer' : Counted W) (text : List ℕ → List ℕ)
+  pub record TranslatesWithTotals (reader reader' : Counted R) (writer writer' : Counted W) (text : List ℕ → List ℕ)
       (counts : List ℕ → Counts) (limit : ℕ) (totals : Counts) : Type 0 where
     pub translated : Translates reader reader' writer writer' text limit
-    pub counted : totals ≡ counts translated.octets
+    pub totals_are : totals ≡ counts translated.octets
 
   -- What was written, taken as a recording, delivers the same packets as what was read. `packets`
   -- gives the packets of a recording.

@@ -17,7 +17,7 @@ pub record Kind : Type 0 where
   pub is_skipped : List ℕ → Bool
   -- the numbers of the channels, and how many there are
   pub channels : List ℕ
-  pub limit : ℕ
+  pub channel_limit : ℕ
   -- the channel of the packets that end in a frame
   pub channel : List ℕ → ℕ
   -- the packets that end in a frame that comes after others, idle ones included
@@ -53,9 +53,9 @@ number_of_packets k frames = count_of (lists_in k frames)
 abbrev pub number_of_idle : Kind → List (List ℕ) → ℕ
 number_of_idle k frames = count_of (map (λ channel. only_idle (k.packets frames channel)) k.channels)
 
--- the counts of frames and of a remainder of so many octets
-abbrev pub counted : Kind → List (List ℕ) → ℕ → Counts
-counted k frames remainder =
+-- the counts in frames, and a remainder of this many octets
+abbrev pub counts_in : Kind → List (List ℕ) → ℕ → Counts
+counts_in k frames remainder =
     counts_with (length (concat frames) + remainder) (length frames) (skipped_in k.is_skipped frames) remainder
     (number_of_packets k frames) (number_of_idle k frames) 0
 
@@ -68,9 +68,9 @@ pub record AreDelivered (k : Kind) : Type 0 where
       ≡ k.packets frames (k.channel frame) ++ k.ended frames frame
   pub other : (frames : List (List ℕ)) (frame : List ℕ) (channel : ℕ) → k.channel frame ≢ channel
       → k.packets (frames ++ frame ∷ []) channel ≡ k.packets frames channel
-  pub inside : (frame : List ℕ) → k.channel frame < k.limit
-  pub few : k.limit ≤ channel_count
-  pub all : k.channels ≡ range_with_len 0 k.limit
+  pub inside : (frame : List ℕ) → k.channel frame < k.channel_limit
+  pub few : k.channel_limit ≤ channel_count
+  pub all : k.channels ≡ range_with_len 0 k.channel_limit
 
 -- ---- while frames are processed. Contracts of private functions alone cite this section.
 
@@ -105,7 +105,7 @@ pub record HasDelivered (k : Kind) (had : List (List ℕ) → Type 0) (frames : 
   pub counts : t ≡ counts_so_far k.is_skipped frames (number_of_packets k frames) (number_of_idle k frames) anomalies
   pub few : anomalies + length frames ≤ length (concat frames)
 
--- ---- packets that are kept
+-- ---- packets that are stored
 
 -- the lists with packets added to that of a channel
 abbrev pub with_packets : List (List (List ℕ)) → ℕ → List (List ℕ) → List (List (List ℕ))
@@ -114,11 +114,11 @@ with_packets lists channel packets = slice_set lists channel (slice_index_or lis
 -- each list has the packets of its channel, idle packets left out, and the lists past the last channel have none
 pub record AreStored (k : Kind) (frames : List (List ℕ)) (lists : List (List (List ℕ))) : Type 0 where
   pub size : length lists ≡ channel_count
-  pub each : (channel : ℕ) → channel < k.limit
+  pub each : (channel : ℕ) → channel < k.channel_limit
       → slice_index_or lists channel [] ≡ without_idle (k.packets frames channel)
-  pub none_past : (channel : ℕ) → k.limit ≤ channel → slice_index_or lists channel [] ≡ []
+  pub none_past : (channel : ℕ) → k.channel_limit ≤ channel → slice_index_or lists channel [] ≡ []
 
 -- memory may be refused at the last of these frames: for what is incomplete before or after it, or
 -- since they deliver a packet
-abbrev pub MayWantMemory : Kind → (List (List ℕ) → Type 0) → List (List ℕ) → Type 0
-MayWantMemory k wants_memory frames = wants_memory frames ⊎ (0 < number_of_packets k frames)
+abbrev pub MayRefuseMemory : Kind → (List (List ℕ) → Type 0) → List (List ℕ) → Type 0
+MayRefuseMemory k may_refuse_memory frames = may_refuse_memory frames ⊎ (0 < number_of_packets k frames)

@@ -9,9 +9,9 @@ use Rattle.sl_tcflow.specs.AcceptedUnit.{views_of}
 use Rattle.sl_tcflow.specs.Anomaly.{dropped_by, long_by, stray_by, tail_by}
 use Rattle.sl_tcflow.specs.Receiving.{HasProcessed, IsIncompleteAround, ReceiverState, ended_by, held_in, map_by, unit_channel, verdict_on}
 use Rattle.sl_tcflow.specs.ReceptionParameters.{ReceptionParameters}
-use Rattle.sl_tcflow.specs.Recording.{map_channels, packets_in_channel, tc_lists}
+use Rattle.sl_tcflow.specs.Recording.{map_channels, packets_of_channel, tc_lists}
 use Rattle.sl_link.specs.declared.kind.TcFound.{TcFound}
-use Rattle.sl_link.specs.Kind.Delivery.{IsWithin, Kind, MayWantMemory, count_of, counted, number_of_idle, number_of_packets}
+use Rattle.sl_link.specs.Kind.Delivery.{IsWithin, Kind, MayRefuseMemory, count_of, counts_in, number_of_idle, number_of_packets}
 use Rattle.sl_link.specs.Link.Managed.{Parameters, reception_of, tc_format}
 use Rattle.sl_link.specs.Link.Totals.{Counts}
 use Rattle.sl_link.specs.Tally.{listing_counts}
@@ -68,11 +68,11 @@ tc_kind p =
       frames_of = tc_frames_of (tc_format p);
       is_skipped = λ frame. is_err (as_read p frame);
       channels = map_channels;
-      limit = channel_count;
+      channel_limit = channel_count;
       channel = λ frame. unit_channel_of (reception_of p) (as_read p frame);
       ended = λ before frame. ended_in (reception_of p) (views_of (tc_format p) p.spacecraft before) (as_read p frame);
       packets = λ frames channel.
-          packets_in_channel (reception_of p) (views_of (tc_format p) p.spacecraft frames) channel;
+          packets_of_channel (reception_of p) (views_of (tc_format p) p.spacecraft frames) channel;
     }
 
 -- the packets that a recording delivers on each virtual channel and MAP, without idle ones
@@ -80,15 +80,15 @@ abbrev pub tc_packets : Parameters → List ℕ → List (List (List ℕ))
 tc_packets p recording = tc_lists (tc_format p) p.spacecraft (reception_of p) recording
 
 -- what is counted in frames, and a remainder of this many octets
-abbrev pub tc_counted : Parameters → List (List ℕ) → ℕ → Counts
-tc_counted p = counted (tc_kind p)
+abbrev pub tc_counts_in : Parameters → List (List ℕ) → ℕ → Counts
+tc_counts_in p = counts_in (tc_kind p)
 
 -- what is counted in a recording
 abbrev pub tc_counts : Parameters → List ℕ → Counts
-tc_counts p = listing_counts (tc_counted p) (tc_frames_of (tc_format p))
+tc_counts p = listing_counts (tc_counts_in p) (tc_frames_of (tc_format p))
 
 -- a series is incomplete before or after the last of these frames, on the MAP of its unit, which is accepted
-pub record WantsMemoryTc (p : Parameters) (frames : List (List ℕ)) : Type 0 where
+pub record IsIncompleteAtLastTc (p : Parameters) (frames : List (List ℕ)) : Type 0 where
   pub before : List (List ℕ)
   pub frame : List ℕ
   pub in_order : frames ≡ before ++ frame ∷ []
@@ -97,8 +97,8 @@ pub record WantsMemoryTc (p : Parameters) (frames : List (List ℕ)) : Type 0 wh
   pub incomplete : IsIncompleteAround (reception_of p) (views_of (tc_format p) p.spacecraft before) view
 
 -- the same, or these frames deliver a packet
-abbrev pub MayWantMemoryTc : Parameters → List (List ℕ) → Type 0
-MayWantMemoryTc p = MayWantMemory (tc_kind p) (WantsMemoryTc p)
+abbrev pub MayRefuseMemoryTc : Parameters → List (List ℕ) → Type 0
+MayRefuseMemoryTc p = MayRefuseMemory (tc_kind p) (IsIncompleteAtLastTc p)
 
 -- ---- a receiver. Contracts of private functions alone cite this.
 

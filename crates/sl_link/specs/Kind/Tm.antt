@@ -8,7 +8,7 @@ use Rattle.sl_tmflow.specs.Channel.{channel_of, views_of}
 use Rattle.sl_tmflow.specs.Extraction.{ExtractorState, HasProcessed, IsIncompleteAround, ended_by}
 use Rattle.sl_tmflow.specs.Recording.{packets_of_channel, tm_lists, virtual_channels}
 use Rattle.sl_link.specs.declared.kind.TmFound.{TmFound}
-use Rattle.sl_link.specs.Kind.Delivery.{IsWithin, Kind, MayWantMemory, counted}
+use Rattle.sl_link.specs.Kind.Delivery.{IsWithin, Kind, MayRefuseMemory, counts_in}
 use Rattle.sl_link.specs.Link.Managed.{Parameters, tm_format}
 use Rattle.sl_link.specs.Link.Totals.{Counts}
 use Rattle.sl_link.specs.Tally.{listing_counts}
@@ -62,7 +62,7 @@ tm_kind p =
       frames_of = tm_frames_of p.tm_length;
       is_skipped = λ frame. is_err (as_read p frame);
       channels = virtual_channels;
-      limit = 8;
+      channel_limit = 8;
       channel = λ frame. vc_of (as_read p frame);
       ended = λ before frame. ended_in (views_of (tm_format p) p.spacecraft before) (as_read p frame);
       packets = λ frames vc. packets_of_channel (views_of (tm_format p) p.spacecraft frames) vc;
@@ -73,15 +73,15 @@ abbrev pub tm_packets : Parameters → List ℕ → List (List (List ℕ))
 tm_packets p recording = tm_lists (tm_format p) p.spacecraft recording
 
 -- what is counted in frames, and a remainder of this many octets
-abbrev pub tm_counted : Parameters → List (List ℕ) → ℕ → Counts
-tm_counted p = counted (tm_kind p)
+abbrev pub tm_counts_in : Parameters → List (List ℕ) → ℕ → Counts
+tm_counts_in p = counts_in (tm_kind p)
 
 -- what is counted in a recording
 abbrev pub tm_counts : Parameters → List ℕ → Counts
-tm_counts p = listing_counts (tm_counted p) (tm_frames_of p.tm_length)
+tm_counts p = listing_counts (tm_counts_in p) (tm_frames_of p.tm_length)
 
 -- a packet is incomplete before or after the last of these frames, on its virtual channel
-pub record WantsMemoryTm (p : Parameters) (frames : List (List ℕ)) : Type 0 where
+pub record IsIncompleteAtLastTm (p : Parameters) (frames : List (List ℕ)) : Type 0 where
   pub before : List (List ℕ)
   pub frame : List ℕ
   pub in_order : frames ≡ before ++ frame ∷ []
@@ -90,8 +90,8 @@ pub record WantsMemoryTm (p : Parameters) (frames : List (List ℕ)) : Type 0 wh
   pub incomplete : IsIncompleteAround (views_of (tm_format p) p.spacecraft before) view
 
 -- the same, or these frames deliver a packet
-abbrev pub MayWantMemoryTm : Parameters → List (List ℕ) → Type 0
-MayWantMemoryTm p = MayWantMemory (tm_kind p) (WantsMemoryTm p)
+abbrev pub MayRefuseMemoryTm : Parameters → List (List ℕ) → Type 0
+MayRefuseMemoryTm p = MayRefuseMemory (tm_kind p) (IsIncompleteAtLastTm p)
 
 -- An extractor has processed these frames. Contracts of private functions alone cite this.
 pub record HasProcessedTm (p : Parameters) (state : ExtractorState) (frames : List (List ℕ)) : Type 0 where

@@ -1,4 +1,4 @@
--- The packets of a recording that are kept, and their normal form, which is made and written piece by piece, whatever
+-- The packets of a recording that are stored, and their normal form, which is made and written piece by piece, whatever
 -- kind its frames are.
 use Rattle.std.specs.Prelude.{◌≡◌, ◌<◌, ℕ, List, [], Option, take, ◌++◌}
 use Rattle.std.specs.List.{slice_index_or}
@@ -6,36 +6,36 @@ use Rattle.sl_link.specs.declared.link.counted.Counted.{Counted}
 use Rattle.sl_link.specs.declared.link.fault.LinkFault.{LinkFault}
 use Rattle.sl_link.specs.declared.link.fault.LinkFault.TheVariants.{Memory}
 use Rattle.sl_link.specs.Io.Streams.{ReadsAll}
-use Rattle.sl_link.specs.Kind.Delivery.{AreDelivered, AreStored, Kind, counted, packets_of}
+use Rattle.sl_link.specs.Kind.Delivery.{AreDelivered, AreStored, Kind, counts_in, packets_of}
 use Rattle.sl_link.specs.Link.Totals.{Counts}
 use Rattle.sl_link.specs.Tally.{listing_counts}
 
--- ---- what is kept
+-- ---- what is stored
 
 -- the normal form of a recording's packets
 abbrev pub form_text : Kind → (List (List (List ℕ)) → List ℕ) → List ℕ → List ℕ
 form_text k form_of recording = form_of (packets_of k recording)
 
--- the lists of the channels, of all that are kept
+-- the lists of the channels, of all that are stored
 abbrev pub listed : Kind → List (List (List ℕ)) → List (List (List ℕ))
-listed k lists = take k.limit lists
+listed k lists = take k.channel_limit lists
 
 -- not all of these are empty
 abbrev pub HasSome : Kind → List (List (List ℕ)) → Type 0
-HasSome k lists = ((channel : ℕ) → channel < k.limit → slice_index_or lists channel [] ≡ []) → ⊥
+HasSome k lists = ((channel : ℕ) → channel < k.channel_limit → slice_index_or lists channel [] ≡ []) → ⊥
 
--- all of a recording was read, its packets are kept, and these are its counts
-pub record KeepsAll {R : Type 0} (remaining : R → Option (List ℕ)) (reader reader' : Counted R) (k : Kind) (limit : ℕ)
+-- all of a recording was read, its packets are stored, and these are its counts
+pub record StoresAll {R : Type 0} (remaining : R → Option (List ℕ)) (reader reader' : Counted R) (k : Kind) (limit : ℕ)
     (lists : List (List (List ℕ))) (totals : Counts) : Type 0 where
   pub octets : List ℕ
   pub all : ReadsAll remaining reader reader' limit octets
   pub delivered : AreDelivered k
-  pub kept : AreStored k (k.frames_of octets) lists
-  pub counts : totals ≡ listing_counts (counted k) k.frames_of octets
+  pub stored : AreStored k (k.frames_of octets) lists
+  pub counts : totals ≡ listing_counts (counts_in k) k.frames_of octets
 
--- memory was refused, where it may be wanted
+-- memory was refused, where `at_memory` holds
 abbrev pub IsRefused : Type 0 → LinkFault → Type 0
-IsRefused wanted fault = (fault ≡ Memory) × wanted
+IsRefused at_memory fault = (fault ≡ Memory) × at_memory
 
 -- ---- a form that is made; `left` relates a form to the octets that are still to come
 
@@ -44,7 +44,7 @@ module _ {F : Type 0} (left : F → List ℕ → Type 0) where
   pub record AddsPiece (old : F) (text : List ℕ) (new : F) (text' : List ℕ) : Type 0 where
     pub piece : List ℕ
     pub added : text' ≡ text ++ piece
-    pub rest : (octets : List ℕ) → left old octets → (more : List ℕ) × ((octets ≡ piece ++ more) × left new more)
+    pub remainder : (octets : List ℕ) → left old octets → (more : List ℕ) × ((octets ≡ piece ++ more) × left new more)
 
   -- nothing is left
   abbrev pub IsAllMade : F → Type 0

@@ -117,6 +117,8 @@ sllink_with kinds = record {
       ∷ [];
 }
 
+-- ---- where the names of the kinds lie in memory
+
 -- where something lies in memory
 abbrev pub Address : Type 0
 Address = ℕ × ℕ

@@ -23,7 +23,7 @@ use Rattle.sl_link.specs.declared.link.fault.LinkFault.{LinkFault}
 use Rattle.sl_link.specs.declared.link.fault.LinkFault.TheVariants.{Memory, Write}
 use Rattle.sl_link.specs.Program.CommandLine.{AskFor}
 use Rattle.sl_link.specs.Pass.{chunk_size}
-use Rattle.sl_link.specs.Io.Streams.{IsRead, TranslatesAndCounts, Stops}
+use Rattle.sl_link.specs.Io.Streams.{IsRead, TranslatesWithTotals, Stops}
 
 -- the listing of its frames, of its anomalies or of its packets, or the normal form of its packets
 abbrev pub engine_text : VerbName → RecordingKind → Parameters → List ℕ → List ℕ
@@ -51,7 +51,7 @@ module _ {R W : Type 0} (remaining : R → Option (List ℕ)) (contents : W → 
   -- the engine's text of a recording was written, and the totals are its counts of it
   abbrev pub HasWritten : Counted R → Counted R → Counted W → Counted W → Asked → Parameters → Counts → Type 0
   HasWritten reader reader' writer writer' asked managed =
-      TranslatesAndCounts remaining contents reader reader' writer writer'
+      TranslatesWithTotals remaining contents reader reader' writer writer'
       (engine_text asked.verb asked.kind managed) (engine_counts asked.verb asked.kind managed)
       managed.max_octets
 

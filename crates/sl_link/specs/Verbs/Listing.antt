@@ -3,9 +3,9 @@ use Rattle.std.specs.Prelude.{◌≡◌, ℕ, List, [], ◌∷◌, ◌++◌, Opt
 use Rattle.sl_link.specs.declared.link.counted.Counted.{Counted}
 use Rattle.sl_link.specs.declared.link.fault.LinkFault.{LinkFault}
 use Rattle.sl_link.specs.declared.link.fault.LinkFault.TheVariants.{Memory}
-use Rattle.sl_link.specs.Io.Streams.{Stops, Translates, TranslatesAndCounts}
+use Rattle.sl_link.specs.Io.Streams.{Stops, Translates, TranslatesWithTotals}
 use Rattle.sl_link.specs.Link.Totals.{Counts}
-use Rattle.sl_link.specs.Pass.{WantedMemory}
+use Rattle.sl_link.specs.Pass.{MayRefuseMemoryAtSome}
 use Rattle.sl_link.specs.Tally.{listing_counts, remainder_after}
 
 -- frames, as octets
@@ -35,12 +35,12 @@ listing_text frames_of l recording = lines_from l.line [] (frames_of recording)
 -- of private functions alone cite this.
 pub record EndsListing {R W : Type 0} (remaining : R → Option (List ℕ)) (contents : W → Option (List ℕ))
     (reader reader' : Counted R) (writer writer' : Counted W) (frames_of : List ℕ → Frames) (l : Listing)
-    (limit buffer : ℕ) (wants_memory : Frames → Type 0) (result : Result Counts LinkFault) : Type 0 where
+    (limit buffer : ℕ) (may_refuse_memory : Frames → Type 0) (result : Result Counts LinkFault) : Type 0 where
   pub listing : OnOk result
       (Translates remaining contents reader reader' writer writer' (listing_text frames_of l) limit)
-  pub totals : IfOk result (TranslatesAndCounts remaining contents reader reader' writer writer'
+  pub totals : IfOk result (TranslatesWithTotals remaining contents reader reader' writer writer'
       (listing_text frames_of l) (listing_counts l.counts frames_of) limit)
   pub fault : IfErr result
       (Stops remaining contents reader reader' writer writer' (listing_text frames_of l) limit buffer)
   pub memory : IfErr result
-      (λ fault. fault ≡ Memory → WantedMemory remaining reader reader' frames_of wants_memory)
+      (λ fault. fault ≡ Memory → MayRefuseMemoryAtSome remaining reader reader' frames_of may_refuse_memory)

@@ -52,7 +52,7 @@ impl<'a, W: Write> Output<'a, W> {
 }
 
 /// Adds the line of a remainder: the offset at which the remainder begins, and how many octets it has.
-pub fn remainder_line(lines: &mut Lines, offset: u64, octets: u64)
+pub fn push_remainder(lines: &mut Lines, offset: u64, octets: u64)
     requires { HasRoom lines.old }
     ensures text { lines.new ≡ lines.old ++ line_at offset (codes " rest " ++ decimal octets) }
     ensures short { length lines.new ≤ length lines.old + line_width }

@@ -6,7 +6,7 @@ pub mod lines_tc;
 pub mod lines_tm;
 pub mod shown;
 
-use crate::io::output::{Output, Written, remainder_line};
+use crate::io::output::{Output, Written, push_remainder};
 use crate::link::fault::LinkFault;
 use crate::link::managed::Managed;
 use crate::link::totals::Totals;
@@ -45,7 +45,7 @@ impl<S: Shown> Verb for Show<S> {
     ghost has_listed = { λ verb p frames. HasShown (S.is_skipped p) (S.has_shown verb.shown p)
         frames verb.so_far };
 
-    ghost wants_memory = { λ p frames. ⊥ };
+    ghost may_refuse_memory = { λ p frames. ⊥ };
 
     fn frame<W: Write>(&mut self, managed: &Managed, frame: &[u8], out: &mut Output<W>) -> Written {
         out.make_room()?;
@@ -71,7 +71,7 @@ impl<S: Shown> Verb for Show<S> {
         let offset = self.so_far.octets();
         let remainder = octets - offset;
         if remainder > 0 {
-            remainder_line(&mut out.lines, offset, remainder);
+            push_remainder(&mut out.lines, offset, remainder);
         }
         Ok(self.so_far.totals(remainder, 0))
     }

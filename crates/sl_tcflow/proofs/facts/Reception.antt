@@ -8,7 +8,7 @@ use Rattle.sl_tcflow.specs.AcceptedUnit.{views_of, channel_of, accepted_units}
 use Rattle.sl_tcflow.specs.Incomplete.{incomplete_of}
 use Rattle.sl_tcflow.specs.Reception.{packets_of_segments, packets_ended, segments_of}
 use Rattle.sl_tcflow.specs.ReceptionParameters.{ReceptionParameters}
-use Rattle.sl_tcflow.specs.Recording.{packets_in_channel, recorded_views}
+use Rattle.sl_tcflow.specs.Recording.{packets_of_channel, recorded_views}
 use Rattle.sl_tcflow.specs.Series.{series_of}
 use Rattle.sl_tcflow.specs.TcNormalForm.{tc_normal_form_of}
 
@@ -243,9 +243,9 @@ pub record AreAtLimits : Type 0 where
   pub whole_between : packets_of_segments (first_of_2 ∷ (0xC2 ∷ packet) ∷ last_of_2 ∷ []) ≡ packet ∷ []
   pub left_over : packets_of_segments (with_rest ∷ completing ∷ []) ≡ packet ∷ []
   pub both_types : packets 0 0 0 of_both_types ≡ packet ∷ []
-  pub last_channel : packets_in_channel (from_vr 255) (recorded_views (format 16) 1 at_last) 4095 ≡ packet ∷ []
-  pub channel_before : packets_in_channel (from_vr 255) (recorded_views (format 16) 1 at_last) 4094 ≡ []
-  pub recorded : packets_in_channel (from_vr 0) (recorded_views (format 16) 1 (divided 0x00 0x01 0x02)) 320 ≡ longer ∷ []
+  pub last_channel : packets_of_channel (from_vr 255) (recorded_views (format 16) 1 at_last) 4095 ≡ packet ∷ []
+  pub channel_before : packets_of_channel (from_vr 255) (recorded_views (format 16) 1 at_last) 4094 ≡ []
+  pub recorded : packets_of_channel (from_vr 0) (recorded_views (format 16) 1 (divided 0x00 0x01 0x02)) 320 ≡ longer ∷ []
 
 pub are_at_limits : AreAtLimits
 are_at_limits = record {

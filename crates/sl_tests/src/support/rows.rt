@@ -1,4 +1,5 @@
 //! What tests assert of the rows of their tables.
+use sl_link::LinkFault;
 use sl_packet::{FlowFault, SinkFault};
 use std::alloc::{AllocError, Global};
 use std::fmt::{Debug, Display};
@@ -12,6 +13,8 @@ pub enum Stop {
     /// An extractor, a receiver or a sink had this fault.
     Flow(FlowFault),
     Sink(SinkFault),
+    /// An engine had this fault.
+    Link(LinkFault),
     /// A format, a window or a frame isn't there.
     Absent,
 }
@@ -31,6 +34,12 @@ impl From<FlowFault> for Stop {
 impl From<SinkFault> for Stop {
     fn from(fault: SinkFault) -> Stop {
         Stop::Sink(fault)
+    }
+}
+
+impl From<LinkFault> for Stop {
+    fn from(fault: LinkFault) -> Stop {
+        Stop::Link(fault)
     }
 }
 

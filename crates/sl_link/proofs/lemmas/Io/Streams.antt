@@ -77,8 +77,8 @@ module _ {W : Type 0} (contents : W → Option (List ℕ)) where
 
   -- a fault while what waits is written
   pub writer_stops_waiting : (old mid new : Counted W) (pending pending' text more whole : List ℕ) (fault : LinkFault)
-      {wanted : Type 0} → AddsText contents old mid pending pending' text → StopsWriting contents mid new pending' ⊥ fault
-      → pending ++ (text ++ more) ≡ whole → StopsWriting contents old new whole wanted fault
+      {at_memory : Type 0} → AddsText contents old mid pending pending' text → StopsWriting contents mid new pending' ⊥ fault
+      → pending ++ (text ++ more) ≡ whole → StopsWriting contents old new whole at_memory fault
   writer_stops_waiting old mid new pending pending' text more whole fault a s e =
       record { front = rw e at (prefix_then text more a (prefix_first more s.front)); cause = caused_later old mid new fault a.no_fault s.cause; memory = λ m. absurd (s.memory m) }
 
@@ -90,7 +90,7 @@ module _ {W : Type 0} (contents : W → Option (List ℕ)) where
   adds_lines old new text same e = record { lent = rw same refl; adds = rw same (record { written = []; parts = sym e; writes = Appends-nil (contents (stream_of old.writer.now)); no_fault = refl }) }
 
   -- memory was refused, and nothing written
-  pub stops_at_memory : (writer : Counted W) (text : List ℕ) {wanted : Type 0} → wanted → StopsWriting contents writer writer text wanted Memory
+  pub stops_at_memory : (writer : Counted W) (text : List ℕ) {at_memory : Type 0} → at_memory → StopsWriting contents writer writer text at_memory Memory
   stops_at_memory writer text wants =
       record { front = record { written = []; missing = text; front = refl; writes = Appends-nil (contents (stream_of writer)) }; cause = (refl, refl, search rules); memory = λ e. wants }
 
@@ -104,26 +104,26 @@ module _ {W : Type 0} {contents : W → Option (List ℕ)} where
 
 module _ {W : Type 0} {contents : W → Option (List ℕ)} {new : Counted W} {fault : LinkFault} where
   -- what is said of memory may say less
-  pub wanted_less : {old : Counted W} {text : List ℕ} {wanted some : Type 0} → (wanted → some) → StopsWriting contents old new text wanted fault → StopsWriting contents old new text some fault
-  wanted_less tells s = record { front = s.front; cause = s.cause; memory = λ e. tells (s.memory e) }
+  pub memory_weaker : {old : Counted W} {text : List ℕ} {at_memory some : Type 0} → (at_memory → some) → StopsWriting contents old new text at_memory fault → StopsWriting contents old new text some fault
+  memory_weaker tells s = record { front = s.front; cause = s.cause; memory = λ e. tells (s.memory e) }
 
   -- a fault at the first text stops both
-  pub stops_first : {old : Counted W} {wanted : Type 0} (lines text more : List ℕ) → StopsWriting contents old new (lines ++ text) wanted fault
-      → StopsWriting contents old new (lines ++ (text ++ more)) wanted fault
+  pub stops_first : {old : Counted W} {at_memory : Type 0} (lines text more : List ℕ) → StopsWriting contents old new (lines ++ text) at_memory fault
+      → StopsWriting contents old new (lines ++ (text ++ more)) at_memory fault
   stops_first lines text more s = record { front = rw (append_assoc lines text more) at (prefix_first contents more s.front); cause = s.cause; memory = s.memory }
 
   -- so does one where room is made for them
-  pub stops_before : {old : Counted W} {lines : List ℕ} (text : List ℕ) (wanted : Type 0) → StopsWriting contents old new lines ⊥ fault → StopsWriting contents old new (lines ++ text) wanted fault
-  stops_before text wanted s = record { front = prefix_first contents text s.front; cause = s.cause; memory = λ e. absurd (s.memory e) }
+  pub stops_before : {old : Counted W} {lines : List ℕ} (text : List ℕ) (at_memory : Type 0) → StopsWriting contents old new lines ⊥ fault → StopsWriting contents old new (lines ++ text) at_memory fault
+  stops_before text at_memory s = record { front = prefix_first contents text s.front; cause = s.cause; memory = λ e. absurd (s.memory e) }
 
   -- and one at the second
-  pub stops_then : {old mid : Output W} {text : List ℕ} {wanted : Type 0} (more : List ℕ) → Adds contents old text mid → StopsWriting contents mid.writer.now new (mid.lines ++ more) wanted fault
-      → StopsWriting contents old.writer.now new (old.lines ++ (text ++ more)) wanted fault
+  pub stops_then : {old mid : Output W} {text : List ℕ} {at_memory : Type 0} (more : List ℕ) → Adds contents old text mid → StopsWriting contents mid.writer.now new (mid.lines ++ more) at_memory fault
+      → StopsWriting contents old.writer.now new (old.lines ++ (text ++ more)) at_memory fault
   stops_then {old} {mid} {text} more a s =
       let cause = caused_later old.writer.now mid.writer.now new fault a.adds.no_fault s.cause in
       record { front = prefix_then contents text more a.adds s.front; cause = cause; memory = s.memory }
 
   -- or after it, where what waits is written
-  pub stops_last : {old mid : Output W} {text : List ℕ} {wanted : Type 0} → Adds contents old text mid → StopsWriting contents mid.writer.now new mid.lines wanted fault
-      → StopsWriting contents old.writer.now new (old.lines ++ text) wanted fault
-  stops_last {wanted = wanted} a s = rw append-nil at (stops_then {wanted = wanted} [] a (rw append-nil s))
+  pub stops_last : {old mid : Output W} {text : List ℕ} {at_memory : Type 0} → Adds contents old text mid → StopsWriting contents mid.writer.now new mid.lines at_memory fault
+      → StopsWriting contents old.writer.now new (old.lines ++ text) at_memory fault
+  stops_last {at_memory = at_memory} a s = rw append-nil at (stops_then {at_memory = at_memory} [] a (rw append-nil s))

@@ -56,7 +56,7 @@ module _ (k : Kind) (laws : AreDelivered k) where
       → count_of (map (passing test (frames ++ frame ∷ [])) k.channels) ≡ count_of (map (passing test frames) k.channels) + length (filter test (k.ended frames frame))
   count_more test frames frame =
       let at = k.channel frame in
-      let change = items_change k.limit k.channels laws.all (passing test frames) (passing test (frames ++ frame ∷ [])) at (laws.inside frame)
+      let change = items_change k.channel_limit k.channels laws.all (passing test frames) (passing test (frames ++ frame ∷ [])) at (laws.inside frame)
       (λ i other. ap (λ l. length (filter test l)) (laws.other frames frame i (λ e. other (sym e)))) in
       omega (arith, change, simp (filter-append, length-append) at (ap (λ l. length (filter test l)) (laws.own frames frame)))
 
@@ -102,7 +102,7 @@ pub delivers_as : {S : Type 0} {taking : S → ℕ → List ℕ → S → Type 0
     → report.anomalies ≡ 0 → Delivers taking k before frame old report new
 delivers_as at ends skipping some accepted skipped packets idle none = grind arith
 
--- ---- packets that are kept
+-- ---- packets that are stored
 
 -- packets that were accepted in turn were added in turn
 takes_all : (packets : List (List ℕ)) (old new : PacketLists) (channel : ℕ) → channel < length old.lists
@@ -112,38 +112,38 @@ takes_all (packet ∷ packets) old new channel inside t =
     takes_all packets t.0 new channel (omega (arith, inside, ap length t.1, length-set {A = List (List ℕ)})) t.2 ∙ simp (t.1, get_or-set_same, set-set, append_assoc)
 
 module _ (k : Kind) (laws : AreDelivered k) where
-  pub none_kept : (lists : List (List (List ℕ))) → lists ≡ empty_lists → AreStored k [] lists
-  none_kept lists none = grind (arith, length-empty_lists, list_at-empty_lists, laws.none)
+  pub none_stored : (lists : List (List (List ℕ))) → lists ≡ empty_lists → AreStored k [] lists
+  none_stored lists none = grind (arith, length-empty_lists, list_at-empty_lists, laws.none)
 
   -- one frame more
-  pub kept_more : (frames : List (List ℕ)) (frame : List ℕ) (old new : PacketLists) → AreStored k frames old.lists
+  pub stored_more : (frames : List (List ℕ)) (frame : List ℕ) (old new : PacketLists) → AreStored k frames old.lists
       → TakesAll AddsPacket old (k.channel frame) (without_idle (k.ended frames frame)) new → AreStored k (frames ++ frame ∷ []) new.lists
-  kept_more frames frame old new kept taken = grind (arith, eqb_tells, get_or-set_other, get_or-set_same, length-set, takes_all, without_idle-append, kept.each, kept.none_past, kept.size, laws.few, laws.inside, laws.other)
+  stored_more frames frame old new stored taken = grind (arith, eqb_tells, get_or-set_other, get_or-set_same, length-set, takes_all, without_idle-append, stored.each, stored.none_past, stored.size, laws.few, laws.inside, laws.other)
 
-  module _ (frames : List (List ℕ)) (lists : List (List (List ℕ))) (kept : AreStored k frames lists) where
+  module _ (frames : List (List ℕ)) (lists : List (List (List ℕ))) (stored : AreStored k frames lists) where
     -- the lists of the channels are those of the frames,
-    pub all_kept : take k.limit lists ≡ lists_in k frames
-    all_kept = rw (laws.all, ← pick_l-range_with_len [] lists 0 k.limit (omega (arith, kept.size, laws.few)))
-        (map_range _ (λ channel. without_idle (k.packets frames channel)) 0 k.limit (λ channel below. kept.each channel (omega (arith, below))))
+    pub all_stored : take k.channel_limit lists ≡ lists_in k frames
+    all_stored = rw (laws.all, ← pick_l-range_with_len [] lists 0 k.channel_limit (omega (arith, stored.size, laws.few)))
+        (map_range _ (λ channel. without_idle (k.packets frames channel)) 0 k.channel_limit (λ channel below. stored.each channel (omega (arith, below))))
 
     -- and where some channel's is not empty, they deliver a packet
-    pub some_kept : (((channel : ℕ) → channel < k.limit → slice_index_or lists channel [] ≡ []) → ⊥) → 0 < number_of_packets k frames
-    some_kept some = elim (leb_tells 1 (number_of_packets k frames)) [
+    pub some_stored : (((channel : ℕ) → channel < k.channel_limit → slice_index_or lists channel [] ≡ []) → ⊥) → 0 < number_of_packets k frames
+    some_stored some = elim (leb_tells 1 (number_of_packets k frames)) [
       | inl (is, more) ↦ more
       | inr (is, few) ↦
-          absurd (some (λ channel below. kept.each channel below ∙ none_of k.limit k.channels laws.all (λ c. without_idle (k.packets frames c)) (omega (arith, few)) channel below))
+          absurd (some (λ channel below. stored.each channel below ∙ none_of k.channel_limit k.channels laws.all (λ c. without_idle (k.packets frames c)) (omega (arith, few)) channel below))
     ]
 
--- what is kept is the same exactly where the packets are: past the last channel there are none
-pub same_kept : (k : Kind) → AreDelivered k → (frames others : List (List ℕ)) (lists kept : List (List (List ℕ))) → AreStored k frames lists → AreStored k others kept
-    → {P : Type 0} → (P ↔ (lists ≡ kept)) → P ↔ (lists_in k frames ≡ lists_in k others)
-same_kept k laws frames others lists kept one other reported =
-    let mine = all_kept k laws frames lists one in
-    let its = all_kept k laws others kept other in (
-      λ p. rw (← mine, ← its) (ap (take k.limit) (reported.0 p)),
-      λ same. reported.1 (ext_get_or [] lists kept (one.size ∙ sym other.size) (λ channel inside.
-          elim (cases_lt channel k.limit) [
-            | inl below ↦ sym (get_or-take k.limit lists channel [] below) ∙ ap (λ l. get_or l channel []) (mine ∙ same ∙ sym its) ∙ get_or-take k.limit kept channel [] below
+-- what is stored is the same exactly where the packets are: past the last channel there are none
+pub same_stored : (k : Kind) → AreDelivered k → (frames others : List (List ℕ)) (lists stored : List (List (List ℕ))) → AreStored k frames lists → AreStored k others stored
+    → {P : Type 0} → (P ↔ (lists ≡ stored)) → P ↔ (lists_in k frames ≡ lists_in k others)
+same_stored k laws frames others lists stored one other reported =
+    let mine = all_stored k laws frames lists one in
+    let its = all_stored k laws others stored other in (
+      λ p. rw (← mine, ← its) (ap (take k.channel_limit) (reported.0 p)),
+      λ same. reported.1 (ext_get_or [] lists stored (one.size ∙ sym other.size) (λ channel inside.
+          elim (cases_lt channel k.channel_limit) [
+            | inl below ↦ sym (get_or-take k.channel_limit lists channel [] below) ∙ ap (λ l. get_or l channel []) (mine ∙ same ∙ sym its) ∙ get_or-take k.channel_limit stored channel [] below
             | inr past ↦ one.none_past channel past ∙ sym (other.none_past channel past)
           ])),
     )

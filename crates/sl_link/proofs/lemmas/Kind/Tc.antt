@@ -13,9 +13,9 @@ use Rattle.sl_tcframe.proofs.PartLemmas.{cut_facts}
 use Rattle.sl_tcflow.specs.AcceptedUnit.{views_of}
 use Rattle.sl_tcflow.specs.Receiving.{ReceiverState, HasProcessed, unit_channel, held_in}
 use Rattle.sl_tcflow.specs.ReceptionParameters.{ReceptionParameters, is_plain}
-use Rattle.sl_tcflow.specs.Recording.{map_channels, packets_in_channel}
+use Rattle.sl_tcflow.specs.Recording.{map_channels, packets_of_channel}
 use Rattle.sl_tcflow.proofs.lemmas.Reception.Channel.{held_other, held_own, packets_other, packets_own, small_map, unit_len}
-use Rattle.sl_link.specs.Kind.Tc.{HasProcessedTc, WantsMemoryTc, as_read, unit_channel_of, ended_in, held_after, is_incomplete_around, tc_kind}
+use Rattle.sl_link.specs.Kind.Tc.{HasProcessedTc, IsIncompleteAtLastTc, as_read, unit_channel_of, ended_in, held_after, is_incomplete_around, tc_kind}
 use Rattle.sl_link.specs.Kind.Delivery.{AreDelivered, count_of, number_of_idle, number_of_packets, with_frame}
 use Rattle.sl_link.specs.Link.Managed.{Parameters, reception_of, tc_format}
 use Rattle.sl_link.proofs.lemmas.Kind.Delivery.{idle_more, no_idle, no_packets, none_within, octets_more, packets_more, views_next}
@@ -53,10 +53,10 @@ channels_are n all = ap (range_with_len 0) (sym all)
 
 module _ (r : ReceptionParameters) where
   -- it adds the packets that end with its unit to those of its own channel, and none to another's
-  own_step : (views : List TcView) (read : Result TcView TcSkip) → packets_in_channel r (with_frame views read) (unit_channel_of r read) ≡ packets_in_channel r views (unit_channel_of r read) ++ ended_in r views read
+  own_step : (views : List TcView) (read : Result TcView TcSkip) → packets_of_channel r (with_frame views read) (unit_channel_of r read) ≡ packets_of_channel r views (unit_channel_of r read) ++ ended_in r views read
   own_step views read = grind (arith, append-nil, packets_own)
 
-  other_step : (views : List TcView) (read : Result TcView TcSkip) (channel : ℕ) → unit_channel_of r read ≢ channel → packets_in_channel r (with_frame views read) channel ≡ packets_in_channel r views channel
+  other_step : (views : List TcView) (read : Result TcView TcSkip) (channel : ℕ) → unit_channel_of r read ≢ channel → packets_of_channel r (with_frame views read) channel ≡ packets_of_channel r views channel
   other_step views read channel other = grind (arith, packets_other)
 
 pub tc_delivered : (p : Parameters) → AreDelivered (tc_kind p)
@@ -109,7 +109,7 @@ one_processed {p} {before} frame had is processed =
     record { processed = rw (next, is) processed; within = record { delivered = laws; within = omega (arith, held) }; held = held }
 
 -- a series is incomplete around a frame
-pub wants_memory : {p : Parameters} (before : List (List ℕ)) (frame : List ℕ) {read : Result TcView TcSkip} → as_read p frame ≡ read
-    → is_incomplete_around (reception_of p) (views_of (tc_format p) p.spacecraft before) read → WantsMemoryTc p (before ++ frame ∷ [])
-wants_memory before frame {read = Ok view} e incomplete = record { before = before; frame = frame; in_order = refl; view = view; is_read = e; incomplete = incomplete }
-wants_memory before frame {read = Err reason} e incomplete = absurd incomplete
+pub may_refuse_memory : {p : Parameters} (before : List (List ℕ)) (frame : List ℕ) {read : Result TcView TcSkip} → as_read p frame ≡ read
+    → is_incomplete_around (reception_of p) (views_of (tc_format p) p.spacecraft before) read → IsIncompleteAtLastTc p (before ++ frame ∷ [])
+may_refuse_memory before frame {read = Ok view} e incomplete = record { before = before; frame = frame; in_order = refl; view = view; is_read = e; incomplete = incomplete }
+may_refuse_memory before frame {read = Err reason} e incomplete = absurd incomplete

@@ -11,7 +11,7 @@ use Rattle.sl_tmflow.specs.Extraction.{ExtractorState, HasProcessed}
 use Rattle.sl_tmflow.specs.Recording.{packets_of_channel}
 use Rattle.sl_tmflow.proofs.lemmas.Delivery.Channel.{other_seen, same_seen}
 use Rattle.sl_tmflow.proofs.lemmas.Delivery.Push.{delivered_push, ended_few}
-use Rattle.sl_link.specs.Kind.Tm.{HasProcessedTm, WantsMemoryTm, as_read, ended_in, is_incomplete_around, tm_kind, vc_of}
+use Rattle.sl_link.specs.Kind.Tm.{HasProcessedTm, IsIncompleteAtLastTm, as_read, ended_in, is_incomplete_around, tm_kind, vc_of}
 use Rattle.sl_link.specs.Kind.Delivery.{AreDelivered, with_frame}
 use Rattle.sl_link.specs.Link.Managed.{Parameters, managed_of, tm_format}
 use Rattle.sl_link.specs.Pass.Tm.{is_tm_frame}
@@ -71,7 +71,7 @@ one_processed {p} {before} frame long had is processed =
     }
 
 -- a packet is incomplete around a frame
-pub wants_memory : {p : Parameters} (before : List (List ℕ)) (frame : List ℕ) {r : Result TmView TmSkip} → as_read p frame ≡ r
-    → is_incomplete_around (views_of (tm_format p) p.spacecraft before) r → WantsMemoryTm p (before ++ frame ∷ [])
-wants_memory before frame {r = Ok view} e incomplete = record { before = before; frame = frame; in_order = refl; view = view; is_read = e; incomplete = incomplete }
-wants_memory before frame {r = Err reason} e incomplete = absurd incomplete
+pub may_refuse_memory : {p : Parameters} (before : List (List ℕ)) (frame : List ℕ) {r : Result TmView TmSkip} → as_read p frame ≡ r
+    → is_incomplete_around (views_of (tm_format p) p.spacecraft before) r → IsIncompleteAtLastTm p (before ++ frame ∷ [])
+may_refuse_memory before frame {r = Ok view} e incomplete = record { before = before; frame = frame; in_order = refl; view = view; is_read = e; incomplete = incomplete }
+may_refuse_memory before frame {r = Err reason} e incomplete = absurd incomplete

@@ -34,7 +34,7 @@ module _ {F W : Type 0} {left : F → List ℕ → Type 0} {contents : W → Opt
   pub first_piece : {writer : Counted W} {form form' : F} {text text' octets : List ℕ} → text ≡ [] → AddsPiece left form text form' text' → left form octets
       → IsWritingForm left contents writer writer form' text' octets
   first_piece {writer} {text'} {octets} none a l =
-      let next = a.rest octets l in
+      let next = a.remainder octets l in
       record { made = a.piece; more = next.0; parts = next.1.0; left_is = next.1.1; adds = subst (λ t. AddsText contents writer writer t text' a.piece) none (waits_more a.added) }
 
   module _ {old new : Counted W} {form : F} {text octets : List ℕ} (w : IsWritingForm left contents old new form text octets) where
@@ -50,7 +50,7 @@ module _ {F W : Type 0} {left : F → List ℕ → Type 0} {contents : W → Opt
     -- after one piece more
     pub next_piece : {form' : F} {text' : List ℕ} → AddsPiece left form text form' text' → IsWritingForm left contents old new form' text' octets
     next_piece {text'} a =
-        let next = a.rest w.more w.left_is in
+        let next = a.remainder w.more w.left_is in
         let adds = AddsText-trans contents old new new [] text text' w.made a.piece w.adds (waits_more a.added) in
         record { made = w.made ++ a.piece; more = next.0; parts = rw (append_assoc w.made a.piece next.0, ← next.1.0) w.parts; left_is = next.1.1; adds = adds }
 
@@ -61,7 +61,7 @@ module _ {F W : Type 0} {left : F → List ℕ → Type 0} {contents : W → Opt
         rw (← whole) (all_written contents old new new' text w.made w.adds (rw same at done))
 
     -- a fault while what waits is written
-    pub form_stopped : {new' : Counted W} {text' : List ℕ} {wanted : Type 0} {fault : LinkFault} → text' ≡ text → StopsWriting contents new new' text' ⊥ fault → StopsWriting contents old new' octets wanted fault
+    pub form_stopped : {new' : Counted W} {text' : List ℕ} {at_memory : Type 0} {fault : LinkFault} → text' ≡ text → StopsWriting contents new new' text' ⊥ fault → StopsWriting contents old new' octets at_memory fault
     form_stopped {new'} {fault = fault} same s = writer_stops_waiting contents old new new' [] text w.made w.more octets fault w.adds (rw same at s) (sym w.parts)
 
 -- ---- under the managed parameters

@@ -5,7 +5,7 @@ use Rattle.sl_link.specs.declared.link.counted.Counted.{Counted}
 use Rattle.sl_link.specs.declared.link.fault.LinkFault.{LinkFault}
 use Rattle.sl_link.specs.Io.Streams.{Reads, ReadsAll, Stops, StopsReading, StopsWriting, Translates, Writes, WritesText}
 use Rattle.sl_link.specs.Link.Counted.{stream_of}
-use Rattle.sl_link.specs.Pass.{WantedMemory}
+use Rattle.sl_link.specs.Pass.{MayRefuseMemoryAtSome}
 use Rattle.sl_link.proofs.lemmas.Io.Streams.{reader_caused, writer_caused}
 
 module _ {R W : Type 0} {remaining : R → Option (List ℕ)} {contents : W → Option (List ℕ)} {reader reader' : Counted R} {writer : Counted W} {text : List ℕ → List ℕ} {limit : ℕ} where
@@ -20,7 +20,7 @@ module _ {R W : Type 0} {remaining : R → Option (List ℕ)} {contents : W → 
 
   module _ {octets written : List ℕ} (r : ReadsAll remaining reader reader' limit octets) {writer' : Counted W} (same : written ≡ text octets) where
     -- or while a normal form is made or written
-    pub stops_at_form : {buffer : ℕ} {wanted : Type 0} {fault : LinkFault} → StopsWriting contents writer writer' written wanted fault
+    pub stops_at_form : {buffer : ℕ} {at_memory : Type 0} {fault : LinkFault} → StopsWriting contents writer writer' written at_memory fault
         → Stops remaining contents reader reader' writer writer' text limit buffer fault
     stops_at_form {buffer} {fault = fault} s = record {
       octets = octets;
@@ -41,7 +41,7 @@ module _ {R W : Type 0} {remaining : R → Option (List ℕ)} {contents : W → 
       writer_kept = w.no_fault;
     }
 
--- memory is wanted after the last frame
-pub wanted_at_end : {R : Type 0} {remaining : R → Option (List ℕ)} {reader reader' : Counted R} {frames_of : List ℕ → List (List ℕ)} {wants : List (List ℕ) → Type 0} (octets : List ℕ)
-    → Reads remaining reader reader' octets → wants (frames_of octets) → WantedMemory remaining reader reader' frames_of wants
-wanted_at_end {frames_of} octets read wanted = record { octets = octets; read = read; first = frames_of octets; later = []; in_order = sym (append-nil (frames_of octets)); wanted = wanted }
+-- memory may be refused after the last frame
+pub refused_at_end : {R : Type 0} {remaining : R → Option (List ℕ)} {reader reader' : Counted R} {frames_of : List ℕ → List (List ℕ)} {wants : List (List ℕ) → Type 0} (octets : List ℕ)
+    → Reads remaining reader reader' octets → wants (frames_of octets) → MayRefuseMemoryAtSome remaining reader reader' frames_of wants
+refused_at_end {frames_of} octets read at_last = record { octets = octets; read = read; first = frames_of octets; later = []; in_order = sym (append-nil (frames_of octets)); at_last = at_last }

@@ -13,7 +13,7 @@ use Rattle.sl_link.specs.declared.link.fault.LinkFault.TheVariants.{Memory, Writ
 use Rattle.sl_link.specs.declared.program.command_line.Asked.{Asked}
 use Rattle.sl_link.specs.Program.Answer.{EndsAsHelp, WithAnswer, WithText, version_line}
 use Rattle.sl_link.specs.Program.CommandLine.{AskForHelp, AskForVersion, IsRefusal}
-use Rattle.sl_link.specs.Io.Streams.{TranslatesAndCounts}
+use Rattle.sl_link.specs.Io.Streams.{TranslatesWithTotals}
 use Rattle.sl_link.specs.Link.Counted.{stream_of, faults_of, HadOneFault}
 use Rattle.sl_link.specs.Program.Run.{engine_text, HasWritten, IsStoppedBy}
 use Rattle.sl_link.specs.Link.Managed.{Parameters}
@@ -23,8 +23,8 @@ module _ {R W : Type 0} {remaining : R → Option (List ℕ)} {contents : W → 
   -- where the flush fails, all of the text is in its place, but the writer had a fault
   pub stopped_flushing : {asked : Asked} {managed : Parameters} {totals : Counts} {fault : LinkFault} → HasWritten remaining contents reader reader' writer mid asked managed totals
       → Keeps (contents (stream_of mid)) (contents (stream_of writer')) → fault ≡ Write → HadOneFault mid writer' → IsStoppedBy remaining contents reader reader' writer writer' asked managed fault
-  stopped_flushing {asked} {managed} {fault = fault} counted kept is_write failed =
-      let t = counted.translated in
+  stopped_flushing {asked} {managed} {fault = fault} done kept is_write failed =
+      let t = done.translated in
       let text = engine_text asked.verb asked.kind managed t.octets in
       record {
         cause = record {
@@ -39,10 +39,10 @@ module _ {R W : Type 0} {remaining : R → Option (List ℕ)} {contents : W → 
       }
 
   -- where the flush succeeds, it is so still
-  pub written_flushed : {text : List ℕ → List ℕ} {counts : List ℕ → Counts} {limit : ℕ} {totals : Counts} → TranslatesAndCounts remaining contents reader reader' writer mid text counts limit totals
-      → Keeps (contents (stream_of mid)) (contents (stream_of writer')) → faults_of writer' ≡ faults_of mid → TranslatesAndCounts remaining contents reader reader' writer writer' text counts limit totals
-  written_flushed counted kept no_fault =
-      let t = counted.translated in
+  pub written_flushed : {text : List ℕ → List ℕ} {counts : List ℕ → Counts} {limit : ℕ} {totals : Counts} → TranslatesWithTotals remaining contents reader reader' writer mid text counts limit totals
+      → Keeps (contents (stream_of mid)) (contents (stream_of writer')) → faults_of writer' ≡ faults_of mid → TranslatesWithTotals remaining contents reader reader' writer writer' text counts limit totals
+  written_flushed done kept no_fault =
+      let t = done.translated in
       record {
         translated = record {
           octets = t.octets;
@@ -53,7 +53,7 @@ module _ {R W : Type 0} {remaining : R → Option (List ℕ)} {contents : W → 
           reader_kept = t.reader_kept;
           writer_kept = no_fault ∙ t.writer_kept;
         };
-        counted = counted.counted;
+        totals_are = done.totals_are;
       }
 
 -- a refusal that asks for help or the version comes of words that do

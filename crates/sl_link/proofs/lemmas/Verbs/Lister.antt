@@ -8,7 +8,7 @@ use Rattle.sl_link.specs.Verbs.Listing.{Frames, lines_from, EndsListing, Listing
 use Rattle.sl_link.specs.declared.link.counted.Counted.{Counted}
 use Rattle.sl_link.specs.Link.Counted.{faults_of}
 use Rattle.sl_link.specs.Io.Streams.{Reads, StopsWriting, Translates, WritesPrefix}
-use Rattle.sl_link.specs.Pass.{PassesOver, StopsPassing, WantedMemory}
+use Rattle.sl_link.specs.Pass.{PassesOver, StopsPassing, MayRefuseMemoryAtSome}
 use Rattle.sl_link.specs.Link.Totals.{Counts}
 use Rattle.sl_link.specs.Tally.{remainder_after}
 use Rattle.sl_link.proofs.lemmas.Io.Streams.{adds_both, stops_then, adds_none, reader_caused, stops_first, stops_last, writer_caused}
@@ -27,13 +27,13 @@ module _ {W : Type 0} {contents : W → Option (List ℕ)} {start old : Output W
   pub frame_added : {new : Output W} → Adds contents old (line frames frame) new → Adds contents start (lines_from line [] (frames ++ frame ∷ [])) new
   frame_added b = rw (lines_from-last line frames frame) (adds_both a b)
 
-  pub frame_stopped : {new : Counted W} {wanted : Type 0} {fault : LinkFault} → StopsWriting contents old.writer.now new (old.lines ++ line frames frame) wanted fault
-      → StopsWriting contents start.writer.now new (start.lines ++ lines_from line [] (frames ++ frame ∷ [])) wanted fault
+  pub frame_stopped : {new : Counted W} {at_memory : Type 0} {fault : LinkFault} → StopsWriting contents old.writer.now new (old.lines ++ line frames frame) at_memory fault
+      → StopsWriting contents start.writer.now new (start.lines ++ lines_from line [] (frames ++ frame ∷ [])) at_memory fault
   frame_stopped s = rw (lines_from-last line frames frame) (stops_then (line frames frame) a s)
 
 -- ---- of a whole recording
 
-module _ {R W : Type 0} (remaining : R → Option (List ℕ)) (contents : W → Option (List ℕ)) (l : Listing) (frames_of : List ℕ → Frames) (reader reader' : Counted R) (limit buffer : ℕ) (wants_memory : Frames → Type 0) where
+module _ {R W : Type 0} (remaining : R → Option (List ℕ)) (contents : W → Option (List ℕ)) (l : Listing) (frames_of : List ℕ → Frames) (reader reader' : Counted R) (limit buffer : ℕ) (may_refuse_memory : Frames → Type 0) where
   -- the text after the first frames
   later_text : (octets : List ℕ) (first later : Frames) → frames_of octets ≡ first ++ later
       → lines_from l.line [] first ++ (lines_from l.line first later ++ l.last (frames_of octets) (remainder_after (frames_of octets) octets)) ≡ listing_text frames_of l octets
@@ -44,13 +44,13 @@ module _ {R W : Type 0} (remaining : R → Option (List ℕ)) (contents : W → 
     abbrev pub Ends : Result Counts LinkFault → Type 0
     Ends result =
         KeepsWriter start new
-        × EndsListing remaining contents reader reader' start.writer.now new.writer.now frames_of l limit buffer wants_memory result
+        × EndsListing remaining contents reader reader' start.writer.now new.writer.now frames_of l limit buffer may_refuse_memory result
 
     -- a fault at a text with which the listing of these octets begins
-    stops_at : (wanted : Type 0) (text more octets : List ℕ) (fault : LinkFault) → Reads remaining reader reader' octets → faults_of reader' ≡ faults_of reader → length octets ≤ limit
-        → text ++ more ≡ listing_text frames_of l octets → KeepsWriter start new → StopsWriting contents start.writer.now new.writer.now (start.lines ++ text) wanted fault
-        → (wanted → WantedMemory remaining reader reader' frames_of wants_memory) → Ends (Err fault)
-    stops_at wanted text more octets fault read kept within e lent s wants =
+    stops_at : (at_memory : Type 0) (text more octets : List ℕ) (fault : LinkFault) → Reads remaining reader reader' octets → faults_of reader' ≡ faults_of reader → length octets ≤ limit
+        → text ++ more ≡ listing_text frames_of l octets → KeepsWriter start new → StopsWriting contents start.writer.now new.writer.now (start.lines ++ text) at_memory fault
+        → (at_memory → MayRefuseMemoryAtSome remaining reader reader' frames_of may_refuse_memory) → Ends (Err fault)
+    stops_at at_memory text more octets fault read kept within e lent s wants =
         let written = rw (empty, e) at (stops_first start.lines text more s).front in
         let cause = writer_caused reader reader' start.writer.now new.writer.now limit buffer octets fault kept within s.cause in
         (lent, record { listing = tt; totals = tt; fault = record { octets = octets; read = read; written = written; cause = cause }; memory = λ is_memory. wants (s.memory is_memory) })
@@ -58,7 +58,7 @@ module _ {R W : Type 0} (remaining : R → Option (List ℕ)) (contents : W → 
     -- a fault before all was read
     pub stops_frames : (has_listed : Frames → Type 0) (fault : LinkFault)
         → StopsPassing remaining reader reader' frames_of (λ frames. has_listed frames × Adds contents start (lines_from l.line [] frames) new)
-        (λ frames fault. KeepsWriter start new × StopsWriting contents start.writer.now new.writer.now (start.lines ++ lines_from l.line [] frames) (wants_memory frames) fault) limit buffer fault
+        (λ frames fault. KeepsWriter start new × StopsWriting contents start.writer.now new.writer.now (start.lines ++ lines_from l.line [] frames) (may_refuse_memory frames) fault) limit buffer fault
         → Ends (Err fault)
     stops_frames has_listed fault s =
         let more = lines_from l.line s.first s.later ++ l.last (frames_of s.octets) (remainder_after (frames_of s.octets) s.octets) in
@@ -71,8 +71,8 @@ module _ {R W : Type 0} (remaining : R → Option (List ℕ)) (contents : W → 
               let cause = reader_caused reader reader' start.writer.now new.writer.now limit buffer s.octets fault t.no_fault at.2 in
               (at.0.1.lent, record { listing = tt; totals = tt; fault = record { octets = s.octets; read = s.read; written = written; cause = cause }; memory = λ is_memory. absurd (at.1 is_memory) })
           | inr at ↦
-              stops_at (wants_memory s.first) (lines_from l.line [] s.first) more s.octets fault s.read at.1 at.2 text at.0.0 at.0.1
-              (λ wanted. record { octets = s.octets; read = s.read; first = s.first; later = s.later; in_order = s.in_order; wanted = wanted })
+              stops_at (may_refuse_memory s.first) (lines_from l.line [] s.first) more s.octets fault s.read at.1 at.2 text at.0.0 at.0.1
+              (λ at_memory. record { octets = s.octets; read = s.read; first = s.first; later = s.later; in_order = s.in_order; at_last = at_memory })
         ]
 
     module _ (n : ℕ) (taken : Frames → Type 0) (s : PassesOver remaining reader reader' frames_of taken limit n) (mid : Output W) (listed : Adds contents start (lines_from l.line [] (frames_of s.octets)) mid) where
@@ -106,4 +106,4 @@ module _ {R W : Type 0} (remaining : R → Option (List ℕ)) (contents : W → 
               reader_kept = s.no_fault;
               writer_kept = t.no_fault;
             } in
-            (all.lent, record { listing = translated; totals = record { translated = translated; counted = rw (← s.size) counts }; fault = tt; memory = tt })
+            (all.lent, record { listing = translated; totals = record { translated = translated; totals_are = rw (← s.size) counts }; fault = tt; memory = tt })

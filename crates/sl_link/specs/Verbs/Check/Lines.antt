@@ -2,7 +2,7 @@
 use Rattle.std.specs.Prelude.{ℕ, ◌+◌, ◌==◌, Bool, if◌then◌else◌, List, [], ◌∷◌, ◌++◌, length, flat_map, codes, decimal, Option, None, Some}
 use Rattle.std.specs.List.{concat}
 use Rattle.sl_link.specs.Io.Line.{line_at}
-use Rattle.sl_link.specs.Kind.Delivery.{Kind, counted}
+use Rattle.sl_link.specs.Kind.Delivery.{Kind, counts_in}
 use Rattle.sl_link.specs.Link.Totals.{Counts}
 use Rattle.sl_link.specs.Verbs.Listing.{Listing, lines_from}
 
@@ -54,7 +54,7 @@ end_anomalies k open_at frames remainder = remainder_anomaly (length (concat fra
 -- what is counted: each line but that of the totals is an anomaly
 abbrev pub check_counted : Kind → (List (List ℕ) → List ℕ → List (List ℕ)) → (ℕ → List (List ℕ) → ℕ → List (List ℕ)) → List (List ℕ) → ℕ → Counts
 check_counted k anomalies_at open_at frames remainder =
-    record (counted k frames remainder) { anomalies = length (lines_from anomalies_at [] frames) + length (end_anomalies k open_at frames remainder) }
+    record (counts_in k frames remainder) { anomalies = length (lines_from anomalies_at [] frames) + length (end_anomalies k open_at frames remainder) }
 
 -- the listing: the lines of each frame, those after the last one, and the totals
 abbrev pub check_listing : Kind → (List (List ℕ) → List ℕ → List (List ℕ)) → (ℕ → List (List ℕ) → ℕ → List (List ℕ)) → Listing

@@ -4,7 +4,7 @@ use Rattle.std.specs.Prelude.{ℕ, List, [], ◌++◌, length, take, codes, deci
 use Rattle.hex.specs.Hex.{encode_lower}
 use Rattle.sl_fields.specs.Field.{bit_of}
 use Rattle.sl_fields.specs.PacketHeader.{PacketFields, packet_header}
-use Rattle.sl_link.specs.Kind.Delivery.{Kind, counted}
+use Rattle.sl_link.specs.Kind.Delivery.{Kind, counts_in}
 use Rattle.sl_link.specs.Verbs.Listing.{Listing}
 
 -- the primary header: its fields from the secondary header flag on, and then all of them
@@ -33,4 +33,4 @@ packet_line channel packet = channel ++ packet_text packet
 
 -- the listing of frames of a kind with these lines
 abbrev pub packets_listing : Kind → (List (List ℕ) → List ℕ → List ℕ) → Listing
-packets_listing k lines = record { line = lines; last = λ frames remainder. []; counts = counted k }
+packets_listing k lines = record { line = lines; last = λ frames remainder. []; counts = counts_in k }

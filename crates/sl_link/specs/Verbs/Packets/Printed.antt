@@ -4,15 +4,15 @@ use Rattle.std.specs.List.{concat}
 use Rattle.sl_packet.specs.Packets.{without_idle}
 use Rattle.sl_link.specs.declared.verbs.packets.printer.ChannelKind.{ChannelKind}
 use Rattle.sl_link.specs.declared.verbs.packets.printer.ChannelKind.TheVariants.{VirtualChannel, Map}
-use Rattle.sl_link.specs.Verbs.Packets.Tm as tm
-use Rattle.sl_link.specs.Verbs.Packets.Tc as tc
+use Rattle.sl_link.specs.Verbs.Packets.Tm.{tm_channel_text}
+use Rattle.sl_link.specs.Verbs.Packets.Tc.{tc_channel_text}
 use Rattle.sl_link.specs.Kind.Delivery.{Kind}
 use Rattle.sl_link.specs.Verbs.Packets.Line.{packet_line}
 
 -- a channel by its number: a virtual channel, or virtual channel v and MAP m, whose number is 64 v + m
 abbrev pub channel_name : ChannelKind → ℕ → List ℕ
-channel_name VirtualChannel channel = tm.channel_text channel
-channel_name Map channel = tc.channel_text (channel / 64) (channel % 64)
+channel_name VirtualChannel channel = tm_channel_text channel
+channel_name Map channel = tc_channel_text (channel / 64) (channel % 64)
 
 -- the lines of packets on a channel
 abbrev pub lines_on : ChannelKind → ℕ → List (List ℕ) → List ℕ

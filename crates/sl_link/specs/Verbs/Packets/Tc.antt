@@ -15,14 +15,14 @@ use Rattle.sl_link.specs.Verbs.Packets.Line.{packet_line, packets_listing}
 use Rattle.sl_link.specs.Verbs.Listing.{Listing, listing_text}
 
 -- a virtual channel and a MAP
-abbrev pub channel_text : ℕ → ℕ → List ℕ
-channel_text vc map_id = codes "vc " ++ decimal vc ++ codes " map " ++ decimal map_id
+abbrev pub tc_channel_text : ℕ → ℕ → List ℕ
+tc_channel_text vc map_id = codes "vc " ++ decimal vc ++ codes " map " ++ decimal map_id
 
 -- the lines of the packets that a frame delivers, as it is read, after the frames `views`: those of
 -- the series that its unit ends
 abbrev pub tc_packet_lines : ReceptionParameters → List TcView → Result TcView TcSkip → List ℕ
 tc_packet_lines r views (Ok view) =
-    concat (map (packet_line (channel_text view.vc (map_by r view))) (without_idle (ended_by r views view)))
+    concat (map (packet_line (tc_channel_text view.vc (map_by r view))) (without_idle (ended_by r views view)))
 tc_packet_lines r views (Err reason) = []
 
 -- the same of a frame that comes after `before`

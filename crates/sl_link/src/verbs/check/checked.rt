@@ -44,7 +44,7 @@ pub trait Checked: Delivery {
         ensures none { (p : Parameters) (offset : ℕ) (frames : List (List ℕ))
             → Self.has_processed self.now p frames → (channel : ℕ) → result ≤ channel
             → channel < limit → open_at p offset frames channel ≡ [] }
-        ensures all { (p : Parameters) → (Self.kind p).limit ≡ limit }
+        ensures all { (p : Parameters) → (Self.kind p).channel_limit ≡ limit }
         // What is incomplete after frames is no more than the frames.
         ensures few { (p : Parameters) (offset : ℕ) (frames : List (List ℕ))
             → length (flat_map (open_at p offset frames) (Self.kind p).channels) ≤ length frames };
@@ -69,7 +69,7 @@ impl Checked for Extractor {
     ghost limit = { 8 };
 
     fn anomaly_lines(lines: &mut Lines, offset: u64, found: Result<TmFound, TmSkip>) -> u64 {
-        lines_tm::anomaly_lines(lines, offset, found)
+        lines_tm::tm_anomaly_lines(lines, offset, found)
     }
 
     fn open_below(&self) -> u16 {
@@ -98,7 +98,7 @@ impl Checked for Receiver {
     ghost limit = { channel_count };
 
     fn anomaly_lines(lines: &mut Lines, offset: u64, found: Result<TcFound, TcSkip>) -> u64 {
-        lines_tc::anomaly_lines(lines, offset, found)
+        lines_tc::tc_anomaly_lines(lines, offset, found)
     }
 
     fn open_below(&self) -> u16 {

@@ -7,7 +7,7 @@ ghost use Rattle.sl_link.specs.Verbs.Check.Checking.{AddsAnomalies};
 ghost use Rattle.sl_link.specs.Verbs.Check.Lines.{event_anomaly, event_line, remainder_anomaly, some_text, totals_line};
 
 use crate::io::lines::Lines;
-use crate::io::output::remainder_line;
+use crate::io::output::push_remainder;
 use crate::link::totals::Totals;
 
 /// Where an anomaly is: at a frame, on a virtual channel, and in a TC recording on a MAP.
@@ -74,7 +74,7 @@ pub fn remainder_lines(lines: &mut Lines, offset: u64, octets: u64) -> u64
     if octets == 0 {
         return 0;
     }
-    remainder_line(lines, offset, octets);
+    push_remainder(lines, offset, octets);
     1
 }
 

@@ -14,7 +14,7 @@ use sl_tcframe::TcSkip;
 
 /// Adds the lines of a frame, and answers how many they are.
 #[inline(always)]
-pub fn anomaly_lines(lines: &mut Lines, offset: u64, found: Result<TcFound, TcSkip>) -> u64
+pub fn tc_anomaly_lines(lines: &mut Lines, offset: u64, found: Result<TcFound, TcSkip>) -> u64
     requires { HasRoom lines.old }
     ensures text { lines.new ≡ lines.old ++ concat (tc_lines offset found) }
     ensures number { result ≡ length (tc_lines offset found) }

@@ -13,7 +13,7 @@ use sl_tmframe::TmSkip;
 
 /// Adds the lines of a frame, and answers how many they are.
 #[inline(always)]
-pub fn anomaly_lines(lines: &mut Lines, offset: u64, found: Result<TmFound, TmSkip>) -> u64
+pub fn tm_anomaly_lines(lines: &mut Lines, offset: u64, found: Result<TmFound, TmSkip>) -> u64
     requires { HasRoom lines.old }
     ensures text { lines.new ≡ lines.old ++ concat (tm_lines offset found) }
     ensures number { result ≡ length (tm_lines offset found) }

@@ -3,7 +3,7 @@ ghost use Rattle.std.specs.Prelude.{◌≡◌, ◌+◌, ◌≤◌, ◌++◌, len
 ghost use Rattle.sl_packet.specs.Packet.{IsPacket};
 ghost use Rattle.sl_link.specs.Verbs.Packets.Printed.{channel_name};
 ghost use Rattle.sl_link.specs.Verbs.Packets.Line.{packet_line};
-ghost use Rattle.sl_link.specs.Verbs.Packets.Tc.{channel_text};
+ghost use Rattle.sl_link.specs.Verbs.Packets.Tc.{tc_channel_text};
 ghost use Rattle.sl_link.specs.Io.Output.{Adds, KeepsWriter};
 ghost use Rattle.sl_link.specs.Io.Room.{HasRoom, fields_width};
 ghost use Rattle.sl_link.specs.Io.Streams.{StopsWriting};
@@ -77,7 +77,7 @@ fn print_packet<W: Write>(
 {
     out.make_room()?;
     push_channel(&mut out.lines, kind, channel);
-    // After this call the whole line was added, or at a fault a beginning of it was written: a clause for each.
+    // After this call the whole line was added; or, at a fault, a beginning of what waited and of the line was written.
     push_packet_text(out, packet)?;
     Ok(())
 }
@@ -99,7 +99,7 @@ fn push_channel(lines: &mut Lines, kind: ChannelKind, channel: u16)
 
 fn push_map(lines: &mut Lines, vc: u16, map: u16)
     requires { HasRoom lines.old }
-    ensures text { lines.new ≡ lines.old ++ channel_text vc map }
+    ensures text { lines.new ≡ lines.old ++ tc_channel_text vc map }
     ensures short { length lines.new ≤ length lines.old + fields_width }
 {
     lines.push(b"vc ");

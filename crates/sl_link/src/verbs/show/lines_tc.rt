@@ -90,8 +90,8 @@ fn push_step(lines: &mut Lines, farms: &mut Farms, frame: &TcFrame)
     lines.push_hex_word(&farms.clcw(frame.vc()).write());
 }
 
-// Adds the verdict on a frame, and the name of what follows. Nearly all frames are accepted, and their text is pushed at
-// once: that was measured.
+// Adds the verdict on a frame, and the name of what follows. Nearly all frames are accepted, and their text is pushed
+// at once: that was measured.
 fn push_frame_verdict(lines: &mut Lines, verdict: Verdict)
     requires { HasRoomFor words_width lines.old }
     ensures text { lines.new ≡ lines.old ++ (codes " " ++ verdict_word verdict ++ codes " clcw ") }

@@ -14,7 +14,7 @@ use Rattle.sl_tcflow.specs.Canonical.{IsFormat, AreDeliverable, NormalFormIsFram
 use Rattle.sl_tcflow.specs.FitsTc.{FitsTc}
 use Rattle.sl_tcflow.specs.Reception.{packets_of_segments, segments_of}
 use Rattle.sl_tcflow.specs.ReceptionParameters.{ReceptionParameters, is_plain, initial_vr}
-use Rattle.sl_tcflow.specs.Recording.{map_channels, packets_in_channel, recorded_views}
+use Rattle.sl_tcflow.specs.Recording.{map_channels, packets_of_channel, recorded_views}
 use Rattle.sl_tcflow.specs.Series.{segment_in, segments_on}
 use Rattle.sl_tcflow.specs.TcNormalForm.{tc_frames_form, tc_normal_form_of, units_of_maps}
 use Rattle.sl_fields.proofs.ListLemmas.{each-at, each-drop, each-take, each-weaker, filter_all}
@@ -76,7 +76,7 @@ module _ (format : TcFormat) (spacecraft : ℕ) (r : ReceptionParameters) (lists
       ∙ list_on lists vc map_id mid_fits
 
   list_back : (channel : ℕ) → channel < channel_count
-      → slice_index_or lists channel [] ≡ without_idle (packets_in_channel r (recorded_views format spacecraft form) channel)
+      → slice_index_or lists channel [] ≡ without_idle (packets_of_channel r (recorded_views format spacecraft form) channel)
   list_back channel below =
       let index : 64 * (channel / 64) + channel % 64 ≡ channel = omega arith in
       let packets = slice_index_or lists channel [] in
@@ -92,5 +92,5 @@ map_over_channels f lists all each = sym (fill_by_all f lists channel_count [] a
 
 pub normal_form_delivers : NormalFormDelivers
 normal_form_delivers format spacecraft r lists is known octets are fits =
-    map_over_channels (λ channel. without_idle (packets_in_channel r (recorded_views format spacecraft (tc_normal_form_of format spacecraft r.starts r.plain lists)) channel)) lists are.all
+    map_over_channels (λ channel. without_idle (packets_of_channel r (recorded_views format spacecraft (tc_normal_form_of format spacecraft r.starts r.plain lists)) channel)) lists are.all
     (list_back format spacecraft r lists is known octets are fits)

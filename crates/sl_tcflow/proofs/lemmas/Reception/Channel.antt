@@ -11,7 +11,7 @@ use Rattle.sl_tcflow.specs.AcceptedUnit.{accepted_units, unit_by}
 use Rattle.sl_tcflow.specs.Incomplete.{if_fits, incomplete_of}
 use Rattle.sl_tcflow.specs.NextSegment.{extended, incomplete_after, packets_after, packets_of_service_unit, service_unit_ended}
 use Rattle.sl_tcflow.specs.Receiving.{channel_at, ended_by, map_by, map_of, segment_by, unit_channel, verdict_on, held_in, octets_of_series}
-use Rattle.sl_tcflow.specs.Recording.{packets_in_channel}
+use Rattle.sl_tcflow.specs.Recording.{packets_of_channel}
 use Rattle.sl_tcflow.specs.Reception.{packets_ended, packets_of_segments, segments_of}
 use Rattle.sl_tcflow.specs.ReceptionParameters.{ReceptionParameters, is_plain, initial_vr}
 use Rattle.sl_tcflow.specs.Series.{flags_of, header_at, segment_data, segment_in, segments_on}
@@ -201,13 +201,13 @@ module _ (r : ReceptionParameters) (views : List TcView) (next : TcView) where
   channel_is channel = omega arith
 
   pub packets_own : (channel : ℕ) → channel ≡ unit_channel r next
-      → packets_in_channel r after channel ≡ packets_in_channel r views channel ++ ended_by r views next
+      → packets_of_channel r after channel ≡ packets_of_channel r views channel ++ ended_by r views next
   packets_own channel is =
       let (vc, map_id) = of_channel channel is in
       ap₂ (λ v m. packets_of_segments (segments_of r v m after)) vc map_id ∙ own_packets
       ∙ sym (ap₂ (λ v m. packets_of_segments (segments_of r v m views) ++ ended_by r views next) vc map_id)
 
-  pub packets_other : (channel : ℕ) → channel ≢ unit_channel r next → packets_in_channel r after channel ≡ packets_in_channel r views channel
+  pub packets_other : (channel : ℕ) → channel ≢ unit_channel r next → packets_of_channel r after channel ≡ packets_of_channel r views channel
   packets_other channel other = ap packets_of_segments (segments_other (channel / 64) (channel % 64) (λ e. other (sym (channel_is channel) ∙ e)))
 
   pub held_own : (channel : ℕ) → channel ≡ unit_channel r next

@@ -6,12 +6,12 @@ use Rattle.sl_packet.proofs.WithoutIdleLemmas.{without_idle-append}
 use Rattle.sl_tcframe.specs.TcFrame.{TcView}
 use Rattle.sl_tcflow.specs.Receiving.{DeliveredAreHandedOver, ended_by, handed_over, unit_channel}
 use Rattle.sl_tcflow.specs.ReceptionParameters.{ReceptionParameters}
-use Rattle.sl_tcflow.specs.Recording.{packets_in_channel}
+use Rattle.sl_tcflow.specs.Recording.{packets_of_channel}
 use Rattle.sl_tcflow.proofs.lemmas.Reception.Channel.{packets_other, packets_own}
 
 module _ (r : ReceptionParameters) (channel : ℕ) where
   abbrev delivered : List TcView → List (List ℕ)
-  delivered views = without_idle (packets_in_channel r views channel)
+  delivered views = without_idle (packets_of_channel r views channel)
 
   -- the packets that a frame adds to those of a channel
   handed_step : (views : List TcView) (next : TcView)
@@ -19,7 +19,7 @@ module _ (r : ReceptionParameters) (channel : ℕ) where
   handed_step views next =
       elim (eqb_tells (unit_channel r next) channel) [
         | inl (test, same) ↦
-            rw (test) (ap without_idle (packets_own r views next channel (sym same)) ∙ without_idle-append (packets_in_channel r views channel) (ended_by r views next))
+            rw (test) (ap without_idle (packets_own r views next channel (sym same)) ∙ without_idle-append (packets_of_channel r views channel) (ended_by r views next))
         | inr (test, other) ↦
             rw (test) (ap without_idle (packets_other r views next channel (λ e. other (sym e))) ∙ sym (append-nil (delivered views)))
       ]

@@ -11,7 +11,7 @@ use Rattle.sl_tcframe.specs.TcFrame.{TcView}
 use Rattle.sl_tcflow.specs.Canonical.{RecordedListsAreDeliverable}
 use Rattle.sl_tcflow.specs.Reception.{packets_of_series, segments_of}
 use Rattle.sl_tcflow.specs.ReceptionParameters.{ReceptionParameters}
-use Rattle.sl_tcflow.specs.Recording.{map_channels, packets_in_channel, recorded_views}
+use Rattle.sl_tcflow.specs.Recording.{map_channels, packets_of_channel, recorded_views}
 use Rattle.sl_tcflow.specs.Series.{SeriesAt, reassembled, series_of}
 use Rattle.sl_fields.proofs.ListLemmas.{each-every, each-flat_map, each-map}
 use Rattle.std.specs.List.{range_with_len}
@@ -23,10 +23,10 @@ packets_if false octets = tt
 in_series : (s : SeriesAt) → AllByRecursion IsPacket (packets_of_series s.segments)
 in_series s = packets_if (nat_le (length (reassembled s.segments)) 65542) (reassembled s.segments)
 
-channel_due : (r : ReceptionParameters) (views : List TcView) (channel : ℕ) → AllByRecursion IsDeliverable (without_idle (packets_in_channel r views channel))
+channel_due : (r : ReceptionParameters) (views : List TcView) (channel : ℕ) → AllByRecursion IsDeliverable (without_idle (packets_of_channel r views channel))
 channel_due r views channel =
     let list = series_of (segments_of r (channel / 64) (channel % 64) views) in
-    without_idle_due (packets_in_channel r views channel)
+    without_idle_due (packets_of_channel r views channel)
     (each-flat_map IsPacket (λ (s : SeriesAt). packets_of_series s.segments) list (each-every (λ (s : SeriesAt). AllByRecursion IsPacket (packets_of_series s.segments)) in_series list))
 
 all_channels : (f : ℕ → List (List ℕ)) → length (map f map_channels) ≡ channel_count
@@ -41,6 +41,6 @@ pub recorded_lists_are_deliverable : RecordedListsAreDeliverable
 recorded_lists_are_deliverable format spacecraft r recording =
     let views = recorded_views format spacecraft recording in
     record {
-      all = all_channels (λ channel. without_idle (packets_in_channel r views channel));
-      each = each_channel (λ channel. without_idle (packets_in_channel r views channel)) (channel_due r views);
+      all = all_channels (λ channel. without_idle (packets_of_channel r views channel));
+      each = each_channel (λ channel. without_idle (packets_of_channel r views channel)) (channel_due r views);
     }

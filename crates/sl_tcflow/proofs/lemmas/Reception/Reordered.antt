@@ -22,7 +22,7 @@ use Rattle.sl_tcflow.specs.AcceptedUnit.{accepted_ad_units, ad_unit_of, channel_
 use Rattle.sl_tcflow.specs.Receiving.{channel_at}
 use Rattle.sl_tcflow.specs.Reception.{packets_ended, packets_of_segments, segments_of}
 use Rattle.sl_tcflow.specs.ReceptionParameters.{ReceptionParameters, is_plain, initial_vr}
-use Rattle.sl_tcflow.specs.Recording.{map_channels, packets_in_channel, recorded_views}
+use Rattle.sl_tcflow.specs.Recording.{map_channels, packets_of_channel, recorded_views}
 use Rattle.sl_tcflow.specs.ReorderedUnits.{AdUnitsAreAll, AreArrivals, ExpectedUnitIsAccepted, HaveNoBd, IsArrival, PacketsInOrder, ReceiverCountsUnits, RecordedPacketsInOrder, UnitsInOrder, VrCountsUnits, WindowIsNear, WindowNeverLocks, accepted_ad_count, recorded_packets, unit_at, segments_sent}
 use Rattle.sl_tcflow.specs.Series.{header_at, segment_in, segments_on}
 use Rattle.sl_fields.proofs.ListLemmas.{each-append}
@@ -236,7 +236,7 @@ recorded_on format spacecraft r vc map_id recording vc_fits mid_fits =
     let here : 0 + channel_at vc map_id ≡ channel_at vc map_id = omega arith in
     let vc_is : channel_at vc map_id / 64 ≡ vc = omega arith in
     let mid_is : channel_at vc map_id % 64 ≡ map_id = omega arith in
-    get_or-map-range_with_len (λ channel. without_idle (packets_in_channel r views channel)) 0 channel_count (channel_at vc map_id) (channel_at vc map_id) [] below here
+    get_or-map-range_with_len (λ channel. without_idle (packets_of_channel r views channel)) 0 channel_count (channel_at vc map_id) (channel_at vc map_id) [] below here
     ∙ ap₂ (λ v m. without_idle (packets_of_segments (segments_of r v m views))) vc_is mid_is
 
 pub recorded_packets_in_order : RecordedPacketsInOrder

@@ -44,23 +44,23 @@ none_in line from (suc n) none =
 -- the lines of the channels before one were added, and this is their number
 pub record HasAdded {W : Type 0} (contents : W → Option (List ℕ)) (line : ℕ → List (List ℕ)) (k : Kind) (start out : Output W) (channel number : ℕ) : Type 0 where
   pub lines : List (List ℕ)
-  pub all : flat_map line k.channels ≡ lines ++ flat_map line (range_with_len channel (k.limit - channel))
+  pub all : flat_map line k.channels ≡ lines ++ flat_map line (range_with_len channel (k.channel_limit - channel))
   pub added : Adds contents start (concat lines) out
   pub many : number ≡ length lines
 
 module _ {W : Type 0} {contents : W → Option (List ℕ)} {line : ℕ → List (List ℕ)} {k : Kind} {start : Output W} where
-  pub added_none : k.channels ≡ range_with_len 0 k.limit → HasAdded contents line k start start 0 0
+  pub added_none : k.channels ≡ range_with_len 0 k.channel_limit → HasAdded contents line k start start 0 0
   added_none all =
-      let whole : k.limit ≡ k.limit - 0 = omega arith in
+      let whole : k.channel_limit ≡ k.channel_limit - 0 = omega arith in
       record { lines = []; all = ap (flat_map line) (all ∙ ap (range_with_len 0) whole); added = adds_lines contents start start [] refl (sym (append-nil start.lines)); many = refl }
 
-  pub added_next : {old new : Output W} {channel number more : ℕ} → HasAdded contents line k start old channel number → channel < k.limit
+  pub added_next : {old new : Output W} {channel number more : ℕ} → HasAdded contents line k start old channel number → channel < k.channel_limit
       → Adds contents old (concat (line channel)) new → more ≡ length (line channel) → HasAdded contents line k start new (channel + 1) (number + more)
   added_next {channel = channel} h within adds is =
-      let left : k.limit - channel ≡ suc (k.limit - (channel + 1)) = omega (arith, within) in
+      let left : k.channel_limit - channel ≡ suc (k.channel_limit - (channel + 1)) = omega (arith, within) in
       record {
         lines = h.lines ++ line channel;
-        all = rw left at h.all ∙ sym (append_assoc h.lines (line channel) (flat_map line (range_with_len (channel + 1) (k.limit - (channel + 1)))));
+        all = rw left at h.all ∙ sym (append_assoc h.lines (line channel) (flat_map line (range_with_len (channel + 1) (k.channel_limit - (channel + 1)))));
         added = rw (concat-append h.lines (line channel)) (adds_both h.added adds);
         many = omega (arith, h.many, is, length-append h.lines (line channel));
       }
@@ -71,10 +71,10 @@ module _ {W : Type 0} {contents : W → Option (List ℕ)} {line : ℕ → List 
   added_stops h stops = rw (h.all, concat-append) (stops_first _ (concat h.lines) _ (stops_last h.added stops))
 
   -- where the channels from one on have none, they are those of all channels
-  pub added_all : {out : Output W} {channel number : ℕ} → HasAdded contents line k start out channel number → channel ≤ k.limit
-      → ((other : ℕ) → channel ≤ other → other < k.limit → line other ≡ []) → Adds contents start (concat (flat_map line k.channels)) out × (number ≡ length (flat_map line k.channels))
+  pub added_all : {out : Output W} {channel number : ℕ} → HasAdded contents line k start out channel number → channel ≤ k.channel_limit
+      → ((other : ℕ) → channel ≤ other → other < k.channel_limit → line other ≡ []) → Adds contents start (concat (flat_map line k.channels)) out × (number ≡ length (flat_map line k.channels))
   added_all {channel = channel} h within none =
-      let past = none_in line channel (k.limit - channel) (λ other above below. none other above (omega (arith, below, within))) in
+      let past = none_in line channel (k.channel_limit - channel) (λ other above below. none other above (omega (arith, below, within))) in
       rw (h.all, past, append-nil h.lines) (h.added, h.many)
 
 -- ---- how many lines these are
@@ -88,7 +88,7 @@ module _ (k : Kind) (laws : AreDelivered k) (line : List (List ℕ) → ℕ → 
   few_next frames frame few =
       let at = k.channel frame in
       let next = frames ++ frame ∷ [] in
-      let change = items_change k.limit k.channels laws.all (line frames) (line next) at (laws.inside frame) (λ i apart. other frames frame i (λ e. apart (sym e))) in
+      let change = items_change k.channel_limit k.channels laws.all (line frames) (line next) at (laws.inside frame) (λ i apart. other frames frame i (λ e. apart (sym e))) in
       omega (arith, few, change, one next at, flat_count (line frames) k.channels, flat_count (line next) k.channels, length-append frames (frame ∷ []))
 
   few_from : (before frames : List (List ℕ)) → length (flat_map (line before) k.channels) ≤ length before

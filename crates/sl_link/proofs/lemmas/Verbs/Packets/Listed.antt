@@ -87,16 +87,16 @@ module _ (k : Kind) where
         (listed_on (before ++ frame ∷ []) frames channel ∙ ap (λ l. on l channel) (append_assoc before (frame ∷ []) frames))
 
     -- and there are none past the last channel
-    listed_none : (before frames : List (List ℕ)) (channel : ℕ) → k.limit ≤ channel → packets_listed_on (listed_from before frames) channel ≡ []
+    listed_none : (before frames : List (List ℕ)) (channel : ℕ) → k.channel_limit ≤ channel → packets_listed_on (listed_from before frames) channel ≡ []
     listed_none before [] channel past = refl
     listed_none before (frame ∷ frames) channel past =
         let other : (k.channel frame == channel) ≡ false = grind (arith, nat_tests, laws.inside frame) in
         rw (listed-append channel (listed_in before frame) (listed_from (before ++ frame ∷ []) frames), listed_other (k.channel frame) channel _ other) (listed_none (before ++ frame ∷ []) frames channel past)
 
     each_listed : (frames : List (List ℕ)) (channel : ℕ) → packets_listed_on (listed_from [] frames) channel ≡ slice_index_or (lists_in k frames) channel []
-    each_listed frames channel = rw laws.all (elim (leb_tells k.limit channel) [
-      | inl (is, past) ↦ listed_none [] frames channel past ∙ sym (get_or_past _ channel [] (omega (arith, past, length-map-range_with_len (on frames) 0 k.limit)))
-      | inr (is, apart) ↦ rw (get_or-map-range_with_len (on frames) 0 k.limit channel channel [] (omega (arith, apart)) (omega arith), ← listed_on [] frames channel, laws.none channel) refl
+    each_listed frames channel = rw laws.all (elim (leb_tells k.channel_limit channel) [
+      | inl (is, past) ↦ listed_none [] frames channel past ∙ sym (get_or_past _ channel [] (omega (arith, past, length-map-range_with_len (on frames) 0 k.channel_limit)))
+      | inr (is, apart) ↦ rw (get_or-map-range_with_len (on frames) 0 k.channel_limit channel channel [] (omega (arith, apart)) (omega arith), ← listed_on [] frames channel, laws.none channel) refl
     ])
 
     -- So, of a whole recording, each list has its channel's packets.

@@ -4,7 +4,7 @@ use Rattle.std.specs.List.{slice_index_or}
 use Rattle.sl_tmflow.specs.FormLeft.{HasPackets}
 use Rattle.sl_link.specs.Io.Streams.{StopsWriting, WritesText}
 use Rattle.sl_link.specs.Link.ManagedModel.{parameters_of}
-use Rattle.sl_link.proofs.lemmas.Io.Streams.{wanted_less}
+use Rattle.sl_link.proofs.lemmas.Io.Streams.{memory_weaker}
 use Rattle.sl_link.proofs.lemmas.Normalise.Form.{tm_form_delivers, tm_form_is}
 use Rattle.sl_link.proofs.normalise.ExtractorFormed.write.Goals as goal
 
@@ -20,5 +20,5 @@ pub returns-clause-fault : goal.returns-clause-fault
 returns-clause-fault g c =
     let is = tm_form_is c.args.managed.now (parameters_of c.managed.inside) (take 8 c.args.delivered.now.lists) c.managed.view_is in
     MatchResult-weaker c.write_form.result c.write_form.ensures.fault (λ _ u. u) (λ fault s.
-    wanted_less (λ w. (w.0, λ none. w.1.1.1 (ap (λ (l : List (List (List ℕ))). slice_index_or l w.1.0 []) c.new-form.ensures.lists ∙ none w.1.0 w.1.1.0)))
+    memory_weaker (λ w. (w.0, λ none. w.1.1.1 (ap (λ (l : List (List (List ℕ))). slice_index_or l w.1.0 []) c.new-form.ensures.lists ∙ none w.1.0 w.1.1.0)))
     (subst (λ t. StopsWriting g.W.Write.contents c.args.writer.now c.write_form.new.writer t ((c.write_form.new.writer ≡ c.args.writer.now) × HasPackets c.new-form.result.progress.lists) fault) is (s _ c.new-form.ensures.left)))

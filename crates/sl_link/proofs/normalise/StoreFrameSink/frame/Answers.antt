@@ -1,5 +1,5 @@
 use Rattle.std.proofs.Common.{arith, inl, inr, ◌++◌, ◌∷◌, []}
-use Rattle.sl_link.proofs.lemmas.Kind.Delivery.{delivered_more, fits_more, kept_more, packets_more}
+use Rattle.sl_link.proofs.lemmas.Kind.Delivery.{delivered_more, fits_more, stored_more, packets_more}
 use Rattle.sl_link.proofs.lemmas.Link.Answers.{passed_up}
 use Rattle.sl_link.proofs.lemmas.Link.Fault.{memory_refused, wanted_or_some}
 use Rattle.sl_link.proofs.normalise.StoreFrameSink.frame.Goals as goal
@@ -35,5 +35,5 @@ returns-clause-taken g c = λ start before t.
     let d = c.in_ok-report.ensures.delivers before had in
     let b = d.brings in (
       rw c.add.ensures (delivered_more k laws t.0 b.reported (c.in_ok-report.ensures.processed before had) (omega (arith, b.no_anomalies)) (omega (arith, b.some, b.no_anomalies))),
-      kept_more k laws before c.args.frame.now c.args.self.now.delivered c.deliver.new.sink t.1 d.accepted,
+      stored_more k laws before c.args.frame.now c.args.self.now.delivered c.deliver.new.sink t.1 d.accepted,
     )

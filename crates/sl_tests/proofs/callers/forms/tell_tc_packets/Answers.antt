@@ -1,7 +1,7 @@
 use Rattle.std.proofs.Common.{◌≡◌, ◌∙◌, sym}
 use lib.Pointwise.{bytes_decides}
 use Rattle.sl_link.specs.Normalise.Tc.{tc_normal_form}
-use Rattle.sllink.proofs.tests.caller.tell_tc_packets.Goals as goal
+use Rattle.sl_tests.proofs.callers.forms.tell_tc_packets.Goals as goal
 
 pub returns : goal.returns
 returns c =

@@ -1,10 +1,10 @@
 use Rattle.std.proofs.Common.{[]}
-use Rattle.sl_link.proofs.lemmas.Kind.Delivery.{none_delivered, none_kept}
-use Rattle.sl_link.proofs.normalise.deliver.Goals as goal
+use Rattle.sl_link.proofs.lemmas.Kind.Delivery.{none_delivered, none_stored}
+use Rattle.sl_link.proofs.normalise.store_packets.Goals as goal
 
 pub read_recording-requires-clause-begun : goal.read_recording-requires-clause-begun
 read_recording-requires-clause-begun g c =
     let p = c.args.managed.now in
     let k = g.D.Delivery.kind p in
     let laws = (g.met.D.Delivery.within _ p [] c.begin.ensures).delivered in
-    (rw c.none.ensures (none_delivered k laws c.begin.ensures), none_kept k laws _ c.new.ensures.lists)
+    (rw c.none.ensures (none_delivered k laws c.begin.ensures), none_stored k laws _ c.new.ensures.lists)

@@ -1,0 +1,114 @@
+//! The callers of the engines, run.
+use crate::callers::forms::{
+    have_same_tc_packets, have_same_tm_packets, is_tc_form_its_own, is_tm_form_its_own, tell_tc_packets, tell_tm_packets,
+};
+use crate::support::recordings::{TC_FRAME, TM_FRAME};
+use crate::support::rows::{Stop, passes};
+use sl_link::Managed;
+use std::alloc::Global;
+
+// A TM frame with the packet of `TM_FRAME`, other counts and other idle fill, and one with another packet.
+const TM_FILLED: [u8; 32] = [
+    0x00, 0x10, 0x4D, 0xC8, 0x18, 0x00, 0x00, 0x01, 0xC0, 0x00, 0x00, 0x03, 0xAA, 0xBB, 0xCC, 0xDD,
+    0x07, 0xFF, 0x00, 0x07, 0x00, 0x09, 0x55, 0x55, 0x55, 0x55, 0x55, 0x55, 0x55, 0x55, 0x55, 0x55,
+];
+
+const TM_OTHER: [u8; 32] = [
+    0x00, 0x10, 0x00, 0x00, 0x18, 0x00, 0x00, 0x01, 0xC0, 0x00, 0x00, 0x03, 0xAA, 0xBB, 0xCC, 0xDE,
+    0x07, 0xFF, 0xC0, 0x00, 0x00, 0x09, 0x00, 0x00, 0x00, 0x00, 0x00, 0x00, 0x00, 0x00, 0x00, 0x00,
+];
+
+// A frame of type BD with the unit of `TC_FRAME`, and one of type AD with its packet on another MAP.
+const TC_BYPASSING: [u8; 16] = [
+    0x20, 0x01, 0x00, 0x0F, 0x00, 0xC0, 0x10, 0x01, 0xC0, 0x00, 0x00, 0x03, 0xAA, 0xBB, 0xCC, 0xDD,
+];
+
+const TC_OTHER: [u8; 16] = [
+    0x00, 0x01, 0x00, 0x0F, 0x00, 0xC1, 0x10, 0x01, 0xC0, 0x00, 0x00, 0x03, 0xAA, 0xBB, 0xCC, 0xDD,
+];
+
+// A link with a limit of a hundred octets.
+fn link() -> Result<Managed, Stop> {
+    Managed::new(1, 32, false, 16, false, 10, 0, 100).or(Err(Stop::Absent))
+}
+
+// What the six say, without their contracts: whether the packets of another recording are the same ones, and whether a
+// form is its own form.
+fn is_same_tm(alloc: Global, other: &[u8]) -> Result<bool, Stop> {
+    let link = link()?;
+    Ok(have_same_tm_packets(alloc, &link, &TM_FRAME, other)?)
+}
+
+fn is_told_same_tm(alloc: Global, other: &[u8]) -> Result<bool, Stop> {
+    let link = link()?;
+    Ok(tell_tm_packets(alloc, &link, &TM_FRAME, other)?)
+}
+
+fn is_own_tm(alloc: Global) -> Result<bool, Stop> {
+    let link = link()?;
+    Ok(is_tm_form_its_own(alloc, &link, &TM_FILLED)?)
+}
+
+fn is_same_tc(alloc: Global, other: &[u8]) -> Result<bool, Stop> {
+    let link = link()?;
+    Ok(have_same_tc_packets(alloc, &link, &TC_FRAME, other)?)
+}
+
+fn is_told_same_tc(alloc: Global, other: &[u8]) -> Result<bool, Stop> {
+    let link = link()?;
+    Ok(tell_tc_packets(alloc, &link, &TC_FRAME, other)?)
+}
+
+fn is_own_tc(alloc: Global) -> Result<bool, Stop> {
+    let link = link()?;
+    Ok(is_tc_form_its_own(alloc, &link, &TC_BYPASSING)?)
+}
+
+// The spacecraft of the link is the one that it was given.
+fn has_its_spacecraft() -> Result<bool, Stop> {
+    Ok(link()?.spacecraft() == 1)
+}
+
+// A row that is as it should be where an outcome is this one.
+fn is(outcome: Result<bool, Stop>, wanted: bool) -> Result<bool, Stop> {
+    Ok(outcome? == wanted)
+}
+
+#[test]
+fn callers_tell_packets_by_normal_forms(rt: HostRuntime) {
+    let alloc = rt.alloc();
+    let rows = [
+        (
+            "the same TM packet",
+            is(is_same_tm(alloc, &TM_FILLED), true),
+        ),
+        ("another TM packet", is(is_same_tm(alloc, &TM_OTHER), false)),
+        (
+            "the same TM packet by the law",
+            is(is_told_same_tm(alloc, &TM_FILLED), true),
+        ),
+        (
+            "another TM packet by the law",
+            is(is_told_same_tm(alloc, &TM_OTHER), false),
+        ),
+        ("a TM form's own form", is_own_tm(alloc)),
+        (
+            "the same TC packet",
+            is(is_same_tc(alloc, &TC_BYPASSING), true),
+        ),
+        ("another TC packet", is(is_same_tc(alloc, &TC_OTHER), false)),
+        (
+            "the same TC packet by the law",
+            is(is_told_same_tc(alloc, &TC_BYPASSING), true),
+        ),
+        (
+            "another TC packet by the law",
+            is(is_told_same_tc(alloc, &TC_OTHER), false),
+        ),
+        ("a TC form's own form", is_own_tc(alloc)),
+        ("the spacecraft", has_its_spacecraft()),
+    ];
+    for (row, outcome) in rows {
+        passes(&rt, &row, outcome);
+    }
+}

@@ -51,7 +51,11 @@ fn written_tm_form(alloc: Global, managed: &Managed, recording: &[u8]) -> Result
 }
 
 /// Whether a TM recording normalised twice is that normalised once: it is.
-pub fn is_tm_form_its_own(alloc: Global, managed: &Managed, recording: &[u8]) -> Result<bool, LinkFault>
+pub fn is_tm_form_its_own(
+    alloc: Global,
+    managed: &Managed,
+    recording: &[u8],
+) -> Result<bool, LinkFault>
     ensures { IfOk result (λ same. IsTrue same) }
 {
     let form = tm_form(alloc, managed, recording)?;
@@ -114,7 +118,11 @@ fn written_tc_form(alloc: Global, managed: &Managed, recording: &[u8]) -> Result
 }
 
 /// Whether a TC recording normalised twice is that normalised once: it is.
-pub fn is_tc_form_its_own(alloc: Global, managed: &Managed, recording: &[u8]) -> Result<bool, LinkFault>
+pub fn is_tc_form_its_own(
+    alloc: Global,
+    managed: &Managed,
+    recording: &[u8],
+) -> Result<bool, LinkFault>
     ensures { IfOk result (λ same. IsTrue same) }
 {
     let form = tc_form(alloc, managed, recording)?;

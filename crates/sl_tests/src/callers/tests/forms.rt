@@ -1,6 +1,7 @@
 //! The callers of the engines, run.
 use crate::callers::forms::{
-    have_same_tc_packets, have_same_tm_packets, is_tc_form_its_own, is_tm_form_its_own, tell_tc_packets, tell_tm_packets,
+    have_same_tc_packets, have_same_tm_packets, is_tc_form_its_own, is_tm_form_its_own,
+    tell_tc_packets, tell_tm_packets,
 };
 use crate::support::recordings::{TC_FRAME, TM_FRAME};
 use crate::support::rows::{Stop, passes};

@@ -36,8 +36,8 @@ pub trait Delivery: Drop {
     /// Whether the state is the one after these frames, processed in this order.
     ghost has_processed: { Self → Parameters → List (List ℕ) → Type 0 };
 
-    /// Whether memory may be refused at the last of these frames.
-    ghost may_refuse_memory: { Parameters → List (List ℕ) → Type 0 };
+    /// Whether something is incomplete before or after the last of these frames, on its channel.
+    ghost is_incomplete_at_last: { Parameters → List (List ℕ) → Type 0 };
 
     /// What is found of a frame that comes after others.
     ghost found: { Parameters → List (List ℕ) → List ℕ → Self.Found };
@@ -69,10 +69,10 @@ pub trait Delivery: Drop {
             → has_processed self.old managed.now before
             → IsStopped S.taking S.failing S.failures sink.old ((kind managed.now).channel frame.now)
             (without_idle ((kind managed.now).ended before frame.now)) fault sink.new) }
-        // The fault is `Memory` only where memory may be refused. A sink that is refused memory has another fault.
+        // The fault is `Memory` only where something is incomplete. A sink that is refused memory has another fault.
         ensures memory { IfErr result (λ fault. (before : List (List ℕ))
             → has_processed self.old managed.now before → fault ≡ FlowFault.Memory
-            → may_refuse_memory managed.now (before ++ frame.now ∷ [])) };
+            → is_incomplete_at_last managed.now (before ++ frame.now ∷ [])) };
 
     /// The frames that were processed deliver at most as many packets as they have octets.
     ghost within: { (delivery : Self) (p : Parameters) (frames : List (List ℕ))
@@ -123,7 +123,7 @@ impl Delivery for Extractor {
 
     ghost has_processed = { λ extractor p frames. HasProcessedTm p extractor frames };
 
-    ghost may_refuse_memory = { IsIncompleteAtLastTm };
+    ghost is_incomplete_at_last = { IsIncompleteAtLastTm };
 
     ghost found = { tm_found };
 
@@ -177,7 +177,7 @@ impl Delivery for Receiver {
 
     ghost has_processed = { λ receiver p frames. HasProcessedTc p receiver frames };
 
-    ghost may_refuse_memory = { IsIncompleteAtLastTc };
+    ghost is_incomplete_at_last = { IsIncompleteAtLastTc };
 
     ghost found = { tc_found };
 

@@ -93,7 +93,7 @@ pub fn show_tc<R: Read, W: Write>(
 /// virtual channel.
 ///
 /// The fault is `Read` or `Write` where the reader or the writer had one, `TooLong` where more
-/// octets came than the managed limit, and `Memory` where memory was refused. Memory is wanted only
+/// octets came than the managed limit, and `Memory` where memory was refused. Memory is refused only
 /// where a packet is incomplete on the virtual channel of a frame, before the frame or after it.
 pub fn check_tm<R: Read, W: Write>(
     alloc: Global,
@@ -127,7 +127,7 @@ pub fn check_tm<R: Read, W: Write>(
 /// series that is incomplete on each MAP.
 ///
 /// The fault is `Read` or `Write` where the reader or the writer had one, `TooLong` where more octets came than the
-/// managed limit, and `Memory` where memory was refused. Memory is wanted only where the unit of a frame is accepted
+/// managed limit, and `Memory` where memory was refused. Memory is refused only where the unit of a frame is accepted
 /// and a series is incomplete on its MAP, before the frame or after it.
 pub fn check_tc<R: Read, W: Write>(
     alloc: Global,
@@ -162,7 +162,7 @@ pub fn check_tc<R: Read, W: Write>(
 /// incomplete on each virtual channel.
 ///
 /// The fault is `Read` or `Write` where the reader or the writer had one, `TooLong` where more
-/// octets came than the managed limit, and `Memory` where memory was refused. Memory is wanted only
+/// octets came than the managed limit, and `Memory` where memory was refused. Memory is refused only
 /// where a packet is incomplete on the virtual channel of a frame, before the frame or after it.
 pub fn packets_tm<R: Read, W: Write>(
     alloc: Global,
@@ -196,7 +196,7 @@ pub fn packets_tm<R: Read, W: Write>(
 /// 64 virtual channels, and the series of segments that is incomplete on each MAP.
 ///
 /// The fault is `Read` or `Write` where the reader or the writer had one, `TooLong` where more octets came than the
-/// managed limit, and `Memory` where memory was refused. Memory is wanted only where the unit of a frame is accepted
+/// managed limit, and `Memory` where memory was refused. Memory is refused only where the unit of a frame is accepted
 /// and a series is incomplete on its MAP, before the frame or after it.
 pub fn packets_tc<R: Read, W: Write>(
     alloc: Global,

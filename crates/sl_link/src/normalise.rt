@@ -35,7 +35,7 @@ use std::io::{Read, Write};
 /// on each virtual channel.
 ///
 /// The fault is `Read` or `Write` where the reader or the writer had one, `TooLong` where more octets came than the
-/// managed limit, and `Memory` where memory was refused. Memory is wanted only where a packet is incomplete on the
+/// managed limit, and `Memory` where memory was refused. Memory is refused only where a packet is incomplete on the
 /// virtual channel of a frame, before the frame or after it, or where a packet was delivered. After `Write` the
 /// writer has a prefix of the normal form; after another fault nothing was written.
 pub fn normalise_tm<R: Read, W: Write>(
@@ -75,7 +75,7 @@ pub fn normalise_tm<R: Read, W: Write>(
 /// and the series that is incomplete on each MAP.
 ///
 /// The fault is `Read` or `Write` where the reader or the writer had one, `TooLong` where more octets came than the
-/// managed limit, and `Memory` where memory was refused. Memory is wanted only where the unit of a frame is accepted
+/// managed limit, and `Memory` where memory was refused. Memory is refused only where the unit of a frame is accepted
 /// and a series is incomplete on its MAP, before the frame or after it, or where a packet was delivered. After
 /// `Write` the writer has a prefix of the normal form; after another fault nothing was written.
 pub fn normalise_tc<R: Read, W: Write>(
@@ -205,7 +205,7 @@ fn normalise<D: Formed, F: Framer, R: Read, W: Write>(
     ensures nothing { IfErr result (λ fault. fault ≢ LinkFault.Write → writer.new ≡ writer.old) }
     ensures memory { IfErr result (λ fault. fault ≡ LinkFault.Memory
         → MayRefuseMemoryAtSome R.remaining reader.old reader.new (D.kind managed.now).frames_of
-        (MayRefuseMemory (D.kind managed.now) (D.may_refuse_memory managed.now))) }
+        (MayRefuseMemory (D.kind managed.now) (D.is_incomplete_at_last managed.now))) }
 {
     let (delivered, totals) = store_packets::<D, F, R>(alloc, managed, framer, reader)?;
     D::write(alloc, managed, &delivered, writer)?;
@@ -228,7 +228,7 @@ pub fn store_packets<D: Delivery, F: Framer, R: Read>(
         managed.now.max_octets chunk_size) }
     ensures memory { IfErr result (λ fault. fault ≡ LinkFault.Memory
         → MayRefuseMemoryAtSome R.remaining reader.old reader.new (D.kind managed.now).frames_of
-        (MayRefuseMemory (D.kind managed.now) (D.may_refuse_memory managed.now))) }
+        (MayRefuseMemory (D.kind managed.now) (D.is_incomplete_at_last managed.now))) }
 {
     let mut buffer = [0; CHUNK_SIZE];
     let mut store = Store {
@@ -263,7 +263,7 @@ impl<D: Delivery> FrameSink for Store<D> {
         frames 0 now.so_far × AreStored (D.kind p) frames now.delivered.lists };
 
     ghost stopped = { λ p start now frames fault. IsRefused (MayRefuseMemory (D.kind p)
-        (D.may_refuse_memory p) frames) fault };
+        (D.is_incomplete_at_last p) frames) fault };
 
     fn frame(&mut self, managed: &Managed, frame: &[u8]) -> Result<(), LinkFault> {
         let (report, _) = self.delivery.deliver(managed, frame, &mut self.delivered)?;

@@ -29,7 +29,7 @@ use std::io::Read;
 /// packet that is incomplete on each virtual channel.
 ///
 /// The fault is `Read` where a reader had one, `TooLong` where more octets came from a reader than
-/// the managed limit, and `Memory` where memory was refused. Memory is wanted only where a packet
+/// the managed limit, and `Memory` where memory was refused. Memory is refused only where a packet
 /// is incomplete on the virtual channel of a frame, before the frame or after it, or where a packet
 /// was delivered. Where the first recording isn't read to its end, nothing is read of the other one.
 pub fn same_packets_tm<A: Read, B: Read>(
@@ -64,7 +64,7 @@ pub fn same_packets_tm<A: Read, B: Read>(
 /// at most, and the series that is incomplete on each MAP.
 ///
 /// The fault is `Read` where a reader had one, `TooLong` where more octets came from a reader than the managed limit,
-/// and `Memory` where memory was refused. Memory is wanted only where the unit of a frame is accepted and a series is
+/// and `Memory` where memory was refused. Memory is refused only where the unit of a frame is accepted and a series is
 /// incomplete on its MAP, before the frame or after it, or where a packet was delivered. Where the first recording
 /// isn't read to its end, nothing is read of the other one.
 pub fn same_packets_tc<A: Read, B: Read>(
@@ -112,9 +112,9 @@ fn same_packets<D: Delivery, F: Framer + Drop, A: Read, B: Read>(
         × StopsReading B.remaining other.old other.new managed.now.max_octets chunk_size fault)) }
     ensures memory { IfErr result (λ fault. fault ≡ LinkFault.Memory
         → MayRefuseMemoryAtSome A.remaining one.old one.new (D.kind managed.now).frames_of
-        (MayRefuseMemory (D.kind managed.now) (D.may_refuse_memory managed.now))
+        (MayRefuseMemory (D.kind managed.now) (D.is_incomplete_at_last managed.now))
         ⊎ MayRefuseMemoryAtSome B.remaining other.old other.new (D.kind managed.now).frames_of
-        (MayRefuseMemory (D.kind managed.now) (D.may_refuse_memory managed.now))) }
+        (MayRefuseMemory (D.kind managed.now) (D.is_incomplete_at_last managed.now))) }
 {
     let (mut framer, mut other_framer) = framers;
     let (stored, _) = store_packets::<D, F, A>(alloc, managed, &mut framer, one)?;

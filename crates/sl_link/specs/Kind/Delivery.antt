@@ -53,7 +53,7 @@ number_of_packets k frames = count_of (lists_in k frames)
 abbrev pub number_of_idle : Kind → List (List ℕ) → ℕ
 number_of_idle k frames = count_of (map (λ channel. only_idle (k.packets frames channel)) k.channels)
 
--- the counts in frames, and a remainder of this many octets
+-- what is counted in frames, and in a remainder of this many octets
 abbrev pub counts_in : Kind → List (List ℕ) → ℕ → Counts
 counts_in k frames remainder =
     counts_with (length (concat frames) + remainder) (length frames) (skipped_in k.is_skipped frames) remainder
@@ -121,4 +121,4 @@ pub record AreStored (k : Kind) (frames : List (List ℕ)) (lists : List (List (
 -- memory may be refused at the last of these frames: for what is incomplete before or after it, or
 -- since they deliver a packet
 abbrev pub MayRefuseMemory : Kind → (List (List ℕ) → Type 0) → List (List ℕ) → Type 0
-MayRefuseMemory k may_refuse_memory frames = may_refuse_memory frames ⊎ (0 < number_of_packets k frames)
+MayRefuseMemory k is_incomplete_at_last frames = is_incomplete_at_last frames ⊎ (0 < number_of_packets k frames)

@@ -79,7 +79,7 @@ tc_kind p =
 abbrev pub tc_packets : Parameters → List ℕ → List (List (List ℕ))
 tc_packets p recording = tc_lists (tc_format p) p.spacecraft (reception_of p) recording
 
--- what is counted in frames, and a remainder of this many octets
+-- what is counted in frames, and in a remainder of this many octets
 abbrev pub tc_counts_in : Parameters → List (List ℕ) → ℕ → Counts
 tc_counts_in p = counts_in (tc_kind p)
 

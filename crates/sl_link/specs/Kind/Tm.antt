@@ -72,7 +72,7 @@ tm_kind p =
 abbrev pub tm_packets : Parameters → List ℕ → List (List (List ℕ))
 tm_packets p recording = tm_lists (tm_format p) p.spacecraft recording
 
--- what is counted in frames, and a remainder of this many octets
+-- what is counted in frames, and in a remainder of this many octets
 abbrev pub tm_counts_in : Parameters → List (List ℕ) → ℕ → Counts
 tm_counts_in p = counts_in (tm_kind p)
 

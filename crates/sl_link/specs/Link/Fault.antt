@@ -12,7 +12,7 @@ sink_fault sink.Memory = Memory
 sink_fault sink.Device = Write
 sink_fault sink.Refused = Write
 
--- No engine goes on after a fault. So no engine passes `Failed`, which says that an earlier call failed.
+-- No engine goes on after a fault. So none passes `Failed`, which says that an earlier call failed, to this function.
 abbrev pub flow_fault : FlowFault → LinkFault
 flow_fault flow.Memory = Memory
 flow_fault (flow.Sink fault) = sink_fault fault

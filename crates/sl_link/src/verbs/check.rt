@@ -57,7 +57,7 @@ impl<D: Checked> Verb for Check<D> {
     ghost has_listed = { λ verb p frames. HasChecked (D.kind p) (anomalies_by D.lines_of (D.found p))
         (D.has_processed verb.delivery p) frames verb.so_far };
 
-    ghost may_refuse_memory = { D.may_refuse_memory };
+    ghost may_refuse_memory = { D.is_incomplete_at_last };
 
     fn frame<W: Write>(&mut self, managed: &Managed, frame: &[u8], out: &mut Output<W>) -> Written {
         out.make_room()?;

@@ -83,7 +83,7 @@ impl<D: Printed> Verb for Packets<D> {
     ghost has_listed = { λ verb p frames. HasDelivered (D.kind p) (D.has_processed verb.delivery p)
         frames 0 verb.so_far };
 
-    ghost may_refuse_memory = { D.may_refuse_memory };
+    ghost may_refuse_memory = { D.is_incomplete_at_last };
 
     fn frame<W: Write>(&mut self, managed: &Managed, frame: &[u8], out: &mut Output<W>) -> Written {
         let mut printer = Printer {

@@ -27,11 +27,11 @@ skipped-append is_skipped [] ys = omega arith
 skipped-append is_skipped (x ∷ xs) ys = omega (arith, skipped-append is_skipped xs ys)
 
 -- one frame more, and what it brings
-pub counted_more : (is_skipped : List ℕ → Bool) (frames : List (List ℕ)) (frame : List ℕ) (report : FrameReport) {t : Counts} {packets packets' idle idle' anomalies anomalies' : ℕ}
+pub so_far_more : (is_skipped : List ℕ → Bool) (frames : List (List ℕ)) (frame : List ℕ) (report : FrameReport) {t : Counts} {packets packets' idle idle' anomalies anomalies' : ℕ}
     → t ≡ counts_so_far is_skipped frames packets idle anomalies → report.is_skipped ≡ is_skipped frame
     → packets + report.packets ≡ packets' → idle + report.idle ≡ idle' → anomalies + report.anomalies ≡ anomalies'
     → counts_more t (length frame) report ≡ counts_so_far is_skipped (frames ++ frame ∷ []) packets' idle' anomalies'
-counted_more is_skipped frames frame report are skips p i a = simp (are, skips, concat-push, length-append, skipped-append, add-zero, p, i, a)
+so_far_more is_skipped frames frame report are skips p i a = simp (are, skips, concat-push, length-append, skipped-append, add-zero, p, i, a)
 
 pub octets_more : (frames : List (List ℕ)) (frame : List ℕ) → length (concat (frames ++ frame ∷ [])) ≡ length (concat frames) + length frame
 octets_more frames frame = rw concat-push (length-append (concat frames) frame)
@@ -87,7 +87,7 @@ module _ (k : Kind) (laws : AreDelivered k) where
         → HasDelivered k had' (before ++ frame ∷ []) anomalies' (counts_more t (length frame) report)
     delivered_more next more few = record {
       processed = next;
-      counts = counted_more k.is_skipped before frame report d.counts r.skipped (omega (arith, r.packets, packets_more before frame)) (omega (arith, r.idle, idle_more before frame)) more;
+      counts = so_far_more k.is_skipped before frame report d.counts r.skipped (omega (arith, r.packets, packets_more before frame)) (omega (arith, r.idle, idle_more before frame)) more;
       few = omega (arith, more, few, d.few, length-append before (frame ∷ []), octets_more before frame);
     }
 

@@ -109,7 +109,7 @@ one_processed {p} {before} frame had is processed =
     record { processed = rw (next, is) processed; within = record { delivered = laws; within = omega (arith, held) }; held = held }
 
 -- a series is incomplete around a frame
-pub may_refuse_memory : {p : Parameters} (before : List (List ℕ)) (frame : List ℕ) {read : Result TcView TcSkip} → as_read p frame ≡ read
+pub is_incomplete_at_last : {p : Parameters} (before : List (List ℕ)) (frame : List ℕ) {read : Result TcView TcSkip} → as_read p frame ≡ read
     → is_incomplete_around (reception_of p) (views_of (tc_format p) p.spacecraft before) read → IsIncompleteAtLastTc p (before ++ frame ∷ [])
-may_refuse_memory before frame {read = Ok view} e incomplete = record { before = before; frame = frame; in_order = refl; view = view; is_read = e; incomplete = incomplete }
-may_refuse_memory before frame {read = Err reason} e incomplete = absurd incomplete
+is_incomplete_at_last before frame {read = Ok view} e incomplete = record { before = before; frame = frame; in_order = refl; view = view; is_read = e; incomplete = incomplete }
+is_incomplete_at_last before frame {read = Err reason} e incomplete = absurd incomplete

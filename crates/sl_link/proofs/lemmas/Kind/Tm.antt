@@ -71,7 +71,7 @@ one_processed {p} {before} frame long had is processed =
     }
 
 -- a packet is incomplete around a frame
-pub may_refuse_memory : {p : Parameters} (before : List (List ℕ)) (frame : List ℕ) {r : Result TmView TmSkip} → as_read p frame ≡ r
+pub is_incomplete_at_last : {p : Parameters} (before : List (List ℕ)) (frame : List ℕ) {r : Result TmView TmSkip} → as_read p frame ≡ r
     → is_incomplete_around (views_of (tm_format p) p.spacecraft before) r → IsIncompleteAtLastTm p (before ++ frame ∷ [])
-may_refuse_memory before frame {r = Ok view} e incomplete = record { before = before; frame = frame; in_order = refl; view = view; is_read = e; incomplete = incomplete }
-may_refuse_memory before frame {r = Err reason} e incomplete = absurd incomplete
+is_incomplete_at_last before frame {r = Ok view} e incomplete = record { before = before; frame = frame; in_order = refl; view = view; is_read = e; incomplete = incomplete }
+is_incomplete_at_last before frame {r = Err reason} e incomplete = absurd incomplete

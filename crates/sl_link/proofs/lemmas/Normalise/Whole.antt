@@ -42,6 +42,6 @@ module _ {R W : Type 0} {remaining : R → Option (List ℕ)} {contents : W → 
     }
 
 -- memory may be refused after the last frame
-pub refused_at_end : {R : Type 0} {remaining : R → Option (List ℕ)} {reader reader' : Counted R} {frames_of : List ℕ → List (List ℕ)} {wants : List (List ℕ) → Type 0} (octets : List ℕ)
-    → Reads remaining reader reader' octets → wants (frames_of octets) → MayRefuseMemoryAtSome remaining reader reader' frames_of wants
+pub refused_at_end : {R : Type 0} {remaining : R → Option (List ℕ)} {reader reader' : Counted R} {frames_of : List ℕ → List (List ℕ)} {may_refuse_memory : List (List ℕ) → Type 0} (octets : List ℕ)
+    → Reads remaining reader reader' octets → may_refuse_memory (frames_of octets) → MayRefuseMemoryAtSome remaining reader reader' frames_of may_refuse_memory
 refused_at_end {frames_of} octets read at_last = record { octets = octets; read = read; first = frames_of octets; later = []; in_order = sym (append-nil (frames_of octets)); at_last = at_last }

@@ -52,8 +52,8 @@ abbrev pub end_anomalies : Kind → (ℕ → List (List ℕ) → ℕ → List (L
 end_anomalies k open_at frames remainder = remainder_anomaly (length (concat frames)) remainder ++ flat_map (open_at (length (concat frames) + remainder) frames) k.channels
 
 -- what is counted: each line but that of the totals is an anomaly
-abbrev pub check_counted : Kind → (List (List ℕ) → List ℕ → List (List ℕ)) → (ℕ → List (List ℕ) → ℕ → List (List ℕ)) → List (List ℕ) → ℕ → Counts
-check_counted k anomalies_at open_at frames remainder =
+abbrev pub check_counts_in : Kind → (List (List ℕ) → List ℕ → List (List ℕ)) → (ℕ → List (List ℕ) → ℕ → List (List ℕ)) → List (List ℕ) → ℕ → Counts
+check_counts_in k anomalies_at open_at frames remainder =
     record (counts_in k frames remainder) { anomalies = length (lines_from anomalies_at [] frames) + length (end_anomalies k open_at frames remainder) }
 
 -- the listing: the lines of each frame, those after the last one, and the totals
@@ -61,6 +61,6 @@ abbrev pub check_listing : Kind → (List (List ℕ) → List ℕ → List (List
 check_listing k anomalies_at open_at =
     record {
       line = λ before frame. concat (anomalies_at before frame);
-      last = λ frames remainder. concat (end_anomalies k open_at frames remainder) ++ totals_line (check_counted k anomalies_at open_at frames remainder);
-      counts = check_counted k anomalies_at open_at;
+      last = λ frames remainder. concat (end_anomalies k open_at frames remainder) ++ totals_line (check_counts_in k anomalies_at open_at frames remainder);
+      counts = check_counts_in k anomalies_at open_at;
     }

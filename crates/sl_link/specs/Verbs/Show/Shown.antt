@@ -6,9 +6,9 @@ use Rattle.sl_link.specs.Link.Totals.{Counts}
 use Rattle.sl_link.specs.Tally.{counts_so_far, counts_with, skipped_in}
 use Rattle.sl_link.specs.Verbs.Listing.{Listing}
 
--- what is counted in frames, and a remainder of this many octets
-abbrev pub show_counted : (List ℕ → Bool) → List (List ℕ) → ℕ → Counts
-show_counted is_skipped frames remainder = counts_with (length (concat frames) + remainder) (length frames) (skipped_in is_skipped frames) remainder 0 0 0
+-- what is counted in frames, and in a remainder of this many octets
+abbrev pub show_counts_in : (List ℕ → Bool) → List (List ℕ) → ℕ → Counts
+show_counts_in is_skipped frames remainder = counts_with (length (concat frames) + remainder) (length frames) (skipped_in is_skipped frames) remainder 0 0 0
 
 -- the listing: a line for each frame, and one for a remainder
 abbrev pub show_listing : (List ℕ → Bool) → (List (List ℕ) → List ℕ → List ℕ) → Listing
@@ -16,7 +16,7 @@ show_listing is_skipped line =
     record {
       line = line;
       last = λ frames remainder. remainder_line (length (concat frames)) remainder;
-      counts = show_counted is_skipped;
+      counts = show_counts_in is_skipped;
     }
 
 -- These frames were shown, as `had` says, and counted. Contracts of private functions alone cite this.

@@ -36,15 +36,15 @@ pub trait Checked: Delivery {
             → length (lines_of offset (Self.found p before frame)) < length frame };
 
     /// How many channels there are.
-    ghost limit: { ℕ };
+    ghost channel_limit: { ℕ };
 
     /// The number of a channel: nothing is incomplete on this channel, nor on one of a greater number.
     fn open_below(&self) -> u16
-        ensures most { result ≤ limit }
+        ensures most { result ≤ channel_limit }
         ensures none { (p : Parameters) (offset : ℕ) (frames : List (List ℕ))
             → Self.has_processed self.now p frames → (channel : ℕ) → result ≤ channel
-            → channel < limit → open_at p offset frames channel ≡ [] }
-        ensures all { (p : Parameters) → (Self.kind p).channel_limit ≡ limit }
+            → channel < channel_limit → open_at p offset frames channel ≡ [] }
+        ensures all { (p : Parameters) → (Self.kind p).channel_limit ≡ channel_limit }
         // What is incomplete after frames is no more than the frames.
         ensures few { (p : Parameters) (offset : ℕ) (frames : List (List ℕ))
             → length (flat_map (open_at p offset frames) (Self.kind p).channels) ≤ length frames };
@@ -52,7 +52,7 @@ pub trait Checked: Delivery {
     /// Adds the line of what is incomplete on a channel, if anything is, and answers how many lines
     /// that is: one or none.
     fn open_lines(&self, offset: u64, channel: u16, lines: &mut Lines) -> u64
-        requires channel { channel < limit }
+        requires channel { channel < channel_limit }
         requires room { HasRoom lines.old }
         ensures added { (p : Parameters) (frames : List (List ℕ)) → Self.has_processed self.now p frames
             → AddsAnomalies lines.old (open_at p offset frames channel) lines.new result }
@@ -66,7 +66,7 @@ impl Checked for Extractor {
 
     ghost open_at = { tm_open };
 
-    ghost limit = { 8 };
+    ghost channel_limit = { 8 };
 
     fn anomaly_lines(lines: &mut Lines, offset: u64, found: Result<TmFound, TmSkip>) -> u64 {
         lines_tm::tm_anomaly_lines(lines, offset, found)
@@ -95,7 +95,7 @@ impl Checked for Receiver {
 
     ghost open_at = { tc_open };
 
-    ghost limit = { channel_count };
+    ghost channel_limit = { channel_count };
 
     fn anomaly_lines(lines: &mut Lines, offset: u64, found: Result<TcFound, TcSkip>) -> u64 {
         lines_tc::tc_anomaly_lines(lines, offset, found)

@@ -30,10 +30,10 @@ module _ (r : ReceptionParameters) (old : List (Option (List ℕ))) (views : Lis
       → AreIncomplete r old views → next.vc < 64 → segment_by r views next ≡ unit ∷ []
       → map_by r next ≡ (header_at unit).map
       → of_accepted none told r views next ≡ from (at old (channel_at next.vc (header_at unit).map)) unit
-  told_more none told from same are inside unit_is mid_is =
+  told_more none told from same are inside unit_is map_id_is =
       let map_id = (header_at unit).map in
       ap (of_segment none (told (segments_of r next.vc (map_by r next) views))) unit_is
-      ∙ ap (λ n. told (segments_of r next.vc n views) unit) mid_is
+      ∙ ap (λ n. told (segments_of r next.vc n views) unit) map_id_is
       ∙ same (segments_of r next.vc map_id views) unit
       ∙ ap (λ held. from held unit) (sym (are next.vc map_id inside (map_fits unit)))
 
@@ -42,8 +42,8 @@ module _ (r : ReceptionParameters) (old : List (Option (List ℕ))) (views : Lis
       → (vc : ℕ) (answer : X) → AreIncomplete r old views → next.vc < 64 → segment_by r views next ≡ unit ∷ []
       → map_by r next ≡ (header_at unit).map → vc ≡ next.vc → answer ≡ from (at old (channel_at vc (header_at unit).map)) unit
       → answer ≡ of_accepted none told r views next
-  told_at none told from same vc answer are inside unit_is mid_is same_vc is =
-      is ∙ ap (λ n. from (at old (channel_at n (header_at unit).map)) unit) same_vc ∙ sym (told_more none told from same are inside unit_is mid_is)
+  told_at none told from same vc answer are inside unit_is map_id_is same_vc is =
+      is ∙ ap (λ n. from (at old (channel_at n (header_at unit).map)) unit) same_vc ∙ sym (told_more none told from same are inside unit_is map_id_is)
 
 -- ---- by the sequence flags
 

@@ -18,13 +18,13 @@ pub reported_more : (r : ReceptionParameters) (old : List (Option (List ℕ))) (
     → AreIncomplete r old views → next.vc < 64 → segment_by r views next ≡ unit ∷ []
     → map_by r next ≡ (header_at unit).map → vc ≡ next.vc → verdict_on r views next ≡ Accept
     → IsReported (at old (channel_at vc (header_at unit).map)) (flags_of unit) (segment_data unit) step → IsReportedOf r views next step
-reported_more r old views next unit vc step are inside unit_is mid_is same_vc accepted reported =
+reported_more r old views next unit vc step are inside unit_is map_id_is same_vc accepted reported =
     record {
       verdict = reported.verdict ∙ sym accepted;
-      stray = told_at r old views next unit false stray_of (λ held segment. stray_with held (flags_of segment)) (λ list segment. refl) vc step.stray are inside unit_is mid_is same_vc reported.stray;
-      dropped = told_at r old views next unit None dropped_of (λ held segment. dropped_with held (flags_of segment)) (λ list segment. refl) vc step.dropped are inside unit_is mid_is same_vc reported.dropped;
-      long = told_at r old views next unit false long_of (λ held segment. long_with held (flags_of segment) (segment_data segment)) (λ list segment. refl) vc step.long are inside unit_is mid_is same_vc reported.long;
-      tail = told_at r old views next unit 0 tail_of tail_after tail_next vc step.tail are inside unit_is mid_is same_vc reported.tail;
+      stray = told_at r old views next unit false stray_of (λ held segment. stray_with held (flags_of segment)) (λ list segment. refl) vc step.stray are inside unit_is map_id_is same_vc reported.stray;
+      dropped = told_at r old views next unit None dropped_of (λ held segment. dropped_with held (flags_of segment)) (λ list segment. refl) vc step.dropped are inside unit_is map_id_is same_vc reported.dropped;
+      long = told_at r old views next unit false long_of (λ held segment. long_with held (flags_of segment) (segment_data segment)) (λ list segment. refl) vc step.long are inside unit_is map_id_is same_vc reported.long;
+      tail = told_at r old views next unit 0 tail_of tail_after tail_next vc step.tail are inside unit_is map_id_is same_vc reported.tail;
     }
 
 -- the report on a frame without an accepted unit

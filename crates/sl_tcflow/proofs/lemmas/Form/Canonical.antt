@@ -63,7 +63,7 @@ module _ (format : TcFormat) (spacecraft : ℕ) (r : ReceptionParameters) (lists
 
   packets_at : (vc map_id : ℕ) → vc < 64 → map_id < 64
       → packets_of_segments (segments_of r vc map_id (recorded_views format spacecraft form)) ≡ slice_index_or lists (64 * vc + map_id) []
-  packets_at vc map_id vc_fits mid_fits =
+  packets_at vc map_id vc_fits map_id_fits =
       let room = segment_room_of format in
       let units = units_of_maps (is_plain r vc) room 0 (lists_on lists vc) in
       let all : length lists ≡ 4096 = are.all in
@@ -72,8 +72,8 @@ module _ (format : TcFormat) (spacecraft : ℕ) (r : ReceptionParameters) (lists
       ap (λ views. packets_of_segments (segments_of r vc map_id views)) (views_are format spacecraft r.starts r.plain lists is known are fits)
       ∙ ap (λ channel. packets_of_segments (segments_on map_id (map (segment_in (is_plain r vc)) (accepted_units r.window (initial_vr r vc) channel)))) (channel_back format spacecraft is known r.starts r.plain lists are fits vc vc_fits)
       ∙ ap (λ accepted. packets_of_segments (segments_on map_id (map (segment_in (is_plain r vc)) accepted))) (all_accepted r.window vc (initial_vr r vc) (initial_vr r vc) units small (omega (arith, small)))
-      ∙ back_on format lists vc room (some_room format spacecraft is known) left (is_plain r vc) map_id mid_fits (fits vc vc_fits) (some_lists 64 (64 * vc) lists are.each)
-      ∙ list_on lists vc map_id mid_fits
+      ∙ back_on format lists vc room (some_room format spacecraft is known) left (is_plain r vc) map_id map_id_fits (fits vc vc_fits) (some_lists 64 (64 * vc) lists are.each)
+      ∙ list_on lists vc map_id map_id_fits
 
   list_back : (channel : ℕ) → channel < channel_count
       → slice_index_or lists channel [] ≡ without_idle (packets_of_channel r (recorded_views format spacecraft form) channel)

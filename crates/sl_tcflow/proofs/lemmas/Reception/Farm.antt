@@ -95,7 +95,7 @@ processed_none r farms incomplete stepped none =
       working = refl;
       plain = refl;
       farms = stepped;
-      series = λ vc map_id vc_fits mid_fits. ap (λ l. slice_index_or l (channel_at vc map_id) None) none;
+      series = λ vc map_id vc_fits map_id_fits. ap (λ l. slice_index_or l (channel_at vc map_id) None) none;
     }
 
 -- ---- the next frame

@@ -172,7 +172,7 @@ recorded_lists_fit format spacecraft r recording vc vc_fits plain =
           (subst (AreWithin (plain_room_of format)) (sym (recorded_on format spacecraft r vc 0 recording vc_fits (omega arith)))
           (each-filter (λ p. length p ≤ plain_room_of format) (λ p. length p ≤ plain_room_of format) (λ packet. not (is_idle_packet packet)) (λ packet exceeds_limit is. is) (packets_of_segments (segments_of r vc 0 views))
           (plain_short format spacecraft r recording (is_plain r vc) units plain (units_within format spacecraft r vc frames))));
-      others = λ map_id some mid_fits.
-          recorded_on format spacecraft r vc map_id recording vc_fits mid_fits
+      others = λ map_id some map_id_fits.
+          recorded_on format spacecraft r vc map_id recording vc_fits map_id_fits
           ∙ ap without_idle (plain_others format spacecraft r recording (is_plain r vc) map_id units plain some);
     }

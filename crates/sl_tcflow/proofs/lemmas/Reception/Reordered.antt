@@ -230,21 +230,21 @@ packets_in_order r vc map_id sent views arrivals reordered none =
 pub recorded_on : (format : TcFormat) (spacecraft : ℕ) (r : ReceptionParameters) (vc map_id : ℕ) (recording : List ℕ) → vc < 64 → map_id < 64
     → recorded_packets format spacecraft r vc map_id recording ≡ without_idle (packets_of_segments (segments_of r vc map_id (recorded_views format spacecraft recording)))
 unfolding map_channels
-recorded_on format spacecraft r vc map_id recording vc_fits mid_fits =
+recorded_on format spacecraft r vc map_id recording vc_fits map_id_fits =
     let views : List TcView = recorded_views format spacecraft recording in
     let below : channel_at vc map_id < channel_count = omega arith in
     let here : 0 + channel_at vc map_id ≡ channel_at vc map_id = omega arith in
     let vc_is : channel_at vc map_id / 64 ≡ vc = omega arith in
-    let mid_is : channel_at vc map_id % 64 ≡ map_id = omega arith in
+    let map_id_is : channel_at vc map_id % 64 ≡ map_id = omega arith in
     get_or-map-range_with_len (λ channel. without_idle (packets_of_channel r views channel)) 0 channel_count (channel_at vc map_id) (channel_at vc map_id) [] below here
-    ∙ ap₂ (λ v m. without_idle (packets_of_segments (segments_of r v m views))) vc_is mid_is
+    ∙ ap₂ (λ v m. without_idle (packets_of_segments (segments_of r v m views))) vc_is map_id_is
 
 pub recorded_packets_in_order : RecordedPacketsInOrder
-recorded_packets_in_order format spacecraft r vc map_id sent recording arrivals vc_fits mid_fits reordered none =
+recorded_packets_in_order format spacecraft r vc map_id sent recording arrivals vc_fits map_id_fits reordered none =
     let views : List TcView = recorded_views format spacecraft recording in
     let front = packets_in_order r vc map_id sent views arrivals reordered none in (
       without_idle front.0,
-      ap (λ l. l ++ without_idle front.0) (recorded_on format spacecraft r vc map_id recording vc_fits mid_fits)
+      ap (λ l. l ++ without_idle front.0) (recorded_on format spacecraft r vc map_id recording vc_fits map_id_fits)
           ∙ sym (filter-append (λ packet. not (is_idle_packet packet)) (packets_of_segments (segments_of r vc map_id views)) front.0)
           ∙ ap without_idle front.1,
     )

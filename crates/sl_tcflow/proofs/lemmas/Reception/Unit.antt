@@ -78,8 +78,8 @@ map_fits unit = omega arith
 -- without an accepted unit all series stay
 pub incomplete_same : (r : ReceptionParameters) (incomplete : List (Option (List ℕ))) (views : List TcView) (next : TcView) → AreIncomplete r incomplete views
     → segment_by r views next ≡ [] → AreIncomplete r incomplete (views ++ next ∷ [])
-incomplete_same r incomplete views next are none vc map_id vc_fits mid_fits =
-    are vc map_id vc_fits mid_fits ∙ ap incomplete_of (sym (elim (eqb_tells next.vc vc) [
+incomplete_same r incomplete views next are none vc map_id vc_fits map_id_fits =
+    are vc map_id vc_fits map_id_fits ∙ ap incomplete_of (sym (elim (eqb_tells next.vc vc) [
       | inl (test, same) ↦
           subst (λ n. segments_of r n map_id (views ++ next ∷ []) ≡ segments_of r n map_id views) same
           (segments_next r map_id views next ∙ ap (λ l. segments_of r next.vc map_id views ++ segments_on map_id l) none
@@ -98,7 +98,7 @@ module _ (r : ReceptionParameters) (old : List (Option (List ℕ))) (views : Lis
   pub incomplete_more : (new : List (Option (List ℕ))) → AreIncomplete r old views → next.vc < 64 → segment_by r views next ≡ unit ∷ []
       → index ≡ channel_at next.vc (header_at unit).map → IsPlaced old index (incomplete_after (at old index) unit) new
       → AreIncomplete r new (views ++ next ∷ [])
-  incomplete_more new are inside unit_is here placed vc map_id vc_fits mid_fits =
+  incomplete_more new are inside unit_is here placed vc map_id vc_fits map_id_fits =
       elim (eqb_tells next.vc vc) [
         | inl (test, same) ↦
             elim (eqb_tells (header_at unit).map map_id) [
@@ -110,19 +110,19 @@ module _ (r : ReceptionParameters) (old : List (Option (List ℕ))) (views : Lis
                   ∙ ap (λ l. segments_of r next.vc map_id views ++ l) (on_map map_id unit same')) in
                   ap (at new) (sym there) ∙ placed.here
                   ∙ ap (λ n. incomplete_after (at old n) unit) there
-                  ∙ ap (λ held. incomplete_after held unit) (are vc map_id vc_fits mid_fits)
+                  ∙ ap (λ held. incomplete_after held unit) (are vc map_id vc_fits map_id_fits)
                   ∙ sym (incomplete_next (segments_of r vc map_id views) unit) ∙ ap incomplete_of (sym segments)
               | inr (test', other) ↦
                   let segments : segments_of r vc map_id (views ++ next ∷ []) ≡ segments_of r vc map_id views =
                   subst (λ n. segments_of r n map_id (views ++ next ∷ []) ≡ segments_of r n map_id views) same
                   (segments_next r map_id views next ∙ ap (λ l. segments_of r next.vc map_id views ++ segments_on map_id l) unit_is
                   ∙ ap (λ l. segments_of r next.vc map_id views ++ l) (on_other_map map_id unit other) ∙ append-nil (segments_of r next.vc map_id views)) in
-                  placed.others (channel_at vc map_id) (other_index index next.vc (header_at unit).map vc map_id here (map_fits unit) mid_fits other)
-                  ∙ are vc map_id vc_fits mid_fits ∙ ap incomplete_of (sym segments)
+                  placed.others (channel_at vc map_id) (other_index index next.vc (header_at unit).map vc map_id here (map_fits unit) map_id_fits other)
+                  ∙ are vc map_id vc_fits map_id_fits ∙ ap incomplete_of (sym segments)
             ]
         | inr (test, other) ↦
-            placed.others (channel_at vc map_id) (other_vc_index index next.vc (header_at unit).map vc map_id here (map_fits unit) mid_fits other)
-            ∙ are vc map_id vc_fits mid_fits ∙ ap incomplete_of (sym (segments_other r vc map_id views next other))
+            placed.others (channel_at vc map_id) (other_vc_index index next.vc (header_at unit).map vc map_id here (map_fits unit) map_id_fits other)
+            ∙ are vc map_id vc_fits map_id_fits ∙ ap incomplete_of (sym (segments_other r vc map_id views next other))
       ]
 
   -- ---- the packets that end
@@ -130,11 +130,11 @@ module _ (r : ReceptionParameters) (old : List (Option (List ℕ))) (views : Lis
   pub ended_more : AreIncomplete r old views → next.vc < 64 → segment_by r views next ≡ unit ∷ []
       → map_by r next ≡ (header_at unit).map → index ≡ channel_at next.vc (header_at unit).map
       → ended_by r views next ≡ packets_after (at old index) unit
-  ended_more are inside unit_is mid_is here =
+  ended_more are inside unit_is map_id_is here =
       let list = segments_of r next.vc (header_at unit).map views in
       ap (flat_map (packets_ended (segments_of r next.vc (map_by r next) views))) unit_is
       ∙ append-nil (packets_ended (segments_of r next.vc (map_by r next) views) unit)
-      ∙ ap (λ n. packets_ended (segments_of r next.vc n views) unit) mid_is
+      ∙ ap (λ n. packets_ended (segments_of r next.vc n views) unit) map_id_is
       ∙ ended_next list unit
       ∙ ap (λ held. packets_after held unit) (sym (are next.vc (header_at unit).map inside (map_fits unit)))
       ∙ ap (λ n. packets_after (at old n) unit) (sym here)
@@ -144,13 +144,13 @@ module _ (r : ReceptionParameters) (old : List (Option (List ℕ))) (views : Lis
   pub around_more : AreIncomplete r old views → next.vc < 64 → segment_by r views next ≡ unit ∷ []
       → map_by r next ≡ (header_at unit).map → index ≡ channel_at next.vc (header_at unit).map
       → (at old index ≢ None) ⊎ (incomplete_after (at old index) unit ≢ None) → IsIncompleteAround r views next
-  around_more are inside unit_is mid_is here around =
+  around_more are inside unit_is map_id_is here around =
       let map_id = map_by r next in
       let list = segments_of r next.vc map_id views in
       let before : at old index ≡ incomplete_of list =
-      ap (at old) (here ∙ ap (channel_at next.vc) (sym mid_is)) ∙ are next.vc map_id inside (omega (arith, mid_is, map_fits unit)) in
+      ap (at old) (here ∙ ap (channel_at next.vc) (sym map_id_is)) ∙ are next.vc map_id inside (omega (arith, map_id_is, map_fits unit)) in
       let segments : segments_of r next.vc map_id (views ++ next ∷ []) ≡ list ++ unit ∷ [] =
-      segments_next r map_id views next ∙ ap (λ l. list ++ segments_on map_id l) unit_is ∙ ap (λ l. list ++ l) (on_map map_id unit (sym mid_is)) in (
+      segments_next r map_id views next ∙ ap (λ l. list ++ segments_on map_id l) unit_is ∙ ap (λ l. list ++ l) (on_map map_id unit (sym map_id_is)) in (
         λ e. let none : unit ∷ [] ≡ [] = sym unit_is ∙ e in cc,
         elim around [
           | inl some ↦ inl (λ e. some (before ∙ e))
@@ -161,7 +161,7 @@ module _ (r : ReceptionParameters) (old : List (Option (List ℕ))) (views : Lis
 -- the channel of the unit
 pub unit_channel_is : (vc : ℕ) (r : ReceptionParameters) (unit : List ℕ) (next : TcView) → vc ≡ next.vc → map_by r next ≡ (header_at unit).map
     → channel_at vc (header_at unit).map ≡ unit_channel r next
-unit_channel_is vc r unit next same mid_is = ap (λ n. channel_at n (header_at unit).map) same ∙ ap (channel_at next.vc) (sym mid_is)
+unit_channel_is vc r unit next same map_id_is = ap (λ n. channel_at n (header_at unit).map) same ∙ ap (channel_at next.vc) (sym map_id_is)
 
 pub ended_none : (r : ReceptionParameters) (views : List TcView) (next : TcView) → segment_by r views next ≡ [] → ended_by r views next ≡ []
 ended_none r views next none = ap (flat_map (packets_ended (segments_of r next.vc (map_by r next) views))) none

@@ -5,7 +5,7 @@ use Rattle.sl_tmflow.specs.Channel.{views_of}
 use Rattle.sl_link.specs.Kind.Tm.{as_read, ended_in, found_after, vc_of}
 use Rattle.sl_link.specs.Link.Managed.{tm_format}
 use Rattle.sl_link.proofs.lemmas.Kind.Delivery.{delivers_as}
-use Rattle.sl_link.proofs.lemmas.Kind.Tm.{one_processed, some_octets, may_refuse_memory}
+use Rattle.sl_link.proofs.lemmas.Kind.Tm.{one_processed, some_octets, is_incomplete_at_last}
 use Rattle.sl_link.proofs.lemmas.Link.Fault.{never_failed}
 use Rattle.sl_link.proofs.kind.ExtractorDelivery.deliver.Goals as goal
 
@@ -64,4 +64,4 @@ pub returns-in-Err-frame-clause-memory : goal.returns-in-Err-frame-clause-memory
 returns-in-Err-frame-clause-memory g c =
     let p = c.args.managed.now in
     let read : as_read p c.args.frame.now ≡ Ok c.in-Ok.view = search rules in
-    λ before h e. may_refuse_memory before c.args.frame.now read (c.in-Err-frame.ensures.memory e (views_of (tm_format p) p.spacecraft before) h.processed)
+    λ before h e. is_incomplete_at_last before c.args.frame.now read (c.in-Err-frame.ensures.memory e (views_of (tm_format p) p.spacecraft before) h.processed)

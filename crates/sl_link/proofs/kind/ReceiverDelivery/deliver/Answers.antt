@@ -5,7 +5,7 @@ use Rattle.sl_tcflow.specs.AcceptedUnit.{views_of}
 use Rattle.sl_link.specs.Kind.Tc.{as_read, unit_channel_of, ended_in, found_after}
 use Rattle.sl_link.specs.Link.Managed.{reception_of, tc_format}
 use Rattle.sl_link.proofs.lemmas.Kind.Delivery.{delivers_as}
-use Rattle.sl_link.proofs.lemmas.Kind.Tc.{one_processed, some_octets, may_refuse_memory}
+use Rattle.sl_link.proofs.lemmas.Kind.Tc.{one_processed, some_octets, is_incomplete_at_last}
 use Rattle.sl_link.proofs.lemmas.Link.Fault.{never_failed}
 use Rattle.sl_link.proofs.kind.ReceiverDelivery.deliver.Goals as goal
 
@@ -91,4 +91,4 @@ pub returns-in-Err-frame-clause-memory : goal.returns-in-Err-frame-clause-memory
 returns-in-Err-frame-clause-memory g c =
     let p = c.args.managed.now in
     let read : as_read p c.args.frame.now ≡ Ok c.in-Ok.view = search rules in
-    λ before h e. may_refuse_memory before c.args.frame.now read (c.in-Err-frame.ensures.memory e (reception_of p) (views_of (tc_format p) p.spacecraft before) h.processed)
+    λ before h e. is_incomplete_at_last before c.args.frame.now read (c.in-Err-frame.ensures.memory e (reception_of p) (views_of (tc_format p) p.spacecraft before) h.processed)

@@ -4,7 +4,7 @@ use Rattle.std.specs.List.{concat, range_with_len}
 use Rattle.std.proofs.lemmas.List.Folds.{concat-append}
 use Rattle.std.specs.Prelude.{flat_map}
 use Rattle.sl_link.specs.Verbs.Check.Checking.{AddsAnomalies, HasChecked}
-use Rattle.sl_link.specs.Verbs.Check.Lines.{event_anomaly, check_counted, end_anomalies, remainder_anomaly}
+use Rattle.sl_link.specs.Verbs.Check.Lines.{event_anomaly, check_counts_in, end_anomalies, remainder_anomaly}
 use Rattle.sl_link.specs.declared.io.output.Output.{Output}
 use Rattle.sl_link.specs.declared.link.fault.LinkFault.{LinkFault}
 use Rattle.sl_link.specs.Io.Output.{Adds}
@@ -117,5 +117,5 @@ module _ (k : Kind) (open_at : ℕ → Frames → ℕ → List (List ℕ)) (fram
 
   pub all_counted : (anomalies_at : Frames → List ℕ → List (List ℕ)) {had : Frames → Type 0} {t : Counts} {remainders incomplete : ℕ} → HasChecked k anomalies_at had frames t
       → remainders ≡ length (remainder_anomaly offset (octets - offset)) → incomplete ≡ length (flat_map (open_at octets frames) k.channels)
-      → counts_with_remainder t (octets - offset) (remainders + incomplete) ≡ check_counted k anomalies_at open_at frames (octets - length (concat frames))
+      → counts_with_remainder t (octets - offset) (remainders + incomplete) ≡ check_counts_in k anomalies_at open_at frames (octets - length (concat frames))
   all_counted anomalies_at {remainders} {incomplete} h first later = grind (arith, end_is, length-append, h.counts)

@@ -1,7 +1,7 @@
 use Rattle.std.proofs.Common.{arith, inl, inr, ◌++◌, ◌∷◌, []}
 use Rattle.sl_link.proofs.lemmas.Kind.Delivery.{delivered_more, fits_more, stored_more, packets_more}
 use Rattle.sl_link.proofs.lemmas.Link.Answers.{passed_up}
-use Rattle.sl_link.proofs.lemmas.Link.Fault.{memory_refused, wanted_or_some}
+use Rattle.sl_link.proofs.lemmas.Link.Fault.{memory_refused, incomplete_or_some}
 use Rattle.sl_link.proofs.normalise.StoreFrameSink.frame.Goals as goal
 
 pub add-requires-clause-within : goal.add-requires-clause-within
@@ -20,8 +20,8 @@ returns-in_err-report-clause-fault g c =
     let had = t.0.processed in
     let s = c.in_err-report.ensures.stopped before had in (
       memory_refused _ _ (λ old channel packet fault new fails. fails.0) _ _ _ _ _ s,
-      elim (wanted_or_some _ _ _ _ _ _ _ s (c.in_err-report.ensures.memory before had)) [
-        | inl wanted ↦ inl wanted
+      elim (incomplete_or_some _ _ _ _ _ _ _ s (c.in_err-report.ensures.memory before had)) [
+        | inl incomplete ↦ inl incomplete
         | inr some ↦ inr (omega (arith, some, packets_more (g.D.Delivery.kind p) (g.met.D.Delivery.within _ p before had).delivered before c.args.frame.now))
       ],
     ))

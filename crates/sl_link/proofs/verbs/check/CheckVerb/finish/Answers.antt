@@ -2,7 +2,7 @@ use Rattle.std.proofs.Common.{◌≤◌, ◌-◌, ◌++◌, ◌∙◌, arith, le
 use Rattle.std.specs.Prelude.{flat_map}
 use Rattle.std.specs.List.{concat}
 use Rattle.sl_link.specs.Io.Output.{Adds}
-use Rattle.sl_link.specs.Verbs.Check.Lines.{anomalies_by, check_counted, remainder_anomaly, totals_line}
+use Rattle.sl_link.specs.Verbs.Check.Lines.{anomalies_by, check_counts_in, remainder_anomaly, totals_line}
 use Rattle.sl_link.proofs.lemmas.Io.Streams.{adds_both, adds_lines, adds_none, stops_before, stops_first, stops_last, stops_then}
 use Rattle.sl_link.proofs.lemmas.Kind.Delivery.{octets_counted}
 use Rattle.sl_link.proofs.lemmas.Link.Answers.{passed_up}
@@ -50,7 +50,7 @@ returns-clause-lines g c = λ frames h.
     let inside : length (concat frames) ≤ c.args.octets = omega (arith, octets_counted h, octets_counted c.requires.1, c.requires.2) in
     let lines = adds_none (adds_both (adds_both c.in_ok-make_room.ensures.kept (adds_lines _ _ _ (concat (remainder_anomaly offset (c.args.octets - offset))) refl c.remainder_lines-remainders.ensures.text))
     (c.in_ok-incomplete.ensures.lines p frames h.processed)) c.in_ok-make_room-2.ensures.kept in
-    subst (λ l. Adds g.W.Write.contents c.args.out.now (l ++ totals_line (check_counted k (anomalies_by g.D.Checked.lines_of (g.D.Delivery.found p)) (g.D.Checked.open_at p) frames (c.args.octets - length (concat frames)))) (record c.make_room-2.new.self { lines = c.push_totals.new.lines }))
+    subst (λ l. Adds g.W.Write.contents c.args.out.now (l ++ totals_line (check_counts_in k (anomalies_by g.D.Checked.lines_of (g.D.Delivery.found p)) (g.D.Checked.open_at p) frames (c.args.octets - length (concat frames)))) (record c.make_room-2.new.self { lines = c.push_totals.new.lines }))
     (end_text k (g.D.Checked.open_at p) frames offset c.args.octets (c.octets-offset.ensures ∙ octets_counted h) inside)
     (subst (λ n. Adds g.W.Write.contents c.args.out.now ((concat (remainder_anomaly offset (c.args.octets - offset)) ++ concat (flat_map (g.D.Checked.open_at p c.args.octets frames) k.channels)) ++ totals_line n) (record c.make_room-2.new.self { lines = c.push_totals.new.lines }))
     (returns-clause-counts g c frames h) (adds_both lines (adds_lines _ _ _ (totals_line c.totals-totals.result) refl c.push_totals.ensures)))

@@ -36,7 +36,8 @@ pub trait Delivery: Drop {
     /// Whether the state is the one after these frames, processed in this order.
     ghost has_processed: { Self → Parameters → List (List ℕ) → Type 0 };
 
-    /// Whether something is incomplete before or after the last of these frames, on its channel.
+    /// Whether something is incomplete before or after the last of these frames, on its channel. Of a TC frame the unit
+    /// is accepted then.
     ghost is_incomplete_at_last: { Parameters → List (List ℕ) → Type 0 };
 
     /// What is found of a frame that comes after others.

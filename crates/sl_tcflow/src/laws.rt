@@ -83,7 +83,7 @@ pub fn tc_anomalies_are_told()
 pub fn units_without_headers_are_whole()
     ensures segment { PlainUnitIsWhole }
     ensures incomplete { NoPlainSeriesIsIncomplete }
-    ensures tail_alone { PlainUnitHasTailAlone }
+    ensures amiss { PlainUnitHasTailAlone }
 {}
 
 /// A recording of TC frames delivers packets that aren't idle, on 64 MAPs of 64 virtual channels.

@@ -1,5 +1,5 @@
-//! Callers whose own contract is what the laws of FARM-1 promise, of a FARM-1 and a window that they
-//! are lent: nothing is known of how these were made.
+//! Callers with contracts of their own, which public clauses and laws of the libraries prove. Here stand those of FARM-1.
+//! They are lent a FARM-1 and a window: nothing is known of how these were made.
 pub mod extractor;
 pub mod forms;
 #[cfg(test)]
@@ -12,14 +12,16 @@ ghost use Rattle.sl_cop.specs.declared.verdict.Verdict as specs;
 use sl_cop::laws::{events_have_one_run, events_have_one_step};
 use sl_cop::{Farm, FarmEvent, Verdict, Window};
 
-/// The next step of FARM-1, on a copy. The step is a case of the table, and the table has no other.
+/// The next step of FARM-1, on a copy. The step is a case of the table, and the table has no other. The copy keeps the
+/// window.
 pub fn next_step(farm: &Farm, event: FarmEvent) -> (Verdict, Farm)
     ensures is { IsStep farm.now.window farm.now.state event result.0 result.1.state }
     ensures only { (verdict : specs.Verdict) (t : FarmState)
         → IsStep farm.now.window farm.now.state event verdict t
         → (result.0 ≡ verdict) × (result.1.state ≡ t) }
+    ensures window { result.1.window ≡ farm.now.window }
 {
-    // For the proof alone: the window meets the premise of the law, and the law.
+    // For the proof alone: the first call gives the premise of the law, and the second the law.
     let _ = farm.window();
     events_have_one_step();
     let mut next = *farm;

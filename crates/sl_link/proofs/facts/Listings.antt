@@ -49,7 +49,7 @@ pub tm_listed :
 unfolding digits encode_with fecf_of register_of
 tm_listed = refl
 
-pub tm_counted :
+pub tm_totals :
     Have show_tm_counts (
     (tm, one_packet, record none { octets = 32; frames = 1 })
     ∷ (tm, with_rest, record none { octets = 40; frames = 1; rest = 8 })
@@ -57,7 +57,7 @@ pub tm_counted :
     ∷ []
     )
 unfolding fecf_of register_of
-tm_counted = refl
+tm_totals = refl
 
 -- ---- TC frames
 
@@ -151,11 +151,11 @@ pub tc_listed :
 unfolding digits encode_with fecf_of register_of
 tc_listed = refl
 
-pub tc_counted :
+pub tc_totals :
     Have show_tc_counts (
     (tc, bad_length, record none { octets = 23; frames = 1; rest = 7 })
     ∷ (tc, skipped, record none { octets = 49; frames = 6; skipped = 6 })
     ∷ []
     )
 unfolding fecf_of register_of
-tc_counted = refl
+tc_totals = refl

@@ -45,3 +45,7 @@ words_width = 30
 -- a number, a verdict, a reason to skip, sequence flags
 abbrev pub number_width : ℕ
 number_width = 20
+
+-- the name of an event that `check` lists, and the space before it
+abbrev pub event_width : ℕ
+event_width = 8

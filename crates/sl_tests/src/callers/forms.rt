@@ -24,8 +24,8 @@ pub fn have_same_tm_packets(
     Ok(form.as_slice() == other_form.as_slice())
 }
 
-/// The same, proved by the law: of the two forms only that they are normal forms is known, and the parameters are those
-/// that a caller lends.
+/// The same, proved by the law: of the two forms only that they are normal forms is known. A `Managed` that was lent meets
+/// the premise of the law.
 pub fn tell_tm_packets(
     alloc: Global,
     managed: &Managed,
@@ -37,7 +37,7 @@ pub fn tell_tm_packets(
 {
     let form = written_tm_form(alloc, managed, one)?;
     let other_form = written_tm_form(alloc, managed, other)?;
-    // For the proof alone: the parameters meet the premise of the law, and the law.
+    // For the proof alone: the first call gives the premise of the law, and the second the law.
     let _ = managed.spacecraft();
     tm_normal_forms_tell_packets();
     Ok(form.as_slice() == other_form.as_slice())
@@ -91,8 +91,8 @@ pub fn have_same_tc_packets(
     Ok(form.as_slice() == other_form.as_slice())
 }
 
-/// The same, proved by the law: of the two forms only that they are normal forms is known, and the parameters are those
-/// that a caller lends.
+/// The same, proved by the law: of the two forms only that they are normal forms is known. A `Managed` that was lent meets
+/// the premise of the law.
 pub fn tell_tc_packets(
     alloc: Global,
     managed: &Managed,
@@ -104,7 +104,7 @@ pub fn tell_tc_packets(
 {
     let form = written_tc_form(alloc, managed, one)?;
     let other_form = written_tc_form(alloc, managed, other)?;
-    // For the proof alone: the parameters meet the premise of the law, and the law.
+    // For the proof alone: the first call gives the premise of the law, and the second the law.
     let _ = managed.spacecraft();
     tc_normal_forms_tell_packets();
     Ok(form.as_slice() == other_form.as_slice())

@@ -91,8 +91,8 @@ module _ {W : Type 0} (contents : W → Option (List ℕ)) where
 
   -- memory was refused, and nothing written
   pub stops_at_memory : (writer : Counted W) (text : List ℕ) {at_memory : Type 0} → at_memory → StopsWriting contents writer writer text at_memory Memory
-  stops_at_memory writer text wants =
-      record { front = record { written = []; missing = text; front = refl; writes = Appends-nil (contents (stream_of writer)) }; cause = (refl, refl, search rules); memory = λ e. wants }
+  stops_at_memory writer text allowed =
+      record { front = record { written = []; missing = text; front = refl; writes = Appends-nil (contents (stream_of writer)) }; cause = (refl, refl, search rules); memory = λ e. allowed }
 
 module _ {W : Type 0} {contents : W → Option (List ℕ)} where
   pub adds_both : {old mid new : Output W} {text more : List ℕ} → Adds contents old text mid → Adds contents mid more new → Adds contents old (text ++ more) new

@@ -28,7 +28,7 @@ module _ (failing : PacketLists → ℕ → List ℕ → SinkFault → PacketLis
       → IsStopped AddsPacket failing failures old channel packets fault new → flow_fault fault ≡ Memory
   memory_refused only packets old new channel fault stopped = grind arith
 
-  -- where it came of something else, or there was a packet
+  -- the fault is `Memory` of the extractor or the receiver itself, where X holds, or a packet was to be handed over
   pub incomplete_or_some : {X : Type 0} (packets : List (List ℕ)) (old new : PacketLists) (channel : ℕ) (fault : FlowFault)
       → IsStopped AddsPacket failing failures old channel packets fault new → (fault ≡ flow.Memory → X) → X ⊎ (0 < length packets)
-  incomplete_or_some packets old new channel fault stopped otherwise = grind (arith, length-append)
+  incomplete_or_some packets old new channel fault stopped allowed = grind (arith, length-append)

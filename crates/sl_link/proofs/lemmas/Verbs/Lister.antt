@@ -50,10 +50,10 @@ module _ {R W : Type 0} (remaining : R → Option (List ℕ)) (contents : W → 
     stops_at : (at_memory : Type 0) (text more octets : List ℕ) (fault : LinkFault) → Reads remaining reader reader' octets → faults_of reader' ≡ faults_of reader → length octets ≤ limit
         → text ++ more ≡ listing_text frames_of l octets → KeepsWriter start new → StopsWriting contents start.writer.now new.writer.now (start.lines ++ text) at_memory fault
         → (at_memory → MayRefuseMemoryAtSome remaining reader reader' frames_of may_refuse_memory) → Ends (Err fault)
-    stops_at at_memory text more octets fault read kept within e lent s wants =
+    stops_at at_memory text more octets fault read kept within e lent s allowed =
         let written = rw (empty, e) at (stops_first start.lines text more s).front in
         let cause = writer_caused reader reader' start.writer.now new.writer.now limit buffer octets fault kept within s.cause in
-        (lent, record { listing = tt; totals = tt; fault = record { octets = octets; read = read; written = written; cause = cause }; memory = λ is_memory. wants (s.memory is_memory) })
+        (lent, record { listing = tt; totals = tt; fault = record { octets = octets; read = read; written = written; cause = cause }; memory = λ is_memory. allowed (s.memory is_memory) })
 
     -- a fault before all was read
     pub stops_frames : (has_listed : Frames → Type 0) (fault : LinkFault)

@@ -2,7 +2,7 @@
 //! the remainder, and the totals.
 ghost use Rattle.std.specs.Prelude.{◌≡◌, ◌+◌, ◌≤◌, ◌++◌, length, decimal};
 ghost use Rattle.std.specs.List.{concat};
-ghost use Rattle.sl_link.specs.Io.Room.{HasRoom, HasRoomFor, line_width, number_width};
+ghost use Rattle.sl_link.specs.Io.Room.{HasRoom, HasRoomFor, event_width, line_width, number_width};
 ghost use Rattle.sl_link.specs.Verbs.Check.Checking.{AddsAnomalies};
 ghost use Rattle.sl_link.specs.Verbs.Check.Lines.{event_anomaly, event_line, remainder_anomaly, some_text, totals_line};
 
@@ -29,7 +29,7 @@ pub fn event_lines(
     octets: Option<u32>,
 ) -> u64
     requires room { HasRoomFor line_width lines.old }
-    requires event { length event.now ≤ 8 }
+    requires event { length event.now ≤ event_width }
     ensures { AddsAnomalies lines.old (event_anomaly at.offset at.vc at.map event.now holds octets)
         lines.new result }
 {
@@ -51,7 +51,7 @@ fn event_line(
     octets: Option<u32>,
 )
     requires room { HasRoomFor line_width lines.old }
-    requires event { length event.now ≤ 8 }
+    requires event { length event.now ≤ event_width }
     ensures text { lines.new ≡ lines.old ++ event_line offset vc map event.now octets }
     ensures short { length lines.new ≤ length lines.old + line_width }
 {

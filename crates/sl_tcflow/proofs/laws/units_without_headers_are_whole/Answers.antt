@@ -7,5 +7,5 @@ returns-clause-segment c = plain_unit_is_whole
 pub returns-clause-incomplete : goal.returns-clause-incomplete
 returns-clause-incomplete c = no_plain_series_is_incomplete
 
-pub returns-clause-tail_alone : goal.returns-clause-tail_alone
-returns-clause-tail_alone c = plain_unit_has_tail_alone
+pub returns-clause-amiss : goal.returns-clause-amiss
+returns-clause-amiss c = plain_unit_has_tail_alone

@@ -86,13 +86,13 @@ module _ {W : Type 0} (contents : W → Option (List ℕ)) where
     pub stops_printing : (writer : Counted W) (text : List ℕ) → (old.out.ghost_name ≡ new.out.ghost_name → writer ≡ new.out.now.writer.now) → text ≡ lines_on old.kind channel packets
         → (failures : Printer W → ℕ) (at_memory : Type 0) (fault : FlowFault) → IsStopped Prints FailsToPrint failures old channel packets fault new → (fault ≡ flow.Memory → at_memory)
         → StopsWriting contents old.out.now.writer.now writer (old.out.now.lines ++ text) at_memory (flow_fault fault)
-    stops_printing writer text ends text_is failures at_memory flow.Memory stopped wants =
+    stops_printing writer text ends text_is failures at_memory flow.Memory stopped allowed =
         let s = stopped.0 in
         let p = printed s.accepted old new channel s.takes in
-        rw (ends (sym p.1), text_is, s.in_order, lines_append old.kind channel s.accepted s.later) (stops_then _ p.2 (stops_at_memory contents _ _ (wants refl)))
-    stops_printing writer text ends text_is failures at_memory (flow.Sink fault) stopped wants =
+        rw (ends (sym p.1), text_is, s.in_order, lines_append old.kind channel s.accepted s.later) (stops_then _ p.2 (stops_at_memory contents _ _ (allowed refl)))
+    stops_printing writer text ends text_is failures at_memory (flow.Sink fault) stopped allowed =
         let s = stopped.0 in
         let p = printed s.accepted old s.before channel s.takes in
         rw (s.fails.0, ends (sym (s.fails.1 ∙ p.1)), text_is, s.in_order, lines_append old.kind channel s.accepted (s.refused ∷ s.later))
         (memory_weaker (λ never. absurd never) (stops_then _ p.2 (stops_first s.before.out.now.lines (packet_line (channel_name old.kind channel) s.refused) (lines_on old.kind channel s.later) (rw p.0 at s.fails.3))))
-    stops_printing writer text ends text_is failures at_memory flow.Failed stopped wants = absurd stopped
+    stops_printing writer text ends text_is failures at_memory flow.Failed stopped allowed = absurd stopped

@@ -1,9 +1,15 @@
--- Packets that an extractor hands to a store, frame by frame: the lists of the store, and what is still to come.
-use Rattle.std.proofs.Common.{◌≡◌, ◌≢◌, ℕ, ◌==◌, ◌<◌, ◌≤◌, if◌then◌else◌, List, [], ◌∷◌, ◌++◌, length, inl, inr, sym, ◌∙◌, ap, arith, append_assoc, append-nil}
+-- Packets that an extractor hands to a store, frame by frame: the lists of the store, and what is still to come; and why
+-- it stops.
+use Rattle.std.proofs.Common.{◌≡◌, ◌≢◌, ◌⊎◌, ℕ, ◌<◌, ◌≤◌, if◌then◌else◌, List, [], ◌∷◌, ◌++◌, length, inl, inr, refl, sym, ◌∙◌, ap, arith, append_assoc, append-nil}
 use Rattle.std.specs.List.{slice_index_or}
 use Rattle.std.proofs.lemmas.Bool.Decides.{eqb_tells}
 use Rattle.std.proofs.lemmas.List.{length-set, get_or-set_same, get_or-set_other}
 use Rattle.sl_packet.specs.Delivered.{AddsPacket, PacketLists, channel_count, empty_lists}
+use Rattle.sl_packet.specs.Stopping.{IsStopped}
+use Rattle.sl_packet.specs.declared.flow_fault.FlowFault.{FlowFault}
+use Rattle.sl_packet.specs.declared.flow_fault.FlowFault.TheVariants.{Failed, Memory, Sink}
+use Rattle.sl_packet.specs.declared.sink.SinkFault.{SinkFault}
+use Rattle.sl_packet.specs.declared.sink.SinkFault.TheVariants as sink
 use Rattle.sl_packet.specs.Packets.{without_idle}
 use Rattle.sl_packet.specs.Sink.{TakesAll}
 use Rattle.sl_packet.proofs.DeliveredLemmas.{length-empty_lists, list_at-empty_lists}
@@ -87,3 +93,14 @@ pub all_handed : (all left : List TmView) (state : ExtractorState) (lists : List
     → (vc : ℕ) → slice_index_or lists vc [] ≡ without_idle (packets_of_channel all vc)
 all_handed all left state lists none law h vc =
     sym (append-nil (list_of lists vc)) ∙ ap (λ l. list_of lists vc ++ handed_over vc h.seen l) (sym none) ∙ h.each vc ∙ law vc all
+
+-- a store refuses a packet for want of memory alone
+abbrev RefusesForMemory : PacketLists → ℕ → List ℕ → SinkFault → PacketLists → Type 0
+RefusesForMemory old channel packet fault new = (fault ≡ sink.Memory) × (new.lists ≡ old.lists)
+
+-- so an extractor that hands its packets to a store stops for want of memory alone
+pub stopped_for_memory : (old new : PacketLists) (channel : ℕ) (packets : List (List ℕ)) (flow : FlowFault)
+    → IsStopped AddsPacket RefusesForMemory (λ (d : PacketLists). d.failures) old channel packets flow new → (flow ≡ Memory) ⊎ (flow ≡ Sink sink.Memory)
+stopped_for_memory old new channel packets Memory stopped = inl refl
+stopped_for_memory old new channel packets (Sink fault) stopped = inr (ap Sink stopped.0.fails.0)
+stopped_for_memory old new channel packets Failed stopped = elim stopped [ ]

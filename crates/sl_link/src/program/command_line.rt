@@ -206,37 +206,38 @@ fn link_options<'a>(alloc: Global) -> Result<Vec<Arg<'a>>, AllocError>
     let byte = value_parser!(u8);
     let short = value_parser!(u16);
     let long = value_parser!(u64);
-    let scid = needed_number(alloc, SPACECRAFT, "ID", short);
-    let tm_length = number_or(alloc, TM_LENGTH, "OCTETS", short, "1115");
-    let tc_length = number_or(alloc, TC_LENGTH, "OCTETS", short, "1024");
-    let tm_fecf = flag(alloc, TM_FECF);
-    let tc_fecf = flag(alloc, TC_FECF);
-    let window = number_or(alloc, WINDOW, "WIDTH", byte, "10");
-    let vr = number_or(alloc, VR, "NUMBER", byte, "0");
-    let vr_of = text(alloc, VR_OF, "VC:NUMBER,..");
-    let plain = text(alloc, PLAIN, "VC,..");
-    let limit = number_or(alloc, LIMIT, "OCTETS", long, "1073741824");
-    Ok(vec![in alloc;
-        scid.help("Spacecraft identifier, in decimal, 0 to 1023"),
-        tm_length.help("Length of each TM frame in octets, 32 to 2048"),
-        tc_length.help("Greatest length of a TC frame in octets, 16 to 1024"),
-        tm_fecf.help("TM frames have a frame error control field"),
-        tc_fecf.help("TC frames have a frame error control field"),
-        window.help("Width of the FARM-1 sliding window in frames, even, 2 to 254"),
-        vr.help("V(R) with which each FARM-1 begins, 0 to 255"),
-        vr_of.help("Initial V(R), 0 to 255, of these virtual channels, 0 to 63 in rising order"),
-        plain.help(
-            "Virtual channels whose TC frames have no segment headers, 0 to 63 in rising order"
-        ),
-        limit.help("Octets read at most, 1 to 18446744073709551615"),
-    ]?)
+    let help = "Spacecraft identifier, in decimal, 0 to 1023";
+    let scid = needed_number(alloc, SPACECRAFT, "ID", help, short);
+    let help = "Length of each TM frame in octets, 32 to 2048";
+    let tm_length = number_or(alloc, TM_LENGTH, "OCTETS", help, short, "1115");
+    let help = "Greatest length of a TC frame in octets, 16 to 1024";
+    let tc_length = number_or(alloc, TC_LENGTH, "OCTETS", help, short, "1024");
+    let tm_fecf = flag(alloc, TM_FECF, "TM frames have a frame error control field");
+    let tc_fecf = flag(alloc, TC_FECF, "TC frames have a frame error control field");
+    let help = "Width of the FARM-1 sliding window in frames, even, 2 to 254";
+    let window = number_or(alloc, WINDOW, "WIDTH", help, byte, "10");
+    let help = "V(R) with which each FARM-1 begins, 0 to 255";
+    let vr = number_or(alloc, VR, "NUMBER", help, byte, "0");
+    let help = "Initial V(R), 0 to 255, of these virtual channels, 0 to 63 in rising order";
+    let vr_of = text(alloc, VR_OF, "VC:NUMBER,..", help);
+    let help = "Virtual channels whose TC frames have no segment headers, 0 to 63 in rising order";
+    let plain = text(alloc, PLAIN, "VC,..", help);
+    let help = "Octets read at most, 1 to 18446744073709551615";
+    let limit = number_or(alloc, LIMIT, "OCTETS", help, long, "1073741824");
+    Ok(vec![in alloc; scid, tm_length, tc_length, tm_fecf, tc_fecf, window, vr, vr_of, plain, limit]?)
 }
 
 // An option that takes a number, and that no command line may leave out.
-fn needed_number<'a>(alloc: Global, name: &'a str, unit: &'a str, range: ValueParser<'a>) -> Arg<'a>
+fn needed_number<'a>(
+    alloc: Global,
+    name: &'a str,
+    unit: &'a str,
+    help: &'a str,
+    range: ValueParser<'a>,
+) -> Arg<'a>
     ensures { rule_of result ≡ needed_number name.entry.now range.entry }
 {
-    number(alloc, name, unit, range).required(true)
+    number(alloc, name, unit, help, range).required(true)
 }
 
 // An option that takes a number, and has this one where it is left out.
@@ -244,36 +245,47 @@ fn number_or<'a>(
     alloc: Global,
     name: &'a str,
     unit: &'a str,
+    help: &'a str,
     range: ValueParser<'a>,
     default: &'a str,
 ) -> Arg<'a>
     ensures { rule_of result ≡ number_or name.entry.now range.entry default.entry.now }
 {
-    number(alloc, name, unit, range).default_value(default)
+    number(alloc, name, unit, help, range).default_value(default)
 }
 
 // An option that takes a number.
-fn number<'a>(alloc: Global, name: &'a str, unit: &'a str, range: ValueParser<'a>) -> Arg<'a>
+fn number<'a>(
+    alloc: Global,
+    name: &'a str,
+    unit: &'a str,
+    help: &'a str,
+    range: ValueParser<'a>,
+) -> Arg<'a>
     ensures { rule_of result ≡ number_rule name.entry.now range.entry }
 {
     Arg::new(alloc, name)
         .long(name)
         .value_name(unit)
+        .help(help)
         .value_parser(range)
 }
 
 // An option that takes a text, and may be left out.
-fn text<'a>(alloc: Global, name: &'a str, unit: &'a str) -> Arg<'a>
+fn text<'a>(alloc: Global, name: &'a str, unit: &'a str, help: &'a str) -> Arg<'a>
     ensures { rule_of result ≡ text_rule name.entry.now }
 {
-    Arg::new(alloc, name).long(name).value_name(unit)
+    Arg::new(alloc, name).long(name).value_name(unit).help(help)
 }
 
 // An option that takes no value.
-fn flag<'a>(alloc: Global, name: &'a str) -> Arg<'a>
+fn flag<'a>(alloc: Global, name: &'a str, help: &'a str) -> Arg<'a>
     ensures { rule_of result ≡ flag_rule name.entry.now }
 {
-    Arg::new(alloc, name).long(name).action(ArgAction::SetTrue)
+    Arg::new(alloc, name)
+        .long(name)
+        .help(help)
+        .action(ArgAction::SetTrue)
 }
 
 // What a verb with these arguments asks for.

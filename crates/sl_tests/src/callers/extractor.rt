@@ -1,20 +1,24 @@
 //! A caller whose own contract is what the clauses and a law of an extractor promise together.
-ghost use Rattle.std.specs.Prelude.{◌≡◌, ℕ, IfOk};
+ghost use Rattle.std.specs.Prelude.{◌≡◌, ◌⊎◌, ℕ, IfErr, IfOk};
 ghost use Rattle.sl_packet.specs.Delivered.{list_at};
 ghost use Rattle.sl_packet.specs.Packets.{without_idle};
 ghost use Rattle.sl_tmflow.specs.Recording.{packets_of_channel};
 
-use sl_packet::{Delivered, FlowFault};
+use sl_packet::{Delivered, FlowFault, SinkFault};
 use sl_tmflow::Extractor;
 use sl_tmflow::laws::tm_packets_are_handed_over;
 use sl_tmframe::TmFrame;
 use std::alloc::Global;
 
 /// The packets of frames that are given to an extractor one after another. Each virtual channel's
-/// list is what its frames deliver, idle packets left out.
+/// list is what its frames deliver, idle packets left out. The fault is `Memory` where the extractor
+/// was refused memory, and `Sink(Memory)` where the store was.
 pub fn deliver(alloc: Global, frames: &[TmFrame]) -> Result<Delivered, FlowFault>
-    ensures { IfOk result (λ delivered. (vc : ℕ)
+    ensures lists { IfOk result (λ delivered. (vc : ℕ)
         → list_at delivered vc ≡ without_idle (packets_of_channel frames.now vc)) }
+    // Memory was refused, to the extractor or to the store.
+    ensures fault { IfErr result (λ fault. (fault ≡ FlowFault.Memory)
+        ⊎ (fault ≡ FlowFault.Sink SinkFault.Memory)) }
 {
     // For the proof alone: the law.
     tm_packets_are_handed_over();

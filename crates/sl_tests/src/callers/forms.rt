@@ -1,9 +1,14 @@
-//! Callers whose own contract is what the normal forms promise, and nothing else of the engines.
-ghost use Rattle.std.specs.Prelude.{◌≡◌, ◌↔◌, IsTrue, IfOk};
+//! Callers whose own contracts say what the normal forms promise, and why a call is refused.
+//!
+//! The recordings are slices and what is written is a vector. Each caller answers `TooLong` only where a recording, or a
+//! normal form that it normalises again, is longer than the managed limit, and `Memory` where memory was refused. It has
+//! no other fault.
+ghost use Rattle.std.specs.Prelude.{◌≡◌, ◌↔◌, IsTrue, IfOk, length, max};
 ghost use Rattle.sl_link.specs.Kind.Tm.{tm_packets};
 ghost use Rattle.sl_link.specs.Normalise.Tm.{tm_normal_form};
 ghost use Rattle.sl_link.specs.Kind.Tc.{tc_packets};
 ghost use Rattle.sl_link.specs.Normalise.Tc.{tc_normal_form};
+ghost use Rattle.sl_tests.specs.Forms.{IsWithin};
 
 use sl_link::laws::{tc_normal_forms_tell_packets, tm_normal_forms_tell_packets};
 use sl_link::{Counted, LinkFault, Managed, normalise_tc, normalise_tm};
@@ -16,8 +21,10 @@ pub fn have_same_tm_packets(
     one: &[u8],
     other: &[u8],
 ) -> Result<bool, LinkFault>
-    ensures { IfOk result (λ same. IsTrue same
+    ensures same { IfOk result (λ same. IsTrue same
         ↔ (tm_packets managed.now one.now ≡ tm_packets managed.now other.now)) }
+    ensures within { IsWithin managed.now.max_octets (max (length one.now) (length other.now))
+        result }
 {
     let form = tm_form(alloc, managed, one)?;
     let other_form = tm_form(alloc, managed, other)?;
@@ -32,8 +39,10 @@ pub fn tell_tm_packets(
     one: &[u8],
     other: &[u8],
 ) -> Result<bool, LinkFault>
-    ensures { IfOk result (λ same. IsTrue same
+    ensures same { IfOk result (λ same. IsTrue same
         ↔ (tm_packets managed.now one.now ≡ tm_packets managed.now other.now)) }
+    ensures within { IsWithin managed.now.max_octets (max (length one.now) (length other.now))
+        result }
 {
     let form = written_tm_form(alloc, managed, one)?;
     let other_form = written_tm_form(alloc, managed, other)?;
@@ -45,22 +54,25 @@ pub fn tell_tm_packets(
 
 // The normal form of a TM recording. The contract says nothing of packets.
 fn written_tm_form(alloc: Global, managed: &Managed, recording: &[u8]) -> Result<Vec<u8>, LinkFault>
-    ensures { IfOk result (λ form. form.items ≡ tm_normal_form managed.now recording.now) }
+    ensures form { IfOk result (λ form. form.items ≡ tm_normal_form managed.now recording.now) }
+    ensures within { IsWithin managed.now.max_octets (length recording.now) result }
 {
     tm_form(alloc, managed, recording)
 }
 
-/// Whether a TM recording normalised twice is that normalised once: it is.
-pub fn is_tm_form_its_own(
+/// The normal form of the normal form of a TM recording. It is the normal form of the recording: to normalise twice is to
+/// normalise once. The fault is `TooLong` also where the normal form is longer than the limit.
+pub fn normalise_tm_twice(
     alloc: Global,
     managed: &Managed,
     recording: &[u8],
-) -> Result<bool, LinkFault>
-    ensures { IfOk result (λ same. IsTrue same) }
+) -> Result<Vec<u8>, LinkFault>
+    ensures form { IfOk result (λ form. form.items ≡ tm_normal_form managed.now recording.now) }
+    ensures within { IsWithin managed.now.max_octets
+        (max (length recording.now) (length (tm_normal_form managed.now recording.now))) result }
 {
     let form = tm_form(alloc, managed, recording)?;
-    let twice = tm_form(alloc, managed, form.as_slice())?;
-    Ok(form.as_slice() == twice.as_slice())
+    tm_form(alloc, managed, form.as_slice())
 }
 
 // The normal form of a TM recording.
@@ -68,11 +80,16 @@ fn tm_form(alloc: Global, managed: &Managed, recording: &[u8]) -> Result<Vec<u8>
     ensures form { IfOk result (λ form. form.items ≡ tm_normal_form managed.now recording.now) }
     ensures packets { IfOk result (λ form. tm_packets managed.now form.items
         ≡ tm_packets managed.now recording.now) }
+    ensures within { IsWithin managed.now.max_octets (length recording.now) result }
 {
     let mut reader = Counted::new(recording);
     let mut writer = Counted::new(Vec::new(alloc));
-    normalise_tm(alloc, managed, &mut reader, &mut writer)?;
-    Ok(writer.into_inner())
+    match normalise_tm(alloc, managed, &mut reader, &mut writer) {
+        Ok(_) => Ok(writer.into_inner()),
+        Err(LinkFault::TooLong) => Err(LinkFault::TooLong),
+        // A slice has no fault, and a vector only where memory is refused.
+        Err(_) => Err(LinkFault::Memory),
+    }
 }
 
 /// Whether FARM-1 lets the same packets of two TC recordings through on each virtual channel and MAP, idle ones left
@@ -83,8 +100,10 @@ pub fn have_same_tc_packets(
     one: &[u8],
     other: &[u8],
 ) -> Result<bool, LinkFault>
-    ensures { IfOk result (λ same. IsTrue same
+    ensures same { IfOk result (λ same. IsTrue same
         ↔ (tc_packets managed.now one.now ≡ tc_packets managed.now other.now)) }
+    ensures within { IsWithin managed.now.max_octets (max (length one.now) (length other.now))
+        result }
 {
     let form = tc_form(alloc, managed, one)?;
     let other_form = tc_form(alloc, managed, other)?;
@@ -99,8 +118,10 @@ pub fn tell_tc_packets(
     one: &[u8],
     other: &[u8],
 ) -> Result<bool, LinkFault>
-    ensures { IfOk result (λ same. IsTrue same
+    ensures same { IfOk result (λ same. IsTrue same
         ↔ (tc_packets managed.now one.now ≡ tc_packets managed.now other.now)) }
+    ensures within { IsWithin managed.now.max_octets (max (length one.now) (length other.now))
+        result }
 {
     let form = written_tc_form(alloc, managed, one)?;
     let other_form = written_tc_form(alloc, managed, other)?;
@@ -112,22 +133,25 @@ pub fn tell_tc_packets(
 
 // The normal form of a TC recording. The contract says nothing of packets.
 fn written_tc_form(alloc: Global, managed: &Managed, recording: &[u8]) -> Result<Vec<u8>, LinkFault>
-    ensures { IfOk result (λ form. form.items ≡ tc_normal_form managed.now recording.now) }
+    ensures form { IfOk result (λ form. form.items ≡ tc_normal_form managed.now recording.now) }
+    ensures within { IsWithin managed.now.max_octets (length recording.now) result }
 {
     tc_form(alloc, managed, recording)
 }
 
-/// Whether a TC recording normalised twice is that normalised once: it is.
-pub fn is_tc_form_its_own(
+/// The normal form of the normal form of a TC recording. It is the normal form of the recording: to normalise twice is to
+/// normalise once. The fault is `TooLong` also where the normal form is longer than the limit.
+pub fn normalise_tc_twice(
     alloc: Global,
     managed: &Managed,
     recording: &[u8],
-) -> Result<bool, LinkFault>
-    ensures { IfOk result (λ same. IsTrue same) }
+) -> Result<Vec<u8>, LinkFault>
+    ensures form { IfOk result (λ form. form.items ≡ tc_normal_form managed.now recording.now) }
+    ensures within { IsWithin managed.now.max_octets
+        (max (length recording.now) (length (tc_normal_form managed.now recording.now))) result }
 {
     let form = tc_form(alloc, managed, recording)?;
-    let twice = tc_form(alloc, managed, form.as_slice())?;
-    Ok(form.as_slice() == twice.as_slice())
+    tc_form(alloc, managed, form.as_slice())
 }
 
 // The normal form of a TC recording.
@@ -135,9 +159,14 @@ fn tc_form(alloc: Global, managed: &Managed, recording: &[u8]) -> Result<Vec<u8>
     ensures form { IfOk result (λ form. form.items ≡ tc_normal_form managed.now recording.now) }
     ensures packets { IfOk result (λ form. tc_packets managed.now form.items
         ≡ tc_packets managed.now recording.now) }
+    ensures within { IsWithin managed.now.max_octets (length recording.now) result }
 {
     let mut reader = Counted::new(recording);
     let mut writer = Counted::new(Vec::new(alloc));
-    normalise_tc(alloc, managed, &mut reader, &mut writer)?;
-    Ok(writer.into_inner())
+    match normalise_tc(alloc, managed, &mut reader, &mut writer) {
+        Ok(_) => Ok(writer.into_inner()),
+        Err(LinkFault::TooLong) => Err(LinkFault::TooLong),
+        // A slice has no fault, and a vector only where memory is refused.
+        Err(_) => Err(LinkFault::Memory),
+    }
 }

@@ -1,4 +1,4 @@
-use Rattle.std.proofs.Common.{◌≡◌, ◌∷◌, [], ◌+◌, ◌≤◌, ◌∙◌, ap, ap₂, arith}
+use Rattle.std.proofs.Common.{◌≡◌, ◌∷◌, [], ◌∙◌, ap, ap₂, arith}
 use Rattle.sl_cop.specs.Farm.{FarmView, farm_start, farm_step}
 use Rattle.sl_tests.proofs.callers.two_steps.Goals as goal
 

@@ -1,11 +1,11 @@
 //! The callers of the engines, run.
 use crate::callers::forms::{
-    have_same_tc_packets, have_same_tm_packets, is_tc_form_its_own, is_tm_form_its_own,
+    have_same_tc_packets, have_same_tm_packets, normalise_tc_twice, normalise_tm_twice,
     tell_tc_packets, tell_tm_packets,
 };
 use crate::support::recordings::{TC_FRAME, TM_FRAME};
 use crate::support::rows::{Stop, passes};
-use sl_link::Managed;
+use sl_link::{LinkFault, Managed};
 use std::alloc::Global;
 
 // A TM frame with the packet of `TM_FRAME`, other counts and other idle fill, and one with another packet.
@@ -34,7 +34,7 @@ fn link() -> Result<Managed, Stop> {
 }
 
 // What the six say, without their contracts: whether the packets of another recording are the same ones, and whether a
-// form is its own form.
+// recording that is normalised twice becomes these octets.
 fn is_same_tm(alloc: Global, other: &[u8]) -> Result<bool, Stop> {
     let link = link()?;
     Ok(have_same_tm_packets(alloc, &link, &TM_FRAME, other)?)
@@ -45,9 +45,9 @@ fn is_told_same_tm(alloc: Global, other: &[u8]) -> Result<bool, Stop> {
     Ok(tell_tm_packets(alloc, &link, &TM_FRAME, other)?)
 }
 
-fn is_own_tm(alloc: Global) -> Result<bool, Stop> {
+fn becomes_tm(alloc: Global, form: &[u8]) -> Result<bool, Stop> {
     let link = link()?;
-    Ok(is_tm_form_its_own(alloc, &link, &TM_FILLED)?)
+    Ok(normalise_tm_twice(alloc, &link, &TM_FILLED)?.as_slice() == form)
 }
 
 fn is_same_tc(alloc: Global, other: &[u8]) -> Result<bool, Stop> {
@@ -60,9 +60,24 @@ fn is_told_same_tc(alloc: Global, other: &[u8]) -> Result<bool, Stop> {
     Ok(tell_tc_packets(alloc, &link, &TC_FRAME, other)?)
 }
 
-fn is_own_tc(alloc: Global) -> Result<bool, Stop> {
+fn becomes_tc(alloc: Global, form: &[u8]) -> Result<bool, Stop> {
     let link = link()?;
-    Ok(is_tc_form_its_own(alloc, &link, &TC_BYPASSING)?)
+    Ok(normalise_tc_twice(alloc, &link, &TC_BYPASSING)?.as_slice() == form)
+}
+
+// Whether all six refuse a recording over the limit, as the second where they take two.
+fn is_too_long(alloc: Global) -> Result<bool, Stop> {
+    let link = link()?;
+    let long = [0; 101];
+    let outcomes = [
+        have_same_tm_packets(alloc, &link, &TM_FRAME, &long).err(),
+        tell_tm_packets(alloc, &link, &TM_FRAME, &long).err(),
+        normalise_tm_twice(alloc, &link, &long).err(),
+        have_same_tc_packets(alloc, &link, &TC_FRAME, &long).err(),
+        tell_tc_packets(alloc, &link, &TC_FRAME, &long).err(),
+        normalise_tc_twice(alloc, &link, &long).err(),
+    ];
+    Ok(outcomes == [Some(LinkFault::TooLong); 6])
 }
 
 // The spacecraft of the link is the one that it was given.
@@ -92,7 +107,14 @@ fn callers_tell_packets_by_normal_forms(rt: HostRuntime) {
             "another TM packet by the law",
             is(is_told_same_tm(alloc, &TM_OTHER), false),
         ),
-        ("a TM form's own form", is_own_tm(alloc)),
+        (
+            "a TM recording normalised twice",
+            becomes_tm(alloc, &TM_FRAME),
+        ),
+        (
+            "a TM recording normalised twice isn't itself",
+            is(becomes_tm(alloc, &TM_FILLED), false),
+        ),
         (
             "the same TC packet",
             is(is_same_tc(alloc, &TC_BYPASSING), true),
@@ -106,7 +128,15 @@ fn callers_tell_packets_by_normal_forms(rt: HostRuntime) {
             "another TC packet by the law",
             is(is_told_same_tc(alloc, &TC_OTHER), false),
         ),
-        ("a TC form's own form", is_own_tc(alloc)),
+        (
+            "a TC recording normalised twice",
+            becomes_tc(alloc, &TC_FRAME),
+        ),
+        (
+            "a TC recording normalised twice isn't itself",
+            is(becomes_tc(alloc, &TC_BYPASSING), false),
+        ),
+        ("a recording over the limit", is_too_long(alloc)),
         ("the spacecraft", has_its_spacecraft()),
     ];
     for (row, outcome) in rows {

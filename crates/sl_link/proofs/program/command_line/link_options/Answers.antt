@@ -9,7 +9,6 @@ returns c =
     let short = c.value_parser-short.ensures in
     let long = c.value_parser-long.ensures in
     ap (map rule_of) c.in_ok-vec.ensures.items
-    ∙ (λ i. rule_of (c.help.ensures i) ∷ rule_of (c.help-2.ensures i) ∷ rule_of (c.help-3.ensures i) ∷ rule_of (c.help-4.ensures i) ∷ rule_of (c.help-5.ensures i) ∷ rule_of (c.help-6.ensures i) ∷ rule_of (c.help-7.ensures i) ∷ rule_of (c.help-8.ensures i) ∷ rule_of (c.help-9.ensures i) ∷ rule_of (c.help-10.ensures i) ∷ [])
     ∙ (λ i. c.needed_number-scid.ensures i ∷ c.number_or-tm_length.ensures i ∷ c.number_or-tc_length.ensures i ∷ c.flag-tm_fecf.ensures i ∷ c.flag-tc_fecf.ensures i ∷ c.number_or-window.ensures i ∷ c.number_or-vr.ensures i ∷ c.text-vr_of.ensures i ∷ c.text-plain.ensures i ∷ c.number_or-limit.ensures i ∷ [])
     ∙ (λ i. needed_number (codes "scid") (short i) ∷ number_or (codes "tm-length") (short i) (codes "1115") ∷ number_or (codes "tc-length") (short i) (codes "1024") ∷ flag_rule (codes "tm-fecf") ∷ flag_rule (codes "tc-fecf")
     ∷ number_or (codes "window") (byte i) (codes "10") ∷ number_or (codes "vr") (byte i) (codes "0") ∷ text_rule (codes "vr-of") ∷ text_rule (codes "plain") ∷ number_or (codes "limit") (long i) (codes "1073741824") ∷ [])

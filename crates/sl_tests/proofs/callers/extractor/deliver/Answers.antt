@@ -1,6 +1,8 @@
-use Rattle.std.proofs.Common.{◌+◌, ◌∷◌, ◌∙◌, arith, ap, drop, sym}
+use Rattle.std.proofs.Common.{◌≡◌, ◌≢◌, ◌+◌, ◌∷◌, ◌∙◌, arith, ap, drop, false, sym, true, Err}
 use Rattle.std.proofs.lemmas.List.{drop_all, drop_more}
-use Rattle.sl_tests.proofs.Handing.{all_handed, hands_next, none_handed}
+use Rattle.sl_packet.specs.declared.flow_fault.FlowFault.TheVariants.{Failed}
+use Rattle.sl_link.proofs.lemmas.Link.Answers.{passed_up}
+use Rattle.sl_tests.proofs.Handing.{all_handed, hands_next, none_handed, stopped_for_memory}
 use Rattle.sl_tests.proofs.callers.extractor.deliver.Goals as goal
 
 pub loop-frame-init : goal.loop-frame-init
@@ -15,8 +17,15 @@ loop-frame-preserved c =
     hands_next frames (drop at frames) (drop (at + 1) frames) view c.loop-frame.extractor c.frame.new.self c.loop-frame.delivered c.frame.new.sink is
     (omega (arith, c.vc.ensures.value, c.vc.ensures.fits)) c.in_ok-frame.ensures.processed c.in_ok-frame.ensures.accepted c.loop-frame.invariant
 
-pub returns : goal.returns
-returns c =
+pub returns-clause-lists : goal.returns-clause-lists
+returns-clause-lists c =
     let frames = c.args.frames.now in
     let at = c.loop-frame.frame-index in
     all_handed frames (drop at frames) c.loop-frame.extractor c.loop-frame.delivered.lists (drop_all at frames (omega (arith, c.loop-frame-test.false))) c.tm_packets_are_handed_over.ensures c.loop-frame.invariant
+
+pub returns-in_err-frame-clause-fault : goal.returns-in_err-frame-clause-fault
+returns-in_err-frame-clause-fault c =
+    let h = c.loop-frame.invariant in
+    let fault = c.in_err-frame.field-0.0 in
+    let working : fault ≢ Failed = λ is. let bad : false ≡ true = sym h.processed.working ∙ (c.in_err-frame.ensures.left (ap Err is)).0 in cc in
+    passed_up c.from_residual.result _ c.from_residual.ensures.1 (stopped_for_memory _ _ _ _ fault ((c.in_err-frame.ensures.stopped working).1 h.seen h.processed))

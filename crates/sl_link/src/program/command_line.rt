@@ -224,7 +224,9 @@ fn link_options<'a>(alloc: Global) -> Result<Vec<Arg<'a>>, AllocError>
     let plain = text(alloc, PLAIN, "VC,..", help);
     let help = "Octets read at most, 1 to 18446744073709551615";
     let limit = number_or(alloc, LIMIT, "OCTETS", help, long, "1073741824");
-    Ok(vec![in alloc; scid, tm_length, tc_length, tm_fecf, tc_fecf, window, vr, vr_of, plain, limit]?)
+    Ok(vec![in alloc;
+        scid, tm_length, tc_length, tm_fecf, tc_fecf, window, vr, vr_of, plain, limit,
+    ]?)
 }
 
 // An option that takes a number, and that no command line may leave out.

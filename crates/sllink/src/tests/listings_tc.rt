@@ -19,22 +19,15 @@ const WITH_FECF: &str = "sllink check tc --scid 1 --tm-length 32 --tc-length 16 
 
 const PACKETS: &str = "sllink packets tc --scid 1 --tm-length 32 --tc-length 16";
 
-// Command lines, recordings, statuses and listings.
-const LISTINGS: [(&str, &[&str], u8, &str); 18] = [
+// Recordings, statuses and the listings of their anomalies.
+const CHECKED: [(&[&str], u8, &str); 11] = [
+    (&[], 0, "frames 0 skipped 0 packets 0 idle 0 anomalies 0\n"),
     (
-        CHECK,
-        &[],
-        0,
-        "frames 0 skipped 0 packets 0 idle 0 anomalies 0\n",
-    ),
-    (
-        CHECK,
         &[WHOLE],
         0,
         "frames 1 skipped 0 packets 1 idle 0 anomalies 0\n",
     ),
     (
-        CHECK,
         &IN_WINDOW,
         1,
         "0 early vc 0 ad 4\n7 late vc 0 ad 251\n14 outside vc 0 ad 5\n21 refused vc 0 ad 0\n\
@@ -42,7 +35,6 @@ const LISTINGS: [(&str, &[&str], u8, &str); 18] = [
     ),
     // A frame that comes too early, and again in its turn.
     (
-        CHECK,
         &[SECOND, WHOLE, WHOLE, THIRD, SECOND],
         1,
         "0 early vc 0 ad 1\n32 late vc 0 ad 0\n48 early vc 0 ad 2\n\
@@ -50,37 +42,62 @@ const LISTINGS: [(&str, &[&str], u8, &str); 18] = [
     ),
     // Commands, and a unit of type BD in lockout.
     (
-        CHECK,
         &LOCKED_OUT,
         1,
         "0 outside vc 0 ad 250\nframes 4 skipped 0 packets 1 idle 0 anomalies 1\n",
     ),
     (
-        CHECK,
         &MIXED,
         1,
         "0 stray vc 0 map 1\n39 dropped vc 0 map 2 octets 4\n\
         frames 6 skipped 0 packets 2 idle 0 anomalies 2\n",
     ),
     (
-        CHECK,
         &DIVIDED,
         0,
         "frames 3 skipped 0 packets 1 idle 0 anomalies 0\n",
     ),
+    (
+        &SKIPPED,
+        1,
+        "0 skip spacecraft\n7 skip version\n14 skip long\n31 skip kind\n38 skip empty\n43 skip command\n\
+        frames 6 skipped 6 packets 0 idle 0 anomalies 6\n",
+    ),
+    // A series without octets is incomplete, and dropped; and octets are left after a packet.
+    (
+        &["000100050040"],
+        1,
+        "6 open vc 0 map 0 octets 0\nframes 1 skipped 0 packets 0 idle 0 anomalies 1\n",
+    ),
+    (
+        &["000100050040", "0001000d01c01002c0010000ee77"],
+        1,
+        "6 dropped vc 0 map 0 octets 0\n6 tail vc 0 map 0 octets 1\n\
+        frames 2 skipped 0 packets 1 idle 0 anomalies 2\n",
+    ),
+    // A remainder, and then series of several channels in their order.
+    (
+        &[
+            FIRST_OF_3,
+            MIDDLE_OF_3,
+            "00010006004300",
+            "000100050142",
+            "00010002000000",
+        ],
+        1,
+        "45 rest 7\n52 open vc 0 map 2 octets 0\n52 open vc 0 map 3 octets 1\n52 open vc 5 map 0 octets 20\n\
+        frames 4 skipped 0 packets 0 idle 0 anomalies 4\n",
+    ),
+];
+
+// Other command lines, recordings, statuses and listings.
+const LISTINGS: [(&str, &[&str], u8, &str); 7] = [
     (
         FROM_255,
         &DIVIDED,
         1,
         "0 early vc 5 ad 0\n16 early vc 5 ad 1\n32 early vc 5 ad 2\n\
         frames 3 skipped 0 packets 0 idle 0 anomalies 3\n",
-    ),
-    (
-        CHECK,
-        &SKIPPED,
-        1,
-        "0 skip spacecraft\n7 skip version\n14 skip long\n31 skip kind\n38 skip empty\n43 skip command\n\
-        frames 6 skipped 6 packets 0 idle 0 anomalies 6\n",
     ),
     (
         WITH_FECF,
@@ -94,34 +111,6 @@ const LISTINGS: [(&str, &[&str], u8, &str); 18] = [
         &[WITH_IDLE],
         0,
         "frames 1 skipped 0 packets 1 idle 1 anomalies 0\n",
-    ),
-    // A series without octets is incomplete, and dropped; and octets are left after a packet.
-    (
-        CHECK,
-        &["000100050040"],
-        1,
-        "6 open vc 0 map 0 octets 0\nframes 1 skipped 0 packets 0 idle 0 anomalies 1\n",
-    ),
-    (
-        CHECK,
-        &["000100050040", "0001000d01c01002c0010000ee77"],
-        1,
-        "6 dropped vc 0 map 0 octets 0\n6 tail vc 0 map 0 octets 1\n\
-        frames 2 skipped 0 packets 1 idle 0 anomalies 2\n",
-    ),
-    // A remainder, and then series of several channels in their order.
-    (
-        CHECK,
-        &[
-            FIRST_OF_3,
-            MIDDLE_OF_3,
-            "00010006004300",
-            "000100050142",
-            "00010002000000",
-        ],
-        1,
-        "45 rest 7\n52 open vc 0 map 2 octets 0\n52 open vc 0 map 3 octets 1\n52 open vc 5 map 0 octets 20\n\
-        frames 4 skipped 0 packets 0 idle 0 anomalies 4\n",
     ),
     // The packets of recordings.
     (PACKETS, &[], 0, ""),
@@ -155,6 +144,10 @@ const OF_TOO_LONG: &str =
 
 #[test]
 fn listings_of_tc_recordings(rt: HostRuntime) {
+    for (parts, status, listing) in &CHECKED {
+        let outcome = lists(rt.alloc(), CHECK, parts, *status, listing);
+        passes(&rt, parts, outcome);
+    }
     for (line, parts, status, listing) in &LISTINGS {
         let outcome = lists(rt.alloc(), line, parts, *status, listing);
         passes(&rt, &(line, parts), outcome);

@@ -205,6 +205,9 @@ number_there bits most is small a found parser rows fit has =
     let passes = subst (λ (p : ValueParser). accepts a.ignore_case p v.0 ≡ true) parser v.3 in
     ap (λ (o : Option Text). option_map_or (accepts false (Unsigned 0 most)) o false) text ∙ reads_number bits most is small v.0 passes
 
+not_none : {value : Text} {values : List Text} → (value ∷ values) ≢ []
+not_none is = cc
+
 -- words in which a verb finds no fault
 complete : (verb : Text) → is_verb verb ≡ true → (words : List Text) → level_fault (verb_of verb) [] nothing_held words false [] ≡ [] → is_complete verb (rows_after rules [] words) ≡ true
 complete verb named words e =
@@ -220,13 +223,13 @@ complete verb named words e =
     let fit = defaults_fit rules s rules sound before (settled_keeps s (AllFit rules) found end settled_well.0 stands.0) in
     let must = required_given rows checked.1 in
     let of_kind = got rules (rule 0) refl rows fit (given (codes "kind") rows must.0) in
-    let of_limit = got rules (rule 10) refl rows fit (defaulted (take 10 rules) (rule 10) (drop 11 rules) before (λ is. cc)) in
+    let of_limit = got rules (rule 10) refl rows fit (defaulted (take 10 rules) (rule 10) (drop 11 rules) before not_none) in
     let kind = ap (λ (o : Option Text). option_map_or (is_one_of (codes "tm" ∷ codes "tc" ∷ [])) o false) of_kind.1 ∙ of_kind.3 in
     let scid = number_there 16 65535 refl (omega arith) (rule 1) refl refl rows fit (given (codes "scid") rows must.1) in
-    let tm_length = number_there 16 65535 refl (omega arith) (rule 2) refl refl rows fit (defaulted (take 2 rules) (rule 2) (drop 3 rules) before (λ is. cc)) in
-    let tc_length = number_there 16 65535 refl (omega arith) (rule 3) refl refl rows fit (defaulted (take 3 rules) (rule 3) (drop 4 rules) before (λ is. cc)) in
-    let window = number_there 8 255 refl (omega arith) (rule 6) refl refl rows fit (defaulted (take 6 rules) (rule 6) (drop 7 rules) before (λ is. cc)) in
-    let vr = number_there 8 255 refl (omega arith) (rule 7) refl refl rows fit (defaulted (take 7 rules) (rule 7) (drop 8 rules) before (λ is. cc)) in
+    let tm_length = number_there 16 65535 refl (omega arith) (rule 2) refl refl rows fit (defaulted (take 2 rules) (rule 2) (drop 3 rules) before not_none) in
+    let tc_length = number_there 16 65535 refl (omega arith) (rule 3) refl refl rows fit (defaulted (take 3 rules) (rule 3) (drop 4 rules) before not_none) in
+    let window = number_there 8 255 refl (omega arith) (rule 6) refl refl rows fit (defaulted (take 6 rules) (rule 6) (drop 7 rules) before not_none) in
+    let vr = number_there 8 255 refl (omega arith) (rule 7) refl refl rows fit (defaulted (take 7 rules) (rule 7) (drop 8 rules) before not_none) in
     let limit = ap (λ (o : Option Text). option_map_or (accepts false bits_64) o false) of_limit.2 ∙ of_limit.3 in
     λ i. named i && (kind i && (scid i && (tm_length i && (tc_length i && (window i && (vr i && limit i))))))
 

@@ -11,3 +11,9 @@ returns-in-Packets-Tm-clause-written g c = rw (c.in-Packets-Tm.is-0, c.in-Packet
 
 pub returns-in-Packets-Tc-clause-written : goal.returns-in-Packets-Tc-clause-written
 returns-in-Packets-Tc-clause-written g c = rw (c.in-Packets-Tc.is-0, c.in-Packets-Tc.is-1) c.packets_tc.ensures.totals
+
+pub returns-in-Show-Tm-clause-written : goal.returns-in-Show-Tm-clause-written
+returns-in-Show-Tm-clause-written g c = rw (c.in-Show-Tm.is-0, c.in-Show-Tm.is-1) c.show_tm.ensures.totals
+
+pub returns-in-Show-Tc-clause-written : goal.returns-in-Show-Tc-clause-written
+returns-in-Show-Tc-clause-written g c = rw (c.in-Show-Tc.is-0, c.in-Show-Tc.is-1) c.show_tc.ensures.totals

@@ -1,8 +1,17 @@
 use Rattle.std.proofs.Common.{◌∙◌, arith, refl}
 use Rattle.std.proofs.lemmas.Result.{MatchResult-weaker, on_ok_weaker}
+use Rattle.sl_link.proofs.lemmas.Io.Streams.{stops_at_memory}
 use Rattle.sl_link.proofs.lemmas.Link.Answers.{passed_up}
 use Rattle.sl_link.proofs.lemmas.Normalise.Form.{chunk_written, first_piece, form_kept, form_stopped, form_written, next_piece}
 use Rattle.sl_link.proofs.normalise.form.write_form.Goals as goal
+
+pub returns-then-is_err-clause-fault : goal.returns-then-is_err-clause-fault
+returns-then-is_err-clause-fault g c octets l = stops_at_memory _ _ octets (refl, c.in_ok-next.ensures.some c.if-not-branch.false octets l)
+
+pub returns-in_err-reserve-clause-fault : goal.returns-in_err-reserve-clause-fault
+returns-in_err-reserve-clause-fault g c =
+    passed_up _ _ c.from_residual-in_err-reserve.ensures.1 (λ octets l.
+    rw c.in_err-reserve.ensures.fault (stops_at_memory _ _ octets (refl, c.in_ok-next.ensures.some c.if-not-branch.false octets l)))
 
 pub returns-in_err-write_chunk-clause-fault : goal.returns-in_err-write_chunk-clause-fault
 returns-in_err-write_chunk-clause-fault g c =

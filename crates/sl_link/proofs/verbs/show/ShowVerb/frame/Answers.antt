@@ -1,6 +1,16 @@
 use Rattle.std.proofs.Common.{◌∙◌, refl}
+use Rattle.sl_link.proofs.lemmas.Io.Streams.{adds_both, adds_lines, stops_before}
 use Rattle.sl_link.proofs.lemmas.Kind.Delivery.{so_far_more}
+use Rattle.sl_link.proofs.lemmas.Link.Answers.{passed_up}
 use Rattle.sl_link.proofs.verbs.show.ShowVerb.frame.Goals as goal
+
+pub returns-in_err-make_room-clause-fault : goal.returns-in_err-make_room-clause-fault
+returns-in_err-make_room-clause-fault g c =
+    passed_up _ _ c.from_residual.ensures.1 (λ before h. stops_before _ _ c.in_err-make_room.ensures.fault)
+
+pub returns-clause-lines : goal.returns-clause-lines
+returns-clause-lines g c = λ before h.
+    adds_both c.in_ok-make_room.ensures.kept (adds_lines _ _ _ _ refl (c.show-is_skipped.ensures.line before h.shown (rw h.counts at c.octets-offset.ensures)))
 
 pub returns-clause-has_listed : goal.returns-clause-has_listed
 returns-clause-has_listed g c = λ before h. record {

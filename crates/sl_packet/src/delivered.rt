@@ -39,8 +39,8 @@ impl Model for Delivered {
 }
 
 impl Delivered {
-    /// A store without a packet on any channel. It holds no memory yet; later it asks for memory
-    /// only for a packet that it is handed.
+    /// A store without a packet on any channel. It holds no memory yet. Later it is refused memory
+    /// only where it is handed a packet.
     pub fn new(alloc: Global) -> Delivered
         ensures lists { result.lists ≡ empty_lists }
         ensures failures { result.failures ≡ 0 }

@@ -1,9 +1,8 @@
 -- FARM-1, the frame acceptance and reporting mechanism of CCSDS 232.1-B, on one virtual channel.
--- Its buffers are always free, so FARM-1 never reaches the wait state.
+-- Its buffers are always free (mission profile), so FARM-1 never reaches the wait state.
 --
--- Three things are this project's choices, each marked below as mission profile: the first state;
--- that the Retransmit flag stays when lockout begins; and that Set V(R) increments the FARM-B
--- counter in the lockout state too. The sliding window and its two parts are the standard's.
+-- What is this project's choice is marked as mission profile; docs/cop.md has the list of it. The
+-- sliding window and its two parts are the standard's.
 use Rattle.std.specs.Prelude.{◌≡◌, ◌≢◌, ◌⊎◌, ℕ, ◌+◌, ◌-◌, ◌/◌, ◌%◌, ◌<◌, ◌≤◌, ◌==◌, nat_lt, nat_le, Bool, true, false, if◌then◌else◌, List, [], ◌∷◌, ◌++◌, replicate, count_by, Contains}
 use Rattle.sl_cop.specs.declared.farm_event.FarmEvent.{FarmEvent}
 use Rattle.sl_cop.specs.declared.farm_event.FarmEvent.TheVariants.{Ad, Bd, Unlock, SetVr}

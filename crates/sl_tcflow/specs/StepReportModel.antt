@@ -1,4 +1,5 @@
 -- A `TcStep` stands for its report.
+use Rattle.std.specs.Prelude.{◌≤◌, IfSome}
 use Rattle.sl_tcflow.specs.StepReport.{StepReport}
 use Rattle.sl_tcflow.specs.declared.report.TcStep.TheInside.{Inside}
 
@@ -13,6 +14,11 @@ report_of s = record {
   long = s.long;
   tail = s.tail;
 }
+
+-- the invariant of a `TcStep`: the MAP is 0 to 63, and a dropped series has at most 65,542 octets
+pub record IsReport (s : Inside) : Type 0 where
+  pub map : s.map ≤ 63
+  pub dropped : IfSome s.dropped (λ octets. octets ≤ 65542)
 
 -- the `TcStep` that stands for a report
 abbrev pub inside_of : StepReport → Inside

@@ -93,7 +93,7 @@ impl Incomplete {
         ensures step { IfOk result
             (IsReported self.old segment.now.flags segment.now.octets.now) }
 
-        // Memory is asked for only where a series is incomplete, before the segment or after it.
+        // Memory is refused only where a series is incomplete, before the segment or after it.
         ensures memory { IfErr result (λ flow. flow ≡ FlowFault.Memory → (self.old ≢ None)
             ⊎ (incomplete_with self.old segment.now.flags segment.now.octets.now ≢ None)) }
     {
@@ -212,11 +212,12 @@ impl Incomplete {
     }
 
     // Gives up the incomplete series, if there is one, and gives its memory back. Answers how many
-    // octets the series had so far.
+    // octets the series had so far, 0 to 65,542.
     #[inline(always)]
     fn give_up(&mut self) -> Option<u32>
         ensures none { self.new ≡ None }
         ensures held { result ≡ option_map length self.old }
+        ensures most { IfSome result (λ held. held ≤ 65542) }
     {
         let held = self.held()?;
         self.is_begun = false;

@@ -63,8 +63,8 @@ impl Model for Receiver {
 impl Receiver {
     /// A receiver that was given no frame yet. FARM-1 of each virtual channel is open, with this
     /// window and with the initial V(R) that `starts` has for the channel. `plain` has the virtual
-    /// channels whose frames have no segment headers. The receiver holds no memory yet; later it
-    /// asks for memory only for a series that is incomplete.
+    /// channels whose frames have no segment headers. The receiver holds no memory yet. Later it is
+    /// refused memory only where a series is incomplete, as [`frame`](Receiver::frame) says.
     pub fn new(alloc: Global, window: Window, starts: &Starts, plain: VcSet) -> Receiver
         // No frame was processed, and no memory is held.
         ensures processed { HasProcessed
@@ -85,7 +85,7 @@ impl Receiver {
     /// times the virtual channel plus the MAP, 0 to 4095. Returns the report of what the frame
     /// brought.
     ///
-    /// - `Memory`: memory was refused. Memory is asked for only where the unit is accepted and a
+    /// - `Memory`: memory was refused. Memory is refused only where the unit is accepted and a
     ///   series is incomplete on its MAP, before the frame or after it. The sink has accepted the
     ///   packets up to a point in their order, perhaps none, perhaps all of them, and refused none.
     /// - `Sink`: the sink refused a packet. The sink has accepted the packets before this one, and
@@ -148,10 +148,13 @@ impl Receiver {
             (without_idle (ended_by r views frame.now)) flow sink.new)) }
         ensures counted { IfErr result (λ flow. CountsFault S.failures sink.old flow sink.new) }
 
-        // Memory is asked for only where the frame's unit is accepted and a series is incomplete on
-        // its MAP, before the frame or after it.
+        // Memory is refused only where the frame's unit is accepted and a series is incomplete on
+        // its MAP, before the frame or after it. Only there does the memory change that is held for
+        // the list of the incomplete series; the octets of a series have memory of their own.
         ensures memory { IfErr result (λ flow. flow ≡ FlowFault.Memory →
             ForProcessed self.old (λ r views. IsIncompleteAround r views frame.now)) }
+        ensures capacity { self.new.series.capacity ≢ self.old.series.capacity →
+            ForProcessed self.old (λ r views. IsIncompleteAround r views frame.now) }
     {
         if self.has_failed {
             return Err(FlowFault::Failed);
@@ -233,7 +236,8 @@ impl Receiver {
 #[inline(always)]
 fn map_in(plain: bool, carried: &TcContent) -> u8
     requires { IsContent (content carried.now) }
-    ensures { result ≡ map_of plain (content carried.now) }
+    ensures value { result ≡ map_of plain (content carried.now) }
+    ensures most { result ≤ 63 }
 {
     if plain {
         return 0;
@@ -271,11 +275,14 @@ fn take<S: PacketSink>(
         (λ step. ForIncomplete plain series.old.list verdict frame.now
         (λ r views. IsReportedOf r views frame.now step)) }
 
-    // Memory is asked for only where the unit is accepted and a series is incomplete on its MAP,
-    // before the frame or after it.
+    // Memory is refused, and the memory for the list of series changes, only where the unit is
+    // accepted and a series is incomplete on its MAP, before the frame or after it.
     ensures memory { IfErr result (λ flow. flow ≡ FlowFault.Memory →
         ForIncomplete plain series.old.list verdict frame.now
         (λ r views. IsIncompleteAround r views frame.now)) }
+    ensures capacity { series.new.capacity ≢ series.old.capacity →
+        ForIncomplete plain series.old.list verdict frame.now
+        (λ r views. IsIncompleteAround r views frame.now) }
 
     // The sink's count of refused packets rises exactly at `Sink`, unless the count was at its
     // greatest. No fault is `Failed`.

@@ -1,5 +1,5 @@
 //! What a frame brought to a receiver.
-ghost use Rattle.std.specs.Prelude.{◌≡◌};
+ghost use Rattle.std.specs.Prelude.{◌≡◌, ◌≤◌, IfSome};
 
 use sl_cop::Verdict;
 use std::marker::Model;
@@ -37,9 +37,11 @@ impl Model for TcStep {
 
     ghost Value = { StepReport };
 
-    ghost use Rattle.sl_tcflow.specs.StepReportModel.{report_of, inside_of};
+    ghost use Rattle.sl_tcflow.specs.StepReportModel.{report_of, inside_of, IsReport};
 
     ghost view = { report_of };
+
+    ghost invariant = { IsReport };
 
     ghost inverse = { inside_of };
 }
@@ -55,7 +57,8 @@ impl TcStep {
     /// The multiplexer access point identifier (MAP) of the frame's unit, 0 to 63, accepted or not.
     /// 0 on a virtual channel without segment headers, and where the frame carries no unit.
     pub fn map(&self) -> u8
-        ensures { result ≡ self.now.map }
+        ensures value { result ≡ self.now.map }
+        ensures most { result ≤ 63 }
     {
         self.map
     }
@@ -88,7 +91,8 @@ impl TcStep {
     /// a first segment, or has no segmentation, drops the incomplete series of its MAP. `None`
     /// where no series is dropped.
     pub fn dropped(&self) -> Option<u32>
-        ensures { result ≡ self.now.dropped }
+        ensures value { result ≡ self.now.dropped }
+        ensures most { IfSome result (λ octets. octets ≤ 65542) }
     {
         self.dropped
     }

@@ -1,6 +1,6 @@
 //! The series that are incomplete on the MAPs of all virtual channels.
-ghost use Rattle.std.specs.Prelude.{◌≡◌, ◌≢◌, ◌⊎◌, ◌≤◌, ◌<◌, ◌+◌, [], None, option_map, ℕ, length, OnOk};
-ghost use Rattle.std.specs.Prelude.{IfOk, IfErr, IfSome};
+ghost use Rattle.std.specs.Prelude.{◌≡◌, ◌≢◌, ◌⊎◌, ◌≤◌, ◌<◌, ◌+◌, max, [], None, option_map, ℕ};
+ghost use Rattle.std.specs.Prelude.{length, OnOk, IfOk, IfErr, IfSome};
 ghost use Rattle.std.specs.Vec.{vec_len};
 ghost use Rattle.sl_packet.specs.Stopping.{HandsOver};
 ghost use Rattle.sl_tcflow.specs.NextSegment.{IsReported, incomplete_with, packets_with};
@@ -37,8 +37,7 @@ impl Model for SeriesStore {
 }
 
 impl SeriesStore {
-    /// A store in which no series is incomplete. It holds no memory yet; later it asks for memory
-    /// only for a series that is incomplete.
+    /// A store in which no series is incomplete. It holds no memory yet.
     pub fn new(alloc: Global) -> SeriesStore
         ensures none { result.list ≡ [] }
         ensures memory { result.capacity ≡ 0 }
@@ -109,11 +108,16 @@ impl SeriesStore {
         ensures step { IfOk result (IsReported (at self.old.list segment.now.channel)
             segment.now.flags segment.now.octets.now) }
 
-        // Memory is asked for only where a series is incomplete, before the segment or after it.
+        // Memory is refused only where a series is incomplete, before the segment or after it.
         ensures memory { IfErr result (λ flow. flow ≡ FlowFault.Memory →
             (at self.old.list segment.now.channel ≢ None)
             ⊎ (incomplete_with (at self.old.list segment.now.channel) segment.now.flags
             segment.now.octets.now ≢ None)) }
+
+        // The memory for the list changes only where a series is incomplete after the segment.
+        ensures capacity { self.new.capacity ≢ self.old.capacity
+            → incomplete_with (at self.old.list segment.now.channel) segment.now.flags
+            segment.now.octets.now ≢ None }
     {
         let index = usize::from(segment.channel);
         if segment.flags == FIRST && grow_to(self.alloc, &mut self.list, index).is_err() {
@@ -127,11 +131,12 @@ impl SeriesStore {
     }
 }
 
-// Extends the list up to this index where it is shorter. No series is incomplete at the new places.
-// Where memory is refused, the list may be extended in part.
+// Extends the list up to this index where it is shorter, and no further. No series is incomplete at
+// the new places. Where memory is refused, the list may be extended in part.
 fn grow_to(alloc: Global, list: &mut Vec<Incomplete>, index: usize) -> Result<(), AllocError>
     ensures reached { OnOk result (index < vec_len list.new) }
     ensures same { (other : ℕ) → at list.new.items other ≡ at list.old.items other }
+    ensures no_further { vec_len list.new ≤ max (vec_len list.old) (index + 1) }
 {
     while list.len() <= index {
         list.push(Incomplete::new(alloc))?;

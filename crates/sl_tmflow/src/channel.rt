@@ -75,7 +75,7 @@ impl Channel {
             step.dropped ≡ length (lost_by self.old.state frame.now)) }
         ensures foreign { IfOk result (λ step. step.foreign ≡ foreign_in frame.now.field) }
 
-        // Memory is asked for only where a packet is incomplete, before the frame or after it.
+        // Memory is refused only where a packet is incomplete, before the frame or after it.
         ensures memory { IfErr result (λ flow. flow ≡ FlowFault.Memory
             → (self.old.state.held ≢ []) ⊎ ((state_after self.old.state frame.now).held ≢ [])) }
     {
@@ -135,7 +135,7 @@ impl Channel {
         ensures dropped { IfOk result (λ step.
             step.dropped ≡ length (lost_by self.old.state frame.now)) }
 
-        // Memory is asked for only where a packet is incomplete before the frame.
+        // Memory is refused only where a packet is incomplete before the frame.
         ensures memory { IfErr result (λ flow. flow ≡ FlowFault.Memory → self.old.state.held ≢ []) }
     {
         if self.held.is_empty() || !self.is_followed_by(frame.vc_count()) {
@@ -235,8 +235,8 @@ impl Channel {
     ) -> Result<TmStep, FlowFault>
         requires vc { vc ≤ 7 }
         requires inside { IsInField (data_field field.now) }
-        // A packet that is incomplete at the end of the field is kept, and memory is asked for only
-        // for this packet.
+        // A packet that is incomplete at the end of the field is kept, and memory is refused only
+        // where there is such a packet.
         ensures count { self.new.state.count ≡ self.old.state.count }
         ensures held { OnOk result
             (self.new.state.held ≡ held_after (data_field field.now) self.old.state.held) }
@@ -268,8 +268,8 @@ impl Channel {
     ) -> Result<TmStep, FlowFault>
         requires vc { vc ≤ 7 }
         requires short { length octets.now ≤ 2042 }
-        // A packet that is incomplete at the end of the octets is kept, and memory is asked for
-        // only for this packet.
+        // A packet that is incomplete at the end of the octets is kept, and memory is refused only
+        // where there is such a packet.
         ensures count { self.new.state.count ≡ self.old.state.count }
         ensures held { OnOk result (self.new.state.held
             ≡ incomplete_in (front (rest_of octets.now)) (rest_of octets.now)) }

@@ -94,7 +94,7 @@ impl<'d> Model for TmForm<'d> {
 impl<'d> TmForm<'d> {
     /// The normal form of the packets on channels 0 to 7 of `delivered`, which are the virtual
     /// channels, in frames of this format. All octets of the form are still to come. `spacecraft`,
-    /// the spacecraft identifier of all frames, is 0 to 1023. The call takes no memory.
+    /// the spacecraft identifier of all frames, is 0 to 1023. The `TmForm` holds no memory yet.
     pub fn new(
         alloc: Global,
         shape: &TmShape,
@@ -110,7 +110,7 @@ impl<'d> TmForm<'d> {
         ensures delivers { tm_lists shape.now spacecraft
             (form_of shape.now spacecraft delivered.now.lists) ≡ take 8 delivered.now.lists }
 
-        // No memory is taken.
+        // No memory is held.
         ensures memory { result.octets_room ≡ 0 }
     {
         // For the proof alone, at no cost: what holds of every `TmShape` and of every `Delivered`.

@@ -21,7 +21,7 @@ pub(crate) fn hand_packet<S: PacketSink>(
     ensures hands_over { HandsOver S.taking S.failing S.failures counts_of
         sink.old vc (packet.now ∷ []) result sink.new }
 
-    // No packet is broken off, and no memory is asked for.
+    // No packet is broken off, and no memory is refused.
     ensures dropped { IfOk result (λ step. step.dropped ≡ 0) }
     ensures not_memory { IfErr result (λ flow. flow ≢ FlowFault.Memory) }
 {
@@ -51,7 +51,7 @@ pub(crate) fn hand<'a, S: PacketSink>(
     requires vc { vc ≤ 7 }
     requires short { length octets.now ≤ 65542 }
     // The packets at the front are handed over, and the octets after them are given back. No memory
-    // is asked for.
+    // is refused.
     ensures hands_over { HandsOver S.taking S.failing S.failures (λ handed. counts_of handed.0)
         sink.old vc (packets_of octets.now) result sink.new }
     ensures remainder { IfOk result (λ handed. handed.1.now ≡ rest_of octets.now) }

@@ -1,5 +1,5 @@
 //! The report of an extractor on one frame.
-ghost use Rattle.std.specs.Prelude.{◌≡◌};
+ghost use Rattle.std.specs.Prelude.{◌≡◌, ◌≤◌};
 
 use std::marker::Model;
 
@@ -19,9 +19,11 @@ impl Model for TmStep {
 
     ghost Value = { StepReport };
 
-    ghost use Rattle.sl_tmflow.specs.StepReportModel.{report_of, inside_of};
+    ghost use Rattle.sl_tmflow.specs.StepReportModel.{report_of, inside_of, IsReport};
 
     ghost view = { report_of };
+
+    ghost invariant = { IsReport };
 
     ghost inverse = { inside_of };
 }
@@ -50,10 +52,12 @@ impl TmStep {
         self.idle
     }
 
-    /// Whether frames are missing before the frame: if so, the virtual channel frame count that was
-    /// expected, 0 to 255 (and not how many are missing). The expected count is that of the last
-    /// frame on the same virtual channel plus 1, modulo 256. `None` where the frame has the expected
-    /// count, and for the first frame of a virtual channel.
+    /// The virtual channel frame count that was expected, 0 to 255, where the frame has another one.
+    /// The expected count is that of the last frame on the same virtual channel plus 1, modulo 256.
+    /// `None` where the frame has the expected count, and for the first frame of a virtual channel.
+    ///
+    /// A gap doesn't say how many frames are missing: none is where a frame comes twice. Where 256
+    /// frames in a row are missing, or a multiple of 256, the count is the expected one.
     pub fn gap(&self) -> Option<u8>
         ensures { result ≡ self.now.gap }
     {
@@ -65,7 +69,8 @@ impl TmStep {
     /// breaks off a packet that was incomplete before the frame, where the packet neither ends in
     /// the frame nor goes on past it.
     pub fn dropped(&self) -> u32
-        ensures { result ≡ self.now.dropped }
+        ensures value { result ≡ self.now.dropped }
+        ensures most { result ≤ 65541 }
     {
         self.dropped
     }

@@ -1,4 +1,4 @@
-use Rattle.std.proofs.Common.{◌∷◌, [], ◌∙◌, ap, sym, arith}
+use Rattle.std.proofs.Common.{◌∷◌, [], ◌∙◌, inr, ap, sym, arith}
 use Rattle.sl_tcflow.specs.Receiving.{channel_at}
 use Rattle.sl_tcflow.specs.Series.{header_at, segment_in}
 use Rattle.sl_packet.proofs.StoppingLemmas.{counts_stopped, hands_same}
@@ -72,3 +72,25 @@ returns-in-Err-clause-memory g c e r views headers are is =
     (map_on c.args.plain _ r c.args.frame.now (header_at segment).map headers c.content.ensures.value (c.in-Some.ensures.map c.args.plain))
     (ap (λ n. channel_at n (header_at segment).map) c.vc.ensures.value)
     (rw (c.segment_of.ensures.channel, c.segment_of.ensures.flags, c.segment_of.ensures.octets) at (c.in-Err.ensures.memory e))
+
+pub returns-in-Ok-clause-capacity : goal.returns-in-Ok-clause-capacity
+returns-in-Ok-clause-capacity g c changed r views headers are is =
+    let unit = c.in-Some.unit.now in
+    let segment = segment_in c.args.plain unit in
+    around_more r c.args.series.now.list views c.args.frame.now segment (channel_at c.vc.result (header_at segment).map)
+    are (omega (arith, c.vc.ensures.value, c.vc.ensures.fits))
+    (segment_on c.args.plain c.args.verdict _ r views c.args.frame.now (unit ∷ []) headers is c.content.ensures.value c.in-Some.ensures.unit)
+    (map_on c.args.plain _ r c.args.frame.now (header_at segment).map headers c.content.ensures.value (c.in-Some.ensures.map c.args.plain))
+    (ap (λ n. channel_at n (header_at segment).map) c.vc.ensures.value)
+    (inr (rw (c.segment_of.ensures.channel, c.segment_of.ensures.flags, c.segment_of.ensures.octets) at (c.in-Ok.ensures.capacity changed)))
+
+pub returns-in-Err-clause-capacity : goal.returns-in-Err-clause-capacity
+returns-in-Err-clause-capacity g c changed r views headers are is =
+    let unit = c.in-Some.unit.now in
+    let segment = segment_in c.args.plain unit in
+    around_more r c.args.series.now.list views c.args.frame.now segment (channel_at c.vc.result (header_at segment).map)
+    are (omega (arith, c.vc.ensures.value, c.vc.ensures.fits))
+    (segment_on c.args.plain c.args.verdict _ r views c.args.frame.now (unit ∷ []) headers is c.content.ensures.value c.in-Some.ensures.unit)
+    (map_on c.args.plain _ r c.args.frame.now (header_at segment).map headers c.content.ensures.value (c.in-Some.ensures.map c.args.plain))
+    (ap (λ n. channel_at n (header_at segment).map) c.vc.ensures.value)
+    (inr (rw (c.segment_of.ensures.channel, c.segment_of.ensures.flags, c.segment_of.ensures.octets) at (c.in-Err.ensures.capacity changed)))

@@ -62,4 +62,12 @@ returns-clause-tail g c r views processed = ap (λ (s : StepReport). s.tail) c.r
 pub returns-clause-map : goal.returns-clause-map
 returns-clause-map g c r views processed =
     let plain = c.has-plain.ensures.value ∙ ap (has_vc c.self.inside.plain) c.vc.ensures.value ∙ plain_is r _ _ c.args.frame.now.vc c.self.view_is processed.plain in
-    c.map_in-map.ensures ∙ ap₂ map_of plain c.content.ensures.value
+    c.map_in-map.ensures.value ∙ ap₂ map_of plain c.content.ensures.value
+
+pub returns-in-Err-clause-capacity : goal.returns-in-Err-clause-capacity
+returns-in-Err-clause-capacity g c changed r views processed =
+    let farms = subst (λ l. HaveStepped r l views) (sym (ap (λ s. s.farms) c.self.view_is)) processed.farms in
+    let series = subst (λ l. AreIncomplete r l views) (sym (ap (λ s. s.series.list) c.self.view_is)) processed.series in
+    c.in-Err.ensures.capacity (λ same. changed (same ∙ ap (λ s. s.series.capacity) c.self.view_is)) r views
+    (c.has-plain.ensures.value ∙ ap (has_vc c.self.inside.plain) c.vc.ensures.value ∙ plain_is r _ _ c.args.frame.now.vc c.self.view_is processed.plain)
+    series (c.step-verdict.ensures.verdict r views farms)

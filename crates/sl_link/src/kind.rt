@@ -17,6 +17,7 @@ use sl_tcframe::{TcContent, TcFrame, TcSkip};
 use sl_tmflow::Extractor;
 use sl_tmframe::{TmField, TmFrame, TmSkip};
 use std::alloc::Global;
+use std::marker::Model;
 
 /// Delivers the packets of frames of one kind, and reports what is found of the frames. These are
 /// given one after another. A clause with `before` holds whichever frames were given before.
@@ -94,6 +95,17 @@ pub struct TmFound {
     pub foreign: bool,
 }
 
+impl Model for TmFound {
+    ghost use Rattle.sl_link.specs.Kind.Tm.{TmFinding};
+    ghost use Rattle.sl_link.specs.Kind.FoundModel.{tm_finding, tm_inside};
+
+    ghost Value = { TmFinding };
+
+    ghost view = { tm_finding };
+
+    ghost inverse = { tm_inside };
+}
+
 /// A TC frame that is read, and what a receiver finds of it.
 #[derive(Clone, Copy)]
 pub struct TcFound {
@@ -110,6 +122,17 @@ pub struct TcFound {
     pub long: bool,
     /// How many octets are left after the last packet of a service data unit.
     pub tail: u32,
+}
+
+impl Model for TcFound {
+    ghost use Rattle.sl_link.specs.Kind.Tc.{TcFinding};
+    ghost use Rattle.sl_link.specs.Kind.FoundModel.{tc_finding, tc_inside};
+
+    ghost Value = { TcFinding };
+
+    ghost view = { tc_finding };
+
+    ghost inverse = { tc_inside };
 }
 
 impl Delivery for Extractor {

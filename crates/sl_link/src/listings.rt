@@ -32,7 +32,10 @@ use std::alloc::Global;
 use std::io::{Read, Write};
 
 /// Reads a recording of TM transfer frames to its end and writes a line for each frame, and one for a
-/// remainder. It keeps one frame at most and takes no memory.
+/// remainder. It takes no memory.
+///
+/// It keeps what was read last and the lines that aren't written yet, at most 65,536 octets each, and one frame at most
+/// that began in an earlier read. No clause says what is kept: that is seen by reading.
 ///
 /// The fault is `Read` where the reader had one, `TooLong` where more octets came than the managed limit, and `Write`
 /// where the writer had one.
@@ -63,8 +66,9 @@ pub fn show_tm<R: Read, W: Write>(
 /// FARM-1 of its virtual channel makes of it and the CLCW after it, and one for a remainder: a last frame that isn't
 /// whole; or, where a frame states a length that no frame can have, all octets from that frame on.
 ///
-/// It keeps one frame at most and the FARM-1 of 64 virtual channels, and takes no memory: a fault is
-/// `Read`, `TooLong` or `Write`.
+/// It keeps what was read last and the lines that aren't written yet, at most 65,536 octets each, one frame at most that
+/// began in an earlier read, and the FARM-1 of 64 virtual channels. No clause says what is kept: that is seen by
+/// reading. It takes no memory: a fault is `Read`, `TooLong` or `Write`.
 pub fn show_tc<R: Read, W: Write>(
     managed: &Managed,
     reader: &mut Counted<R>,
@@ -89,8 +93,11 @@ pub fn show_tc<R: Read, W: Write>(
 }
 
 /// Reads a recording of TM transfer frames to its end, and writes a line for each anomaly of it, and
-/// then one of its totals (docs/listings.md). It keeps one frame at most, and the packet that is incomplete on each
-/// virtual channel.
+/// then one of its totals (docs/listings.md).
+///
+/// It keeps what was read last and the lines that aren't written yet, at most 65,536 octets each, one frame at most that
+/// began in an earlier read, and the packet that is incomplete on each virtual channel. No clause says what is kept:
+/// that is seen by reading.
 ///
 /// The fault is `Read` or `Write` where the reader or the writer had one, `TooLong` where more
 /// octets came than the managed limit, and `Memory` where memory was refused. Memory is refused only
@@ -123,8 +130,11 @@ pub fn check_tm<R: Read, W: Write>(
 }
 
 /// Reads a recording of TC transfer frames to its end, and writes a line for each anomaly of it, and
-/// then one of its totals (docs/listings.md). It keeps one frame at most, the FARM-1 of 64 virtual channels, and the
-/// series that is incomplete on each MAP.
+/// then one of its totals (docs/listings.md).
+///
+/// It keeps what was read last and the lines that aren't written yet, at most 65,536 octets each, one frame at most that
+/// began in an earlier read, the FARM-1 of 64 virtual channels, and the series that is incomplete on each MAP. No clause
+/// says what is kept: that is seen by reading.
 ///
 /// The fault is `Read` or `Write` where the reader or the writer had one, `TooLong` where more octets came than the
 /// managed limit, and `Memory` where memory was refused. Memory is refused only where the unit of a frame is accepted
@@ -158,8 +168,11 @@ pub fn check_tc<R: Read, W: Write>(
 }
 
 /// Reads a recording of TM transfer frames to its end, and writes a line for each packet that its frames deliver, in
-/// the order of the frames in which they end (docs/listings.md). It keeps one frame at most, and the packet that is
-/// incomplete on each virtual channel.
+/// the order of the frames in which they end (docs/listings.md).
+///
+/// It keeps what was read last and the lines that aren't written yet, at most 65,536 octets each, one frame at most that
+/// began in an earlier read, and the packet that is incomplete on each virtual channel. No clause says what is kept:
+/// that is seen by reading.
 ///
 /// The fault is `Read` or `Write` where the reader or the writer had one, `TooLong` where more
 /// octets came than the managed limit, and `Memory` where memory was refused. Memory is refused only
@@ -192,8 +205,11 @@ pub fn packets_tm<R: Read, W: Write>(
 }
 
 /// Reads a recording of TC transfer frames to its end, and writes a line for each packet that its frames deliver, in
-/// the order of the frames that end the packets' series (docs/listings.md). It keeps one frame at most, the FARM-1 of
-/// 64 virtual channels, and the series of segments that is incomplete on each MAP.
+/// the order of the frames that end the packets' series (docs/listings.md).
+///
+/// It keeps what was read last and the lines that aren't written yet, at most 65,536 octets each, one frame at most that
+/// began in an earlier read, the FARM-1 of 64 virtual channels, and the series of segments that is incomplete on each
+/// MAP. No clause says what is kept: that is seen by reading.
 ///
 /// The fault is `Read` or `Write` where the reader or the writer had one, `TooLong` where more octets came than the
 /// managed limit, and `Memory` where memory was refused. Memory is refused only where the unit of a frame is accepted

@@ -31,8 +31,12 @@ use std::alloc::Global;
 use std::io::{Read, Write};
 
 /// Reads a recording of TM transfer frames to its end, and then writes the normal form of the packets that its
-/// frames deliver (docs/normal-form.md). It keeps these packets, one frame at most, and the packet that is incomplete
-/// on each virtual channel.
+/// frames deliver (docs/normal-form.md).
+///
+/// It keeps these packets. While it reads, it also keeps what was read last, at most 65,536 octets, one frame at most
+/// that began in an earlier read, and the packet that is incomplete on each virtual channel. While it writes, it also
+/// keeps octets of the normal form that aren't written yet, at most 262,144. No clause says what is kept: that is seen
+/// by reading.
 ///
 /// The fault is `Read` or `Write` where the reader or the writer had one, `TooLong` where more octets came than the
 /// managed limit, and `Memory` where memory was refused. Memory is refused only where a packet is incomplete on the
@@ -71,8 +75,12 @@ pub fn normalise_tm<R: Read, W: Write>(
 }
 
 /// Reads a recording of TC transfer frames to its end, and then writes the normal form of the packets that its
-/// frames deliver, on each virtual channel and MAP (docs/normal-form.md). It keeps these packets, one frame at most,
-/// and the series that is incomplete on each MAP.
+/// frames deliver, on each virtual channel and MAP (docs/normal-form.md).
+///
+/// It keeps these packets. While it reads, it also keeps what was read last, at most 65,536 octets, one frame at most
+/// that began in an earlier read, the FARM-1 of 64 virtual channels, and the series that is incomplete on each MAP.
+/// While it writes, it also keeps octets of the normal form that aren't written yet, at most 262,144. No clause says
+/// what is kept: that is seen by reading.
 ///
 /// The fault is `Read` or `Write` where the reader or the writer had one, `TooLong` where more octets came than the
 /// managed limit, and `Memory` where memory was refused. Memory is refused only where the unit of a frame is accepted

@@ -1,6 +1,7 @@
 -- TC frames as a kind: their packets are on virtual channels and MAPs.
-use Rattle.std.specs.Prelude.{◌≡◌, ◌≤◌, ℕ, ◌+◌, Option, None, Some, List, [], ◌∷◌, ◌++◌, length, map, Result, Ok, Err, is_err}
+use Rattle.std.specs.Prelude.{◌≡◌, ◌≤◌, ℕ, ◌+◌, Bool, Option, None, Some, List, [], ◌∷◌, ◌++◌, length, map, Result, Ok, Err, is_err}
 use Rattle.std.specs.List.{concat}
+use Rattle.sl_cop.specs.declared.verdict.Verdict.{Verdict}
 use Rattle.sl_packet.specs.Delivered.{channel_count}
 use Rattle.sl_tcframe.specs.declared.tc_frame.TcSkip.{TcSkip}
 use Rattle.sl_tcframe.specs.TcDelimited.{tc_frames_of}
@@ -10,7 +11,6 @@ use Rattle.sl_tcflow.specs.Anomaly.{dropped_by, long_by, stray_by, tail_by}
 use Rattle.sl_tcflow.specs.Receiving.{HasProcessed, IsIncompleteAround, ReceiverState, ended_by, held_in, map_by, unit_channel, verdict_on}
 use Rattle.sl_tcflow.specs.ReceptionParameters.{ReceptionParameters}
 use Rattle.sl_tcflow.specs.Recording.{map_channels, packets_of_channel, tc_lists}
-use Rattle.sl_link.specs.declared.kind.TcFound.{TcFound}
 use Rattle.sl_link.specs.Kind.Delivery.{IsWithin, Kind, MayRefuseMemory, count_of, counts_in, number_of_idle, number_of_packets}
 use Rattle.sl_link.specs.Link.Managed.{Parameters, reception_of, tc_format}
 use Rattle.sl_link.specs.Link.Totals.{Counts}
@@ -42,8 +42,22 @@ ns_of (Bd unit) = None
 ns_of Unlock = None
 ns_of (SetVr vr) = None
 
+-- what is found of a frame that is read: its virtual channel and MAP; N(S), in a frame of type AD;
+-- the verdict of FARM-1; whether a segment is out of sequence; how many octets the series has that is
+-- dropped, if one is; whether a series is given up, because it is too long; how many octets are left
+-- after the last packet of a service data unit
+pub record TcFinding : Type 0 where
+  pub vc : ℕ
+  pub map : ℕ
+  pub ns : Option ℕ
+  pub verdict : Verdict
+  pub stray : Bool
+  pub dropped : Option ℕ
+  pub long : Bool
+  pub tail : ℕ
+
 -- what is found of a frame, as it is read, after the frames `views`
-abbrev pub found_after : ReceptionParameters → List TcView → Result TcView TcSkip → Result TcFound TcSkip
+abbrev pub found_after : ReceptionParameters → List TcView → Result TcView TcSkip → Result TcFinding TcSkip
 found_after r views (Ok view) =
     Ok (record {
       vc = view.vc;
@@ -58,7 +72,7 @@ found_after r views (Ok view) =
 found_after r views (Err reason) = Err reason
 
 -- the same of a frame that comes after others
-abbrev pub tc_found : Parameters → List (List ℕ) → List ℕ → Result TcFound TcSkip
+abbrev pub tc_found : Parameters → List (List ℕ) → List ℕ → Result TcFinding TcSkip
 tc_found p before frame = found_after (reception_of p) (views_of (tc_format p) p.spacecraft before) (as_read p frame)
 
 -- TC frames under these parameters

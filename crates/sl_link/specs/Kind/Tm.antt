@@ -1,5 +1,5 @@
 -- TM frames as a kind: their packets are on virtual channels.
-use Rattle.std.specs.Prelude.{◌≡◌, ℕ, Bool, true, false, List, [], ◌∷◌, ◌++◌, Result, Ok, Err, is_err}
+use Rattle.std.specs.Prelude.{◌≡◌, ℕ, Bool, true, false, Option, List, [], ◌∷◌, ◌++◌, Result, Ok, Err, is_err}
 use Rattle.sl_tmframe.specs.declared.tm_frame.TmSkip.{TmSkip}
 use Rattle.sl_tmframe.specs.TmDelimited.{tm_frames_of}
 use Rattle.sl_tmframe.specs.TmFrame.{TmView, DataField, Packets, Idle, Opaque, tm_frame}
@@ -7,7 +7,6 @@ use Rattle.sl_tmflow.specs.Anomaly.{dropped_of, foreign_of, gap_of}
 use Rattle.sl_tmflow.specs.Channel.{channel_of, views_of}
 use Rattle.sl_tmflow.specs.Extraction.{ExtractorState, HasProcessed, IsIncompleteAround, ended_by}
 use Rattle.sl_tmflow.specs.Recording.{packets_of_channel, tm_lists, virtual_channels}
-use Rattle.sl_link.specs.declared.kind.TmFound.{TmFound}
 use Rattle.sl_link.specs.Kind.Delivery.{IsWithin, Kind, MayRefuseMemory, counts_in}
 use Rattle.sl_link.specs.Link.Managed.{Parameters, tm_format}
 use Rattle.sl_link.specs.Link.Totals.{Counts}
@@ -38,8 +37,20 @@ is_opaque (Packets first octets) = false
 is_opaque Idle = false
 is_opaque Opaque = true
 
+-- what is found of a frame that is read: its virtual channel and the count of it; the count that was
+-- expected, where the frame has another one; how many octets the packet has that the frame breaks
+-- off, 0 where there is none; whether the frame is opaque; whether octets of another packet version
+-- stand at a packet start
+pub record TmFinding : Type 0 where
+  pub vc : ℕ
+  pub vc_count : ℕ
+  pub gap : Option ℕ
+  pub dropped : ℕ
+  pub opaque : Bool
+  pub foreign : Bool
+
 -- what is found of a frame, as it is read, after the frames `views`
-abbrev pub found_after : List TmView → Result TmView TmSkip → Result TmFound TmSkip
+abbrev pub found_after : List TmView → Result TmView TmSkip → Result TmFinding TmSkip
 found_after views (Ok view) =
     Ok (record {
       vc = view.vc;
@@ -52,7 +63,7 @@ found_after views (Ok view) =
 found_after views (Err reason) = Err reason
 
 -- the same of a frame that comes after others
-abbrev pub tm_found : Parameters → List (List ℕ) → List ℕ → Result TmFound TmSkip
+abbrev pub tm_found : Parameters → List (List ℕ) → List ℕ → Result TmFinding TmSkip
 tm_found p before frame = found_after (views_of (tm_format p) p.spacecraft before) (as_read p frame)
 
 -- TM frames under these parameters

@@ -5,8 +5,12 @@ ghost use Rattle.sl_link.specs.Link.Fault.{sink_fault};
 use sl_packet::{FlowFault, SinkFault};
 use thiserror::Error;
 
-/// Why an engine stopped before its work was done. Contracts say that a fault *has its cause*: what
-/// is said of the fault here is so. No clause can say that memory was refused.
+/// Why an engine stopped before its work was done.
+///
+/// The engines' clauses `fault` say less than the sentences here. An engine answers `Read` only where the reader, and
+/// `Write` only where the writer, had a fault or a count of faults of 2^64 - 1. It answers `TooLong` only where more
+/// octets than the managed limit were read; of a reader whose octets no contract can name, nothing is claimed of that.
+/// No clause can say that memory was refused.
 #[derive(Clone, Copy, Debug, PartialEq, Eq, Error)]
 pub enum LinkFault {
     /// The reader answered an error.

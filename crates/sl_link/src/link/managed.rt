@@ -1,5 +1,5 @@
 //! The managed parameters of a link.
-ghost use Rattle.std.specs.Prelude.{◌≡◌, [], replicate};
+ghost use Rattle.std.specs.Prelude.{◌≡◌, ◌≤◌, [], replicate};
 ghost use Rattle.sl_link.specs.Link.Managed.{Parameters};
 
 use sl_cop::{Starts, Window};
@@ -122,11 +122,15 @@ impl Managed {
     /// The spacecraft identifier, 0 to 1023.
     ///
     /// Every `Managed` meets the premise of the [`laws`](crate::laws) on normal forms: none of its
-    /// parameters is refused, and the initial V(R) of each virtual channel is one octet.
+    /// parameters is refused, and the initial V(R) of each virtual channel is one octet. The width of
+    /// its window is at most 254, as the laws on FARM-1's runs and on the order of frames want it.
     pub fn spacecraft(&self) -> u16
         ensures value { result ≡ self.now.spacecraft }
         ensures accepted { AreAccepted self.now }
+        ensures window { self.now.window ≤ 254 }
     {
+        // For the proof alone, at no cost: every `Window` has a width of 254 at most.
+        let _ = self.window.width();
         self.spacecraft
     }
 

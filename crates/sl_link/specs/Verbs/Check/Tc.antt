@@ -11,8 +11,7 @@ use Rattle.sl_tcflow.specs.Incomplete.{incomplete_of}
 use Rattle.sl_tcflow.specs.Reception.{segments_of}
 use Rattle.sl_tcflow.specs.ReceptionParameters.{ReceptionParameters}
 use Rattle.sl_link.specs.Verbs.Check.Lines.{anomalies_by, check_listing, event_anomaly}
-use Rattle.sl_link.specs.declared.kind.TcFound.{TcFound}
-use Rattle.sl_link.specs.Kind.Tc.{tc_found, tc_kind}
+use Rattle.sl_link.specs.Kind.Tc.{TcFinding, tc_found, tc_kind}
 use Rattle.sl_link.specs.Io.Line.{line_at}
 use Rattle.sl_link.specs.Link.Managed.{Parameters, reception_of, tc_format}
 use Rattle.sl_link.specs.Verbs.Show.Tc.{tc_skip_word, verdict_word}
@@ -32,7 +31,7 @@ discards Refused = true
 discards Command = false
 
 -- the line of a frame that FARM-1 discards, which is of type AD
-abbrev pub discarded_anomaly : ℕ → TcFound → Option ℕ → List (List ℕ)
+abbrev pub discarded_anomaly : ℕ → TcFinding → Option ℕ → List (List ℕ)
 discarded_anomaly offset found None = []
 discarded_anomaly offset found (Some ns) =
     line_at offset (codes " " ++ verdict_word found.verdict ++ codes " vc " ++ decimal found.vc
@@ -42,7 +41,7 @@ discarded_anomaly offset found (Some ns) =
 -- frame; a segment is out of sequence; an incomplete series is dropped, by how many octets of it had
 -- come; a series is given up, since it is too long; octets are left after the last packet of a service
 -- data unit.
-abbrev pub tc_lines : ℕ → Result TcFound TcSkip → List (List ℕ)
+abbrev pub tc_lines : ℕ → Result TcFinding TcSkip → List (List ℕ)
 tc_lines offset (Ok found) =
     (if discards found.verdict then discarded_anomaly offset found found.ns else [])
     ++ event_anomaly offset found.vc (Some found.map) (codes " stray") found.stray None

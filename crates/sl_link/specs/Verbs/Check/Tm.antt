@@ -5,8 +5,7 @@ use Rattle.sl_tmframe.specs.TmDelimited.{tm_frames_of}
 use Rattle.sl_tmflow.specs.Channel.{channel_of, views_of}
 use Rattle.sl_tmflow.specs.Incomplete.{incomplete_of}
 use Rattle.sl_link.specs.Verbs.Check.Lines.{anomalies_by, check_listing, event_anomaly, event_line}
-use Rattle.sl_link.specs.declared.kind.TmFound.{TmFound}
-use Rattle.sl_link.specs.Kind.Tm.{tm_found, tm_kind}
+use Rattle.sl_link.specs.Kind.Tm.{TmFinding, tm_found, tm_kind}
 use Rattle.sl_link.specs.Io.Line.{line_at}
 use Rattle.sl_link.specs.Link.Managed.{Parameters, tm_format}
 use Rattle.sl_link.specs.Verbs.Show.Tm.{tm_skip_word}
@@ -17,7 +16,7 @@ use Rattle.sl_link.specs.Verbs.Listing.{Listing, listing_text}
 -- ---- a frame
 
 -- another virtual channel frame count was expected
-abbrev pub gap_anomaly : ℕ → TmFound → Option ℕ → List (List ℕ)
+abbrev pub gap_anomaly : ℕ → TmFinding → Option ℕ → List (List ℕ)
 gap_anomaly offset found None = []
 gap_anomaly offset found (Some expected) =
     line_at offset (codes " gap vc " ++ decimal found.vc ++ codes " expected " ++ decimal expected
@@ -26,7 +25,7 @@ gap_anomaly offset found (Some expected) =
 -- The lines of a frame at this offset, in their order, by what is found of it: a gap; an incomplete
 -- packet is broken off, by how many octets of it had come; the frame is opaque; octets of another
 -- packet version stand at a packet start.
-abbrev pub tm_lines : ℕ → Result TmFound TmSkip → List (List ℕ)
+abbrev pub tm_lines : ℕ → Result TmFinding TmSkip → List (List ℕ)
 tm_lines offset (Ok found) =
     gap_anomaly offset found found.gap
     ++ event_anomaly offset found.vc None (codes " dropped") (nat_lt 0 found.dropped) (Some found.dropped)

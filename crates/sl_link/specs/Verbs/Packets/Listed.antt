@@ -1,34 +1,32 @@
 -- The listings of packets channel by channel: each has the packets that the recording delivers there.
 use Rattle.std.specs.Prelude.{◌≡◌, ◌==◌, ℕ, List, [], map}
 use Rattle.std.specs.List.{concat, filter, slice_index_or}
-use Rattle.sl_link.specs.declared.verbs.packets.printer.ChannelKind.{ChannelKind}
-use Rattle.sl_link.specs.declared.verbs.packets.printer.ChannelKind.TheVariants.{VirtualChannel, Map}
-use Rattle.sl_link.specs.Verbs.Packets.Printed.{channel_name}
 use Rattle.sl_link.specs.Link.Managed.{Parameters}
 use Rattle.sl_link.specs.Kind.Tc.{tc_packets}
 use Rattle.sl_link.specs.Kind.Tm.{tm_packets}
 use Rattle.sl_link.specs.Verbs.Packets.Line.{packet_line}
-use Rattle.sl_link.specs.Verbs.Packets.Tc.{packets_tc_text}
-use Rattle.sl_link.specs.Verbs.Packets.Tm.{packets_tm_text}
+use Rattle.sl_link.specs.Verbs.Packets.Tc.{packets_tc_text, tc_channel_name}
+use Rattle.sl_link.specs.Verbs.Packets.Tm.{packets_tm_text, tm_channel_text}
 
 -- a packet that a listing has a line for, and the number of its channel
 pub record ListedPacket : Type 0 where
   pub channel : ℕ
   pub packet : List ℕ
 
--- its line
-abbrev pub line_of : ChannelKind → ListedPacket → List ℕ
-line_of kind l = packet_line (channel_name kind l.channel) l.packet
+-- its line, where `name` names a channel by its number
+abbrev pub line_of : (ℕ → List ℕ) → ListedPacket → List ℕ
+line_of name l = packet_line (name l.channel) l.packet
 
 -- the packets of a channel, in the order of the listing
 abbrev pub packets_listed_on : List ListedPacket → ℕ → List (List ℕ)
 packets_listed_on listed channel = map (λ l. l.packet) (filter (λ l. l.channel == channel) listed)
 
--- These octets are a line for each of some packets, one after another. The packets on each channel are those of the
--- list at the channel's number, in its order; on a channel past the last list there are none.
-pub record ListsPackets (kind : ChannelKind) (lists : List (List (List ℕ))) (listing : List ℕ) : Type 0 where
+-- These octets are a line for each of some packets, one after another, with the name of the packet's channel. The
+-- packets on each channel are those of the list at the channel's number, in its order; on a channel past the last list
+-- there are none.
+pub record ListsPackets (name : ℕ → List ℕ) (lists : List (List (List ℕ))) (listing : List ℕ) : Type 0 where
   pub listed : List ListedPacket
-  pub lines : listing ≡ concat (map (line_of kind) listed)
+  pub lines : listing ≡ concat (map (line_of name) listed)
   pub each : (channel : ℕ) → packets_listed_on listed channel ≡ slice_index_or lists channel []
 
 -- ---- laws
@@ -37,9 +35,9 @@ pub record ListsPackets (kind : ChannelKind) (lists : List (List (List ℕ))) (l
 -- the packets that the recording delivers there, in their order, idle ones left out.
 abbrev pub TmPacketsAreListed : Type 0
 TmPacketsAreListed = (p : Parameters) (recording : List ℕ)
-    → ListsPackets VirtualChannel (tm_packets p recording) (packets_tm_text p recording)
+    → ListsPackets tm_channel_text (tm_packets p recording) (packets_tm_text p recording)
 
 -- The same of a TC recording, on each virtual channel and MAP.
 abbrev pub TcPacketsAreListed : Type 0
 TcPacketsAreListed = (p : Parameters) (recording : List ℕ)
-    → ListsPackets Map (tc_packets p recording) (packets_tc_text p recording)
+    → ListsPackets tc_channel_name (tc_packets p recording) (packets_tc_text p recording)

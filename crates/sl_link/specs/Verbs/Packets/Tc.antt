@@ -1,6 +1,6 @@
 -- The packets of a TC recording, as `packets tc` lists them: in the order of the accepted units
 -- that end their series, idle ones left out.
-use Rattle.std.specs.Prelude.{ℕ, List, [], ◌++◌, map, codes, decimal, Result, Ok, Err}
+use Rattle.std.specs.Prelude.{ℕ, ◌/◌, ◌%◌, List, [], ◌++◌, map, codes, decimal, Result, Ok, Err}
 use Rattle.std.specs.List.{concat}
 use Rattle.sl_packet.specs.Packets.{without_idle}
 use Rattle.sl_tcframe.specs.declared.tc_frame.TcSkip.{TcSkip}
@@ -17,6 +17,10 @@ use Rattle.sl_link.specs.Verbs.Listing.{Listing, listing_text}
 -- a virtual channel and a MAP
 abbrev pub tc_channel_text : ℕ → ℕ → List ℕ
 tc_channel_text vc map_id = codes "vc " ++ decimal vc ++ codes " map " ++ decimal map_id
+
+-- the same by the number of their channel, 64 VC + MAP
+abbrev pub tc_channel_name : ℕ → List ℕ
+tc_channel_name channel = tc_channel_text (channel / 64) (channel % 64)
 
 -- the lines of the packets that a frame delivers, as it is read, after the frames `views`: those of
 -- the series that its unit ends

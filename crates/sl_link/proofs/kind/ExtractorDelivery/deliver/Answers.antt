@@ -45,7 +45,7 @@ returns-clause-found g c =
     λ before h.
     let seen = views_of (tm_format p) p.spacecraft before in
     let e = c.in-Ok-frame.ensures in
-    rw (c.vc.ensures.value, c.vc_count.ensures, c.gap.ensures ∙ e.gap seen h.processed, c.dropped.ensures ∙ e.dropped seen h.processed, c.is_opaque.ensures, c.field.ensures.value, c.foreign.ensures ∙ e.foreign)
+    rw (c.vc.ensures.value, c.vc_count.ensures, c.gap.ensures ∙ e.gap seen h.processed, c.dropped.ensures.value ∙ e.dropped seen h.processed, c.is_opaque.ensures, c.field.ensures.value, c.foreign.ensures ∙ e.foreign)
     (sym (ap (found_after seen) read))
 
 pub returns-in-Err-frame-clause-stopped : goal.returns-in-Err-frame-clause-stopped

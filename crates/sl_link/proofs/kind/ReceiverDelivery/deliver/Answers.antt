@@ -63,12 +63,12 @@ returns-clause-found g c =
     let e = c.in-Ok-frame.ensures in
     rw (
       c.vc.ensures.value,
-      c.map.ensures ∙ e.map r seen h.processed,
+      c.map.ensures.value ∙ e.map r seen h.processed,
       c.ns_of.ensures,
       c.content.ensures.value,
       c.verdict.ensures ∙ e.verdict r seen h.processed,
       c.stray.ensures ∙ e.stray r seen h.processed,
-      c.dropped.ensures ∙ e.dropped r seen h.processed,
+      c.dropped.ensures.value ∙ e.dropped r seen h.processed,
       c.long.ensures ∙ e.long r seen h.processed,
       c.tail.ensures ∙ e.tail r seen h.processed,
     )

@@ -10,8 +10,7 @@ use Rattle.sl_tcflow.specs.AcceptedUnit.{views_of}
 use Rattle.sl_tcflow.proofs.lemmas.Reception.Channel.{incomplete_other}
 use Rattle.sl_link.specs.Verbs.Check.Lines.{event_anomaly}
 use Rattle.sl_link.specs.Verbs.Check.Tc.{discarded_anomaly, incomplete_anomaly, open_on, tc_lines, tc_open}
-use Rattle.sl_link.specs.declared.kind.TcFound.{TcFound}
-use Rattle.sl_link.specs.Kind.Tc.{as_read, unit_channel_of, found_after, tc_found, tc_kind}
+use Rattle.sl_link.specs.Kind.Tc.{TcFinding, as_read, unit_channel_of, found_after, tc_found, tc_kind}
 use Rattle.sl_link.specs.Kind.Delivery.{with_frame}
 use Rattle.sl_link.specs.Link.Managed.{Parameters, reception_of, tc_format}
 use Rattle.sl_link.specs.Pass.Tc.{is_tc_frame}
@@ -22,10 +21,10 @@ use Rattle.sl_link.proofs.lemmas.Verbs.Check.Lines as few
 
 -- ---- the lines of a frame are few
 
-one_discarded : (offset : ℕ) (found : TcFound) (ns : Option ℕ) (holds : Bool) → length (if holds then discarded_anomaly offset found ns else []) ≤ 1
+one_discarded : (offset : ℕ) (found : TcFinding) (ns : Option ℕ) (holds : Bool) → length (if holds then discarded_anomaly offset found ns else []) ≤ 1
 one_discarded offset found ns holds = grind arith
 
-five_lines : (offset : ℕ) (found : Result TcFound TcSkip) → length (tc_lines offset found) ≤ 5
+five_lines : (offset : ℕ) (found : Result TcFinding TcSkip) → length (tc_lines offset found) ≤ 5
 five_lines offset found = grind (arith, length-append)
 
 -- a frame that is read has a data field

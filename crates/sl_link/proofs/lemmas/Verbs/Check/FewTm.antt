@@ -11,9 +11,8 @@ use Rattle.sl_tmflow.specs.Channel.{channel_of, views_of}
 use Rattle.sl_tmflow.specs.Incomplete.{IsShort, incomplete_of}
 use Rattle.sl_tmflow.proofs.lemmas.Delivery.Channel.{other_seen}
 use Rattle.sl_tmflow.proofs.lemmas.Incomplete.List.{one_is_incomplete, incomplete_is_short}
-use Rattle.sl_link.specs.declared.kind.TmFound.{TmFound}
 use Rattle.sl_link.specs.Kind.Delivery.{with_frame}
-use Rattle.sl_link.specs.Kind.Tm.{as_read, tm_found, tm_kind, vc_of}
+use Rattle.sl_link.specs.Kind.Tm.{TmFinding, as_read, tm_found, tm_kind, vc_of}
 use Rattle.sl_link.specs.Link.Managed.{Parameters, tm_format}
 use Rattle.sl_link.specs.Pass.Tm.{is_tm_frame}
 use Rattle.sl_link.specs.Verbs.Check.Lines.{event_anomaly, event_line}
@@ -23,10 +22,10 @@ use Rattle.sl_link.proofs.lemmas.Kind.Tm.{tm_delivered}
 use Rattle.sl_link.proofs.lemmas.Verbs.Check.Lines.{one_event}
 use Rattle.sl_link.proofs.lemmas.Verbs.Check.Lines as few
 
-one_gap : (offset : ℕ) (found : TmFound) (gap : Option ℕ) → length (gap_anomaly offset found gap) ≤ 1
+one_gap : (offset : ℕ) (found : TmFinding) (gap : Option ℕ) → length (gap_anomaly offset found gap) ≤ 1
 one_gap offset found gap = grind arith
 
-four_lines : (offset : ℕ) (found : Result TmFound TmSkip) → length (tm_lines offset found) ≤ 4
+four_lines : (offset : ℕ) (found : Result TmFinding TmSkip) → length (tm_lines offset found) ≤ 4
 four_lines offset found = grind (arith, length-append)
 
 -- a frame has fewer lines than octets

@@ -19,7 +19,7 @@ use Rattle.sl_tcflow.proofs.lemmas.Reception.Channel.{small_map}
 use Rattle.sl_link.specs.declared.verbs.packets.printer.ChannelKind.{ChannelKind}
 use Rattle.sl_link.specs.Kind.Delivery.{AreDelivered, Kind, lists_in, packets_of}
 use Rattle.sl_link.specs.Verbs.Packets.Listed.{ListedPacket, ListsPackets, line_of, packets_listed_on, TmPacketsAreListed, TcPacketsAreListed}
-use Rattle.sl_link.specs.Verbs.Packets.Printed.{ArePrinted, lines_on}
+use Rattle.sl_link.specs.Verbs.Packets.Printed.{ArePrinted, channel_name, lines_on}
 use Rattle.sl_link.specs.Verbs.Listing.{lines_from, listing_text}
 use Rattle.sl_link.specs.declared.verbs.packets.printer.ChannelKind.TheVariants.{VirtualChannel, Map}
 use Rattle.sl_link.specs.Kind.Tc as tc_deliver
@@ -51,9 +51,9 @@ listed-append : (channel : ℕ) (xs ys : List ListedPacket) → packets_listed_o
 listed-append channel xs ys = simp (filter-append, map-append)
 
 -- their lines
-lines_at : (kind : ChannelKind) (channel : ℕ) (packets : List (List ℕ)) → lines_on kind channel packets ≡ concat (map (line_of kind) (listed_at channel packets))
+lines_at : (kind : ChannelKind) (channel : ℕ) (packets : List (List ℕ)) → lines_on kind channel packets ≡ concat (map (line_of (channel_name kind)) (listed_at channel packets))
 lines_at kind channel [] = refl
-lines_at kind channel (packet ∷ packets) = ap (λ l. line_of kind (record { channel = channel; packet = packet }) ++ l) (lines_at kind channel packets)
+lines_at kind channel (packet ∷ packets) = ap (λ l. line_of (channel_name kind) (record { channel = channel; packet = packet }) ++ l) (lines_at kind channel packets)
 
 module _ (k : Kind) where
   -- the packets that end in frames which come after others
@@ -65,7 +65,7 @@ module _ (k : Kind) where
   listed_from before (frame ∷ frames) = listed_in before frame ++ listed_from (before ++ frame ∷ []) frames
 
   module _ (kind : ChannelKind) (lines : List (List ℕ) → List ℕ → List ℕ) (printed : ArePrinted k kind lines) where
-    lines_are : (before frames : List (List ℕ)) → lines_from lines before frames ≡ concat (map (line_of kind) (listed_from before frames))
+    lines_are : (before frames : List (List ℕ)) → lines_from lines before frames ≡ concat (map (line_of (channel_name kind)) (listed_from before frames))
     lines_are before [] = refl
     lines_are before (frame ∷ frames) =
         rw (printed before frame, lines_at kind (k.channel frame) (without_idle (k.ended before frame)), lines_are (before ++ frame ∷ []) frames, map-append, concat-append) refl
@@ -101,7 +101,7 @@ module _ (k : Kind) where
 
     -- So, of a whole recording, each list has its channel's packets.
     pub packets_are_listed : (kind : ChannelKind) (lines : List (List ℕ) → List ℕ → List ℕ) → ArePrinted k kind lines → (recording : List ℕ)
-        → ListsPackets kind (packets_of k recording) (listing_text k.frames_of (packets_listing k lines) recording)
+        → ListsPackets (channel_name kind) (packets_of k recording) (listing_text k.frames_of (packets_listing k lines) recording)
     packets_are_listed kind lines printed recording =
         let frames = k.frames_of recording in
         record { listed = listed_from [] frames; lines = append-nil (lines_from lines [] frames) ∙ lines_are kind lines printed [] frames; each = each_listed frames }

@@ -62,16 +62,20 @@ octet_bits-plus bits octet e h =
 
 -- words
 
-pub word_of-ran : (later octet : ℕ) → word_of later octet ≡ bits_number (ran zeros (octet_bits octet ++ replicate (8 * later) false))
-unfolding word_of
-word_of-ran later octet =
-    let bits = octet_bits octet ++ replicate (8 * later) false in
-    let whole : octet_bits octet ++ replicate (8 * later + 16) false ≡ bits ++ zeros = ap (λ rest. octet_bits octet ++ rest) (sym (replicate-append-replicate (8 * later) 16 false)) ∙ sym (append_assoc (octet_bits octet) (replicate (8 * later) false) zeros) in
+-- bits with zeros after them, divided without preset: what a register of zeros holds after them
+pub remainder-left : (count : ℕ) (message : List Bool) → bits_number (remainder (message ++ replicate (count + 16) false)) ≡ bits_number (ran zeros (message ++ replicate count false))
+remainder-left count message =
+    let bits = message ++ replicate count false in
+    let whole : message ++ replicate (count + 16) false ≡ bits ++ zeros = ap (λ rest. message ++ rest) (sym (replicate-append-replicate count 16 false)) ∙ sym (append_assoc message (replicate count false) zeros) in
     let steps : length (bits ++ zeros) - 16 ≡ length bits = omega (arith, length-append bits zeros) in
     ap (λ l. bits_number (remainder l)) whole
     ∙ ap (λ n. bits_number (divided n (bits ++ zeros))) steps
     ∙ ap (λ l. bits_number (divided (length bits) l)) (sym (plus_word-false 16 (bits ++ zeros)))
     ∙ ap bits_number (divided-ran zeros bits refl)
+
+word_of-ran : (octet : ℕ) → word_of 0 octet ≡ bits_number (ran zeros (octet_bits octet))
+unfolding word_of
+word_of-ran octet = remainder-left 0 (octet_bits octet)
 
 -- the table has the words: computed
 pub are_words : AreWords WORDS
@@ -126,7 +130,7 @@ ran-octet front rest octet e f h =
     let long : length (front ++ rest) ≡ 16 = omega (arith, length-append front rest) in
     let moved = rest ++ replicate (length front) false in
     let sixteen : length moved ≡ 16 = omega (arith, length-append rest (replicate (length front) false), length-replicate (length front) false) in
-    let added : bits_number (ran zeros both) ≡ word_of 0 (bit_xor (bits_number front) octet) = ap (λ l. bits_number (ran zeros l)) (sym (octet_bits-plus front octet e h)) ∙ sym (word_of-ran 0 (bit_xor (bits_number front) octet)) in
+    let added : bits_number (ran zeros both) ≡ word_of 0 (bit_xor (bits_number front) octet) = ap (λ l. bits_number (ran zeros l)) (sym (octet_bits-plus front octet e h)) ∙ sym (word_of-ran (bit_xor (bits_number front) octet)) in
     let up : bits_number moved ≡ bits_number rest * 256 = ap (λ n. bits_number (rest ++ replicate n false)) e ∙ bits_number-append rest (replicate 8 false) ∙ omega arith in
     ap bits_number (ran-front front rest (octet_bits octet) long e)
     ∙ bits_number-plus moved (ran zeros both) (sixteen ∙ sym (length-ran zeros both refl))

@@ -1,10 +1,13 @@
 pub mod ClcwLemmas
 pub mod DecimalLemmas
 pub mod FecfFacts
+pub mod FecfFolds
+pub mod FecfHalves
 pub mod FecfLemmas
-pub mod FecfSliceLemmas
+pub mod FecfParts
+pub mod FecfRecurrence
+pub mod FecfSlices
 pub mod FecfSums
-pub mod FecfTables
 pub mod FecfWordLemmas
 pub mod Division
 pub mod Flags
@@ -22,3 +25,4 @@ pub mod SegmentHeaderLemmas
 pub mod TcHeaderLemmas
 pub mod Tells
 pub mod TmHeaderLemmas
+pub mod Xor

@@ -1,7 +1,5 @@
--- The word of an octet: what the octet, in a message, adds to the frame error control field. Only
--- contracts of private functions cite `words_sum`.
-use Rattle.std.specs.Prelude.{◌≡◌, ℕ, ◌+◌, ◌*◌, false, List, [], ◌∷◌, ◌++◌, length, map, replicate}
-use Rattle.std.specs.Prelude.{bit_xor}
+-- The word of an octet: what the octet, in a message, adds to the frame error control field.
+use Rattle.std.specs.Prelude.{◌≡◌, ℕ, ◌+◌, ◌*◌, false, List, ◌++◌, map, replicate}
 use Rattle.std.specs.List.{range_with_len}
 use Rattle.sl_fields.specs.Field.{number_of}
 use Rattle.sl_fields.specs.Fecf.{octet_bits, bits_number, remainder}
@@ -15,17 +13,7 @@ word_of later octet = bits_number (remainder (octet_bits octet ++ replicate (8 *
 abbrev pub words_of : ℕ → List ℕ
 words_of later = map (word_of later) (range_with_len 0 256)
 
--- the sum without carries of the words of these octets, which end a message
-abbrev pub words_sum : List ℕ → ℕ
-words_sum [] = 0
-words_sum (octet ∷ octets) = bit_xor (word_of (length octets) octet) (words_sum octets)
-
 -- The table has the words of the octets 0 to 255, in this order, where they end a message. Each
 -- word is two octets, the most significant first.
 abbrev pub AreWords : List (List ℕ) → Type 0
 AreWords table = map number_of table ≡ words_of 0
-
--- There are sixteen tables of the words of the octets 0 to 255, in this order: the first for no
--- later octet, the second for one later octet, and so on up to fifteen.
-abbrev pub AreSliceWords : List (List ℕ) → Type 0
-AreSliceWords tables = tables ≡ map words_of (range_with_len 0 16)

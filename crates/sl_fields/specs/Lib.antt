@@ -2,6 +2,7 @@ pub mod Clcw
 pub mod ClcwModel
 pub mod Fecf
 pub mod FecfField
+pub mod FecfFolds
 pub mod FecfRegister
 pub mod FecfWords
 pub mod Field

@@ -4,18 +4,17 @@
 //! message adds a word to the remainder. The word depends on the value of the octet and on the
 //! number of octets that follow. All sums are without carries.
 //!
-//! Here a slice is sixteen octets of the message. A slice is taken in one step, with a table of
-//! words for each of its octets. The octets after the last slice are taken one by one.
+//! The octets of a short message are taken one by one. Those of a longer one are first added to later
+//! octets of the message, until sixteen with the same remainder are left.
 ghost use Rattle.std.specs.Prelude.{◌≡◌, ◌-◌, ◌<◌, ◌≤◌, [], ◌∷◌, length, take, drop};
-ghost use Rattle.std.specs.List.{concat};
 ghost use Rattle.sl_fields.specs.Fecf.{fecf_of, fecf_is_good};
 ghost use Rattle.sl_fields.specs.FecfField.{fecf_octets, fecf_len};
 ghost use Rattle.sl_fields.specs.FecfRegister.{register_number, TakesIn};
-ghost use Rattle.sl_fields.specs.FecfWords.{word_of, words_sum};
+ghost use Rattle.sl_fields.specs.FecfWords.{word_of};
 ghost use Rattle.sl_fields.specs.Field.{number_of};
 
 use crate::ends::back;
-use crate::slices::SLICES;
+use crate::folds::folded;
 use crate::words::WORDS;
 use byteorder::{BigEndian, ByteOrder};
 
@@ -28,12 +27,15 @@ use byteorder::{BigEndian, ByteOrder};
 pub fn fecf(octets: &[u8]) -> u16
     ensures { result ≡ fecf_of octets.now }
 {
-    let preset = Register {
-        high: 0xFF,
-        low: 0xFF,
-    };
-    let (slices, rest) = octets.as_chunks::<16>();
-    number(after_octets(after_slices(preset, slices), rest))
+    if octets.len() < 32 {
+        let preset = Register {
+            high: 0xFF,
+            low: 0xFF,
+        };
+        return number(after_octets(preset, octets));
+    }
+    let zeros = Register { high: 0, low: 0 };
+    number(after_octets(zeros, &folded(octets).to_array()))
 }
 
 /// Whether the octets end with their frame error control field (CCSDS 132.0-B and 232.0-B): the
@@ -90,17 +92,6 @@ fn number(register: Register) -> u16
     u16::from_be_bytes([register.high, register.low])
 }
 
-// The register that holds this number.
-#[inline(always)]
-fn halves(number: u16) -> Register
-    ensures { register_number result ≡ number }
-{
-    Register {
-        high: (number >> 8) as u8,
-        low: (number & 0xFF) as u8,
-    }
-}
-
 // The register after these octets of the message, taken one by one.
 #[inline(always)]
 fn after_octets(register: Register, octets: &[u8]) -> Register
@@ -126,55 +117,10 @@ fn after_octet(register: Register, octet: u8) -> Register
     }
 }
 
-// The register after these slices of the message, taken one by one.
-#[inline(always)]
-fn after_slices(register: Register, slices: &[[u8; 16]]) -> Register
-    ensures { TakesIn register (concat slices.now) result }
-{
-    let mut after = register;
-    for slice in slices {
-        after = after_slice(after, slice);
-    }
-    after
-}
-
-// The register after one more slice of the message: the register's two octets are added to the
-// first two octets of the slice, and the words of all sixteen octets are summed.
-#[inline(always)]
-fn after_slice(register: Register, slice: &[u8; 16]) -> Register
-    ensures { TakesIn register slice.now result }
-{
-    let first = slice_word(15, register.high ^ slice[0]);
-    let second = slice_word(14, register.low ^ slice[1]);
-    halves(first ^ second ^ later_words(slice))
-}
-
-// The sum of the words of the slice's octets from the third on. This sum doesn't depend on the
-// register, so it can be computed before the register is known.
-#[inline(always)]
-fn later_words(slice: &[u8; 16]) -> u16
-    ensures { result ≡ words_sum (drop 2 slice.now) }
-{
-    let mut sum = 0;
-    for offset in 2..16usize {
-        sum ^= slice_word(15 - offset, slice[offset]);
-    }
-    sum
-}
-
 // The word of a message's last octet, as two octets, the most significant first.
 #[inline(always)]
 fn word(octet: u8) -> [u8; 2]
     ensures { number_of result ≡ word_of 0 octet }
 {
     WORDS[usize::from(octet)]
-}
-
-// The word of an octet of the message, where `later` more octets come after the octet, 0 to 15.
-#[inline(always)]
-fn slice_word(later: usize, octet: u8) -> u16
-    requires { later < 16 }
-    ensures { result ≡ word_of later octet }
-{
-    SLICES[later][usize::from(octet)]
 }

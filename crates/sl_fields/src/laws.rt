@@ -1,10 +1,10 @@
 //! The laws on this crate's definitions. Each function is empty, and nothing calls it. Its clauses
 //! are the laws, and the check of the function proves them.
-ghost use Rattle.sl_fields.specs.FecfWords.{AreWords, AreSliceWords};
+ghost use Rattle.sl_fields.specs.FecfFolds.{RunsMove};
+ghost use Rattle.sl_fields.specs.FecfWords.{AreWords};
 ghost use Rattle.sl_fields.specs.Remainder.{DivisionFindsRemainder, RemainderIsOnlyOne};
 ghost use Rattle.sl_fields.specs.Remainder.{FieldIsRemainder, WordIsRemainder};
 
-use crate::slices::SLICES;
 use crate::words::WORDS;
 
 /// Each list of sixteen or more bits is the sum, without carries, of a multiple of the generator
@@ -25,9 +25,15 @@ pub fn fecf_is_a_remainder()
 /// zeros for each later octet of the message, and sixteen zeros. None of them is inverted.
 ///
 /// `WORDS` has, for each value of an octet, the word of this octet at the end of a message.
-/// `SLICES` has the words of this octet where 0 to 15 more octets come after the octet.
 pub fn words_are_remainders()
     ensures word { WordIsRemainder }
     ensures last { AreWords WORDS }
-    ensures slice { AreSliceWords SLICES }
+{}
+
+/// In a message, zeros may stand in the place of a run of octets if the run is added, without carries,
+/// to the octets 4, 11 and 16 places later, or 8, 22 and 32, or 16, 44 and 64, or another power of two
+/// times 4, 11 and 16. All three places of the run lie within the message. The frame error control
+/// field is the same, whatever stands before the run and behind it.
+pub fn runs_move()
+    ensures { RunsMove }
 {}

@@ -1,4 +1,3 @@
-use Rattle.sl_fields.proofs.FecfTables.{are_slice_words}
 use Rattle.sl_fields.proofs.FecfWordLemmas.{are_words}
 use Rattle.sl_fields.proofs.RemainderLemmas.{word_is_remainder}
 use Rattle.sl_fields.proofs.laws.words_are_remainders.Goals as goal
@@ -8,6 +7,3 @@ returns-clause-word c = word_is_remainder
 
 pub returns-clause-last : goal.returns-clause-last
 returns-clause-last c = are_words
-
-pub returns-clause-slice : goal.returns-clause-slice
-returns-clause-slice c = are_slice_words

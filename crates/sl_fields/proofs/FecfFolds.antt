@@ -1,0 +1,148 @@
+-- A message whose slices are added to later ones. The last four sums are kept: each is a slice of the message with what
+-- the earlier sums add to it.
+use Rattle.std.proofs.Common.{◌≡◌, ℕ, zero, suc, ◌+◌, ◌-◌, ◌*◌, ◌%◌, ◌^◌, ◌<◌, List, [], ◌∷◌, ◌++◌, length, take, drop, get_or, replicate, refl, sym, ◌∙◌, ap, arith, bit_xor, append-nil, append_assoc}
+use Rattle.std.specs.List.{concat}
+use Rattle.std.specs.Simd.{first_chunks}
+use Rattle.std.specs.Simd.Lanes.{zip2}
+use Rattle.std.proofs.lemmas.List.{length-take, length-drop, length-replicate, take-append-drop, take-take, take_more, drop-drop, drop-append-le, drop-replicate}
+use Rattle.std.proofs.lemmas.List.Folds.{concat-append}
+use Rattle.std.proofs.Math.Seq.{take-add, take-append-add}
+use Rattle.sl_fields.specs.Fecf.{fecf_of}
+use Rattle.sl_fields.specs.FecfFolds.{part_of, first_two_of}
+use Rattle.sl_fields.proofs.FecfParts.{part-append, part-none, part-zeros, field-part}
+use Rattle.sl_fields.proofs.FecfRecurrence.{part-recurs}
+use Rattle.sl_fields.proofs.FecfSlices.{none, slices, length-sum, length-across, part-cut, part-two, part-four}
+use Rattle.sl_fields.proofs.Xor.{xor_sums}
+
+-- the next sum
+abbrev pub next_sum : List ℕ → List ℕ → List ℕ → List ℕ → List ℕ → List ℕ
+next_sum a b c d slice = zip2 bit_xor (zip2 bit_xor (zip2 bit_xor a (drop 4 b ++ take 4 c)) d) slice
+
+-- the last four sums, without what they add to each other
+abbrev pub without_sums : List ℕ → List ℕ → List ℕ → List ℕ → List ℕ
+without_sums a b c d =
+    a ++ (zip2 bit_xor b a ++ (zip2 bit_xor (zip2 bit_xor c b) (drop 4 none ++ take 4 a) ++ zip2 bit_xor (zip2 bit_xor d c) (drop 4 a ++ take 4 b)))
+
+-- the part of these four slices
+abbrev held : ℕ → List ℕ → List ℕ → List ℕ → List ℕ → ℕ
+held later a b c d =
+    bit_xor (bit_xor (part_of (48 + later) a) (bit_xor (part_of (32 + later) a) (part_of (4 + later) a)))
+    (bit_xor (bit_xor (part_of (32 + later) b) (bit_xor (part_of (16 + later) b) (part_of later (take 4 b))))
+    (bit_xor (bit_xor (part_of (16 + later) c) (part_of later c)) (part_of later d)))
+
+-- the message has the remainder of the four slices
+pub record Holds (message a b c d : List ℕ) : Type 0 where
+  pub long_a : length a ≡ 16
+  pub long_b : length b ≡ 16
+  pub long_c : length c ≡ 16
+  pub long_d : length d ≡ 16
+  pub part : (later : ℕ) → part_of later message ≡ held later a b c d
+
+xor_first : (p16 p q : ℕ) → bit_xor p16 q ≡ bit_xor (bit_xor p16 p) (bit_xor p q)
+xor_first p16 p q = simp xor_sums
+
+pub holds-first : (p q : List ℕ) → length p ≡ 16 → length q ≡ 16 → Holds (p ++ q) none none p (zip2 bit_xor p q)
+holds-first p q long_p long_q = record {
+  long_a = refl;
+  long_b = refl;
+  long_c = long_p;
+  long_d = length-sum p q long_p long_q;
+  part = λ later.
+      let sum : part_of later (zip2 bit_xor p q) ≡ bit_xor (part_of later p) (part_of later q) = simp (slices, long_p, long_q) in
+      rw (part-two later p q long_q, part-none (48 + later) 16, part-none (32 + later) 16, part-none (16 + later) 16, part-none (4 + later) 16, part-none later 4, sum)
+      (xor_first (part_of (16 + later) p) (part_of later p) (part_of later q));
+}
+
+xor_slice : (a48 a20 a0 b48 b32 b16 b4 c32 c16 c0 d16 d0 s : ℕ)
+    → bit_xor (bit_xor (bit_xor (bit_xor a48 (bit_xor a20 a0)) (bit_xor a48 a20)) (bit_xor (bit_xor b48 (bit_xor b32 b16)) (bit_xor (bit_xor c32 c16) d16))) s
+    ≡ bit_xor (bit_xor b48 (bit_xor b32 (bit_xor b16 b4))) (bit_xor (bit_xor c32 (bit_xor c16 c0)) (bit_xor (bit_xor d16 d0) (bit_xor (bit_xor (bit_xor a0 (bit_xor b4 c0)) d0) s)))
+xor_slice a48 a20 a0 b48 b32 b16 b4 c32 c16 c0 d16 d0 s = simp xor_sums
+
+pub holds-slice : (message a b c d slice : List ℕ) → length slice ≡ 16 → Holds message a b c d → Holds (message ++ slice) b c d (next_sum a b c d slice)
+holds-slice message a b c d slice long h =
+    let long_one : length (zip2 bit_xor a (drop 4 b ++ take 4 c)) ≡ 16 = simp (length-sum, length-across, h.long_a, h.long_b, h.long_c) in
+    let long_two : length (zip2 bit_xor (zip2 bit_xor a (drop 4 b ++ take 4 c)) d) ≡ 16 = simp (length-sum, long_one, h.long_d) in
+    record {
+      long_a = h.long_b;
+      long_b = h.long_c;
+      long_c = h.long_d;
+      long_d = simp (length-sum, long_two, long);
+      part = λ later.
+          let sum : part_of later (next_sum a b c d slice) ≡ bit_xor (bit_xor (bit_xor (part_of later a) (bit_xor (part_of (4 + later) (drop 4 b)) (part_of later (take 4 c)))) (part_of later d)) (part_of later slice) =
+          simp (slices, h.long_a, h.long_b, h.long_c, h.long_d, long, long_one, long_two) in
+          let n64 : 48 + (16 + later) ≡ 64 + later = omega arith in
+          let n48 : 32 + (16 + later) ≡ 48 + later = omega arith in
+          let n20 : 4 + (16 + later) ≡ 20 + later = omega arith in
+          let n32 : 16 + (16 + later) ≡ 32 + later = omega arith in
+          let n16 : 12 + (4 + later) ≡ 16 + later = omega arith in
+          let recurs : part_of (64 + later) a ≡ bit_xor (part_of (48 + later) a) (bit_xor (part_of (20 + later) a) (part_of later a)) = part-recurs 2 later a in
+          let cut : part_of (4 + later) b ≡ bit_xor (part_of (12 + (4 + later)) (take 4 b)) (part_of (4 + later) (drop 4 b)) = part-cut 4 12 (4 + later) b refl h.long_b in
+          rw (part-append later message slice, long, h.part (16 + later), sum, n64, n48, n20, n32, recurs, cut, n16)
+          (xor_slice (part_of (48 + later) a) (part_of (20 + later) a) (part_of later a) (part_of (48 + later) b) (part_of (32 + later) b) (part_of (16 + later) (take 4 b)) (part_of (4 + later) (drop 4 b)) (part_of (32 + later) c) (part_of (16 + later) c) (part_of later (take 4 c)) (part_of (16 + later) d) (part_of later d) (part_of later slice));
+    }
+
+xor_four : (a48 a32 a16 a4 b32 b16 b0 c16 c0 d0 : ℕ)
+    → bit_xor a48 (bit_xor (bit_xor b32 a32) (bit_xor (bit_xor (bit_xor c16 b16) a16) (bit_xor (bit_xor d0 c0) (bit_xor a4 b0))))
+    ≡ bit_xor (bit_xor a48 (bit_xor a32 (bit_xor a16 a4))) (bit_xor (bit_xor b32 (bit_xor b16 b0)) (bit_xor (bit_xor c16 c0) d0))
+xor_four a48 a32 a16 a4 b32 b16 b0 c16 c0 d0 = simp xor_sums
+
+pub holds-four : (message a b c d : List ℕ) → Holds message a b c d → part_of 0 (without_sums a b c d) ≡ part_of 0 message
+holds-four message a b c d h =
+    let long_ba = length-sum b a h.long_b h.long_a in
+    let long_cb = length-sum c b h.long_c h.long_b in
+    let long_dc = length-sum d c h.long_d h.long_c in
+    let third = zip2 bit_xor (zip2 bit_xor c b) (drop 4 none ++ take 4 a) in
+    let fourth = zip2 bit_xor (zip2 bit_xor d c) (drop 4 a ++ take 4 b) in
+    let long_third : length third ≡ 16 = simp (length-sum, length-across, long_cb, h.long_a) in
+    let long_fourth : length fourth ≡ 16 = simp (length-sum, length-across, long_dc, h.long_a, h.long_b) in
+    let second_is : part_of 32 (zip2 bit_xor b a) ≡ bit_xor (part_of 32 b) (part_of 32 a) = simp (slices, h.long_a, h.long_b) in
+    let third_is : part_of 16 third ≡ bit_xor (bit_xor (part_of 16 c) (part_of 16 b)) (part_of 16 (take 4 a)) = simp (slices, h.long_a, h.long_b, h.long_c, long_cb) in
+    let fourth_is : part_of 0 fourth ≡ bit_xor (bit_xor (part_of 0 d) (part_of 0 c)) (bit_xor (part_of 4 (drop 4 a)) (part_of 0 (take 4 b))) = simp (slices, h.long_a, h.long_b, h.long_c, h.long_d, long_dc) in
+    let cut : part_of 4 a ≡ bit_xor (part_of 16 (take 4 a)) (part_of 4 (drop 4 a)) = part-cut 4 12 4 a refl h.long_a in
+    rw (h.part 0, part-four 0 a (zip2 bit_xor b a) third fourth long_ba long_third long_fourth, second_is, third_is, fourth_is, cut)
+    (xor_four (part_of 48 a) (part_of 32 a) (part_of 16 (take 4 a)) (part_of 4 (drop 4 a)) (part_of 32 b) (part_of 16 b) (part_of 0 (take 4 b)) (part_of 16 c) (part_of 0 c) (part_of 0 d))
+
+-- the slices of a message
+
+pub concat_more : (slices : List (List ℕ)) (i : ℕ) → i < length slices → concat (take (i + 1) slices) ≡ concat (take i slices) ++ get_or slices i []
+concat_more slices i h =
+    ap concat (take_more slices i [] h) ∙ concat-append (take i slices) (get_or slices i [] ∷ []) ∙ ap (λ rest. concat (take i slices) ++ rest) (append-nil (get_or slices i []))
+
+pub chunks-joined : (size count : ℕ) (octets : List ℕ) → length octets ≡ count * size → concat (first_chunks size count octets) ≡ octets
+chunks-joined size zero [] e = refl
+chunks-joined size zero (octet ∷ octets) e = absurd (omega arith)
+chunks-joined size (suc count) octets e =
+    let more : suc count * size ≡ size + count * size = omega arith in
+    ap (λ rest. take size octets ++ rest) (chunks-joined size count (drop size octets) (omega (arith, length-drop size octets))) ∙ take-append-drop size octets
+
+pub length-chunk : (size count i : ℕ) (octets : List ℕ) → length octets ≡ count * size → i < count → length (get_or (first_chunks size count octets) i []) ≡ size
+length-chunk size zero i octets e h = absurd (omega arith)
+length-chunk size (suc count) zero octets e h =
+    let more : suc count * size ≡ size + count * size = omega arith in
+    omega (arith, length-take size octets)
+length-chunk size (suc count) (suc i) octets e h =
+    let more : suc count * size ≡ size + count * size = omega arith in
+    length-chunk size count i (drop size octets) (omega (arith, length-drop size octets)) (omega arith)
+
+pub first_two : (n : ℕ) (sixteen : List ℕ) → n < 16
+    → (let all = replicate 30 0 ++ 0x84 ∷ (0xCF ∷ sixteen) in
+    take 16 (take (48 - n) (drop n all)) ++ take 16 (take (48 - (n + 16)) (drop (n + 16) all)) ≡ replicate (30 - n) 0 ++ 0x84 ∷ (0xCF ∷ take n sixteen))
+first_two n sixteen h =
+    let back = 0x84 ∷ (0xCF ∷ sixteen) in
+    let all = replicate 30 0 ++ back in
+    let zeros : List ℕ = replicate (30 - n) 0 in
+    let long : length zeros + suc (suc n) ≡ 32 = omega (arith, length-replicate {A = ℕ} (30 - n) 0) in
+    rw (take-take 16 (48 - n) (drop n all) (omega arith), take-take 16 (48 - (n + 16)) (drop (n + 16) all) (omega arith), ← drop-drop 16 n all)
+    (sym (take-add 16 16 (drop n all))
+    ∙ ap (take 32) (drop-append-le n (replicate 30 0) back (omega arith) ∙ ap (λ l. l ++ back) (drop-replicate n 30 0))
+    ∙ ap (λ k. take k (zeros ++ back)) (sym long)
+    ∙ take-append-add zeros back (suc (suc n)))
+
+-- the padded message has the field for its remainder
+pub padded_part : (octets : List ℕ) → part_of 0 (first_two_of octets ++ drop (length octets % 16) octets) ≡ fecf_of octets
+padded_part octets =
+    let n = length octets % 16 in
+    ap (part_of 0) (append_assoc (replicate (30 - n) 0) (0x84 ∷ (0xCF ∷ take n octets)) (drop n octets))
+    ∙ part-zeros 0 (30 - n) (0x84 ∷ (0xCF ∷ (take n octets ++ drop n octets)))
+    ∙ ap (λ l. part_of 0 (0x84 ∷ (0xCF ∷ l))) (take-append-drop n octets)
+    ∙ sym (field-part octets)

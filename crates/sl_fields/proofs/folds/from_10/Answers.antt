@@ -1,0 +1,6 @@
+use Rattle.std.proofs.Common.{arith}
+use Rattle.sl_fields.proofs.FecfSlices.{picked}
+use Rattle.sl_fields.proofs.folds.from_10.Goals as goal
+
+pub returns : goal.returns
+returns c = picked 10 c.args.left c.args.right (omega arith) c.fits-left.0 c.fits-right.0

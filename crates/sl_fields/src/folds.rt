@@ -1,0 +1,157 @@
+//! Octets of a message that are added to later ones, until one slice with the same remainder is left.
+//! A slice is sixteen octets, here as one vector.
+//!
+//! The generator is x^16 + x^12 + x^5 + 1, and all sums are without carries, so a square is the sum
+//! of the squares. Thus x^16 has the remainder of x^12 + x^5 + 1, x^32 that of x^24 + x^10 + 1, and
+//! so on. An octet is eight bits: where it is added to the octets 4, 11 and 16 places later, a zero
+//! may stand in its own place. The same holds for 8, 22 and 32 places, and for 16, 44 and 64.
+ghost use Rattle.std.specs.Prelude.{◌≡◌, ◌≤◌, ◌++◌, length, take, drop};
+ghost use Rattle.sl_fields.specs.Fecf.{fecf_of};
+ghost use Rattle.sl_fields.specs.FecfFolds.{part_of, first_two_of};
+
+use std::simd::prelude::*;
+
+/// One slice whose remainder is the frame error control field of these octets.
+#[inline(always)]
+pub(crate) fn folded(octets: &[u8]) -> u8x16
+    requires { 16 ≤ length octets.now }
+    ensures { part_of 0 result ≡ fecf_of octets.now }
+{
+    let (first, second, third, fourth) = four_of_all(octets);
+    let (third, fourth) = two_of_four(first, second, third, fourth);
+    one_of_two(third, fourth)
+}
+
+// Four slices with the remainder of all: each slice is added to the octets 16, 44 and 64 places
+// later. So a sum takes in the last sum, the one four slices before, and across two between these.
+#[inline(always)]
+fn four_of_all(octets: &[u8]) -> (u8x16, u8x16, u8x16, u8x16)
+    requires { 16 ≤ length octets.now }
+    ensures { part_of 0 (result.0 ++ (result.1 ++ (result.2 ++ result.3))) ≡ fecf_of octets.now }
+{
+    let zeros = u8x16::splat(0);
+    let (mut oldest, mut older) = (zeros, zeros);
+    let (mut newer, second) = first_two(octets);
+    let mut newest = newer ^ second;
+    let (_, slices) = octets.as_rchunks::<16>();
+    for slice in slices {
+        let sum = oldest ^ from_4(older, newer) ^ newest ^ u8x16::from_array(*slice);
+        oldest = older;
+        older = newer;
+        newer = newest;
+        newest = sum;
+    }
+    // The last four sums stay in their places, so what they add to each other is taken off again.
+    (
+        oldest,
+        older ^ oldest,
+        newer ^ older ^ from_4(zeros, oldest),
+        newest ^ newer ^ from_4(oldest, older),
+    )
+}
+
+// The octets before the first whole slice, where the last slice ends with the last octet: at the end
+// of two slices, behind zeros and the octets 84 CF. Zeros in front change no remainder. A register of
+// zeros takes in 84 CF, and then holds the preset.
+#[inline(always)]
+fn first_two(octets: &[u8]) -> (u8x16, u8x16)
+    requires { 16 ≤ length octets.now }
+    ensures { result.0 ++ result.1 ≡ first_two_of octets.now }
+{
+    let mut padded = [0; 48];
+    padded[30] = 0x84;
+    padded[31] = 0xCF;
+    padded[32..].copy_from_slice(&octets[..16]);
+    let begin = octets.len() % 16;
+    (
+        u8x16::from_slice(&padded[begin..]),
+        u8x16::from_slice(&padded[begin + 16..]),
+    )
+}
+
+// Two slices with the remainder of these four: the octets of the first two are added to those 8, 22
+// and 32 places later, from the front on.
+#[inline(always)]
+fn two_of_four(first: u8x16, second: u8x16, third: u8x16, fourth: u8x16) -> (u8x16, u8x16)
+    ensures { part_of 0 (result.0 ++ result.1)
+        ≡ part_of 0 (first ++ (second ++ (third ++ fourth))) }
+{
+    let zeros = u8x16::splat(0);
+    let first = first ^ from_8(zeros, first);
+    let second = second ^ from_8(first, zeros) ^ from_10(zeros, first);
+    let second = second ^ from_8(zeros, second);
+    let third = third ^ from_8(second, zeros) ^ from_10(first, second) ^ first;
+    let fourth = fourth ^ from_10(second, zeros) ^ second;
+    (third, fourth)
+}
+
+// One slice with the remainder of these two: the octets of the first are added to those 4, 11 and 16
+// places later, from the front on.
+#[inline(always)]
+fn one_of_two(first: u8x16, second: u8x16) -> u8x16
+    ensures { part_of 0 result ≡ part_of 0 (first ++ second) }
+{
+    let zeros = u8x16::splat(0);
+    let four_later = first ^ from_12(zeros, first);
+    let first = four_later ^ from_8(zeros, four_later) ^ from_5(zeros, first);
+    second ^ first ^ from_5(first, zeros) ^ from_12(first, zeros)
+}
+
+// Sixteen of these octets, from the fifth on.
+#[inline(always)]
+fn from_4(left: u8x16, right: u8x16) -> u8x16
+    ensures { result ≡ drop 4 left ++ take 4 right }
+{
+    left.shuffle(
+        right,
+        [4, 5, 6, 7, 8, 9, 10, 11, 12, 13, 14, 15, 16, 17, 18, 19],
+    )
+}
+
+// Sixteen of these octets, from the sixth on.
+#[inline(always)]
+fn from_5(left: u8x16, right: u8x16) -> u8x16
+    ensures { result ≡ drop 5 left ++ take 5 right }
+{
+    left.shuffle(
+        right,
+        [5, 6, 7, 8, 9, 10, 11, 12, 13, 14, 15, 16, 17, 18, 19, 20],
+    )
+}
+
+// Sixteen of these octets, from the ninth on.
+#[inline(always)]
+fn from_8(left: u8x16, right: u8x16) -> u8x16
+    ensures { result ≡ drop 8 left ++ take 8 right }
+{
+    left.shuffle(
+        right,
+        [8, 9, 10, 11, 12, 13, 14, 15, 16, 17, 18, 19, 20, 21, 22, 23],
+    )
+}
+
+// Sixteen of these octets, from the eleventh on.
+#[inline(always)]
+fn from_10(left: u8x16, right: u8x16) -> u8x16
+    ensures { result ≡ drop 10 left ++ take 10 right }
+{
+    left.shuffle(
+        right,
+        [
+            10, 11, 12, 13, 14, 15, 16, 17, 18, 19, 20, 21, 22, 23, 24, 25,
+        ],
+    )
+}
+
+// Sixteen of these octets, from the thirteenth on.
+#[inline(always)]
+fn from_12(left: u8x16, right: u8x16) -> u8x16
+    ensures { result ≡ drop 12 left ++ take 12 right }
+{
+    left.shuffle(
+        right,
+        [
+            12, 13, 14, 15, 16, 17, 18, 19, 20, 21, 22, 23, 24, 25, 26, 27,
+        ],
+    )
+}

@@ -1,10 +1,10 @@
 -- A message whose slices are added to later ones. The last four sums are kept: each is a slice of the message with what
 -- the earlier sums add to it.
-use Rattle.std.proofs.Common.{◌≡◌, ℕ, zero, suc, ◌+◌, ◌-◌, ◌*◌, ◌%◌, ◌^◌, ◌<◌, List, [], ◌∷◌, ◌++◌, length, take, drop, get_or, replicate, refl, sym, ◌∙◌, ap, arith, bit_xor, append-nil, append_assoc}
+use Rattle.std.proofs.Common.{◌≡◌, ℕ, zero, suc, ◌+◌, ◌-◌, ◌*◌, ◌/◌, ◌%◌, ◌^◌, ◌<◌, ◌≤◌, List, [], ◌∷◌, ◌++◌, length, take, drop, get_or, replicate, refl, sym, ◌∙◌, ap, arith, bit_xor, append-nil, append_assoc}
 use Rattle.std.specs.List.{concat}
 use Rattle.std.specs.Simd.{first_chunks}
 use Rattle.std.specs.Simd.Lanes.{zip2}
-use Rattle.std.proofs.lemmas.List.{length-take, length-drop, length-replicate, take-append-drop, take-take, take_more, drop-drop, drop-append-le, drop-replicate}
+use Rattle.std.proofs.lemmas.List.{length-take, length-drop, length-replicate, take-append-drop, take-take, take_all, take_more, drop-drop, drop-append-le, drop-replicate, get_or-take, get_or-drop}
 use Rattle.std.proofs.lemmas.List.Folds.{concat-append}
 use Rattle.std.proofs.Math.Seq.{take-add, take-append-add}
 use Rattle.sl_fields.specs.Fecf.{fecf_of}
@@ -102,28 +102,6 @@ holds-four message a b c d h =
     rw (h.part 0, part-four 0 a (zip2 bit_xor b a) third fourth long_ba long_third long_fourth, second_is, third_is, fourth_is, cut)
     (xor_four (part_of 48 a) (part_of 32 a) (part_of 16 (take 4 a)) (part_of 4 (drop 4 a)) (part_of 32 b) (part_of 16 b) (part_of 0 (take 4 b)) (part_of 16 c) (part_of 0 c) (part_of 0 d))
 
--- the slices of a message
-
-pub concat_more : (slices : List (List ℕ)) (i : ℕ) → i < length slices → concat (take (i + 1) slices) ≡ concat (take i slices) ++ get_or slices i []
-concat_more slices i h =
-    ap concat (take_more slices i [] h) ∙ concat-append (take i slices) (get_or slices i [] ∷ []) ∙ ap (λ rest. concat (take i slices) ++ rest) (append-nil (get_or slices i []))
-
-pub chunks-joined : (size count : ℕ) (octets : List ℕ) → length octets ≡ count * size → concat (first_chunks size count octets) ≡ octets
-chunks-joined size zero [] e = refl
-chunks-joined size zero (octet ∷ octets) e = absurd (omega arith)
-chunks-joined size (suc count) octets e =
-    let more : suc count * size ≡ size + count * size = omega arith in
-    ap (λ rest. take size octets ++ rest) (chunks-joined size count (drop size octets) (omega (arith, length-drop size octets))) ∙ take-append-drop size octets
-
-pub length-chunk : (size count i : ℕ) (octets : List ℕ) → length octets ≡ count * size → i < count → length (get_or (first_chunks size count octets) i []) ≡ size
-length-chunk size zero i octets e h = absurd (omega arith)
-length-chunk size (suc count) zero octets e h =
-    let more : suc count * size ≡ size + count * size = omega arith in
-    omega (arith, length-take size octets)
-length-chunk size (suc count) (suc i) octets e h =
-    let more : suc count * size ≡ size + count * size = omega arith in
-    length-chunk size count i (drop size octets) (omega (arith, length-drop size octets)) (omega arith)
-
 pub first_two : (n : ℕ) (sixteen : List ℕ) → n < 16
     → (let all = replicate 30 0 ++ 0x84 ∷ (0xCF ∷ sixteen) in
     take 16 (take (48 - n) (drop n all)) ++ take 16 (take (48 - (n + 16)) (drop (n + 16) all)) ≡ replicate (30 - n) 0 ++ 0x84 ∷ (0xCF ∷ take n sixteen))
@@ -138,11 +116,81 @@ first_two n sixteen h =
     ∙ ap (λ k. take k (zeros ++ back)) (sym long)
     ∙ take-append-add zeros back (suc (suc n)))
 
--- the padded message has the field for its remainder
-pub padded_part : (octets : List ℕ) → part_of 0 (first_two_of octets ++ drop (length octets % 16) octets) ≡ fecf_of octets
-padded_part octets =
+-- ---- the slices of a message, one after another
+
+abbrev pub slices_of : List ℕ → List (List ℕ)
+slices_of octets = first_chunks 16 (length octets / 16) (drop (length octets % 16) octets)
+
+-- the padded message as far as this many slices
+abbrev pub up_to : List ℕ → ℕ → List ℕ
+up_to octets count = first_two_of octets ++ concat (take count (slices_of octets))
+
+length-chunks : (size count : ℕ) (octets : List ℕ) → length (first_chunks size count octets) ≡ count
+length-chunks size zero octets = refl
+length-chunks size (suc count) octets = ap suc (length-chunks size count (drop size octets))
+
+length-chunk : (size count i : ℕ) (octets : List ℕ) → length octets ≡ count * size → i < count → length (get_or (first_chunks size count octets) i []) ≡ size
+length-chunk size zero i octets e h = absurd (omega arith)
+length-chunk size (suc count) zero octets e h =
+    let more : suc count * size ≡ size + count * size = omega arith in
+    omega (arith, length-take size octets)
+length-chunk size (suc count) (suc i) octets e h =
+    let more : suc count * size ≡ size + count * size = omega arith in
+    length-chunk size count i (drop size octets) (omega (arith, length-drop size octets)) (omega arith)
+
+chunks-joined : (size count : ℕ) (octets : List ℕ) → length octets ≡ count * size → concat (first_chunks size count octets) ≡ octets
+chunks-joined size zero [] e = refl
+chunks-joined size zero (octet ∷ octets) e = absurd (omega arith)
+chunks-joined size (suc count) octets e =
+    let more : suc count * size ≡ size + count * size = omega arith in
+    ap (λ rest. take size octets ++ rest) (chunks-joined size count (drop size octets) (omega (arith, length-drop size octets))) ∙ take-append-drop size octets
+
+length-sliced : (octets : List ℕ) → length (drop (length octets % 16) octets) ≡ length octets / 16 * 16
+length-sliced octets = omega (arith, length-drop (length octets % 16) octets)
+
+pub holds-more : (octets : List ℕ) (i j : ℕ) (a b c d slice : List ℕ) → j ≡ i + 1 → i < length octets / 16 → get_or (slices_of octets) i [] ≡ slice → Holds (up_to octets i) a b c d → Holds (up_to octets j) b c d (next_sum a b c d slice)
+holds-more octets i j a b c d slice next h is so_far =
+    let slices = slices_of octets in
+    let count = length octets / 16 in
+    let long : length slice ≡ 16 = ap length (sym is) ∙ length-chunk 16 count i (drop (length octets % 16) octets) (length-sliced octets) h in
+    let more : concat (take (i + 1) slices) ≡ concat (take i slices) ++ slice = ap concat (take_more slices i [] (omega (arith, length-chunks 16 count (drop (length octets % 16) octets)))) ∙ concat-append (take i slices) (get_or slices i [] ∷ []) ∙ ap (λ rest. concat (take i slices) ++ rest) (append-nil (get_or slices i []) ∙ is) in
+    rw (next, more, ← append_assoc (first_two_of octets) (concat (take i slices)) slice) (holds-slice (up_to octets i) a b c d slice long so_far)
+
+get_or-chunk : (size count i k : ℕ) (slices : List (List ℕ)) → i < count → k < size → get_or slices (i * size + k) [] ≡ get_or (get_or (first_chunks size count slices) i []) k []
+get_or-chunk size zero i k slices h below = absurd (omega arith)
+get_or-chunk size (suc count) zero k slices h below = ap (λ n. get_or slices n []) (omega arith) ∙ sym (get_or-take size slices k [] below)
+get_or-chunk size (suc count) (suc i) k slices h below =
+    let more : suc i * size + k ≡ size + (i * size + k) = omega arith in
+    ap (λ n. get_or slices n []) more ∙ sym (get_or-drop size slices (i * size + k) []) ∙ get_or-chunk size count i k (drop size slices) (omega arith) below
+
+-- four slices at once
+pub holds-fours : (octets : List ℕ) (i : ℕ) (a b c d : List ℕ) (fours : List (List (List ℕ))) → i < length octets / 16 / 4 → fours ≡ first_chunks 4 (length octets / 16 / 4) (slices_of octets) → Holds (up_to octets (i * 4)) a b c d
+    → (let four = get_or fours i [] in
+    let e = next_sum a b c d (get_or four 0 []) in
+    let f = next_sum b c d e (get_or four 1 []) in
+    let g = next_sum c d e f (get_or four 2 []) in
+    Holds (up_to octets ((i + 1) * 4)) e f g (next_sum d e f g (get_or four 3 [])))
+holds-fours octets i a b c d fours h is so_far =
+    let four = get_or fours i [] in
+    let count = length octets / 16 / 4 in
+    let at : (k : ℕ) → k < 4 → get_or (slices_of octets) (i * 4 + k) [] ≡ get_or four k [] = λ k below. get_or-chunk 4 count i k (slices_of octets) h below ∙ ap (λ all. get_or (get_or all i []) k []) (sym is) in
+    let e = next_sum a b c d (get_or four 0 []) in
+    let f = next_sum b c d e (get_or four 1 []) in
+    let g = next_sum c d e f (get_or four 2 []) in
+    let start : i * 4 ≡ i * 4 + 0 = omega arith in
+    let one = holds-more octets (i * 4 + 0) (i * 4 + 1) a b c d (get_or four 0 []) (omega arith) (omega arith) (at 0 (omega arith)) (rw (← start) so_far) in
+    let two = holds-more octets (i * 4 + 1) (i * 4 + 2) b c d e (get_or four 1 []) (omega arith) (omega arith) (at 1 (omega arith)) one in
+    let three = holds-more octets (i * 4 + 2) (i * 4 + 3) c d e f (get_or four 2 []) (omega arith) (omega arith) (at 2 (omega arith)) two in
+    holds-more octets (i * 4 + 3) ((i + 1) * 4) d e f g (get_or four 3 []) (omega arith) (omega arith) (at 3 (omega arith)) three
+
+-- the whole padded message has the field for its remainder
+pub up_to-all : (octets : List ℕ) (count : ℕ) → length octets / 16 ≤ count → part_of 0 (up_to octets count) ≡ fecf_of octets
+up_to-all octets count all =
     let n = length octets % 16 in
-    ap (part_of 0) (append_assoc (replicate (30 - n) 0) (0x84 ∷ (0xCF ∷ take n octets)) (drop n octets))
+    let slices = slices_of octets in
+    let whole : concat (take count slices) ≡ drop n octets = ap concat (take_all count slices (omega (arith, length-chunks 16 (length octets / 16) (drop n octets)))) ∙ chunks-joined 16 (length octets / 16) (drop n octets) (length-sliced octets) in
+    ap (λ l. part_of 0 (first_two_of octets ++ l)) whole
+    ∙ ap (part_of 0) (append_assoc (replicate (30 - n) 0) (0x84 ∷ (0xCF ∷ take n octets)) (drop n octets))
     ∙ part-zeros 0 (30 - n) (0x84 ∷ (0xCF ∷ (take n octets ++ drop n octets)))
     ∙ ap (λ l. part_of 0 (0x84 ∷ (0xCF ∷ l))) (take-append-drop n octets)
     ∙ sym (field-part octets)

@@ -29,12 +29,19 @@ fn four_of_all(octets: &[u8]) -> (u8x16, u8x16, u8x16, u8x16)
     requires { 16 ≤ length octets.now }
     ensures { part_of 0 (result.0 ++ (result.1 ++ (result.2 ++ result.3))) ≡ fecf_of octets.now }
 {
+    let (_, slices) = octets.as_rchunks::<16>();
+    let (fours, rest) = slices.as_chunks::<4>();
     let zeros = u8x16::splat(0);
     let (mut oldest, mut older) = (zeros, zeros);
     let (mut newer, second) = first_two(octets);
     let mut newest = newer ^ second;
-    let (_, slices) = octets.as_rchunks::<16>();
-    for slice in slices {
+    for four in fours {
+        oldest = oldest ^ from_4(older, newer) ^ newest ^ u8x16::from_array(four[0]);
+        older = older ^ from_4(newer, newest) ^ oldest ^ u8x16::from_array(four[1]);
+        newer = newer ^ from_4(newest, oldest) ^ older ^ u8x16::from_array(four[2]);
+        newest = newest ^ from_4(oldest, older) ^ newer ^ u8x16::from_array(four[3]);
+    }
+    for slice in rest {
         let sum = oldest ^ from_4(older, newer) ^ newest ^ u8x16::from_array(*slice);
         oldest = older;
         older = newer;

@@ -1,15 +1,14 @@
 -- What octets of a message add to its remainder, where other octets come after them.
-use Rattle.std.proofs.Common.{◌≡◌, ℕ, zero, suc, ◌+◌, ◌*◌, ◌/◌, ◌%◌, ◌^◌, ◌<◌, ◌==◌, Bool, true, false, List, [], ◌∷◌, ◌++◌, length, replicate, refl, sym, ◌∙◌, ap, arith, bit_xor, append-nil, append_assoc}
+use Rattle.std.proofs.Common.{◌≡◌, ℕ, zero, suc, ◌+◌, ◌*◌, ◌/◌, ◌%◌, ◌^◌, ◌<◌, ◌==◌, Bool, false, List, [], ◌∷◌, ◌++◌, length, replicate, refl, sym, ◌∙◌, ap, arith, bit_xor, append-nil, append_assoc}
 use Rattle.std.specs.Simd.Lanes.{zip2}
 use Rattle.std.proofs.lemmas.List.{length-append, length-replicate, replicate-append-replicate}
 use Rattle.std.proofs.lemmas.Nat.{xor_shr, xor_mod}
 use Rattle.std.proofs.lemmas.Grind.{flat_map-append}
-use Rattle.sl_fields.specs.Fecf.{octet_bits, bits_of, bits_number, plus_bit, plus_word, fecf_of, register_of}
+use Rattle.sl_fields.specs.Fecf.{octet_bits, bits_of, bits_number, plus_bit, plus_word, fecf_of}
 use Rattle.sl_fields.specs.FecfFolds.{part_of}
 use Rattle.sl_fields.proofs.Division.{ran, zeros, ones, ran-append, length-ran, plus_word-zeros, bits_number-plus, fecf_of-register, register_of-ran, fecf_of-append}
 use Rattle.sl_fields.proofs.FecfSums.{plus_word-false, plus_word-append, ran-plus}
 use Rattle.sl_fields.proofs.FecfWordLemmas.{remainder-left}
-use Rattle.sl_fields.proofs.Xor.{xor_none}
 
 -- ---- bits, and this many zeros after them
 

@@ -1,14 +1,14 @@
 -- The generator's terms are x^16, x^12, x^5 and 1. So what bits leave with sixteen zeros after them is the sum of what
 -- they leave with twelve zeros after them, with five and with none. By squaring, the same holds for a power of two times
 -- these numbers.
-use Rattle.std.proofs.Common.{◌≡◌, ℕ, zero, suc, ◌+◌, ◌-◌, ◌*◌, ◌^◌, ◌≤◌, Bool, true, false, List, [], ◌∷◌, ◌++◌, length, replicate, refl, sym, ◌∙◌, ap, subst, arith, bit_xor}
+use Rattle.std.proofs.Common.{◌≡◌, ℕ, zero, suc, ◌+◌, ◌-◌, ◌*◌, ◌^◌, Bool, true, false, List, [], ◌∷◌, ◌++◌, length, replicate, refl, sym, ◌∙◌, ap, subst, arith, bit_xor, append_assoc}
 use Rattle.std.specs.Simd.Lanes.{zip2}
 use Rattle.std.proofs.lemmas.List.{length-append, length-replicate}
 use Rattle.std.proofs.Math.Nat.{pow-suc, mul_assoc, mul_comm}
-use Rattle.sl_fields.specs.Fecf.{bits_of, generator, plus_word, fecf_of}
-use Rattle.sl_fields.specs.FecfFolds.{part_of, plus_octets, with_run_at, RunsMove}
+use Rattle.sl_fields.specs.Fecf.{bits_of, plus_word, fecf_of}
+use Rattle.sl_fields.specs.FecfFolds.{part_of, plus_octets, with_run_at, RunsMayMove}
 use Rattle.sl_fields.proofs.FecfParts.{left, left-nil, left-append, left-plus, left-more, part-left, part-zeros, part-append, part-none, part-plus, field-part}
-use Rattle.sl_fields.proofs.Xor.{xor_left, xor_none, xor_sums, xor_moved, xor_threes}
+use Rattle.sl_fields.proofs.Xor.{xor_none, xor_sums, xor_moved, xor_threes}
 
 -- Numbers of which each is the sum of three earlier ones: 4, 11 and 16 places before, or a multiple of these.
 pub record Recurs (times : ℕ) (f : ℕ → ℕ) : Type 0 where
@@ -111,9 +111,9 @@ part-with_run place after run octets e =
 xor_run : (a b c d : ℕ) → bit_xor a (bit_xor b (bit_xor c d)) ≡ bit_xor (bit_xor a (bit_xor b c)) d
 xor_run a b c d = simp xor_sums
 
-moved : (power after : ℕ) (before run rest : List ℕ) → 16 * 2 ^ power + after ≡ length rest → part_of 0 (before ++ (run ++ rest)) ≡ part_of 0 (before ++ with_run_at (4 * 2 ^ power) run (with_run_at (11 * 2 ^ power) run (with_run_at (16 * 2 ^ power) run (replicate (length run) 0 ++ rest))))
-moved power after before run rest e =
-    let n = 2 ^ power in
+moved : (n power after : ℕ) (before run rest : List ℕ) → n ≡ 2 ^ power → 16 * n + after ≡ length rest → part_of 0 (before ++ (run ++ rest)) ≡ part_of 0 (before ++ with_run_at (4 * n) run (with_run_at (11 * n) run (with_run_at (16 * n) run (replicate (length run) 0 ++ rest))))
+moved n power after before run rest is e =
+    let recurs : part_of (16 * n + after) run ≡ bit_xor (part_of (12 * n + after) run) (bit_xor (part_of (5 * n + after) run) (part_of after run)) = rw is (part-recurs power after run) in
     let without = replicate (length run) 0 ++ rest in
     let one = with_run_at (16 * n) run without in
     let two = with_run_at (11 * n) run one in
@@ -125,7 +125,7 @@ moved power after before run rest e =
     let part : part_of 0 (run ++ rest) ≡ part_of 0 three =
     part-append 0 run rest
     ∙ ap (λ k. bit_xor (part_of k run) (part_of 0 rest)) (omega arith)
-    ∙ ap (λ k. bit_xor k (part_of 0 rest)) (part-recurs power after run)
+    ∙ ap (λ k. bit_xor k (part_of 0 rest)) recurs
     ∙ sym (part-with_run (4 * n) (12 * n + after) run two (omega arith)
     ∙ ap (bit_xor (part_of (12 * n + after) run)) (part-with_run (11 * n) (5 * n + after) run one (omega arith)
     ∙ ap (bit_xor (part_of (5 * n + after) run)) (part-with_run (16 * n) after run without (omega arith)
@@ -136,9 +136,10 @@ moved power after before run rest e =
     ∙ ap (bit_xor (part_of (length three + 0) before)) part
     ∙ sym (part-append 0 before three)
 
-pub runs_move : RunsMove
-runs_move power before run rest within =
-    let after = length rest - 16 * 2 ^ power in
-    field-part (before ++ (run ++ rest))
-    ∙ moved power after (0x84 ∷ (0xCF ∷ before)) run rest (omega arith)
-    ∙ sym (field-part (before ++ with_run_at (4 * 2 ^ power) run (with_run_at (11 * 2 ^ power) run (with_run_at (16 * 2 ^ power) run (replicate (length run) 0 ++ rest)))))
+pub runs_may_move : RunsMayMove
+runs_may_move n power before run rest is within =
+    let after = length rest - 16 * n in
+    ap fecf_of (append_assoc before run rest)
+    ∙ field-part (before ++ (run ++ rest))
+    ∙ moved n power after (0x84 ∷ (0xCF ∷ before)) run rest is (omega arith)
+    ∙ sym (field-part (before ++ with_run_at (4 * n) run (with_run_at (11 * n) run (with_run_at (16 * n) run (replicate (length run) 0 ++ rest)))))

@@ -1,6 +1,6 @@
 //! The laws on this crate's definitions. Each function is empty, and nothing calls it. Its clauses
 //! are the laws, and the check of the function proves them.
-ghost use Rattle.sl_fields.specs.FecfFolds.{RunsMove};
+ghost use Rattle.sl_fields.specs.FecfFolds.{RunsMayMove};
 ghost use Rattle.sl_fields.specs.FecfWords.{AreWords};
 ghost use Rattle.sl_fields.specs.Remainder.{DivisionFindsRemainder, RemainderIsOnlyOne};
 ghost use Rattle.sl_fields.specs.Remainder.{FieldIsRemainder, WordIsRemainder};
@@ -34,6 +34,6 @@ pub fn words_are_remainders()
 /// to the octets 4, 11 and 16 places later, or 8, 22 and 32, or 16, 44 and 64, or another power of two
 /// times 4, 11 and 16. All three places of the run lie within the message. The frame error control
 /// field is the same, whatever stands before the run and behind it.
-pub fn runs_move()
-    ensures { RunsMove }
+pub fn runs_may_move()
+    ensures { RunsMayMove }
 {}

@@ -7,8 +7,8 @@ preset : 65535 ≡ fecf_of []
 unfolding fecf_of register_of
 preset = refl
 
-pub returns-then-octets-lt32 : goal.returns-then-octets-lt32
-returns-then-octets-lt32 c = c.number.ensures ∙ c.after_octets.ensures [] preset
+pub returns-then-octets-lt-LEAST_FOLDED : goal.returns-then-octets-lt-LEAST_FOLDED
+returns-then-octets-lt-LEAST_FOLDED c = c.number.ensures ∙ c.after_octets.ensures [] preset
 
 pub returns : goal.returns
 returns c =

@@ -1,4 +1,4 @@
-use Rattle.std.proofs.Common.{◌≡◌, ◌-◌, ◌%◌, ◌<◌, [], ◌∷◌, ◌++◌, length, take, replicate, ap, ◌∙◌, arith, append-nil}
+use Rattle.std.proofs.Common.{◌-◌, ◌%◌, ◌<◌, [], ◌∷◌, ◌++◌, length, take, replicate, ap, ◌∙◌, arith, append-nil}
 use Rattle.std.proofs.lemmas.List.{take-take}
 use Rattle.sl_fields.proofs.FecfFolds.{first_two}
 use Rattle.sl_fields.proofs.folds.first_two.Goals as goal

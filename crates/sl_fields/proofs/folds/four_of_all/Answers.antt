@@ -1,4 +1,4 @@
-use Rattle.std.proofs.Common.{◌≡◌, ◌+◌, ◌*◌, ◌/◌, ◌%◌, ◌≤◌, [], length, drop, get_or, refl, sym, ap, ◌∙◌, arith, append-nil, add-zero}
+use Rattle.std.proofs.Common.{◌≡◌, ◌+◌, ◌*◌, ◌/◌, [], length, drop, get_or, refl, sym, ap, ◌∙◌, arith, append-nil}
 use Rattle.std.specs.Simd.{first_chunks}
 use Rattle.std.proofs.lemmas.List.{get_or-drop}
 use Rattle.sl_fields.specs.FecfFolds.{first_two_of}

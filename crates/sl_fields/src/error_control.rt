@@ -4,8 +4,8 @@
 //! message adds a word to the remainder. The word depends on the value of the octet and on the
 //! number of octets that follow. All sums are without carries.
 //!
-//! The octets of a short message are taken one by one. Those of a longer one are first added to later
-//! octets of the message, until sixteen with the same remainder are left.
+//! The octets of a short message are taken one by one. Those of a longer one are first added to
+//! later octets of the message, until sixteen with the same remainder are left.
 ghost use Rattle.std.specs.Prelude.{◌≡◌, ◌-◌, ◌<◌, ◌≤◌, [], ◌∷◌, length, take, drop};
 ghost use Rattle.sl_fields.specs.Fecf.{fecf_of, fecf_is_good};
 ghost use Rattle.sl_fields.specs.FecfField.{fecf_octets, fecf_len};

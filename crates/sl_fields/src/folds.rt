@@ -1,5 +1,5 @@
-//! Octets of a message that are added to later ones, until one slice with the same remainder is left.
-//! A slice is sixteen octets, here as one vector.
+//! Octets of a message that are added to later ones, until one slice with the same remainder is
+//! left. A slice is sixteen octets, here as one vector.
 //!
 //! The generator is x^16 + x^12 + x^5 + 1, and all sums are without carries, so a square is the sum
 //! of the squares. Thus x^16 has the remainder of x^12 + x^5 + 1, x^32 that of x^24 + x^10 + 1, and
@@ -57,9 +57,9 @@ fn four_of_all(octets: &[u8]) -> (u8x16, u8x16, u8x16, u8x16)
     )
 }
 
-// The octets before the first whole slice, where the last slice ends with the last octet: at the end
-// of two slices, behind zeros and the octets 84 CF. Zeros in front change no remainder. A register of
-// zeros takes in 84 CF, and then holds the preset.
+// The octets before the whole slices, of which the last ends with the message: at the end of two
+// slices, behind zeros and the octets 84 CF. Zeros leave a register of zeros as it is, and 84 CF
+// turn it into the preset.
 #[inline(always)]
 fn first_two(octets: &[u8]) -> (u8x16, u8x16)
     requires { 16 ≤ length octets.now }
@@ -92,8 +92,8 @@ fn two_of_four(first: u8x16, second: u8x16, third: u8x16, fourth: u8x16) -> (u8x
     (third, fourth)
 }
 
-// One slice with the remainder of these two: the octets of the first are added to those 4, 11 and 16
-// places later, from the front on.
+// One slice with the remainder of these two: the octets of the first are added to those 4, 11 and
+// 16 places later, from the front on.
 #[inline(always)]
 fn one_of_two(first: u8x16, second: u8x16) -> u8x16
     ensures { part_of 0 result ≡ part_of 0 (first ++ second) }

@@ -30,9 +30,9 @@ pub fn words_are_remainders()
     ensures last { AreWords WORDS }
 {}
 
-/// In a message, zeros may stand in the place of a run of octets if the run is added, without carries,
-/// to the octets 4, 11 and 16 places later, or 8, 22 and 32, or 16, 44 and 64, or another power of two
-/// times 4, 11 and 16. All three places of the run lie within the message. The frame error control
+/// Zeros may stand in the place of a run of octets of a message if the run is added, without
+/// carries, to the octets 4, 11 and 16 places later, or 8, 22 and 32, or 16, 44 and 64, or another
+/// power of two times 4, 11 and 16, where all three lie within the message. The frame error control
 /// field is the same, whatever stands before the run and behind it.
 pub fn runs_may_move()
     ensures { RunsMayMove }

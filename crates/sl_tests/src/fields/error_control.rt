@@ -111,34 +111,34 @@ fn one_octet_gives_its_word(rt: HostRuntime) {
     }
 }
 
-// A slice of sixteen octets that begins with `FFFF` cancels the preset, and one octet is added to it at a place.
-fn slice_with(octet: u8, place: usize) -> [u8; 16] {
-    let mut slice = [0; 16];
-    slice[0] = 0xFF;
-    slice[1] = 0xFF;
-    if let Some(place) = slice.get_mut(place) {
+// Three slices of sixteen octets that begin with `FFFF` cancel the preset, and one octet is added to them at a place.
+fn slices_with(octet: u8, place: usize) -> [u8; 48] {
+    let mut slices = [0; 48];
+    slices[0] = 0xFF;
+    slices[1] = 0xFF;
+    if let Some(place) = slices.get_mut(place) {
         *place ^= octet;
     }
-    slice
+    slices
 }
 
 // So that octet gives its word, moved on by the octets that come after it.
 #[test]
-fn one_octet_at_each_place_of_a_slice_gives_its_word(rt: HostRuntime) {
+fn one_octet_at_each_place_of_three_slices_gives_its_word(rt: HostRuntime) {
     for octet in 0..=255u8 {
         let mut word = u16::from(octet) << 8;
-        for place in (0..16usize).rev() {
+        for place in (0..48usize).rev() {
             word = after_eight_bits(word);
-            holds(&rt, &(octet, place), of(&slice_with(octet, place)) == word);
+            holds(&rt, &(octet, place), of(&slices_with(octet, place)) == word);
         }
     }
 }
 
 #[test]
-fn error_control_fields_bit_by_bit_of_messages_of_up_to_three_slices(rt: HostRuntime) {
-    let mut message = [0; 50];
+fn error_control_fields_bit_by_bit_of_messages_of_up_to_nine_slices(rt: HostRuntime) {
+    let mut message = [0; 150];
     let mut register = 0xFFFF;
-    for place in 0..50usize {
+    for place in 0..150usize {
         holds(&rt, &place, of(&message[..place]) == register);
         let octet = (place * 83 % 251) as u8;
         message[place] = octet;

@@ -1,6 +1,6 @@
--- Packets that an extractor hands to a store, frame by frame: the lists of the store, and what is still to come; and why
--- it stops.
-use Rattle.std.proofs.Common.{◌≡◌, ◌≢◌, ◌⊎◌, ℕ, ◌<◌, ◌≤◌, if◌then◌else◌, List, [], ◌∷◌, ◌++◌, length, inl, inr, refl, sym, ◌∙◌, ap, arith, append_assoc, append-nil}
+-- Packets that an extractor or a receiver hands to a store, frame by frame: the lists of the store, and what is still to
+-- come; and why it stops.
+use Rattle.std.proofs.Common.{◌≡◌, ◌≢◌, ◌⊎◌, ℕ, ◌<◌, ◌≤◌, ◌==◌, if◌then◌else◌, List, [], ◌∷◌, ◌++◌, length, inl, inr, refl, sym, ◌∙◌, ap, arith, append_assoc, append-nil}
 use Rattle.std.specs.List.{slice_index_or}
 use Rattle.std.proofs.lemmas.Bool.Decides.{eqb_tells}
 use Rattle.std.proofs.lemmas.List.{length-set, get_or-set_same, get_or-set_other}
@@ -13,9 +13,12 @@ use Rattle.sl_packet.specs.declared.sink.SinkFault.TheVariants as sink
 use Rattle.sl_packet.specs.Packets.{without_idle}
 use Rattle.sl_packet.specs.Sink.{TakesAll}
 use Rattle.sl_packet.proofs.DeliveredLemmas.{length-empty_lists, list_at-empty_lists}
+use Rattle.sl_tcframe.specs.TcFrame.{TcView}
+use Rattle.sl_tcflow.specs.Receiving as tc
+use Rattle.sl_tcflow.specs.ReceptionParameters.{ReceptionParameters, is_plain}
+use Rattle.sl_tcflow.proofs.lemmas.Reception.Channel.{small_map}
 use Rattle.sl_tmframe.specs.TmFrame.{TmView}
-use Rattle.sl_tmflow.specs.Extraction.{DeliveredAreHandedOver, ExtractorState, HasProcessed, ended_by, handed_over}
-use Rattle.sl_tmflow.specs.Recording.{packets_of_channel}
+use Rattle.sl_tmflow.specs.Extraction as tm
 
 abbrev list_of : List (List (List ℕ)) → ℕ → List (List ℕ)
 list_of lists channel = slice_index_or lists channel []
@@ -48,59 +51,96 @@ extends (packet ∷ packets) old new channel inside t =
       other = λ vc apart. rest.other vc apart ∙ ap (λ l. list_of l vc) t.1 ∙ get_or-set_other old.lists channel vc one [] apart;
     }
 
--- some of the frames were processed, and the lists have the packets that were handed over
-pub record IsHanding (all left : List TmView) (state : ExtractorState) (lists : List (List (List ℕ))) : Type 0 where
-  pub seen : List TmView
-  pub processed : HasProcessed state seen
-  pub size : length lists ≡ channel_count
-  pub each : (vc : ℕ) → list_of lists vc ++ handed_over vc seen left ≡ handed_over vc [] all
+-- ---- frames of a kind, and the packets that are handed over for a channel after some frames, out of frames that come next
 
-pub none_handed : (all : List TmView) (state : ExtractorState) (lists : List (List (List ℕ))) → HasProcessed state [] → lists ≡ empty_lists → IsHanding all all state lists
-none_handed all state lists processed none =
-    record {
-      seen = [];
-      processed = processed;
-      size = ap length none ∙ length-empty_lists;
-      each = λ vc. ap (λ l. list_of l vc ++ handed_over vc [] all) none ∙ ap (λ l. l ++ handed_over vc [] all) (list_at-empty_lists vc);
-    }
+module _ {View : Type 0} (channel_of : View → ℕ) (ended : List View → View → List (List ℕ)) (handed : ℕ → List View → List View → List (List ℕ)) where
+  -- each frame hands over the packets that end in it, on its channel
+  pub record HandsOver : Type 0 where
+    pub none : (channel : ℕ) (views : List View) → handed channel views [] ≡ []
+    pub next : (channel : ℕ) (views later : List View) (view : View) → handed channel views (view ∷ later)
+        ≡ (if channel_of view == channel then without_idle (ended views view) else []) ++ handed channel (views ++ view ∷ []) later
 
-pub hands_next : (all left later : List TmView) (view : TmView) (state state' : ExtractorState) (old new : PacketLists) → left ≡ view ∷ later → view.vc ≤ 7
-    → ((views : List TmView) → HasProcessed state views → HasProcessed state' (views ++ view ∷ []))
-    → ((views : List TmView) → HasProcessed state views → TakesAll AddsPacket old view.vc (without_idle (ended_by views view)) new)
-    → IsHanding all left state old.lists → IsHanding all later state' new.lists
-hands_next all left later view state state' old new is few processed taken h =
-    let packets = without_idle (ended_by h.seen view) in
-    let after = λ (vc : ℕ). handed_over vc (h.seen ++ view ∷ []) later in
-    let t = extends packets old new view.vc (omega (arith, h.size, few)) (taken h.seen h.processed) in
-    let next = λ (vc : ℕ). ap (λ l. list_of old.lists vc ++ handed_over vc h.seen l) (sym is) ∙ h.each vc in
-    record {
-      seen = h.seen ++ view ∷ [];
-      processed = processed h.seen h.processed;
-      size = t.size ∙ h.size;
-      each = λ vc.
-          elim (eqb_tells view.vc vc) [
-            | inl (same, e) ↦
-                ap (λ c. list_of new.lists c ++ after vc) (sym e) ∙ ap (λ l. l ++ after vc) t.own ∙ append_assoc (list_of old.lists view.vc) packets (after vc)
-                ∙ ap (λ c. list_of old.lists c ++ (packets ++ after vc)) e
-                ∙ ap (λ b. list_of old.lists vc ++ ((if b then packets else []) ++ after vc)) (sym same) ∙ next vc
-            | inr (same, apart) ↦
-                ap (λ l. l ++ after vc) (t.other vc (λ e. apart (sym e)))
-                ∙ ap (λ b. list_of old.lists vc ++ ((if b then packets else []) ++ after vc)) (sym same) ∙ next vc
-          ];
-    }
+  module _ {State : Type 0} (has_processed : State → List View → Type 0) where
+    -- some of the frames were processed, and the lists have the packets that were handed over
+    pub record IsHanding (all left : List View) (state : State) (lists : List (List (List ℕ))) : Type 0 where
+      pub seen : List View
+      pub processed : has_processed state seen
+      pub size : length lists ≡ channel_count
+      pub each : (channel : ℕ) → list_of lists channel ++ handed channel seen left ≡ handed channel [] all
 
-pub all_handed : (all left : List TmView) (state : ExtractorState) (lists : List (List (List ℕ))) → left ≡ [] → DeliveredAreHandedOver → IsHanding all left state lists
-    → (vc : ℕ) → slice_index_or lists vc [] ≡ without_idle (packets_of_channel all vc)
-all_handed all left state lists none law h vc =
-    sym (append-nil (list_of lists vc)) ∙ ap (λ l. list_of lists vc ++ handed_over vc h.seen l) (sym none) ∙ h.each vc ∙ law vc all
+    pub none_handed : (all : List View) (state : State) (lists : List (List (List ℕ))) → has_processed state [] → lists ≡ empty_lists → IsHanding all all state lists
+    none_handed all state lists processed none =
+        record {
+          seen = [];
+          processed = processed;
+          size = ap length none ∙ length-empty_lists;
+          each = λ channel. ap (λ l. list_of l channel ++ handed channel [] all) none ∙ ap (λ l. l ++ handed channel [] all) (list_at-empty_lists channel);
+        }
+
+    pub hands_next : HandsOver → (all left later : List View) (view : View) (state state' : State) (old new : PacketLists) → left ≡ view ∷ later → channel_of view < channel_count
+        → ((views : List View) → has_processed state views → has_processed state' (views ++ view ∷ []))
+        → ((views : List View) → has_processed state views → TakesAll AddsPacket old (channel_of view) (without_idle (ended views view)) new)
+        → IsHanding all left state old.lists → IsHanding all later state' new.lists
+    hands_next hands all left later view state state' old new is few processed taken h =
+        let own = channel_of view in
+        let packets = without_idle (ended h.seen view) in
+        let after = λ (channel : ℕ). handed channel (h.seen ++ view ∷ []) later in
+        let t = extends packets old new own (omega (arith, h.size, few)) (taken h.seen h.processed) in
+        let next = λ (channel : ℕ).
+        ap (λ l. list_of old.lists channel ++ l) (sym (hands.next channel h.seen later view))
+        ∙ ap (λ l. list_of old.lists channel ++ handed channel h.seen l) (sym is) ∙ h.each channel in
+        record {
+          seen = h.seen ++ view ∷ [];
+          processed = processed h.seen h.processed;
+          size = t.size ∙ h.size;
+          each = λ channel.
+              elim (eqb_tells own channel) [
+                | inl (same, e) ↦
+                    ap (λ c. list_of new.lists c ++ after channel) (sym e) ∙ ap (λ l. l ++ after channel) t.own ∙ append_assoc (list_of old.lists own) packets (after channel)
+                    ∙ ap (λ c. list_of old.lists c ++ (packets ++ after channel)) e
+                    ∙ ap (λ b. list_of old.lists channel ++ ((if b then packets else []) ++ after channel)) (sym same) ∙ next channel
+                | inr (same, apart) ↦
+                    ap (λ l. l ++ after channel) (t.other channel (λ e. apart (sym e)))
+                    ∙ ap (λ b. list_of old.lists channel ++ ((if b then packets else []) ++ after channel)) (sym same) ∙ next channel
+              ];
+        }
+
+    pub all_handed : HandsOver → (all left : List View) (state : State) (lists : List (List (List ℕ))) → left ≡ [] → IsHanding all left state lists
+        → (channel : ℕ) → list_of lists channel ≡ handed channel [] all
+    all_handed hands all left state lists none h channel =
+        sym (append-nil (list_of lists channel)) ∙ ap (λ l. list_of lists channel ++ l) (sym (hands.none channel h.seen))
+        ∙ ap (λ l. list_of lists channel ++ handed channel h.seen l) (sym none) ∙ h.each channel
+
+-- ---- why it stops
 
 -- a store refuses a packet for want of memory alone
 abbrev RefusesForMemory : PacketLists → ℕ → List ℕ → SinkFault → PacketLists → Type 0
 RefusesForMemory old channel packet fault new = (fault ≡ sink.Memory) × (new.lists ≡ old.lists)
 
--- so an extractor that hands its packets to a store stops for want of memory alone
+-- so who hands packets to a store stops for want of memory alone
 pub stopped_for_memory : (old new : PacketLists) (channel : ℕ) (packets : List (List ℕ)) (flow : FlowFault)
     → IsStopped AddsPacket RefusesForMemory (λ (d : PacketLists). d.failures) old channel packets flow new → (flow ≡ Memory) ⊎ (flow ≡ Sink sink.Memory)
 stopped_for_memory old new channel packets Memory stopped = inl refl
 stopped_for_memory old new channel packets (Sink fault) stopped = inr (ap Sink stopped.0.fails.0)
 stopped_for_memory old new channel packets Failed stopped = elim stopped [ ]
+
+-- ---- an extractor, and a receiver under parameters `r`
+
+abbrev pub IsHandingTm : List TmView → List TmView → tm.ExtractorState → List (List (List ℕ)) → Type 0
+IsHandingTm = IsHanding (λ (view : TmView). view.vc) tm.ended_by tm.handed_over tm.HasProcessed
+
+pub tm_hands_over : HandsOver (λ (view : TmView). view.vc) tm.ended_by tm.handed_over
+tm_hands_over = record { none = λ channel views. refl; next = λ channel views later view. refl }
+
+abbrev pub parameters : ℕ → List ℕ → List ℕ → ReceptionParameters
+parameters window starts plain = record { window = window; starts = starts; plain = plain }
+
+module _ (r : ReceptionParameters) where
+  abbrev pub IsHandingTc : List TcView → List TcView → tc.ReceiverState → List (List (List ℕ)) → Type 0
+  IsHandingTc = IsHanding (tc.unit_channel r) (tc.ended_by r) (tc.handed_over r) (tc.HasProcessed r)
+
+  pub tc_hands_over : HandsOver (tc.unit_channel r) (tc.ended_by r) (tc.handed_over r)
+  tc_hands_over = record { none = λ channel views. refl; next = λ channel views later view. refl }
+
+  pub unit_channel_inside : (view : TcView) → view.vc ≤ 63 → tc.unit_channel r view < channel_count
+  unit_channel_inside view few = omega (arith, few, small_map (is_plain r view.vc) view.content)

@@ -2,6 +2,7 @@
 //! They are lent a FARM-1 and a window: nothing is known of how these were made.
 pub mod extractor;
 pub mod forms;
+pub mod receiver;
 #[cfg(test)]
 mod tests;
 

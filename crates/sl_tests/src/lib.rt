@@ -1,7 +1,7 @@
 //! Tests of the public calls of the libraries below `sl_link`, a module each: what is expected is known from outside.
 //! They stand in a crate of their own, since a crate with tests is proved once more with them. The functions of
-//! `callers`, two of FARM-1, one of an extractor and six of the engines, have contracts. So they stand outside the tests:
-//! there the gate refuses a wrong body of each. What they answer is tested with the rest.
+//! `callers`, two of FARM-1, one of an extractor, one of a receiver and six of the engines, have contracts. So they stand
+//! outside the tests: there the gate refuses a wrong body of each. What they answer is tested with the rest.
 #![tactic(auto)]
 
 pub mod callers;

@@ -2,11 +2,13 @@
 mod forms;
 
 use super::extractor::deliver;
+use super::receiver::receive;
 use super::{next_step, two_steps};
-use crate::support::cop::{farm, window};
+use crate::support::cop::{all, farm, window, with};
 use crate::support::packets::has;
-use crate::support::recordings::{TELEMETRY, TM_FRAME};
+use crate::support::recordings::{COMMAND, LEAST, TC_FRAME, TELEMETRY, TM_FRAME};
 use crate::support::rows::{Stop, passes};
+use crate::support::tc;
 use crate::support::tm::{frame, shape};
 use sl_cop::{FarmEvent, Verdict};
 use std::alloc::Global;
@@ -16,6 +18,23 @@ const ON_1: [u8; 32] = [
     0x00, 0x12, 0x00, 0x00, 0x18, 0x00, //
     0x00, 0x01, 0xC0, 0x00, 0x00, 0x03, 0xAA, 0xBB, 0xCC, 0xDD, //
     0x07, 0xFF, 0xC0, 0x00, 0x00, 0x09, 0, 0, 0, 0, 0, 0, 0, 0, 0, 0,
+];
+
+// Frames of type AD, each with a packet: N(S) 1 and MAP 5 on virtual channel 0, N(S) 7 on virtual channel 2, without a
+// segment header, and N(S) 3 there.
+const ON_MAP_5: [u8; 13] = [
+    0x00, 0x01, 0x00, 0x0C, 0x01, 0xC5, //
+    0x10, 0x02, 0xC0, 0x01, 0x00, 0x00, 0xEE,
+];
+
+const ON_2: [u8; 12] = [
+    0x00, 0x01, 0x08, 0x0B, 0x07, //
+    0x10, 0x02, 0xC0, 0x01, 0x00, 0x00, 0xEE,
+];
+
+const LATE_ON_2: [u8; 12] = [
+    0x00, 0x01, 0x08, 0x0B, 0x03, //
+    0x10, 0x02, 0xC0, 0x01, 0x00, 0x00, 0xEE,
 ];
 
 // Whether a FARM-1 that is lent stays, and its next step is that of the table.
@@ -56,4 +75,25 @@ fn are_delivered(alloc: Global) -> Result<bool, Stop> {
 #[test]
 fn frames_one_after_another_deliver_their_packets(rt: HostRuntime) {
     passes(&rt, &TM_FRAME, are_delivered(rt.alloc()));
+}
+
+// Whether frames of two virtual channels deliver the packets that FARM-1 lets through, each on its own MAP.
+fn are_received(alloc: Global) -> Result<bool, Stop> {
+    let window = window(10).ok_or(Stop::Absent)?;
+    let starts = with(&all(0), 2, 7);
+    let shape = tc::shape(1024, false)?;
+    let frames = [
+        tc::frame(&shape, &TC_FRAME)?,
+        tc::frame(&shape, &ON_MAP_5)?,
+        tc::frame(&shape, &LATE_ON_2)?,
+        tc::frame(&shape, &ON_2)?,
+    ];
+    let delivered = receive(alloc, window, &starts, tc::set_of(&[2]), &frames)?;
+    let on_0 = has(&delivered, 0, &[&COMMAND]) && has(&delivered, 5, &[&LEAST]);
+    Ok(on_0 && has(&delivered, 128, &[&LEAST]) && has(&delivered, 1, &[]))
+}
+
+#[test]
+fn frames_one_after_another_are_received(rt: HostRuntime) {
+    passes(&rt, &TC_FRAME, are_received(rt.alloc()));
 }

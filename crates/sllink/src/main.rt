@@ -1,6 +1,9 @@
 //! The program `sllink`: its words and the standard streams, handed to the library.
 #![tactic(auto)]
 
+ghost use Rattle.std.specs.Prelude.{◌≡◌, ◌≢◌};
+ghost use Rattle.std.specs.IoError.{error_kind};
+
 use sl_link::{Counted, run};
 use std::io::{ErrorKind, Write};
 use std::process::ExitCode;
@@ -35,8 +38,11 @@ fn start(rt: &HostRuntime) -> io::Result<u8> {
     ))
 }
 
-// Says why nothing was run, and gives the exit status.
-fn explain(error: &io::Error, errors: &mut impl Write) -> u8 {
+// Says why nothing was run, and gives the exit status: 3 where memory was refused, else 2.
+fn explain(error: &io::Error, errors: &mut impl Write) -> u8
+    ensures memory { error_kind error.now ≡ ErrorKind.OutOfMemory → result ≡ 3 }
+    ensures refused { error_kind error.now ≢ ErrorKind.OutOfMemory → result ≡ 2 }
+{
     if error.kind() == ErrorKind::OutOfMemory {
         let _ = writeln!(errors, "sllink: memory");
         return FAULT;

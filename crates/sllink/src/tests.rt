@@ -1,5 +1,6 @@
 mod channels;
 mod command_line;
+mod explained;
 mod faults;
 mod hostile;
 mod listings_tc;

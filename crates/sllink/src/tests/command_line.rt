@@ -72,12 +72,14 @@ const LONG: [(&str, u8); 4] = [
     ("sllink -V", 0),
 ];
 
-// The version is written whatever comes after it.
-const VERSION_LINES: [&str; 4] = [
+// The version is written whatever comes after it, also in the same word.
+const VERSION_LINES: [&str; 6] = [
     "sllink --version",
     "sllink -V",
     "any --version show tm --scid 1",
     "sllink -Vh",
+    "sllink -VV",
+    "sllink -V=1",
 ];
 
 // What help says at the end, whichever it is.
@@ -90,11 +92,13 @@ const END: [&str; 6] = [
     "\n  3  ",
 ];
 
-// What it says of each value.
-const VALUES: [&str; 8] = [
+// What it says of each option.
+const VALUES: [&str; 10] = [
     "Spacecraft identifier, in decimal, 0 to 1023\n",
     "Length of each TM frame in octets, 32 to 2048 [default: 1115]\n",
     "Greatest length of a TC frame in octets, 16 to 1024 [default: 1024]\n",
+    "TM frames have a frame error control field\n",
+    "TC frames have a frame error control field\n",
     "Width of the FARM-1 sliding window in frames, even, 2 to 254 [default: 10]\n",
     "V(R) with which each FARM-1 begins, 0 to 255 [default: 0]\n",
     "Initial V(R), 0 to 255, of these virtual channels, 0 to 63 in rising order\n",
@@ -103,9 +107,15 @@ const VALUES: [&str; 8] = [
 ];
 
 // Command lines that ask for help, and what this says.
-const HELP: [(&str, &[&str]); 23] = [
+const HELP: [(&str, &[&str]); 26] = [
     ("sllink --help", &["\nUsage: sllink <COMMAND>\n"]),
     ("sllink help", &["\nUsage: sllink <COMMAND>\n"]),
+    ("sllink -hx", &["\nUsage: sllink <COMMAND>\n"]),
+    ("sllink -hV", &["\nUsage: sllink <COMMAND>\n"]),
+    (
+        "sllink show -hx",
+        &["\nUsage: sllink show [OPTIONS] --scid <ID> <KIND>\n"],
+    ),
     (
         "sllink show -h",
         &["\nUsage: sllink show [OPTIONS] --scid <ID> <KIND>\n"],

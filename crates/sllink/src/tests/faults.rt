@@ -2,7 +2,7 @@
 use super::support::engines::{ALL, Kind, Link, Verb};
 use super::support::recordings::{BEGUN, ENDED, FIRST, LONG, OUTSIDE, WHOLE, octets};
 use super::support::rows::{Stop, holds, passes};
-use super::support::streams::{FailsAfter, FullAfter, InPieces, Interrupted};
+use super::support::streams::{FailsAfter, FullAfter, InPieces, Interrupted, Unflushed};
 use sl_link::LinkFault;
 use std::alloc::Global;
 use std::io::Read;
@@ -86,6 +86,14 @@ impl Run {
             && Some(ending.writer.taken.as_slice()) == whole.get(..room)
     }
 
+    // Whether a writer that can't be flushed has no fault: an engine doesn't flush.
+    fn never_flushes(&self, alloc: Global) -> bool {
+        let ending = self
+            .link
+            .end(alloc, self.verb, self.recording.as_slice(), Unflushed);
+        ending.outcome.is_ok() && ending.faults == (0, 0)
+    }
+
     // Whether an interrupted read is a fault: it isn't tried again, though it would go well.
     fn fails_when_interrupted(&self, alloc: Global) -> bool {
         let reader = Interrupted::new();
@@ -119,6 +127,18 @@ fn writes_fail(rt: &impl Abort, alloc: Global, engine: &Engine) -> Result<bool, 
         holds(rt, &writes, run.fails_at_write(alloc, writes, &whole));
     }
     Ok(run.fails_when_full(alloc, 0, &whole) && run.fails_when_full(alloc, 2, &whole))
+}
+
+fn is_unflushed(alloc: Global, engine: &Engine) -> Result<bool, Stop> {
+    let run = Run::new(alloc, engine, 0)?;
+    Ok(run.never_flushes(alloc))
+}
+
+#[test]
+fn engines_never_flush(rt: HostRuntime) {
+    for engine in &ENGINES {
+        passes(&rt, engine, is_unflushed(rt.alloc(), engine));
+    }
 }
 
 #[test]

@@ -1,0 +1,32 @@
+//! What the program says, and its status, where its words can't be handed to the library.
+use super::super::explain;
+use super::support::rows::{Stop, passes};
+use super::support::run::text;
+use super::support::streams::Unwritable;
+use std::alloc::Global;
+use std::io::{Error, ErrorKind};
+
+// Why there are no words, the status, and what is said.
+const CAUSES: [(ErrorKind, u8, &str); 2] = [
+    (ErrorKind::OutOfMemory, 3, "sllink: memory\n"),
+    (
+        ErrorKind::InvalidData,
+        2,
+        "error: the command line is no UTF-8 text\n",
+    ),
+];
+
+// Whether a cause gives this status, and is said. An error output that fails changes no status.
+fn is_explained(alloc: Global, kind: ErrorKind, status: u8, said: &str) -> Result<bool, Stop> {
+    let error = Error::from(kind);
+    let mut errors = Vec::new(alloc);
+    let is_so = explain(&error, &mut errors) == status && text(errors.as_slice()) == said;
+    Ok(is_so && explain(&error, &mut Unwritable) == status)
+}
+
+#[test]
+fn a_cause_has_its_status_and_its_line(rt: HostRuntime) {
+    for (kind, status, said) in &CAUSES {
+        passes(&rt, said, is_explained(rt.alloc(), *kind, *status, said));
+    }
+}

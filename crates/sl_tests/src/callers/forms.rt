@@ -1,174 +1,105 @@
-//! Callers whose own contracts say what the normal forms promise, and why a call is refused.
-//!
-//! The recordings are slices and what is written is a vector. Each caller answers `TooLong` only where a recording, or a
-//! normal form that it normalises again, is longer than the managed limit, and `Memory` where memory was refused. It has
-//! no other fault.
-ghost use Rattle.std.specs.Prelude.{◌≡◌, ◌↔◌, IsTrue, IfOk, length, max};
-ghost use Rattle.sl_link.specs.Kind.Tm.{tm_packets};
-ghost use Rattle.sl_link.specs.Normalise.Tm.{tm_normal_form};
-ghost use Rattle.sl_link.specs.Kind.Tc.{tc_packets};
-ghost use Rattle.sl_link.specs.Normalise.Tc.{tc_normal_form};
-ghost use Rattle.sl_tests.specs.Forms.{IsWithin};
-
-use sl_link::laws::{tc_normal_forms_tell_packets, tm_normal_forms_tell_packets};
-use sl_link::{Counted, LinkFault, Managed, normalise_tc, normalise_tm};
+//! The callers of the engines, run.
+use crate::support::recordings::{TC_FRAME, TM_FRAME};
+use crate::support::rows::{Stop, passes};
+use sl_callers::forms::{
+    have_same_tc_packets, have_same_tm_packets, normalise_tc_twice, normalise_tm_twice,
+    tell_tc_packets, tell_tm_packets,
+};
+use sl_link::{LinkFault, Managed};
 use std::alloc::Global;
 
-/// Whether two TM recordings deliver the same packets on each virtual channel, idle ones left out.
-pub fn have_same_tm_packets(
-    alloc: Global,
-    managed: &Managed,
-    one: &[u8],
-    other: &[u8],
-) -> Result<bool, LinkFault>
-    ensures same { IfOk result (λ same. IsTrue same
-        ↔ (tm_packets managed.now one.now ≡ tm_packets managed.now other.now)) }
-    ensures within { IsWithin managed.now.max_octets (max (length one.now) (length other.now))
-        result }
-{
-    let form = tm_form(alloc, managed, one)?;
-    let other_form = tm_form(alloc, managed, other)?;
-    Ok(form.as_slice() == other_form.as_slice())
+// A TM frame with the packet of `TM_FRAME`, other counts and other idle fill, and one with another packet.
+const TM_FILLED: [u8; 32] = [
+    0x00, 0x10, 0x4D, 0xC8, 0x18, 0x00, 0x00, 0x01, 0xC0, 0x00, 0x00, 0x03, 0xAA, 0xBB, 0xCC, 0xDD,
+    0x07, 0xFF, 0x00, 0x07, 0x00, 0x09, 0x55, 0x55, 0x55, 0x55, 0x55, 0x55, 0x55, 0x55, 0x55, 0x55,
+];
+
+const TM_OTHER: [u8; 32] = [
+    0x00, 0x10, 0x00, 0x00, 0x18, 0x00, 0x00, 0x01, 0xC0, 0x00, 0x00, 0x03, 0xAA, 0xBB, 0xCC, 0xDE,
+    0x07, 0xFF, 0xC0, 0x00, 0x00, 0x09, 0x00, 0x00, 0x00, 0x00, 0x00, 0x00, 0x00, 0x00, 0x00, 0x00,
+];
+
+// A frame of type BD with the unit of `TC_FRAME`, and one of type AD with its packet on another MAP.
+const TC_BYPASSING: [u8; 16] = [
+    0x20, 0x01, 0x00, 0x0F, 0x00, 0xC0, 0x10, 0x01, 0xC0, 0x00, 0x00, 0x03, 0xAA, 0xBB, 0xCC, 0xDD,
+];
+
+const TC_OTHER: [u8; 16] = [
+    0x00, 0x01, 0x00, 0x0F, 0x00, 0xC1, 0x10, 0x01, 0xC0, 0x00, 0x00, 0x03, 0xAA, 0xBB, 0xCC, 0xDD,
+];
+
+// A link with a limit of a hundred octets.
+fn link() -> Result<Managed, Stop> {
+    Managed::new(1, 32, false, 16, false, 10, 0, 100).or(Err(Stop::Absent))
 }
 
-/// The same, proved by the law: of the two forms only that they are normal forms is known. A `Managed` that was lent meets
-/// the premise of the law.
-pub fn tell_tm_packets(
-    alloc: Global,
-    managed: &Managed,
-    one: &[u8],
-    other: &[u8],
-) -> Result<bool, LinkFault>
-    ensures same { IfOk result (λ same. IsTrue same
-        ↔ (tm_packets managed.now one.now ≡ tm_packets managed.now other.now)) }
-    ensures within { IsWithin managed.now.max_octets (max (length one.now) (length other.now))
-        result }
-{
-    let form = written_tm_form(alloc, managed, one)?;
-    let other_form = written_tm_form(alloc, managed, other)?;
-    // For the proof alone: the first call gives the premise of the law, and the second the law.
-    let _ = managed.spacecraft();
-    tm_normal_forms_tell_packets();
-    Ok(form.as_slice() == other_form.as_slice())
+// What the six say, without their contracts: whether the packets of another recording are the same ones, and whether a
+// recording that is normalised twice becomes these octets.
+fn is_same_tm(alloc: Global, other: &[u8]) -> Result<bool, Stop> {
+    let link = link()?;
+    Ok(have_same_tm_packets(alloc, &link, &TM_FRAME, other)?)
 }
 
-// The normal form of a TM recording. The contract says nothing of packets.
-fn written_tm_form(alloc: Global, managed: &Managed, recording: &[u8]) -> Result<Vec<u8>, LinkFault>
-    ensures form { IfOk result (λ form. form.items ≡ tm_normal_form managed.now recording.now) }
-    ensures within { IsWithin managed.now.max_octets (length recording.now) result }
-{
-    tm_form(alloc, managed, recording)
+fn is_told_tm(alloc: Global, other: &[u8]) -> Result<bool, Stop> {
+    let link = link()?;
+    Ok(tell_tm_packets(alloc, &link, &TM_FRAME, other)?)
 }
 
-/// The normal form of the normal form of a TM recording. It is the normal form of the recording: to normalise twice is to
-/// normalise once. So clause `form` holds of one pass too, and clause `within` alone refuses it: the fault is `TooLong`
-/// also where the normal form is longer than the limit.
-pub fn normalise_tm_twice(
-    alloc: Global,
-    managed: &Managed,
-    recording: &[u8],
-) -> Result<Vec<u8>, LinkFault>
-    ensures form { IfOk result (λ form. form.items ≡ tm_normal_form managed.now recording.now) }
-    ensures within { IsWithin managed.now.max_octets
-        (max (length recording.now) (length (tm_normal_form managed.now recording.now))) result }
-{
-    let form = tm_form(alloc, managed, recording)?;
-    tm_form(alloc, managed, form.as_slice())
+fn becomes_tm(alloc: Global, form: &[u8]) -> Result<bool, Stop> {
+    let link = link()?;
+    Ok(normalise_tm_twice(alloc, &link, &TM_FILLED)?.as_slice() == form)
 }
 
-// The normal form of a TM recording.
-fn tm_form(alloc: Global, managed: &Managed, recording: &[u8]) -> Result<Vec<u8>, LinkFault>
-    ensures form { IfOk result (λ form. form.items ≡ tm_normal_form managed.now recording.now) }
-    ensures packets { IfOk result (λ form. tm_packets managed.now form.items
-        ≡ tm_packets managed.now recording.now) }
-    ensures within { IsWithin managed.now.max_octets (length recording.now) result }
-{
-    let mut reader = Counted::new(recording);
-    let mut writer = Counted::new(Vec::new(alloc));
-    match normalise_tm(alloc, managed, &mut reader, &mut writer) {
-        Ok(_) => Ok(writer.into_inner()),
-        Err(LinkFault::TooLong) => Err(LinkFault::TooLong),
-        // A slice has no fault, and a vector only where memory is refused.
-        Err(_) => Err(LinkFault::Memory),
-    }
+fn is_same_tc(alloc: Global, other: &[u8]) -> Result<bool, Stop> {
+    let link = link()?;
+    Ok(have_same_tc_packets(alloc, &link, &TC_FRAME, other)?)
 }
 
-/// Whether FARM-1 lets the same packets of two TC recordings through on each virtual channel and MAP, idle ones left
-/// out.
-pub fn have_same_tc_packets(
-    alloc: Global,
-    managed: &Managed,
-    one: &[u8],
-    other: &[u8],
-) -> Result<bool, LinkFault>
-    ensures same { IfOk result (λ same. IsTrue same
-        ↔ (tc_packets managed.now one.now ≡ tc_packets managed.now other.now)) }
-    ensures within { IsWithin managed.now.max_octets (max (length one.now) (length other.now))
-        result }
-{
-    let form = tc_form(alloc, managed, one)?;
-    let other_form = tc_form(alloc, managed, other)?;
-    Ok(form.as_slice() == other_form.as_slice())
+fn is_told_tc(alloc: Global, other: &[u8]) -> Result<bool, Stop> {
+    let link = link()?;
+    Ok(tell_tc_packets(alloc, &link, &TC_FRAME, other)?)
 }
 
-/// The same, proved by the law: of the two forms only that they are normal forms is known. A `Managed` that was lent meets
-/// the premise of the law.
-pub fn tell_tc_packets(
-    alloc: Global,
-    managed: &Managed,
-    one: &[u8],
-    other: &[u8],
-) -> Result<bool, LinkFault>
-    ensures same { IfOk result (λ same. IsTrue same
-        ↔ (tc_packets managed.now one.now ≡ tc_packets managed.now other.now)) }
-    ensures within { IsWithin managed.now.max_octets (max (length one.now) (length other.now))
-        result }
-{
-    let form = written_tc_form(alloc, managed, one)?;
-    let other_form = written_tc_form(alloc, managed, other)?;
-    // For the proof alone: the first call gives the premise of the law, and the second the law.
-    let _ = managed.spacecraft();
-    tc_normal_forms_tell_packets();
-    Ok(form.as_slice() == other_form.as_slice())
+fn becomes_tc(alloc: Global, form: &[u8]) -> Result<bool, Stop> {
+    let link = link()?;
+    Ok(normalise_tc_twice(alloc, &link, &TC_BYPASSING)?.as_slice() == form)
 }
 
-// The normal form of a TC recording. The contract says nothing of packets.
-fn written_tc_form(alloc: Global, managed: &Managed, recording: &[u8]) -> Result<Vec<u8>, LinkFault>
-    ensures form { IfOk result (λ form. form.items ≡ tc_normal_form managed.now recording.now) }
-    ensures within { IsWithin managed.now.max_octets (length recording.now) result }
-{
-    tc_form(alloc, managed, recording)
+// Whether all six refuse a recording over the limit, as the second where they take two.
+fn is_too_long(alloc: Global) -> Result<bool, Stop> {
+    let link = link()?;
+    let long = [0; 101];
+    let outcomes = [
+        have_same_tm_packets(alloc, &link, &TM_FRAME, &long).err(),
+        tell_tm_packets(alloc, &link, &TM_FRAME, &long).err(),
+        normalise_tm_twice(alloc, &link, &long).err(),
+        have_same_tc_packets(alloc, &link, &TC_FRAME, &long).err(),
+        tell_tc_packets(alloc, &link, &TC_FRAME, &long).err(),
+        normalise_tc_twice(alloc, &link, &long).err(),
+    ];
+    Ok(outcomes == [Some(LinkFault::TooLong); 6])
 }
 
-/// The normal form of the normal form of a TC recording. It is the normal form of the recording: to normalise twice is to
-/// normalise once. So clause `form` holds of one pass too, and clause `within` alone refuses it: the fault is `TooLong`
-/// also where the normal form is longer than the limit.
-pub fn normalise_tc_twice(
-    alloc: Global,
-    managed: &Managed,
-    recording: &[u8],
-) -> Result<Vec<u8>, LinkFault>
-    ensures form { IfOk result (λ form. form.items ≡ tc_normal_form managed.now recording.now) }
-    ensures within { IsWithin managed.now.max_octets
-        (max (length recording.now) (length (tc_normal_form managed.now recording.now))) result }
-{
-    let form = tc_form(alloc, managed, recording)?;
-    tc_form(alloc, managed, form.as_slice())
-}
-
-// The normal form of a TC recording.
-fn tc_form(alloc: Global, managed: &Managed, recording: &[u8]) -> Result<Vec<u8>, LinkFault>
-    ensures form { IfOk result (λ form. form.items ≡ tc_normal_form managed.now recording.now) }
-    ensures packets { IfOk result (λ form. tc_packets managed.now form.items
-        ≡ tc_packets managed.now recording.now) }
-    ensures within { IsWithin managed.now.max_octets (length recording.now) result }
-{
-    let mut reader = Counted::new(recording);
-    let mut writer = Counted::new(Vec::new(alloc));
-    match normalise_tc(alloc, managed, &mut reader, &mut writer) {
-        Ok(_) => Ok(writer.into_inner()),
-        Err(LinkFault::TooLong) => Err(LinkFault::TooLong),
-        // A slice has no fault, and a vector only where memory is refused.
-        Err(_) => Err(LinkFault::Memory),
+#[test]
+fn callers_tell_packets_by_normal_forms(rt: HostRuntime) {
+    let alloc = rt.alloc();
+    let rows = [
+        ("a TM packet again", is_same_tm(alloc, &TM_FILLED), true),
+        ("another TM packet", is_same_tm(alloc, &TM_OTHER), false),
+        ("TM by the law", is_told_tm(alloc, &TM_FILLED), true),
+        ("other TM by the law", is_told_tm(alloc, &TM_OTHER), false),
+        ("TM normalised twice", becomes_tm(alloc, &TM_FRAME), true),
+        ("TM not normalised", becomes_tm(alloc, &TM_FILLED), false),
+        ("a TC packet again", is_same_tc(alloc, &TC_BYPASSING), true),
+        ("another TC packet", is_same_tc(alloc, &TC_OTHER), false),
+        ("TC by the law", is_told_tc(alloc, &TC_BYPASSING), true),
+        ("other TC by the law", is_told_tc(alloc, &TC_OTHER), false),
+        ("TC normalised twice", becomes_tc(alloc, &TC_FRAME), true),
+        ("TC not normalised", becomes_tc(alloc, &TC_BYPASSING), false),
+        ("a recording over the limit", is_too_long(alloc), true),
+        ("its spacecraft", link().map(|l| l.spacecraft() == 1), true),
+    ];
+    for (row, outcome, wanted) in rows {
+        passes(&rt, &row, outcome.map(|is_so| is_so == wanted));
     }
 }

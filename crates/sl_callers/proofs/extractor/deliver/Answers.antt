@@ -1,0 +1,32 @@
+use Rattle.std.proofs.Common.{◌≡◌, ◌≢◌, ◌+◌, ◌∷◌, ◌∙◌, arith, ap, drop, false, sym, true, Err}
+use Rattle.std.proofs.lemmas.List.{drop_all, drop_more}
+use Rattle.sl_packet.specs.declared.flow_fault.FlowFault.TheVariants.{Failed}
+use Rattle.sl_link.proofs.lemmas.Link.Answers.{passed_up}
+use Rattle.sl_callers.proofs.Handing.{all_handed, hands_next, none_handed, stopped_for_memory, tm_hands_over}
+use Rattle.sl_callers.proofs.extractor.deliver.Goals as goal
+
+pub loop-frame-init : goal.loop-frame-init
+loop-frame-init c = none_handed _ _ _ _ c.args.frames.now c.new-extractor.result c.new-delivered.result.lists c.new-extractor.ensures.processed c.new-delivered.ensures.lists
+
+pub loop-frame-preserved : goal.loop-frame-preserved
+loop-frame-preserved c =
+    let frames = c.args.frames.now in
+    let at = c.loop-frame.frame-index in
+    let view = c.frame-item.result in
+    let is = drop_more frames at view (omega (arith, c.loop-frame-test.true)) ∙ ap (λ v. v ∷ drop (at + 1) frames) (sym c.frame-item.is) in
+    hands_next _ _ _ _ tm_hands_over frames (drop at frames) (drop (at + 1) frames) view c.loop-frame.extractor c.frame.new.self c.loop-frame.delivered c.frame.new.sink is
+    (omega (arith, c.vc.ensures.value, c.vc.ensures.fits)) c.in_ok-frame.ensures.processed c.in_ok-frame.ensures.accepted c.loop-frame.invariant
+
+pub returns-clause-lists : goal.returns-clause-lists
+returns-clause-lists c vc =
+    let frames = c.args.frames.now in
+    let at = c.loop-frame.frame-index in
+    all_handed _ _ _ _ tm_hands_over frames (drop at frames) c.loop-frame.extractor c.loop-frame.delivered.lists (drop_all at frames (omega (arith, c.loop-frame-test.false))) c.loop-frame.invariant vc
+    ∙ c.tm_packets_are_handed_over.ensures vc frames
+
+pub returns-in_err-frame-clause-fault : goal.returns-in_err-frame-clause-fault
+returns-in_err-frame-clause-fault c =
+    let h = c.loop-frame.invariant in
+    let fault = c.in_err-frame.field-0.0 in
+    let working : fault ≢ Failed = λ is. let bad : false ≡ true = sym h.processed.working ∙ (c.in_err-frame.ensures.left (ap Err is)).0 in cc in
+    passed_up c.from_residual.result _ c.from_residual.ensures.1 (stopped_for_memory _ _ _ _ fault ((c.in_err-frame.ensures.stopped working).1 h.seen h.processed))

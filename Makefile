@@ -1,6 +1,7 @@
 # Installs the built program, its tools, manual pages and completions, or takes them away again; or packs them. Builds the
 # library for C.
 #
+#     make
 #     make install
 #     make install PREFIX=$HOME/.local
 #     make install PREFIX=/usr DESTDIR=/tmp/package
@@ -12,7 +13,9 @@
 # PREFIX is where they are to be used, /usr/local where nothing is said. DESTDIR is put before each path, for whoever
 # makes a package. `make dist` writes out/sllink-VERSION-linux-ARCHITECTURE.tar.gz, whose folders bin and share work
 # wherever they lie beside each other; `make deb` writes out/sllink_VERSION_ARCHITECTURE.deb, and wants dpkg-deb. The
-# program isn't built here: that is done by `rt run` in crates/sllink. `make lib` proves and builds libsllink.a and
+# program isn't built here: that is done by `rt run` in crates/sllink. The manual pages of the tools and the completions
+# are made into PAGES, which is out where nothing is said, by python3 from what the program and the tools print with
+# --help: by `make` alone, and before they are installed or packed. `make lib` proves and builds libsllink.a and
 # libsllink.so in LIBRARIES, which is out where nothing is said, and wants the kit, cc, ld, objcopy and ar. Where they are
 # there, they are installed and packed with the program, with their header and what pkg-config reads.
 
@@ -31,6 +34,7 @@ INCLUDE = $(PREFIX)/include
 LIB = $(PREFIX)/lib
 
 PROGRAM = crates/sllink/out/sllink
+PAGES = out
 TOOLS = $(notdir $(wildcard tools/sllink-*))
 INSTALL = install
 
@@ -42,26 +46,29 @@ CALLS = crates/sl_c/out/libsl_c.a
 HEAP = $(dir $(shell rt doc 2> /dev/null))c/liblibc_c.a
 OBJCOPY = objcopy
 
-.PHONY: all install uninstall built dist deb lib
+.PHONY: all install uninstall built pages dist deb lib
 
-all: built
+all: pages
 	@echo "$(PROGRAM) is built; 'make install' installs it under $(PREFIX)"
 
 built:
 	@test -x "$(PROGRAM)" || { \
 	  echo "$(PROGRAM) isn't built yet; 'rt run -- --help' in crates/sllink builds it" >&2; exit 1; }
 
+pages: built
+	@man/from-help "$(PROGRAM)" "$(PAGES)"
+
 # bash and fish look for the completions of a tool under its name.
-install: built
+install: pages
 	$(INSTALL) -d "$(DESTDIR)$(BIN)" "$(DESTDIR)$(MAN)" "$(DESTDIR)$(BASH_COMPLETIONS)" \
 	  "$(DESTDIR)$(ZSH_COMPLETIONS)" "$(DESTDIR)$(FISH_COMPLETIONS)" "$(DESTDIR)$(MODULE)"
 	$(INSTALL) -m 755 "$(PROGRAM)" "$(DESTDIR)$(BIN)/sllink"
 	$(INSTALL) -m 755 $(TOOLS:%=tools/%) "$(DESTDIR)$(BIN)"
 	$(INSTALL) -m 644 python/sllink/*.py python/sllink/py.typed "$(DESTDIR)$(MODULE)"
-	$(INSTALL) -m 644 man/sllink.1 $(TOOLS:%=man/%.1) "$(DESTDIR)$(MAN)"
-	$(INSTALL) -m 644 completions/sllink.bash "$(DESTDIR)$(BASH_COMPLETIONS)/sllink"
-	$(INSTALL) -m 644 completions/_sllink "$(DESTDIR)$(ZSH_COMPLETIONS)/_sllink"
-	$(INSTALL) -m 644 completions/sllink.fish "$(DESTDIR)$(FISH_COMPLETIONS)/sllink.fish"
+	$(INSTALL) -m 644 man/sllink.1 $(TOOLS:%="$(PAGES)/%.1") "$(DESTDIR)$(MAN)"
+	$(INSTALL) -m 644 "$(PAGES)/sllink.bash" "$(DESTDIR)$(BASH_COMPLETIONS)/sllink"
+	$(INSTALL) -m 644 "$(PAGES)/_sllink" "$(DESTDIR)$(ZSH_COMPLETIONS)/_sllink"
+	$(INSTALL) -m 644 "$(PAGES)/sllink.fish" "$(DESTDIR)$(FISH_COMPLETIONS)/sllink.fish"
 	for tool in $(TOOLS); do \
 	  ln -sf sllink "$(DESTDIR)$(BASH_COMPLETIONS)/$$tool" && \
 	  ln -sf sllink.fish "$(DESTDIR)$(FISH_COMPLETIONS)/$$tool.fish" || exit 1; \

@@ -66,8 +66,8 @@ pub fn show_tm<R: Read, W: Write>(
 /// FARM-1 of its virtual channel makes of it and the CLCW after it, and one for a remainder: a last frame that isn't
 /// whole; or, where a frame states a length that no frame can have, all octets from that frame on.
 ///
-/// It keeps what was read last and the lines that aren't written yet, at most 65,536 octets each, one frame at most that
-/// began in an earlier read, and the FARM-1 of 64 virtual channels. No clause says what is kept: that is seen by
+/// It keeps what was read last and the lines that aren't written yet, at most 65,536 octets each, one frame at most
+/// that began in an earlier read, and the FARM-1 of 64 virtual channels. No clause says what is kept: that is seen by
 /// reading. It takes no memory: a fault is `Read`, `TooLong` or `Write`.
 pub fn show_tc<R: Read, W: Write>(
     managed: &Managed,
@@ -95,9 +95,9 @@ pub fn show_tc<R: Read, W: Write>(
 /// Reads a recording of TM transfer frames to its end, and writes a line for each anomaly of it, and
 /// then one of its totals (docs/listings.md).
 ///
-/// It keeps what was read last and the lines that aren't written yet, at most 65,536 octets each, one frame at most that
-/// began in an earlier read, and the packet that is incomplete on each virtual channel. No clause says what is kept:
-/// that is seen by reading.
+/// It keeps what was read last and the lines that aren't written yet, at most 65,536 octets each, one frame at most
+/// that began in an earlier read, and the packet that is incomplete on each virtual channel. No clause says what is
+/// kept: that is seen by reading.
 ///
 /// The fault is `Read` or `Write` where the reader or the writer had one, `TooLong` where more
 /// octets came than the managed limit, and `Memory` where memory was refused. Memory is refused only
@@ -132,9 +132,9 @@ pub fn check_tm<R: Read, W: Write>(
 /// Reads a recording of TC transfer frames to its end, and writes a line for each anomaly of it, and
 /// then one of its totals (docs/listings.md).
 ///
-/// It keeps what was read last and the lines that aren't written yet, at most 65,536 octets each, one frame at most that
-/// began in an earlier read, the FARM-1 of 64 virtual channels, and the series that is incomplete on each MAP. No clause
-/// says what is kept: that is seen by reading.
+/// It keeps what was read last and the lines that aren't written yet, at most 65,536 octets each, one frame at most
+/// that began in an earlier read, the FARM-1 of 64 virtual channels, and the series that is incomplete on each MAP. No
+/// clause says what is kept: that is seen by reading.
 ///
 /// The fault is `Read` or `Write` where the reader or the writer had one, `TooLong` where more octets came than the
 /// managed limit, and `Memory` where memory was refused. Memory is refused only where the unit of a frame is accepted
@@ -170,9 +170,9 @@ pub fn check_tc<R: Read, W: Write>(
 /// Reads a recording of TM transfer frames to its end, and writes a line for each packet that its frames deliver, in
 /// the order of the frames in which they end (docs/listings.md).
 ///
-/// It keeps what was read last and the lines that aren't written yet, at most 65,536 octets each, one frame at most that
-/// began in an earlier read, and the packet that is incomplete on each virtual channel. No clause says what is kept:
-/// that is seen by reading.
+/// It keeps what was read last and the lines that aren't written yet, at most 65,536 octets each, one frame at most
+/// that began in an earlier read, and the packet that is incomplete on each virtual channel. No clause says what is
+/// kept: that is seen by reading.
 ///
 /// The fault is `Read` or `Write` where the reader or the writer had one, `TooLong` where more
 /// octets came than the managed limit, and `Memory` where memory was refused. Memory is refused only
@@ -207,9 +207,9 @@ pub fn packets_tm<R: Read, W: Write>(
 /// Reads a recording of TC transfer frames to its end, and writes a line for each packet that its frames deliver, in
 /// the order of the frames that end the packets' series (docs/listings.md).
 ///
-/// It keeps what was read last and the lines that aren't written yet, at most 65,536 octets each, one frame at most that
-/// began in an earlier read, the FARM-1 of 64 virtual channels, and the series of segments that is incomplete on each
-/// MAP. No clause says what is kept: that is seen by reading.
+/// It keeps what was read last and the lines that aren't written yet, at most 65,536 octets each, one frame at most
+/// that began in an earlier read, the FARM-1 of 64 virtual channels, and the series of segments that is incomplete on
+/// each MAP. No clause says what is kept: that is seen by reading.
 ///
 /// The fault is `Read` or `Write` where the reader or the writer had one, `TooLong` where more octets came than the
 /// managed limit, and `Memory` where memory was refused. Memory is refused only where the unit of a frame is accepted

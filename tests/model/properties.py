@@ -1,12 +1,14 @@
-"""Properties that hold of a program and of a model, whatever the two have in common: what docs/normal-form.md, docs/tm.md
-and docs/tc.md say of normal forms, lost frames and frames out of order. Each function makes a `Try`."""
+"""Properties of the program and of the model: what docs/normal-form.md, docs/tm.md and docs/tc.md say of normal forms,
+of lost frames, and of frames that are repeated or out of order. Each function of ALL makes a `Try`, by a generator of
+random numbers and the number of the case."""
 
 from collections import namedtuple
 
 import cases
+from words import VERBS, options_of, usual_words
 
-# What is tried, the words, the recordings in chunks, and a function of model, program, words and recordings, which gives
-# a text that says what isn't so, or an empty one.
+# What is tried, the words, the recordings in chunks, and a function of model, program, words and recordings. It gives a
+# text that says what isn't so, or an empty one.
 Try = namedtuple("Try", "what words recordings broken")
 
 
@@ -16,8 +18,8 @@ def octets_of(chunks):
 
 
 def words_for(rng, verb, kind, link):
-    """The words of a command line that is accepted."""
-    return cases.words_of(rng, verb, kind, cases.options_of(rng, kind, link), True)
+    """The words of a command line that isn't refused."""
+    return usual_words(verb, kind, options_of(rng, kind, link))
 
 
 def with_verb(words, verb):
@@ -75,8 +77,7 @@ def twice_is_once(rng, number):
 def any_pieces(rng, number):
     """In whatever pieces a recording comes, the answer is the same."""
     words, chunks = random_recording(rng, number)
-    words = with_verb(words, rng.choice(cases.VERBS))
-    count = len(octets_of(chunks))
+    words, count = with_verb(words, rng.choice(VERBS)), len(octets_of(chunks))
     tries = [[1] * min(count, 200)] + [cases.some_pieces(rng, count) for _ in range(3)]
 
     def broken(_model, program, words, chunks):
@@ -93,8 +94,7 @@ def any_pieces(rng, number):
 
 def tm_recording_of(rng, link, lists):
     """A TM recording that delivers these packets, with idle packets, idle frames and counts as they come."""
-    space = link["tm-length"] - 6 - 2 * link["tm-fecf"]
-    waiting, mc = [], rng.randrange(256)
+    space, waiting, mc = cases.tm_space(link), [], rng.randrange(256)
     for vc, packets in lists.items():
         ocf = rng.choice((b"", b"", cases.control_word(rng)))
         waiting.append((vc, ocf, tm_fields_of(rng, packets, space - len(ocf))))
@@ -135,11 +135,9 @@ def idle_packet(rng):
 
 
 def tc_recording_of(rng, link, lists):
-    """A TC recording that delivers these packets, in units of types AD and BD, in series, with repeats, as they come."""
-    room = link["tc-length"] - 6 - 2 * link["tc-fecf"]
-    waiting = [(channel // 64, tc_units_of(rng, link, channel, packets, room)) for channel, packets in lists.items()]
-    ns = {vc: link["vr-of"].get(vc, link["vr"]) for vc, _ in waiting}
-    chunks = []
+    """A TC recording that delivers these packets, by frames of types AD and BD, in series, with repeats."""
+    waiting = [(channel // 64, tc_units_of(rng, link, channel, packets)) for channel, packets in lists.items()]
+    ns, chunks = {vc: cases.start_of(link, vc) for vc, _ in waiting}, []
     while waiting:
         vc, units = rng.choice(waiting)
         if not units:
@@ -155,8 +153,9 @@ def tc_recording_of(rng, link, lists):
     return chunks
 
 
-def tc_units_of(rng, link, channel, packets, room):
+def tc_units_of(rng, link, channel, packets):
     """Units that hold these packets, a series or more."""
+    room = cases.tc_space(link) - 1
     if channel // 64 in link["plain"]:
         return [packet + rng.choice((b"", b"\xff")) for packet in packets]
     units, octets = [], b""
@@ -165,7 +164,8 @@ def tc_units_of(rng, link, channel, packets, room):
         if place + 1 == len(packets) or rng.random() < 0.5:
             edges = sorted({0, *range(0, len(octets), rng.randint(max(room // 2, 1), room))}) + [len(octets)]
             parts = [octets[begin:end] for begin, end in zip(edges, edges[1:])]
-            flags = [1] + [0] * (len(parts) - 2) + [2] if len(parts) > 1 else [3]
+            flags = [cases.FIRST] + [cases.MIDDLE] * (len(parts) - 2) + [cases.LAST]
+            flags = [cases.WHOLE] if len(parts) == 1 else flags
             units += [bytes([flag << 6 | channel % 64]) + part for flag, part in zip(flags, parts)]
             octets = b""
     return units
@@ -299,8 +299,8 @@ class Sent:
 
 
 def frames_sent(rng, link, vc, count):
-    """So many frames of a virtual channel."""
-    room = link["tm-length"] - 6 - 2 * link["tm-fecf"]
+    """The first `count` frames of a virtual channel."""
+    room = cases.tm_space(link)
     channel, sent = cases.Downlink(rng, vc, room), Sent()
     idle = rng.choice((0, 0.2))
     for place in range(count):
@@ -308,7 +308,7 @@ def frames_sent(rng, link, vc, count):
         pointer, field = (2046, b"\xaa" * room)
         if rng.random() >= idle:
             field, pointer = channel.field(room)
-        # The master channel frame count makes all frames different: with it no two are equal of up to 65,536.
+        # By the two counts no two of 65,536 frames are equal.
         sent.add(cases.tm_frame(link, vc, (place // 256, channel.count), pointer, field), begin, channel.at)
         channel.count += 1
     edges = [*channel.starts, len(channel.octets)]
@@ -317,7 +317,7 @@ def frames_sent(rng, link, vc, count):
 
 
 def kept_places(rng, count):
-    """Which of so many frames are kept: fewer than 256 in a row are lost between two of them."""
+    """Which of `count` frames are kept: fewer than 256 in a row are lost between two of them."""
     kept, place = [], rng.choice((0, 0, rng.randrange(count)))
     while place < count and len(kept) < 40:
         kept.append(place)
@@ -329,63 +329,73 @@ def kept_places(rng, count):
 
 def acceptance_is_in_order(rng, _number):
     """Of frames of type AD that are lost, repeated or out of order, FARM-1 accepts a prefix of those that were sent."""
-    link = cases.some_link(rng)
-    vc = rng.choice((0, 5, 63))
-    start, half = link["vr-of"].get(vc, link["vr"]), link["window"] // 2
-    uplink = cases.Uplink(rng, link, vc)
-    count = rng.choice((5, 20, 20, 300))
-    most = link["tc-length"] - 5 - 2 * link["tc-fecf"]
-    units = [cases.next_unit(rng, uplink, most, 0) for _ in range(count)]
+    link, vc, count = cases.some_link(rng), rng.choice((0, 5, 63)), rng.choice((5, 20, 20, 300))
+    uplink, start = cases.Uplink(rng, link, vc), cases.start_of(link, vc)
+    units = [uplink.unit(rng, cases.tc_space(link), 0) for _ in range(count)]
     sent = [cases.tc_frame(link, cases.AD, vc, start + place, unit) for place, unit in enumerate(units)]
-    # Frames that are equal have N(S) that differ by 256 or more; they would have two numbers.
+    arrived = frames_arrived(rng, link, uplink, sent)
+    # Equal frames have N(S) that differ by 256 or a multiple of it. Then a frame has two numbers, and nothing is tried.
     numbers = {frame: place for place, frame in enumerate(sent)}
-    within, others = rng.random() < 0.5, rng.choice((0, 0.1))
-    chunks, accepted = [], 0
-    while len(chunks) < 2 * min(count, 60) and accepted < count:
-        if rng.random() < others or uplink.locked and rng.random() < 0.5:
-            chunks.append(rng.choice((cases.tc_frame(link, cases.BC, vc, 0, cases.UNLOCK),
-                                      cases.tc_frame(link, cases.BD, vc, 255, b"\xc0" + cases.packet(rng, 7)))))
-            uplink.locked = False if chunks[-1][0] & 0x10 else uplink.locked
-            continue
-        least, past = (accepted - half, accepted + half) if within else (accepted - 255, accepted + 256)
-        place = rng.choice((accepted, accepted, accepted + 1, accepted - 1, rng.randrange(least, past)))
-        if max(least, 0) <= place < min(past, count):
-            chunks.append(sent[place])
-            distance = (place - accepted) % 256
-            accepted += distance == 0 and not uplink.locked
-            uplink.sends(distance)
 
     def broken(model, program, words, chunks):
-        if any(chunk[0] & 0x20 == 0 and chunk not in numbers for chunk in chunks) or len(numbers) < count:
+        if len(numbers) < count or any(chunk[0] & 0x20 == 0 and chunk not in numbers for chunk in chunks):
             return ""
         lines = program.run(words, octets_of(chunks)).output.split(b"\n")[:-1]
         if len(lines) != len(chunks):
             return "not a line for each frame"
-        accepted, in_window = 0, True
-        for chunk, line in zip(chunks, lines):
-            verdict, clcw = line.split()[-3], bytes.fromhex(line.split()[-1].decode())
-            if chunk in numbers:
-                place = numbers[chunk]
-                if not accepted - 256 < place < accepted + 256:
-                    return ""
-                in_window = in_window and accepted - half <= place < accepted + half
-                if verdict == b"accept" and place != accepted:
-                    return f"{line}: the frame isn't the expected one"
-                if in_window and place == accepted and verdict != b"accept":
-                    return f"{line}: the expected frame isn't accepted"
-                accepted += verdict == b"accept"
-            if clcw[3] != (start + accepted) % 256:
-                return f"{line}: V(R) isn't {start} and the number of accepted frames"
-            if in_window and clcw[2] & 0x20:
-                return f"{line}: a lockout"
-        if any(chunk[0] & 0x30 == 0x20 for chunk in chunks):
-            return ""
+        text = in_order(chunks, lines, numbers, start, link["window"] // 2)
+        if text is not None or any(chunk[0] & 0x30 == 0x20 for chunk in chunks):
+            return text or ""
         whole = delivered(model, words, sent)
         for lists in (dict(enumerate(delivered(model, words, chunks))), listed(program, words, octets_of(chunks))):
             if any(whole[channel][:len(packets)] != packets for channel, packets in lists.items()):
                 return "the packets of a MAP aren't a prefix of those that were sent"
         return ""
-    return Try("acceptance in order", words_for(rng, b"show", b"tc", link), [chunks], broken)
+    return Try("acceptance in order", words_for(rng, b"show", b"tc", link), [arrived], broken)
+
+
+def frames_arrived(rng, link, uplink, sent):
+    """The frames as they arrive: in half of the recordings all in the window, else less than 256 frames away from the
+    expected one. Frames of type BD and Unlock come between them."""
+    reach, others = uplink.half if rng.random() < 0.5 else 256, rng.choice((0, 0.1))
+    unlock = cases.tc_frame(link, cases.BC, uplink.vc, 0, cases.UNLOCK)
+    bypassing = cases.tc_frame(link, cases.BD, uplink.vc, 255, b"\xc0" + cases.packet(rng, 7))
+    chunks, accepted = [], 0
+    while len(chunks) < min(2 * len(sent), 120) and accepted < len(sent):
+        if rng.random() < others or uplink.locked and rng.random() < 0.5:
+            chunks.append(rng.choice((unlock, bypassing)))
+            uplink.locked = uplink.locked and chunks[-1] != unlock
+            continue
+        least, past = accepted - min(reach, 255), accepted + reach
+        place = rng.choice((accepted, accepted, accepted + 1, accepted - 1, rng.randrange(least, past)))
+        if max(least, 0) <= place < min(past, len(sent)):
+            chunks.append(sent[place])
+            distance = (place - accepted) % 256
+            accepted += distance == 0 and not uplink.locked
+            uplink.sends(distance)
+    return chunks
+
+
+def in_order(chunks, lines, numbers, start, half):
+    """What isn't so in the lines of these frames; an empty text where nothing is claimed; None where all is so."""
+    accepted, in_window = 0, True
+    for chunk, line in zip(chunks, lines):
+        verdict, clcw = line.split()[-3], bytes.fromhex(line.split()[-1].decode())
+        if chunk in numbers:
+            ahead = numbers[chunk] - accepted
+            if not -256 < ahead < 256:
+                return ""
+            in_window = in_window and -half <= ahead < half
+            if verdict == b"accept" and ahead != 0:
+                return f"{line}: the frame isn't the expected one"
+            if in_window and ahead == 0 and verdict != b"accept":
+                return f"{line}: the expected frame isn't accepted"
+            accepted += verdict == b"accept"
+        if clcw[3] != (start + accepted) % 256:
+            return f"{line}: V(R) isn't {start} plus {accepted}"
+        if in_window and clcw[2] & 0x20:
+            return f"{line}: a lockout"
+    return None
 
 
 ALL = twice_is_once, any_pieces, equal_exactly_if, loss_is_local, acceptance_is_in_order

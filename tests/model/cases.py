@@ -47,7 +47,7 @@ def packet(rng, length):
 
 
 def corner_packet(rng, room):
-    """A packet, or what looks like one, whose every field is at an end of its range: some six to `room + 6` octets."""
+    """A packet, or what looks like one, whose every field is at an end of its range; at most `room + 6` octets."""
     stated = rng.choice((0, 1, max(room - 8, 0), max(room - 7, 0), max(room - 6, 0), 65534, 65535))
     first = rng.choice((0, 0, 0, 0, 0, 1, 7)) << 13 | rng.choice((0, 1)) << 12 | rng.choice((0, 1)) << 11
     first |= rng.choice((0, 1, 2046, 2047))
@@ -181,6 +181,9 @@ class TmFaults:
         field, pointer = (data(rng, room), 2046) if rng.random() < self.idle else channel.field(room)
         if rng.random() < self.opaque:
             flags |= rng.choice((1, 2, 3)) << 14
+            if rng.random() < 0.5:                        # one that takes no packets with it
+                channel.at -= room if pointer != 2046 else 0
+                pointer = rng.choice((2046, 2047, 2047))
         if rng.random() < self.pointers:
             pointer = wrong_pointer(rng, pointer, room)
         if rng.random() < self.counts:

@@ -85,7 +85,7 @@ def any_pieces(rng, number):
         whole = program.run(words, octets)
         for pieces in tries:
             if program.run(words, octets, pieces) != whole:
-                return f"another answer in pieces of {pieces} octets"
+                return f"another answer in pieces of {', '.join(map(str, pieces[:20]))} .. octets"
         return ""
     return Try("in any pieces", words, [chunks], broken)
 

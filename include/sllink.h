@@ -129,7 +129,8 @@ sllink_answer sllink_normalise_tc(const sllink_managed *managed, const uint8_t *
 /*
  * Reports whether two TM recordings deliver the same packets on each virtual channel, idle packets
  * left out: true exactly where their normal forms are equal. Under any answer but SLLINK_DONE the
- * call has written nothing.
+ * call has written nothing. SLLINK_MEMORY comes only where one of the two delivers packets, or has
+ * a packet (for TC, a series) that is incomplete before a frame or after it.
  */
 sllink_answer sllink_same_packets_tm(const sllink_managed *managed, const uint8_t *one,
                                      size_t one_length, const uint8_t *other, size_t other_length,

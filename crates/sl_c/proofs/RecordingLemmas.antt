@@ -1,16 +1,21 @@
 -- What calls over recordings answer: a text, as much of it as fits, and whether packets are the same.
-use Rattle.std.proofs.Common.{◌≡◌, ◌↔◌, ◌⊎◌, ℕ, ◌++◌, max, min, Bool, List, length, take, drop, Some, Result, Ok, Err, refl, sym, ap, subst, ◌∙◌, inl, inr, append-nil}
+use Rattle.std.proofs.Common.{◌≡◌, ◌↔◌, ◌⊎◌, ◌≤◌, ℕ, ◌++◌, arith, max, min, nat_lt, if◌then◌else◌, Bool, true, false, List, length, take, drop, Some, Result, Ok, Err, refl, sym, ap, subst, ◌∙◌, inl, inr, append-nil}
 use Rattle.std.specs.Io.KnownBytes.{Consumes, IsAtEnd}
 use Rattle.std.specs.Prelude.{IfErr, IfOk, IsTrue}
 use Rattle.std.proofs.Math.Nat.{min_comm}
+use Rattle.std.proofs.lemmas.Bool.{ltb-false}
 use Rattle.std.proofs.lemmas.List.{drop_min, take_min}
+use Rattle.std.proofs.lemmas.Result.{IfOk-at_ok}
 use Rattle.sl_link.specs.Link.Managed.{Parameters}
 use Rattle.sl_link.specs.Link.Totals.{Counts}
+use Rattle.sl_link.specs.Same.{StopsInMemory}
+use Rattle.sl_link.specs.declared.link.fault.LinkFault.{LinkFault}
+use Rattle.sl_link.specs.declared.link.managed.ManagedFault.{ManagedFault}
 use Rattle.sl_c.specs.Answer.{Says}
 use Rattle.sl_c.specs.declared.answer.Answer.{Answer}
-use Rattle.sl_c.specs.declared.answer.Answer.TheVariants.{Done, Memory}
+use Rattle.sl_c.specs.declared.answer.Answer.TheVariants.{Done, Memory, TooLong}
 use Rattle.sl_c.specs.declared.link.ManagedFields.{ManagedFields}
-use Rattle.sl_c.specs.Link.{reading_of}
+use Rattle.sl_c.specs.Link.{reading_of, reading_under}
 use Rattle.sl_c.specs.Recording.{ComparesPackets, GivesText, Lent, Outcome}
 
 -- the copied part, by how much of it there is
@@ -49,26 +54,44 @@ module _ (text : Parameters → List ℕ → List ℕ) (counts : Parameters → 
 
 -- ---- what a call over two recordings answers
 
-module _ (packets : Parameters → List ℕ → List (List (List ℕ))) (m : ManagedFields) (one other : List ℕ) where
+-- the parameters are for recordings of as many octets
+within_limit : (octets : ℕ) (managed : Result Parameters ManagedFault) → IfOk (reading_under octets managed) (λ p. octets ≤ p.max_octets)
+within_limit octets (Err refused) = tt
+within_limit octets (Ok p) = by (nat_lt p.max_octets octets) refl
+  where
+    by : (t : Bool) → nat_lt p.max_octets octets ≡ t → IfOk (if t then Err TooLong else Ok p) (λ (q : Parameters). octets ≤ q.max_octets)
+    by true e = tt
+    by false e = ltb-false p.max_octets octets e
+
+-- so memory was refused
+at_memory : {limit octets : ℕ} {may : Type 0} {fault : LinkFault} → octets ≤ limit → StopsInMemory limit octets may fault → may
+at_memory fits (inl long) = absurd (omega (arith, fits, long.1))
+at_memory fits (inr refused) = refused.1.1
+
+module _ (packets : Parameters → List ℕ → List (List (List ℕ))) (may_refuse_memory : Parameters → List ℕ → Type 0) (m : ManagedFields) (one other : List ℕ) where
+  abbrev may_refuse : Parameters → Type 0
+  may_refuse p = may_refuse_memory p one ⊎ may_refuse_memory p other
+
   -- that the recordings aren't read
-  pub refused_compares : (same : Bool) (answer : ℕ) (refusal : Answer) → reading_of m (max (length one) (length other)) ≡ Err refusal → Says answer refusal → ComparesPackets packets m one other same same answer
+  pub refused_compares : (same : Bool) (answer : ℕ) (refusal : Answer) → reading_of m (max (length one) (length other)) ≡ Err refusal → Says answer refusal → ComparesPackets packets may_refuse_memory m one other same same answer
   refused_compares same answer refusal e says = record {
     refused = subst (λ (r : Result Parameters Answer). IfErr r (λ it. Says answer it × (same ≡ same))) (sym e) (says, refl);
-    read = subst (λ (r : Result Parameters Answer). IfOk r (λ p. (Says answer Memory × (same ≡ same)) ⊎ (Says answer Done × (IsTrue same ↔ (packets p one ≡ packets p other))))) (sym e) tt;
+    read = subst (λ (r : Result Parameters Answer). IfOk r (λ p. (Says answer Memory × (same ≡ same) × may_refuse p) ⊎ (Says answer Done × (IsTrue same ↔ (packets p one ≡ packets p other))))) (sym e) tt;
   }
 
   -- that memory was refused
-  pub memory_compares : (same : Bool) (answer : ℕ) (p : Parameters) → reading_of m (max (length one) (length other)) ≡ Ok p → Says answer Memory → ComparesPackets packets m one other same same answer
-  memory_compares same answer p e says = record {
+  pub memory_compares : (same : Bool) (answer : ℕ) (p : Parameters) (fault : LinkFault) → reading_of m (max (length one) (length other)) ≡ Ok p → Says answer Memory
+      → StopsInMemory p.max_octets (max (length one) (length other)) (may_refuse p) fault → ComparesPackets packets may_refuse_memory m one other same same answer
+  memory_compares same answer p fault e says stops = record {
     refused = subst (λ (r : Result Parameters Answer). IfErr r (λ it. Says answer it × (same ≡ same))) (sym e) tt;
-    read = subst (λ (r : Result Parameters Answer). IfOk r (λ q. (Says answer Memory × (same ≡ same)) ⊎ (Says answer Done × (IsTrue same ↔ (packets q one ≡ packets q other))))) (sym e) (inl (says, refl));
+    read = subst (λ (r : Result Parameters Answer). IfOk r (λ q. (Says answer Memory × (same ≡ same) × may_refuse q) ⊎ (Says answer Done × (IsTrue same ↔ (packets q one ≡ packets q other))))) (sym e) (inl (says, refl, at_memory (IfOk-at_ok (λ (q : Parameters). max (length one) (length other) ≤ q.max_octets) e (within_limit _ _)) stops));
   }
 
   -- or what was found
-  pub found_compares : (same same' : Bool) (answer : ℕ) (p : Parameters) → reading_of m (max (length one) (length other)) ≡ Ok p → Says answer Done → (IsTrue same' ↔ (packets p one ≡ packets p other)) → ComparesPackets packets m one other same same' answer
+  pub found_compares : (same same' : Bool) (answer : ℕ) (p : Parameters) → reading_of m (max (length one) (length other)) ≡ Ok p → Says answer Done → (IsTrue same' ↔ (packets p one ≡ packets p other)) → ComparesPackets packets may_refuse_memory m one other same same' answer
   found_compares same same' answer p e says found = record {
     refused = subst (λ (r : Result Parameters Answer). IfErr r (λ it. Says answer it × (same' ≡ same))) (sym e) tt;
-    read = subst (λ (r : Result Parameters Answer). IfOk r (λ q. (Says answer Memory × (same' ≡ same)) ⊎ (Says answer Done × (IsTrue same' ↔ (packets q one ≡ packets q other))))) (sym e) (inr (says, found));
+    read = subst (λ (r : Result Parameters Answer). IfOk r (λ q. (Says answer Memory × (same' ≡ same) × may_refuse q) ⊎ (Says answer Done × (IsTrue same' ↔ (packets q one ≡ packets q other))))) (sym e) (inr (says, found));
   }
 
 -- octets in memory that were read to their end are all of them

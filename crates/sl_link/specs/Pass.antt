@@ -85,6 +85,14 @@ pub record MayRefuseMemoryAtSome {R : Type 0} (remaining : R → Option (List �
   pub in_order : frames_of octets ≡ first ++ later
   pub at_last : may_refuse_memory first
 
+-- memory may be refused at some frame of a recording in memory
+pub record MayRefuseMemoryIn (frames_of : List ℕ → List (List ℕ)) (may_refuse_memory : List (List ℕ) → Type 0)
+    (recording : List ℕ) : Type 0 where
+  pub first : List (List ℕ)
+  pub later : List (List ℕ)
+  pub in_order : frames_of recording ≡ first ++ later
+  pub at_last : may_refuse_memory first
+
 -- ---- the frames of one chunk
 
 -- These frames are at the front of the octets so far, and this is true of them, as that a sink

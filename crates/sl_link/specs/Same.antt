@@ -1,7 +1,15 @@
 -- Whether two recordings deliver the same packets. `packets` gives those of a recording.
-use Rattle.std.specs.Prelude.{◌≡◌, ◌↔◌, ℕ, List, Bool, IsTrue, Option}
+use Rattle.std.specs.Prelude.{◌≡◌, ◌⊎◌, ◌↔◌, ◌<◌, ◌≤◌, ℕ, List, Bool, IsTrue, Option}
 use Rattle.sl_link.specs.declared.link.counted.Counted.{Counted}
+use Rattle.sl_link.specs.declared.link.fault.LinkFault.{LinkFault}
+use Rattle.sl_link.specs.declared.link.fault.LinkFault.TheVariants.{Memory, TooLong}
+use Rattle.sl_tcframe.specs.TcDelimited.{tc_frames_of}
+use Rattle.sl_tmframe.specs.TmDelimited.{tm_frames_of}
 use Rattle.sl_link.specs.Io.Streams.{ReadsAll}
+use Rattle.sl_link.specs.Kind.Tc.{MayRefuseMemoryTc}
+use Rattle.sl_link.specs.Kind.Tm.{MayRefuseMemoryTm}
+use Rattle.sl_link.specs.Link.Managed.{Parameters, tc_format}
+use Rattle.sl_link.specs.Pass.{MayRefuseMemoryIn}
 
 module _ {A B : Type 0} (remaining : A → Option (List ℕ)) (others : B → Option (List ℕ)) where
   -- Both recordings were read, `limit` octets of each at most, and the answer is true exactly where
@@ -12,3 +20,16 @@ module _ {A B : Type 0} (remaining : A → Option (List ℕ)) (others : B → Op
     pub first_read : ReadsAll remaining one one' limit first
     pub second_read : ReadsAll others other other' limit second
     pub reported : IsTrue same ↔ (packets first ≡ packets second)
+
+-- The fault of a comparison in memory: a recording, the longest of which has this many octets, is over the limit; or
+-- none is, and memory was refused, where `at_memory` holds.
+abbrev pub StopsInMemory : ℕ → ℕ → Type 0 → LinkFault → Type 0
+StopsInMemory limit octets at_memory fault =
+    ((fault ≡ TooLong) × (limit < octets)) ⊎ ((fault ≡ Memory) × (octets ≤ limit) × at_memory)
+
+-- at some frame of a recording in memory a packet or a series is incomplete, before it or after it, or a packet was delivered
+abbrev pub MayRefuseMemoryInTm : Parameters → List ℕ → Type 0
+MayRefuseMemoryInTm p = MayRefuseMemoryIn (tm_frames_of p.tm_length) (MayRefuseMemoryTm p)
+
+abbrev pub MayRefuseMemoryInTc : Parameters → List ℕ → Type 0
+MayRefuseMemoryInTc p = MayRefuseMemoryIn (tc_frames_of (tc_format p)) (MayRefuseMemoryTc p)

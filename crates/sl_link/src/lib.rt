@@ -6,10 +6,11 @@
 //! - `show_` lists the frames, and `check_` their anomalies;
 //! - `packets_` lists the packets that the frames deliver;
 //! - `normalise_` writes these packets into new frames in one fixed way, the normal form;
-//! - `same_packets_` reports whether two recordings deliver the same packets.
+//! - `same_packets_` reports whether two recordings deliver the same packets;
+//! - `same_packets_in_memory_` does so for recordings that are slices.
 //!
-//! A call reads and writes [`Counted`] streams, under the [`Managed`] parameters of the link. It answers what it
-//! counted, its [`Totals`] (`same_packets_` a `bool`), or why it stopped, a [`LinkFault`].
+//! Every call but the last reads and writes [`Counted`] streams, under the [`Managed`] parameters of the link. It answers
+//! what it counted, its [`Totals`] (`same_packets_` a `bool`), or why it stopped, a [`LinkFault`].
 #![tactic(auto)]
 
 mod io;
@@ -31,4 +32,6 @@ pub use link::totals::Totals;
 pub use listings::{check_tc, check_tm, packets_tc, packets_tm, show_tc, show_tm};
 pub use normalise::{normalise_tc, normalise_tm};
 pub use program::run;
-pub use same::{same_packets_tc, same_packets_tm};
+pub use same::{
+    same_packets_in_memory_tc, same_packets_in_memory_tm, same_packets_tc, same_packets_tm,
+};

@@ -2,16 +2,16 @@
 ghost use Rattle.std.specs.Prelude.{◌≡◌, ◌≢◌, [], ℕ, List, IfOk, IfErr, OnOk};
 ghost use Rattle.sl_tcframe.specs.TcDelimited.{tc_frames_of};
 ghost use Rattle.sl_tmframe.specs.TmDelimited.{tm_frames_of};
-ghost use Rattle.sl_link.specs.Kind.Delivery.{AreStored, MayRefuseMemory, counts_in, packets_of};
+ghost use Rattle.sl_link.specs.Kind.Delivery.{AreDelivered, AreStored, MayRefuseMemory, counts_in, packets_of};
 ghost use Rattle.sl_link.specs.Kind.Tc.{MayRefuseMemoryTc, tc_counts, tc_packets};
 ghost use Rattle.sl_link.specs.Kind.Tm.{MayRefuseMemoryTm, tm_counts, tm_packets};
 ghost use Rattle.sl_link.specs.Link.Managed.{tc_format};
-ghost use Rattle.sl_link.specs.Normalise.Form.{HasSome, StoresAll, form_text, listed};
+ghost use Rattle.sl_link.specs.Normalise.Form.{HasSome, IsRefused, StoresAll, form_text, listed};
 ghost use Rattle.sl_link.specs.Normalise.Tc.{tc_normal_form};
 ghost use Rattle.sl_link.specs.Normalise.Tm.{tm_normal_form};
 ghost use Rattle.sl_link.specs.Tally.{listing_counts};
 ghost use Rattle.sl_link.specs.Io.Streams.{IsRead, KeepsPackets, Stops, StopsReading, StopsWriting, Translates, TranslatesWithTotals, WritesText};
-ghost use Rattle.sl_link.specs.Pass.{MayRefuseMemoryAtSome, chunk_size};
+ghost use Rattle.sl_link.specs.Pass.{MayRefuseMemoryAtSome, MayRefuseMemoryIn, chunk_size};
 
 mod form;
 
@@ -21,7 +21,7 @@ use crate::link::fault::LinkFault;
 use crate::link::managed::Managed;
 use crate::link::totals::Totals;
 use crate::normalise::form::write_form;
-use crate::pass::{CHUNK_SIZE, FrameSink, Framer, read_recording};
+use crate::pass::{CHUNK_SIZE, FrameSink, Framer, deliver_chunk, read_recording};
 use sl_packet::Delivered;
 use sl_tcflow::{Receiver, TcForm};
 use sl_tcframe::TcFramer;
@@ -251,6 +251,33 @@ pub fn store_packets<D: Delivery, F: Framer, R: Read>(
         ..
     } = store;
     Ok((delivered, so_far.totals(octets - so_far.octets(), 0)))
+}
+
+/// Stores the packets that the frames of a recording in memory deliver.
+pub fn store_packets_in_memory<D: Delivery, F: Framer>(
+    alloc: Global,
+    managed: &Managed,
+    framer: &mut F,
+    recording: &[u8],
+) -> Result<Delivered, LinkFault>
+    requires none { F.waits framer.old managed.now [] }
+    requires same { (frame : List ℕ) → F.is_frame managed.now frame → D.is_frame managed.now frame }
+    requires frames { F.frames_of managed.now ≡ (D.kind managed.now).frames_of }
+    ensures all { IfOk result (λ stored. AreDelivered (D.kind managed.now)
+        × AreStored (D.kind managed.now) ((D.kind managed.now).frames_of recording.now)
+        stored.lists) }
+    ensures memory { IfErr result (IsRefused (MayRefuseMemoryIn (D.kind managed.now).frames_of
+        (MayRefuseMemory (D.kind managed.now) (D.is_incomplete_at_last managed.now))
+        recording.now)) }
+{
+    let mut store = Store {
+        delivery: D::begin(alloc, managed),
+        so_far: Totals::none(),
+        delivered: Delivered::new(alloc),
+    };
+    deliver_chunk(managed, framer, &mut store, recording)?;
+    let Store { delivered, .. } = store;
+    Ok(delivered)
 }
 
 // Stores the packets that frames deliver.

@@ -49,9 +49,9 @@ pub fn read_recording<F: Framer, S: FrameSink, R: Read>(
     }
 }
 
-// Hands over the frames that a chunk completes, and then pauses. The clauses speak of any past: of a
-// sink `start`, and of all octets so far, which end with the chunk.
-fn deliver_chunk<F: Framer, S: FrameSink>(
+/// Hands over the frames that a chunk completes, and then pauses. The clauses speak of any past: of a
+/// sink `start`, and of all octets so far, which end with the chunk.
+pub fn deliver_chunk<F: Framer, S: FrameSink>(
     managed: &Managed,
     framer: &mut F,
     sink: &mut S,

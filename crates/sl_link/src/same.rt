@@ -1,5 +1,5 @@
 //! Whether two recordings deliver the same packets.
-ghost use Rattle.std.specs.Prelude.{◌≡◌, ◌⊎◌, [], ℕ, List, IfOk, IfErr};
+ghost use Rattle.std.specs.Prelude.{◌≡◌, ◌⊎◌, ◌↔◌, ◌≤◌, [], ℕ, List, IsTrue, IfOk, IfErr, OnOk, length, max};
 ghost use Rattle.sl_tcframe.specs.TcDelimited.{tc_frames_of};
 ghost use Rattle.sl_tmframe.specs.TmDelimited.{tm_frames_of};
 ghost use Rattle.sl_link.specs.Io.Streams.{ReadsAll, StopsReading};
@@ -7,14 +7,14 @@ ghost use Rattle.sl_link.specs.Kind.Delivery.{MayRefuseMemory, packets_of};
 ghost use Rattle.sl_link.specs.Kind.Tc.{MayRefuseMemoryTc, tc_packets};
 ghost use Rattle.sl_link.specs.Kind.Tm.{MayRefuseMemoryTm, tm_packets};
 ghost use Rattle.sl_link.specs.Link.Managed.{tc_format};
-ghost use Rattle.sl_link.specs.Pass.{MayRefuseMemoryAtSome, chunk_size};
-ghost use Rattle.sl_link.specs.Same.{ComparesPackets};
+ghost use Rattle.sl_link.specs.Pass.{MayRefuseMemoryAtSome, MayRefuseMemoryIn, chunk_size};
+ghost use Rattle.sl_link.specs.Same.{ComparesPackets, MayRefuseMemoryInTc, MayRefuseMemoryInTm, StopsInMemory};
 
 use crate::kind::Delivery;
 use crate::link::counted::Counted;
 use crate::link::fault::LinkFault;
 use crate::link::managed::Managed;
-use crate::normalise::store_packets;
+use crate::normalise::{store_packets, store_packets_in_memory};
 use crate::pass::Framer;
 use sl_tcflow::Receiver;
 use sl_tcframe::TcFramer;
@@ -126,4 +126,82 @@ fn same_packets<D: Delivery, F: Framer + Drop, A: Read, B: Read>(
     let (stored, _) = store_packets::<D, F, A>(alloc, managed, &mut framer, one)?;
     let (others, _) = store_packets::<D, F, B>(alloc, managed, &mut other_framer, other)?;
     Ok(stored.has_same_packets(&others))
+}
+
+/// Reports the same of two recordings of TM transfer frames in memory. The fault is `TooLong` where a recording has more
+/// octets than the managed limit, and else `Memory`, where memory was refused. Memory is refused only where a packet is
+/// incomplete on the virtual channel of a frame, before the frame or after it, or where a packet was delivered.
+pub fn same_packets_in_memory_tm(
+    alloc: Global,
+    managed: &Managed,
+    one: &[u8],
+    other: &[u8],
+) -> Result<bool, LinkFault>
+    ensures same { IfOk result (λ same. IsTrue same
+        ↔ (tm_packets managed.now one.now ≡ tm_packets managed.now other.now)) }
+    ensures within { OnOk result (max (length one.now) (length other.now)
+        ≤ managed.now.max_octets) }
+    // Memory is refused only where, in one recording, a packet is incomplete before a frame or
+    // after it, or was delivered.
+    ensures fault { IfErr result (StopsInMemory managed.now.max_octets
+        (max (length one.now) (length other.now)) (MayRefuseMemoryInTm managed.now one.now
+        ⊎ MayRefuseMemoryInTm managed.now other.now)) }
+{
+    let framers = (TmFramer::new(&managed.tm), TmFramer::new(&managed.tm));
+    same_packets_in_memory::<Extractor, TmFramer>(alloc, managed, framers, one, other)
+}
+
+/// Reports the same of two recordings of TC transfer frames in memory. The fault is `TooLong` where a recording has more
+/// octets than the managed limit, and else `Memory`, where memory was refused. Memory is refused only where the unit of
+/// a frame is accepted and a series is incomplete on its MAP, before the frame or after it, or where a packet was
+/// delivered.
+pub fn same_packets_in_memory_tc(
+    alloc: Global,
+    managed: &Managed,
+    one: &[u8],
+    other: &[u8],
+) -> Result<bool, LinkFault>
+    ensures same { IfOk result (λ same. IsTrue same
+        ↔ (tc_packets managed.now one.now ≡ tc_packets managed.now other.now)) }
+    ensures within { OnOk result (max (length one.now) (length other.now)
+        ≤ managed.now.max_octets) }
+    // Memory is refused only where, in one recording, a series is incomplete before a frame or
+    // after it, or a packet was delivered.
+    ensures fault { IfErr result (StopsInMemory managed.now.max_octets
+        (max (length one.now) (length other.now)) (MayRefuseMemoryInTc managed.now one.now
+        ⊎ MayRefuseMemoryInTc managed.now other.now)) }
+{
+    let framers = (TcFramer::new(&managed.tc), TcFramer::new(&managed.tc));
+    same_packets_in_memory::<Receiver, TcFramer>(alloc, managed, framers, one, other)
+}
+
+// Reports whether two recordings in memory deliver the same packets.
+fn same_packets_in_memory<D: Delivery, F: Framer + Drop>(
+    alloc: Global,
+    managed: &Managed,
+    framers: (F, F),
+    one: &[u8],
+    other: &[u8],
+) -> Result<bool, LinkFault>
+    requires none { F.waits framers.0 managed.now [] × F.waits framers.1 managed.now [] }
+    requires same { (frame : List ℕ) → F.is_frame managed.now frame → D.is_frame managed.now frame }
+    requires frames { F.frames_of managed.now ≡ (D.kind managed.now).frames_of }
+    ensures same { IfOk result (λ same. IsTrue same ↔ (packets_of (D.kind managed.now) one.now
+        ≡ packets_of (D.kind managed.now) other.now)) }
+    ensures within { OnOk result (max (length one.now) (length other.now)
+        ≤ managed.now.max_octets) }
+    ensures fault { IfErr result (StopsInMemory managed.now.max_octets
+        (max (length one.now) (length other.now))
+        (MayRefuseMemoryIn (D.kind managed.now).frames_of
+        (MayRefuseMemory (D.kind managed.now) (D.is_incomplete_at_last managed.now)) one.now
+        ⊎ MayRefuseMemoryIn (D.kind managed.now).frames_of
+        (MayRefuseMemory (D.kind managed.now) (D.is_incomplete_at_last managed.now)) other.now)) }
+{
+    let (mut framer, mut other_framer) = framers;
+    if one.len().max(other.len()) as u64 > managed.max_octets {
+        return Err(LinkFault::TooLong);
+    }
+    let stored = store_packets_in_memory::<D, F>(alloc, managed, &mut framer, one)?;
+    let also = store_packets_in_memory::<D, F>(alloc, managed, &mut other_framer, other)?;
+    Ok(stored.has_same_packets(&also))
 }

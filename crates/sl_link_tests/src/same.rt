@@ -4,7 +4,10 @@ use super::support::recordings::{
     WITH_GAP, ZEROS, octets,
 };
 use super::support::streams::{FailsAfter, InPieces, Unreadable};
-use sl_link::{Counted, LinkFault, Managed, ManagedFault, same_packets_tc, same_packets_tm};
+use sl_link::{
+    Counted, LinkFault, Managed, ManagedFault, same_packets_in_memory_tc,
+    same_packets_in_memory_tm, same_packets_tc, same_packets_tm,
+};
 use std::alloc::Global;
 use std::io::Read;
 use std::test::Fail;
@@ -42,6 +45,19 @@ fn compare_tc<A: Read + Drop, B: Read + Drop>(
     Ok((outcome, (one.faults(), other.faults())))
 }
 
+// What a comparison in memory answers.
+type InMemory = Result<Result<bool, LinkFault>, ManagedFault>;
+
+fn compare_in_memory_tm(alloc: Global, limit: u64, one: &[u8], other: &[u8]) -> InMemory {
+    let managed = link(limit)?;
+    Ok(same_packets_in_memory_tm(alloc, &managed, one, other))
+}
+
+fn compare_in_memory_tc(alloc: Global, limit: u64, one: &[u8], other: &[u8]) -> InMemory {
+    let managed = link(limit)?;
+    Ok(same_packets_in_memory_tc(alloc, &managed, one, other))
+}
+
 // Pairs of TM recordings, and whether their packets are the same.
 fn tm_pairs() -> [(&'static [&'static str], &'static [&'static str], bool); 8] {
     [
@@ -69,6 +85,8 @@ fn tm_recordings_are_compared(rt: HostRuntime) -> Result<(), Fail> {
         assert_eq!(rt; found, (Ok(same), (0, 0)));
         let turned = compare_tm(alloc, 1000, InPieces(other, 1), one)?;
         assert_eq!(rt; turned, (Ok(same), (0, 0)));
+        let in_memory = compare_in_memory_tm(alloc, 1000, one, other)?;
+        assert_eq!(rt; in_memory, Ok(same));
     }
     Ok(())
 }
@@ -98,6 +116,8 @@ fn tc_recordings_are_compared(rt: HostRuntime) -> Result<(), Fail> {
         assert_eq!(rt; found, (Ok(same), (0, 0)));
         let turned = compare_tc(alloc, 1000, InPieces(other, 1), one)?;
         assert_eq!(rt; turned, (Ok(same), (0, 0)));
+        let in_memory = compare_in_memory_tc(alloc, 1000, one, other)?;
+        assert_eq!(rt; in_memory, Ok(same));
     }
     Ok(())
 }
@@ -120,5 +140,9 @@ fn either_recording_may_fail(rt: HostRuntime) -> Result<(), Fail> {
     assert_eq!(rt; unread, (Err(LinkFault::Read), (1, 0)));
     let other_unread = compare_tc(alloc, 32, whole, Unreadable)?;
     assert_eq!(rt; other_unread, (Err(LinkFault::Read), (0, 1)));
+    let in_memory = compare_in_memory_tm(alloc, 31, "".as_bytes(), whole)?;
+    assert_eq!(rt; in_memory, Err(LinkFault::TooLong));
+    let also = compare_in_memory_tc(alloc, 31, whole, "".as_bytes())?;
+    assert_eq!(rt; also, Err(LinkFault::TooLong));
     Ok(())
 }

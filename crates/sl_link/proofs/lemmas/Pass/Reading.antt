@@ -4,7 +4,7 @@ use Rattle.std.specs.List.{concat, AllByRecursion}
 use Rattle.std.proofs.KnownBytes.{Consumes-nil, Consumes-trans}
 use Rattle.sl_fields.proofs.ListLemmas.{concat-push, each-append}
 use Rattle.sl_link.specs.Link.Managed.{Parameters}
-use Rattle.sl_link.specs.Pass.{CutsFrame, HasTaken, HasTakenAll, StopsPassing}
+use Rattle.sl_link.specs.Pass.{CutsFrame, HasTaken, HasTakenAll, MayRefuseMemoryIn, StopsPassing}
 use Rattle.sl_link.specs.declared.link.counted.Counted.{Counted}
 use Rattle.sl_link.specs.declared.link.fault.LinkFault.{LinkFault}
 use Rattle.sl_link.specs.declared.link.fault.LinkFault.TheVariants.{Memory}
@@ -47,6 +47,27 @@ module _ {F : Type 0} {is_frame : Parameters → List ℕ → Type 0} {waits : F
     pub taken_all : {taken' : List (List ℕ) → Type 0} {framer' : F} → frames_of p (h.rest ++ left) ≡ [] → waits framer' p (h.rest ++ left) → taken' h.frames
         → HasTakenAll is_frame waits frames_of taken' p framer' octets
     taken_all none w t = record { cut = taken_so_far w t; all = taken_first ∙ ap (λ fs. h.frames ++ fs) none ∙ append-nil h.frames }
+
+-- ---- a recording in memory, which is one chunk
+
+module _ {F : Type 0} {is_frame : Parameters → List ℕ → Type 0} {waits : F → Parameters → List ℕ → Type 0} {p : Parameters} {framer : F} where
+  -- nothing of it was taken
+  pub taken_none : {taken : List (List ℕ) → Type 0} (octets : List ℕ) → waits framer p [] → taken [] → HasTaken is_frame waits taken p framer octets octets
+  taken_none octets w t = record { frames = []; rest = []; waiting = w; parts = refl; whole = tt; done = t }
+
+  -- memory was refused at one of its frames
+  pub refused_in : {frames_of : Parameters → List ℕ → List (List ℕ)} {may : List (List ℕ) → Type 0} {octets left : List ℕ} {fault : LinkFault} (its : List ℕ → List (List ℕ)) → frames_of p ≡ its
+      → ((p : Parameters) (frame more : List ℕ) → is_frame p frame → frames_of p (frame ++ more) ≡ frame ∷ frames_of p more)
+      → HasTaken is_frame waits (λ frames. (fault ≡ Memory) × may frames) p framer octets left → (fault ≡ Memory) × MayRefuseMemoryIn its may octets
+  refused_in {frames_of} {may} {octets} {left} its same front h = (
+    h.done.0,
+    record {
+      first = h.frames;
+      later = frames_of p (h.rest ++ left);
+      in_order = sym (ap (λ (f : List ℕ → List (List ℕ)). f octets) same) ∙ taken_first h front;
+      at_last = h.done.1;
+    },
+  )
 
 -- ---- pieces read
 

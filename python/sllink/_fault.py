@@ -21,8 +21,8 @@ class SllinkError(Exception):
     """The program refused something or stopped, or it isn't there.
 
     `status` is the status of the program: 2 where it refused something, 3 at a fault, and 127 where there is no such
-    program; below 0 it is the number of the signal that ended it. `text` says why, in one line. A library has the same
-    statuses and reasons.
+    program, or it isn't sllink; below 0 it is the number of the signal that ended it. It is 3 too where `check` comes to
+    an end without totals. `text` says why, in one line. A library has the same statuses and reasons.
     """
 
     def __init__(self, status: int, text: str) -> None:

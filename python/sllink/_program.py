@@ -1,10 +1,11 @@
 """The program as a child: where it is, what it is given, and what it says."""
 
 import os
+import re
 import shutil
 import subprocess
 import threading
-from typing import Any, BinaryIO, Dict, Generator, List, Optional, Union
+from typing import Any, BinaryIO, Dict, Generator, List, Optional, Set, Tuple, Union
 
 from ._fault import SllinkError, explained
 from ._library import Library, Recording
@@ -14,7 +15,11 @@ HERE = os.path.dirname(os.path.realpath(__file__))
 BUILT = os.path.normpath(os.path.join(HERE, "../../crates/sllink/out/sllink"))
 INSTALLED = os.path.normpath(os.path.join(HERE, "../../../../bin/sllink"))
 MOST_SAID = 65536                                            # octets that are kept of what the program says
+MOST_VERSION = 64                                            # more than the version has
 BLOCK = 3 << 20                                              # octets of lines that are read together
+VERSION = re.compile(rb"sllink \d+(\.\d+)*\n")               # what the program answers to --version
+TOTALS = re.compile(rb"frames \d+ skipped \d+ packets \d+ idle \d+ anomalies \d+\n")   # the last line of `check`
+DONE = {"check": (0, 1)}                                     # statuses of a run to the end, where not 0 alone
 
 Path = Optional[Union[str, "os.PathLike[str]"]]
 Program = Union[Path, Library]
@@ -28,6 +33,41 @@ def find_program(program: Path = None) -> str:
     return os.environ.get("SLLINK") or shutil.which("sllink") or (INSTALLED if os.path.exists(INSTALLED) else BUILT)
 
 
+_known: Set[Tuple[int, int, int, int]] = set()               # programs that have answered as sllink
+
+
+def _started(command: List[str], **pipes: Any) -> "subprocess.Popen[bytes]":
+    try:
+        return subprocess.Popen(command, **pipes)            # pylint: disable=consider-using-with
+    except (FileNotFoundError, NotADirectoryError, PermissionError):
+        raise SllinkError(127, f"{command[0]}: there is no such program; $SLLINK says where it is") from None
+
+
+def require_sllink(name: str) -> None:
+    """Asks a program for its version at its first use, and refuses one that doesn't answer as sllink does. What another
+    program says of a recording, or leaves unsaid, might look like an answer."""
+    try:
+        it = os.stat(shutil.which(name) or name)
+    except OSError:
+        it = None                                            # starting it says why
+    key = (it.st_dev, it.st_ino, it.st_size, it.st_mtime_ns) if it else None
+    if key in _known:
+        return
+    child = _started([name, "--version"], stdin=subprocess.DEVNULL, stdout=subprocess.PIPE, stderr=subprocess.DEVNULL)
+    pipe: Any = child.stdout
+    try:
+        said = pipe.read(MOST_VERSION)
+        answered = len(said) < MOST_VERSION and child.wait() == 0 and VERSION.fullmatch(said)
+    finally:
+        child.kill()
+        child.wait()
+        pipe.close()
+    if not answered:
+        raise SllinkError(127, f"{name}: isn't sllink, by its answer to --version; $SLLINK says where sllink is")
+    if key:
+        _known.add(key)
+
+
 class Child:
     """A running program, whose standard output is `output`."""
 
@@ -35,27 +75,23 @@ class Child:
                  program: Path = None) -> None:
         name = find_program(program)
         command = [name, verb, kind, *words_of(options)]
+        require_sllink(name)
+        self._verb = verb
         self._fault: Optional[BaseException] = None          # of reading the recording
         self._said = b""
         pipes: Dict[str, Any] = {"stdout": subprocess.PIPE, "stderr": subprocess.PIPE}
         source: Any = recording
         if hasattr(recording, "read"):
-            self._start(command, name, stdin=subprocess.PIPE, **pipes)
+            self._child = _started(command, stdin=subprocess.PIPE, **pipes)
             threading.Thread(target=self._feed, args=(source,), daemon=True).start()
         elif isinstance(recording, int):
-            self._start(command, name, stdin=recording, **pipes)
+            self._child = _started(command, stdin=recording, **pipes)
         else:
             with open(source, "rb", buffering=0) as octets:
-                self._start(command, name, stdin=octets, **pipes)
+                self._child = _started(command, stdin=octets, **pipes)
         self._listener = threading.Thread(target=self._listen, daemon=True)
         self._listener.start()
         self.output: BinaryIO = self._child.stdout           # type: ignore[assignment]
-
-    def _start(self, command: List[str], name: str, **pipes: Any) -> None:
-        try:
-            self._child = subprocess.Popen(command, **pipes)
-        except (FileNotFoundError, NotADirectoryError, PermissionError):
-            raise SllinkError(127, f"{name}: there is no such program; $SLLINK says where it is") from None
 
     def _feed(self, recording: Any) -> None:
         """Writes the recording to the program, as it comes."""
@@ -89,20 +125,23 @@ class Child:
                     break
                 self._said += octets[:MOST_SAID - len(self._said)]
 
-    def end(self) -> None:
-        """After the end of the output: raises where the program didn't come to the end of the recording."""
+    def end(self, last: bytes = b"") -> None:
+        """After the end of the output, and with its last line: raises where the program didn't come to the end of the
+        recording. `check` has totals there."""
         status = self._child.wait()
         self._listener.join(10)
         self._close()
         if self._fault is not None:
             raise self._fault
-        if status not in (0, 1):
+        if status not in DONE.get(self._verb, (0,)):
             first, *rest = (" ".join(part.split()) for part in self._said.decode(errors="backslashreplace").split("\n\n"))
             reason = "; ".join([first, *(part for part in rest if part.startswith("tip: "))])
             for before in ("error: ", "sllink: "):
                 if reason.startswith(before):
                     reason = reason[len(before):]
             raise SllinkError(status, f"sllink: {explained(reason) or 'status ' + str(status)}")
+        if self._verb == "check" and not TOTALS.fullmatch(last):
+            raise SllinkError(3, "sllink: the totals are missing")
 
     def stop(self) -> None:
         """Ends the program where it is."""
@@ -123,11 +162,12 @@ def lines(verb: str, kind: str, recording: Recording, options: Words, *,
         yield from program.text(verb, kind, recording, options).decode("ascii").splitlines()
         return
     child = Child(verb, kind, recording, options, program)
+    line = b""
     try:
         for line in child.output:
             if line.endswith(b"\n"):                         # else it is cut off, and the status tells why
                 yield line[:-1].decode("ascii")
-        child.end()
+        child.end(line)
     finally:
         child.stop()
 
@@ -136,13 +176,14 @@ def blocks(verb: str, kind: str, recording: Recording, options: Words) -> Genera
     """The lines of a listing, with their line feeds, many of them together."""
     child = Child(verb, kind, recording, options)
     try:
-        rest = b""
+        rest = last = b""
         for octets in iter(lambda: child.output.read(BLOCK), b""):
             end = octets.rfind(b"\n") + 1
             if end:
-                yield rest + octets[:end]
-                rest = b""
+                whole = rest + octets[:end]
+                last, rest = whole[whole.rfind(b"\n", 0, -1) + 1:], b""
+                yield whole
             rest += octets[end:]
-        child.end()                                          # a rest is cut off, and the status tells why
+        child.end(last + rest)                               # a rest is cut off, and the status tells why
     finally:
         child.stop()

@@ -45,7 +45,7 @@ class Recording:
             self.survey = Survey(kind, path, options)
             self.tally = Tally(kind, path, options, compared)
         self.digest = digest_of(path)
-        self.survey.require_unchanged()
+        self.survey.state.require_unchanged()
         self.name = self.survey.name
 
 
@@ -74,7 +74,7 @@ def report_of_two(kind: str, paths: Sequence[str], options: Sequence[Sequence[st
     name_apart(one, other, paths)
     difference = Difference(one.tally, other.tally)
     for it in one, other:
-        it.survey.require_unchanged()
+        it.survey.state.require_unchanged()
     asked = [f"{it.name}: {question}" for it in (one, other) for question in questions(it.survey, it.tally)]
     alike = options[0] == options[1]
     parts = ["<header>", heading(1, f"{one.name} and {other.name}"), read_as(one) if alike else "", "</header>",

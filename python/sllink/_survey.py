@@ -11,7 +11,8 @@ from collections import defaultdict
 from typing import Counter, Dict, Iterator, List, NamedTuple, Optional, Sequence, Tuple
 
 from ._program import blocks
-from .tool import Refused, require_file, shown
+from ._state import State
+from .tool import shown
 
 BINS = 480                                                # stretches of a recording, in which frames are counted
 SPOTS = 960                                               # stretches in which anomalies are counted
@@ -149,11 +150,10 @@ class Survey:
     """What `show` and `check` have for a recording."""
 
     def __init__(self, kind: str, recording: str, options: Sequence[str]) -> None:
-        require_file(recording)
+        self.state = State(recording)
         self.kind, self.recording, self.options = kind, recording, list(options)
         self.name = shown(os.path.basename(recording))
-        self.state = state_of(recording)
-        self.size = self.state[0]
+        self.size = self.state.size
         self.frames = self.skipped = self.packets = self.idle = 0
         self.anomalies: Counter[str] = collections.Counter()        # lines of `check` by their words
         self.reasons: Counter[str] = collections.Counter()          # skipped frames by the reason
@@ -174,12 +174,7 @@ class Survey:
         self._flags: Dict[int, int] = defaultdict(int)    # those of FARM-1 that are set, by channel
         self._commands = Commands(self.bins)
         self._show()
-        self.require_unchanged()
-
-    def require_unchanged(self) -> None:
-        """Refuses a recording that changes while it is read more than once."""
-        if state_of(self.recording) != self.state:
-            raise Refused(f"{shown(self.recording)}: has changed while it was read")
+        self.state.require_unchanged()
 
     def is_short(self) -> bool:
         """Whether each frame has a cell."""
@@ -337,12 +332,6 @@ class Survey:
             bars[-1][1] = end
         else:
             bars.append([start, end])
-
-
-def state_of(recording: str) -> Tuple[int, int]:
-    """The size of a recording, and when it changed."""
-    state = os.stat(recording)
-    return state.st_size, state.st_mtime_ns
 
 
 def offset_at(block: bytes, start: int) -> int:

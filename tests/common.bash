@@ -84,8 +84,15 @@ sys.exit(subprocess.run(sys.argv[1:], stdout=writer, check=False).returncode)' "
   expect "$*: the reader goes away" "2 " "$status $(cat "$log/errors")"
 }
 
+# program_of NAME LINE..: a program that answers to --version as sllink does, and else runs these lines of a shell
+program_of() {
+  printf '%s\n' '#!/bin/sh' '[ "$1" != --version ] || { echo "sllink 1.0.0"; exit; }' "${@:2}" > "$1"
+  chmod +x "$1"
+}
+
 # refuses_options COMMAND..: a tool, with all its words but options: what it makes of wrong options, of a program that isn't
-# there, of a standard output that is full, and its help. The first recording is also on the standard input, as a path.
+# there or isn't sllink, of a standard output that is full, and its help. The first recording is also on the standard input,
+# as a path.
 refuses_options() {
   local words=("$@") tool=("$1")
   [ "$1" != python3 ] || tool=("${@:1:3}")
@@ -105,6 +112,7 @@ refuses_options() {
   refuses "$called: *sllink: too long; *--limit" "${words[@]}" --scid 1 --limit 100 < <(echo $first)
   SLLINK=$room/none refuses "$called: $room/none: *" "${words[@]}" --scid 1 < /dev/null
   SLLINK=$room refuses "$called: $room: *" "${words[@]}" --scid 1 < /dev/null
+  refuses_programs "${words[@]}"
   refuses "$called: *$called tm|tc *" "${tool[@]}" < /dev/null
   refuses "$called: *$called tm|tc *" "${tool[@]}" tx $first $first --scid 1 < /dev/null
   run "${words[@]}" --help < /dev/null
@@ -116,12 +124,29 @@ refuses_options() {
   goes_away "${words[@]}" --help < /dev/null
 }
 
+# refuses_programs COMMAND..: a tool, with all its words but options: what it makes of programs that aren't sllink, and of
+# one whose status or whose totals aren't those of a run to the end
+refuses_programs() {
+  local other called=$1
+  [ "$1" != python3 ] || called=${*:1:3}
+  for other in false true yes echo cat; do
+    SLLINK=$(type -P $other) refuses "$called: */$other: isn't sllink, *" "$@" "${tm[@]}" < <(echo $first)
+  done
+  program_of other 'exec yes'
+  sed -i 2d other
+  SLLINK=./other refuses "$called: ./other: isn't sllink, *" "$@" "${tm[@]}" < <(echo $first)
+  program_of other 'echo "sllink 1.0.0 of another kind"'
+  sed -i 2d other
+  SLLINK=./other refuses "$called: ./other: isn't sllink, *" "$@" "${tm[@]}" < <(echo $first)
+  program_of other 'exit 1'
+  SLLINK=./other refuses "$called: *sllink: *" "$@" "${tm[@]}" < <(echo $first)
+}
+
 # stops COMMAND..: a tool, with all its words but options, is told to stop while sllink runs: it ends with status 2 and
 # leaves nothing behind
 stops() {
   runs=$((runs + 1))
-  printf '#!/bin/sh\n: > started\nsleep 1\n' > slow
-  chmod +x slow
+  program_of slow ': > started' 'sleep 1'
   rm -f started
   SLLINK=./slow "$@" "${tm[@]}" < <(echo $first) > /dev/null 2>&1 &
   timeout 60 sh -c 'until [ -e started ]; do sleep 0.05; done'

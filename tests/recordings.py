@@ -7,8 +7,9 @@ from collections import namedtuple
 
 # What a recording is: kind, octets, spacecraft, length of the frames (of TC: the longest), whether they have an error
 # control field, how many TM frames have an operational control field, the virtual channels of TC frames without segment
-# headers, the initial V(R) of each, the frames that were kept, and the offsets at which the frames shift.
-Recording = namedtuple("Recording", "kind octets scid length fecf ocf plain starts frames shifts")
+# headers, the initial V(R) of each, the frames that were kept, the offsets at which the frames shift, and those frames
+# that are whole.
+Recording = namedtuple("Recording", "kind octets scid length fecf ocf plain starts frames shifts whole")
 
 
 def packet(apid, count, data, kind=0):
@@ -128,8 +129,39 @@ def tc_frames(random, frames, scid, longest, fecf, vcs, plain, starts):
         yield waiting.pop(0)
 
 
-def recording(random, kind, frames=None, shifts=0, noise=None):
-    """A random recording. `noise` is the share of the frames that are lost, and of those that have bit errors."""
+def strange(random, frame):
+    """Octets that belong to no frame, fewer than a frame has. Some look like the beginning of a header."""
+    length = random.choice((1, random.randint(1, 9), random.randint(1, len(frame) - 1)))
+    if random.random() < 0.2:
+        return (frame[:2] + bytes([0, 2]) + data(random, length, "zeros"))[:length]
+    return data(random, length, random.choice(("zeros", "fill", "ramp", "noise")))
+
+
+def cut(random, frames, whole, cuts):
+    """The frames, at so many of which octets are missing or too many, between frames or within one. The octets; and
+    those of the whole frames that still are so."""
+    parts, whole = list(frames), list(whole)
+    for place in sorted(random.sample(range(len(frames)), min(cuts, len(frames))), reverse=True):
+        frame, what = frames[place], random.randrange(4)
+        at = random.randrange(1, len(frame))
+        if what == 0:                                        # too many between two frames
+            parts[place] += strange(random, frame)
+            continue
+        whole[place] = False
+        if what == 1:                                        # too many within a frame
+            parts[place] = parts[place][:at] + strange(random, frame) + parts[place][at:]
+        elif what == 2 or place + 1 == len(frames):          # missing within a frame
+            parts[place] = parts[place][:at] + parts[place][random.randint(at + 1, len(frame)):]
+        else:                                                # missing at the end of a frame and the front of the next
+            whole[place + 1] = False
+            parts[place] = parts[place][:at]
+            parts[place + 1] = parts[place + 1][random.randrange(1, len(frames[place + 1])):]
+    return b"".join(parts), [frame for frame, is_whole in zip(frames, whole) if is_whole]
+
+
+def recording(random, kind, frames=None, shifts=0, noise=None, cuts=0):
+    """A random recording. `noise` is the share of the frames that are lost, and of those that have bit errors. Octets
+    are lost at `shifts` places, and are missing or too many at `cuts` frames."""
     losses, errors = (noise, noise) if noise is not None else (random.choice((0, random.random() / 20)) for _ in "12")
     scid = random.choice((0, 1, 1023, *(random.randrange(1024) for _ in range(17))))
     fecf = random.random() < 0.5
@@ -146,11 +178,11 @@ def recording(random, kind, frames=None, shifts=0, noise=None):
         longest = random.choice((20, 60, 200, 480))
         sent = tc_frames(random, frames, scid, longest, fecf, vcs, plain, starts)
         ocf = 0
-    kept = [flipped(random, frame) if random.random() < errors else frame
-            for frame in sent if random.random() >= losses]
+    sent = [(frame, random.random() >= errors) for frame in sent if random.random() >= losses]
+    kept = [frame if is_whole else flipped(random, frame) for frame, is_whole in sent]
     length = max(map(len, kept), default=0)
-    octets, places = b"".join(kept), []
+    (octets, whole), places = cut(random, kept, [is_whole for _, is_whole in sent], cuts), []
     for place in sorted(random.randrange(len(octets)) for _ in range(shifts)):
         octets = octets[:place] + octets[place + random.randint(1, length - 1):]
         places.append(place)
-    return Recording(kind, octets, scid, length, fecf, ocf, tuple(plain), starts, len(kept), places)
+    return Recording(kind, octets, scid, length, fecf, ocf, tuple(plain), starts, len(kept), places, whole)

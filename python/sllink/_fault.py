@@ -20,9 +20,9 @@ MANAGED = {"spacecraft": "--scid", "tm length": "--tm-length", "tc length": "--t
 class SllinkError(Exception):
     """The program refused something or stopped, or it isn't there.
 
-    `status` is the status of the program: 2 where it refused something, 3 at a fault, and 127 where there is no such
-    program, or it isn't sllink; below 0 it is the number of the signal that ended it. It is 3 too where `check` comes to
-    an end without totals. `text` says why, in one line. A library has the same statuses and reasons.
+    `status` is the status of the program: 2 where it refused something, 3 at a fault, also where `check` ends without
+    totals, and 127 where there is no such program, or it isn't sllink; below 0 it is the number of the signal that
+    ended it. `text` says why, in one line. A library has the same statuses and reasons.
     """
 
     def __init__(self, status: int, text: str) -> None:

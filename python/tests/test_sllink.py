@@ -13,6 +13,7 @@ import os
 import pathlib
 import pickle
 import re
+import shutil
 import signal
 import subprocess
 import sys
@@ -61,10 +62,10 @@ class InAFolder(unittest.TestCase):
         self.addCleanup(folder.cleanup)
         self.folder = pathlib.Path(folder.name)
 
-    def program(self, script):
+    def program(self, script, version="[ $1 != --version ] || { echo sllink 1.0.0; exit; }\n"):
         """A program in place of sllink."""
         path = self.folder / "program"
-        path.write_text("#!/bin/sh\n" + script)
+        path.write_text("#!/bin/sh\n" + version + script)
         path.chmod(0o755)
         return path
 
@@ -322,6 +323,59 @@ class Ends(InAFolder):
                 list(sllink.packets("tm", EXAMPLES / "pass.tm", STATION, program=name))
             self.assertEqual(raised.exception.status, 127)
             self.assertIn(str(name), raised.exception.text)
+
+    def test_another_program(self):
+        """One that doesn't answer to --version as sllink does is refused before it sees a recording."""
+        path = EXAMPLES / "first-station.tm"
+        others = [shutil.which(name) for name in ("false", "true", "yes", "echo", "cat")] + [
+            self.program("exec yes", ""), self.program("echo sllink", ""), self.program("echo sllink 1.0.0; exit 1", "")]
+        for name in others:
+            for read in (lambda: list(sllink.frames("tm", path, STATION, program=name)),
+                         lambda: sllink.anomalies("tm", path, STATION, program=name).totals,
+                         lambda: list(sllink.packets("tm", path, STATION, program=name)),
+                         lambda: sllink.normal_form("tm", path, self.folder / "a", STATION, program=name),
+                         lambda: sllink.same_packets("tm", path, path, STATION, program=name),
+                         lambda: sllink.same_packets("tm", path, path, STATION, sllink.Options(1), program=name)):
+                with self.subTest(name=name), self.assertRaises(sllink.SllinkError) as raised:
+                    read()
+                self.assertEqual(raised.exception.status, 127)
+                self.assertIn(f"{name}: isn't sllink, by its answer to --version", raised.exception.text)
+        self.assertFalse((self.folder / "a").exists())
+
+    def test_asked_once(self):
+        """A program is asked at its first use alone, and again where it is another one."""
+        program = self.program("exit 2", f"echo $1 >> {self.folder}/words; [ $1 != --version ] || "
+                               "{ echo sllink 2.10; exit; }\n")
+        for _ in range(3):
+            with self.assertRaises(sllink.SllinkError):
+                list(sllink.packets("tm", EXAMPLES / "pass.tm", STATION, program=program))
+        self.assertEqual((self.folder / "words").read_text().split(), ["--version"] + ["packets"] * 3)
+        with self.assertRaisesRegex(sllink.SllinkError, "isn't sllink"):
+            list(sllink.packets("tm", EXAMPLES / "pass.tm", STATION, program=self.program("exit 0", "")))
+
+    def test_status_1(self):
+        """It is an answer of `check` alone."""
+        program = self.program("echo frames 0 skipped 0 packets 0 idle 0 anomalies 1; exit 1")
+        self.assertEqual(sllink.anomalies("tm", os.devnull, STATION, program=program).totals.anomalies, 1)
+        program = self.program("exit 1")
+        for read in (lambda: list(sllink.frames("tm", os.devnull, STATION, program=program)),
+                     lambda: list(sllink.packets("tm", os.devnull, STATION, program=program)),
+                     lambda: sllink.normal_form("tm", os.devnull, io.BytesIO(), STATION, program=program),
+                     lambda: sllink.same_packets("tm", os.devnull, os.devnull, STATION, program=program)):
+            with self.assertRaisesRegex(sllink.SllinkError, "^sllink: status 1$") as raised:
+                read()
+            self.assertEqual(raised.exception.status, 1)
+
+    def test_check_without_totals(self):
+        """They are the last line."""
+        totals = "frames 1 skipped 0 packets 1 idle 0 anomalies 0\n"
+        for said in "", "0 gap vc 1 expected 1 found 2\n", totals + "0 open vc 0 octets 1\n", totals[:-1], totals + totals[:9]:
+            for status in 0, 1:
+                program = self.program(f"printf '{said}'; exit {status}")
+                for read in (lambda: list(sllink.lines("check", "tm", os.devnull, STATION, program=program)),
+                             lambda: list(sllink.anomalies("tm", os.devnull, STATION, program=program))):
+                    with self.subTest(said=said), self.assertRaisesRegex(sllink.SllinkError, "the totals are missing"):
+                        read()
 
     def test_where_the_program_is(self):
         before = os.environ.get("SLLINK")

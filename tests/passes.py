@@ -3,15 +3,21 @@
     python3 tests/passes.py tm [--frames N] [--channels N] [WORD..] > PASS.tm
     python3 tests/passes.py tc [--frames N] [--channels N] [WORD..] > PASS.tc
 
-TM frames have 1115 octets and are to be read with --scid 679 --tm-fecf, TC frames with --scid 679 --tc-fecf. Packets of
-60 to 180 octets of several APIDs come on each channel, most on channel 0, and idle frames on the last one. Each fourth
-TM frame has a CLCW. An uplink has lockouts, frames that come twice, and series of segments.
+TM frames have 1115 octets and are to be read with --scid 679 --tm-fecf, TC frames with --scid 679 --tc-fecf, where no
+word says otherwise. Packets of 60 to 180 octets of several APIDs come on each channel, most on channel 0, and idle
+frames on the last one. Each fourth TM frame has a CLCW. An uplink has lockouts, frames that come twice, and series of
+segments.
 
     --seed N        what the pass is (1)
     --lose N        frames lost of 1000 (0), in runs of --run frames (1), by the seed --station (1)
     --errors N      frames with a bit error of 1000 (0), by the same seed
     --from N        the frames before this one are lost (0)
     --octets N      octets of a packet, about (120)
+    --scid N        the spacecraft (679)
+    --length N      octets of a TM frame (1115)
+    --no-field      frames have no error control field
+    --randomised    each frame is randomised, as for the link
+    --marked        each frame comes after a sync marker
 
 Another station that saw the same pass has the same words but for --station, --lose, --run, --errors and --from.
 """
@@ -20,8 +26,10 @@ import argparse
 import random
 import sys
 from binascii import crc_hqx
+from functools import lru_cache, partial
 
-SCID, LENGTH = 679, 1115
+MARKER = b"\x1a\xcf\xfc\x1d"
+TAPS = {"tm": (1, 3, 5, 8), "tc": (2, 4, 5, 6, 7, 8)}     # of the randomisers
 
 
 def packet(rng, apid, count, octets, kind=0):
@@ -31,22 +39,35 @@ def packet(rng, apid, count, octets, kind=0):
             + (octets - 1).to_bytes(2, "big") + data)
 
 
-def with_fecf(frame):
-    """A frame and its frame error control field."""
-    return frame + crc_hqx(frame, 0xFFFF).to_bytes(2, "big")
+def closed(frame, words):
+    """A frame, and its frame error control field where it has one."""
+    return frame if words.no_field else frame + crc_hqx(frame, 0xFFFF).to_bytes(2, "big")
+
+
+@lru_cache
+def sequence(kind, octets=2048):
+    """The first octets of the sequence that randomises frames."""
+    bits = [1] * 8
+    while len(bits) < 8 * octets:
+        bits.append(sum(bits[-tap] for tap in TAPS[kind]) % 2)
+    return bytes(int("".join(map(str, bits[at:at + 8])), 2) for at in range(0, 8 * octets, 8))
 
 
 class Channel:
     """A virtual channel of the downlink: the packets that wait, and its counts."""
 
-    def __init__(self, rng, vc, about):
-        self.rng, self.vc, self.about = rng, vc, about
+    def __init__(self, rng, vc, words):
+        self.rng, self.vc, self.words, self.about = rng, vc, words, words.octets
         self.octets, self.starts, self.count = b"", [], 0
         self.counts = {100 * (vc + 1) + n: 0 for n in range(3)}
 
+    def room(self, word):
+        """The octets of a frame's data field."""
+        return self.words.length - 6 - len(word) - (0 if self.words.no_field else 2)
+
     def frame(self, mc, word):
         """The next frame."""
-        room = LENGTH - 8 - len(word)
+        room = self.room(word)
         while len(self.octets) < room:
             apid = self.rng.choice(list(self.counts))
             self.starts.append(len(self.octets))
@@ -56,15 +77,15 @@ class Channel:
         first = next((start for start in self.starts if start < room), 2047)
         frame = self.header(mc, 0x1800 | first, word) + self.octets[:room] + word
         self.octets, self.starts = self.octets[room:], [start - room for start in self.starts if start >= room]
-        return with_fecf(frame)
+        return closed(frame, self.words)
 
     def idle(self, mc, word):
         """The next frame, with only idle data."""
-        return with_fecf(self.header(mc, 0x1FFE, word) + bytes([0x55] * (LENGTH - 8 - len(word))) + word)
+        return closed(self.header(mc, 0x1FFE, word) + b"\x55" * self.room(word) + word, self.words)
 
     def header(self, mc, flags, word):
         """The primary header."""
-        first = SCID << 4 | self.vc << 1 | (len(word) > 0)
+        first = self.words.scid << 4 | self.vc << 1 | (len(word) > 0)
         self.count += 1
         return first.to_bytes(2, "big") + bytes([mc % 256, (self.count - 1) % 256]) + flags.to_bytes(2, "big")
 
@@ -72,7 +93,7 @@ class Channel:
 def downlink(words):
     """The frames of a pass."""
     rng = random.Random(words.seed)
-    channels = [Channel(rng, vc, words.octets) for vc in range(words.channels)]
+    channels = [Channel(rng, vc, words) for vc in range(words.channels)]
     weights = [8] + [1 + vc % 2 for vc in range(1, words.channels)]
     accepted = 0
     for mc in range(words.frames):
@@ -82,16 +103,16 @@ def downlink(words):
         yield channel.idle(mc, word) if channel.vc == words.channels - 1 > 0 else channel.frame(mc, word)
 
 
-def tc_frame(vc, ns, data, bypass=False, command=False):
+def tc_frame(words, vc, ns, data, bypass=False, command=False):
     """A TC frame."""
-    first = bypass << 13 | command << 12 | SCID
-    size = 5 + len(data) + 2
-    return with_fecf(first.to_bytes(2, "big") + (vc << 10 | size - 1).to_bytes(2, "big") + bytes([ns % 256]) + data)
+    first = bypass << 13 | command << 12 | words.scid
+    last = 5 + len(data) + (0 if words.no_field else 2) - 1
+    return closed(first.to_bytes(2, "big") + (vc << 10 | last).to_bytes(2, "big") + bytes([ns % 256]) + data, words)
 
 
 def uplink(words):
     """The frames of an uplink."""
-    rng = random.Random(words.seed)
+    rng, frame = random.Random(words.seed), partial(tc_frame, words)
     sent = [0] * words.channels
     counts = [0] * words.channels
     number = 0
@@ -102,19 +123,19 @@ def uplink(words):
         octets = packet(rng, 10 + vc, counts[vc], rng.randint(10, 200), 1)
         counts[vc] += 1
         if what < 0.04:                                   # outside, some that are refused, and the way out
-            frames = [tc_frame(vc, sent[vc] + 100 + n, b"\xc0" + octets) for n in range(rng.randint(1, 12))]
-            frames += [tc_frame(vc, 0, data, True, True) for data in (b"\0", bytes([0x82, 0, sent[vc] % 256]))]
+            frames = [frame(vc, sent[vc] + 100 + n, b"\xc0" + octets) for n in range(rng.randint(1, 12))]
+            frames += [frame(vc, 0, data, True, True) for data in (b"\0", bytes([0x82, 0, sent[vc] % 256]))]
         elif what < 0.1:
-            frames = [tc_frame(vc, 0, b"\xc1" + octets, True)]
+            frames = [frame(vc, 0, b"\xc1" + octets, True)]
         elif what < 0.2:                                  # in three segments
             third = len(octets) // 3
             parts = b"\x42" + octets[:third], b"\x02" + octets[third:2 * third], b"\x82" + octets[2 * third:]
-            frames = [tc_frame(vc, sent[vc] + n, part) for n, part in enumerate(parts)]
+            frames = [frame(vc, sent[vc] + n, part) for n, part in enumerate(parts)]
             sent[vc] += 3
         elif what < 0.25 and sent[vc]:                    # one that comes again, and one that comes early
-            frames = [tc_frame(vc, sent[vc] - 1, b"\xc0" + octets), tc_frame(vc, sent[vc] + 2, b"\xc0" + octets)]
+            frames = [frame(vc, sent[vc] - 1, b"\xc0" + octets), frame(vc, sent[vc] + 2, b"\xc0" + octets)]
         else:
-            frames = [tc_frame(vc, sent[vc], b"\xc0" + octets)]
+            frames = [frame(vc, sent[vc], b"\xc0" + octets)]
             sent[vc] += 1
         number += len(frames)
         yield from frames
@@ -137,17 +158,33 @@ def received(frames, words):
         yield frame
 
 
-def main():
-    """Writes the pass."""
+def recorded(words):
+    """The frames that the station has, as they stand in its recording."""
+    frames = received(downlink(words) if words.kind == "tm" else uplink(words), words)
+    for frame in frames:
+        if words.randomised:
+            frame = bytes(octet ^ other for octet, other in zip(frame, sequence(words.kind)))
+        yield MARKER + frame if words.marked else frame
+
+
+def parsed(line=None):
+    """The words of the command line, or of a list."""
     parser = argparse.ArgumentParser(description="Writes a recording of a pass.")
     parser.add_argument("kind", choices=("tm", "tc"))
-    for name, value in ("frames", 150), ("channels", 3), ("seed", 1), ("run", 1), ("station", 1), ("octets", 120):
+    for name, value in ("frames", 150), ("channels", 3), ("seed", 1), ("run", 1), ("station", 1), ("octets", 120), \
+            ("scid", 679), ("length", 1115):
         parser.add_argument(f"--{name}", type=int, default=value)
     parser.add_argument("--from", dest="start", type=int, default=0)
     for name in "lose", "errors":
         parser.add_argument(f"--{name}", type=float, default=0)
-    words = parser.parse_args()
-    for frame in received(downlink(words) if words.kind == "tm" else uplink(words), words):
+    for name in "no-field", "randomised", "marked":
+        parser.add_argument(f"--{name}", action="store_true")
+    return parser.parse_args(line)
+
+
+def main():
+    """Writes the pass."""
+    for frame in recorded(parsed()):
         sys.stdout.buffer.write(frame)
 
 

@@ -1,7 +1,7 @@
 """The options of the program."""
 
 from dataclasses import dataclass, field
-from typing import List, Mapping, Sequence, Union
+from typing import Any, Dict, List, Mapping, Sequence, Union
 
 
 @dataclass(frozen=True)
@@ -29,7 +29,7 @@ class Options:
     def words(self) -> List[str]:
         """The words of the command line that say the same."""
         words = [f"--{name.replace('_', '-')}={int(getattr(self, name))}"
-                 for name in ("scid", "tm_length", "tc_length", "window", "vr", "limit")]
+                 for name in NUMBERS]
         if self.tm_fecf:
             words.append("--tm-fecf")
         if self.tc_fecf:
@@ -43,6 +43,32 @@ class Options:
 
 
 Words = Union[Options, Sequence[str]]
+
+
+NUMBERS = ("scid", "tm_length", "tc_length", "window", "vr", "limit")
+FLAGS = ("tm_fecf", "tc_fecf")
+
+
+def options_of(words: Words) -> Options:
+    """Options as they stand on a command line that the program takes."""
+    if isinstance(words, Options):
+        return words
+    found: Dict[str, Any] = {"scid": 0}
+    rest = iter(words)
+    for word in rest:
+        option, equals, value = word.partition("=")
+        name = option[2:].replace("-", "_")
+        if name in FLAGS:
+            found[name] = True
+            continue
+        value = value if equals else next(rest, "")
+        if name in NUMBERS:
+            found[name] = int(value)
+        elif name == "vr_of":
+            found[name] = dict(map(int, it.split(":")) for it in value.split(","))
+        elif name == "plain":
+            found[name] = list(map(int, value.split(",")))
+    return Options(**found)
 
 
 def words_of(options: Words) -> List[str]:

@@ -147,8 +147,9 @@ def _write(octets: bytes, file: BinaryIO) -> None:
 def same_packets(kind: str, a: Recording, b: Recording, options: Words, b_options: Optional[Words] = None, *,
                  program: Program = None) -> bool:
     """Whether two recordings deliver the same packets on each virtual channel, and MAP, in the same order, idle ones
-    left out. A recording that is read with wrong options may deliver nothing, or something else; so look at its
-    anomalies first.
+    left out. Options aren't held against the recordings: one that is read with wrong options may deliver nothing, or
+    something else. So look at its anomalies first. sllink-compare and sllink-report hold them against its first
+    thousand frames.
 
     Read with the same options, the normal forms are compared, octet by octet. Where the second one has options of its
     own, the packets of each channel are compared by their number and the SHA-256 of their octets, since a normal form

@@ -1,7 +1,7 @@
 """What transfer frames show of themselves: the spacecraft and counts that rise, an error control field, packets that go
 on up to the end of a frame, randomisation.
 
-sllink-identify finds out by these signs what a recording is, and `_look` whether options contradict it.
+sllink-identify finds out by these signs what a recording is, and `_contradiction` whether options contradict it.
 """
 
 from binascii import crc_hqx
@@ -139,8 +139,9 @@ class Frames:
         self.secondary = self.access = self.followed = 0
         self.steps: Counter[str] = counter()
         self.pairs: Counter[str] = counter()
-        self.follow: Counter[Tuple[int, bool]] = counter()   # by the octets after the data: packets that go on, or don't
-        self.closed: Counter[Optional[int]] = counter()      # frames by the octets after the data; None: not known
+        # By the octets after the data: packets that go on, or don't; frames whose end shows them, or doesn't (None).
+        self.follow: Counter[Tuple[int, bool]] = counter()
+        self.closed: Counter[Optional[int]] = counter()
         for stretch in stretches:
             self.take(stretch)
 

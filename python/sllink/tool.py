@@ -75,20 +75,35 @@ def about(recording: str) -> Iterator[None]:
 def identified(recording: str) -> str:
     """What the sllink-identify that lies beside this tool says of a recording, in some words; nothing where it can't
     be asked."""
-    beside = os.path.join(os.path.dirname(os.path.realpath(sys.argv[0])), "sllink-identify")
-    try:
-        asked = subprocess.run([beside, "--", recording], stdin=subprocess.DEVNULL, stdout=subprocess.PIPE,
-                               stderr=subprocess.DEVNULL, check=False)
-    except OSError:
-        return ""
-    lines = os.fsdecode(asked.stdout).splitlines()
-    if asked.returncode not in (0, 1) or len(lines) < 2:
+    lines = _identify(recording)
+    if not lines:
         return ""
     what, last = lines[0][len(shown(recording)) + 2:], lines[-1]
     if last.startswith("sllink check "):
         what += f", read with {last[13:].partition(' < ')[0]}"
     telling = ("frames shift:", "the first frame isn't", "secondary header ", "virtual channel access ", "can't say: ")
     return "; ".join([what, *(line for line in lines[1:] if line.startswith(telling))])
+
+
+def command_of(recording: str) -> str:
+    """The command line that sllink-identify has for a recording, of several the first one; nothing where it has none or
+    can't be asked."""
+    *lines, last = _identify(recording)[1:] or [""]
+    if last.startswith("can't say: "):
+        return ""
+    return next((line for line in lines if "sllink check " in line), last)
+
+
+def _identify(recording: str) -> List[str]:
+    """The lines of the sllink-identify that lies beside this tool; none where it can't be asked."""
+    beside = os.path.join(os.path.dirname(os.path.realpath(sys.argv[0])), "sllink-identify")
+    try:
+        asked = subprocess.run([beside, "--", recording], stdin=subprocess.DEVNULL, stdout=subprocess.PIPE,
+                               stderr=subprocess.DEVNULL, check=False)
+    except OSError:
+        return []
+    lines = os.fsdecode(asked.stdout).splitlines()
+    return lines if asked.returncode in (0, 1) and len(lines) > 1 else []
 
 
 def own_options(name: str, text: str) -> List[str]:

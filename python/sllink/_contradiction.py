@@ -1,0 +1,260 @@
+"""Options held against a recording: what its first thousand frames show that options deny.
+
+Five things are looked at: an error control field that is there or isn't, the length of the frames, their spacecraft,
+randomisation, and sync markers. No other option is held against a recording.
+"""
+
+import re
+from collections import Counter as counter
+from typing import Counter, Dict, List, NamedTuple, Optional, Sequence, Tuple
+
+from ._options import Options, Words, options_of
+from ._signs import (LONGEST_TC, MARKER, SHORTEST, Frames, by_control, columns, hardly_right, many, mostly_right,
+                     randomiser, right_fields, strides, tc_field, tc_randomiser, unmasked)
+
+MOST = 1000                                               # frames that are looked at
+ENOUGH = 5                                                # frames of a spacecraft, or of a length, that are no chance
+NEAR = 5                                                  # below which a count rises by little
+SEARCHED = 1 << 14                                        # octets in which TC frames are searched for
+
+
+def contradiction(kind: str, recording: str, words: Words) -> Optional[str]:
+    """What the first frames of a recording show that its options deny; None where nothing does. The options are such as
+    the program takes. OSError: the recording can't be read."""
+    options = options_of(words)
+    with open(recording, "rb") as file:
+        octets = file.read(MOST * (options.tm_length + len(MARKER) if kind == "tm" else LONGEST_TC))
+    return tm_contradiction(octets, options) if kind == "tm" else tc_contradiction(octets, options)
+
+
+# TM frames.
+
+class Headers:
+    """The headers of TM frames of one length: how many are of each spacecraft, and how many counts rise by little."""
+
+    def __init__(self, octets: bytes, length: int, mask: bytes = bytes(4)) -> None:
+        self.number = min(len(octets) // length, MOST)
+        first, second, counts, channel_counts = columns(octets, length, 0, self.number, mask)
+        self.keys = [one << 4 | other >> 4 for one, other in zip(first, second)]
+        self.frames: Counter[int] = counter(self.keys)
+        self.risen: Counter[int] = counter()
+        last: Dict[int, int] = {}
+        for key, other, count, channel_count in zip(self.keys, second, counts, channel_counts):
+            channel = key << 3 | other >> 1 & 7 | 1 << 15
+            self.risen[key] += 0 < (count - last.get(key, count)) % 256 < NEAR or (
+                0 < (channel_count - last.get(channel, channel_count)) % 256 < NEAR)
+            last[key], last[channel] = count, channel_count
+
+    def has(self, scid: int, part: float = 0.5, risen: float = 0.3) -> bool:
+        """Whether more than this part of the frames are of a spacecraft, and this part of their counts rise."""
+        number = self.frames[scid]
+        return number > part * self.number and self.risen[scid] >= max(1, risen * (number - 1))
+
+    def other(self, scid: int) -> Optional[int]:
+        """The other spacecraft of which most frames are, if there is one."""
+        for key, number in self.frames.most_common(1):
+            if key != scid and not key >> 10 and number >= ENOUGH and self.has(key):
+                return key
+        return None
+
+
+def tm_contradiction(octets: bytes, options: Options) -> Optional[str]:
+    """The same for TM frames."""
+    length, scid = options.tm_length, options.scid
+    headers = Headers(octets, length)
+    found = None
+    if not headers.has(scid, 0.6):
+        found = marked(octets) or tm_randomised(octets, length) or tm_another(octets, headers, options)
+        other = None if found else another_length(octets, headers, length, scid)
+    else:
+        other = divided(octets, length, scid)
+    if other:
+        found = f"--tm-length is {length}, and its frames lie {other} octets apart"
+    return found or tm_field_denied(octets, headers, options)
+
+
+def marked(octets: bytes) -> Optional[str]:
+    """Whether sync markers lie at one distance in most of the octets."""
+    places = [place.start() for place in re.finditer(re.escape(MARKER), octets)]
+    for distance, times in counter(there - here for here, there in zip(places, places[1:])).most_common(1):
+        if times > 1 and 2 * (times + 1) * distance > len(octets) and distance >= SHORTEST + len(MARKER):
+            return "there are sync markers (1ACFFC1D) between its frames"
+    return None
+
+
+def tm_randomised(octets: bytes, length: int) -> Optional[str]:
+    """Whether most frames are of one spacecraft where they are derandomised."""
+    derandomised = Headers(octets, length, randomiser()[:4])
+    return None if derandomised.other(-1) is None else "its frames are randomised"
+
+
+def tm_another(octets: bytes, headers: Headers, options: Options) -> Optional[str]:
+    """Whether most frames are of another spacecraft."""
+    other = headers.other(options.scid)
+    if other is None:
+        return None
+    own, others = (frames_of(octets, headers, options.tm_length, scid) for scid in (options.scid, other))
+    return another(own, others, other, options.scid)
+
+
+def another(own: Sequence[bytes], others: Sequence[bytes], other: int, scid: int) -> Optional[str]:
+    """That most frames are of another spacecraft. They are noise where the error control field is right in the frames of
+    this one, and wrong in the others."""
+    if mostly_right(right_fields(own), len(own)) and hardly_right(right_fields(others), len(others)):
+        return None
+    return f"--scid is {scid}, and most of its frames are of spacecraft {other}"
+
+
+def frames_of(octets: bytes, headers: Headers, length: int, scid: int) -> List[bytes]:
+    """The frames of a spacecraft."""
+    return [octets[at * length:(at + 1) * length] for at, key in enumerate(headers.keys) if key == scid]
+
+
+def another_length(octets: bytes, headers: Headers, length: int, scid: int) -> Optional[int]:
+    """The length at which most frames are of the spacecraft, or of another one with a right error control field."""
+    for other, _, _ in strides(octets):
+        found = Headers(octets, other)
+        if other % length == 0 and not leaves_none_out(found, headers, scid):
+            continue
+        if found.frames[scid] >= ENOUGH and found.has(scid, 0.6):
+            return other
+        frames = [octets[at * other:(at + 1) * other] for at in range(found.number)]
+        if found.other(scid) is not None and mostly_right(right_fields(frames), len(frames)):
+            return other
+    return None
+
+
+def leaves_none_out(found: Headers, headers: Headers, scid: int) -> bool:
+    """Whether a multiple of the length has all frames that the length itself has, and no other ones lie between them."""
+    others = [key for key in headers.frames if key != scid and headers.has(key, 0.1)]
+    return not others and found.frames[scid] >= max(2 * ENOUGH, 0.9 * headers.frames[scid])
+
+
+def divided(octets: bytes, length: int, scid: int) -> Optional[int]:
+    """The length of the frames where each of this length is several whole ones."""
+    whole = octets[:len(octets) // length * length]
+    for part in range(SHORTEST, length // 2 + 1):
+        if length % part == 0:
+            headers = Headers(whole, part)
+            if headers.risen[scid] >= ENOUGH and headers.has(scid, 0.75, 0.6):
+                return part
+    return None
+
+
+def tm_field_denied(octets: bytes, headers: Headers, options: Options) -> Optional[str]:
+    """Whether the frames of the spacecraft have an error control field that the options leave out, or the other way
+    round."""
+    length = options.tm_length
+    own = frames_of(octets, headers, length, options.scid)
+    right = right_fields(own)
+    has_field: Optional[bool] = mostly_right(right, len(own)) or None
+    if options.tm_fecf and hardly_right(right, len(own)):
+        has_field, _ = by_control(Frames([own], length))
+    return field_denied(has_field, options.tm_fecf, "--tm-fecf")
+
+
+def field_denied(has_field: Optional[bool], wanted: bool, option: str) -> Optional[str]:
+    """What is known of the error control field, against the option."""
+    if has_field is None or has_field == wanted:
+        return None
+    if wanted:
+        return f"{option} is given, and its frames have no error control field"
+    return f"{option} isn't given, and its frames have an error control field"
+
+
+# TC frames.
+
+class Command(NamedTuple):
+    """A TC frame that was found, and whether another one of its spacecraft, or the end, comes after it."""
+
+    scid: int
+    frame: bytes
+    leads_on: bool
+
+
+class Commands:
+    """The TC frames that are found in octets by the lengths that they state. Where one leads astray the next place is
+    searched for from which three lead on."""
+
+    def __init__(self, octets: bytes, mask: bytes = b"") -> None:
+        self.octets, self.mask = octets, mask
+        self.left = SEARCHED
+        self.found: List[Command] = []
+        at: Optional[int] = 0
+        while at is not None and at + 5 <= len(octets) and len(self.found) < MOST:
+            at = self.take(at)
+        self.scids = counter(it.scid for it in self.found)
+
+    def header(self, at: int) -> Optional[Tuple[int, int]]:
+        """The spacecraft and the end of the frame that begins here, if one can."""
+        if at + 5 > len(self.octets):
+            return None
+        head = self.octets[at:at + 4]
+        first, second, third, fourth = unmasked(head, self.mask) if self.mask else head
+        length = ((third & 3) << 8 | fourth) + 1
+        if first & 0xCC or first & 0x30 == 0x10 or length < 6 or at + length > len(self.octets):
+            return None
+        return (first & 3) << 8 | second, at + length
+
+    def take(self, at: int) -> Optional[int]:
+        """Takes the frame that begins here, and goes to the next one."""
+        here = self.header(at)
+        if here is None:
+            return self.search(at + 1)
+        scid, end = here
+        after = self.header(end)
+        if after and after[0] != scid and self.header(after[1]) is None:
+            after = None
+        leads_on = end == len(self.octets) or after is not None and (
+            after[0] == scid or self.scid(after[1]) == scid)
+        self.found.append(Command(scid, unmasked(self.octets[at:end], self.mask), leads_on))
+        return end
+
+    def scid(self, at: int) -> Optional[int]:
+        """The spacecraft of the frame that begins here, if one can."""
+        here = self.header(at)
+        return here[0] if here else None
+
+    def search(self, at: int) -> Optional[int]:
+        """The next place from which three frames of a spacecraft lead on."""
+        while self.left and at + 5 <= len(self.octets):
+            here = self.header(at)
+            second = self.header(here[1]) if here else None
+            if here and second and here[0] == second[0] == self.scid(second[1]):
+                return at
+            at, self.left = at + 1, self.left - 1
+        return None
+
+    def most(self) -> Optional[int]:
+        """The spacecraft of which more than half of the frames are, if enough of these aren't the same."""
+        for scid, number in self.scids.most_common(1):
+            if 2 * number > len(self.found) and len(set(self.of(scid))) >= ENOUGH:
+                return scid
+        return None
+
+    def of(self, scid: int) -> List[bytes]:
+        """The frames of a spacecraft."""
+        return [it.frame for it in self.found if it.scid == scid]
+
+    def covered(self) -> int:
+        """The octets of all frames."""
+        return sum(len(it.frame) for it in self.found)
+
+
+def tc_contradiction(octets: bytes, options: Options) -> Optional[str]:
+    """The same for TC frames."""
+    commands = Commands(octets)
+    scid = options.scid
+    if 2 * commands.scids[scid] <= len(commands.found):
+        other = commands.most()
+        if other is not None:
+            return another(commands.of(scid), commands.of(other), other, scid)
+        derandomised = Commands(octets, tc_randomiser())
+        if derandomised.most() is not None and derandomised.covered() > max(commands.covered(), len(octets) // 4):
+            return "its frames are randomised"
+    own = [it for it in commands.found if it.scid == scid]
+    longer = [len(it.frame) for it in own if it.leads_on and len(it.frame) > options.tc_length]
+    if len(longer) > 1 and 10 * len(longer) > len(own):
+        return (f"--tc-length is {options.tc_length}, and {len(longer)} of {many(len(own), 'frame')} are longer, up to "
+                f"{max(longer)} octets")
+    return field_denied(tc_field(commands.of(scid))[0], options.tc_fecf, "--tc-fecf")

@@ -1,0 +1,128 @@
+"""Tries sllink-compare on recordings of tests/passes.py with right options and with wrong ones.
+
+    python3 tests/contradictions.py [--all] [SEED]
+
+There are 400 recordings of 2 to 2,000 frames, half of them TC, with and without an error control field, and with up to
+one frame of ten lost and one of ten with a bit error. 40 of them are tried, chosen by the seed, or all with --all. The
+wrong options are: the error control field left out, or asked for where it isn't there; another spacecraft; the options
+of frames that aren't randomised, for ones that are; of TM also those of frames without sync markers, for ones that have
+them, and a length that is one or two more or less, or twice. Where a recording has ten whole frames or more, the tool
+has to ask about each of them, by the question that --allow options answers; and never where all are right. Of TC,
+--tc-length is wrong where more than a tenth of the first thousand frames are longer.
+
+Status: 0; 1 where it doesn't ask, or asks for nothing, which is named. The program is $SLLINK.
+"""
+
+import argparse
+import contextlib
+import importlib.machinery
+import importlib.util
+import io
+import os
+import random
+import sys
+import tempfile
+
+sys.dont_write_bytecode = True
+HERE = os.path.dirname(os.path.realpath(__file__))
+TOOL = os.path.join(HERE, "../tools/sllink-compare")
+sys.path.insert(0, HERE)
+import passes
+
+RECORDINGS, EACH_TIME = 400, 40
+WHOLE = 10                                                # frames from which on each wrong option is asked about
+
+
+def loaded():
+    """The tool, to be run in this process. What sllink-identify says is left out, which would take long."""
+    loader = importlib.machinery.SourceFileLoader("compare", TOOL)
+    tool = importlib.util.module_from_spec(importlib.util.spec_from_loader("compare", loader))
+    loader.exec_module(tool)
+    tool.command_of = tool.identified = lambda recording: ""
+    return tool
+
+
+class Pass:
+    """One of the recordings."""
+
+    def __init__(self, number):
+        chance = random.Random(number)
+        self.number, self.chance, self.kind = number, chance, ("tm", "tc")[number % 2]
+        self.scid, self.field = chance.randrange(1024), chance.random() < 0.5
+        self.length = chance.choice((chance.randint(32, 2048), chance.randint(32, 300), 223, 892, 1115, 1784))
+        self.words = [self.kind, "--seed", number, "--frames", int(2 * 1000 ** chance.random()),
+                      "--channels", chance.randint(1, 8), "--octets", chance.choice((20, 120, 400)),
+                      "--scid", self.scid, "--lose", chance.choice((0, 100 * chance.random())), "--run", chance.choice((1, 1, 3)),
+                      "--errors", chance.choice((0, 100 * chance.random()))]
+        self.words += ["--length", self.length] if self.kind == "tm" else []
+        self.words += [] if self.field else ["--no-field"]
+        self.frames = self.made()
+
+    def made(self, *more):
+        """The frames, as further words of the generator have them."""
+        return list(passes.recorded(passes.parsed([str(word) for word in (*self.words, *more)])))
+
+    def options(self, scid=None, field=None, length=None):
+        """The words of its options, or of wrong ones."""
+        scid, field = self.scid if scid is None else scid, self.field if field is None else field
+        length = [f"--{self.kind}-length", str(length)] if length else (
+            ["--tm-length", str(self.length)] if self.kind == "tm" else [])
+        return ["--scid", str(scid), *length, *([f"--{self.kind}-fecf"] if field else [])]
+
+    def cases(self):
+        """Frames and options, each with what they are, and whether an option is wrong."""
+        yield "all right", self.frames, self.options(), False
+        yield "the field", self.frames, self.options(field=not self.field), True
+        yield "the spacecraft", self.frames, self.options(scid=(self.scid + self.chance.randint(1, 1023)) % 1024), True
+        yield "randomised", self.made("--randomised"), self.options(), True
+        if self.kind == "tm":
+            yield "sync markers", self.made("--marked"), self.options(), True
+            for length in (self.length + more for more in (-2, -1, 1, 2, self.length)):
+                if 32 <= length <= 2048:
+                    yield f"the length {length}", self.frames, self.options(length=length), True
+            return
+        first = self.frames[:1000]
+        longest = max([16, *map(len, first)])
+        for length in longest, min(longest + self.chance.randint(1, 99), 1024), self.chance.randint(16, longest):
+            wrong = 10 * sum(len(frame) > length for frame in first) > len(first)
+            yield f"the greatest length {length}", self.frames, self.options(length=length), wrong
+
+
+def asks(tool, kind, frames, options, name):
+    """Whether the tool asks about options, where it compares a recording with itself."""
+    with open(name, "wb") as file:
+        file.write(b"".join(frames))
+    try:
+        with contextlib.redirect_stdout(io.StringIO()):
+            tool.main([kind, name, name, *options])
+    except tool.Refused as reason:
+        return "--allow options says so" in str(reason)
+    return False
+
+
+def main():
+    """Tries the recordings."""
+    parser = argparse.ArgumentParser()
+    parser.add_argument("--all", action="store_true")
+    parser.add_argument("seed", nargs="?", type=int, default=1)
+    words = parser.parse_args()
+    tool, tried, failed = loaded(), {True: 0, False: 0}, 0
+    numbers = range(RECORDINGS)
+    if not words.all:
+        numbers = sorted(random.Random(words.seed).sample(numbers, EACH_TIME))
+    with tempfile.TemporaryDirectory() as folder:
+        for it in map(Pass, numbers):
+            for what, frames, options, wrong in it.cases():
+                asked = asks(tool, it.kind, frames, options, os.path.join(folder, "pass"))
+                if asked != wrong and (asked or len(frames) >= WHOLE):
+                    failed += 1
+                    print(f"FAILED: recording {it.number}, {len(frames)} frames, {what}: it "
+                          f"{'asks' if asked else 'asks nothing'}: {' '.join(map(str, it.words))}; {' '.join(options)}")
+                tried[wrong] += not wrong or len(frames) >= WHOLE
+    print(f"{len(numbers)} recordings: {tried[True]} wrong options with ten frames or more, {tried[False]} times all are "
+          f"right, {failed} failed")
+    return 1 if failed else 0
+
+
+if __name__ == "__main__":
+    sys.exit(main())

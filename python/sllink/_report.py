@@ -7,7 +7,7 @@ from ._page import Table, facts, figure, folded, heading, listing, page, paragra
 from ._picture import Picture
 from ._survey import MOST_LINES, MOST_LOCKOUTS, Survey
 from ._tally import MOST_RUNS, Difference, Key, Missing, Tally
-from ._verdict import number_of, questions, said, said_of_two
+from ._verdict import lost_frames, missing_counts, number_of, questions, said, said_of_two
 from .tool import about, shown
 
 MEANINGS = {
@@ -34,6 +34,8 @@ MEANINGS = {
 JUMPS = "A jump is a packet sequence count that isn't the one that comes next, modulo 16384. Idle packets are left out."
 SEVERAL = (" Some APIDs come on more than one channel or MAP. Where their counts go on from one to another, there are "
            "jumps though no packet is missing.")
+MISSING = ("Missing counts are known by the virtual channel frame counts, modulo 256 at each gap, and none are known "
+           "before the first frame and after the last one. The picture has them beside the marks of gaps.")
 DROPPED = {"tm": "incomplete packet dropped", "tc": "incomplete series of segments dropped"}
 
 
@@ -107,7 +109,7 @@ def facts_of(it: Recording) -> List[Tuple[str, str]]:
     survey = it.survey
     totals = [f"{survey.frames:,} frames", f"{survey.skipped:,} skipped"]
     if survey.kind == "tm":
-        totals.append(f"{sum(gaps.lost for gaps in survey.gaps.values()):,} lost")
+        totals.append(f"{lost_frames(survey):,} lost")
     totals += [f"{survey.packets:,} packets", f"{survey.idle:,} idle packets",
                f"{sum(survey.anomalies.values()):,} anomalies"]
     return [("Totals", ", ".join(totals)), ("Octets", f"{survey.size:,}"), ("SHA-256", it.digest)]
@@ -135,8 +137,8 @@ def tables(it: Recording, level: int) -> List[str]:
 
 def channels_tm(survey: Survey) -> List[str]:
     """The virtual channels of a downlink."""
-    losses = ["Frames lost", "Packets dropped"]
-    table = Table("Channels", ["Virtual channel", "Frames", "Frames lost", "Gaps", "Packets dropped", "With packets",
+    losses = ["Counts missing", "Packets dropped"]
+    table = Table("Channels", ["Virtual channel", "Frames", "Counts missing", "Gaps", "Packets dropped", "With packets",
                                "Only idle data", "Opaque", "Incomplete at the end"], losses)
     for row in (row for row in survey.rows() if row < 64):
         kinds, gaps = survey.of_row(row), survey.gaps.get(row)
@@ -147,13 +149,22 @@ def channels_tm(survey: Survey) -> List[str]:
     parts = [table.html()]
     again = sum(gaps.of_255 for gaps in survey.gaps.values())
     if survey.gaps:
-        parts.append(paragraph("Lost frames are known by the virtual channel frame counts, modulo 256 at each gap, and "
-                               "none are known before the first frame and after the last one.", "note"))
+        parts.append(paragraph(MISSING + damaged_said(survey), "note"))
     if again:
         words = "1 gap is" if again == 1 else f"{again:,} gaps are"
         parts.append(paragraph(f"{words} of 255 frames: either these were lost, or the frame before came once more.",
                                "note"))
     return parts
+
+
+def damaged_said(survey: Survey) -> str:
+    """What frames with a wrong error control field have to do with missing counts."""
+    damaged = survey.reasons["fecf"]
+    if not damaged:
+        return ""
+    skipped = "the one frame" if damaged == 1 else f"the {damaged:,} frames"
+    return (f" The frames lost are these {missing_counts(survey):,}, less {skipped} skipped for the error control "
+            "field, but not fewer than none. On which channel a skipped frame was isn't known.")
 
 
 def marked(survey: Survey, row: int, what: str) -> int:

@@ -2,6 +2,7 @@
 
 from typing import Any, List, Sequence
 
+from ._contradiction import contradiction
 from ._survey import Survey
 from ._tally import Difference, Tally
 from .tool import identified
@@ -54,10 +55,24 @@ def frames_said(survey: Survey) -> str:
 
 def losses_said(survey: Survey) -> str:
     """How many frames are lost, and where."""
-    lost = sum(gaps.lost for gaps in survey.gaps.values())
-    if not lost:
+    missing, damaged = missing_counts(survey), survey.reasons["fecf"]
+    if not missing:
         return "no gap in the frame counts"
-    return f"{number_of(lost, 'frame')} lost on {channels(sorted(survey.gaps))}"
+    lost, on = number_of(lost_frames(survey), "frame"), channels(sorted(survey.gaps))
+    if not damaged:
+        return f"{lost} lost on {on}"
+    skipped = "1 skipped frame" if damaged == 1 else f"{damaged:,} skipped frames"
+    return f"{lost} lost ({number_of(missing, 'count')} missing on {on}, less {skipped}, whose channel isn't known)"
+
+
+def missing_counts(survey: Survey) -> int:
+    """How many frame counts are missing."""
+    return sum(gaps.lost for gaps in survey.gaps.values())
+
+
+def lost_frames(survey: Survey) -> int:
+    """How many frames are lost: the missing counts, less the frames that are skipped for their error control field."""
+    return max(0, missing_counts(survey) - survey.reasons["fecf"])
 
 
 def farm_said(survey: Survey) -> List[str]:
@@ -78,9 +93,10 @@ def farm_said(survey: Survey) -> List[str]:
 
 
 def questions(survey: Survey, tally: Tally) -> List[str]:
-    """What to ask where the options may be wrong for the recording."""
+    """What to ask where the options may be wrong for the recording: first what its first frames show against them."""
     read = survey.frames - survey.skipped
-    asked = []
+    denied = contradiction(survey.kind, survey.recording, survey.options)
+    asked = [f"{denied[0].upper()}{denied[1:]}. Are the options right?"] if denied else []
     if survey.skipped * 2 > survey.frames:
         reason = survey.reasons.most_common(1)[0][0]
         asked.append(f"{SKIPPED.get(reason, 'Most frames are skipped. Are the options right?')} {ALONE[survey.kind]}")

@@ -109,6 +109,7 @@ def main():
     tool, tried, failed = loaded(), {True: 0, False: 0}, 0
     numbers = range(RECORDINGS)
     if not words.all:
+        print("passes, seed", words.seed)
         numbers = sorted(random.Random(words.seed).sample(numbers, EACH_TIME))
     with tempfile.TemporaryDirectory() as folder:
         for it in map(Pass, numbers):

@@ -98,8 +98,8 @@ def tm_another(octets: bytes, headers: Headers, options: Options) -> Optional[st
 
 
 def another(own: Sequence[bytes], others: Sequence[bytes], other: int, scid: int) -> Optional[str]:
-    """That most frames are of another spacecraft. They are noise where the error control field is right in the frames of
-    this one, and wrong in the others."""
+    """That most frames are of another spacecraft. They are noise where the error control field is right in the frames
+    of this one, and wrong in the others."""
     if mostly_right(right_fields(own), len(own)) and hardly_right(right_fields(others), len(others)):
         return None
     return f"--scid is {scid}, and most of its frames are of spacecraft {other}"
@@ -125,7 +125,7 @@ def another_length(octets: bytes, headers: Headers, length: int, scid: int) -> O
 
 
 def leaves_none_out(found: Headers, headers: Headers, scid: int) -> bool:
-    """Whether a multiple of the length has all frames that the length itself has, and no other ones lie between them."""
+    """Whether a multiple of the length has all frames that the length itself has, and no others lie between them."""
     others = [key for key in headers.frames if key != scid and headers.has(key, 0.1)]
     return not others and found.frames[scid] >= max(2 * ENOUGH, 0.9 * headers.frames[scid])
 
@@ -165,7 +165,7 @@ def field_denied(has_field: Optional[bool], wanted: bool, option: str) -> Option
 # TC frames.
 
 class Command(NamedTuple):
-    """A TC frame that was found, and whether another one of its spacecraft, or the end, comes after it."""
+    """A TC frame that was found, and whether another one of its spacecraft, or the end, comes soon after it."""
 
     scid: int
     frame: bytes
@@ -173,8 +173,8 @@ class Command(NamedTuple):
 
 
 class Commands:
-    """The TC frames that are found in octets by the lengths that they state. Where one leads astray the next place is
-    searched for from which three lead on."""
+    """The TC frames that are found in octets by the lengths that they state. Where one leads astray, the next place is
+    searched for from which frames lead on."""
 
     def __init__(self, octets: bytes, mask: bytes = b"") -> None:
         self.octets, self.mask = octets, mask
@@ -203,12 +203,11 @@ class Commands:
             return self.search(at + 1)
         scid, end = here
         after = self.header(end)
-        if after and after[0] != scid and self.header(after[1]) is None:
-            after = None
-        leads_on = end == len(self.octets) or after is not None and (
-            after[0] == scid or self.scid(after[1]) == scid)
+        further = self.header(after[1]) if after else None
+        last = end == len(self.octets) or after is not None and after[1] == len(self.octets)
+        leads_on = last or scid in (it[0] for it in (after, further) if it)
         self.found.append(Command(scid, unmasked(self.octets[at:end], self.mask), leads_on))
-        return end
+        return end if leads_on or further else self.search(at + 1)
 
     def scid(self, at: int) -> Optional[int]:
         """The spacecraft of the frame that begins here, if one can."""
@@ -216,11 +215,12 @@ class Commands:
         return here[0] if here else None
 
     def search(self, at: int) -> Optional[int]:
-        """The next place from which three frames of a spacecraft lead on."""
+        """The next place from which three frames of a spacecraft lead on, or two up to the end."""
         while self.left and at + 5 <= len(self.octets):
             here = self.header(at)
             second = self.header(here[1]) if here else None
-            if here and second and here[0] == second[0] == self.scid(second[1]):
+            if here and second and here[0] == second[0] and (
+                    second[1] == len(self.octets) or second[0] == self.scid(second[1])):
                 return at
             at, self.left = at + 1, self.left - 1
         return None

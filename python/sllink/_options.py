@@ -3,6 +3,9 @@
 from dataclasses import dataclass, field
 from typing import Any, Dict, List, Mapping, Sequence, Union
 
+NUMBERS = ("scid", "tm_length", "tc_length", "window", "vr", "limit")
+FLAGS = ("tm_fecf", "tc_fecf")
+
 
 @dataclass(frozen=True)
 class Options:
@@ -28,8 +31,7 @@ class Options:
 
     def words(self) -> List[str]:
         """The words of the command line that say the same."""
-        words = [f"--{name.replace('_', '-')}={int(getattr(self, name))}"
-                 for name in NUMBERS]
+        words = [f"--{name.replace('_', '-')}={int(getattr(self, name))}" for name in NUMBERS]
         if self.tm_fecf:
             words.append("--tm-fecf")
         if self.tc_fecf:
@@ -43,10 +45,6 @@ class Options:
 
 
 Words = Union[Options, Sequence[str]]
-
-
-NUMBERS = ("scid", "tm_length", "tc_length", "window", "vr", "limit")
-FLAGS = ("tm_fecf", "tc_fecf")
 
 
 def options_of(words: Words) -> Options:

@@ -63,7 +63,8 @@ def options_of(words: Words) -> Options:
         if name in NUMBERS:
             found[name] = int(value)
         elif name == "vr_of":
-            found[name] = dict(map(int, it.split(":")) for it in value.split(","))
+            pairs = [it.partition(":") for it in value.split(",")]
+            found[name] = {int(vc): int(vr) for vc, _, vr in pairs}
         elif name == "plain":
             found[name] = list(map(int, value.split(",")))
     return Options(**found)

@@ -9,6 +9,7 @@
 #     make dist
 #     make deb
 #     make lib
+#     make bench
 #
 # PREFIX is where they are to be used, /usr/local where nothing is said. DESTDIR is put before each path, for whoever
 # makes a package. `make dist` writes out/sllink-VERSION-linux-ARCHITECTURE.tar.gz, whose folders bin and share work
@@ -46,7 +47,7 @@ CALLS = crates/sl_c/out/libsl_c.a
 HEAP = $(dir $(shell rt doc 2> /dev/null))c/liblibc_c.a
 OBJCOPY = objcopy
 
-.PHONY: all install uninstall built pages dist deb lib
+.PHONY: all install uninstall built pages dist deb lib bench
 
 all: pages
 	@echo "$(PROGRAM) is built; 'make install' installs it under $(PREFIX)"
@@ -150,3 +151,7 @@ deb: built
 	dpkg-deb --root-owner-group --build "$(OUT)/$(DEBIAN)" "$(OUT)/$(DEBIAN).deb" > /dev/null
 	rm -rf "$(OUT)/$(DEBIAN)"
 	@echo "$(OUT)/$(DEBIAN).deb"
+
+# Times the program beside the hand-written one in bench/, and compares what they write.
+bench:
+	@bench/run "$(PROGRAM)"

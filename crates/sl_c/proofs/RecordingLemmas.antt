@@ -66,7 +66,7 @@ within_limit octets (Ok p) = by (nat_lt p.max_octets octets) refl
 -- so memory was refused
 at_memory : {limit octets : ℕ} {may : Type 0} {fault : LinkFault} → octets ≤ limit → StopsInMemory limit octets may fault → may
 at_memory fits (inl long) = absurd (omega (arith, fits, long.1))
-at_memory fits (inr refused) = refused.1.1
+at_memory fits (inr (same, few, refused)) = refused
 
 module _ (packets : Parameters → List ℕ → List (List (List ℕ))) (may_refuse_memory : Parameters → List ℕ → Type 0) (m : ManagedFields) (one other : List ℕ) where
   abbrev may_refuse : Parameters → Type 0

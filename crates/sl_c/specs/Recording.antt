@@ -52,9 +52,9 @@ pub record GivesText (text : Parameters → List ℕ → List ℕ) (counts : Par
 
 -- ---- whether two recordings deliver the same packets
 
--- What a call answers and leaves: why the recordings aren't read, or that memory was refused, which
--- one of them may do, and then all is as it was; or true exactly where the packets of both are the
--- same.
+-- What a call answers and leaves: why the recordings aren't read; or that memory was refused, where
+-- one of the recordings allows it; and then all is as it was. Or true exactly where the packets of
+-- both are the same.
 pub record ComparesPackets (packets : Parameters → List ℕ → List (List (List ℕ))) (may_refuse_memory : Parameters → List ℕ → Type 0) (m : ManagedFields) (one other : List ℕ) (same same' : Bool) (answer : ℕ) : Type 0 where
   pub refused : IfErr (reading_of m (max (length one) (length other))) (λ refusal. Says answer refusal × (same' ≡ same))
   pub read : IfOk (reading_of m (max (length one) (length other))) (λ p. (Says answer Memory × (same' ≡ same) × (may_refuse_memory p one ⊎ may_refuse_memory p other))

@@ -64,14 +64,14 @@ const OTHER: [u8; 32] = [
 
 const OTHER_TC: [u8; 6] = [0x00, 0x02, 0x00, 0x05, 0x00, 0xC0];
 
-// Frames, the listings of them, and how many lines these have after those of the frames.
+// Frames, the listings of them, and how many lines these have.
 const LISTINGS: [(Kind, Verb, u16, &[u8], usize); 6] = [
-    (Kind::Tm, Verb::Show, 32, &TM_FRAME, 0),
-    (Kind::Tm, Verb::Check, 32, &OTHER, 1),
-    (Kind::Tm, Verb::Packets, 32, &TM_FRAME, 0),
-    (Kind::Tc, Verb::Show, 16, &TC_BYPASSING, 0),
-    (Kind::Tc, Verb::Check, 16, &OTHER_TC, 1),
-    (Kind::Tc, Verb::Packets, 16, &TC_BYPASSING, 0),
+    (Kind::Tm, Verb::Show, 32, &TM_FRAME, FRAMES),
+    (Kind::Tm, Verb::Check, 32, &OTHER, FRAMES + 1),
+    (Kind::Tm, Verb::Packets, 32, &TM_FRAME, FRAMES),
+    (Kind::Tc, Verb::Show, 16, &TC_BYPASSING, FRAMES),
+    (Kind::Tc, Verb::Check, 16, &OTHER_TC, FRAMES + 1),
+    (Kind::Tc, Verb::Packets, 16, &TC_BYPASSING, FRAMES),
 ];
 
 // Whether a listing has a line for each frame before more was read.
@@ -80,7 +80,7 @@ fn is_live(
     (kind, verb): (Kind, Verb),
     length: u16,
     frame: &[u8],
-    more: usize,
+    all: usize,
 ) -> Result<bool, Stop> {
     let link = Link::new(kind, length, false, 0, 1000)?;
     let lines = Cell::new(0);
@@ -93,13 +93,13 @@ fn is_live(
     };
     let ending = link.end(alloc, verb, reader, Screen { lines: &lines });
     ending.outcome?;
-    Ok(!is_late.get() && lines.get() == FRAMES + more)
+    Ok(!is_late.get() && lines.get() == all)
 }
 
 #[test]
 fn a_line_is_written_before_more_is_read(rt: HostRuntime) {
-    for (kind, verb, length, frame, more) in &LISTINGS {
-        let outcome = is_live(rt.alloc(), (*kind, *verb), *length, frame, *more);
+    for (kind, verb, length, frame, all) in &LISTINGS {
+        let outcome = is_live(rt.alloc(), (*kind, *verb), *length, frame, *all);
         passes(&rt, &(kind, verb), outcome);
     }
 }

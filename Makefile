@@ -10,6 +10,7 @@
 #     make deb
 #     make lib
 #     make bench
+#     make quick
 #
 # PREFIX is where they are to be used, /usr/local where nothing is said. DESTDIR is put before each path, for whoever
 # makes a package. `make dist` writes out/sllink-VERSION-linux-ARCHITECTURE.tar.gz, whose folders bin and share work
@@ -47,7 +48,7 @@ CALLS = crates/sl_c/out/libsl_c.a
 HEAP = $(dir $(shell rt doc 2> /dev/null))c/liblibc_c.a
 OBJCOPY = objcopy
 
-.PHONY: all install uninstall built pages dist deb lib bench
+.PHONY: all install uninstall built pages dist deb lib bench quick
 
 all: pages
 	@echo "$(PROGRAM) is built; 'make install' installs it under $(PREFIX)"
@@ -155,3 +156,7 @@ deb: built
 # Times the program beside the hand-written one in bench/, and compares what they write.
 bench:
 	@bench/run "$(PROGRAM)"
+
+# Runs all tests without proving anything.
+quick:
+	for crate in sl_tests sl_link_tests sllink; do (cd crates/$$crate && rt try --test) || exit 1; done

@@ -6,7 +6,7 @@ use Rattle.std.proofs.Math.Nat.{min_comm}
 use Rattle.std.proofs.lemmas.Bool.{ltb-false}
 use Rattle.std.proofs.lemmas.List.{drop_min, take_min}
 use Rattle.std.proofs.lemmas.Result.{IfOk-at_ok}
-use Rattle.sl_link.specs.Link.Managed.{Parameters}
+use Rattle.sl_link.specs.Link.Managed.{Parameters, managed_of}
 use Rattle.sl_link.specs.Link.Totals.{Counts}
 use Rattle.sl_link.specs.Same.{StopsInMemory}
 use Rattle.sl_link.specs.declared.link.fault.LinkFault.{LinkFault}
@@ -15,7 +15,7 @@ use Rattle.sl_c.specs.Answer.{Says}
 use Rattle.sl_c.specs.declared.answer.Answer.{Answer}
 use Rattle.sl_c.specs.declared.answer.Answer.TheVariants.{Done, Memory, TooLong}
 use Rattle.sl_c.specs.declared.link.ManagedFields.{ManagedFields}
-use Rattle.sl_c.specs.Link.{reading_of, reading_under}
+use Rattle.sl_c.specs.Link.{parameters_of, reading_of, reading_under}
 use Rattle.sl_c.specs.Recording.{ComparesPackets, GivesText, Lent, Outcome}
 
 -- the copied part, by how much of it there is
@@ -84,7 +84,7 @@ module _ (packets : Parameters → List ℕ → List (List (List ℕ))) (may_ref
       → StopsInMemory p.max_octets (max (length one) (length other)) (may_refuse p) fault → ComparesPackets packets may_refuse_memory m one other same same answer
   memory_compares same answer p fault e says stops = record {
     refused = subst (λ (r : Result Parameters Answer). IfErr r (λ it. Says answer it × (same ≡ same))) (sym e) tt;
-    read = subst (λ (r : Result Parameters Answer). IfOk r (λ q. (Says answer Memory × (same ≡ same) × may_refuse q) ⊎ (Says answer Done × (IsTrue same ↔ (packets q one ≡ packets q other))))) (sym e) (inl (says, refl, at_memory (IfOk-at_ok (λ (q : Parameters). max (length one) (length other) ≤ q.max_octets) e (within_limit _ _)) stops));
+    read = subst (λ (r : Result Parameters Answer). IfOk r (λ q. (Says answer Memory × (same ≡ same) × may_refuse q) ⊎ (Says answer Done × (IsTrue same ↔ (packets q one ≡ packets q other))))) (sym e) (inl (says, refl, at_memory (IfOk-at_ok (λ (q : Parameters). max (length one) (length other) ≤ q.max_octets) e (within_limit (max (length one) (length other)) (managed_of (parameters_of m)))) stops));
   }
 
   -- or what was found

@@ -32,6 +32,8 @@ FISH_COMPLETIONS = $(PREFIX)/share/fish/vendor_completions.d
 # The tools look for their module in ../share from the folder that they are in.
 SHARE = $(PREFIX)/share/sllink
 MODULE = $(SHARE)/python/sllink
+# The packages in the module.
+PACKAGES = $(patsubst python/sllink/%/__init__.py,%,$(wildcard python/sllink/*/__init__.py))
 INCLUDE = $(PREFIX)/include
 LIB = $(PREFIX)/lib
 
@@ -67,6 +69,10 @@ install: pages
 	$(INSTALL) -m 755 "$(PROGRAM)" "$(DESTDIR)$(BIN)/sllink"
 	$(INSTALL) -m 755 $(TOOLS:%=tools/%) "$(DESTDIR)$(BIN)"
 	$(INSTALL) -m 644 python/sllink/*.py python/sllink/py.typed "$(DESTDIR)$(MODULE)"
+	for package in $(PACKAGES); do \
+	  $(INSTALL) -d "$(DESTDIR)$(MODULE)/$$package" && \
+	  $(INSTALL) -m 644 "python/sllink/$$package"/*.py "$(DESTDIR)$(MODULE)/$$package" || exit 1; \
+	done
 	$(INSTALL) -m 644 man/sllink.1 $(TOOLS:%="$(PAGES)/%.1") "$(DESTDIR)$(MAN)"
 	$(INSTALL) -m 644 "$(PAGES)/sllink.bash" "$(DESTDIR)$(BASH_COMPLETIONS)/sllink"
 	$(INSTALL) -m 644 "$(PAGES)/_sllink" "$(DESTDIR)$(ZSH_COMPLETIONS)/_sllink"
@@ -146,7 +152,8 @@ deb: built
 	  " ." \
 	  " The tools around it, and their module, want Python 3. Where the library for C was" \
 	  " built, it is there too." > "$(OUT)/$(DEBIAN)/DEBIAN/control"
-	printf '%s\n' '#!/bin/sh' 'set -e' 'rm -rf /usr/share/sllink/python/sllink/__pycache__' > "$(OUT)/$(DEBIAN)/DEBIAN/prerm"
+	printf '%s\n' '#!/bin/sh' 'set -e' 'find /usr/share/sllink -name __pycache__ -prune -exec rm -rf {} +' \
+	  > "$(OUT)/$(DEBIAN)/DEBIAN/prerm"
 	chmod 644 "$(OUT)/$(DEBIAN)/DEBIAN/control"
 	chmod 755 "$(OUT)/$(DEBIAN)/DEBIAN/prerm"
 	dpkg-deb --root-owner-group --build "$(OUT)/$(DEBIAN)" "$(OUT)/$(DEBIAN).deb" > /dev/null

@@ -1,0 +1,133 @@
+"""The recording that is looked at, and what is answered: lines, and the command lines of a shell that read it."""
+
+import errno
+import os
+import shlex
+import stat
+from dataclasses import dataclass, field
+from typing import List, Optional, Sequence, Tuple
+
+from .._signs import Frames, many
+
+WHOLE, HEAD = 4 << 20, 1 << 20                            # up to WHOLE a recording is read whole; else HEAD first
+LISTED = 20                                               # pieces that are listed, and places without frames
+NEAR = 8                                                  # frames at a cut that are looked at
+
+Piece = Tuple[int, int]                                   # where frames lie one after another: begin and end
+
+
+class RecordingFile:
+    """A file of which pieces are read."""
+
+    def __init__(self, name: str) -> None:
+        self.name = name
+        # a pipe that nobody writes into isn't waited for
+        self._file = open(name, "rb", buffering=0, opener=lambda path, flags: os.open(path, flags | os.O_NONBLOCK))
+        about = os.fstat(self._file.fileno())
+        if not stat.S_ISREG(about.st_mode):
+            self.close()
+            raise OSError(errno.ESPIPE, "is no file that can be read at any place", name)
+        self.size = about.st_size
+
+    def close(self) -> None:
+        """Closes the file."""
+        self._file.close()
+
+    def read(self, offset: int, length: int) -> bytes:
+        """The octets from an offset on, fewer only where the file ends."""
+        pieces = []
+        while length > 0:
+            piece = os.pread(self._file.fileno(), length, offset)
+            if not piece:
+                break
+            pieces.append(piece)
+            offset, length = offset + len(piece), length - len(piece)
+        return b"".join(pieces)
+
+
+@dataclass(eq=False)
+class Answer:
+    """What the recording is: lines, and then commands that read it, or why there are none. The options, with the kind
+    before them, are those with which the program reads it as it is."""
+
+    what: str
+    lines: List[str] = field(default_factory=list)
+    options: Sequence[str] = ()
+    commands: Sequence[str] = ()
+    why: Optional[str] = None
+    weight: int = 0
+    covered: float = 1
+    again: Optional[Tuple[int, int, Frames]] = None       # how a large recording is looked at again
+
+    @property
+    def sure(self) -> bool:
+        """Whether the commands are known."""
+        return self.why is None
+
+    @property
+    def rank(self) -> Tuple[bool, int]:
+        """By how much it is better than another one."""
+        return self.sure, self.weight
+
+    @property
+    def checked(self) -> bool:
+        """Whether error control shows it, beside which there is no other reading."""
+        return any(option.endswith("-fecf") for option in self.options)
+
+
+def quoted(name: str) -> str:
+    """A name as a shell has it, which no command takes for an option."""
+    name = f"./{name}" if name.startswith("-") else name
+    if all(letter.isprintable() for letter in name):
+        return shlex.quote(name)
+    octets = os.fsencode(name)
+    return "$'" + "".join(chr(octet) if 32 <= octet < 127 and octet not in b"'\\" else f"\\x{octet:02x}"
+                          for octet in octets) + "'"
+
+
+def shell(recording: RecordingFile, words: Sequence[str], source: Optional[str] = None) -> str:
+    """The command line that checks the recording."""
+    if source:
+        return f"{source} | sllink check {' '.join(words)}"
+    return f"sllink check {' '.join(words)} < {quoted(recording.name)}"
+
+
+def frames_line(recording: RecordingFile, frames: Frames, length: int) -> str:
+    """The line on how many frames there are, or are looked at."""
+    if recording.size <= WHOLE:
+        return f"frames {frames.number}"
+    return f"frames {frames.number} looked at, of about {recording.size // length}"
+
+
+def listed(lines: List[str], what: str) -> List[str]:
+    """The first lines, and how many there are beside them."""
+    return lines if len(lines) <= LISTED else [*lines[:LISTED], f"further {what} {len(lines) - LISTED}, not listed"]
+
+
+def piece_lines(pieces: Sequence[Piece]) -> List[str]:
+    """The lines on pieces between which frames shift, or on the first one, which isn't at the beginning."""
+    lines = listed([f"piece at {start} octets {end - start}" for start, end in pieces], "pieces")
+    return [f"frames shift: octets are missing, or too many, between {many(len(pieces), 'piece')}"
+            if len(pieces) > 1 else "the first frame isn't at the beginning", *lines]
+
+
+def piece_command(name: str, start: int, end: int, size: int) -> str:
+    """The command that writes a piece."""
+    command = f"tail -c +{start + 1} {name}" if start else f"head -c {end} {name}"
+    return f"{command} | head -c {end - start}" if start and end < size else command
+
+
+def joined(recording: RecordingFile, pieces: Sequence[Piece]) -> str:
+    """The command that writes the whole frames of all pieces."""
+    name = quoted(recording.name)
+    pieces = [(start, end) for start, end in pieces if end > start]
+    if len(pieces) > LISTED:
+        places = " ".join(f"{start + 1}:{end - start}" for start, end in pieces)
+        return f"for piece in {places}; do tail -c +${{piece%:*}} {name} | head -c ${{piece#*:}}; done"
+    commands = [piece_command(name, start, end, recording.size) for start, end in pieces]
+    return commands[0] if len(commands) == 1 else "(" + "; ".join(commands) + ")"
+
+
+def field_line(fecf: Optional[bool], right: int) -> str:
+    """The line on the error control field."""
+    return f"error control field {'yes' if fecf else 'no' if fecf is False else 'unknown'} right {right}"

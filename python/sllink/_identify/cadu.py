@@ -1,0 +1,71 @@
+"""CADUs: sync markers, and TM frames between them."""
+
+import re
+from collections import Counter
+from typing import List, Optional, Sequence
+
+from .._signs import LONGEST, MARKER, SHORTEST, Frames, by_control, plain_evidence, randomiser, unmasked
+from .answer import Answer, RecordingFile, quoted
+from .tm import about_tm, inner, tm_commands
+
+CADUS = "CADUs: sync markers (1ACFFC1D) before frames"
+
+
+def cadus(recording: RecordingFile, head: bytes) -> Optional[Answer]:
+    """Sync markers at one distance, and what is between them."""
+    at = [place.start() for place in re.finditer(re.escape(MARKER), head)]
+    if not at or len(at) < 2 and at[0] != 0:
+        return None
+    distances = Counter(there - here for here, there in zip(at, at[1:]))
+    lines = [f"sync markers {len(at)} in the first {len(head)} octets, the first one at {at[0]}"]
+    lines += [f"distance {distance} times {number}" for distance, number in distances.most_common(4)]
+    if len(distances.most_common()) > 4:
+        lines.append(f"other distances {len(distances) - 4}")
+    if not distances:
+        return Answer(CADUS, lines, why="there is one marker alone")
+    distance, number = distances.most_common(1)[0]
+    if number < 0.3 * (len(at) - 1) or distance - 4 < SHORTEST:
+        return Answer(CADUS, lines, why="the markers have no one distance")
+    units = [head[here + 4:here + distance] for here in at if here + distance <= len(head)]
+    answer = unmarked(recording, units, distance)
+    answer.lines[:0] = lines
+    return answer
+
+
+def unmarked(recording: RecordingFile, units: Sequence[bytes], distance: int) -> Answer:
+    """The answer for what lies between sync markers."""
+    for mask, name in (None, "not randomised"), (randomiser(), "randomised"):
+        plain = [unmasked(unit[:LONGEST], mask) for unit in units[:256]]
+        for length in lengths_within(plain, distance - 4):
+            frames = Frames([[frame[:length] for frame in plain]], length)
+            fecf, why = by_control(frames)
+            if why or not fecf and not plain_evidence(frames):
+                continue
+            lines = [name, f"frames of {length} octets" + (
+                f", and {distance - 4 - length} octets after each, as of parity" if distance - 4 > length else "")]
+            lines += [f"frames {frames.number} looked at", *about_tm(frames, fecf)]
+            source = stripped(length, mask is not None) + f" < {quoted(recording.name)}"
+            return Answer(CADUS, lines, (), tm_commands(recording, frames, fecf, source))
+        frames = Frames([plain], distance - 4)
+        if frames.share > 0.75 and frames.rising()[1] > 0.3:
+            return Answer(CADUS, [name, *about_tm(frames, None)],
+                          why="where a frame ends between two markers isn't plain")
+    return Answer(CADUS, why="between the markers there are no TM frames, neither as they are nor derandomised")
+
+
+def lengths_within(frames: Sequence[bytes], longest: int) -> List[int]:
+    """The lengths that frames between markers may have: up to a right error control field, or the usual parities."""
+    found = inner([frame[:longest] for frame in frames])
+    if found:
+        return [found]
+    usual = [longest, *(longest - parity * depth for depth in (1, 2, 3, 4, 5, 8) for parity in (32, 16))]
+    return sorted({length for length in usual if SHORTEST <= length <= LONGEST}, reverse=True)
+
+
+def stripped(length: int, mask: bool, separator: str = '$/="\\x1a\\xcf\\xfc\\x1d"') -> str:
+    """The command that takes frames from between sync markers."""
+    if not mask:
+        return f"perl -e '{separator}; while(<STDIN>){{chomp; print substr($_,0,{length}) if length>={length}}}'"
+    return ("perl -e '@a=(1)x8; push @a,$a[-1]^$a[-3]^$a[-5]^$a[-8] while @a<16384; $p=pack(\"B*\",join \"\",@a); "
+            f"{separator}; while(<STDIN>){{chomp; print substr($_,0,{length})^substr($p,0,{length}) "
+            f"if length>={length}}}'")

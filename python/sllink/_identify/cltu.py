@@ -1,0 +1,73 @@
+"""CLTUs: start sequences (EB90), and TC frames in the code blocks behind them (231.0-B)."""
+
+import re
+from collections import Counter
+from typing import Optional, Sequence
+
+from .._signs import tc_field, tc_randomiser, unmasked
+from .answer import Answer, RecordingFile, field_line, quoted, shell
+from .tc import Uplink
+from .tc_frames import channel_of
+
+START, TAIL = b"\xeb\x90", b"\xc5" * 7 + b"\x79"
+
+
+def cltus(recording: RecordingFile, head: bytes) -> Optional[Answer]:
+    """Start sequences, and code blocks of right parity behind them."""
+    units, firsts, covered = [], [], 0
+    for place in re.finditer(re.escape(START), head):
+        at, blocks = place.start() + 2, []
+        while at + 8 <= len(head) and head[at:at + 8] != TAIL and head[at + 7] & 0xFE == parity(head[at:at + 7]):
+            blocks.append(head[at:at + 7])
+            at += 8
+        if blocks:
+            units.append(b"".join(blocks))
+            firsts.append(place.start())
+            covered += 10 + 8 * len(blocks)
+    if not units or covered < 0.2 * len(head):
+        return None
+    first = firsts[0]
+    if head[:first].strip(b"\x55") and head[:first].strip(b"\xaa"):
+        return None
+    for sequenced, name in (None, "not randomised"), (tc_randomiser(), "randomised"):
+        plain = [unmasked(unit, sequenced) for unit in units]
+        frames = [unit[:stated(unit)] for unit in plain if not unit[0] >> 6 and stated(unit) >= 5]
+        scids = Counter(channel_of(frame)[0] for frame in frames)
+        if frames and scids.most_common(1)[0][1] >= 0.8 * len(units):
+            return coded(recording, frames, name, scids.most_common(1)[0][0], len(units), first, sequenced)
+    return Answer("CLTUs", [f"start sequences (EB90) {len(units)}, the first one at {first}"],
+                  why="no TC frames are in them, neither as they are nor derandomised")
+
+
+def stated(frame: bytes) -> int:
+    """The octets of a TC frame, by its header."""
+    return ((frame[2] & 3) << 8 | frame[3]) + 1
+
+
+def coded(recording: RecordingFile, frames: Sequence[bytes], name: str, scid: int, number: int, first: int,
+          mask: Optional[bytes]) -> Answer:
+    """The answer for TC frames in CLTUs."""
+    fecf, right, why = tc_field(frames)
+    uplink = Uplink([(0, frame) for frame in frames], scid, fecf)
+    lines = [f"start sequences (EB90) {number}, the first one at {first}", name,
+             f"spacecraft {scid} frames {len(frames)}", *uplink.lines, field_line(fecf, right)]
+    derandomise = "@a=(1)x8; push @a,$a[-2]^$a[-4]^$a[-5]^$a[-6]^$a[-7]^$a[-8] while @a<9000; " \
+                  "$p=pack(\"B*\",join \"\",@a); " if mask else ""
+    unmask = "$x^=substr($p,0,length $x); " if mask else ""
+    source = ("perl -e 'undef $/; $_=<STDIN>; " + derandomise +
+              r"while(/\xeb\x90((?:.{8})*?)\xc5{7}\x79/sg){($x=$1)=~s/(.{7})./$1/sg; " + unmask +
+              "print substr($x,0,(unpack(\"x2n\",$x)&1023)+1)}' < " + quoted(recording.name))
+    return Answer("CLTUs: TC transfer frames in code blocks", lines, (), [shell(recording, uplink.command(), source)],
+                  why)
+
+
+def parity(octets: bytes) -> int:
+    """The parity of the seven octets of a code block (231.0-B), with its last bit 0."""
+    register = 0
+    for octet in octets:
+        for place in range(7, -1, -1):
+            high = (register >> 6 ^ octet >> place) & 1
+            register = register << 1 & 0x7F
+            if high:
+                register ^= 0x45
+    return (register ^ 0x7F) << 1

@@ -1,0 +1,79 @@
+"""Recordings that aren't TM or TC frames as the program reads them."""
+
+import re
+from typing import Dict, Optional
+
+from .._signs import Frames, by_control, plain_evidence, randomiser, strides, unmasked
+from .answer import Answer, RecordingFile, quoted
+from .cadu import stripped
+from .tm import about_tm, inner, tm_commands
+
+ARCHIVES = (
+    (b"\x1f\x8b", "compressed by gzip", "gunzip < {} > {}"),
+    (b"BZh", "compressed by bzip2", "bunzip2 < {} > {}"),
+    (b"\xfd7zXZ\0", "compressed by xz", "unxz < {} > {}"),
+    (b"\x28\xb5\x2f\xfd", "compressed by zstd", "unzstd < {} > {}"),
+    (b"PK\3\4", "a zip archive", "unzip -p {} > {}"))
+CAPTURES = (
+    (b"\x0a\x0d\x0d\x0a", "a capture of the format pcapng"),
+    *((magic, "a capture of the format pcap") for magic in
+      (b"\xd4\xc3\xb2\xa1", b"\xa1\xb2\xc3\xd4", b"\x4d\x3c\xb2\xa1", b"\xa1\xb2\x3c\x4d")))
+
+
+def archive(recording: RecordingFile, head: bytes) -> Optional[Answer]:
+    """An archive, a capture or hexadecimal digits, with the command that makes octets of frames of it."""
+    name = quoted(recording.name)
+    for magic, what, command in ARCHIVES:
+        if head.startswith(magic):
+            bare = re.sub(r"\.(gz|bz2|xz|zst|zip)$", "", recording.name)
+            target = quoted(bare if bare != recording.name else recording.name + ".unpacked")
+            return Answer(what, [], (), [command.format(name, target)])
+    for magic, what in CAPTURES:
+        if head.startswith(magic):
+            return Answer(f"{what}, of packets of a network", [], (),
+                          [f"tshark -r {name} -T fields -e udp.payload | xxd -r -p > "
+                           f"{quoted(recording.name + '.frames')}"])
+    if head and re.fullmatch(rb"[0-9A-Fa-f\s]*", head[:65536]) and re.search(rb"[0-9A-Fa-f]{8}", head[:65536]):
+        return Answer("hexadecimal digits", [], (), [f"xxd -r -p < {name} > {quoted(recording.name + '.octets')}"])
+    return None
+
+
+def space_packets(recording: RecordingFile, head: bytes) -> Optional[Answer]:
+    """Packets end to end from the beginning, without frames."""
+    at = number = rising = 0
+    counts: Dict[int, int] = {}
+    while at + 7 <= len(head) and not head[at] >> 5 and number < 1000:
+        name, count = (head[at] & 7) << 8 | head[at + 1], (head[at + 2] & 63) << 8 | head[at + 3]
+        rising += counts.get(name) == (count - 1) % 16384
+        counts[name] = count
+        at, number = at + 7 + (head[at + 4] << 8 | head[at + 5]), number + 1
+    ends = at == len(head) or number >= 1000 or at > len(head) and len(head) < recording.size
+    if number >= 4 and ends and rising and rising >= 0.5 * (number - len(counts)):
+        return Answer("space packets end to end, without frames", [f"packets {number}, from the beginning"],
+                      why="sllink reads transfer frames, and there are none", weight=2 * number)
+    return None
+
+
+def other_frames(recording: RecordingFile, head: bytes) -> Optional[Answer]:
+    """Frames that sllink doesn't read: of other versions, randomised or inverted ones."""
+    cases = ((bytes(8), 1, "AOS transfer frames (version 1)", "sllink reads TM and TC frames"),
+             (randomiser()[:8], 0, "randomised TM transfer frames", None),
+             (b"\xff" * 8, 0, "inverted TM transfer frames", "each bit is inverted"))
+    for mask, version, what, why in cases:
+        found = [stride for stride, rise, rows in strides(head, mask, 0, version)
+                 if rise >= 3 and rise >= 0.5 * min(rows, 16)]
+        if not found:
+            continue
+        stride = found[0]
+        if why:
+            return Answer(f"{what} of {stride} octets", why=why)
+        units = [head[at:at + stride] for at in range(0, len(head) - stride + 1, stride)][:256]
+        plain = [unmasked(unit, randomiser()) for unit in units]
+        length = inner(plain) or stride
+        frames = Frames([[frame[:length] for frame in plain]], length)
+        fecf, why = by_control(frames)
+        why = why or (None if fecf or plain_evidence(frames) else "too few headers agree")
+        source = stripped(length, True, f"$/=\\{stride}").replace("chomp; ", "") + f" < {quoted(recording.name)}"
+        commands = tm_commands(recording, frames, fecf, source)
+        return Answer(f"{what} of {length} octets", about_tm(frames, fecf), (), commands, why)
+    return None

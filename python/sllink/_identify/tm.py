@@ -1,0 +1,180 @@
+"""TM frames: the lengths that they may have, and the answer for each."""
+
+from binascii import crc_hqx
+from collections import Counter
+from typing import Dict, Iterable, List, Optional, Sequence, Tuple
+
+from .._signs import LONGEST, SHORTEST, Frames, by_control, many, plain_evidence, strides
+from .answer import (HEAD, WHOLE, Answer, RecordingFile, field_line, frames_line, joined, listed, piece_lines, quoted,
+                     shell)
+from .headers import ROWS, phases, spacecraft
+from .tm_search import TmSearch
+
+TRIED = 24                                                # lengths that are tried
+COMPLETED = 3                                             # lengths of which further places are read
+
+
+def tm(recording: RecordingFile, head: bytes) -> List[Answer]:
+    """What the recording is as TM frames, by each length that may fit: first those that error control speaks for, and
+    then from the shortest on."""
+    candidates: List[Tuple[bool, int, Frames]] = []
+    for stride, _, rows in strides(head):
+        frames = [head[at:at + stride] for at in range(0, min(rows, 64) * stride, stride)]
+        known = Frames([frames], stride)
+        first = Frames([frames[:12]], stride)
+        if known.checked() >= 2 or any(it.share >= 0.5 and it.rising()[1] >= 0.3 for it in (known, first)):
+            candidates.append((known.checked() < 2, stride, known if known.share >= 0.5 else first))
+    answers: List[Answer] = []
+    lengths: List[int] = []
+    candidates = sorted(candidates, key=lambda candidate: candidate[2].evidence, reverse=True)[:TRIED]
+    for _, stride, known in sorted(candidates, key=lambda candidate: candidate[:2]):
+        answer = None if multiple(stride, lengths) else tm_answer(recording, head, stride, 0, known)
+        if answer:
+            answers.append(answer)
+            lengths += [stride] if answer.covered >= 0.5 else []
+        if answer and answer.sure and answer.checked:
+            break
+    return completed(recording, head, answers)
+
+
+def shifted_tm(recording: RecordingFile, head: bytes) -> List[Answer]:
+    """The same, where the first frame isn't at the beginning, or frames shift soon after it."""
+    places = [0] if recording.size <= WHOLE // 64 else [0, recording.size // 2]
+    for place in places:
+        block = head[place:] if place < len(head) else recording.read(place, HEAD // 8)
+        block = block[:HEAD // 8]
+        found: List[Tuple[float, int, int]] = []
+        for stride in range(SHORTEST, LONGEST + 1):
+            if len(block) < 3 * stride:
+                break
+            counts = phases(block, stride, None, 12)
+            rows = min(12, len(block) // stride)
+            found += [(rise / rows, stride, at) for at, rise in counts.most_common(3) if rise >= max(3, 0.25 * rows)]
+        candidates: List[Tuple[int, int, Frames]] = []
+        for _, stride, at in sorted(found, key=lambda it: (-it[0], it[1]))[:4 * TRIED]:
+            stretch = [block[offset:offset + stride] for offset in range(at, len(block) - stride + 1, stride)][:ROWS]
+            candidates.append((stride, at, Frames([stretch], stride)))
+        candidates = sorted(candidates, key=lambda candidate: candidate[2].evidence, reverse=True)[:TRIED]
+        best: Dict[int, Answer] = {}
+        for stride, at, frames in sorted(candidates, key=lambda candidate: candidate[:2]):
+            if multiple(stride, [length for length in best if length != stride and best[length].covered >= 0.5]):
+                continue
+            answer = tm_answer(recording, head, stride, (place + at) % stride, frames)
+            if answer and (stride not in best or answer.rank > best[stride].rank):
+                best[stride] = answer
+        answers = completed(recording, head, list(best.values()))
+        if any(answer.sure for answer in answers):
+            return answers
+    return []
+
+
+def multiple(length: int, others: Iterable[int]) -> bool:
+    """Whether the length is a multiple of another one."""
+    return any(length % other == 0 for other in others)
+
+
+def tm_answer(recording: RecordingFile, head: bytes, length: int, phase: int, frames: Frames,
+              further: bool = False) -> Optional[Answer]:
+    """What a recording of TM frames of this length is, where it is one: by its head, or by further places too."""
+    control = frames.checked() >= 2
+    keys = [key for key, right in frames.right.items() if right] if control else (
+        spacecraft(head, frames) or frames.main)
+    search = TmSearch(recording, head, length, phase, keys, control, further)
+    if search.others:
+        search = TmSearch(recording, head, length, phase, [*keys, *search.others], control, further)
+    known = Frames(search.stretches, length)
+    if known.number == 0:
+        return None
+    fecf, why = by_control(known)
+    # also where the field seems right: it is so too after zeros that follow each frame
+    shorter = inner(max(search.stretches, key=len))
+    if shorter and shorter < length:
+        return trailed(recording, search, length, shorter, search.pieces[0][0])
+    if fecf is False and not plain_evidence(known):
+        rising, pairs = sum(known.steps.values()), sum(known.pairs.values())
+        why = f"too few headers agree, or too few counts rise: {rising} of {pairs}"
+    if fecf and known.checked() < 3 and recording.size % length:
+        why = "only two frames have a right error control field, and the recording doesn't end with a frame"
+    lines = [frames_line(recording, known, length), *about_tm(known, fecf)]
+    lines += listed([f"no such frames at {offset}" for offset in search.absent], "places without such frames")
+    if search.covered() < 0.5:
+        why = why or "less than half of the recording are such frames"
+    pieces, source = search.pieces, None
+    if len(pieces) > 1 or pieces[0][0]:
+        lines += piece_lines(pieces)
+        source = joined(recording, pieces)
+    weight = known.checked() * 3 if fecf else known.rising()[0]
+    return Answer(f"TM transfer frames of {length} octets", lines,
+                  tm_command(known.main[0], length, fecf) if source is None else (),
+                  tm_commands(recording, known, fecf, source), why, weight, search.covered(), (length, phase, frames))
+
+
+def completed(recording: RecordingFile, head: bytes, answers: List[Answer]) -> List[Answer]:
+    """The answers, of a large recording with further places: those that are sure, or else the few that have most."""
+    if recording.size == len(head):
+        return answers
+    chosen = [it for it in answers if it.sure] or sorted(answers, key=lambda it: (it.covered, it.weight))[-COMPLETED:]
+    again = [tm_answer(recording, head, *it.again, True) if it in chosen and it.again else it for it in answers]
+    return [it for it in again if it]
+
+
+def trailed(recording: RecordingFile, search: TmSearch, stride: int, length: int, phase: int) -> Answer:
+    """The answer for frames after each of which other octets come."""
+    frames = Frames([[frame[:length] for frame in stretch] for stretch in search.stretches], length)
+    fecf, why = by_control(frames)
+    start = f"tail -c +{phase + 1} {quoted(recording.name)} | " if phase else ""
+    source = f"perl -e '$/=\\{stride}; while(<STDIN>){{print substr($_,0,{length})}}'"
+    source = start + source if start else source + f" < {quoted(recording.name)}"
+    lines = [f"frames of {length} octets at each {stride}; {stride - length} other octets come with each, as of parity",
+             frames_line(recording, frames, stride), *about_tm(frames, fecf)]
+    return Answer(f"TM transfer frames of {length} octets, with other octets between them", lines, (),
+                  tm_commands(recording, frames, fecf, source), why, 3 * frames.checked())
+
+
+def inner(frames: Sequence[bytes]) -> Optional[int]:
+    """The octets of each frame up to a right error control field, where it isn't at the end; else None."""
+    if len(frames) < 3:
+        return None
+    counts: "Counter[int]" = Counter()
+    for frame in frames[:8]:
+        register = 0xFFFF
+        for at in range(len(frame)):
+            register = crc_hqx(frame[at:at + 1], register)
+            if register == 0 and at + 1 >= SHORTEST:
+                counts[at + 1] += 1
+    length, number = max(counts.items(), key=lambda item: item[1], default=(0, 0))
+    return length if number >= 3 and number >= 0.5 * min(8, len(frames)) else None
+
+
+def about_tm(frames: Frames, fecf: Optional[bool]) -> List[str]:
+    """The lines on TM frames."""
+    lines: List[str] = []
+    main = frames.main
+    for scid in main:
+        lines.append(f"spacecraft {scid} frames {frames.scids[scid]}")
+        enough = 1 if frames.number < 100 or fecf else max(2, frames.number * 0.002)
+        lines += [f"spacecraft {scid} vc {vc} frames {number} ocf {frames.fields[key, vc]}"
+                  for (key, vc), number in sorted(frames.vcs.items()) if key == scid and number >= enough]
+    rest = frames.number - sum(frames.scids[scid] for scid in main)
+    if rest:
+        lines.append(f"other headers {rest}")
+    lines.append(field_line(fecf, frames.checked()))
+    control = sum(frames.fields[key, vc] for key, vc in frames.fields if key in main)
+    total = sum(frames.scids[scid] for scid in main)
+    known = "yes" if control > 0.9 * total else "no" if control < 0.1 * total else "some"
+    lines.append(f"operational control field {known} frames {control}")
+    if frames.secondary > 0.05 * frames.number:
+        lines.append(f"secondary header frames {frames.secondary}, opaque for sllink")
+    if frames.access > 0.05 * frames.number:
+        lines.append(f"virtual channel access data frames {frames.access}, opaque for sllink")
+    return lines
+
+
+def tm_command(scid: int, length: int, fecf: Optional[bool]) -> List[str]:
+    """The words with which the program reads TM frames."""
+    return ["tm", "--scid", str(scid), "--tm-length", str(length), *(["--tm-fecf"] if fecf else [])]
+
+
+def tm_commands(recording: RecordingFile, frames: Frames, fecf: Optional[bool], source: Optional[str]) -> List[str]:
+    """A command line for each spacecraft."""
+    return [shell(recording, tm_command(scid, frames.length, fecf), source) for scid in frames.main]

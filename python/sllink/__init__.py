@@ -11,11 +11,14 @@ as they stand on the command line of the program. The program is the one of the 
 `sllink` on the PATH, else the one installed with this module or built in the repository. Where it is a Library, that
 reads the recording in this process.
 
+`identify` says what the recording of a path is, and with which options it is read; the program isn't run.
+
 OSError: the recording can't be opened, or the output not written. SllinkError: the program refused something or
 stopped. What came before it is the beginning of the listing.
 """
 
 from ._fault import SllinkError
+from ._identify import Identification, identify
 from ._library import Library, Recording
 from ._options import Options, Words
 from ._program import find_program, lines
@@ -25,7 +28,7 @@ from ._records import Anomaly, Clcw, Count, Frame, Packet, Remainder, Skip, TcFr
 __version__ = "1.0.0"
 
 __all__ = [
-    "Anomalies", "Anomaly", "Clcw", "Count", "Frame", "Library", "Options", "Packet", "Recording", "Remainder", "Skip",
-    "SllinkError", "TcFrame", "TmFrame", "Totals", "Words", "anomalies", "counts", "find_program", "frames", "lines",
-    "normal_form", "packets", "same_packets",
+    "Anomalies", "Anomaly", "Clcw", "Count", "Frame", "Identification", "Library", "Options", "Packet", "Recording",
+    "Remainder", "Skip", "SllinkError", "TcFrame", "TmFrame", "Totals", "Words", "anomalies", "counts", "find_program",
+    "frames", "identify", "lines", "normal_form", "packets", "same_packets",
 ]

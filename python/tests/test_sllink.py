@@ -21,6 +21,7 @@ import tempfile
 import time
 import tracemalloc
 import unittest
+import unittest.mock
 from binascii import crc_hqx
 
 ROOT = pathlib.Path(__file__).resolve().parents[2]
@@ -524,6 +525,78 @@ class NormalForms(InAFolder):
         self.assertIs(sllink.same_packets("tm", os.devnull, os.devnull, STATION, program=program), False)
         for number in (self.folder / "numbers").read_text().split():
             self.assertTrue(self.gone(int(number)))
+
+
+class Identifications(InAFolder):
+    """What a recording is."""
+
+    def octets(self, name, octets):
+        """A recording of these octets."""
+        path = self.folder / name
+        path.write_bytes(octets)
+        return path
+
+    def tool(self, *words):
+        """Status and output of sllink-identify."""
+        ran = subprocess.run([ROOT / "tools" / "sllink-identify", *words], stdout=subprocess.PIPE, check=False)
+        return ran.returncode, os.fsdecode(ran.stdout)
+
+    def test_lines(self):
+        """They are those of the tool, and its words are the kind and the options."""
+        octets = (EXAMPLES / "first-station.tm").read_bytes()
+        for path, read in ((EXAMPLES / "first-station.tm", ("tm", STATION)),
+                           (EXAMPLES / "plain.tc", ("tc", sllink.Options(1, plain=[5], vr_of={0: 0, 5: 57}))),
+                           (self.octets("short", octets[:64]), (None, None)),
+                           (self.octets("shifted", octets[:100] + octets[110:]), (None, None)),
+                           (self.octets("packed", gzip.compress(octets)), (None, None)),
+                           (self.octets("empty", b""), (None, None))):
+            with self.subTest(path=path):
+                found = sllink.identify(path)
+                self.assertEqual((found.kind, found.options), read)
+                self.assertEqual(self.tool(path), (0 if found.commands else 1, f"{path}: {found}\n"))
+                words = f"{' '.join(found.words)}\n" if found.words else ""
+                self.assertEqual(self.tool("--options", path), (0 if words else 1, words))
+                self.assertEqual(found.why is None, bool(found.commands))
+
+    def test_read_with_what_is_found(self):
+        path = EXAMPLES / "first-station.tm"
+        found = sllink.identify(path)
+        self.assertEqual(found.what, "TM transfer frames of 32 octets")
+        self.assertIn("error control field yes right 11", found.lines)
+        self.assertEqual(list(sllink.packets(found.kind, path, found.options)), list(sllink.packets("tm", path, STATION)))
+
+    def test_not_identified(self):
+        """What only seems to be is no command and no option."""
+        frames = (EXAMPLES / "pass.tm").read_bytes()
+        found = sllink.identify(self.octets("few", frames[:192]))
+        self.assertEqual((found.words, found.commands), ((), ()))
+        self.assertEqual(str(found).splitlines()[-1], f"can't say: {found.why}")
+
+    def test_paths(self):
+        path = EXAMPLES / "first-station.tm"
+        found = sllink.identify(path)
+        self.assertEqual(found, sllink.identify(str(path)))
+        self.assertEqual(found, sllink.identify(os.fsencode(path)))
+        self.assertEqual(found, pickle.loads(pickle.dumps(found)))
+        with self.assertRaises(TypeError):
+            sllink.identify(io.BytesIO())
+        with self.assertRaises(dataclasses.FrozenInstanceError):
+            found.why = "no"
+
+    def test_the_program_is_not_run(self):
+        path = EXAMPLES / "first-station.tm"
+        with unittest.mock.patch("subprocess.Popen", side_effect=AssertionError):
+            self.assertEqual(sllink.identify(path).kind, "tm")
+
+    def test_no_file(self):
+        os.mkfifo(self.folder / "pipe")
+        opened = os.listdir("/proc/self/fd")
+        for name, error in (("missing", FileNotFoundError), (".", IsADirectoryError), ("pipe", OSError)):
+            with self.subTest(name=name), self.assertRaises(error) as raised:
+                sllink.identify(self.folder / name)
+            self.assertEqual(raised.exception.filename, str(self.folder / name))
+        sllink.identify(EXAMPLES / "first-station.tm")
+        self.assertEqual(os.listdir("/proc/self/fd"), opened)
 
 
 class Tools(InAFolder):

@@ -15,8 +15,6 @@ Status: 0; 1 where it doesn't ask, or asks for nothing, which is named. The prog
 
 import argparse
 import contextlib
-import importlib.machinery
-import importlib.util
 import io
 import os
 import random
@@ -25,21 +23,13 @@ import tempfile
 
 sys.dont_write_bytecode = True
 HERE = os.path.dirname(os.path.realpath(__file__))
-TOOL = os.path.join(HERE, "../tools/sllink-compare")
-sys.path.insert(0, HERE)
+sys.path[:0] = [HERE, os.path.join(HERE, "../python")]
 import passes
+from sllink import _questions, tool
+from sllink._compare import command
 
 RECORDINGS, EACH_TIME = 400, 40
 WHOLE = 10                                                # frames from which on each wrong option is asked about
-
-
-def loaded():
-    """The tool, to be run in this process. What sllink-identify says is left out, which would take long."""
-    loader = importlib.machinery.SourceFileLoader("compare", TOOL)
-    tool = importlib.util.module_from_spec(importlib.util.spec_from_loader("compare", loader))
-    loader.exec_module(tool)
-    tool.command_of = tool.identified = lambda recording: ""
-    return tool
 
 
 class Pass:
@@ -88,13 +78,13 @@ class Pass:
             yield f"the greatest length {length}", self.frames, self.options(length=length), wrong
 
 
-def asks(tool, kind, frames, options, name):
+def asks(kind, frames, options, name):
     """Whether the tool asks about options, where it compares a recording with itself."""
     with open(name, "wb") as file:
         file.write(b"".join(frames))
     try:
         with contextlib.redirect_stdout(io.StringIO()):
-            tool.main([kind, name, name, *options])
+            command.main([kind, name, name, *options])
     except tool.Refused as reason:
         return "--allow options says so" in str(reason)
     return False
@@ -106,7 +96,9 @@ def main():
     parser.add_argument("--all", action="store_true")
     parser.add_argument("seed", nargs="?", type=int, default=1)
     words = parser.parse_args()
-    tool, tried, failed = loaded(), {True: 0, False: 0}, 0
+    # What sllink-identify says is left out, which would take long.
+    _questions.command_of = _questions.identified = lambda recording: ""
+    tried, failed = {True: 0, False: 0}, 0
     numbers = range(RECORDINGS)
     if not words.all:
         print("passes, seed", words.seed)
@@ -114,7 +106,7 @@ def main():
     with tempfile.TemporaryDirectory() as folder:
         for it in map(Pass, numbers):
             for what, frames, options, wrong in it.cases():
-                asked = asks(tool, it.kind, frames, options, os.path.join(folder, "pass"))
+                asked = asks(it.kind, frames, options, os.path.join(folder, "pass"))
                 if asked != wrong and (asked or len(frames) >= WHOLE):
                     failed += 1
                     print(f"FAILED: recording {it.number}, {len(frames)} frames, {what}: it "

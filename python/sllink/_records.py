@@ -202,6 +202,27 @@ class Count(Line):
         return f"{channel} apid {self.apid} packets {self.packets} octets {self.octets} jumps {self.jumps}"
 
 
+@dataclass(frozen=True)
+class Run(Line):
+    """Packets of one virtual channel, MAP (None in TM) and APID that only one of two recordings has: `side` is `<` for
+    the first recording and `>` for the second one. Their packet sequence counts follow each other, from the first one of
+    `counts` to the last one, and they are `packets`."""
+
+    __slots__ = ("side", "vc", "map", "apid", "counts", "packets")
+    side: str
+    vc: int
+    map: Optional[int]
+    apid: int
+    counts: Tuple[int, int]
+    packets: int
+
+    def __str__(self) -> str:
+        channel = f"vc {self.vc}" if self.map is None else f"vc {self.vc} map {self.map}"
+        first, last = self.counts
+        counts = str(first) if self.packets == 1 else f"{first}..{last}"
+        return f"{self.side} {channel} apid {self.apid} counts {counts} packets {self.packets}"
+
+
 # From the words of a line.
 
 def _tm_frame(words: List[str]) -> TmFrame:

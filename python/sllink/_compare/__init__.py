@@ -1,0 +1,1 @@
+"""Two recordings compared: which packets only one of them has."""

@@ -1,0 +1,230 @@
+"""What sllink-compare does, from its words to its status."""
+
+import os
+import signal
+from contextlib import ExitStack, closing
+from hashlib import blake2b
+from itertools import islice
+from typing import BinaryIO, Callable, Iterator, List, Optional, cast
+
+from .. import SllinkError, lines, normal_form
+from .._questions import contradicted, unanswered
+from .._records import Run
+from .._tally import packet_lines
+from ..tool import Refused, about, help_of, shown
+from .difference import Difference, Hunk, Runs
+from .store import Channel, Packets, room
+from .union import Union, skip
+from .words import CHECKED, HELP, NAME, Words
+
+LARGE = 256 << 20                                         # octets from which on the lines of packets decide
+
+
+def main(words: List[str]) -> int:
+    """Compares two recordings; the status."""
+    if "-h" in words or "--help" in words:
+        return help_of(HELP)
+    return compare(Words(words))
+
+
+def compare(words: Words) -> int:
+    """The same, by what the words ask for."""
+    checked = []
+    for side in 0, 1:
+        checked.append(Checked(words, side))
+        print(checked[-1], flush=True)
+    doubts = doubts_of(checked, words)
+    asked = contradicted(checked, words.allowed) or unanswered(checked, words.allowed)
+    if asked:
+        raise Refused(asked)
+    same = same_forms(words, checked)
+    if not same:
+        found = by_lines(words, checked, doubts)
+        if found and same is False:
+            raise Refused("the normal forms differ and the packets don't; did a recording change?")
+        same = found
+    if not same:
+        return 1
+    require_none(doubts)
+    print("same packets")
+    return 0
+
+
+class Checked:
+    """The totals of a recording, and how many lines of each word `check` has."""
+
+    def __init__(self, words: Words, side: int) -> None:
+        self.kind, self.recording, self.options = words.kind, words.recordings[side], words.options(side)
+        self.found = dict.fromkeys(CHECKED, 0)
+        self.totals = ""
+        with about(self.recording), closing(lines("check", self.kind, self.recording, self.options)) as listing:
+            for line in listing:
+                word = line.split(" ", 2)[1]
+                if word in self.found:
+                    self.found[word] += 1
+                else:
+                    self.totals = line
+        words.states[side].require_unchanged()
+        self.frames, self.skipped, self.packets = map(int, self.totals.split()[1:6:2])
+
+    def __str__(self) -> str:
+        found = ", ".join(f"{word} {number}" for word, number in self.found.items() if number)
+        return f"{shown(self.recording)}: {self.totals}" + (f": {found}" if found else "")
+
+
+def doubts_of(checked: List[Checked], words: Words) -> List[str]:
+    """The words that `check` has and that aren't allowed: those of the first recording, then those of the other."""
+    return list(dict.fromkeys(word for it in checked for word, number in it.found.items()
+                              if number and word not in words.allowed))
+
+
+def require_none(doubts: List[str]) -> None:
+    """Refuses lines of `check` that aren't allowed."""
+    if doubts:
+        raise Refused(f"no packet differs, but check has lines that --allow doesn't name: {','.join(doubts)}; "
+                      "are the options right?")
+
+
+# Normal forms.
+
+class Digest:
+    """A file that keeps the digest of what is written to it, and whether it is empty."""
+
+    def __init__(self) -> None:
+        self.sum, self.empty = blake2b(), True
+
+    def write(self, octets: bytes) -> None:
+        """Takes octets."""
+        self.sum.update(octets)
+        self.empty = False
+
+
+def normal_form_of(words: Words, side: int, output: Digest) -> None:
+    """Writes the normal form of a recording. Raises MemoryError where memory is short, also if the system then ends the
+    program."""
+    try:
+        normal_form(words.kind, words.recordings[side], cast(BinaryIO, output), words.options(side))
+    except SllinkError as error:
+        if error.status == -signal.SIGKILL or error.text == "sllink: memory":
+            raise MemoryError from None
+        raise
+
+
+def same_forms(words: Words, checked: List[Checked]) -> Optional[bool]:
+    """Whether the normal forms are the same; None where they don't decide. They have packets where `check` has some."""
+    if words.lines or words.union or not words.alike or any(
+            os.stat(recording).st_size > LARGE for recording in words.recordings):
+        return None
+    sums = []
+    for side, recording in enumerate(words.recordings):
+        digest = Digest()
+        try:
+            with about(recording):
+                normal_form_of(words, side, digest)
+        except MemoryError:
+            return None
+        words.states[side].require_unchanged()
+        if digest.empty != (checked[side].packets == 0):
+            raise Refused(f"{shown(recording)}: check counts packets {checked[side].packets}, and the normal form is "
+                          + ("empty" if digest.empty else "not empty"))
+        sums.append(digest.sum.digest())
+    return sums[0] == sums[1]
+
+
+# The lines of packets.
+
+def by_lines(words: Words, checked: List[Checked], doubts: List[str]) -> bool:
+    """Whether the packets are the same, by their lines. Prints which aren't, and writes the union."""
+    def differ() -> None:
+        a, b = map(shown, words.recordings)
+        print(f"different packets: < only in {a}, > only in {b}")
+        if "foreign" in doubts:
+            print("check has foreign, which mostly comes of a wrong option; are the options right?")
+
+    with ExitStack() as kept:
+        union = kept.enter_context(closing(Union(words.union))) if words.union is not None else None
+        listing = Listing(words, checked, kept.enter_context(room(NAME)), union, differ)
+        same = listing.same()
+        if same:
+            require_none(doubts)
+        if listing.difference.moved:
+            print(f"in another order: {listing.difference.moved} of these packets, which are listed for each")
+        if union:
+            print(union.end())
+    return same
+
+
+class Listing:
+    """What is printed of two recordings, and the union of both."""
+
+    def __init__(self, words: Words, checked: List[Checked], folder: str, union: Optional[Union],
+                 differ: Callable[[], None]) -> None:
+        self.words, self.union, self.differ = words, union, differ
+        self.sides = [packets_of(words, checked[side], side, folder) for side in (0, 1)]
+        self.difference = Difference(self.sides, folder)
+
+    def same(self) -> bool:
+        """Goes through the channels; whether the packets are the same."""
+        same = True
+        for channel in self.difference.channels():
+            same = self._channel(channel, same) and same
+        return same
+
+    def _channel(self, channel: Channel, same: bool) -> bool:
+        alike, runs = True, Runs(channel)
+        with ExitStack() as files:
+            listed, united = [[self._lines(side, channel, files) for side in self.sides] for _ in range(2)]
+            for hunk in self.difference.hunks(channel):
+                if not hunk.both and alike and same:
+                    self.differ()
+                alike = alike and hunk.both > 0
+                self._print(hunk, listed, runs)
+                if self.union:
+                    unite(self.union, hunk, united)
+        print_all(runs.end())
+        return alike
+
+    @staticmethod
+    def _lines(side: Packets, channel: Channel, files: ExitStack) -> Iterator[bytes]:
+        """The lines of the packets of a channel, where they are kept."""
+        path = side.path(channel, "lines")
+        return files.enter_context(open(path, "rb")) if os.path.exists(path) else iter(())
+
+    def _print(self, hunk: Hunk, listed: List[Iterator[bytes]], runs: Runs) -> None:
+        """Prints what only one recording has."""
+        for side, only in enumerate(hunk.only):
+            if self.words.hex:
+                skip(listed[side], hunk.both)
+                for line in islice(listed[side], len(only)):
+                    print(f"{'<>'[side]} {line.decode()}", end="")
+            else:
+                for record, _ in only:
+                    runs.add(side, record)
+        print_all(runs.take())
+
+
+def print_all(some: List[Run]) -> None:
+    """Prints runs."""
+    for it in some:
+        print(it)
+
+
+def unite(union: Union, hunk: Hunk, lines_of: List[Iterator[bytes]]) -> None:
+    """Writes the packets of both."""
+    if hunk.both:
+        union.write(islice(lines_of[0], hunk.both))
+        skip(lines_of[1], hunk.both)
+    else:
+        union.merge(*hunk.only, lines_of[0], lines_of[1])
+
+
+def packets_of(words: Words, checked: Checked, side: int, folder: str) -> Packets:
+    """The packets of a recording, as many as `check` counts."""
+    packets = Packets(os.path.join(folder, "ab"[side]), words.hex or words.union is not None)
+    with about(checked.recording), packet_lines(checked.kind, checked.recording, checked.options) as listing:
+        packets.take(listing, checked.kind)
+    words.states[side].require_unchanged()
+    if packets.number != checked.packets:
+        raise Refused(f"{shown(checked.recording)}: check counts packets {checked.packets}, and {packets.number} are "
+                      "listed")
+    return packets

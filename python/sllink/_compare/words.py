@@ -1,0 +1,151 @@
+"""Tells whether two recordings of one pass hold the same packets, and which packets only one of them has.
+
+    sllink-compare tm|tc A B --scid N [OPTION..] [--allow WORD,..] [--a-options TEXT] [--b-options TEXT]
+                   [--hex] [--union FILE] [--lines]
+
+A and B are files, and OPTION are options of sllink for both.
+
+    --allow WORD,..   Words of lines of `check` that are known to do no harm. On a pass with noise and
+                      losses --allow skip,gap is usual, and dropped, open and rest where packets are cut
+    --a-options TEXT  Options of sllink for A alone, as words of a shell
+    --b-options TEXT  Options of sllink for B alone. So an uplink that was recorded from mid-pass on, with
+                      --b-options '--vr-of 0:77', compares with one from its beginning, and a station that
+                      keeps the error control field with one that strips it
+    --hex             List each packet that only one recording has, in the line of `packets`
+    --union FILE      Write the packets of both into a file, once each, as lines of `packets`; one that comes
+                      twice in a recording is written twice
+    --lines           Decide by the lines of `packets` alone, in little memory
+    -h, --help        Print help
+
+Read with a wrong option, any two recordings may seem to hold the same packets: frames are skipped, nothing
+is delivered, or what is delivered isn't there. So `check` comes first. The first two lines are the totals of
+each recording, and how many lines of each word `check` has. Where it has any, "same packets" isn't said,
+unless --allow takes their words:
+
+    skip gap dropped opaque foreign rest open early late outside refused stray long tail
+
+Three words more answer a question that is asked whether or not packets differ, in a line that ends with what
+sllink-identify says of the recording:
+
+    options           the first thousand frames of a recording contradict its options
+    nothing           a recording delivers no packet
+    most              more than half of the frames of a recording are skipped
+
+Options are held against the frames in five things alone: an error control field that is there or isn't, the length of
+the frames, their spacecraft, randomisation, and sync markers. Of TC frames the length contradicts where more than a
+tenth of them are longer than --tc-length.
+
+Where packets differ, those that only one recording has are listed by channel, after `<` for A and `>` for B,
+in runs of the packet sequence count, as in
+
+    < vc 0 apid 100 counts 193..199 packets 7
+
+Under a wrong option recordings may differ that hold the same packets, so look at the first two lines. Where
+`check` has `foreign`, and --allow doesn't, a line asks whether the options are right.
+
+Packets of a channel are compared in their order. Those that both have, but in another order, are listed for
+each, and a line has their number. --union writes channel by channel. Where both have packets of their own
+between the same two, those of A come first, but where counts say otherwise, and it is said of how many packets
+the order isn't known.
+
+Normal forms decide where the options are the same and no recording is larger than 256 MiB; `normalise` keeps
+all packets in memory. Else, and where memory is short, the lines of `packets` decide, in at most 100 MB. What
+is kept in between goes into a folder in $TMPDIR that is deleted at the end: 20 octets a packet, and with
+--hex and --union also its line.
+
+Status: 0 same packets; 1 different packets; 2 neither can be said, with one line on the standard error that
+says why, or none where whoever reads the output goes away, or SIGINT, SIGTERM or SIGHUP stops the tool.
+
+Example: one station strips the error control field, and both lost frames:
+
+    sllink-compare tm a.tm b.tm --scid 1 --a-options --tm-fecf \\
+        --b-options '--tm-length 1113' --allow skip,gap,dropped
+
+Example: one recording of an uplink begins where the next frame has N(S) 77:
+
+    sllink-compare tc up.tc mid.tc --scid 1 --b-options '--vr-of 0:77'
+
+The program is $SLLINK, else `sllink` on the PATH, else the one installed with this tool or built in the
+repository.
+"""
+
+import os
+from collections import deque
+from typing import Deque, List, Optional, Set, Tuple
+
+from .._questions import QUESTIONS
+from .._state import State
+from ..tool import Refused, own_options, shown
+
+HELP = __doc__
+NAME = "sllink-compare"
+USAGE = f"usage: {NAME} tm|tc A B --scid N [OPTION..]; --help tells more"
+CHECKED = "skip gap dropped opaque foreign rest open early late outside refused stray long tail".split()
+ALLOWED = [*CHECKED, *QUESTIONS]
+VALUED = ("--allow", "--a-options", "--b-options", "--union")
+
+
+class Words:
+    """What the command line asks for."""
+
+    # not by argparse, which refuses `--a-options --tm-fecf`, as a value begins with a dash there
+    def __init__(self, words: List[str]) -> None:
+        if len(words) < 3 or words[0] not in ("tm", "tc"):
+            raise Refused(USAGE if len(words) < 3 else f"{words[0]}: is no kind of recording; {USAGE}")
+        self.kind, self.recordings = words[0], words[1:3]
+        self.allowed: Set[str] = set()
+        self.hex, self.lines = False, False
+        self.union: Optional[str] = None
+        self.common: List[str] = []
+        self.own: Tuple[List[str], List[str]] = ([], [])
+        for recording in self.recordings:
+            if recording.startswith("-"):
+                raise Refused(f"the recordings come before the options, and one named {recording} is ./{recording}; "
+                              f"{USAGE}")
+        self.states = [State(recording) for recording in self.recordings]
+        rest = deque(words[3:])
+        while rest:
+            self._take(rest.popleft(), rest)
+
+    def _take(self, word: str, rest: Deque[str]) -> None:
+        name, equals, value = word.partition("=")
+        if name in VALUED:
+            if not equals:
+                if not rest:
+                    raise Refused(f"{name} wants words of: {' '.join(ALLOWED)}" if name == "--allow" else
+                                  f"{name} wants a value")
+                value = rest.popleft()
+            if name == "--allow":
+                self._allow(value)
+            elif name == "--union":
+                self.union = self._output(value)
+            else:
+                self.own[name == "--b-options"].extend(own_options(name, value))
+        elif word == "--hex":
+            self.hex = True
+        elif word == "--lines":
+            self.lines = True
+        else:
+            self.common.append(word)
+
+    def _allow(self, value: str) -> None:
+        for word in value.replace(",", " ").split():
+            if word not in ALLOWED:
+                raise Refused(f"--allow: '{word}' is none of: {' '.join(ALLOWED)}")
+            self.allowed.add(word)
+
+    def _output(self, value: str) -> str:
+        if os.path.isdir(value):
+            raise Refused(f"--union: {shown(value)}: is a folder")
+        if any(os.path.exists(value) and os.path.samefile(value, recording) for recording in self.recordings):
+            raise Refused(f"--union: {shown(value)}: is one of the recordings")
+        return value
+
+    def options(self, side: int) -> List[str]:
+        """The options for one of the recordings."""
+        return [*self.common, *self.own[side]]
+
+    @property
+    def alike(self) -> bool:
+        """Whether both recordings are read with the same options, so that normal forms can be compared."""
+        return self.own[0] == self.own[1]

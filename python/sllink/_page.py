@@ -3,6 +3,7 @@
 from html import escape
 from typing import Iterable, List, Optional, Sequence, Union
 
+from ._check_words import MARKS
 from ._picture import STYLE
 
 Value = Union[str, int]
@@ -57,14 +58,15 @@ dl.facts dd{margin-bottom:.375rem}.verdict{font-size:1rem}}
 """
 
 # The picture where the page is dark.
-DARK = """
+DARK = "".join(["""
 @media screen and (prefers-color-scheme:dark){.pass text{fill:#e8eaed}.pass .soft{fill:#a3adb8}
 .pass .row{fill:#23282e}.pass .line{stroke:#4b545e}.pass .axis{stroke:#a3adb8}.pass .on-dark{fill:#fff}
-.pass .on-light{fill:#000}.pass .lost,.pass .m-gap{fill:#ff7a6b}.pass path.m-dropped{fill:none;stroke:#ff7a6b}
-.pass text.m-dropped{fill:#ff7a6b}.pass .m-foreign,.pass .m-stray,.pass .m-long{fill:#c9a2f0}.pass .m-tail{fill:#f0a35e}
-.pass .m-open{fill:#e8eaed}.pass .c-skip{fill:#e05c7a}.pass .c-first,.pass .c-command{fill:#2f8fd0}
+.pass .on-light{fill:#000}.pass .lost{fill:#ff7a6b}
+""", *(f".pass .m-{what}{{fill:{look.dark}}}" for what, look in MARKS.items()), """
+.pass path.m-dropped{fill:none;stroke:#ff7a6b}
+.pass .c-skip{fill:#e05c7a}.pass .c-first,.pass .c-command{fill:#2f8fd0}
 .pass .rest-back{fill:#14171a}.pass .rest-line{fill:#a3adb8}.pass .f-Lockout{fill:#ff7a6b}}
-"""
+"""])
 
 
 def page(title: str, parts: Iterable[str]) -> str:

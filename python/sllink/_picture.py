@@ -3,6 +3,7 @@
 from typing import Dict, List, NamedTuple, Sequence, Set, Tuple
 from xml.sax.saxutils import escape, quoteattr
 
+from ._check_words import CELLED, MARKS
 from ._survey import BINS, FLAGS, NOT_READ, SPOTS, Cell, Mark, Survey
 from ._svg import box, text, width
 
@@ -20,29 +21,13 @@ CELLS = {
     "first": ("#0072b2", "packets, one starts here"),
     "none": ("#5b9fcf", "packets, none starts here"),
     "idle": ("#7d848d", "only idle data"),
-    "opaque": ("#e69f00", "opaque"),
+    "opaque": CELLED["opaque"],
     "accept": ("#009e73", "accept, type AD"),
     "bypass": ("#66c2a5", "accept, type BD"),
     "command": ("#0072b2", "command"),
-    "early": ("#f0e442", "early"),
-    "late": ("#e69f00", "late"),
-    "outside": ("#d55e00", "outside, lockout begins"),
-    "refused": ("#cc79a7", "refused in lockout"),
-    "skip": ("#7d1128", "skipped"),
-    "rest": ("", "octets after the last frame"),
+    **{word: CELLED[word] for word in ("early", "late", "outside", "refused", "skip", "rest")},
 }
 DARK = {"first", "accept", "command", "outside", "skip"}  # on these, words are white
-
-# The marks of check's lines: a path round the origin, its colour, its words in the legend.
-MARKS = {
-    "gap": ("M-5-5H5L0 5Z", "#d00000", "gap in the frame counts, larger the more frames are lost"),
-    "dropped": ("M-4-4L4 4M-4 4L4-4", "#d00000", "incomplete packet or series dropped"),
-    "foreign": ("M0-5L5 0L0 5L-5 0Z", "#7a3fa0", "another packet version"),
-    "stray": ("M0-5L5 0L0 5L-5 0Z", "#7a3fa0", "segment out of sequence"),
-    "long": ("M-4-4H4V4H-4Z", "#7a3fa0", "series too long"),
-    "tail": ("M-4 0a4 4 0 1 0 8 0a4 4 0 1 0-8 0Z", "#b35900", "octets after the packets of a unit"),
-    "open": ("M-4-5L5 0L-4 5Z", "#222222", "incomplete at the end"),
-}
 FLAG_COLOURS = {"Lockout flag": "#d00000", "Retransmit flag": "#b8a000"}
 
 STYLE = "".join([
@@ -50,7 +35,7 @@ STYLE = "".join([
     ".pass .soft{fill:#555}.pass .page{fill:#fff}.pass .row{fill:#f1f3f5}.pass .line{stroke:#c3c8cd;fill:none}",
     ".pass .axis{stroke:#111}.pass .on-dark{fill:#fff}.pass .on-light{fill:#000}.pass .lost{fill:#d00000}",
     *(f".pass .c-{what}{{fill:{colour}}}" for what, (colour, _) in CELLS.items() if colour),
-    *(f".pass .m-{what}{{fill:{colour}}}" for what, (_, colour, _) in MARKS.items()),
+    *(f".pass .m-{what}{{fill:{look.colour}}}" for what, look in MARKS.items()),
     ".pass path.m-dropped{fill:none;stroke:#d00000;stroke-width:2}",
     *(f".pass .f-{flag.split()[0]}{{fill:{colour}}}" for flag, colour in FLAG_COLOURS.items()),
     ".pass .rest-back{fill:#fff}.pass .rest-line{fill:#6b6b6b}",
@@ -262,7 +247,7 @@ class Picture:
             words = CELLS[what][1] + (f": {reasons}" if what == "skip" and reasons else "")
             items.append((words, [f'<rect y="-9" width="16" height="11" fill="url(#{self.ident})"/>' if what == "rest"
                                   else box(0, -9, 16, 11, "c-" + what)]))
-        items += [(MARKS[what][2], sign(what, Sign(8), -4)) for what in MARKS if what in self.used]
+        items += [(MARKS[what].words, sign(what, Sign(8), -4)) for what in MARKS if what in self.used]
         items += [(flag, [box(0, -6, 16, BAR - 2, "f-" + flag.split()[0])]) for flag in FLAGS if flag in self.used]
         parts, x = [], float(LEFT)
         for words, swatch in items:
@@ -318,7 +303,7 @@ def stretches_for(frames: int) -> int:
 def sign(what: str, mark: Sign, y: float) -> List[str]:
     """A mark, and its words beside it."""
     scale = f" scale({mark.scale():.2f})" if mark.scale() != 1 else ""
-    path = f'<path class="m-{what}" d="{MARKS[what][0]}" transform="translate({mark.x:.1f} {y:.1f}){scale}"/>'
+    path = f'<path class="m-{what}" d="{MARKS[what].path}" transform="translate({mark.x:.1f} {y:.1f}){scale}"/>'
     parts = [f"<g><title>{escape(mark.about)}</title>{path}</g>" if mark.about else path]
     if mark.words:
         parts.append(text(mark.x + 10, y + 4, mark.words, size=10, kind="m-" + what))

@@ -1,11 +1,31 @@
-"""The questions about the options of a recording, which --allow answers by their words."""
+"""The questions about the options of a recording, which sllink-compare and a page ask.
 
-from typing import Collection, Optional, Protocol, Sequence
+sllink-compare has a word for each, with which --allow answers it; that of the last one is the word of `check`.
 
+    options    the first thousand frames of a recording contradict its options
+    nothing    a recording delivers no packet
+    most       more than half of the frames of a recording are skipped
+    foreign    `check` has lines of a word that mostly comes of a wrong option
+"""
+
+from typing import TYPE_CHECKING, Collection, List, Optional, Protocol, Sequence
+
+from ._check_words import CHECK_WORDS, REASONS, Reason
 from ._contradiction import contradiction
 from .tool import command_of, identified, shown
 
+if TYPE_CHECKING:
+    from ._survey import Survey
+
 QUESTIONS = ["nothing", "most", "options"]
+ALONE = {
+    "tm": "Does the recording hold TM frames alone, with sync markers, parity and randomisation taken off?",
+    "tc": "Does the recording hold TC frames alone, with CLTUs and randomisation taken off?",
+}
+IDENTIFY = "sllink-identify says what a recording is."
+REST = {"tm": "Is --tm-length right?", "tc": "Is --tc-fecf right?"}
+DISCARDED = ("FARM-1 discards most frames of type AD. Does the recording begin in mid-pass, and does --vr-of name the "
+             "V(R) of that moment for each virtual channel?")
 
 
 class Read(Protocol):
@@ -13,16 +33,33 @@ class Read(Protocol):
 
     kind: str
     recording: str
-    options: Sequence[str]
+    options: List[str]
     frames: int
     skipped: int
     packets: int
 
 
+def denied(it: Read) -> Optional[str]:
+    """What the first frames show that the options deny."""
+    return contradiction(it.kind, it.recording, it.options)
+
+
+def delivers_nothing(it: Read) -> bool:
+    """Whether there is no packet."""
+    return it.packets == 0
+
+
+def mostly_skipped(it: Read) -> bool:
+    """Whether more than half of the frames are skipped."""
+    return 2 * it.skipped > it.frames
+
+
+# In a line of sllink-compare.
+
 def contradicted(some: Sequence[Read], allowed: Collection[str]) -> Optional[str]:
     """What the first frames of a recording show that its options deny, where --allow doesn't answer it."""
     for it in some if "options" not in allowed else ():
-        found = contradiction(it.kind, it.recording, it.options)
+        found = denied(it)
         if found:
             command = command_of(it.recording)
             return (f"{shown(it.recording)}: {found}; are the options right? --allow options says so"
@@ -32,14 +69,14 @@ def contradicted(some: Sequence[Read], allowed: Collection[str]) -> Optional[str
 
 def unanswered(some: Sequence[Read], allowed: Collection[str]) -> Optional[str]:
     """Why nothing can be said of a recording, where --allow doesn't answer it."""
-    silent = [it for it in some if it.packets == 0]
+    silent = list(filter(delivers_nothing, some))
     if "nothing" not in allowed and silent:
         if len(silent) == 2:
             return "neither recording delivers a packet; are the options right?" + _perhaps(silent[0])
         return (f"{shown(silent[0].recording)}: delivers no packet; are the options right? --allow nothing says so"
                 + _perhaps(silent[0], ";"))
     for it in some:
-        if "most" not in allowed and it.packets and 2 * it.skipped > it.frames:
+        if "most" not in allowed and mostly_skipped(it) and not delivers_nothing(it):
             return (f"{shown(it.recording)}: {it.skipped} of {it.frames} frames are skipped; are the options right? "
                     "--allow most says so" + _perhaps(it, ";"))
     return None
@@ -49,3 +86,48 @@ def _perhaps(it: Read, before: str = "") -> str:
     """What the recording may be."""
     found = identified(it.recording)
     return f"{before} sllink-identify says of {shown(it.recording)}: {found}" if found else ""
+
+
+def doubted(words: Collection[str]) -> List[str]:
+    """Those of the words that mostly come of a wrong option."""
+    return [word for word, it in CHECK_WORDS.items() if it.mostly and word in words]
+
+
+# On a page.
+
+def questions(survey: "Survey") -> List[str]:
+    """What to ask where the options may be wrong for the recording: first what its first frames show against them."""
+    found = denied(survey)
+    asked = [f"{found[0].upper()}{found[1:]}. Are the options right?"] if found else []
+    asked += _of_frames(survey) + _of_lines(survey)
+    if survey.frames > survey.skipped and delivers_nothing(survey) and not asked:
+        asked.append("No packet is delivered. Are the options right?")
+    if asked:
+        said = identified(survey.recording)
+        asked[-1] += f" sllink-identify says: {said}." if said else f" {IDENTIFY}"
+    return asked
+
+
+def _of_frames(survey: "Survey") -> List[str]:
+    """What frames that are skipped ask, and octets after the last one."""
+    asked = []
+    if mostly_skipped(survey):
+        reason = survey.reasons.most_common(1)[0][0]
+        asked.append(f"{REASONS.get(reason, Reason()).asks} {ALONE[survey.kind]}")
+    if survey.rest and survey.rest[1] * 2 > survey.size:
+        asked.append(f"Most octets come after the last whole frame. {REST[survey.kind]} {ALONE[survey.kind]}")
+    return asked
+
+
+def _of_lines(survey: "Survey") -> List[str]:
+    """What lines of `check` ask, if there are many; of a downlink any that mostly come of a wrong option."""
+    read = survey.frames - survey.skipped
+    many = [word for word, it in CHECK_WORDS.items() if it.asks and survey.anomalies[word] * 4 > read > 0]
+    many.sort(key=lambda word: not CHECK_WORDS[word].mostly)
+    some = [word for word in doubted(survey.anomalies) if survey.kind == "tm" and word not in many]
+    asked = [CHECK_WORDS[word].asks for word in many + some]
+    if survey.kind == "tc":
+        sent = sum(survey.of_row(row).get("accept", 0) for row in survey.rows())
+        if survey.anomalies["outside"] + survey.anomalies["refused"] > sent:
+            asked.append(DISCARDED)
+    return asked

@@ -3,40 +3,20 @@
 import hashlib
 from typing import Dict, List, Sequence, Tuple
 
+from ._check_words import meaning_of
 from ._page import Table, facts, figure, folded, heading, listing, page, paragraph, verdict
 from ._picture import Picture
+from ._questions import questions
 from ._survey import MOST_LINES, MOST_LOCKOUTS, Survey
 from ._tally import MOST_RUNS, Difference, Key, Missing, Tally
-from ._verdict import lost_frames, missing_counts, number_of, questions, said, said_of_two
+from ._verdict import lost_frames, missing_counts, number_of, said, said_of_two
 from .tool import about, shown
 
-MEANINGS = {
-    "skip fecf": "frame skipped: its frame error control field is wrong",
-    "skip version": "frame skipped: its transfer frame version number isn't 0",
-    "skip spacecraft": "frame skipped: it is of another spacecraft",
-    "skip long": "frame skipped: it is longer than --tc-length",
-    "skip kind": "frame skipped: bypass flag 0 with control command flag 1",
-    "skip empty": "frame skipped: it has no data field",
-    "skip command": "frame skipped: its data field is no control command",
-    "gap": "the frame count isn't the one that comes next on the channel",
-    "opaque": "frame whose data field isn't read: secondary header, other data than packets, pointer past the end",
-    "foreign": "octets at a packet start that are of another packet version",
-    "early": "frame of type AD discarded: N(S) is ahead, within the window",
-    "late": "frame of type AD discarded: N(S) is behind, within the window",
-    "outside": "frame of type AD discarded: N(S) is outside the window, and lockout begins",
-    "refused": "frame of type AD discarded in lockout",
-    "stray": "segment that continues or ends no series",
-    "long": "series of segments given up: it is longer than a packet can be",
-    "tail": "octets after the packets of a service data unit",
-    "rest": "octets after the last whole frame",
-    "open": "packet or series that is incomplete at the end",
-}
 JUMPS = "A jump is a packet sequence count that isn't the one that comes next, modulo 16384. Idle packets are left out."
 SEVERAL = (" Some APIDs come on more than one channel or MAP. Where their counts go on from one to another, there are "
            "jumps though no packet is missing.")
 MISSING = ("Missing counts are known by the virtual channel frame counts, modulo 256 at each gap, and none are known "
            "before the first frame and after the last one. The picture has them beside the marks of gaps.")
-DROPPED = {"tm": "incomplete packet dropped", "tc": "incomplete series of segments dropped"}
 
 
 class Recording:
@@ -64,7 +44,7 @@ def report_of_one(kind: str, path: str, options: Sequence[str]) -> str:
     """The page of a recording."""
     it = Recording(kind, path, options)
     parts = ["<header>", heading(1, it.name), read_as(it), "</header>",
-             verdict(said(it.survey, it.tally), questions(it.survey, it.tally), not it.survey.anomalies),
+             verdict(said(it.survey, it.tally), questions(it.survey), not it.survey.anomalies),
              facts(facts_of(it)), heading(2, "Picture"), pictured(it, "rest")]
     parts += tables(it, 2)
     return page(f"{it.name}: {number_of(it.survey.frames, 'frame')}, {number_of(it.tally.packets(), 'packet')}", parts)
@@ -77,7 +57,7 @@ def report_of_two(kind: str, paths: Sequence[str], options: Sequence[Sequence[st
     difference = Difference(one.tally, other.tally)
     for it in one, other:
         it.survey.state.require_unchanged()
-    asked = [f"{it.name}: {question}" for it in (one, other) for question in questions(it.survey, it.tally)]
+    asked = [f"{it.name}: {question}" for it in (one, other) for question in questions(it.survey)]
     alike = options[0] == options[1]
     parts = ["<header>", heading(1, f"{one.name} and {other.name}"), read_as(one) if alike else "", "</header>",
              verdict(said_of_two(one, other, difference), asked, difference.same),
@@ -246,11 +226,10 @@ def checked(survey: Survey) -> List[str]:
     if not number:
         return [paragraph("Nothing: no anomaly.")]
     table = Table("Lines of check", ["Line", "Number", "Meaning"], words=["Line", "Meaning"])
-    meanings = {**MEANINGS, "dropped": DROPPED[survey.kind]}
     lines = {f"skip {reason}": times for reason, times in survey.reasons.items()}
     lines.update((what, times) for what, times in survey.anomalies.items() if what != "skip")
     for what, times in sorted(lines.items(), key=lambda it: -it[1]):
-        table.rows.append([what, times, meanings.get(what, "")])
+        table.rows.append([what, times, meaning_of(what, survey.kind)])
     first = f"The first {MOST_LINES:,} of " if number > MOST_LINES else ""
     return [table.html(), folded(first + number_of(number, "line"), listing(survey.first_lines))]
 

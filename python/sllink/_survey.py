@@ -10,6 +10,7 @@ import re
 from collections import defaultdict
 from typing import Counter, Dict, Iterator, List, NamedTuple, Optional, Sequence, Tuple
 
+from ._check_words import CELLED
 from ._program import blocks
 from ._state import State
 from .tool import shown
@@ -23,7 +24,6 @@ ABOUT = 3                                                 # lines that are kept 
 NOT_READ = 64                                             # the row of skipped frames
 FLAGS = {"Lockout flag": 1 << 13, "Retransmit flag": 1 << 11}   # of the CLCW
 FLAGGED = sum(FLAGS.values())
-CELLED = {"opaque", "early", "late", "outside", "refused"}   # words of `check` that are seen in the cells
 
 # A line of `check`: its word, and the reason or the channel. OFFSET skip REASON | OFFSET WORD vc V .. | OFFSET rest N
 CHECKED = re.compile(rb"\d+ (\w+ (?:vc )?\w+)[^\n]*\n")

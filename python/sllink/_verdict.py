@@ -1,11 +1,9 @@
-"""What is said of a pass in a sentence, and what to ask where the options may be wrong."""
+"""What is said of a pass in a sentence."""
 
 from typing import Any, List, Sequence
 
-from ._contradiction import contradiction
 from ._survey import Survey
 from ._tally import Difference, Tally
-from .tool import identified
 
 
 def number_of(number: int, what: str) -> str:
@@ -90,56 +88,6 @@ def farm_said(survey: Survey) -> List[str]:
                  "FARM-1 accepted the one frame of type AD"]
     locked = [vc for vc, digits in sorted(survey.farms.items()) if int(digits, 16) >> 13 & 1]
     return parts + ([f"lockout at the end on {channels(locked)}"] if locked else [])
-
-
-def questions(survey: Survey, tally: Tally) -> List[str]:
-    """What to ask where the options may be wrong for the recording: first what its first frames show against them."""
-    read = survey.frames - survey.skipped
-    denied = contradiction(survey.kind, survey.recording, survey.options)
-    asked = [f"{denied[0].upper()}{denied[1:]}. Are the options right?"] if denied else []
-    if survey.skipped * 2 > survey.frames:
-        reason = survey.reasons.most_common(1)[0][0]
-        asked.append(f"{SKIPPED.get(reason, 'Most frames are skipped. Are the options right?')} {ALONE[survey.kind]}")
-    if survey.rest and survey.rest[1] * 2 > survey.size:
-        asked.append(f"Most octets come after the last whole frame. {REST[survey.kind]} {ALONE[survey.kind]}")
-    asked += [words for what, words in MANY.items() if survey.anomalies[what] * 4 > read > 0]
-    if survey.kind == "tm" and survey.anomalies["foreign"] and survey.anomalies["foreign"] * 4 <= read:
-        asked.append(FOREIGN)
-    if survey.kind == "tc":
-        sent = sum(survey.of_row(row).get("accept", 0) for row in survey.rows())
-        if survey.anomalies["outside"] + survey.anomalies["refused"] > sent:
-            asked.append(DISCARDED)
-    if read and not tally.counts and not asked:
-        asked.append("No packet is delivered. Are the options right?")
-    if asked:
-        found = identified(survey.recording)
-        asked[-1] += f" sllink-identify says: {found}." if found else f" {IDENTIFY}"
-    return asked
-
-
-SKIPPED = {
-    "fecf": "Most frames have a wrong frame error control field. Do they have this field, and is their length right?",
-    "version": "Most frames have another version than 0. Is their length right?",
-    "spacecraft": "Most frames are of another spacecraft. Is --scid right, and their length?",
-    "long": "Most frames are longer than --tc-length. Is it right?",
-}
-ALONE = {
-    "tm": "Does the recording hold TM frames alone, with sync markers, parity and randomisation taken off?",
-    "tc": "Does the recording hold TC frames alone, with CLTUs and randomisation taken off?",
-}
-IDENTIFY = "sllink-identify says what a recording is."
-REST = {"tm": "Is --tm-length right?", "tc": "Is --tc-fecf right?"}
-FOREIGN = ("Octets at packet starts are of another packet version. Do the frames have an error control field, which "
-           "the options leave out?")
-DISCARDED = ("FARM-1 discards most frames of type AD. Does the recording begin in mid-pass, and does --vr-of name the "
-             "V(R) of that moment for each virtual channel?")
-MANY = {
-    "foreign": FOREIGN,
-    "opaque": "Many frames are opaque, so their data fields aren't read. Have they a secondary header, or other data "
-              "than packets?",
-    "stray": "Many segments are out of sequence. Has the channel no segment headers, so that --plain has to name it?",
-    "tail": "Many units have octets after their packets. Is --tc-fecf right, and does --plain name the right channels?",
-}
 
 
 def said_of_two(one: Any, other: Any, difference: Difference) -> str:

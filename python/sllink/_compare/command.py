@@ -8,14 +8,15 @@ from itertools import islice
 from typing import BinaryIO, Callable, Iterator, List, Optional, cast
 
 from .. import SllinkError, lines, normal_form
-from .._questions import contradicted, unanswered
+from .._check_words import CHECK_WORDS
+from .._questions import contradicted, doubted, unanswered
 from .._records import Run
 from .._tally import packet_lines
 from ..tool import Refused, about, help_of, shown
 from .difference import Difference, Hunk, Runs
 from .store import Channel, Packets, room
 from .union import Union, skip
-from .words import CHECKED, HELP, NAME, Words
+from .words import HELP, NAME, Words
 
 LARGE = 256 << 20                                         # octets from which on the lines of packets decide
 
@@ -55,7 +56,7 @@ class Checked:
 
     def __init__(self, words: Words, side: int) -> None:
         self.kind, self.recording, self.options = words.kind, words.recordings[side], words.options(side)
-        self.found = dict.fromkeys(CHECKED, 0)
+        self.found = dict.fromkeys(CHECK_WORDS, 0)
         self.totals = ""
         with about(self.recording), closing(lines("check", self.kind, self.recording, self.options)) as listing:
             for line in listing:
@@ -138,8 +139,8 @@ def by_lines(words: Words, checked: List[Checked], doubts: List[str]) -> bool:
     def differ() -> None:
         a, b = map(shown, words.recordings)
         print(f"different packets: < only in {a}, > only in {b}")
-        if "foreign" in doubts:
-            print("check has foreign, which mostly comes of a wrong option; are the options right?")
+        for word in doubted(doubts):
+            print(f"check has {word}, which mostly comes of a wrong option; are the options right?")
 
     with ExitStack() as kept:
         union = kept.enter_context(closing(Union(words.union))) if words.union is not None else None

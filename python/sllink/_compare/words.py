@@ -73,6 +73,7 @@ import os
 from collections import deque
 from typing import Deque, List, Optional, Set, Tuple
 
+from .._check_words import CHECK_WORDS
 from .._questions import QUESTIONS
 from .._state import State
 from ..tool import Refused, own_options, shown
@@ -80,8 +81,7 @@ from ..tool import Refused, own_options, shown
 HELP = __doc__
 NAME = "sllink-compare"
 USAGE = f"usage: {NAME} tm|tc A B --scid N [OPTION..]; --help tells more"
-CHECKED = "skip gap dropped opaque foreign rest open early late outside refused stray long tail".split()
-ALLOWED = [*CHECKED, *QUESTIONS]
+ALLOWED = [*CHECK_WORDS, *QUESTIONS]
 VALUED = ("--allow", "--a-options", "--b-options", "--union")
 
 

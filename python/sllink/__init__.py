@@ -22,13 +22,13 @@ from ._identify import Identification, identify
 from ._library import Library, Recording
 from ._options import Options, Words
 from ._program import find_program, lines
-from ._read import Anomalies, anomalies, counts, frames, normal_form, packets, same_packets
-from ._records import Anomaly, Clcw, Count, Frame, Packet, Remainder, Skip, TcFrame, TmFrame, Totals
+from ._read import Anomalies, anomalies, counts, difference, frames, normal_form, packets, same_packets
+from ._records import Anomaly, Clcw, Count, Frame, Packet, Remainder, Run, Skip, TcFrame, TmFrame, Totals
 
 __version__ = "1.0.0"
 
 __all__ = [
     "Anomalies", "Anomaly", "Clcw", "Count", "Frame", "Identification", "Library", "Options", "Packet", "Recording",
-    "Remainder", "Skip", "SllinkError", "TcFrame", "TmFrame", "Totals", "Words", "anomalies", "counts", "find_program",
-    "frames", "identify", "lines", "normal_form", "packets", "same_packets",
+    "Remainder", "Run", "Skip", "SllinkError", "TcFrame", "TmFrame", "Totals", "Words", "anomalies", "counts",
+    "difference", "find_program", "frames", "identify", "lines", "normal_form", "packets", "same_packets",
 ]

@@ -1,11 +1,12 @@
 """The program as a child: where it is, what it is given, and what it says."""
 
+import contextlib
 import os
 import re
 import shutil
 import subprocess
 import threading
-from typing import Any, BinaryIO, Dict, Generator, List, Optional, Set, Tuple, Union
+from typing import Any, BinaryIO, Dict, Generator, Iterable, Iterator, List, Optional, Set, Tuple, Union
 
 from ._fault import SllinkError, explained
 from ._library import Library, Recording
@@ -16,6 +17,7 @@ BUILT = os.path.normpath(os.path.join(HERE, "../../crates/sllink/out/sllink"))
 INSTALLED = os.path.normpath(os.path.join(HERE, "../../../../bin/sllink"))
 MOST_SAID = 65536                                            # octets that are kept of what the program says
 MOST_VERSION = 64                                            # more than the version has
+CHUNK = 1 << 16                                              # octets that are read from a pipe at once
 BLOCK = 3 << 20                                              # octets of lines that are read together
 VERSION = re.compile(rb"sllink \d+(\.\d+)*\n")               # what the program answers to --version
 TOTALS = re.compile(rb"frames \d+ skipped \d+ packets \d+ idle \d+ anomalies \d+\n")   # the last line of `check`
@@ -79,7 +81,7 @@ class Child:
         self._verb = verb
         self._fault: Optional[BaseException] = None          # of reading the recording
         self._said = b""
-        pipes: Dict[str, Any] = {"stdout": subprocess.PIPE, "stderr": subprocess.PIPE}
+        pipes: Dict[str, Any] = {"stdout": subprocess.PIPE, "stderr": subprocess.PIPE, "bufsize": CHUNK}
         source: Any = recording
         if hasattr(recording, "read"):
             self._child = _started(command, stdin=subprocess.PIPE, **pipes)
@@ -168,6 +170,20 @@ def lines(verb: str, kind: str, recording: Recording, options: Words, *,
             if line.endswith(b"\n"):                         # else it is cut off, and the status tells why
                 yield line[:-1].decode("ascii")
         child.end(line)
+    finally:
+        child.stop()
+
+
+@contextlib.contextmanager
+def packet_lines(kind: str, recording: Recording, options: Words, program: Program = None) -> Iterator[Iterable[bytes]]:
+    """The lines of `packets`, as octets: they may be long, and there are many."""
+    if isinstance(program, Library):
+        yield program.text("packets", kind, recording, options).splitlines(keepends=True)
+        return
+    child = Child("packets", kind, recording, options, program)
+    try:
+        yield child.output
+        child.end()
     finally:
         child.stop()
 

@@ -5,14 +5,15 @@ from contextlib import closing
 from hashlib import sha256
 from typing import Any, BinaryIO, Dict, Generator, Iterable, Iterator, List, Literal, Optional, Tuple, Union, overload
 
+from ._compare.difference import Difference
+from ._compare.store import Packets, room
 from ._fault import SllinkError
 from ._library import Library, Recording
 from ._options import Words, words_of
-from ._program import Child, Program, lines
-from ._records import Anomaly, Count, Packet, Remainder, Skip, TcFrame, TmFrame, Totals
+from ._program import CHUNK, Child, Program, lines, packet_lines
+from ._records import Anomaly, Count, Packet, Remainder, Run, Skip, TcFrame, TmFrame, Totals
 from ._records import anomaly_of, frame_of, packet_of
-
-CHUNK = 1 << 16
+from .tool import Refused
 
 
 @overload
@@ -178,6 +179,27 @@ def same_packets(kind: str, a: Recording, b: Recording, options: Words, b_option
             other.stop()
     finally:
         one.stop()
+
+
+def difference(kind: str, a: Recording, b: Recording, options: Words, b_options: Optional[Words] = None, *,
+               program: Program = None) -> Generator[Run, None, None]:
+    """The packets that only one of two recordings has, in runs of the packet sequence count, as sllink-compare lists
+    them: by channel, in the order of its packets. Nothing comes where both have the same packets in the same order. A
+    packet that both have, but in another order, is in a run of each. The packets are compared by BLAKE2b of 128 bits.
+    Options aren't held against the recordings.
+
+    Both are read before the first run comes. 20 octets a packet are kept in a folder among the temporary files, in
+    $TMPDIR, which is deleted at the end. OSError: also that there is no room for them.
+    """
+    try:
+        with room("sllink") as folder:
+            sides = [Packets(os.path.join(folder, side)) for side in "ab"]
+            for side, recording, of in zip(sides, (a, b), (options, options if b_options is None else b_options)):
+                with packet_lines(kind, recording, of, program) as listing:
+                    side.take(listing, kind)
+            yield from Difference(sides, folder).runs()
+    except Refused as reason:
+        raise OSError(str(reason)) from None
 
 
 def _digests(some: Iterable[Packet]) -> Dict[Tuple[int, Optional[int]], Tuple[int, bytes]]:

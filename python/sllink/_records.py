@@ -205,8 +205,8 @@ class Count(Line):
 @dataclass(frozen=True)
 class Run(Line):
     """Packets of one virtual channel, MAP (None in TM) and APID that only one of two recordings has: `side` is `<` for
-    the first recording and `>` for the second one. Their packet sequence counts follow each other, from the first one of
-    `counts` to the last one, and they are `packets`."""
+    the first recording and `>` for the second one. Their packet sequence counts follow each other, `counts` are the
+    first and the last one, and `packets` is their number."""
 
     __slots__ = ("side", "vc", "map", "apid", "counts", "packets")
     side: str

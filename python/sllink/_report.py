@@ -1,14 +1,17 @@
 """A page of a pass: of one recording, or of two and what each of them lacks."""
 
 import hashlib
-from typing import Dict, List, Sequence, Tuple
+import os
+from typing import Dict, List, Optional, Sequence, Tuple
 
 from ._check_words import meaning_of
+from ._compare.difference import Key
+from ._compare.store import Packets, room
 from ._page import Table, facts, figure, folded, heading, listing, page, paragraph, verdict
 from ._picture import Picture
 from ._questions import questions
 from ._survey import MOST_LINES, MOST_LOCKOUTS, Survey
-from ._tally import MOST_RUNS, Difference, Key, Missing, Tally
+from ._tally import MOST_RUNS, Lacks, Missing, Tally
 from ._verdict import lost_frames, missing_counts, number_of, said, said_of_two
 from .tool import about, shown
 
@@ -20,12 +23,13 @@ MISSING = ("Missing counts are known by the virtual channel frame counts, modulo
 
 
 class Recording:
-    """All that a page has of a recording, and the name that it goes by on the page."""
+    """All that a page has of a recording, and the name that it goes by on the page. With `kept` its packets are kept
+    there."""
 
-    def __init__(self, kind: str, path: str, options: Sequence[str], compared: bool = False) -> None:
+    def __init__(self, kind: str, path: str, options: Sequence[str], kept: Optional[Packets] = None) -> None:
         with about(path):
             self.survey = Survey(kind, path, options)
-            self.tally = Tally(kind, path, options, compared)
+            self.tally = Tally(kind, path, options, kept)
         self.digest = digest_of(path)
         self.survey.state.require_unchanged()
         self.name = self.survey.name
@@ -52,20 +56,20 @@ def report_of_one(kind: str, path: str, options: Sequence[str]) -> str:
 
 def report_of_two(kind: str, paths: Sequence[str], options: Sequence[Sequence[str]]) -> str:
     """The page of two recordings, each with its options."""
-    one, other = (Recording(kind, path, of, compared=True) for path, of in zip(paths, options))
+    with room("sllink-report") as folder:
+        here, there = (Packets(os.path.join(folder, side)) for side in "ab")
+        one, other = (Recording(kind, *its) for its in zip(paths, options, (here, there)))
+        lacks = Lacks(here, there, folder)
     name_apart(one, other, paths)
-    difference = Difference(one.tally, other.tally)
-    for it in one, other:
-        it.survey.state.require_unchanged()
     asked = [f"{it.name}: {question}" for it in (one, other) for question in questions(it.survey)]
     alike = options[0] == options[1]
     parts = ["<header>", heading(1, f"{one.name} and {other.name}"), read_as(one) if alike else "", "</header>",
-             verdict(said_of_two(one, other, difference), asked, difference.same),
+             verdict(said_of_two(one, other, lacks), asked, lacks.same),
              heading(2, "Pictures")]
     for number, it in enumerate((one, other)):
         parts += [heading(3, it.name), "" if alike else read_as(it), paragraph(said(it.survey, it.tally)),
                   pictured(it, f"rest{number}")]
-    parts += lacks(one, other, difference)
+    parts += lacked(one, other, lacks)
     for it in one, other:
         parts += [heading(2, it.name), facts(facts_of(it)), *tables(it, 3)]
     return page(f"{one.name} and {other.name}", filter(None, parts))
@@ -234,36 +238,37 @@ def checked(survey: Survey) -> List[str]:
     return [table.html(), folded(first + number_of(number, "line"), listing(survey.first_lines))]
 
 
-def lacks(one: Recording, other: Recording, difference: Difference) -> List[str]:
+def lacked(one: Recording, other: Recording, lacks: Lacks) -> List[str]:
     """What each of two recordings lacks."""
     parts = [heading(2, "What each recording lacks")]
-    if difference.same:
+    if lacks.same:
         return parts + [paragraph("Nothing: on each channel both have the same packets in the same order."
                                   if one.tally.packets() else "Neither has a packet.")]
-    table = differing(one, other, difference)
+    table = differing(one, other, lacks)
     if table.rows:
         parts.append(table.html())
-    for it, missing in (one, difference.only_other), (other, difference.only_one):
-        parts += runs(it, missing)
-    if difference.reordered:
-        on = ", ".join(difference.reordered)
-        parts.append(paragraph(f"The packets that both have come in another order on {on}."))
+    for it, missing in (one, lacks.only_other), (other, lacks.only_one):
+        parts += runs(it, missing, lacks)
+    if lacks.moved:
+        parts.append(paragraph(f"The packets in another order are on {', '.join(lacks.reordered())}. They are in the "
+                               "runs of each recording.", "note"))
     return parts
 
 
-def differing(one: Recording, other: Recording, difference: Difference) -> Table:
+def differing(one: Recording, other: Recording, lacks: Lacks) -> Table:
     """The APIDs where one recording lacks packets."""
     with_map = one.survey.kind == "tc"
     names = [shortened(it.name) for it in (one, other)]
     last = [f"Lacked by {name}" for name in names]
     heads = ["Virtual channel", *["MAP"] * with_map, "APID", *(f"Packets in {name}" for name in names), *last]
     table = Table("APIDs with missing packets", heads, last, ["MAP", "APID"])
-    missing: Tuple[Missing, Missing] = (difference.only_other, difference.only_one)
+    missing: Tuple[Missing, Missing] = (lacks.only_other, lacks.only_one)
     counts: Tuple[Dict[Key, int], ...] = tuple(
         {key: count.packets for key, count in it.tally.counts.items()} for it in (one, other))
     for key in sorted({*missing[0].packets, *missing[1].packets}):
-        table.rows.append([*columns(key, with_map), *(of.get(key, 0) for of in counts),
-                           *(of.packets[key] for of in missing)])
+        numbers = [of.packets[key] - lacks.moved[key] for of in missing]
+        if any(numbers):
+            table.rows.append([*columns(key, with_map), *(of.get(key, 0) for of in counts), *numbers])
     return table
 
 
@@ -272,12 +277,14 @@ def shortened(name: str) -> str:
     return name if len(name) <= 32 else f"{name[:16]}..{name[-14:]}"
 
 
-def runs(it: Recording, missing: Missing) -> List[str]:
-    """The packets that a recording lacks, in runs of the sequence count."""
+def runs(it: Recording, missing: Missing, lacks: Lacks) -> List[str]:
+    """The packets that a recording lacks, or has in another order, in runs of the sequence count."""
     if not missing.number:
         return [paragraph(f"{it.name} lacks no packet of the other.")]
-    number = number_of(missing.number, "run")
-    words = f"{it.name} lacks {number_of(missing.total(), 'packet')}, in {number} of the sequence count"
+    number, moved = lacks.total(missing), sum(lacks.moved.values())
+    words = f"{it.name} lacks {number_of(number, 'packet') if number else 'no packet'}"
+    words += f" and has {moved:,} in another order" if moved else ""
+    words += f", in {number_of(missing.number, 'run')} of the sequence count"
     if missing.number > MOST_RUNS:
         words += f"; the first {MOST_RUNS:,} of them"
-    return [heading(3, words), listing(map(str, missing.runs))]
+    return [heading(3, words), listing(str(run)[2:] for run in missing.runs)]

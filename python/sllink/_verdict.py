@@ -3,7 +3,7 @@
 from typing import Any, List, Sequence
 
 from ._survey import Survey
-from ._tally import Difference, Tally
+from ._tally import Lacks, Tally
 
 
 def number_of(number: int, what: str) -> str:
@@ -90,19 +90,21 @@ def farm_said(survey: Survey) -> List[str]:
     return parts + ([f"lockout at the end on {channels(locked)}"] if locked else [])
 
 
-def said_of_two(one: Any, other: Any, difference: Difference) -> str:
+def said_of_two(one: Any, other: Any, lacks: Lacks) -> str:
     """Two recordings in a sentence."""
     here, there = one.tally.packets(), other.tally.packets()
     if not here + there:
         return "Neither recording delivers a packet."
-    if difference.same:
+    if lacks.same:
         return f"Both recordings deliver the same {number_of(here, 'packet')}."
-    lacks = difference.only_other.total(), difference.only_one.total()
-    if not any(lacks):
-        return f"The recordings deliver the same packets in another order, on {listed(difference.reordered)}."
+    numbers = lacks.total(lacks.only_other), lacks.total(lacks.only_one)
+    if not any(numbers):
+        return f"The recordings deliver the same packets in another order, on {listed(lacks.reordered())}."
+    moved = sum(lacks.moved.values())
     return ("The recordings deliver different packets: "
-            f"{one.name} lacks {some(lacks[0])} of the {there:,} in {other.name}, and "
-            f"{other.name} lacks {some(lacks[1])} of the {here:,} in {one.name}.")
+            f"{one.name} lacks {some(numbers[0])} of the {there:,} in {other.name}, and "
+            f"{other.name} lacks {some(numbers[1])} of the {here:,} in {one.name}."
+            + (f" Both have {number_of(moved, 'packet')} in another order." if moved else ""))
 
 
 def some(number: int) -> str:

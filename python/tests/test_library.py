@@ -78,6 +78,18 @@ class ByTheLibrary(unittest.TestCase):
                 sllink.normal_form("tm", EXAMPLES / "first-station.tm", path, sllink.Options(1, limit=9), program=LIBRARY)
             self.assertEqual(pathlib.Path(path).read_bytes(), kept)
 
+    def test_difference(self):
+        names = [EXAMPLES / f"{name}-station.tm" for name in ("first", "second", "third")]
+        for one in names:
+            for other in names:
+                self.assertEqual(list(sllink.difference("tm", one, other, STATION, program=LIBRARY)),
+                                 list(sllink.difference("tm", one, other, STATION)))
+        uplink, options = EXAMPLES / "uplink.tc", sllink.Options(1, tc_length=16)
+        self.assertEqual(list(sllink.difference("tc", uplink, io.BytesIO(), options, program=LIBRARY)),
+                         list(sllink.difference("tc", uplink, os.devnull, options)))
+        self.assertEqual(answer(sllink.difference, "tm", names[0], names[0], sllink.Options(1024), program=LIBRARY),
+                         answer(sllink.difference, "tm", names[0], names[0], sllink.Options(1024)))
+
     def test_same_packets(self):
         names = [EXAMPLES / f"{name}-station.tm" for name in ("first", "second", "third")]
         for one in names:

@@ -599,6 +599,85 @@ class Identifications(InAFolder):
         self.assertEqual(os.listdir("/proc/self/fd"), opened)
 
 
+class Differences(InAFolder):
+    """What only one of two recordings has."""
+
+    def recording(self, *letters):
+        """A recording with a packet in each frame, whose octets and count are those of a letter."""
+        path = self.folder / "-".join(letters or ["none"])
+        frames = [bytes([0, 16, place, place, 24, 0, 0, 1, 192, ord(letter), 0, 19]) + letter.encode() * 20
+                  for place, letter in enumerate(letters)]
+        path.write_bytes(b"".join(frames))
+        return path
+
+    def test_runs(self):
+        first, second, third = (EXAMPLES / f"{name}-station.tm" for name in ("first", "second", "third"))
+        self.assertEqual(list(sllink.difference("tm", first, second, STATION)), [])
+        run = sllink.Run("<", 1, None, 200, (0, 1), 2)
+        self.assertEqual(list(sllink.difference("tm", first, third, STATION)), [run])
+        self.assertEqual(str(run), "< vc 1 apid 200 counts 0..1 packets 2")
+        self.assertEqual(pickle.loads(pickle.dumps(run)), run)
+        with open(third, "rb") as file:
+            found = list(sllink.difference("tm", io.BytesIO(third.read_bytes()), first, STATION))
+            self.assertEqual(list(sllink.difference("tm", file, first, STATION)), found)
+        self.assertEqual(found, [sllink.Run(">", 1, None, 200, (0, 1), 2)])
+
+    def test_an_uplink(self):
+        options = sllink.Options(1, tc_length=16)
+        found = list(sllink.difference("tc", EXAMPLES / "uplink.tc", os.devnull, options))
+        self.assertEqual({(it.side, it.vc, it.map) for it in found}, {("<", 0, 0), ("<", 1, 2)})
+        listed = listing("packets", "tc", EXAMPLES / "uplink.tc", options)
+        self.assertEqual(sum(it.packets for it in found), len(listed))
+
+    def test_another_order(self):
+        """Packets that both have in another order are in a run of each, as sllink-compare has them."""
+        options = sllink.Options(1, tm_length=32)
+        one, other = self.recording("a", "b", "c"), self.recording("b", "a")
+        found = [str(it) for it in sllink.difference("tm", one, other, options)]
+        with open(self.folder / "listed", "wb") as file:
+            subprocess.run([sys.executable, "-B", str(ROOT / "tools" / "sllink-compare"), "tm", str(one), str(other),
+                            "--scid", "1", "--tm-length", "32"], stdout=file, check=False)
+        listed = (self.folder / "listed").read_text().splitlines()
+        self.assertEqual(found, [line for line in listed if line[0] in "<>"])
+        self.assertGreater(len(found), 1)
+
+    def test_options_of_its_own(self):
+        """A station that keeps the error control field."""
+        octets = self.recording("a", "b", "c").read_bytes()
+        frames = [octets[at:at + 32] for at in range(0, 96, 32)]
+        (self.folder / "keeps").write_bytes(b"".join(it + crc_hqx(it, 0xFFFF).to_bytes(2, "big") for it in frames))
+        options, its = sllink.Options(1, tm_length=32), sllink.Options(1, tm_length=34, tm_fecf=True)
+        arguments = "tm", self.recording("a", "b", "c"), self.folder / "keeps"
+        self.assertEqual(list(sllink.difference(*arguments, options, its)), [])
+        arguments = "tm", self.recording("a", "c"), self.folder / "keeps"
+        self.assertEqual(list(sllink.difference(*arguments, options, its)), [sllink.Run(">", 0, None, 1, (98, 98), 1)])
+
+    def test_refused(self):
+        first = EXAMPLES / "first-station.tm"
+        for a, b in (first, self.folder / "none"), (self.folder / "none", first):
+            with self.assertRaises(FileNotFoundError):
+                list(sllink.difference("tm", a, b, STATION))
+        with self.assertRaises(sllink.SllinkError) as raised:
+            list(sllink.difference("tm", first, first, STATION, sllink.Options(1024)))
+        self.assertEqual(raised.exception.status, 2)
+
+    def test_what_is_kept(self):
+        """Nothing is left behind, also where the loop is left; where there is no room for it that is an OSError."""
+        first, none = EXAMPLES / "first-station.tm", os.devnull
+        before, tempfile.tempdir = tempfile.tempdir, str(self.folder)
+        try:
+            runs = sllink.difference("tm", first, none, STATION)
+            next(runs)
+            self.assertEqual(len(list(self.folder.glob("sllink-*"))), 1)
+            runs.close()
+            self.assertEqual(list(self.folder.iterdir()), [])
+            tempfile.tempdir = str(self.folder / "none")
+            with self.assertRaisesRegex(OSError, "TMPDIR"):
+                list(sllink.difference("tm", first, none, STATION))
+        finally:
+            tempfile.tempdir = before
+
+
 class Tools(InAFolder):
     """What the tools share."""
 

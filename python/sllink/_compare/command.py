@@ -9,9 +9,9 @@ from typing import BinaryIO, Callable, Iterator, List, Optional, cast
 
 from .. import SllinkError, lines, normal_form
 from .._check_words import CHECK_WORDS
+from .._program import packet_lines
 from .._questions import contradicted, doubted, unanswered
 from .._records import Run
-from .._tally import packet_lines
 from ..tool import Refused, about, help_of, shown
 from .difference import Difference, Hunk, Runs
 from .store import Channel, Packets, room
@@ -144,12 +144,14 @@ def by_lines(words: Words, checked: List[Checked], doubts: List[str]) -> bool:
 
     with ExitStack() as kept:
         union = kept.enter_context(closing(Union(words.union))) if words.union is not None else None
-        listing = Listing(words, checked, kept.enter_context(room(NAME)), union, differ)
+        folder = kept.enter_context(room(NAME, os.environ.get("TMPDIR") or None))
+        listing = Listing(words, checked, folder, union, differ)
         same = listing.same()
         if same:
             require_none(doubts)
-        if listing.difference.moved:
-            print(f"in another order: {listing.difference.moved} of these packets, which are listed for each")
+        moved = sum(listing.difference.moved.values())
+        if moved:
+            print(f"in another order: {moved} of these packets, which are listed for each")
         if union:
             print(union.end())
     return same
@@ -193,15 +195,14 @@ class Listing:
 
     def _print(self, hunk: Hunk, listed: List[Iterator[bytes]], runs: Runs) -> None:
         """Prints what only one recording has."""
+        if not self.words.hex:
+            runs.add_all(hunk)
+            print_all(runs.take())
+            return
         for side, only in enumerate(hunk.only):
-            if self.words.hex:
-                skip(listed[side], hunk.both)
-                for line in islice(listed[side], len(only)):
-                    print(f"{'<>'[side]} {line.decode()}", end="")
-            else:
-                for record, _ in only:
-                    runs.add(side, record)
-        print_all(runs.take())
+            skip(listed[side], hunk.both)
+            for line in islice(listed[side], len(only)):
+                print(f"{'<>'[side]} {line.decode()}", end="")
 
 
 def print_all(some: List[Run]) -> None:

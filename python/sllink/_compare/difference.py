@@ -1,9 +1,9 @@
 """What two recordings have, channel by channel, and the packets that only one of them has in runs of the count."""
 
-import os
+import collections
 from collections import deque
 from contextlib import closing
-from typing import Deque, Dict, Iterator, List, NamedTuple, Sequence, Tuple
+from typing import Counter, Deque, Dict, Iterator, List, NamedTuple, Sequence, Tuple
 
 from .._records import Run
 from .alignment import hunks
@@ -13,6 +13,7 @@ COUNTS = 16384                                            # of the packet sequen
 OPEN_RUNS = 4096                                          # runs that are kept open
 
 Only = List[Tuple[bytes, bool]]                           # records, and whether each isn't listed for the other one
+Key = Tuple[int, int, int]                                # virtual channel, MAP (-1 for TM) and APID
 
 
 class Hunk(NamedTuple):
@@ -24,10 +25,11 @@ class Hunk(NamedTuple):
 
 
 class Difference:
-    """What two recordings have. `moved` are the packets that are listed for each, as they come in another order."""
+    """What two recordings have. `moved` counts the packets that are listed for each, as they come in another order."""
 
     def __init__(self, sides: Sequence[Packets], folder: str) -> None:
-        self.sides, self.folder, self.moved = sides, folder, 0
+        self.sides, self.folder = sides, folder
+        self.moved: Counter[Key] = collections.Counter()
 
     def channels(self) -> List[Channel]:
         """The channels of both."""
@@ -40,8 +42,19 @@ class Difference:
         with closing(a), closing(b):
             for both, here, there in hunks(a, b, self.folder):
                 only = [(record, listed.new(0, record)) for record in here]
-                yield Hunk(both, (only, [(record, listed.new(1, record)) for record in there]))
-        self.moved += listed.moved
+                hunk = Hunk(both, (only, [(record, listed.new(1, record)) for record in there]))
+                self.moved.update((*channel, RECORD.unpack(record)[1]) for some in hunk.only for record, new in some
+                                  if not new)
+                yield hunk
+
+    def runs(self) -> Iterator[Run]:
+        """The packets that only one of them has, in runs."""
+        for channel in self.channels():
+            runs = Runs(channel)
+            for hunk in self.hunks(channel):
+                runs.add_all(hunk)
+                yield from runs.take()
+            yield from runs.end()
 
 
 class Listed:
@@ -50,13 +63,11 @@ class Listed:
 
     def __init__(self) -> None:
         self.digests: Tuple[Dict[bytes, bool], Dict[bytes, bool]] = ({}, {})
-        self.moved = 0
 
     def new(self, side: int, record: bytes) -> bool:
         """Whether a packet isn't listed for the other recording."""
         digest, own = record[:16], self.digests[side]
         if self.digests[1 - side].pop(digest, None):
-            self.moved += 1
             return False
         own[digest] = True
         if len(own) > FAR:
@@ -83,6 +94,12 @@ class Runs:
         self.runs: Deque[Stretch] = deque()
         self.ended: List[Run] = []
 
+    def add_all(self, hunk: Hunk) -> None:
+        """Adds what only one recording has at a place."""
+        for side, only in enumerate(hunk.only):
+            for record, _ in only:
+                self.add(side, record)
+
     def add(self, side: int, record: bytes) -> None:
         """Adds a packet."""
         _, apid, count = RECORD.unpack(record)
@@ -101,7 +118,8 @@ class Runs:
         if it.is_open:
             del self.open[it.side, it.apid]
         vc, map_id = self.channel
-        self.ended.append(Run("<>"[it.side], vc, None if map_id < 0 else map_id, it.apid, (it.first, it.last), it.packets))
+        counts = it.first, it.last
+        self.ended.append(Run("<>"[it.side], vc, None if map_id < 0 else map_id, it.apid, counts, it.packets))
 
     def take(self) -> List[Run]:
         """Takes those that have ended."""

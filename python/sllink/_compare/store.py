@@ -21,13 +21,12 @@ Key = Union[bytes, Tuple[bytes, bytes]]                   # the same, as in a li
 
 
 @contextmanager
-def room(name: str) -> Iterator[str]:
-    """A folder for what is kept in between."""
-    folder = os.environ.get("TMPDIR") or None
+def room(name: str, folder: Optional[str] = None) -> Iterator[str]:
+    """A folder for what is kept in between: in the folder that is named, else where temporary files are."""
     try:
         kept = tempfile.TemporaryDirectory(prefix=f"{name}-", dir=folder)
     except OSError as error:
-        raise Refused(f"$TMPDIR: {shown(folder or '/tmp')}: {reason_of(error)}") from None
+        raise Refused(f"$TMPDIR: {shown(folder or tempfile.tempdir or '/tmp')}: {reason_of(error)}") from None
     with kept as path:
         yield path
 
@@ -90,23 +89,20 @@ class Packets:
                 records[channel] = [record]
             number += 1
             if number >= MOST_PACKETS:
-                self._put_all(records)
+                self.put_all({_channel(words): some for words, some in records.items()})
                 number = 0
             if self.whole:
                 add(_name(_channel(channel), "lines"), line)
-        self._put_all(records)
+        self.put_all({_channel(words): some for words, some in records.items()})
         self.files.flush()
 
-    def _put_all(self, records: Dict[Key, List[bytes]]) -> None:
+    def put_all(self, records: Dict[Channel, List[bytes]]) -> None:
+        """Takes records of channels out of their lists."""
         for channel, some in records.items():
-            self.put(_channel(channel), some)
-
-    def put(self, channel: Channel, records: List[bytes]) -> None:
-        """Takes records of a channel out of a list."""
-        self.channels.add(channel)
-        self.number += len(records)
-        self.files.add(_name(channel, "records"), b"".join(records))
-        records.clear()
+            self.channels.add(channel)
+            self.number += len(some)
+            self.files.add(_name(channel, "records"), b"".join(some))
+            some.clear()
 
     def path(self, channel: Channel, what: str) -> str:
         """The file of the records, or of the lines, of a channel."""

@@ -4,7 +4,7 @@ from binascii import crc_hqx
 from collections import Counter
 from typing import Dict, Iterable, List, Optional, Sequence, Tuple
 
-from .._signs import LONGEST, SHORTEST, Frames, by_control, many, plain_evidence, strides
+from .._signs import LONGEST, SHORTEST, Frames, by_control, plain_evidence, strides
 from .answer import (HEAD, WHOLE, Answer, RecordingFile, field_line, frames_line, joined, listed, piece_lines, quoted,
                      shell)
 from .headers import ROWS, phases, spacecraft

@@ -3,6 +3,7 @@
 import re
 from binascii import crc_hqx
 from collections import Counter
+from itertools import islice
 from typing import Dict, Iterable, Iterator, List, Optional, Sequence, Tuple
 
 from .._signs import Frames
@@ -12,7 +13,8 @@ from .headers import ROWS, agreements, header_tables, phases
 PLACES = 64                                               # further places that are read of a large recording
 SEARCHED = 1 << 17                                        # octets in which the next frame is searched for
 PACKETS = 0x18                                            # flags of a header: packets, and no segments
-DOUBTS = 64                                               # places at which no count goes on that are looked at
+DOUBTS, SINGLE = 64, 1 << 12                              # places looked at where no count goes on, and for few frames
+SEEMING = 64                                              # headers around a frame that are looked at
 
 Count = Tuple[Tuple[int, ...], int]                       # whose count it is, and its value
 
@@ -28,7 +30,7 @@ class TmSearch:
         self.pieces: List[Piece] = []
         self.absent: List[int] = []
         self.last: Dict[Tuple[int, ...], int] = {}           # the last value of each count
-        self.places = self.doubts = 0
+        self.places = self.doubts = self.tried = 0
         pieces = self.scan(head, 0, phase)
         self.others = [] if fecf else self.strangers(pieces)
         self.add(pieces)
@@ -110,7 +112,8 @@ class TmSearch:
             return False
         self.doubts += 1
         here, end = at - self.length + 1, min(at, len(block) - self.length + 1)
-        if any(self.ahead(block, place) == [1, 1] for place in self.headers(block, here, end + self.length - 1)):
+        seeming = islice(self.headers(block, here, end + self.length - 1), SEEMING)
+        if any(self.ahead(block, place) == [1, 1] for place in seeming):
             return True
         place = self.first(block, here)
         return place is not None and place < at + self.length and self.rises(block, place, at) > self.rises(
@@ -181,7 +184,9 @@ class TmSearch:
         pieces: List[Piece] = []
         end = min(end, at + NEAR * self.length)
         for place in self.headers(block, at, end - self.length + 1):
-            low = pieces[-1][1] if pieces else at
+            low, self.tried = pieces[-1][1] if pieces else at, self.tried + 1
+            if self.tried > SINGLE:
+                break
             if low <= place and (self.fecf or self.comes_next(block, place, end, bool(pieces) and place == low)):
                 pieces.append((place, place + self.length))
                 self.last.update(self.counts(block, place))

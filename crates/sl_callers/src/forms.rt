@@ -61,8 +61,8 @@ fn written_tm_form(alloc: Global, managed: &Managed, recording: &[u8]) -> Result
 }
 
 /// The normal form of the normal form of a TM recording. It is the normal form of the recording: to normalise twice is to
-/// normalise once. So clause `form` holds of one pass too, and clause `within` alone refuses it: the fault is `TooLong`
-/// also where the normal form is longer than the limit.
+/// normalise once. So clause `form` holds of one pass too, and clause `within` alone refuses it, unless it compares the
+/// form's length with the limit: the fault is `TooLong` also where the normal form is longer.
 pub fn normalise_tm_twice(
     alloc: Global,
     managed: &Managed,
@@ -141,8 +141,8 @@ fn written_tc_form(alloc: Global, managed: &Managed, recording: &[u8]) -> Result
 }
 
 /// The normal form of the normal form of a TC recording. It is the normal form of the recording: to normalise twice is to
-/// normalise once. So clause `form` holds of one pass too, and clause `within` alone refuses it: the fault is `TooLong`
-/// also where the normal form is longer than the limit.
+/// normalise once. So clause `form` holds of one pass too, and clause `within` alone refuses it, unless it compares the
+/// form's length with the limit: the fault is `TooLong` also where the normal form is longer.
 pub fn normalise_tc_twice(
     alloc: Global,
     managed: &Managed,

@@ -21,8 +21,8 @@ module _ {A B : Type 0} (remaining : A → Option (List ℕ)) (others : B → Op
     pub second_read : ReadsAll others other other' limit second
     pub reported : IsTrue same ↔ (packets first ≡ packets second)
 
--- The fault of a comparison in memory: a recording, the longest of which has this many octets, is over the limit; or
--- none is, and memory was refused, where `at_memory` holds.
+-- The fault of a comparison of recordings in memory, the longer of which has `octets`: `TooLong` where these are over the
+-- limit, and only there; else `Memory`, and `at_memory` holds.
 abbrev pub StopsInMemory : ℕ → ℕ → Type 0 → LinkFault → Type 0
 StopsInMemory limit octets at_memory fault =
     ((fault ≡ TooLong) × (limit < octets)) ⊎ ((fault ≡ Memory) × (octets ≤ limit) × at_memory)

@@ -9,8 +9,9 @@
 //! - `same_packets_` reports whether two recordings deliver the same packets;
 //! - `same_packets_in_memory_` does so for recordings that are slices.
 //!
-//! Every call but the last reads and writes [`Counted`] streams, under the [`Managed`] parameters of the link. It answers
-//! what it counted, its [`Totals`] (`same_packets_` a `bool`), or why it stopped, a [`LinkFault`].
+//! Each call is under the [`Managed`] parameters of the link, and answers why it stopped, a [`LinkFault`], or what it
+//! found. The first three read a [`Counted`] stream, write another one and answer what they counted, their [`Totals`].
+//! The last two answer a `bool`; `same_packets_` reads two such streams.
 #![tactic(auto)]
 
 mod io;

@@ -1,4 +1,4 @@
--- The word of an octet: what the octet, in a message, adds to the frame error control field.
+-- The word of an octet: the remainder, without preset, that the octet leaves by itself in a message.
 use Rattle.std.specs.Prelude.{◌≡◌, ℕ, ◌+◌, ◌*◌, false, List, ◌++◌, map, replicate}
 use Rattle.std.specs.List.{range_with_len}
 use Rattle.sl_fields.specs.Field.{number_of}

@@ -28,8 +28,8 @@ use std::io::Read;
 /// forms of both are equal octet for octet.
 ///
 /// The call keeps the packets of both recordings. While it reads, it also keeps what was read last, at most 65,536
-/// octets, one frame at most that began in an earlier read, and the packet that is incomplete on each virtual channel.
-/// No clause says what is kept: that is seen by reading.
+/// octets, of each recording one frame at most that began in an earlier read, and the packet that is incomplete on each
+/// virtual channel. No clause says what is kept: that is seen by reading.
 ///
 /// The fault is `Read` where a reader had one, `TooLong` where more octets came from a reader than
 /// the managed limit, and `Memory` where memory was refused. Memory is refused only where a packet
@@ -66,8 +66,8 @@ pub fn same_packets_tm<A: Read, B: Read>(
 /// where the normal forms of both are equal octet for octet.
 ///
 /// The call keeps the packets of both recordings. While it reads, it also keeps what was read last, at most 65,536
-/// octets, one frame at most that began in an earlier read, the FARM-1 of 64 virtual channels, and the series that is
-/// incomplete on each MAP. No clause says what is kept: that is seen by reading.
+/// octets, of each recording one frame at most that began in an earlier read, the FARM-1 of 64 virtual channels, and the
+/// series that is incomplete on each MAP. No clause says what is kept: that is seen by reading.
 ///
 /// The fault is `Read` where a reader had one, `TooLong` where more octets came from a reader than the managed limit,
 /// and `Memory` where memory was refused. Memory is refused only where the unit of a frame is accepted and a series is

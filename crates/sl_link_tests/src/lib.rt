@@ -1,5 +1,5 @@
-//! Tests of the public calls of `sl_link`, a module each: what is expected is known from outside. They stand in a crate of
-//! their own, since a crate with tests is proved once more with them.
+//! Tests of the public calls of `sl_link`, a module for each topic: what is expected is known from outside. They stand in
+//! a crate of their own, since a crate with tests is proved once more with them.
 #![tactic(auto)]
 
 #[cfg(test)]

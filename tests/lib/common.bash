@@ -2,7 +2,7 @@
 # What the tests of the tools share; each sources it first, with the words that it was given. It makes a folder that looks
 # like the top of the repository and goes there, and has the recordings and options that most of them want.
 #
-#     . "$(dirname "$(realpath "$0")")/common.bash" "$@"
+#     . "$(dirname "$(realpath "$0")")/lib/common.bash" "$@"
 set -u
 root=$(dirname "$(dirname "$(realpath "$0")")")
 name=tests/$(basename "$0")

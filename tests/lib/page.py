@@ -1,7 +1,7 @@
 """Looks at a page of HTML on the standard input, and prints its text without pictures: a line for each heading,
 paragraph, line of a listing and row of a table, with single spaces between its cells.
 
-    python3 tests/page.py < PAGE.html > TEXT
+    python3 tests/lib/page.py < PAGE.html > TEXT
 
 Status: 0; 1 where the page isn't well formed, has a script or wants something from elsewhere, or lacks what its readers
 need: a language, a title, one heading, heads of tables with a scope, words for a picture. The lines that say so go to

@@ -1,7 +1,7 @@
 """Writes a recording of a pass to the standard output: the same octets for the same words.
 
-    python3 tests/passes.py tm [--frames N] [--channels N] [WORD..] > PASS.tm
-    python3 tests/passes.py tc [--frames N] [--channels N] [WORD..] > PASS.tc
+    python3 tests/lib/passes.py tm [--frames N] [--channels N] [WORD..] > PASS.tm
+    python3 tests/lib/passes.py tc [--frames N] [--channels N] [WORD..] > PASS.tc
 
 TM frames have 1115 octets and are to be read with --scid 679 --tm-fecf, TC frames with --scid 679 --tc-fecf, where no
 word says otherwise. Packets of 60 to 180 octets of several APIDs come on each channel, most on channel 0, and idle

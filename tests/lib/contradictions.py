@@ -1,6 +1,6 @@
-"""Tries sllink-compare on recordings of tests/passes.py with right options and with wrong ones.
+"""Tries sllink-compare on recordings of tests/lib/passes.py with right options and with wrong ones.
 
-    python3 tests/contradictions.py [--all] [SEED]
+    python3 tests/lib/contradictions.py [--all] [SEED]
 
 There are 400 recordings of 2 to 2,000 frames, half of them TC, with and without an error control field, and with up to
 one frame of ten lost and one of ten with a bit error. 40 of them are tried, chosen by the seed, or all with --all. The
@@ -23,7 +23,7 @@ import tempfile
 
 sys.dont_write_bytecode = True
 HERE = os.path.dirname(os.path.realpath(__file__))
-sys.path[:0] = [HERE, os.path.join(HERE, "../python")]
+sys.path[:0] = [HERE, os.path.join(HERE, "../../python")]
 import passes
 from sllink import _questions, tool
 from sllink._compare import command

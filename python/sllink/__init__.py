@@ -17,6 +17,8 @@ OSError: the recording can't be opened, or the output not written. SllinkError: 
 stopped. What came before it is the beginning of the listing.
 """
 
+__version__ = "1.0.0"
+
 from ._fault import SllinkError
 from ._identify import Identification, identify
 from ._library import Library, Recording
@@ -25,10 +27,12 @@ from ._program import find_program, lines
 from ._read import Anomalies, anomalies, counts, difference, frames, normal_form, packets, same_packets
 from ._records import Anomaly, Clcw, Count, Frame, Packet, Remainder, Run, Skip, TcFrame, TmFrame, Totals
 
-__version__ = "1.0.0"
-
 __all__ = [
     "Anomalies", "Anomaly", "Clcw", "Count", "Frame", "Identification", "Library", "Options", "Packet", "Recording",
     "Remainder", "Run", "Skip", "SllinkError", "TcFrame", "TmFrame", "Totals", "Words", "anomalies", "counts",
     "difference", "find_program", "frames", "identify", "lines", "normal_form", "packets", "same_packets",
 ]
+
+for _name in __all__:
+    if isinstance(globals()[_name], type):
+        globals()[_name].__module__ = __name__               # where it is public, as it prints

@@ -2,17 +2,16 @@
 
 import re
 
-# What the options of the program take, and the names that it has for their values.
-TAKEN = {
-    "--scid": "a decimal number from 0 to 1023",
-    "--tm-length": "a decimal number from 32 to 2048",
-    "--tc-length": "a decimal number from 16 to 1024",
-    "--window": "an even decimal number from 2 to 254",
-    "--vr": "a decimal number from 0 to 255",
-    "--vr-of": "rising virtual channels, each with its V(R), as in 0:12,5:57",
-    "--plain": "rising virtual channels, as in 5,6",
-    "--limit": "a decimal number of octets, 1 or more",
-}
+# The numbers that options of the program take, and virtual channels; and what each option takes, in words.
+NUMBERS = {"scid": (0, 1023), "tm_length": (32, 2048), "tc_length": (16, 1024), "window": (2, 254), "vr": (0, 255),
+           "limit": (1, (1 << 64) - 1)}
+CHANNELS = (0, 63)
+TAKEN = {f"--{name.replace('_', '-')}": f"a decimal number from {least} to {most}"
+         for name, (least, most) in NUMBERS.items()}
+TAKEN["--window"] = TAKEN["--window"].replace("a ", "an even ")
+TAKEN["--plain"] = "virtual channels from {} to {}, rising, as in 5,6".format(*CHANNELS)
+TAKEN["--vr-of"] = "virtual channels from {} to {}, each with its V(R) from {} to {}, rising, as in 0:12,5:57".format(
+    *CHANNELS, *NUMBERS["vr"])
 MANAGED = {"spacecraft": "--scid", "tm length": "--tm-length", "tc length": "--tc-length", "window": "--window",
            "limit": "--limit", "plain": "--plain", "start": "--vr-of"}
 
@@ -22,7 +21,8 @@ class SllinkError(Exception):
 
     `status` is the status of the program: 2 where it refused something, 3 at a fault, also where `check` ends without
     totals, and 127 where there is no such program, or it isn't sllink; below 0 it is the number of the signal that
-    ended it. `text` says why, in one line. A library has the same statuses and reasons.
+    ended it. `text` says why, in one line. A library has the same statuses and reasons. Options have status 2 where
+    the program would refuse them.
     """
 
     def __init__(self, status: int, text: str) -> None:

@@ -1,6 +1,7 @@
 """The library libsllink.so, which reads recordings in this process."""
 
 import os
+from dataclasses import replace
 from typing import Any, BinaryIO, Optional, Union
 
 from ._fault import SllinkError, explained
@@ -12,10 +13,8 @@ INSTALLED = os.path.normpath(os.path.join(HERE, "../../../../lib/libsllink.so.1"
 
 Recording = Union[str, bytes, "os.PathLike[str]", "os.PathLike[bytes]", int, BinaryIO]
 
-DONE, TOO_LONG, MEMORY, ROOM = 0, 6, 7, 8
-REFUSED = {1: "spacecraft", 2: "tm length", 3: "tc length", 4: "window", 5: "limit"}
-# The greatest of each number, as the command line has it.
-GREATEST = {"scid": 0xFFFF, "tm_length": 0xFFFF, "tc_length": 0xFFFF, "window": 0xFF, "vr": 0xFF, "limit": (1 << 64) - 1}
+DONE, ROOM = 0, 8
+FAULTS = {6: "too long", 7: "memory"}
 
 
 class Library:
@@ -41,7 +40,7 @@ class Library:
 
     def text(self, verb: str, kind: str, recording: Recording, options: Words) -> bytes:
         """What the program writes for a recording."""
-        call, managed = self._call(verb, kind), self._managed(kind, options)
+        call, managed = self._call(verb, kind), self._managed(options)
         octets = octets_of(recording)
         answer, text, size = self._as_c.text_of(call, managed, octets, 2 * len(octets) + 4096)
         if answer == ROOM:
@@ -51,7 +50,7 @@ class Library:
 
     def same_packets(self, kind: str, a: Recording, b: Recording, options: Words) -> bool:
         """Whether two recordings deliver the same packets."""
-        call, managed = self._call("same_packets", kind), self._managed(kind, options)
+        call, managed = self._call("same_packets", kind), self._managed(options)
         answer, same = self._as_c.same_of(call, managed, octets_of(a), octets_of(b))
         _require(answer)
         return bool(same)
@@ -62,45 +61,19 @@ class Library:
             raise SllinkError(2, f"sllink: {verb} {kind}: there is no such call")
         return call
 
-    def _managed(self, kind: str, options: Words) -> Any:
-        """The options as the library has them. What it has no room for is refused here, as the program does."""
+    def _managed(self, options: Words) -> Any:
+        """The options as the library has them."""
         if not isinstance(options, Options):
             raise TypeError("the options of a library are an Options")
-        for name, greatest in GREATEST.items():
-            number = int(getattr(options, name))
-            if not 0 <= number <= greatest:
-                raise _refusal(2, f"invalid value '{number}' for '--{name.replace('_', '-')}'")
-        starts, plain = [options.vr] * 64, [False] * 64
-        refused = None
-        for vc, vr in sorted(options.vr_of.items(), reverse=True):
-            if 0 <= vc < 64 and 0 <= vr < 256:
-                starts[vc] = vr
-            else:
-                refused = "start"
-        for vc in options.plain:
-            if 0 <= vc < 64:
-                plain[vc] = True
-            else:
-                refused = "plain"
-        managed = self._as_c.managed_of(options, starts, plain)
-        if refused is not None:
-            # the other parameters are refused before these
-            _require(self._as_c.text_of(self._call("show", kind), managed, b"", 1)[0])
-            raise _refusal(2, f"managed: {refused}")
-        return managed
+        options = replace(options)                           # refused again where its mapping has changed
+        starts = [options.vr_of.get(vc, options.vr) for vc in range(64)]
+        return self._as_c.managed_of(options, starts, [vc in options.plain for vc in range(64)])
 
 
 def _require(answer: int) -> None:
     """Raises what the program would say in place of a text."""
-    if answer in REFUSED:
-        raise _refusal(2, f"managed: {REFUSED[answer]}")
     if answer != DONE:
-        raise _refusal(3, "too long" if answer == TOO_LONG else "memory")
-
-
-def _refusal(status: int, reason: str) -> SllinkError:
-    """What the program would say, and what the option takes that is refused."""
-    return SllinkError(status, f"sllink: {explained(reason)}")
+        raise SllinkError(3, f"sllink: {explained(FAULTS.get(answer, f'answer {answer} of the library'))}")
 
 
 def octets_of(recording: Recording) -> bytes:

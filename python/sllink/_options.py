@@ -1,17 +1,21 @@
 """The options of the program."""
 
-from dataclasses import dataclass, field
-from typing import Any, Dict, List, Mapping, Sequence, Union
+import operator
+import re
+from dataclasses import dataclass, field, fields
+from typing import Any, Dict, List, Mapping, Sequence, Tuple, Union
 
-NUMBERS = ("scid", "tm_length", "tc_length", "window", "vr", "limit")
+from ._fault import CHANNELS, NUMBERS, TAKEN, SllinkError
+
 FLAGS = ("tm_fecf", "tc_fecf")
+ASKS = re.compile("-[hV]|--(help|version)$").match           # words by which the program reads no recording
 
 
 @dataclass(frozen=True)
 class Options:
     """The managed parameters of a recording, with the names and the defaults of the program's options.
 
-    Whether they are in their ranges is told by the program, which refuses them with status 2.
+    SllinkError, with status 2: an option isn't one that the program takes. Numbers are integers, flags True or False.
     """
 
     scid: int
@@ -26,22 +30,51 @@ class Options:
     limit: int = 1073741824
 
     def __post_init__(self) -> None:
-        object.__setattr__(self, "vr_of", dict(self.vr_of))
-        object.__setattr__(self, "plain", tuple(self.plain))
+        for it in fields(self):
+            value = getattr(self, it.name)
+            try:
+                object.__setattr__(self, it.name, _taken(it.name, value))
+            except (TypeError, ValueError):
+                takes = TAKEN.get(f"--{it.name.replace('_', '-')}", "True or False").partition(", rising")[0]
+                takes = takes.replace("a decimal number", "an integer").replace("decimal number", "integer")
+                raise SllinkError(2, f"sllink: {it.name}={value!r}; {it.name} takes {takes}") from None
 
     def words(self) -> List[str]:
         """The words of the command line that say the same."""
-        words = [f"--{name.replace('_', '-')}={int(getattr(self, name))}" for name in NUMBERS]
+        words = [f"--{name.replace('_', '-')}={getattr(self, name)}" for name in NUMBERS]
         if self.tm_fecf:
             words.append("--tm-fecf")
         if self.tc_fecf:
             words.append("--tc-fecf")
         if self.vr_of:
-            words.append("--vr-of=" + ",".join(f"{int(vc)}:{int(vr)}" for vc, vr in sorted(self.vr_of.items())))
-        plain = sorted({int(vc) for vc in self.plain})
-        if plain:
-            words.append("--plain=" + ",".join(map(str, plain)))
+            words.append("--vr-of=" + ",".join(f"{vc}:{vr}" for vc, vr in sorted(self.vr_of.items())))
+        if self.plain:
+            words.append("--plain=" + ",".join(map(str, sorted(set(self.plain)))))
         return words
+
+
+def _taken(name: str, value: Any) -> Any:
+    """The value of an option, if the program takes it. TypeError or ValueError: it doesn't."""
+    if name in FLAGS:
+        if not isinstance(value, bool):
+            raise TypeError
+        return value
+    if name == "vr_of":
+        return {_integer(vc, CHANNELS): _integer(vr, NUMBERS["vr"]) for vc, vr in dict(value).items()}
+    if name == "plain":
+        return tuple(_integer(vc, CHANNELS) for vc in value)
+    number = _integer(value, NUMBERS[name])
+    if name == "window" and number % 2:
+        raise ValueError
+    return number
+
+
+def _integer(value: Any, taken: Tuple[int, int]) -> int:
+    """An integer in this range. A truth value is none."""
+    number = operator.index(value)
+    if isinstance(value, bool) or not taken[0] <= number <= taken[1]:
+        raise ValueError
+    return number
 
 
 Words = Union[Options, Sequence[str]]

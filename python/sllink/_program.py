@@ -10,7 +10,7 @@ from typing import Any, BinaryIO, Dict, Generator, Iterable, Iterator, List, Opt
 
 from ._fault import SllinkError, explained
 from ._library import Library, Recording
-from ._options import Words, words_of
+from ._options import ASKS, Words, words_of
 
 HERE = os.path.dirname(os.path.realpath(__file__))
 BUILT = os.path.normpath(os.path.join(HERE, "../../crates/sllink/out/sllink"))
@@ -77,6 +77,8 @@ class Child:
                  program: Path = None) -> None:
         name = find_program(program)
         command = [name, verb, kind, *words_of(options)]
+        for word in filter(ASKS, command[1:]):
+            raise SllinkError(2, f"sllink: {word} is no option for a recording")
         require_sllink(name)
         self._verb = verb
         self._fault: Optional[BaseException] = None          # of reading the recording

@@ -9,7 +9,6 @@ tried here.
 import io
 import os
 import pathlib
-import re
 import sys
 import tempfile
 import threading
@@ -26,24 +25,21 @@ try:
     LIBRARY = sllink.Library()
 except OSError:
     LIBRARY = None
-# Options that are refused, or not, by both.
+# Options at the edges of what the program takes. It is too short a limit that the program then refuses.
 EDGES = [
-    {"scid": 1024}, {"scid": 65535, "tm_length": 31}, {"scid": 65536}, {"scid": -1}, {"tm_length": 31}, {"tm_length": 2049},
-    {"tm_length": 2048}, {"tc_length": 15}, {"tc_length": 1025}, {"window": 0}, {"window": 9}, {"window": 256},
-    {"window": 254}, {"vr": 256}, {"vr": 255}, {"limit": 0}, {"limit": 1}, {"limit": 100}, {"limit": 352}, {"limit": 351},
-    {"limit": (1 << 64) - 1}, {"limit": 1 << 64}, {"plain": [64]}, {"plain": [63, 0, 63]}, {"vr_of": {64: 0}},
-    {"vr_of": {63: 255, 0: 1}}, {"vr_of": {0: 256}}, {"plain": [64], "vr_of": {0: 256}}, {"plain": [64], "window": 1},
-    {"vr_of": {64: 0}, "scid": 1024},
+    {}, {"scid": 0}, {"scid": 1023}, {"tm_length": 2048}, {"tc_length": 16}, {"window": 254}, {"vr": 255}, {"limit": 1},
+    {"limit": 100}, {"limit": 352}, {"limit": 351}, {"limit": (1 << 64) - 1}, {"plain": [63, 0, 63]},
+    {"vr_of": {63: 255, 0: 1}},
 ]
 
 
 def answer(read, *words, **more):
-    """What comes of a call, or why nothing does: without the words of the command line for a number out of all range."""
+    """What comes of a call, or why nothing does."""
     try:
         found = read(*words, **more)
         return [str(it) for it in found] if hasattr(found, "__next__") else found
     except sllink.SllinkError as error:
-        return error.status, re.sub(r" <[A-Z]+>': .*?; --", "'; --", error.text)
+        return error.status, error.text
 
 
 @unittest.skipIf(LIBRARY is None, "the library isn't built")
@@ -87,8 +83,9 @@ class ByTheLibrary(unittest.TestCase):
         uplink, options = EXAMPLES / "uplink.tc", sllink.Options(1, tc_length=16)
         self.assertEqual(list(sllink.difference("tc", uplink, io.BytesIO(), options, program=LIBRARY)),
                          list(sllink.difference("tc", uplink, os.devnull, options)))
-        self.assertEqual(answer(sllink.difference, "tm", names[0], names[0], sllink.Options(1024), program=LIBRARY),
-                         answer(sllink.difference, "tm", names[0], names[0], sllink.Options(1024)))
+        few = sllink.Options(1, limit=9)
+        self.assertEqual(answer(sllink.difference, "tm", names[0], names[0], few, program=LIBRARY),
+                         answer(sllink.difference, "tm", names[0], names[0], few))
 
     def test_same_packets(self):
         names = [EXAMPLES / f"{name}-station.tm" for name in ("first", "second", "third")]
@@ -115,6 +112,10 @@ class ByTheLibrary(unittest.TestCase):
                     self.assertEqual(found, wanted)
                     same = answer(sllink.same_packets, kind, path, path, options, program=LIBRARY)
                     self.assertEqual(same, answer(sllink.same_packets, kind, path, path, options))
+        options = sllink.Options(1, vr_of={5: 57})
+        options.vr_of[64] = 0
+        with self.assertRaises(sllink.SllinkError):
+            list(sllink.packets("tc", path, options, program=LIBRARY))
 
     def test_what_is_no_call(self):
         for verb, kind in ("show", "tx"), ("say", "tm"), ("same_packets", "tx"), ("farm", "new"), ("", ""):

@@ -5,6 +5,7 @@
 The program is the one that `find_program` finds.
 """
 
+import contextlib
 import copy
 import dataclasses
 import gzip
@@ -19,6 +20,7 @@ import subprocess
 import sys
 import tempfile
 import time
+import traceback
 import tracemalloc
 import unittest
 import unittest.mock
@@ -44,6 +46,13 @@ RECORDINGS = [
     ("tc", "plain.tc", sllink.Options(scid=1, tc_length=24, plain=[5], vr_of={5: 57})),
     ("tc", "pass.tm", sllink.Options(scid=1)),
 ]
+ASKING = "-h", "-hh", "--help", "-V", "--version"           # words by which the program reads no recording
+# Of each option values at the edges that the program takes, and such as it refuses.
+EDGES = {
+    "scid": ([0, 1023], [-1, 1024]), "tm_length": ([32, 2048], [31, 2049]), "tc_length": ([16, 1024], [15, 1025]),
+    "window": ([2, 254], [0, 9, 256]), "vr": ([0, 255], [-1, 256]), "limit": ([1, (1 << 64) - 1], [0, 1 << 64]),
+    "plain": ([[0, 63]], [[64]]), "vr_of": ([{0: 255, 63: 0}], [{64: 0}, {0: 256}]),
+}
 
 
 def listing(verb, kind, recording, options):
@@ -149,6 +158,17 @@ class Listings(unittest.TestCase):
         for it in values[:-2]:
             self.assertFalse(hasattr(it, "__dict__"))
 
+    def test_names(self):
+        """What is public prints with its public name, and is pickled by it."""
+        for name in sllink.__all__:
+            it = getattr(sllink, name)
+            if isinstance(it, type):
+                self.assertEqual(repr(it), f"<class 'sllink.{name}'>")
+        error = sllink.SllinkError(2, "why")
+        self.assertEqual(traceback.format_exception_only(type(error), error), ["sllink.SllinkError: why\n"])
+        self.assertEqual(pickle.loads(pickle.dumps(error)).args, (2, "why"))
+        self.assertNotIn(b"sllink.", pickle.dumps([error, STATION, sllink.Skip(0, "fecf")]))
+
     def test_counts(self):
         counts = sllink.counts(sllink.packets("tm", EXAMPLES / "second-station.tm", STATION))
         self.assertEqual([str(it) for it in counts], ["vc 0 apid 100 packets 4 octets 48 jumps 0",
@@ -197,8 +217,9 @@ class TheOptions(unittest.TestCase):
                 list(sllink.packets("tm", EXAMPLES / "first-station.tm", text))
 
     def test_refused(self):
-        for options, said in ((sllink.Options(1024), "spacecraft"), (sllink.Options(1, tm_length=31), "tm length"),
-                              (["--scid", "x"], "--scid"), ([], "--scid"), (["--spare"], "--spare")):
+        for options, said in ((["--scid=1024"], "spacecraft"), (["--scid=1", "--tm-length=31"], "tm length"),
+                              (["--scid", "x"], "--scid"), ([], "--scid"), (["--spare"], "--spare"),
+                              *((["--scid=1", word], f"{word} is no option for a recording") for word in ASKING)):
             for read in sllink.frames, sllink.anomalies, sllink.packets:
                 with self.subTest(options=options, read=read), self.assertRaises(sllink.SllinkError) as raised:
                     list(read("tm", EXAMPLES / "pass.tm", options))
@@ -207,8 +228,37 @@ class TheOptions(unittest.TestCase):
                 self.assertTrue(raised.exception.text.startswith("sllink: "))
                 self.assertNotIn("\n", raised.exception.text)
                 self.assertEqual(str(raised.exception), raised.exception.text)
+        for kind in ("tx", *ASKING):
+            with self.assertRaises(sllink.SllinkError):
+                list(sllink.frames(kind, EXAMPLES / "pass.tm", STATION))
+
+    def test_refused_at_once(self):
+        """What isn't an integer or a truth value, and each edge exactly if the program refuses it."""
+        for name, value, takes in (
+                ("scid", 99999, "an integer from 0 to 1023"), ("scid", "1", "an integer from 0 to 1023"),
+                ("scid", "1_0", "an integer from 0 to 1023"), ("scid", True, "an integer from 0 to 1023"),
+                ("vr", 1.9, "an integer from 0 to 255"), ("window", 9, "an even integer from 2 to 254"),
+                ("tm_fecf", "no", "True or False"), ("tc_fecf", 1, "True or False"),
+                ("plain", 5, "virtual channels from 0 to 63"), ("plain", "5", "virtual channels from 0 to 63"),
+                ("vr_of", {0.5: 1}, "virtual channels from 0 to 63, each with its V(R) from 0 to 255"),
+                ("vr_of", None, "virtual channels from 0 to 63, each with its V(R) from 0 to 255")):
+            with self.assertRaises(sllink.SllinkError) as raised:
+                sllink.Options(**{"scid": 1, name: value})
+            self.assertEqual((raised.exception.status, str(raised.exception)),
+                             (2, f"sllink: {name}={value!r}; {name} takes {takes}"))
+        for name, (taken, refused) in EDGES.items():
+            for value in taken + refused:
+                word = f"--{name.replace('_', '-')}=" + re.sub(r"[][{} ]", "", str(value))
+                words = [word] if name == "scid" else ["--scid=1", word]
+                for read in (lambda: sllink.Options(**{"scid": 1, name: value}),
+                             lambda: list(sllink.packets("tc", io.BytesIO(), words))):
+                    with self.subTest(word=word), (
+                            self.assertRaises(sllink.SllinkError) if value in refused else contextlib.nullcontext()):
+                        read()
+        options = sllink.Options(1, vr_of={5: 57})
+        options.vr_of[64] = 0
         with self.assertRaises(sllink.SllinkError):
-            list(sllink.frames("tx", EXAMPLES / "pass.tm", STATION))
+            list(sllink.packets("tc", io.BytesIO(), options))
 
 
 class Recordings(InAFolder):

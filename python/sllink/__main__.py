@@ -12,18 +12,16 @@ The program is $SLLINK, else `sllink` on the PATH, else the one installed with t
 from typing import List
 
 from . import counts, packets
-from .tool import Refused, about, complain, run, shown
+from .tool import Refused, about, complain, require_name, run, shown
 
 NAME = "python3 -m sllink"
 USAGE = f"usage: {NAME} tm|tc RECORDING --scid N [OPTION..]"
 
 
 def main(words: List[str]) -> int:
-    if "-h" in words or "--help" in words:
-        print((__doc__ or "").strip())
-        return 0
-    if len(words) < 2 or words[0] not in ("tm", "tc") or words[1].startswith("-"):
+    if len(words) < 2 or words[0] not in ("tm", "tc") or words[1].startswith("--"):
         raise Refused(USAGE)
+    require_name(words[1])
     with about(words[1]):
         found = counts(packets(words[0], words[1], words[2:]))
     for count in found:
@@ -34,4 +32,4 @@ def main(words: List[str]) -> int:
 
 
 if __name__ == "__main__":
-    run(NAME, main)
+    run(NAME, main, __doc__)

@@ -14,7 +14,9 @@ import subprocess
 import sys
 from typing import Any, Callable, Iterator, List, NoReturn, Optional, Union
 
+from . import __version__
 from ._fault import SllinkError
+from ._options import ASKS
 
 
 class Refused(Exception):
@@ -55,10 +57,10 @@ def reason_of(error: BaseException) -> str:
     return getattr(error, "strerror", None) or str(error)
 
 
-def help_of(text: Optional[str]) -> int:
-    """Prints the help of a tool, which is its docstring; the status is 0."""
-    print((text or "").strip())
-    return 0
+def require_name(word: str) -> None:
+    """Refuses a recording whose name begins like an option."""
+    if word.startswith("-"):
+        raise Refused(f"{word}: is no option; a recording of this name is ./{word}")
 
 
 @contextlib.contextmanager
@@ -112,8 +114,7 @@ def own_options(name: str, text: str) -> List[str]:
         words = shlex.split(text)
     except ValueError as error:
         raise Refused(f"{name}: {error}") from None
-    asked = next((word for word in words if word in ("-h", "--help", "-V", "--version")), None)
-    if asked:
+    for asked in filter(ASKS, words):
         raise Refused(f"{name}: {asked} is no option for a recording")
     return words
 
@@ -133,15 +134,17 @@ def complain(name: str, text: str) -> None:
         pass
 
 
-def run(name: str, main: Callable[[List[str]], int]) -> NoReturn:
-    """Runs a tool and ends it with its status. It is 2, with a line on the standard error, where it is refused or at a
-    fault; 2 and no line where whoever reads its output goes away, or it is told to stop."""
+def run(name: str, main: Callable[[List[str]], int], text: Optional[str]) -> NoReturn:
+    """Runs a tool, or prints its help, the text, or its version, and ends with its status. It is 2, with a line on the
+    standard error, where it is refused or at a fault; 2 and no line where whoever reads its output goes away, or a
+    signal stops it."""
     _streams(name)
     for number in (signal.SIGTERM, signal.SIGHUP, signal.SIGINT):
         if signal.getsignal(number) != signal.SIG_IGN:       # as nohup has it
             signal.signal(number, _stop)
     try:
-        status = main(sys.argv[1:])
+        words = sys.argv[1:]
+        status = 0 if _answered(name, text, words) else main(words)
         sys.stdout.flush()
     except BrokenPipeError:
         status = 2
@@ -159,6 +162,18 @@ def run(name: str, main: Callable[[List[str]], int]) -> NoReturn:
         complain(name, f"{type(error).__name__}: {error}")
         status = 2
     _end(status)
+
+
+def _answered(name: str, text: Optional[str], words: List[str]) -> bool:
+    """Whether the help or the version is asked for, which it prints. A word after -- is a name."""
+    words = words[:words.index("--")] if "--" in words else words
+    if "-h" in words or "--help" in words:
+        print((text or "").strip())
+    elif "-V" in words or "--version" in words:
+        print(f"{name} {__version__}")
+    else:
+        return False
+    return True
 
 
 def _streams(name: str) -> None:

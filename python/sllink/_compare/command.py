@@ -12,24 +12,18 @@ from .._check_words import CHECK_WORDS
 from .._program import packet_lines
 from .._questions import contradicted, doubted, unanswered
 from .._records import Run
-from ..tool import Refused, about, help_of, shown
+from ..tool import Refused, about, shown
 from .difference import Difference, Hunk, Runs
 from .store import Channel, Packets, room
 from .union import Union, skip
-from .words import HELP, NAME, Words
+from .words import NAME, Words
 
 LARGE = 256 << 20                                         # octets from which on the lines of packets decide
 
 
-def main(words: List[str]) -> int:
+def main(given: List[str]) -> int:
     """Compares two recordings; the status."""
-    if "-h" in words or "--help" in words:
-        return help_of(HELP)
-    return compare(Words(words))
-
-
-def compare(words: Words) -> int:
-    """The same, by what the words ask for."""
+    words = Words(given)
     checked = []
     for side in 0, 1:
         checked.append(Checked(words, side))

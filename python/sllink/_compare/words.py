@@ -16,6 +16,7 @@ A and B are files, and OPTION are options of sllink for both.
                       twice in a recording is written twice
     --lines           Decide by the lines of `packets` alone, in little memory
     -h, --help        Print help
+    -V, --version     Print the version
 
 Read with a wrong option, any two recordings may seem to hold the same packets: frames are skipped, nothing
 is delivered, or what is delivered isn't there. So `check` comes first. The first two lines are the totals of
@@ -76,7 +77,7 @@ from typing import Deque, List, Optional, Set, Tuple
 from .._check_words import CHECK_WORDS
 from .._questions import QUESTIONS
 from .._state import State
-from ..tool import Refused, own_options, shown
+from ..tool import Refused, own_options, require_name, shown
 
 HELP = __doc__
 NAME = "sllink-compare"
@@ -99,9 +100,10 @@ class Words:
         self.common: List[str] = []
         self.own: Tuple[List[str], List[str]] = ([], [])
         for recording in self.recordings:
-            if recording.startswith("-"):
+            if recording.startswith("--"):
                 raise Refused(f"the recordings come before the options, and one named {recording} is ./{recording}; "
                               f"{USAGE}")
+            require_name(recording)
         self.states = [State(recording) for recording in self.recordings]
         rest = deque(words[3:])
         while rest:

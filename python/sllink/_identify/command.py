@@ -2,8 +2,9 @@
 
     sllink-identify [--options] RECORDING
 
-    --options   Write only the words that sllink takes, as in tm --scid 1 --tm-length 1115
-    -h, --help  Print help
+    --options      Write only the words that sllink takes, as in tm --scid 1 --tm-length 1115
+    -h, --help     Print help
+    -V, --version  Print the version
 
 It looks for gzip and other archives, pcap, pcapng, CADUs (sync markers), CLTUs, space packets without frames,
 and then for transfer frames: TM frames of 32 to 2048 octets by headers that agree, by counts that rise, by
@@ -37,7 +38,7 @@ Example: the packets of a recording, with the options that are found:
 import os
 from typing import List, Tuple
 
-from ..tool import Refused, help_of, reason_of, shown, write
+from ..tool import Refused, reason_of, require_name, shown, write
 from . import identify
 
 NAME = "sllink-identify"
@@ -46,8 +47,6 @@ USAGE = f"usage: {NAME} [--options] RECORDING"
 
 def main(words: List[str]) -> int:
     """What the tool does; its status."""
-    if any(word in ("-h", "--help") for word in words[:words.index("--") if "--" in words else None]):
-        return help_of(__doc__)
     name, options = arguments(words)
     try:
         found = identify(name)
@@ -71,9 +70,8 @@ def arguments(words: List[str]) -> Tuple[str, bool]:
             break
         if word == "--options":
             options = True
-        elif word.startswith("-"):
-            raise Refused(f"{word}: is no option; a recording of this name is ./{word}")
         else:
+            require_name(word)
             names.append(word)
     if len(names) != 1:
         raise Refused(f"one recording is wanted; {USAGE}")

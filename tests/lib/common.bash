@@ -142,7 +142,7 @@ refuses_programs() {
   SLLINK=./other refuses "$called: *sllink: *" "$@" "${tm[@]}" < <(echo $first)
 }
 
-# stops COMMAND..: a tool, with all its words but options, is told to stop while sllink runs: it ends with status 2 and
+# stops COMMAND..: a tool, with all its words but options, is stopped while sllink runs: it ends with status 2 and
 # leaves nothing behind
 stops() {
   runs=$((runs + 1))

@@ -13,7 +13,7 @@ from ._signs import (LONGEST_TC, MARKER, SHORTEST, Frames, by_control, columns, 
                      randomiser, right_fields, strides, tc_field, tc_randomiser, unmasked)
 
 MOST = 1000                                               # frames that are looked at
-ENOUGH = 5                                                # frames of a spacecraft, or of a length, that are no chance
+ENOUGH = 5                                                # frames of a spacecraft, or of a length, too many for chance
 NEAR = 5                                                  # below which a count rises by little
 SEARCHED = 1 << 14                                        # octets in which TC frames are searched for
 

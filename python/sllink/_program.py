@@ -109,7 +109,7 @@ class Child:
                 pipe.write(octets)
                 pipe.flush()
         except BrokenPipeError:
-            pass                                             # the program has ended, and its status tells why
+            pass                                             # the program has ended, and its status says why
         except BaseException as fault:                       # pylint: disable=broad-except
             self._fault = fault
             self._child.kill()
@@ -169,7 +169,7 @@ def lines(verb: str, kind: str, recording: Recording, options: Words, *,
     line = b""
     try:
         for line in child.output:
-            if line.endswith(b"\n"):                         # else it is cut off, and the status tells why
+            if line.endswith(b"\n"):                         # else it is cut off, and the status says why
                 yield line[:-1].decode("ascii")
         child.end(line)
     finally:
@@ -202,6 +202,6 @@ def blocks(verb: str, kind: str, recording: Recording, options: Words) -> Genera
                 last, rest = whole[whole.rfind(b"\n", 0, -1) + 1:], b""
                 yield whole
             rest += octets[end:]
-        child.end(last + rest)                               # a rest is cut off, and the status tells why
+        child.end(last + rest)                               # a rest is cut off, and the status says why
     finally:
         child.stop()

@@ -188,7 +188,7 @@ class Frames:
 
     @property
     def main(self) -> List[int]:
-        """The spacecraft identifiers that are no chance."""
+        """The spacecraft identifiers too frequent to be chance."""
         enough = max(3, self.number * 0.02)
         known = [key for key, number in self.scids.most_common()
                  if self.right[key] or number >= enough and self.risen[key] >= max(2, 0.3 * number)]

@@ -79,7 +79,7 @@ class Packets:
         for line in listing:
             head, _, digits = line.rpartition(b" ")
             if not digits.endswith(b"\n"):
-                break                                        # it is cut off, and the status tells why
+                break                                        # it is cut off, and the status says why
             parts = head.split(b" ")
             channel: Key = parts[1] if at == 3 else (parts[1], parts[3])
             record = pack(blake2b(digits, digest_size=16).digest(), int(parts[at]), int(parts[at + 8]))

@@ -67,7 +67,7 @@ class Union:
                 self.part = None
         except OSError as error:
             self._failed(error)
-        unordered = f"; the order of {self.unordered} isn't told by the two" if self.unordered else ""
+        unordered = f"; the order of {self.unordered} is unknown" if self.unordered else ""
         return f"union: {shown(self.path)}: packets {self.packets}{unordered}"
 
     def close(self) -> None:

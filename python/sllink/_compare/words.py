@@ -1,4 +1,4 @@
-"""Tells whether two recordings of one pass hold the same packets, and which packets only one of them has.
+"""Says whether two recordings of one pass hold the same packets, and which packets only one of them has.
 
     sllink-compare tm|tc A B --scid N [OPTION..] [--allow WORD,..] [--a-options TEXT] [--b-options TEXT]
                    [--hex] [--union FILE] [--lines]
@@ -46,8 +46,8 @@ Under a wrong option recordings may differ that hold the same packets, so look a
 
 Packets of a channel are compared in their order. Those that both have, but in another order, are listed for
 each, and a line has their number. --union writes channel by channel. Where both have packets of their own
-between the same two, those of A come first, but where counts say otherwise, and it is said of how many packets
-the order isn't known.
+between the same two, A's come first unless sequence counts decide; a line says for how many packets the order is
+unknown.
 
 Normal forms decide where the options are the same and no recording is larger than 256 MiB; `normalise` keeps
 all packets in memory. Else, and where memory is short, the lines of `packets` decide, in at most 100 MB. What
@@ -81,7 +81,7 @@ from ..tool import Refused, own_options, require_name, shown
 
 HELP = __doc__
 NAME = "sllink-compare"
-USAGE = f"usage: {NAME} tm|tc A B --scid N [OPTION..]; --help tells more"
+USAGE = f"usage: {NAME} tm|tc A B --scid N [OPTION..]; --help says more"
 ALLOWED = [*CHECK_WORDS, *QUESTIONS]
 VALUED = ("--allow", "--a-options", "--b-options", "--union")
 

@@ -24,7 +24,7 @@ evidence is plain.
 Of a recording of more than 4 MiB the first MiB and 64 places after it are read, and the lines count the frames
 that are looked at. A shift is found there if the frames of two places lie differently.
 
-Status: 0 the recording is told, and the last line is a command line; 1 it can't be told, with --options also
+Status: 0 the recording is identified, and the last line is a command line; 1 it isn't, with --options also
 where options alone aren't enough; 2 the recording can't be read, with one line on the standard error that says
 why. It has to be a file. One whose name begins with a dash is ./-NAME, or comes after --. The program sllink
 isn't run, and nothing is kept. Where whoever reads the output goes away, or SIGINT, SIGTERM or SIGHUP stops the

@@ -8,18 +8,22 @@
 #     make uninstall
 #     make dist
 #     make deb
+#     make deb MAINTAINER='NAME <ADDRESS>'
+#     make wheel
 #     make lib
 #     make bench
 #     make quick
 #
 # PREFIX is where they are to be used, /usr/local where nothing is said. DESTDIR is put before each path, for whoever
 # makes a package. `make dist` writes out/sllink-VERSION-linux-ARCHITECTURE.tar.gz, whose folders bin and share work
-# wherever they lie beside each other; `make deb` writes out/sllink_VERSION_ARCHITECTURE.deb, and wants dpkg-deb. The
-# program isn't built here: that is done by `rt run` in crates/sllink. The manual pages of the tools and the completions
-# are made into PAGES, which is out where nothing is said, by python3 from what the program and the tools print with
-# --help: by `make` alone, and before they are installed or packed. `make lib` proves and builds libsllink.a and
-# libsllink.so in LIBRARIES, which is out where nothing is said, and wants the kit, cc, ld, objcopy and ar. Where they are
-# there, they are installed and packed with the program, with their header and what pkg-config reads.
+# wherever they lie beside each other; `make deb` writes out/sllink_VERSION_ARCHITECTURE.deb, and wants dpkg-deb. `make
+# wheel` writes out/sllink-VERSION-py3-none-any.whl, the Python module alone, which is in the archive too. Each writes
+# out/SHA256SUMS, of all packages that are there. The program isn't built here: that is done by `rt run` in
+# crates/sllink. The manual pages of the tools and the completions are made into PAGES, which is out where nothing is
+# said, by python3 from what the program and the tools print with --help: by `make` alone, and before they are installed
+# or packed. `make lib` proves and builds libsllink.a and libsllink.so in LIBRARIES, which is out where nothing is said,
+# and wants the kit, cc, ld, objcopy and ar. Where they are there, they are installed and packed with the program, with
+# their header and what pkg-config reads.
 
 PREFIX = /usr/local
 DESTDIR =
@@ -50,7 +54,8 @@ CALLS = crates/sl_c/out/libsl_c.a
 HEAP = $(dir $(shell rt doc 2> /dev/null))c/liblibc_c.a
 OBJCOPY = objcopy
 
-.PHONY: all install uninstall built pages dist deb lib bench quick
+.PHONY: all install uninstall built pages dist deb wheel lib bench quick
+.SILENT: install uninstall dist deb wheel
 
 all: pages
 	@echo "$(PROGRAM) is built; 'make install' installs it under $(PREFIX)"
@@ -88,6 +93,7 @@ install: pages
 	  $(INSTALL) -m 644 "$(LIBRARIES)/libsllink.a" "$(LIBRARIES)/$(SONAME)" "$(DESTDIR)$(LIB)" && \
 	  ln -sf $(SONAME) "$(DESTDIR)$(LIB)/libsllink.so"; \
 	fi
+	echo "sllink is installed under $(DESTDIR)$(PREFIX)"
 
 # The library for C: what the kit builds of the calls, with its way to the heap, as one file in which the calls alone can
 # be seen from outside.
@@ -122,28 +128,45 @@ export SOURCE_DATE_EPOCH
 PACKED = sllink-$(VERSION)-linux-$(ARCHITECTURE)
 DEBIAN = sllink_$(VERSION)_$(ARCHITECTURE)
 
+SUMS = cd "$(OUT)" && for it in *.tar.gz *.deb *.whl; do [ ! -e "$$it" ] || sha256sum "$$it"; done > SHA256SUMS
+
 dist: built
 	rm -rf "$(OUT)/$(PACKED)" "$(OUT)/$(PACKED).tar.gz"
-	$(MAKE) -s install PREFIX= DESTDIR="$(OUT)/$(PACKED)"
-	tar -C "$(OUT)" --sort=name --mtime="@$(SOURCE_DATE_EPOCH)" --owner=0 --group=0 --numeric-owner -cf - "$(PACKED)" | \
-	  gzip -9n > "$(OUT)/$(PACKED).tar.gz"
+	$(MAKE) -s install PREFIX= DESTDIR="$(OUT)/$(PACKED)" > /dev/null
+	python/wheel "$(OUT)/$(PACKED)" > /dev/null
+	tar -C "$(OUT)" --sort=name --mtime="@$(SOURCE_DATE_EPOCH)" --mode=u=rwX,go=rX --owner=0 --group=0 --numeric-owner \
+	  -cf - "$(PACKED)" | gzip -9n > "$(OUT)/$(PACKED).tar.gz"
 	rm -rf "$(OUT)/$(PACKED)"
-	@echo "$(OUT)/$(PACKED).tar.gz"
+	$(SUMS)
+	echo "$(OUT)/$(PACKED).tar.gz"
 
-# Whoever makes the package is its maintainer. Of the C library it wants the last version that the program names.
-MAINTAINER = $(shell id -un) <$(shell id -un)@$(shell uname -n)>
+wheel:
+	python/wheel "$(OUT)"
+	$(SUMS)
+
+# Nothing in the package says who built it, or where. Of the C library it wants the last version that the program names.
+# For its size a folder counts as a KiB, and a file as whole ones, which is the same on each file system.
+MAINTAINER = unnamed <unnamed@invalid>
 LIBC = $(shell grep -a -h -o 'GLIBC_[0-9][0-9.]*' "$(PROGRAM)" $(wildcard $(LIBRARIES)/$(SONAME)) | sed 's/GLIBC_//' | sort -V | tail -n 1)
+SIZE = find "$(ROOM)/usr" -printf '%y %s\n' | awk '{ k += /^f/ ? int(($$2 + 1023) / 1024) : 1 } END { print k }'
+ROOM = $(OUT)/$(DEBIAN)
+DOC = $(ROOM)/usr/share/doc/sllink
 
 deb: built
-	@command -v dpkg-deb > /dev/null || { echo "dpkg-deb isn't there; 'make dist' makes a tarball" >&2; exit 1; }
-	rm -rf "$(OUT)/$(DEBIAN)" "$(OUT)/$(DEBIAN).deb"
-	$(MAKE) -s install PREFIX=/usr DESTDIR="$(OUT)/$(DEBIAN)"
-	gzip -9n "$(OUT)/$(DEBIAN)/usr/share/man/man1/"*.1
-	$(INSTALL) -d "$(OUT)/$(DEBIAN)/DEBIAN" "$(OUT)/$(DEBIAN)/usr/lib/python3/dist-packages"
-	ln -s ../../../share/sllink/python/sllink "$(OUT)/$(DEBIAN)/usr/lib/python3/dist-packages/sllink"
+	command -v dpkg-deb > /dev/null || { echo "dpkg-deb isn't there; 'make dist' makes a tarball" >&2; exit 1; }
+	rm -rf "$(ROOM)" "$(ROOM).deb"
+	$(MAKE) -s install PREFIX=/usr DESTDIR="$(ROOM)" > /dev/null
+	gzip -9n "$(ROOM)/usr/share/man/man1/"*.1
+	$(INSTALL) -d "$(ROOM)/DEBIAN" "$(ROOM)/usr/lib/python3/dist-packages" "$(DOC)"
+	ln -s ../../../share/sllink/python/sllink "$(ROOM)/usr/lib/python3/dist-packages/sllink"
+	echo "No licence has been chosen for sllink yet. Ask whoever gave you this package what you may do with it." \
+	  > "$(DOC)/copyright"
+	printf '%s\n' "sllink ($(VERSION)) unstable; urgency=medium" "" "  * CHANGELOG.md.gz says what changed." "" \
+	  " -- $(MAINTAINER)  $$(date -u -R -d "@$(SOURCE_DATE_EPOCH)")" | gzip -9n > "$(DOC)/changelog.gz"
+	gzip -9n < CHANGELOG.md > "$(DOC)/CHANGELOG.md.gz"
 	printf '%s\n' "Package: sllink" "Version: $(VERSION)" "Architecture: $(ARCHITECTURE)" \
 	  "Maintainer: $(MAINTAINER)" "Section: science" "Priority: optional" \
-	  "Installed-Size: $$(du -k -s --apparent-size "$(OUT)/$(DEBIAN)/usr" | cut -f 1)" \
+	  "Installed-Size: $$($(SIZE))" \
 	  "Depends: libc6 (>= $(LIBC))" "Recommends: python3 (>= 3.8)" \
 	  "Description: recordings of TM and TC transfer frames, listed, checked, compared" \
 	  " sllink reads a recording of a spacecraft's link: TM and TC transfer frames and" \
@@ -151,14 +174,15 @@ deb: built
 	  " packets, or writes its normal form, by which two recordings are compared." \
 	  " ." \
 	  " The tools around it, and their module, want Python 3. Where the library for C was" \
-	  " built, it is there too." > "$(OUT)/$(DEBIAN)/DEBIAN/control"
+	  " built, it is there too." > "$(ROOM)/DEBIAN/control"
 	printf '%s\n' '#!/bin/sh' 'set -e' 'find /usr/share/sllink -name __pycache__ -prune -exec rm -rf {} +' \
-	  > "$(OUT)/$(DEBIAN)/DEBIAN/prerm"
-	chmod 644 "$(OUT)/$(DEBIAN)/DEBIAN/control"
-	chmod 755 "$(OUT)/$(DEBIAN)/DEBIAN/prerm"
-	dpkg-deb --root-owner-group --build "$(OUT)/$(DEBIAN)" "$(OUT)/$(DEBIAN).deb" > /dev/null
-	rm -rf "$(OUT)/$(DEBIAN)"
-	@echo "$(OUT)/$(DEBIAN).deb"
+	  > "$(ROOM)/DEBIAN/prerm"
+	chmod 644 "$(DOC)"/* "$(ROOM)/DEBIAN/control"
+	chmod 755 "$(ROOM)/DEBIAN/prerm"
+	dpkg-deb --root-owner-group --build "$(ROOM)" "$(ROOM).deb" > /dev/null
+	rm -rf "$(ROOM)"
+	$(SUMS)
+	echo "$(ROOM).deb"
 
 # Times the program beside the hand-written one in bench/, and compares what they write.
 bench:

@@ -123,141 +123,67 @@ static unsigned bits(const uint8_t *octets, unsigned from, unsigned width) {
     return number;
 }
 
-/* Reads octets, has each field looked at, writes them again; and a field that is one too great is
- * refused. */
-#define HEADER(name, size, look, refuse)                                                           \
+/* Reads octets, looks at each field, writes them again; and of a field that is narrower than its
+ * type, a number that is one too great is refused, and so is the greatest of the type. FIELDS has
+ * all fields in their order, each with the number of its bits: narrow ones, and others. */
+#define IS(field, width)                                                                           \
+    CHECK((unsigned)h.field == bits(octets, from, width));                                         \
+    from += width;
+#define IS_REFUSED(field, width)                                                                   \
+    h = kept;                                                                                      \
+    h.field = 1u << width;                                                                         \
+    CHECK(write(&h, again) == SLLINK_FIELD);                                                       \
+    h.field = 0;                                                                                   \
+    h.field--;                                                                                     \
+    CHECK(write(&h, again) == SLLINK_FIELD);
+#define NOTHING(field, width)
+#define HEADER(name, size, FIELDS)                                                                 \
     static void name(void) {                                                                       \
+        sllink_answer (*write)(const sllink_##name *, uint8_t *) = sllink_##name##_write;          \
         for (int round = 0; round < 300; round++) {                                                \
             uint8_t *octets = block_of(NULL, size), *again = block_of(NULL, size), before[size];   \
+            unsigned from = 0;                                                                     \
             fill(octets, size);                                                                    \
             if (round < 2)                                                                         \
                 memset(octets, round ? 0xFF : 0, size);                                            \
             sllink_##name h;                                                                       \
             memset(&h, 0, sizeof h);                                                               \
             sllink_##name##_read(octets, &h);                                                      \
-            look;                                                                                  \
+            FIELDS(IS, IS)                                                                         \
+            CHECK(from == 8 * size);                                                               \
             memset(again, 0xA5, size);                                                             \
-            CHECK(sllink_##name##_write(&h, again) == SLLINK_DONE);                                \
+            CHECK(write(&h, again) == SLLINK_DONE);                                                \
             CHECK(memcmp(again, octets, size) == 0);                                               \
             memcpy(before, again, size);                                                           \
             sllink_##name kept = h;                                                                \
-            refuse;                                                                                \
+            FIELDS(IS_REFUSED, NOTHING)                                                            \
             CHECK(memcmp(again, before, size) == 0);                                               \
             free(octets);                                                                          \
             free(again);                                                                           \
         }                                                                                          \
     }
 
-#define IS(field, from, width) CHECK((unsigned)h.field == bits(octets, from, width))
-#define NOT(name, field, value)                                                                    \
-    do {                                                                                           \
-        h = kept;                                                                                  \
-        h.field = value;                                                                           \
-        CHECK(sllink_##name##_write(&h, again) == SLLINK_FIELD);                                   \
-    } while (0)
+#define TM_HEADER(NARROW, WHOLE)                                                                   \
+    NARROW(version, 2) NARROW(spacecraft, 10) NARROW(vc, 3) WHOLE(control, 1) WHOLE(mc, 8)         \
+    WHOLE(vcc, 8) WHOLE(secondary, 1) WHOLE(sync, 1) WHOLE(order, 1) NARROW(segment, 2)            \
+    NARROW(first, 11)
+#define TC_HEADER(NARROW, WHOLE)                                                                   \
+    NARROW(version, 2) WHOLE(bypass, 1) WHOLE(command, 1) NARROW(spare, 2) NARROW(spacecraft, 10)  \
+    NARROW(vc, 6) NARROW(length, 10) WHOLE(ns, 8)
+#define SEGMENT_HEADER(NARROW, WHOLE) NARROW(flags, 2) NARROW(map, 6)
+#define PACKET_HEADER(NARROW, WHOLE)                                                               \
+    NARROW(version, 3) NARROW(kind, 1) WHOLE(secondary, 1) NARROW(apid, 11) NARROW(flags, 2)       \
+    NARROW(count, 14) WHOLE(length, 16)
+#define CLCW(NARROW, WHOLE)                                                                        \
+    NARROW(word, 1) NARROW(version, 2) NARROW(status, 3) NARROW(cop, 2) NARROW(vc, 6)              \
+    NARROW(spare, 2) WHOLE(no_rf, 1) WHOLE(no_lock, 1) WHOLE(lockout, 1) WHOLE(wait, 1)            \
+    WHOLE(retransmit, 1) NARROW(farm_b, 2) WHOLE(spare_end, 1) WHOLE(report, 8)
 
-HEADER(
-    tm_header, 6,
-    {
-        IS(version, 0, 2);
-        IS(spacecraft, 2, 10);
-        IS(vc, 12, 3);
-        IS(control, 15, 1);
-        IS(mc, 16, 8);
-        IS(vcc, 24, 8);
-        IS(secondary, 32, 1);
-        IS(sync, 33, 1);
-        IS(order, 34, 1);
-        IS(segment, 35, 2);
-        IS(first, 37, 11);
-    },
-    {
-        NOT(tm_header, version, 4);
-        NOT(tm_header, spacecraft, 1024);
-        NOT(tm_header, vc, 8);
-        NOT(tm_header, segment, 4);
-        NOT(tm_header, first, 2048);
-        NOT(tm_header, version, 255);
-        NOT(tm_header, spacecraft, 65535);
-    })
-
-HEADER(
-    tc_header, 5,
-    {
-        IS(version, 0, 2);
-        IS(bypass, 2, 1);
-        IS(command, 3, 1);
-        IS(spare, 4, 2);
-        IS(spacecraft, 6, 10);
-        IS(vc, 16, 6);
-        IS(length, 22, 10);
-        IS(ns, 32, 8);
-    },
-    {
-        NOT(tc_header, version, 4);
-        NOT(tc_header, spare, 4);
-        NOT(tc_header, spacecraft, 1024);
-        NOT(tc_header, vc, 64);
-        NOT(tc_header, length, 1024);
-    })
-
-HEADER(
-    segment_header, 1,
-    {
-        IS(flags, 0, 2);
-        IS(map, 2, 6);
-    },
-    {
-        NOT(segment_header, flags, 4);
-        NOT(segment_header, map, 64);
-    })
-
-HEADER(
-    packet_header, 6,
-    {
-        IS(version, 0, 3);
-        IS(kind, 3, 1);
-        IS(secondary, 4, 1);
-        IS(apid, 5, 11);
-        IS(flags, 16, 2);
-        IS(count, 18, 14);
-        IS(length, 32, 16);
-    },
-    {
-        NOT(packet_header, version, 8);
-        NOT(packet_header, kind, 2);
-        NOT(packet_header, apid, 2048);
-        NOT(packet_header, flags, 4);
-        NOT(packet_header, count, 16384);
-    })
-
-HEADER(
-    clcw, 4,
-    {
-        IS(word, 0, 1);
-        IS(version, 1, 2);
-        IS(status, 3, 3);
-        IS(cop, 6, 2);
-        IS(vc, 8, 6);
-        IS(spare, 14, 2);
-        IS(no_rf, 16, 1);
-        IS(no_lock, 17, 1);
-        IS(lockout, 18, 1);
-        IS(wait, 19, 1);
-        IS(retransmit, 20, 1);
-        IS(farm_b, 21, 2);
-        IS(spare_end, 23, 1);
-        IS(report, 24, 8);
-    },
-    {
-        NOT(clcw, word, 2);
-        NOT(clcw, version, 4);
-        NOT(clcw, status, 8);
-        NOT(clcw, cop, 4);
-        NOT(clcw, vc, 64);
-        NOT(clcw, spare, 4);
-        NOT(clcw, farm_b, 4);
-    })
+HEADER(tm_header, 6, TM_HEADER)
+HEADER(tc_header, 5, TC_HEADER)
+HEADER(segment_header, 1, SEGMENT_HEADER)
+HEADER(packet_header, 6, PACKET_HEADER)
+HEADER(clcw, 4, CLCW)
 
 /* ---- FARM-1 ---- */
 

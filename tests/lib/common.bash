@@ -1,14 +1,18 @@
 # shellcheck shell=bash disable=SC2034
-# What the tests of the tools share; each sources it first, with the words that it was given. It makes a folder that looks
-# like the top of the repository and goes there, and has the recordings and options that most of them want.
+# What the tests in bash share; each sources it first, with the words that it was given. It makes a folder that looks like
+# the top of the repository and goes there, and has the recordings and options that most of them want.
 #
 #     . "$(dirname "$(realpath "$0")")/lib/common.bash" "$@"
+#
+# Each counts what it tries, names what fails, and what is skipped because something isn't there, and closes with a line
+# `N passed, M failed, K skipped`. The program is crates/sllink/out/sllink where none is named. Status: 0 where none
+# failed, 1 where one did, 2 where there is no program. counts.py has the same for Python.
 set -u
 root=$(dirname "$(dirname "$(realpath "$0")")")
-name=tests/$(basename "$0")
+script=tests/$(basename "$0")
 program=$(realpath -m "${1:-$root/crates/sllink/out/sllink}")
 if [ ! -x "$program" ] || [ -d "$program" ]; then
-  echo "$name: $program: there is no such program" >&2
+  echo "$script: $program: there is no such program" >&2
   exit 2
 fi
 room=$(mktemp -d)
@@ -21,12 +25,47 @@ for tool in "$root"/tools/*; do ln -s "$tool" "$room/bin"; done
 export SLLINK=$program TMPDIR=$room/tmp PATH=$room/bin:$PATH PYTHONDONTWRITEBYTECODE=1 PYTHONPATH=$root/python
 cd "$room/top" || exit 1
 log=$room/log
-runs=0
-failed=0
+caches=$(find "$root/tools" "$root/python" -name __pycache__)
+tried=0 failed=0 skipped=0 fails=no
+
+# begin: what is complained of from here on is of the next one that is tried, which then fails, once
+begin() {
+  tried=$((tried + 1))
+  fails=no
+}
 
 complain() {
-  failed=$((failed + 1))
+  [ "$tried" != 0 ] || begin
+  [ $fails = yes ] || failed=$((failed + 1))
+  fails=yes
   echo "FAILED: $*"
+}
+
+skip() {
+  skipped=$((skipped + 1))
+  echo "skipped: $*"
+}
+
+# The end of each.
+finish() {
+  echo "$((tried - failed)) passed, $failed failed, $skipped skipped"
+  [ "$failed" = 0 ]
+  exit
+}
+
+# adds COMMAND..: what the command has counted, which closes with the same line
+adds() {
+  local status=0 last
+  "$@" > "$log/counted" 2>&1 || status=$?
+  head -n -1 "$log/counted"
+  last=$(tail -n 1 "$log/counted")
+  if [[ $last =~ ^([0-9]+)\ passed,\ ([0-9]+)\ failed,\ ([0-9]+)\ skipped$ ]]; then
+    tried=$((tried + BASH_REMATCH[1] + BASH_REMATCH[2])) failed=$((failed + BASH_REMATCH[2]))
+    skipped=$((skipped + BASH_REMATCH[3]))
+    if [ "$status" = 0 ] || [ "${BASH_REMATCH[2]}" != 0 ]; then return; fi
+  fi
+  begin
+  complain "$*: it ended with status $status: $last"
 }
 
 # expect WHAT WANTED FOUND
@@ -39,11 +78,11 @@ expect() {
 
 # run COMMAND..: its output, its errors and its status. Nothing may be left behind.
 run() {
-  runs=$((runs + 1))
+  begin
   "$@" > "$log/output" 2> "$log/errors"
   status=$?
   [ -z "$(ls -A "$TMPDIR")" ] || complain "$*: left behind: $(ls -A "$TMPDIR")"
-  [ -z "$(find "$root/tools" "$root/python" -name __pycache__)" ] || complain "$*: left __pycache__ behind"
+  [ "$(find "$root/tools" "$root/python" -name __pycache__)" = "$caches" ] || complain "$*: left __pycache__ behind"
 }
 
 # gives STATUS OUTPUT COMMAND..: this status, this output, and nothing on the standard error
@@ -75,12 +114,17 @@ refuses() {
   [[ $(cat "$log/errors") == $line ]] || complain "$*: it said '$(cat "$log/errors")' and not '$line'"
 }
 
-# goes_away COMMAND..: whoever reads its output has gone; it ends with status 2, says nothing and leaves nothing behind
-goes_away() {
-  run python3 -c 'import os, subprocess, sys
+# to_nobody COMMAND..: runs it; whoever reads its output has gone
+to_nobody() {
+  python3 -c 'import os, subprocess, sys
 reader, writer = os.pipe()
 os.close(reader)
 sys.exit(subprocess.run(sys.argv[1:], stdout=writer, check=False).returncode)' "$@"
+}
+
+# goes_away COMMAND..: it ends with status 2, says nothing and leaves nothing behind
+goes_away() {
+  run to_nobody "$@"
   expect "$*: the reader goes away" "2 " "$status $(cat "$log/errors")"
 }
 
@@ -117,7 +161,7 @@ refuses_options() {
   refuses "$called: *$called tm|tc *" "${tool[@]}" tx $first $first --scid 1 < /dev/null
   run "${words[@]}" --help < /dev/null
   expect "$called --help" "0 1" "$status $(grep -c "^ *$called tm|tc " "$log/output")"
-  runs=$((runs + 1))
+  begin
   "${words[@]}" "${tm[@]}" < <(echo $first) > /dev/full 2> "$log/errors"
   expect "$called, full device" "2 1" "$? $(wc -l < "$log/errors")"
   goes_away "${words[@]}" "${tm[@]}" < <(echo $first)
@@ -145,7 +189,7 @@ refuses_programs() {
 # stops COMMAND..: a tool, with all its words but options, is stopped while sllink runs: it ends with status 2 and
 # leaves nothing behind
 stops() {
-  runs=$((runs + 1))
+  begin
   program_of slow ': > started' 'sleep 1'
   rm -f started
   SLLINK=./slow "$@" "${tm[@]}" < <(echo $first) > /dev/null 2>&1 &
@@ -155,7 +199,8 @@ stops() {
   expect "$1, stopped" "2 " "$? $(ls -A "$TMPDIR")"
 }
 
-# shown PAGE: the commands of the page that stand after a `$`, all in one shell, and what stands below each
+# shown PAGE: the commands of the page that stand after a `$`, all in one shell, and what stands below each; the one that
+# differs first fails
 shown() {
   awk -v script="$log/script" -v wanted="$log/wanted" '
     /^    \$ / {
@@ -167,7 +212,8 @@ shown() {
     on && /^    / { said = 1; print substr($0, 5) > wanted; next }
     { on = 0 }
     END { print n + 0 }' "$1" > "$log/number"
-  runs=$((runs + $(cat "$log/number")))
+  tried=$((tried + $(cat "$log/number") - 1))
+  begin
   # A mark leaves the status of the command before it as it is.
   # shellcheck disable=SC2016
   (echo 'mark() { local status=$?; echo "@$1"; return $status; }'; cat "$log/script") > "$log/marked"
@@ -175,9 +221,9 @@ shown() {
   expect "$1: what it shows" "$(cat "$log/wanted")" "$(cat "$log/found")"
 }
 
-# has PROGRAM: is it there?
+# has PROGRAM WHAT: is it there? If not, what it would have tried is skipped.
 has() {
-  command -v "$1" > /dev/null || { echo "not tried: $1 isn't there"; return 1; }
+  command -v "$1" > /dev/null || { skip "$script: $2: $1 isn't there"; false; }
 }
 
 # frame COUNT LETTER: a TM frame of 32 octets, with a packet of 26
@@ -192,10 +238,3 @@ tm=(--scid 1 --tm-length 32 --tm-fecf)
 short=(--scid 1 --tm-length 32)
 tc=(--scid 1 --tc-length 16)
 totals="frames 11 skipped 0 packets 6 idle 2 anomalies 0"
-
-# The end of each.
-finish() {
-  echo "$runs runs, $failed failed"
-  [ "$failed" = 0 ]
-  exit
-}

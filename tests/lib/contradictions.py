@@ -10,7 +10,7 @@ them, and a length that is one or two more or less, or twice. Where a recording 
 has to ask about each of them, by the question that --allow options answers; and never where all are right. Of TC,
 --tc-length is wrong where more than a tenth of the first thousand frames are longer.
 
-Status: 0; 1 where it doesn't ask, or asks for nothing, which is named. The program is $SLLINK.
+It counts each recording with such options. The program is $SLLINK. Counts and status: counts.py.
 """
 
 import argparse
@@ -25,6 +25,7 @@ sys.dont_write_bytecode = True
 HERE = os.path.dirname(os.path.realpath(__file__))
 sys.path[:0] = [HERE, os.path.join(HERE, "../../python")]
 import passes
+from counts import finish, ok
 from sllink import _questions, tool
 from sllink._compare import command
 
@@ -98,8 +99,7 @@ def main():
     words = parser.parse_args()
     # What sllink-identify says is left out, which would take long.
     _questions.command_of = _questions.identified = lambda recording: ""
-    tried, failed = {True: 0, False: 0}, 0
-    numbers = range(RECORDINGS)
+    tried, numbers = {True: 0, False: 0}, range(RECORDINGS)
     if not words.all:
         print("passes, seed", words.seed)
         numbers = sorted(random.Random(words.seed).sample(numbers, EACH_TIME))
@@ -107,14 +107,14 @@ def main():
         for it in map(Pass, numbers):
             for what, frames, options, wrong in it.cases():
                 asked = asks(it.kind, frames, options, os.path.join(folder, "pass"))
-                if asked != wrong and (asked or len(frames) >= WHOLE):
-                    failed += 1
-                    print(f"FAILED: recording {it.number}, {len(frames)} frames, {what}: it "
-                          f"{'asks' if asked else 'asks nothing'}: {' '.join(map(str, it.words))}; {' '.join(options)}")
-                tried[wrong] += not wrong or len(frames) >= WHOLE
-    print(f"{len(numbers)} recordings: {tried[True]} wrong options with ten frames or more, {tried[False]} times all are "
-          f"right, {failed} failed")
-    return 1 if failed else 0
+                if wrong and len(frames) < WHOLE:
+                    continue
+                tried[wrong] += 1
+                ok(asked == wrong,
+                   f"recording {it.number}, {len(frames)} frames, {what}: it {'asks' if asked else 'asks nothing'}: "
+                   f"{' '.join(map(str, it.words))}; {' '.join(options)}")
+    print(f"{len(numbers)} recordings: {tried[True]} wrong options with ten frames or more, {tried[False]} times all are right")
+    return finish()
 
 
 if __name__ == "__main__":

@@ -25,8 +25,9 @@ Another station that saw the same pass has the same words but for --station, --l
 import argparse
 import random
 import sys
-from binascii import crc_hqx
 from functools import lru_cache, partial
+
+import recordings
 
 MARKER = b"\x1a\xcf\xfc\x1d"
 TAPS = {"tm": (1, 3, 5, 8), "tc": (2, 4, 5, 6, 7, 8)}     # of the randomisers
@@ -34,14 +35,12 @@ TAPS = {"tm": (1, 3, 5, 8), "tc": (2, 4, 5, 6, 7, 8)}     # of the randomisers
 
 def packet(rng, apid, count, octets, kind=0):
     """A packet of random octets."""
-    data = rng.getrandbits(8 * octets).to_bytes(octets, "big")
-    return ((kind << 12 | apid).to_bytes(2, "big") + (3 << 14 | count % 16384).to_bytes(2, "big")
-            + (octets - 1).to_bytes(2, "big") + data)
+    return recordings.packet(apid, count, recordings.data(rng, octets, "noise"), kind)
 
 
 def closed(frame, words):
     """A frame, and its frame error control field where it has one."""
-    return frame if words.no_field else frame + crc_hqx(frame, 0xFFFF).to_bytes(2, "big")
+    return recordings.closed(frame, not words.no_field)
 
 
 @lru_cache
@@ -51,6 +50,11 @@ def sequence(kind, octets=2048):
     while len(bits) < 8 * octets:
         bits.append(sum(bits[-tap] for tap in TAPS[kind]) % 2)
     return bytes(int("".join(map(str, bits[at:at + 8])), 2) for at in range(0, 8 * octets, 8))
+
+
+def mixed(octets, kind):
+    """A frame, randomised or not so any more."""
+    return bytes(octet ^ other for octet, other in zip(octets, sequence(kind)))
 
 
 class Channel:
@@ -162,8 +166,7 @@ def recorded(words):
     """The frames that the station has, as they stand in its recording."""
     frames = received(downlink(words) if words.kind == "tm" else uplink(words), words)
     for frame in frames:
-        if words.randomised:
-            frame = bytes(octet ^ other for octet, other in zip(frame, sequence(words.kind)))
+        frame = mixed(frame, words.kind) if words.randomised else frame
         yield MARKER + frame if words.marked else frame
 
 

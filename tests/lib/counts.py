@@ -1,0 +1,103 @@
+"""What the scripts of tests/ share: each counts what it tries, names what fails, and what is skipped because something
+isn't there, and closes with a line `N passed, M failed, K skipped`. The program is crates/sllink/out/sllink where none is
+named. Status: 0 where none failed, 1 where one did, 2 where there is no program. common.bash has the same for bash.
+
+    python3 tests/lib/counts.py COMMAND..
+
+runs commands, each by a shell, one after another, and closes with one line over all of their last lines.
+"""
+
+import os
+import re
+import subprocess
+import sys
+from concurrent.futures import ThreadPoolExecutor
+from typing import List, Sequence, Tuple
+
+HERE = os.path.dirname(os.path.realpath(__file__))
+ROOT = os.path.dirname(os.path.dirname(HERE))
+LINE = re.compile(r"(\d+) passed, (\d+) failed(?:, (\d+) skipped)?\n?")
+counted = {"tried": 0, "failed": 0, "skipped": 0}
+fails = False
+
+
+def begin() -> None:
+    """What is complained of from here on is of the next one that is tried, which then fails, once."""
+    global fails
+    fails = False
+    counted["tried"] += 1
+
+
+def complain(what: str) -> None:
+    global fails
+    counted["tried"] = counted["tried"] or 1
+    counted["failed"] += not fails
+    fails = True
+    print(f"FAILED: {what}", flush=True)
+
+
+def ok(that: object, what: str) -> None:
+    """One that is tried."""
+    begin()
+    if not that:
+        complain(what)
+
+
+def skip(what: str) -> None:
+    counted["skipped"] += 1
+    print(f"skipped: {what}", flush=True)
+
+
+def finish() -> int:
+    """The last line, and the status."""
+    print(f"{counted['tried'] - counted['failed']} passed, {counted['failed']} failed, {counted['skipped']} skipped")
+    return 1 if counted["failed"] else 0
+
+
+def program_of(words: Sequence[str]) -> str:
+    """The program that is the first of the words, if there are any."""
+    program = os.path.realpath(words[0] if words else f"{ROOT}/crates/sllink/out/sllink")
+    if not os.path.isfile(program) or not os.access(program, os.X_OK):
+        print(f"tests/{os.path.basename(sys.argv[0])}: {program}: there is no such program", file=sys.stderr)
+        sys.exit(2)
+    return program
+
+
+def add(what: str, status: int, lines: List[str]) -> None:
+    """Adds what a command has counted, which has to close with the line."""
+    found = LINE.fullmatch(lines[-1] if lines else "")
+    passed, failed, skipped = (int(number or 0) for number in found.groups()) if found else (0, 0, 0)
+    for name, number in ("tried", passed + failed), ("failed", failed), ("skipped", skipped):
+        counted[name] += number
+    if not found or status and not failed:
+        ok(False, f"{what}: it ended with status {status}{'' if found else ', and without such a line'}")
+
+
+def in_turn(commands: Sequence[str]) -> None:
+    """Runs commands one after another, and shows what they print as it comes."""
+    for command in commands:
+        lines: List[str] = []
+        with subprocess.Popen(command, shell=True, stdout=subprocess.PIPE, text=True, errors="replace") as it:
+            for line in it.stdout or ():
+                lines = [line]
+                print(line, end="", flush=True)
+        add(command, it.returncode, lines)
+
+
+def side_by_side(commands: Sequence[List[str]], jobs: int) -> None:
+    """Runs commands, so many at a time, and shows what each printed when it has ended."""
+    def run(command: List[str]) -> Tuple[int, List[str]]:
+        done = subprocess.run(command, stdin=subprocess.DEVNULL, stdout=subprocess.PIPE, stderr=subprocess.STDOUT,
+                              text=True, errors="replace", check=False)
+        what = " ".join(os.path.relpath(word, ROOT) if word.startswith(ROOT) else word for word in command)
+        print(f"{what}\n{done.stdout}", end="", flush=True)
+        return done.returncode, done.stdout.splitlines()
+
+    with ThreadPoolExecutor(jobs) as pool:
+        for command, (status, lines) in zip(commands, pool.map(run, commands)):
+            add(" ".join(command), status, lines)
+
+
+if __name__ == "__main__":
+    in_turn(sys.argv[1:])
+    sys.exit(finish())

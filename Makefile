@@ -13,6 +13,7 @@
 #     make lib
 #     make bench
 #     make quick
+#     make check
 #
 # PREFIX is where they are to be used, /usr/local where nothing is said. DESTDIR is put before each path, for whoever
 # makes a package. `make dist` writes out/sllink-VERSION-linux-ARCHITECTURE.tar.gz, whose folders bin and share work
@@ -54,7 +55,7 @@ CALLS = crates/sl_c/out/libsl_c.a
 HEAP = $(dir $(shell rt doc 2> /dev/null))c/liblibc_c.a
 OBJCOPY = objcopy
 
-.PHONY: all install uninstall built pages dist deb wheel lib bench quick
+.PHONY: all install uninstall built pages dist deb wheel lib bench quick check
 .SILENT: install uninstall dist deb wheel
 
 all: pages
@@ -191,3 +192,9 @@ bench:
 # Runs all tests without proving anything.
 quick:
 	for crate in sl_tests sl_link_tests sllink; do (cd crates/$$crate && rt try --test) || exit 1; done
+
+# The gate, then the program, and all that is tried on it. The last line counts both.
+RT = rt
+check:
+	@unset MAKEFLAGS MFLAGS MAKELEVEL; python3 -B tests/lib/counts.py "$(RT) ci" \
+	  "(cd crates/sllink && $(RT) run -- --version) && tests/all"

@@ -158,8 +158,8 @@ def shuffled(it: Asked) -> Iterator[bytes]:
                   for turn, left in enumerate(ends))
 
 
-def exchanged(it: Asked) -> Iterator[bytes]:
-    unlike = Unlike(it)
+def exchanged(it: Asked, marks: bytes) -> Iterator[bytes]:
+    unlike = Unlike(it, marks)
     cut = unlike.number // 2 * it.side
     return framed(chain(unlike.span(cut, unlike.number), unlike.span(0, cut)))
 
@@ -360,9 +360,11 @@ SHAPES = {name: Shape(kind, ("--scid", "1", *words.split()) * (kind != "paths"),
         ("reversed", lambda it: Unlike(it).framed(1 - 2 * it.side),
          f"{ALL}, all in both, the second time from the last one on"),
         ("shuffled", shuffled, f"{ALL}, all in both, the second time in another order"),
-        ("exchanged", exchanged, f"{ALL}, all in both, the second time the second half first"),
+        ("exchanged", lambda it: exchanged(it, bytes(SOME)), f"{ALL}, all in both, then the second half first"),
         ("every-second", lambda it: Unlike(it, bytes([0, 1 + it.side]) * (SOME // 2)).framed(),
          f"{ALL}, every second one in both"),
+        ("every-second-exchanged", lambda it: exchanged(it, bytes([0, 1 + it.side]) * (SOME // 2)),
+         f"{ALL}, every second one in both, then the second half first"),
         ("far-between", far_between, f"{ALL}, one in 4097 in both, a little farther on the second time"),
         ("counts-at-random", counts_at_random, "packets of one APID, of which the second recording lacks one in ten"),
         ("apids-apart", apids_apart, "another APID in each recording, and one packet in 4000 of a third one in both"),

@@ -36,8 +36,8 @@
 
 typedef uint8_t octet;
 
-enum { CHUNK = 1 << 16, LONGEST_FRAME = 2048, LONGEST_PACKET = 65542, LONGEST_LINE = 256 };
-enum verb { SHOW, CHECK, PACKETS, NORMALISE };
+enum { PAGE = 4096, CHUNK = 1 << 16, LONGEST_FRAME = 2048, LONGEST_PACKET = 65542, LONGEST_LINE = 256 };
+enum verb { SHOW, CHECK, PACKETS, NORMALISE, JOIN };    /* JOIN is `normalise` with packets end to end */
 enum kind { TM, TC };
 
 /* The managed parameters. */
@@ -95,9 +95,9 @@ static void make_digits(void)
 {
     for (int n = 0; n < 100; n++) pairs[n][0] = (char)('0' + n / 10), pairs[n][1] = (char)('0' + n % 10);
     for (int n = 0; n < 256; n++) {
-        char text[12] = {0};
-        small_width[n] = (octet)snprintf(text, sizeof text, "%d", n);
-        memcpy(small_text[n].text, text, 4);
+        int width = n < 10 ? 1 : n < 100 ? 2 : 3;
+        small_width[n] = (octet)width;
+        for (int rest = n, at = width; at--; rest /= 10) small_text[n].text[at] = (char)('0' + rest % 10);
     }
 }
 
@@ -363,16 +363,18 @@ ALWAYS void put_crc(octet *frame, size_t covered)
 
 /* ---- Input ---- */
 
-static octet in[LONGEST_FRAME + CHUNK];
-static size_t held;                                     /* octets of the buffer that wait */
+/* The system copies fastest to where a page begins, so what is read comes there. What waits lies right before it. */
+static octet buffer[PAGE + CHUNK] __attribute__((aligned(PAGE)));
+static const octet *in = buffer + PAGE;                 /* where the octets that wait begin */
+static size_t held;                                     /* how many these are */
 static uint64_t octets_read;
 
-/* Reads more behind the octets from here on, which move to the front. False at the end. */
+/* Reads more behind the octets from here on, which go on waiting: less than a frame. False at the end. */
 NEVER bool read_more(const octet *rest, size_t octets)
 {
-    memmove(in, rest, octets);
+    in = memmove(buffer + PAGE - octets, rest, octets);
     if (end_of_output != out) write_out();
-    ssize_t got = read(0, in + octets, CHUNK);
+    ssize_t got = read(0, buffer + PAGE, CHUNK);
     if (got < 0) stop(3, "read");
     octets_read += (uint64_t)got;
     if (octets_read > managed.limit) stop(3, "too long");
@@ -408,7 +410,7 @@ NEVER void grow(struct list *it, size_t wanted)
 ALWAYS void add(struct list *it, const octet *from, size_t octets)
 {
     size_t at = it->size + it->more;
-    if (UNLIKELY(at + octets > it->room)) grow(it, at + octets);
+    if (UNLIKELY(at + octets >= it->room)) grow(it, at + octets + 1);
     memcpy(it->octets + at, from, octets);
     it->more += octets;
 }
@@ -426,23 +428,12 @@ NEVER void add_vector(struct list *it, const octet *packet, size_t octets)
     it->vectors[it->number++] = vector;
 }
 
-/* Keeps a packet that isn't idle, which lies elsewhere. */
-ALWAYS void keep(struct list *it, const octet *packet, size_t octets)
+/* Adds whole packets to the joined ones, where none is incomplete. */
+ALWAYS void join(struct list *it, const octet *from, size_t octets)
 {
-    if (store == JOINED) {
-        add(it, packet, octets);
-        it->size += it->more, it->more = 0;
-    } else {
-        add_vector(it, packet, octets);
-    }
-}
-
-/* Keeps the incomplete packet, which has become whole. */
-ALWAYS void keep_incomplete(struct list *it)
-{
-    if (store == JOINED) it->size += it->more;
-    else add_vector(it, it->octets + it->size, it->more);
-    it->more = 0;
+    if (UNLIKELY(!octets)) return;
+    add(it, from, octets);
+    it->size += octets, it->more = 0;
 }
 
 /* The packets of a list, one after another: the next one from this place on, or none. */
@@ -540,22 +531,7 @@ ALWAYS void deliver(enum verb verb, struct channel *it, const octet *packet, uns
     }
     totals.packets++;
     if (verb == PACKETS) print_packet(TM, here.vc, 0, packet, octets);
-    if (verb == NORMALISE) keep(&it->list, packet, octets);
-}
-
-/* The incomplete packet has become whole. */
-ALWAYS void deliver_incomplete(enum verb verb, struct channel *it)
-{
-    if (is_idle(it->header)) {
-        totals.idle++;
-        it->list.more = 0;
-    } else {
-        totals.packets++;
-        if (verb == PACKETS) print_packet(TM, here.vc, 0, it->list.octets, it->length);
-        if (verb == NORMALISE) keep_incomplete(&it->list);
-        else it->list.more = 0;
-    }
-    it->octets = 0;
+    if (verb == NORMALISE) add_vector(&it->list, packet, octets);
 }
 
 /* Adds octets of the field to the incomplete packet. */
@@ -565,6 +541,23 @@ ALWAYS void go_on(enum verb verb, struct channel *it, const octet *field, unsign
     it->octets += octets;
 }
 
+/* The incomplete packet becomes whole with these octets. True where they are to be joined to it yet. */
+ALWAYS bool end_incomplete(enum verb verb, struct channel *it, const octet *field, unsigned octets)
+{
+    bool idle = is_idle(it->header);
+    if (idle) {
+        totals.idle++;
+    } else {
+        totals.packets++;
+        if (verb == JOIN) it->list.size += it->list.more;
+        if (verb == PACKETS || verb == NORMALISE) add(&it->list, field, octets);
+        if (verb == PACKETS) print_packet(TM, here.vc, 0, it->list.octets, it->length);
+        if (verb == NORMALISE) add_vector(&it->list, it->list.octets, it->length);
+    }
+    it->octets = it->list.more = 0;
+    return verb == JOIN && !idle;
+}
+
 /* Goes on with the incomplete packet. Where its header isn't whole yet, octets of the field complete it. */
 ALWAYS void complete_header(struct channel *it, const octet *field, unsigned octets)
 {
@@ -572,20 +565,28 @@ ALWAYS void complete_header(struct channel *it, const octet *field, unsigned oct
     if (it->octets + octets >= 6) it->length = length_of(it->header);
 }
 
-/* The packets that start in a field, from a first start on. */
-ALWAYS void start(enum verb verb, struct channel *it, const octet *field, unsigned at, unsigned octets)
+/* The packets that start in a field, from a first start on. Those to be joined lie from `joint` on. */
+ALWAYS void start(enum verb verb, struct channel *it, const octet *field, unsigned joint, unsigned at, unsigned octets)
 {
     while (at < octets) {
         unsigned left = octets - at;
         const octet *packet = field + at;
         if (UNLIKELY(is_foreign(*packet))) {
             if (verb == CHECK) tm_line(" foreign vc ", 12, 0, false);
-            return;
+            break;
         }
         if (LIKELY(left >= 6)) {
             unsigned length = length_of(packet);
             if (length <= left) {
-                deliver(verb, it, packet, length);
+                if (verb != JOIN) {
+                    deliver(verb, it, packet, length);
+                } else if (LIKELY(!is_idle(packet))) {
+                    totals.packets++;
+                } else {
+                    totals.idle++;
+                    join(&it->list, field + joint, at - joint);
+                    joint = at + length;
+                }
                 at += length;
                 continue;
             }
@@ -595,21 +596,28 @@ ALWAYS void start(enum verb verb, struct channel *it, const octet *field, unsign
             it->length = 0;
             memcpy(it->header, packet, left);
         }
-        go_on(verb, it, packet, left);
+        if (verb == JOIN) {
+            add(&it->list, field + joint, octets - joint);
+            it->list.size += at - joint, it->list.more = it->octets = left;
+        } else {
+            go_on(verb, it, packet, left);
+        }
         return;
     }
+    if (verb == JOIN) join(&it->list, field + joint, at - joint);
 }
 
 /* A packet frame: its field, and the pointer or 2047. */
 ALWAYS void packet_frame(enum verb verb, struct channel *it, const octet *field, unsigned octets, unsigned pointer)
 {
+    unsigned joint = pointer;
     if (it->octets) {
         if (UNLIKELY(!it->length)) complete_header(it, field, octets);
         if (it->length && it->length - it->octets <= octets) {
             unsigned end = it->length - it->octets;
             if (LIKELY(pointer == (end == octets ? 2047 : end))) {
-                go_on(verb, it, field, end);
-                deliver_incomplete(verb, it);
+                if (end_incomplete(verb, it, field, end)) joint = 0;
+                if (UNLIKELY(pointer == 2047) && joint == 0) join(&it->list, field, end);
             } else {
                 drop(verb, it);
             }
@@ -619,7 +627,7 @@ ALWAYS void packet_frame(enum verb verb, struct channel *it, const octet *field,
             drop(verb, it);
         }
     }
-    if (pointer != 2047) start(verb, it, field, pointer, octets);
+    if (pointer != 2047) start(verb, it, field, joint, pointer, octets);
 }
 
 /* The reason to skip a frame, or none. */
@@ -773,18 +781,30 @@ static void add_idle(unsigned octets)
     add_packet(idle, octets);
 }
 
+/* Joined packets are the data fields, end to end. Which packets start in a frame is read once it has been copied. */
+static void add_joined(const struct list *it)
+{
+    for (size_t at = 0, next = 0; at < it->size; at += form.room) {
+        size_t part = it->size - at < form.room ? it->size - at : form.room, end = at + part;
+        begin_frame();
+        if (LIKELY(next < end)) form.frame[4] = 0x18 | (octet)((next - at) >> 8), form.frame[5] = (octet)(next - at);
+        memcpy(form.frame + 6, it->octets + at, part);
+        while (next < end) next += length_of(it->octets + next);
+        form.at = (unsigned)part;
+        if (LIKELY(part == form.room)) end_frame();
+    }
+}
+
 static void write_tm_form(void)
 {
     form.room = managed.tm_length - 6 - 2 * managed.tm_fecf;
     for (form.vc = 0; form.vc < 8; form.vc++) {
         struct list *it = &channels[form.vc].list;
         form.vcc = 0;
-        size_t place = 0;
-        for (const octet *packet; (packet = packet_at(it, place));) {
-            unsigned octets = length_of(packet);
-            add_packet(packet, octets);
-            if (store == FREED) free(it->vectors[place]);
-            place = place_after(place, octets);
+        if (store == JOINED) add_joined(it);
+        for (size_t i = 0; i < it->number; i++) {
+            add_packet(it->vectors[i], length_of(it->vectors[i]));
+            if (store == FREED) free(it->vectors[i]);
         }
         if (form.at) {
             unsigned least = form.room - form.at;
@@ -944,18 +964,28 @@ ALWAYS void tc_deliver(enum verb verb, struct series *it, unsigned map, const oc
     }
     totals.packets++;
     if (verb == PACKETS) print_packet(TC, here.vc, map, packet, octets);
-    if (verb == NORMALISE) keep(&it->list, packet, octets);
+    if (verb == NORMALISE) add_vector(&it->list, packet, octets);
 }
 
 /* Delivers the packets at the front of a service data unit, which lies elsewhere than the list. */
 ALWAYS void front_packets(enum verb verb, struct series *it, unsigned map, const octet *at, unsigned octets)
 {
+    const octet *joint = at;                            /* where those begin that are to be joined */
     while (octets >= 7 && LIKELY(!is_foreign(*at))) {
         unsigned length = length_of(at);
         if (UNLIKELY(length > octets)) break;
-        tc_deliver(verb, it, map, at, length);
+        if (verb != JOIN) {
+            tc_deliver(verb, it, map, at, length);
+        } else if (LIKELY(!is_idle(at))) {
+            totals.packets++;
+        } else {
+            totals.idle++;
+            join(&it->list, joint, (size_t)(at - joint));
+            joint = at + length;
+        }
         at += length, octets -= length;
     }
+    if (verb == JOIN) join(&it->list, joint, (size_t)(at - joint));
     if (UNLIKELY(octets) && verb == CHECK) tc_line(" tail", map, octets, true);
 }
 
@@ -975,7 +1005,7 @@ static void end_kept(enum verb verb, struct series *it, unsigned map)
             totals.packets++;
             if (verb == PACKETS) {
                 print_packet(TC, here.vc, map, at, length);
-            } else if (store == JOINED) {
+            } else if (verb == JOIN) {
                 if (to != at) memmove(to, at, length);
                 to += length, list->size += length;
             } else {
@@ -1249,8 +1279,9 @@ static void run(enum verb verb, enum kind kind)
     case SHOW: EACH(SHOW); break;
     case CHECK: EACH(CHECK); write_totals(); break;
     case PACKETS: EACH(PACKETS); break;
-    case NORMALISE:
-        EACH(NORMALISE);
+    default:
+        if (store == JOINED) EACH(JOIN);
+        else EACH(NORMALISE);
         if (kind == TM) write_tm_form();
         else write_tc_form();
     }

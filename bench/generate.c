@@ -1,19 +1,20 @@
 /* Writes a recording to measure with: the same octets for the same words.
  *
  *     cc -O3 -o generate bench/generate.c
- *     generate tm|tmfecf|tc|tcfecf|tcsmall|tcsmallfecf OCTETS SEED > RECORDING
+ *     generate tm|tmfecf|tc|tcfecf|tcsmall|tcsmallfecf OCTETS SEED [LENGTH] > RECORDING
  *
- * The recording has this many octets or up to one frame more. Its spacecraft is 1.
+ * The recording has this many octets or up to one frame more. Its spacecraft is 1. LENGTH is another length of TM
+ * frames, 32 to 2048, or another greatest length of TC frames, 16 to 1024.
  *
  * TM: frames of 1115 octets with an operational control field, a CLCW, on the virtual channels 0, 1 and 2, six, three
  * and one in ten. One frame in eleven is idle. Packets lie end to end over the packet frames of their channel. One frame
  * in a thousand is lost.
  *
  * TC: frames of at most 1024 octets, of `tcsmall` 64, on the virtual channels 0, 1 and 2, six, three and one in ten, and
- * on the MAPs 0 to 3. Of ten units seven have one packet or more with no segmentation, and the others are a series of
- * segments, of up to four times the room. Seven units in a hundred come in frames of type BD. Of a hundred frames one is
- * Unlock, and one in two hundred Set V(R) to V(R). One frame of type AD in a thousand is lost: the next one of its
- * channel comes early, and both are sent again.
+ * on the MAPs 0 to 3. Of 1,000 things sent 685 are one packet or more with no segmentation, one in ten of these of type
+ * BD; 300 are a series of segments with more than one has room for, up to four times that; ten are Unlock, and five Set
+ * V(R) to V(R). One frame of type AD in a thousand is lost: the next one of its channel comes early, and both are sent
+ * again.
  *
  * Packets have 7 to 99 octets, 100 to 699 or 700 to 2000, four, four and two in ten; where there is less room, 7 octets
  * up to that. One in fifteen is idle. With `fecf` frames have an error control field, and one frame in three thousand
@@ -27,7 +28,7 @@
 
 typedef uint8_t octet;
 
-enum { TM_LENGTH = 1115, CONTROL = 4, SPACECRAFT = 1 };
+enum { LONGEST = 2048, CONTROL = 4, SPACECRAFT = 1 };
 
 static uint64_t state;
 
@@ -123,10 +124,10 @@ static struct {
     octet count;
 } channels[3];
 
-static void tm(uint64_t octets)
+static void tm(uint64_t octets, unsigned length)
 {
-    octet frame[TM_LENGTH], master = 0;
-    unsigned room = TM_LENGTH - 6 - CONTROL - 2 * fecf;
+    octet frame[LONGEST], master = 0;
+    unsigned room = length - 6 - CONTROL - 2 * fecf;
     while (written < octets) {
         unsigned vc = lot(), pointer = 2047, at = 0;
         bool is_idle = !below(11);
@@ -145,7 +146,7 @@ static void tm(uint64_t octets)
         frame[4] = (octet)(0x18 | pointer >> 8), frame[5] = (octet)pointer;
         octet *word = frame + 6 + room;
         word[0] = 1, word[1] = (octet)(lot() << 2), word[2] = (octet)(below(4) << 1), word[3] = master;
-        if (below(1000)) write_frame(frame, TM_LENGTH, damages());
+        if (below(1000)) write_frame(frame, length, damages());
     }
 }
 
@@ -229,17 +230,20 @@ static void tc(uint64_t octets, unsigned longest)
 int main(int count, char **given)
 {
     static const char *const sets[] = {"tm", "tmfecf", "tc", "tcfecf", "tcsmall", "tcsmallfecf"};
+    bool is_right = count == 4 || count == 5;
     int set = 0;
-    while (count == 4 && set < 6 && strcmp(given[1], sets[set])) set++;
-    if (count != 4 || set == 6) {
-        fputs("usage: generate tm|tmfecf|tc|tcfecf|tcsmall|tcsmallfecf OCTETS SEED > RECORDING\n", stderr);
+    while (is_right && set < 6 && strcmp(given[1], sets[set])) set++;
+    unsigned length = set < 2 ? 1115 : set < 4 ? 1024 : 64;
+    if (count == 5) length = (unsigned)strtoul(given[4], NULL, 10);
+    if (!is_right || set == 6 || length < (set < 2 ? 32 : 16) || length > (set < 2 ? LONGEST : 1024)) {
+        fputs("usage: generate tm|tmfecf|tc|tcfecf|tcsmall|tcsmallfecf OCTETS SEED [LENGTH] > RECORDING\n", stderr);
         return 2;
     }
     uint64_t octets = strtoull(given[2], NULL, 10);
     state = strtoull(given[3], NULL, 10) * 0xD1342543DE82EF95 + (uint64_t)set;
     fecf = set & 1;
     make_words();
-    if (set < 2) tm(octets);
-    else tc(octets, set < 4 ? 1024 : 64);
+    if (set < 2) tm(octets, length);
+    else tc(octets, length);
     return fflush(stdout) ? 1 : 0;
 }

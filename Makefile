@@ -94,7 +94,6 @@ install: pages
 	  $(INSTALL) -m 644 "$(LIBRARIES)/libsllink.a" "$(LIBRARIES)/$(SONAME)" "$(DESTDIR)$(LIB)" && \
 	  ln -sf $(SONAME) "$(DESTDIR)$(LIB)/libsllink.so"; \
 	fi
-	echo "sllink is installed under $(DESTDIR)$(PREFIX)"
 
 # The library for C: what the kit builds of the calls, with its way to the heap, as one file in which the calls alone can
 # be seen from outside.
@@ -133,7 +132,7 @@ SUMS = cd "$(OUT)" && for it in *.tar.gz *.deb *.whl; do [ ! -e "$$it" ] || sha2
 
 dist: built
 	rm -rf "$(OUT)/$(PACKED)" "$(OUT)/$(PACKED).tar.gz"
-	$(MAKE) -s install PREFIX= DESTDIR="$(OUT)/$(PACKED)" > /dev/null
+	$(MAKE) -s install PREFIX= DESTDIR="$(OUT)/$(PACKED)"
 	python/wheel "$(OUT)/$(PACKED)" > /dev/null
 	tar -C "$(OUT)" --sort=name --mtime="@$(SOURCE_DATE_EPOCH)" --mode=u=rwX,go=rX --owner=0 --group=0 --numeric-owner \
 	  -cf - "$(PACKED)" | gzip -9n > "$(OUT)/$(PACKED).tar.gz"
@@ -156,7 +155,7 @@ DOC = $(ROOM)/usr/share/doc/sllink
 deb: built
 	command -v dpkg-deb > /dev/null || { echo "dpkg-deb isn't there; 'make dist' makes a tarball" >&2; exit 1; }
 	rm -rf "$(ROOM)" "$(ROOM).deb"
-	$(MAKE) -s install PREFIX=/usr DESTDIR="$(ROOM)" > /dev/null
+	$(MAKE) -s install PREFIX=/usr DESTDIR="$(ROOM)"
 	gzip -9n "$(ROOM)/usr/share/man/man1/"*.1
 	$(INSTALL) -d "$(ROOM)/DEBIAN" "$(ROOM)/usr/lib/python3/dist-packages" "$(DOC)"
 	ln -s ../../../share/sllink/python/sllink "$(ROOM)/usr/lib/python3/dist-packages/sllink"

@@ -14,7 +14,7 @@ reads the recording in this process.
 `identify` says what the recording of a path is, and with which options it is read; the program isn't run.
 
 OSError: the recording can't be opened, or the output not written. SllinkError: the program refused something or
-stopped. What came before it is the beginning of the listing.
+stopped, or Options would be refused. What came before it is the beginning of the listing.
 """
 
 __version__ = "1.0.0"

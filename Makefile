@@ -173,8 +173,8 @@ deb: built
 	  " the space packets in them. It lists the frames, checks the recording, lists its" \
 	  " packets, or writes its normal form, by which two recordings are compared." \
 	  " ." \
-	  " The tools around it, and their module, want Python 3. Where the library for C was" \
-	  " built, it is there too." > "$(ROOM)/DEBIAN/control"
+	  " The tools around it, and their module, want Python 3. Where the library for C" \
+	  " was built, it is there too." > "$(ROOM)/DEBIAN/control"
 	printf '%s\n' '#!/bin/sh' 'set -e' 'find /usr/share/sllink -name __pycache__ -prune -exec rm -rf {} +' \
 	  > "$(ROOM)/DEBIAN/prerm"
 	chmod 644 "$(DOC)"/* "$(ROOM)/DEBIAN/control"

@@ -36,7 +36,8 @@
 
 typedef uint8_t octet;
 
-enum { PAGE = 4096, CHUNK = 1 << 16, LONGEST_FRAME = 2048, LONGEST_PACKET = 65542, LONGEST_LINE = 256 };
+enum { PAGE = 4096, CHUNK = 1 << 16, MAPPED = 1 << 18, LONGEST_FRAME = 2048, LONGEST_PACKET = 65542 };
+enum { LONGEST_LINE = 256 };                            /* without the octets of a packet */
 enum verb { SHOW, CHECK, PACKETS, NORMALISE, JOIN };    /* JOIN is `normalise` with packets end to end */
 enum kind { TM, TC };
 
@@ -64,8 +65,8 @@ NEVER _Noreturn void stop(int status, const char *why)
 
 /* ---- Output ---- */
 
-/* The longest line is that of a packet of 65,542 octets. */
-static octet out[2 * LONGEST_PACKET + LONGEST_LINE + CHUNK];
+/* Less than a chunk waits when a line or a frame is added. The longest line is that of a packet of 65,542 octets. */
+static octet out[CHUNK + 2 * LONGEST_PACKET + LONGEST_LINE];
 static octet *end_of_output = out;
 
 NEVER void write_out(void)
@@ -78,10 +79,10 @@ NEVER void write_out(void)
     end_of_output = out;
 }
 
-/* A place for this many octets. */
-ALWAYS octet *room_for(size_t octets)
+/* A place for a line or a frame. */
+ALWAYS octet *next_place(void)
 {
-    if (UNLIKELY((size_t)(out + sizeof out - end_of_output) < octets)) write_out();
+    if (UNLIKELY(end_of_output >= out + CHUNK)) write_out();
     return end_of_output;
 }
 
@@ -397,13 +398,14 @@ struct list {
     size_t number, most;
 };
 
+/* What has outgrown a page gets room of its own from the system, which grows without a copy and takes memory only as
+ * octets come. */
 NEVER void grow(struct list *it, size_t wanted)
 {
-    size_t room = it->room < 4096 ? 4096 : it->room * 2;
-    while (room < wanted) room *= 2;
-    it->octets = realloc(it->octets, room);
+    it->room = !it->room ? PAGE : it->room < MAPPED ? MAPPED : it->room * 2;
+    while (it->room < wanted) it->room *= 2;
+    it->octets = realloc(it->octets, it->room);
     if (!it->octets) stop(3, "memory");
-    it->room = room;
 }
 
 /* Adds octets to the incomplete packet. */
@@ -447,7 +449,7 @@ ALWAYS size_t place_after(size_t place, unsigned octets) { return store == JOINE
 
 NEVER void print_packet(enum kind kind, unsigned vc, unsigned map, const octet *packet, unsigned octets)
 {
-    octet *at = TEXT(room_for(LONGEST_LINE + 2 * (size_t)octets), "vc ");
+    octet *at = TEXT(next_place(), "vc ");
     at = put_octet(at, vc);
     if (kind == TC) at = put_octet(TEXT(at, " map "), map);
     at = put_number(TEXT(at, " apid "), (packet[0] & 7u) << 8 | packet[1]);
@@ -468,7 +470,7 @@ NEVER void print_packet(enum kind kind, unsigned vc, unsigned map, const octet *
 /* ---- Lines ---- */
 
 /* A line that begins with an offset. */
-#define LINE(offset, literal) TEXT(put_offset(room_for(LONGEST_LINE), offset), literal)
+#define LINE(offset, literal) TEXT(put_offset(next_place(), offset), literal)
 
 ALWAYS void end_line(octet *at) { *at = '\n', end_of_output = at + 1; }
 
@@ -500,7 +502,7 @@ static struct frame_place {
 
 NEVER void tm_line(const char *text, size_t width, uint64_t octets, bool has_octets)
 {
-    octet *at = put_offset(room_for(LONGEST_LINE), here.offset);
+    octet *at = put_offset(next_place(), here.offset);
     memcpy(at, text, width);
     at = put_octet(at + width, here.vc);
     if (has_octets) at = put_any(TEXT(at, " octets "), octets);
@@ -749,7 +751,7 @@ static struct {
 ALWAYS void begin_frame(void)
 {
     unsigned word = managed.spacecraft << 4 | form.vc << 1;
-    octet *frame = form.frame = room_for(managed.tm_length);
+    octet *frame = form.frame = next_place();
     frame[0] = (octet)(word >> 8), frame[1] = (octet)word, frame[2] = form.mc++, frame[3] = form.vcc++;
     frame[4] = 0x1F, frame[5] = 0xFF;
 }
@@ -835,7 +837,7 @@ static const char *const VERDICTS[] = {"accept", "early", "late", "outside", "re
 
 NEVER void verdict_line(enum verdict verdict, unsigned ns)
 {
-    octet *at = put_offset(room_for(LONGEST_LINE), here.offset);
+    octet *at = put_offset(next_place(), here.offset);
     size_t width = strlen(VERDICTS[verdict]);
     *at++ = ' ';
     memcpy(at, VERDICTS[verdict], width);
@@ -846,7 +848,7 @@ NEVER void verdict_line(enum verdict verdict, unsigned ns)
 
 NEVER void tc_line(const char *word, unsigned map, uint64_t octets, bool has_octets)
 {
-    octet *at = put_offset(room_for(LONGEST_LINE), here.offset);
+    octet *at = put_offset(next_place(), here.offset);
     size_t width = strlen(word);
     memcpy(at, word, width);
     at = put_octet(TEXT(at + width, " vc "), here.vc);
@@ -1164,7 +1166,7 @@ ALWAYS void tc_frames(enum verb verb, bool fecf)
 ALWAYS void write_tc_frame(unsigned vc, octet ns, int header, const octet *from, unsigned octets)
 {
     unsigned covered = 5 + (header >= 0) + octets, length = covered + 2 * managed.tc_fecf;
-    octet *frame = room_for(length), *at = frame + 5;
+    octet *frame = next_place(), *at = frame + 5;
     frame[0] = (octet)(managed.spacecraft >> 8), frame[1] = (octet)managed.spacecraft;
     frame[2] = (octet)(vc << 2 | (length - 1) >> 8), frame[3] = (octet)(length - 1), frame[4] = ns;
     if (header >= 0) *at++ = (octet)header;
@@ -1205,7 +1207,7 @@ static void write_tc_form(void)
 
 static void write_totals(void)
 {
-    octet *at = put_any(TEXT(room_for(LONGEST_LINE), "frames "), totals.frames);
+    octet *at = put_any(TEXT(next_place(), "frames "), totals.frames);
     at = put_any(TEXT(at, " skipped "), totals.skipped);
     at = put_any(TEXT(at, " packets "), totals.packets);
     at = put_any(TEXT(at, " idle "), totals.idle);

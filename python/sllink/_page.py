@@ -1,13 +1,13 @@
 """Parts of a page in HTML: what is shown is escaped here, and nowhere else."""
 
 from html import escape
-from typing import Iterable, List, Optional, Sequence, Union
+from typing import Iterable, List, Optional, Sequence, Tuple, Union
 
 from ._check_words import MARKS
 from ._picture import STYLE
 
 Value = Union[str, int]
-MOST_ROWS = 300                                           # of a table
+MOST_ROWS = 300                                           # of a table; of the others there is the number
 
 LOOK = """
 :root{color-scheme:light dark;--page:#fff;--ink:#16191d;--soft:#59636e;--line:#d3d9df;--shade:#f3f5f7;--good:#1a7f37;
@@ -51,10 +51,12 @@ dl.facts{display:grid;grid-template-columns:max-content 1fr;gap:.125rem 1rem}
 dl.facts dt{color:var(--soft)}dl.facts dd{margin:0;overflow-wrap:anywhere}
 pre{background:var(--code);padding:.75rem 1rem;overflow-x:auto;max-height:28rem}
 summary{cursor:pointer}
-.pass{display:block;width:100%;height:auto;min-width:860px}main .pass .page{fill:none}
+svg.pass{display:block;width:100%;height:auto;min-width:860px}main .pass .page{fill:none}
+figcaption{display:flex;flex-wrap:wrap;gap:.25rem 1.25rem;font-size:.8125rem}
+figcaption span{display:flex;gap:.375rem}figcaption svg{flex:none;margin-top:.125rem}
 @media(max-width:40rem){main{padding:1.25rem .875rem 2rem}h1{font-size:1.375rem}dl.facts{grid-template-columns:1fr}
 dl.facts dd{margin-bottom:.375rem}.verdict{font-size:1rem}}
-@media print{.scroll{overflow:visible}.pass{min-width:0}pre{max-height:none;white-space:pre-wrap}}
+@media print{.scroll{overflow:visible}svg.pass{min-width:0}pre{max-height:none;white-space:pre-wrap}}
 """
 
 # The picture where the page is dark.
@@ -64,7 +66,7 @@ DARK = "".join(["""
 .pass .on-light{fill:#000}.pass .lost{fill:#ff7a6b}
 """, *(f".pass .m-{what}{{fill:{look.dark}}}" for what, look in MARKS.items()), """
 .pass path.m-dropped{fill:none;stroke:#ff7a6b}
-.pass .c-skip{fill:#e05c7a}.pass .c-first,.pass .c-command{fill:#2f8fd0}
+.pass .c-skip{fill:#e05c7a}.pass .c-first,.pass .c-command{fill:#1f7fc4}.pass .c-none{fill:#b5dcf5}
 .pass .rest-back{fill:#14171a}.pass .rest-line{fill:#a3adb8}.pass .f-Lockout{fill:#ff7a6b}}
 """])
 
@@ -104,9 +106,11 @@ def scrolled(what: str, inner: str) -> str:
     return f'<div class="scroll" role="region" tabindex="0" aria-label="{escape(what)}">{inner}</div>'
 
 
-def figure(what: str, svg: str) -> str:
-    """A picture."""
-    return f"<figure>{scrolled(what, svg)}</figure>"
+def figure(what: str, svg: str, keys: Iterable[Tuple[str, Sequence[str]]]) -> str:
+    """A picture, and below it a legend, words with a swatch before each, which isn't scrolled."""
+    sign = '<svg role="img" aria-label="its sign" width="18" height="18" viewBox="-1 -13 18 18">'
+    words = "".join(f"<span>{sign}{''.join(swatch)}</svg>{escape(name)}</span>" for name, swatch in keys)
+    return f'<figure>{scrolled(what, svg)}<figcaption class="pass">{words}</figcaption></figure>'
 
 
 class Table:
@@ -119,6 +123,7 @@ class Table:
         self.losses, self.names, self.words = set(losses), set(names), set(words)
         self.rows: List[Sequence[Optional[Value]]] = []
         self.sums: Optional[Sequence[Optional[Value]]] = None
+        self.left = 0                                     # rows that are left out, as far as they are known
 
     def sum_up(self) -> None:
         """Gives the table a last row with the sums of its amounts."""
@@ -131,8 +136,8 @@ class Table:
         head = "".join(f'<th scope="col"{self._class(name, None)}>{escape(name)}</th>' for name in self.heads)
         body = "".join(self._row(row) for row in self.rows[:MOST_ROWS])
         foot = f"<tfoot>{self._row(self.sums)}</tfoot>" if self.sums and len(self.rows) > 1 else ""
-        left = len(self.rows) - MOST_ROWS
-        more = paragraph(f"{left:,} more rows are left out.", "note") if left > 0 else ""
+        left = self.left + max(0, len(self.rows) - MOST_ROWS)
+        more = paragraph(f"and {left:,} more", "note") if left else ""
         return scrolled(self.name, f"<table><thead><tr>{head}</tr></thead><tbody>{body}</tbody>{foot}</table>") + more
 
     def _row(self, row: Sequence[Optional[Value]]) -> str:

@@ -4,7 +4,7 @@ from typing import Dict, List, NamedTuple, Sequence, Set, Tuple
 from xml.sax.saxutils import escape, quoteattr
 
 from ._check_words import CELLED, MARKS
-from ._survey import BINS, FLAGS, NOT_READ, SPOTS, Cell, Mark, Survey
+from ._survey import ABOUT, BINS, FLAGS, MARKED, NOT_READ, Cell, Mark, Survey
 from ._svg import box, text, width
 
 WIDTH, LEFT, MARGIN, ENDS = 1100, 120, 24, 104            # of the picture, the labels, the right margin, the rows' ends
@@ -12,7 +12,7 @@ CELL, MARK, BAR, SPACE = 26, 14, 6, 16                    # heights: of a cell, 
 FULL = 10                                                 # frames that a cell of several has at least, as a rule
 WIDEST = 12                                               # stretches that are taken together for that, at most
 FEW = 120                                                 # frames of a row whose stretches aren't taken together
-MARKED = 120                                              # stretches of a long recording in which marks are joined
+MOST = 1_100_000                                          # octets of the rows; what is drawn is coarser until they fit
 THINNEST = 3                                              # of what has to be seen
 LEAST = 0.3                                               # of the height of a cell that has frames
 
@@ -56,28 +56,40 @@ class Sign(NamedTuple):
 
 
 class Picture:
-    """A picture of a survey. Pictures on one page want an `ident` each, and `heading` False where the page has one."""
+    """A picture of a survey. Pictures on one page want an `ident` each, and `heading` False where the page has heading
+    and legend. They all end at the same place."""
 
     def __init__(self, survey: Survey, ident: str = "rest", heading: bool = True) -> None:
         self.survey, self.ident, self.heading = survey, ident, heading
-        ends = survey.gaps or any(what == "open" for _, what in survey.marks)
+        ends = not heading or survey.gaps or any(what == "open" for _, what in survey.marks)
         self.right = WIDTH - (ENDS if ends else MARGIN)   # where the cells end
         self.used: Set[str] = set()
+        self.coarse = 1                                   # stretches in which marks are joined
 
     def draw(self) -> str:
         """The picture as SVG."""
-        survey, parts, y = self.survey, [], 8
+        parts, y = (self._heading(), 82) if self.heading else ([], 8)
+        drawn, end = self._rows(y)
+        parts += drawn + self._axis(end)
+        height = end + 28
         if self.heading:
-            parts, y = self._heading(), 82
-        rows = survey.rows()
-        if survey.rest and NOT_READ not in rows:
+            drawn, height = self._legend(end + 50)
+            parts += drawn
+        return self._document(parts, height)
+
+    def _rows(self, top: int) -> Tuple[List[str], int]:
+        """The rows, coarser where they would be too many octets."""
+        rows, parts, y, octets = self.survey.rows(), [], top, 0
+        if self.survey.rest and NOT_READ not in rows:
             rows.append(NOT_READ)
         for row in rows:
             drawn, y = self._row(row, y)
             parts += drawn
-        parts += self._axis(y)
-        drawn, height = self._legend(y + 50)
-        return self._document(parts + drawn, height)
+            octets += sum(map(len, drawn))
+            if octets > MOST and not self.survey.is_short:
+                self.coarse *= 2
+                return self._rows(top)
+        return parts, y
 
     def _heading(self) -> List[str]:
         survey = self.survey
@@ -89,7 +101,7 @@ class Picture:
 
     def x(self, offset: float) -> float:
         """Where an offset lies."""
-        return LEFT + (self.right - LEFT) * min(offset, self.survey.size) / max(self.survey.size, 1)
+        return LEFT + (self.right - LEFT) * min(offset, self.survey.span) / self.survey.span
 
     def _row(self, row: int, y: int) -> Tuple[List[str], int]:
         survey = self.survey
@@ -98,11 +110,11 @@ class Picture:
         flags = [flag for flag in FLAGS if (row, flag) in survey.bars]
         self.used |= set(found) | set(flags) | set(survey.of_row(row))
         y += MARK * len(levels)
-        parts = [box(LEFT, y, self.right - LEFT, CELL, "row"),
+        parts = [box(LEFT, y, self.x(survey.size) - LEFT, CELL, "row"),
                  f'<path class="line" d="M{LEFT} {y + CELL + 0.5}H{self.right}"/>']
         for level, what in enumerate(levels):
             parts += self._marks(row, what, y - MARK * (len(levels) - level) + MARK / 2 - 1)
-        parts += self._short_cells(row, y) if survey.is_short() else self._long_cells(row, y)
+        parts += self._short_cells(row, y) if survey.is_short else self._long_cells(row, y)
         if row == NOT_READ and survey.rest:
             parts.append(self._rest(y))
         for level, flag in enumerate(flags):
@@ -157,7 +169,7 @@ class Picture:
     def _long_cells(self, row: int, y: int) -> List[str]:
         """Cells of several frames. The fullest cell of the row has the whole height."""
         kinds = {what: numbers for (of, what), numbers in self.survey.bins.items() if of == row}
-        joined = stretches_for(sum(sum(numbers) for numbers in kinds.values()))
+        joined = stretches_for(sum(sum(numbers) for numbers in kinds.values())) * self.coarse
         cells: Dict[int, Dict[str, int]] = {}
         for what in (what for what in CELLS if what in kinds):
             for stretch, number in enumerate(kinds[what]):
@@ -168,7 +180,7 @@ class Picture:
         return [self._long_cell(row, place * joined, joined, cell, most, y) for place, cell in sorted(cells.items())]
 
     def _long_cell(self, row: int, stretch: int, joined: int, cell: Dict[str, int], most: int, y: float) -> str:
-        start, end = stretch * self.survey.size / BINS, (stretch + joined) * self.survey.size / BINS
+        start, end = (min(at * self.survey.span / BINS, self.survey.size) for at in (stretch, stretch + joined))
         x, number, top = self.x(start), sum(cell.values()), y + CELL
         wide = max(self.x(end) - x, THINNEST if joined == 1 else 1) - (1 if joined > 2 else 0)
         height = CELL * (1 if row == NOT_READ else LEAST + (1 - LEAST) * number / most)
@@ -183,13 +195,21 @@ class Picture:
     def _rest(self, y: int) -> str:
         offset, octets = self.survey.rest or (0, 0)
         self.used.add("rest")
-        x = min(self.x(offset), self.right - THINNEST)
-        swatch = f'<rect x="{x:.2f}" y="{y}" width="{self.right - x:.2f}" height="{CELL}" fill="url(#{self.ident})"/>'
+        right = self.x(offset + octets)
+        x = min(self.x(offset), right - THINNEST)
+        swatch = f'<rect x="{x:.2f}" y="{y}" width="{right - x:.2f}" height="{CELL}" fill="url(#{self.ident})"/>'
         return f"<g><title>{offset} rest {octets}</title>{swatch}</g>"
 
     def _bars(self, row: int, flag: str, y: float) -> List[str]:
-        parts = []
+        joined: List[List[int]] = []
+        near = 2 * (self.coarse - 1) * self.survey.span // BINS
         for start, end in self.survey.bars[row, flag]:
+            if joined and start - joined[-1][1] < near:
+                joined[-1][1] = end
+            else:
+                joined.append([start, end])
+        parts = []
+        for start, end in joined:
             bar = box(self.x(start), y, max(self.x(end) - self.x(start), 1), BAR - 2, "f-" + flag.split()[0])
             parts.append(f"<g><title>{flag}: octets from {start} to {end}</title>{bar}</g>")
         return parts
@@ -201,46 +221,49 @@ class Picture:
         if what == "gap":
             words = sums_beside(marks, follow)
         else:
-            words = [mark.words if all(free) and self.survey.is_short() else "" for mark in marks]
+            words = [mark.words if all(free) and self.survey.is_short else "" for mark in marks]
         return [part for mark, said in zip(marks, words) for part in sign(what, mark._replace(words=said), y)]
 
     def _joined(self, marks: Dict[int, Mark]) -> List[Mark]:
-        """The marks of a long recording, a few to a stretch."""
-        if self.survey.is_short():
+        """The marks of a row, of a long recording one to a stretch, with fewer lines where stretches are long."""
+        if self.survey.is_short:
             return [marks[spot] for spot in sorted(marks)]
         joined: Dict[int, Mark] = {}
+        long = self.survey.span * self.coarse
         for spot in sorted(marks):
-            mark, place = marks[spot], spot * MARKED // SPOTS
-            into = joined.setdefault(place, Mark((2 * place + 1) * self.survey.size // (2 * MARKED)))
+            mark, place = marks[spot], spot // self.coarse
+            into = joined.setdefault(place, Mark((2 * place + 1) * long // (2 * MARKED)))
             into.number += mark.number
             into.lost += mark.lost
-            into.lines += mark.lines[:max(0, 3 - len(into.lines))]
+            into.lines += mark.lines[:max(0, ABOUT // self.coarse - len(into.lines))]
         return list(joined.values())
 
     def _sign(self, what: str, mark: Mark) -> Sign:
-        more = [f".. {mark.number} lines"] if mark.number > len(mark.lines) else []
+        left = mark.number - len(mark.lines)
+        more = [f"and {left:,} more" if mark.lines else f"lines: {left:,}"] if left else []
         words = ""
         if what == "gap":
             more.append(f"frames lost: {mark.lost}")
-        elif mark.number == 1:
+        elif mark.number == 1 and mark.lines:
             last = mark.lines[0].split()
             words = f"{last[-1]} octets" if "octets" in last else " ".join(last[4:])
-        x = self.x(mark.offset) + (5 if self.survey.is_short() else 0)
+        x = self.x(mark.offset) + (5 if self.survey.is_short else 0)
         return Sign(x, words, "\n".join(mark.lines + more), mark.lost)
 
     def _axis(self, y: int) -> List[str]:
         step = 1
-        while self.survey.size / step > 12:
+        while self.survey.span / step > 12:
             step = step * 2 if str(step)[0] in "15" else step * 5 // 2
         parts = [f'<path class="axis" d="M{LEFT} {y}H{self.right}"/>']
-        for offset in range(0, self.survey.size + 1, step):
-            x = self.x(offset)
+        for offset in range(0, self.survey.span + 1, step):
+            x, words = self.x(offset), f"{offset:,}"
             parts.append(f'<path class="axis" d="M{x:.1f} {y}v5"/>')
-            x = min(x, WIDTH - 4 - width(str(offset), 10) / 2)
-            parts.append(text(x, y + 18, str(offset), anchor="middle", size=10))
+            x = min(x, WIDTH - 4 - width(words, 10) / 2)
+            parts.append(text(x, y + 18, words, anchor="middle", size=10))
         return parts + [text(LEFT - 10, y + 18, "offset", anchor="end", size=10)]
 
-    def _legend(self, y: int) -> Tuple[List[str], int]:
+    def keys(self) -> List[Tuple[str, List[str]]]:
+        """What the legend of a picture that is drawn has: words, and the swatch before them."""
         reasons = ", ".join(f"{reason} {number}" for reason, number in self.survey.reasons.most_common())
         items = []
         for what in (what for what in CELLS if what in self.used):
@@ -248,18 +271,25 @@ class Picture:
             items.append((words, [f'<rect y="-9" width="16" height="11" fill="url(#{self.ident})"/>' if what == "rest"
                                   else box(0, -9, 16, 11, "c-" + what)]))
         items += [(MARKS[what].words, sign(what, Sign(8), -4)) for what in MARKS if what in self.used]
-        items += [(flag, [box(0, -6, 16, BAR - 2, "f-" + flag.split()[0])]) for flag in FLAGS if flag in self.used]
+        return items + [(flag, [box(0, -6, 16, BAR - 2, "f-" + flag.split()[0])]) for flag in FLAGS
+                        if flag in self.used]
+
+    def note(self) -> str:
+        """What the cells of a long recording are."""
+        return "" if self.survey.is_short else ("A cell is several frames, divided by what they are; in each row the "
+                                                "cell with the most of them has the whole height.")
+
+    def _legend(self, y: int) -> Tuple[List[str], int]:
         parts, x = [], float(LEFT)
-        for words, swatch in items:
+        for words, swatch in self.keys():
             wide = 24 + width(words, 12) + 18
             if x + wide > WIDTH and x > LEFT:
                 x, y = LEFT, y + 20
             parts.append(f'<g transform="translate({x:.1f} {y})">{"".join(swatch)}{text(24, 0, words)}</g>')
             x += wide
-        if not self.survey.is_short():
+        if self.note():
             y += 22
-            parts.append(text(LEFT, y, "A cell is several frames, divided by what they are; in each row the cell with"
-                                       " the most of them has the whole height.", kind="soft"))
+            parts.append(text(LEFT, y, self.note(), kind="soft"))
         return parts, y + 18
 
     def _document(self, parts: Sequence[str], height: int) -> str:

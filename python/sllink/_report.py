@@ -2,7 +2,7 @@
 
 import hashlib
 import os
-from typing import Dict, List, Optional, Sequence, Tuple
+from typing import Counter, List, Optional, Sequence, Tuple
 
 from ._check_words import meaning_of
 from ._compare.difference import Key
@@ -10,25 +10,31 @@ from ._compare.store import Packets, room
 from ._page import Table, facts, figure, folded, heading, listing, page, paragraph, verdict
 from ._picture import Picture
 from ._questions import questions
-from ._survey import MOST_LINES, MOST_LOCKOUTS, Survey
-from ._tally import MOST_RUNS, Lacks, Missing, Tally
-from ._verdict import lost_frames, missing_counts, number_of, said, said_of_two
+from ._survey import MOST_LINES, MOST_LOCKOUTS, Reports, Survey
+from ._tally import MOST_APIDS, MOST_RUNS, Lacks, Missing, Tally
+from ._verdict import listed, lost_frames, missing_counts, number_of, said, said_of_two
 from .tool import about, shown
 
 JUMPS = "A jump is a packet sequence count that isn't the one that comes next, modulo 16384. Idle packets are left out."
 SEVERAL = (" Some APIDs come on more than one channel or MAP. Where their counts go on from one to another, there are "
            "jumps though no packet is missing.")
+FIRST = f" Only the {MOST_APIDS:,} APIDs of channels that come first are counted each. The sums are those of all."
 MISSING = ("Missing counts are known by the virtual channel frame counts, modulo 256 at each gap, and none are known "
            "before the first frame and after the last one. The picture has them beside the marks of gaps.")
+
+MOST_CLCWS = 12                                           # pairs of channels that are all shown
+FLAGS = {"lockout": "Lockout", "wait": "Wait", "retransmit": "Retransmit", "no RF": "No RF Available",
+         "no bit lock": "No Bit Lock"}
 
 
 class Recording:
     """All that a page has of a recording, and the name that it goes by on the page. With `kept` its packets are kept
-    there."""
+    there; `span` are the octets of its picture, where it has fewer."""
 
-    def __init__(self, kind: str, path: str, options: Sequence[str], kept: Optional[Packets] = None) -> None:
+    def __init__(self, kind: str, path: str, options: Sequence[str], kept: Optional[Packets] = None,
+                 span: int = 0) -> None:
         with about(path):
-            self.survey = Survey(kind, path, options)
+            self.survey = Survey(kind, path, options, span)
             self.tally = Tally(kind, path, options, kept)
         self.digest = digest_of(path)
         self.survey.state.require_unchanged()
@@ -58,7 +64,8 @@ def report_of_two(kind: str, paths: Sequence[str], options: Sequence[Sequence[st
     """The page of two recordings, each with its options."""
     with room("sllink-report") as folder:
         here, there = (Packets(os.path.join(folder, side)) for side in "ab")
-        one, other = (Recording(kind, *its) for its in zip(paths, options, (here, there)))
+        span = max(map(os.path.getsize, paths))           # the pictures have one scale
+        one, other = (Recording(kind, *its, span) for its in zip(paths, options, (here, there)))
         lacks = Lacks(here, there, folder)
     name_apart(one, other, paths)
     asked = [f"{it.name}: {question}" for it in (one, other) for question in questions(it.survey)]
@@ -101,7 +108,9 @@ def facts_of(it: Recording) -> List[Tuple[str, str]]:
 
 def pictured(it: Recording, ident: str) -> str:
     """The picture of a recording."""
-    return figure(f"Picture of {it.name}", Picture(it.survey, ident, heading=False).draw())
+    picture = Picture(it.survey, ident, heading=False)
+    drawn = figure(f"Picture of {it.name}", picture.draw(), picture.keys())
+    return drawn + (paragraph(picture.note(), "note") if picture.note() else "")
 
 
 def tables(it: Recording, level: int) -> List[str]:
@@ -111,7 +120,7 @@ def tables(it: Recording, level: int) -> List[str]:
     elif it.survey.kind == "tm":
         parts = [heading(level, "Channels"), *channels_tm(it.survey)]
         if it.survey.reports:
-            parts += [heading(level, "CLCWs in the downlink"), clcws(it.survey)]
+            parts += [heading(level, "CLCWs in the downlink"), *clcws(it.survey)]
     else:
         parts = [heading(level, "Channels"), channels_tc(it.survey)]
         parts += [heading(level, "FARM-1 at the end of the uplink"), farms(it.survey), *lockouts(it.survey)]
@@ -192,15 +201,29 @@ def lockouts(survey: Survey) -> List[str]:
     return [folded(first + number_of(number, "lockout"), table.html())]
 
 
-def clcws(survey: Survey) -> str:
-    """The CLCWs that a downlink carries."""
-    flags = {"lockout": "Lockout", "wait": "Wait", "retransmit": "Retransmit", "no RF": "No RF Available",
-             "no bit lock": "No Bit Lock"}
-    table = Table("CLCWs", ["Virtual channel", "of TC channel", "CLCWs", "First V(R)", "Last V(R)", *flags.values()],
-                  [*flags.values()], ["of TC channel", "First V(R)", "Last V(R)"])
-    for (vc, link_vc), it in sorted(survey.reports.items()):
-        table.rows.append([vc, link_vc, it.number, it.first & 255, it.last & 255, *(it.having(flag) for flag in flags)])
-    return table.html()
+def clcws(survey: Survey) -> List[str]:
+    """The CLCWs that a downlink carries. Of many channels those whose flags aren't those of most, and all at wish."""
+    reports = sorted(survey.reports.items())
+    if len(reports) <= MOST_CLCWS:
+        return [clcws_of(reports).html()]
+    flags = [tuple(name for flag, name in FLAGS.items() if it.having(flag)) for _, it in reports]
+    usual, number = Counter(flags).most_common(1)[0]
+    others = sorted((it for it, its in zip(reports, flags) if its != usual), key=lambda it: -it[1].number)
+    table = clcws_of(sorted(others[:MOST_CLCWS]))
+    table.left = len(others[MOST_CLCWS:])
+    what = f"{listed(usual)} set at times" if usual else "no flag set"
+    words = f"Of {len(reports)} pairs of channels, {number} have {what}."
+    words += f" The others{' with the most CLCWs' if table.left else ''}:" if others else ""
+    return [paragraph(words), *[table.html()] * bool(others), folded(f"All {len(reports)}", clcws_of(reports).html())]
+
+
+def clcws_of(reports: Sequence[Tuple[Tuple[int, int], Reports]]) -> Table:
+    """A table of CLCWs."""
+    table = Table("CLCWs", ["Virtual channel", "of TC channel", "CLCWs", "First V(R)", "Last V(R)", *FLAGS.values()],
+                  [*FLAGS.values()], ["of TC channel", "First V(R)", "Last V(R)"])
+    for (vc, link_vc), it in reports:
+        table.rows.append([vc, link_vc, it.number, it.first & 255, it.last & 255, *map(it.having, FLAGS)])
+    return table
 
 
 def packets(tally: Tally) -> List[str]:
@@ -211,11 +234,13 @@ def packets(tally: Tally) -> List[str]:
     losses = ["Jumps", "Missing by the counts"]
     heads = ["Virtual channel", *["MAP"] * with_map, "APID", "Packets", *losses, "Octets", "First count", "Last count"]
     table = Table("Packets", heads, losses, ["MAP", "APID", "First count", "Last count"])
-    for key, it in sorted(tally.counts.items()):
-        table.rows.append([*columns(key, with_map), it.packets, it.jumps, it.missing, it.octets, it.first, it.last])
+    for it in [*sorted(tally.counts.values(), key=lambda it: it.key), tally.others]:
+        table.rows.append([*columns(it.key, with_map), it.packets, it.jumps, it.missing, it.octets, it.first, it.last])
     table.sum_up()
+    table.rows.pop()                                      # the others
+    table.left = tally.others.number
     several = len({apid for _, _, apid in tally.counts}) < len(tally.counts)
-    return [table.html(), paragraph(JUMPS + SEVERAL * several, "note")]
+    return [table.html(), paragraph(JUMPS + SEVERAL * several + FIRST * bool(table.left), "note")]
 
 
 def columns(key: Key, with_map: bool) -> List[int]:
@@ -247,9 +272,11 @@ def lacked(one: Recording, other: Recording, lacks: Lacks) -> List[str]:
     table = differing(one, other, lacks)
     if table.rows:
         parts.append(table.html())
+    if not lacks.are_all_known():
+        parts.append(paragraph(f"Only the {MOST_APIDS:,} APIDs of channels that come first are counted each.", "note"))
     for it, missing in (one, lacks.only_other), (other, lacks.only_one):
         parts += runs(it, missing, lacks)
-    if lacks.moved:
+    if lacks.moved.total:
         parts.append(paragraph(f"The packets in another order are on {', '.join(lacks.reordered())}. They are in the "
                                "runs of each recording.", "note"))
     return parts
@@ -262,13 +289,11 @@ def differing(one: Recording, other: Recording, lacks: Lacks) -> Table:
     last = [f"Lacked by {name}" for name in names]
     heads = ["Virtual channel", *["MAP"] * with_map, "APID", *(f"Packets in {name}" for name in names), *last]
     table = Table("APIDs with missing packets", heads, last, ["MAP", "APID"])
-    missing: Tuple[Missing, Missing] = (lacks.only_other, lacks.only_one)
-    counts: Tuple[Dict[Key, int], ...] = tuple(
-        {key: count.packets for key, count in it.tally.counts.items()} for it in (one, other))
-    for key in sorted({*missing[0].packets, *missing[1].packets}):
-        numbers = [of.packets[key] - lacks.moved[key] for of in missing]
+    missing = lacks.only_other, lacks.only_one
+    for key in sorted({*missing[0].each, *missing[1].each}):
+        numbers = [lacks.of(of, key) for of in missing]
         if any(numbers):
-            table.rows.append([*columns(key, with_map), *(of.get(key, 0) for of in counts), *numbers])
+            table.rows.append([*columns(key, with_map), *(it.tally.of(key) for it in (one, other)), *numbers])
     return table
 
 
@@ -281,7 +306,7 @@ def runs(it: Recording, missing: Missing, lacks: Lacks) -> List[str]:
     """The packets that a recording lacks, or has in another order, in runs of the sequence count."""
     if not missing.number:
         return [paragraph(f"{it.name} lacks no packet of the other.")]
-    number, moved = lacks.total(missing), sum(lacks.moved.values())
+    number, moved = lacks.total(missing), lacks.moved.total
     words = f"{it.name} lacks {number_of(number, 'packet') if number else 'no packet'}"
     words += f" and has {moved:,} in another order" if moved else ""
     words += f", in {number_of(missing.number, 'run')} of the sequence count"

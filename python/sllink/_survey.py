@@ -15,9 +15,9 @@ from ._program import blocks
 from ._state import State
 from .tool import shown
 
-BINS = 480                                                # stretches of a recording, in which frames are counted
-SPOTS = 960                                               # stretches in which anomalies are counted
-MOST_CELLS = 480                                          # with more frames than this their lines aren't kept
+BINS = 480                                                # stretches of a picture, in which frames are counted
+SPOTS, MARKED = 960, 120                                  # those in which anomalies are counted; of a long recording
+MOST_CELLS = 480                                          # with more frames in a picture their lines aren't kept
 MOST_LINES = 200                                          # lines of `check` that are kept
 MOST_LOCKOUTS = 100                                       # lockouts that are kept
 ABOUT = 3                                                 # lines that are kept of the anomalies of one stretch
@@ -38,13 +38,15 @@ MOST_KNOWN = 1 << 15                                      # lines of `show tc` t
 
 
 class Cell(NamedTuple):
-    """A frame of a short recording, or what is left after the last one."""
+    """A frame of a short recording, and the flags of FARM-1 that are set after it; or what is left after the last
+    one."""
 
     row: int
     what: str
     words: str
     start: int
     line: str
+    flags: int = 0
 
 
 def cell_of(kind: str, line: str) -> Cell:
@@ -55,8 +57,9 @@ def cell_of(kind: str, line: str) -> Cell:
         return Cell(NOT_READ, what, words[2], start, line)
     if kind == "tm":
         return Cell(int(words[3]), words[8], words[7], start, line)
-    it, content = Command.of(line.partition(" frame ")[2]), words[4]
-    return Cell(it.row, it.what, f"{content} {it.number}" if content in ("ad", "setvr") else content, start, line)
+    it, said = Command.of(line.partition(" frame ")[2]), words[4]
+    said = f"{said} {it.number}" if said in ("ad", "setvr") else said
+    return Cell(it.row, it.what, said, start, line, it.flags)
 
 
 class Command(NamedTuple):
@@ -86,6 +89,8 @@ class Commands(Dict[bytes, Tuple[Command, List[int]]]):
         self._bins = bins
 
     def __missing__(self, line: bytes) -> Tuple[Command, List[int]]:
+        if len(self) == MOST_KNOWN:
+            self.clear()
         command = Command.of(line.decode())
         self[line] = it = command, self._bins[command.row, command.what]
         return it
@@ -147,13 +152,14 @@ class Reports:
 
 
 class Survey:
-    """What `show` and `check` have for a recording."""
+    """What `show` and `check` have for a recording, in a picture of its octets, or of more of them, `span`."""
 
-    def __init__(self, kind: str, recording: str, options: Sequence[str]) -> None:
+    def __init__(self, kind: str, recording: str, options: Sequence[str], span: int = 0) -> None:
         self.state = State(recording)
         self.kind, self.recording, self.options = kind, recording, list(options)
         self.name = shown(os.path.basename(recording))
         self.size = self.state.size
+        self.span = max(span, self.size, 1)               # a recording that grows may be empty at first
         self.frames = self.skipped = self.packets = self.idle = 0
         self.anomalies: Counter[str] = collections.Counter()        # lines of `check` by their words
         self.reasons: Counter[str] = collections.Counter()          # skipped frames by the reason
@@ -161,24 +167,25 @@ class Survey:
         self.marks: Dict[Tuple[int, str], Dict[int, Mark]] = defaultdict(dict)
         self.gaps: Dict[int, Gaps] = defaultdict(Gaps)
         self.rest: Optional[Tuple[int, int]] = None       # offset and octets of the remainder
-        self._check()
-        self.cells: List[Cell] = []                       # of a short recording
+        self.cells: List[Cell] = []                       # of a short recording, in which each frame has one
         self.bins: Dict[Tuple[int, str], List[int]] = defaultdict(lambda: [0] * BINS)   # frames by row and class
         self.bars: Dict[Tuple[int, str], List[List[int]]] = defaultdict(list)   # where a flag of FARM-1 is set
         self.farms: Dict[int, str] = {}                   # the last CLCW of FARM-1 by channel
         self.lockouts: List[Lockout] = []
         self.lockouts_of: Counter[int] = collections.Counter()
         self.reports: Dict[Tuple[int, int], Reports] = {}
-        self._begun: Dict[Tuple[int, str], int] = {}
-        self._locked: Dict[int, Lockout] = {}
-        self._flags: Dict[int, int] = defaultdict(int)    # those of FARM-1 that are set, by channel
+        self._locked: Dict[int, Lockout] = {}             # those that are kept and haven't ended, by channel
+        self._flags: Dict[int, int] = {}                  # those of FARM-1 that are set, by channel
+        self._until = 0                                   # the offset up to which `bars` are
         self._commands = Commands(self.bins)
         self._show()
+        self.is_short = sum(cell.what != "rest" for cell in self.cells) * self.span <= MOST_CELLS * self.size
+        if self.is_short:
+            self._follow_cells()
+        else:
+            self.cells.clear()
+        self._check()
         self.state.require_unchanged()
-
-    def is_short(self) -> bool:
-        """Whether each frame has a cell."""
-        return self.frames <= MOST_CELLS
 
     def rows(self) -> List[int]:
         """The virtual channels that have frames, and NOT_READ after them where frames are skipped."""
@@ -189,17 +196,17 @@ class Survey:
         return {what: sum(numbers) for (of, what), numbers in self.bins.items() if of == row}
 
     def place(self, offset: int, stretches: int) -> int:
-        """The stretch in which an offset lies, where the recording is divided into this number."""
-        return min(offset * stretches // max(self.size, 1), stretches - 1)
+        """The stretch in which an offset lies, where the picture is divided into this number."""
+        return min(offset * stretches // self.span, stretches - 1)
 
     def _divided(self, block: bytes, stretches: int) -> Iterator[Tuple[int, bytes]]:
         """The lines of a block by the stretch in which their offsets lie. Offsets don't fall."""
-        start, size = 0, max(self.size, 1)                # a recording that grows may be empty at first
+        start = 0
         while start < len(block):
             stretch = self.place(offset_at(block, start), stretches)
             end = len(block)
             if stretch < stretches - 1:
-                end = line_from(block, start, -(-(stretch + 1) * size // stretches))
+                end = line_from(block, start, -(-(stretch + 1) * self.span // stretches))
             yield stretch, block[start:end]
             start = end
 
@@ -211,7 +218,7 @@ class Survey:
                 block = block[:last]
             if len(self.first_lines) < MOST_LINES:
                 self.first_lines += block.decode().splitlines()[:MOST_LINES - len(self.first_lines)]
-            for spot, piece in self._divided(block, SPOTS):
+            for spot, piece in self._divided(block, SPOTS if self.is_short else MARKED):
                 self._anomalies(spot, piece)
 
     def _anomalies(self, spot: int, piece: bytes) -> None:
@@ -242,15 +249,14 @@ class Survey:
     def _show(self) -> None:
         add = self._add_tm if self.kind == "tm" else self._add_tc
         for block in blocks("show", self.kind, self.recording, self.options):
-            if self.is_short():
-                self.cells += [cell_of(self.kind, line) for line in block.decode().splitlines()]
+            few = block.split(b"\n", MOST_CELLS + 2 - len(self.cells))[:-1]     # one more than a short one has
+            self.cells += [cell_of(self.kind, line.decode()) for line in few]
             for stretch, piece in self._divided(block, BINS):
                 skipped = piece.count(b" skip ")
                 if skipped:
                     self.bins[NOT_READ, "skip"][stretch] += skipped
                 add(stretch, piece)
-        for (row, flag), start in self._begun.items():
-            self._bar(row, flag, start, self.size)
+        self._raise(self._flags, self._until, self.size)
 
     def _add_tm(self, stretch: int, piece: bytes) -> None:
         """Adds lines of `show tm` that lie in one stretch."""
@@ -270,68 +276,66 @@ class Survey:
 
     def _add_tc(self, stretch: int, piece: bytes) -> None:
         """Adds lines of `show tc` that lie in one stretch."""
-        known, now = self._commands, self._flags
-        if len(known) > MOST_KNOWN:
-            known.clear()
-        found = SHOWN_TC.findall(piece)
-        changes = False                                   # of flags, and lockouts
+        known, now, found = self._commands, self._flags, SHOWN_TC.findall(piece)
+        start, end = (min(at * self.span // BINS, self.size) for at in (stretch, stretch + 1))
+        self._raise(now, self._until, start)
+        seen: Dict[int, int] = {}                         # flags that are set somewhere in it, by channel
         refused: List[Tuple[int, int]] = []
-        rows = set()
+        changes = False                                   # of lockouts that are kept
         for line, times in collections.Counter(found).items():
             it, numbers = known[line]
             numbers[stretch] += times
-            rows.add(it.row)
-            if it.flags != now[it.row] or it.what == "outside":
-                changes = True
-            elif it.what == "refused":
-                refused.append((it.row, times))
-        for line in reversed(found):
-            it, _ = known[line]
-            if it.row in rows:
-                rows.remove(it.row)
-                self.farms[it.row] = it.digits
-                if not rows:
-                    break
+            seen[it.row] = seen.get(it.row, 0) | it.flags
+            if it.what == "outside":
+                self.lockouts_of[it.row] += times
+                changes = changes or len(self.lockouts) < MOST_LOCKOUTS
+            elif it.row in self._locked:
+                changes = changes or not it.flags & FLAGS["Lockout flag"]
+                refused += [(it.row, times)] * (it.what == "refused")
+        self._raise({**now, **seen}, start, end)
+        self._until = end
         if changes:
             self._follow([known[line][0] for line in found], piece)
         else:
             for row, times in refused:
                 self._locked[row].refused += times
+        for line in reversed(found):
+            it, _ = known[line]
+            if it.row in seen:
+                del seen[it.row]
+                self.farms[it.row], now[it.row] = it.digits, it.flags
+                if not seen:
+                    break
 
     def _follow(self, commands: Sequence[Command], piece: bytes) -> None:
-        """Follows the flags of FARM-1, frame by frame."""
-        now = self._flags
+        """Follows the lockouts that are kept, frame by frame."""
         for it, start in zip(commands, OFFSET_TC.findall(piece)):
-            if it.what == "outside":
-                self._lockout(it.row, int(start), it.number)
-            elif it.what == "refused":
-                self._locked[it.row].refused += 1
-            if it.flags != now[it.row]:
-                self._change(it.row, int(start), now[it.row], it.flags)
-                now[it.row] = it.flags
+            if it.what == "outside" and len(self.lockouts) < MOST_LOCKOUTS:
+                self._locked[it.row] = Lockout(it.row, int(start), it.number)
+                self.lockouts.append(self._locked[it.row])
+            elif it.row in self._locked:
+                if it.what == "refused":
+                    self._locked[it.row].refused += 1
+                elif not it.flags & FLAGS["Lockout flag"]:
+                    self._locked.pop(it.row).end = int(start)
 
-    def _lockout(self, row: int, start: int, number: str) -> None:
-        self._locked[row] = Lockout(row, start, number)
-        self.lockouts_of[row] += 1
-        if len(self.lockouts) < MOST_LOCKOUTS:
-            self.lockouts.append(self._locked[row])
+    def _follow_cells(self) -> None:
+        """Follows the flags of FARM-1 of a short recording, frame by frame."""
+        self.bars.clear()
+        now: Dict[int, int] = {}
+        for cell, end in zip(self.cells, [*(cell.start for cell in self.cells[1:]), self.size]):
+            now[cell.row] = cell.flags
+            self._raise(now, cell.start, end)
 
-    def _change(self, row: int, start: int, before: int, flags: int) -> None:
-        """Flags of a channel are set, or set no longer."""
-        for flag, bit in FLAGS.items():
-            if flags & ~before & bit:
-                self._begun[row, flag] = start
-            elif before & ~flags & bit:
-                self._bar(row, flag, self._begun.pop((row, flag)), start)
-        if before & ~flags & FLAGS["Lockout flag"]:
-            self._locked.pop(row).end = start
-
-    def _bar(self, row: int, flag: str, start: int, end: int) -> None:
-        bars = self.bars[row, flag]                       # those that come close to each other are one
-        if bars and self.place(start, SPOTS) == self.place(bars[-1][1], SPOTS):
-            bars[-1][1] = end
-        else:
-            bars.append([start, end])
+    def _raise(self, flags: Dict[int, int], start: int, end: int) -> None:
+        """Adds the octets between two offsets to those where these flags are set."""
+        for row, those in flags.items() if start < end else ():
+            for flag in (flag for flag, bit in FLAGS.items() if those & bit):
+                bars = self.bars[row, flag]
+                if bars and bars[-1][1] >= start:
+                    bars[-1][1] = end
+                else:
+                    bars.append([start, end])
 
 
 def offset_at(block: bytes, start: int) -> int:

@@ -100,7 +100,7 @@ def said_of_two(one: Any, other: Any, lacks: Lacks) -> str:
     numbers = lacks.total(lacks.only_other), lacks.total(lacks.only_one)
     if not any(numbers):
         return f"The recordings deliver the same packets in another order, on {listed(lacks.reordered())}."
-    moved = sum(lacks.moved.values())
+    moved = lacks.moved.total
     return ("The recordings deliver different packets: "
             f"{one.name} lacks {some(numbers[0])} of the {there:,} in {other.name}, and "
             f"{other.name} lacks {some(numbers[1])} of the {here:,} in {one.name}."

@@ -188,8 +188,8 @@ def difference(kind: str, a: Recording, b: Recording, options: Words, b_options:
     packet that both have, but in another order, is in a run of each. The packets are compared by BLAKE2b of 128 bits.
     Options aren't held against the recordings.
 
-    Both are read before the first run comes. 20 octets a packet are kept in a folder among the temporary files, in
-    $TMPDIR, which is deleted at the end. OSError: also that there is no room for them.
+    Both are read before the first run comes. 20 to 44 octets a packet are kept in a folder among the temporary files,
+    in $TMPDIR, which is deleted at the end. OSError: also that there is no room for them.
     """
     try:
         with room("sllink") as folder:
@@ -197,7 +197,7 @@ def difference(kind: str, a: Recording, b: Recording, options: Words, b_options:
             for side, recording, of in zip(sides, (a, b), (options, options if b_options is None else b_options)):
                 with packet_lines(kind, recording, of, program) as listing:
                     side.take(listing, kind)
-            yield from Difference(sides, folder).runs()
+            yield from Difference(sides, folder, by_apid=False).runs()
     except Refused as reason:
         raise OSError(str(reason)) from None
 

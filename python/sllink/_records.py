@@ -218,9 +218,13 @@ class Run(Line):
 
     def __str__(self) -> str:
         channel = f"vc {self.vc}" if self.map is None else f"vc {self.vc} map {self.map}"
-        first, last = self.counts
-        counts = str(first) if self.packets == 1 else f"{first}..{last}"
-        return f"{self.side} {channel} apid {self.apid} counts {counts} packets {self.packets}"
+        return run_line(self.side, channel, self.apid, *self.counts, self.packets)
+
+
+def run_line(side: str, channel: str, apid: int, first: int, last: int, packets: int) -> str:
+    """The line of a Run."""
+    counts = first if packets == 1 else f"{first}..{last}"
+    return f"{side} {channel} apid {apid} counts {counts} packets {packets}"
 
 
 # From the words of a line.

@@ -2,6 +2,7 @@
 
 import os
 import signal
+import sys
 from contextlib import ExitStack, closing
 from hashlib import blake2b
 from itertools import islice
@@ -11,7 +12,6 @@ from .. import SllinkError, lines, normal_form
 from .._check_words import CHECK_WORDS
 from .._program import packet_lines
 from .._questions import contradicted, doubted, unanswered
-from .._records import Run
 from ..tool import Refused, about, shown
 from .difference import Difference, Hunk, Runs
 from .store import Channel, Packets, room
@@ -158,7 +158,7 @@ class Listing:
                  differ: Callable[[], None]) -> None:
         self.words, self.union, self.differ = words, union, differ
         self.sides = [packets_of(words, checked[side], side, folder) for side in (0, 1)]
-        self.difference = Difference(self.sides, folder)
+        self.difference = Difference(self.sides, folder, by_apid=False)
 
     def same(self) -> bool:
         """Goes through the channels; whether the packets are the same."""
@@ -169,40 +169,28 @@ class Listing:
 
     def _channel(self, channel: Channel, same: bool) -> bool:
         alike, runs = True, Runs(channel)
-        with ExitStack() as files:
-            listed, united = [[self._lines(side, channel, files) for side in self.sides] for _ in range(2)]
-            for hunk in self.difference.hunks(channel):
-                if not hunk.both and alike and same:
+        listed, united = [[side.lines(channel) for side in self.sides] for _ in range(2)]
+        for hunk in self.difference.hunks(channel):
+            if not hunk.both:
+                if alike and same:
                     self.differ()
-                alike = alike and hunk.both > 0
-                self._print(hunk, listed, runs)
-                if self.union:
-                    unite(self.union, hunk, united)
-        print_all(runs.end())
+                alike = False
+            if self.words.hex:
+                self._print(hunk, listed)
+            elif not hunk.both:
+                sys.stdout.writelines(map(runs.line, runs.of(hunk)))
+            if self.union:
+                unite(self.union, hunk, united)
+        sys.stdout.writelines(map(runs.line, runs.end()))
         return alike
 
     @staticmethod
-    def _lines(side: Packets, channel: Channel, files: ExitStack) -> Iterator[bytes]:
-        """The lines of the packets of a channel, where they are kept."""
-        path = side.path(channel, "lines")
-        return files.enter_context(open(path, "rb")) if os.path.exists(path) else iter(())
-
-    def _print(self, hunk: Hunk, listed: List[Iterator[bytes]], runs: Runs) -> None:
-        """Prints what only one recording has."""
-        if not self.words.hex:
-            runs.add_all(hunk)
-            print_all(runs.take())
-            return
-        for side, only in enumerate(hunk.only):
+    def _print(hunk: Hunk, listed: List[Iterator[bytes]]) -> None:
+        """Prints the lines of what only one recording has."""
+        for side, (_, new) in enumerate(hunk.only):
             skip(listed[side], hunk.both)
-            for line in islice(listed[side], len(only)):
+            for line in islice(listed[side], len(new)):
                 print(f"{'<>'[side]} {line.decode()}", end="")
-
-
-def print_all(some: List[Run]) -> None:
-    """Prints runs."""
-    for it in some:
-        print(it)
 
 
 def unite(union: Union, hunk: Hunk, lines_of: List[Iterator[bytes]]) -> None:

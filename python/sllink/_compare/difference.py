@@ -2,17 +2,18 @@
 
 import collections
 from collections import deque
-from contextlib import closing
-from typing import Counter, Deque, Dict, Iterator, List, NamedTuple, Sequence, Tuple
+from typing import Counter, Deque, Dict, Iterator, List, NamedTuple, OrderedDict, Sequence, Tuple
 
-from .._records import Run
+from .._records import Run, run_line
 from .alignment import hunks
-from .store import FAR, RECORD, Channel, Packets, Records
+from .store import FAR, FIELDS, RECORD, Channel, Packets
 
 COUNTS = 16384                                            # of the packet sequence count
 OPEN_RUNS = 4096                                          # runs that are kept open
 
-Only = List[Tuple[bytes, bool]]                           # records, and whether each isn't listed for the other one
+Only = Tuple[bytes, bytes]                                # records, and of each whether the other one doesn't list it
+Kept = OrderedDict[bytes, None]
+NOTHING: Tuple[Only, Only] = ((b"", b""), (b"", b""))
 Key = Tuple[int, int, int]                                # virtual channel, MAP (-1 for TM) and APID
 
 
@@ -25,10 +26,11 @@ class Hunk(NamedTuple):
 
 
 class Difference:
-    """What two recordings have. `moved` counts the packets that are listed for each, as they come in another order."""
+    """What two recordings have. `moved` counts the packets that are listed for each, as they come in another order; it
+    is by APID where `by_apid` is, of which there may be many."""
 
-    def __init__(self, sides: Sequence[Packets], folder: str) -> None:
-        self.sides, self.folder = sides, folder
+    def __init__(self, sides: Sequence[Packets], folder: str, by_apid: bool = True) -> None:
+        self.sides, self.folder, self.by_apid = sides, folder, by_apid
         self.moved: Counter[Key] = collections.Counter()
 
     def channels(self) -> List[Channel]:
@@ -38,23 +40,27 @@ class Difference:
     def hunks(self, channel: Channel) -> Iterator[Hunk]:
         """What they have of a channel, from the front on."""
         listed = Listed()
-        a, b = (Records(side.path(channel, "records")) for side in self.sides)
-        with closing(a), closing(b):
-            for both, here, there in hunks(a, b, self.folder):
-                only = [(record, listed.new(0, record)) for record in here]
-                hunk = Hunk(both, (only, [(record, listed.new(1, record)) for record in there]))
-                self.moved.update((*channel, RECORD.unpack(record)[1]) for some in hunk.only for record, new in some
-                                  if not new)
-                yield hunk
+        a, b = (side.records(channel) for side in self.sides)
+        for both, here, there in hunks(a, b, self.folder):
+            only = ((here, listed.new(0, here)), (there, listed.new(1, there))) if not both else NOTHING
+            for records, new in only:
+                if 0 in new:
+                    self._count(channel, records, new)
+            yield Hunk(both, only)
+
+    def _count(self, channel: Channel, records: bytes, new: bytes) -> None:
+        if self.by_apid:
+            self.moved.update((*channel, apid) for (_, apid, _), it in zip(RECORD.iter_unpack(records), new) if not it)
+        else:
+            self.moved[(*channel, -1)] += new.count(0)
 
     def runs(self) -> Iterator[Run]:
         """The packets that only one of them has, in runs."""
         for channel in self.channels():
             runs = Runs(channel)
             for hunk in self.hunks(channel):
-                runs.add_all(hunk)
-                yield from runs.take()
-            yield from runs.end()
+                yield from map(runs.value, runs.of(hunk))
+            yield from map(runs.value, runs.end())
 
 
 class Listed:
@@ -62,72 +68,70 @@ class Listed:
     other one too comes in another order."""
 
     def __init__(self) -> None:
-        self.digests: Tuple[Dict[bytes, bool], Dict[bytes, bool]] = ({}, {})
+        # a plain dict would look for its first one among all that were deleted
+        self.digests: Tuple[Kept, Kept] = (collections.OrderedDict(), collections.OrderedDict())
 
-    def new(self, side: int, record: bytes) -> bool:
-        """Whether a packet isn't listed for the other recording."""
-        digest, own = record[:16], self.digests[side]
-        if self.digests[1 - side].pop(digest, None):
-            return False
-        own[digest] = True
-        if len(own) > FAR:
-            del own[next(iter(own))]
-        return True
-
-
-class Stretch:
-    """A run as it grows."""
-
-    __slots__ = ("side", "apid", "first", "last", "packets", "is_open")
-
-    def __init__(self, side: int, apid: int, count: int) -> None:
-        self.side, self.apid, self.first, self.last, self.packets, self.is_open = side, apid, count, count, 1, True
+    def new(self, side: int, records: bytes) -> bytes:
+        """Of each packet whether it isn't listed for the other recording: 1, or 0."""
+        new = bytearray()
+        own, others = self.digests[side], self.digests[1 - side]
+        for digest, _, _ in RECORD.iter_unpack(records):
+            if digest in others:
+                del others[digest]
+                new.append(0)
+                continue
+            own[digest] = None
+            if len(own) > FAR:
+                own.popitem(last=False)
+            new.append(1)
+        return bytes(new)
 
 
 class Runs:
     """Packets of a channel that only one recording has, in runs of the sequence count by APID, in the order of their
-    starts. `ended` are those that have ended."""
+    starts. A run is its side, its APID, its first and last count, how many packets it has, and 1 while it is open."""
 
     def __init__(self, channel: Channel) -> None:
-        self.channel = channel
-        self.open: Dict[Tuple[int, int], Stretch] = {}
-        self.runs: Deque[Stretch] = deque()
-        self.ended: List[Run] = []
+        self.vc, self.map = channel[0], None if channel[1] < 0 else channel[1]
+        self.name = f"vc {self.vc}" if self.map is None else f"vc {self.vc} map {self.map}"
+        self.open: Tuple[Dict[int, List[int]], Dict[int, List[int]]] = ({}, {})
+        self.runs: Deque[List[int]] = deque()
 
-    def add_all(self, hunk: Hunk) -> None:
-        """Adds what only one recording has at a place."""
-        for side, only in enumerate(hunk.only):
-            for record, _ in only:
-                self.add(side, record)
+    def of(self, hunk: Hunk) -> Iterator[List[int]]:
+        """Adds what only one recording has at a place, and gives the runs that have ended."""
+        runs = self.runs
+        for side, (records, _) in enumerate(hunk.only):
+            its = self.open[side]
+            for apid, count in FIELDS.iter_unpack(records):
+                run = its.get(apid)
+                if run:
+                    if count == (run[3] + 1) % COUNTS:
+                        run[3] = count
+                        run[4] += 1
+                        continue
+                    run[5] = 0
+                run = its[apid] = [side, apid, count, count, 1, 1]
+                runs.append(run)
+                while not runs[0][5] or len(runs) > OPEN_RUNS:
+                    yield self._ended()
 
-    def add(self, side: int, record: bytes) -> None:
-        """Adds a packet."""
-        _, apid, count = RECORD.unpack(record)
-        last = self.open.get((side, apid))
-        if last and count == (last.last + 1) % COUNTS:
-            last.last, last.packets = count, last.packets + 1
-        else:
-            if last:
-                last.is_open = False
-            it = self.open[side, apid] = Stretch(side, apid, count)
-            self.runs.append(it)
-        while self.runs and (not self.runs[0].is_open or len(self.runs) > OPEN_RUNS):
-            self._end(self.runs.popleft())
+    def _ended(self) -> List[int]:
+        run = self.runs.popleft()
+        if run[5]:
+            del self.open[run[0]][run[1]]
+        return run
 
-    def _end(self, it: Stretch) -> None:
-        if it.is_open:
-            del self.open[it.side, it.apid]
-        vc, map_id = self.channel
-        counts = it.first, it.last
-        self.ended.append(Run("<>"[it.side], vc, None if map_id < 0 else map_id, it.apid, counts, it.packets))
-
-    def take(self) -> List[Run]:
-        """Takes those that have ended."""
-        ended, self.ended = self.ended, []
-        return ended
-
-    def end(self) -> List[Run]:
-        """Takes all that are left."""
+    def end(self) -> Iterator[List[int]]:
+        """The runs that are left."""
         while self.runs:
-            self._end(self.runs.popleft())
-        return self.take()
+            yield self._ended()
+
+    def value(self, run: List[int]) -> Run:
+        """A run as a value."""
+        side, apid, first, last, packets, _ = run
+        return Run("<>"[side], self.vc, self.map, apid, (first, last), packets)
+
+    def line(self, run: List[int]) -> str:
+        """The line of a run."""
+        side, apid, first, last, packets, _ = run
+        return run_line("<>"[side], self.name, apid, first, last, packets) + "\n"

@@ -1,20 +1,28 @@
-"""The packets of a recording by channel, in files of a folder that is deleted at the end."""
+"""The packets of a recording by channel, in a file of a folder that is deleted at the end."""
 
+import atexit
 import os
+import shutil
 import tempfile
+import weakref
 from contextlib import contextmanager
+from functools import partial
 from hashlib import blake2b
 from struct import Struct
-from typing import BinaryIO, Dict, Iterable, Iterator, List, Optional, Set, Tuple, Union
+from typing import Callable, Dict, Iterable, Iterator, List, Optional, Tuple, Union
 
 from ..tool import Refused, reason_of, shown
 
-KEPT = 2 << 20                                            # octets that are kept in memory before they are written
+KEPT = 1 << 20                                            # octets that are kept in memory before they are written
 MOST_PACKETS = 10000                                      # whose records are kept in memory
 NEAR, FAR = 4096, 65536                                   # packets among which the next one that both have is searched
 
 RECORD = Struct(">16sHH")                                 # a packet: the digest of its octets, APID, sequence count
+FIELDS = Struct(">16xHH")                                 # the last two
 SIZE = RECORD.size
+LINK = Struct(">QQ")                                      # before a piece: where the next one begins, its octets
+
+LINE_FEED = 10
 
 Channel = Tuple[int, int]                                 # virtual channel and MAP (-1 for TM)
 Key = Union[bytes, Tuple[bytes, bytes]]                   # the same, as in a line
@@ -22,28 +30,52 @@ Key = Union[bytes, Tuple[bytes, bytes]]                   # the same, as in a li
 
 @contextmanager
 def room(name: str, folder: Optional[str] = None) -> Iterator[str]:
-    """A folder for what is kept in between: in the folder that is named, else where temporary files are."""
+    """A folder for what is kept in between: in the folder that is named, else where temporary files are. It is deleted
+    at the end, and as Python ends where a signal came between."""
     try:
-        kept = tempfile.TemporaryDirectory(prefix=f"{name}-", dir=folder)
+        path = tempfile.mktemp(prefix=f"{name}-", dir=folder)
+        delete = partial(shutil.rmtree, path, ignore_errors=True)
+        atexit.register(delete)
+        try:
+            os.mkdir(path, 0o700)
+        except OSError:
+            atexit.unregister(delete)
+            raise
     except OSError as error:
         raise Refused(f"$TMPDIR: {shown(folder or tempfile.tempdir or '/tmp')}: {reason_of(error)}") from None
-    with kept as path:
+    try:
         yield path
+    finally:
+        delete()
+        atexit.unregister(delete)
+
+
+@contextmanager
+def fitting() -> Iterator[None]:
+    """Where something is written for what is kept in between."""
+    try:
+        yield
+    except OSError as error:
+        raise Refused(f"what is kept in between doesn't fit into $TMPDIR: {reason_of(error)}") from None
 
 
 class Files:
-    """Files of a folder, to which octets are added. There may be more of them than can be open at once."""
+    """Octets by names, all in one file: what is added to a name is read from the front on. There may be thousands of
+    names, with few octets each."""
 
-    def __init__(self, folder: str) -> None:
-        self.folder, self.number = folder, 0
-        self.kept: Dict[str, List[bytes]] = {}
+    def __init__(self, path: str) -> None:
         try:
-            os.mkdir(folder)
+            self.file = os.open(path, os.O_RDWR | os.O_CREAT | os.O_EXCL, 0o600)
         except OSError as error:
             raise Refused(f"$TMPDIR: {reason_of(error)}") from None
+        weakref.finalize(self, os.close, self.file)
+        self.path = path
+        self.ends: Dict[str, Tuple[int, int]] = {}           # of a name: where its first piece is, and its last one
+        self.kept: Dict[str, List[bytes]] = {}
+        self.number, self.size = 0, LINK.size                # of octets in memory, and in the file
 
     def add(self, name: str, octets: bytes) -> None:
-        """Adds octets to a file."""
+        """Adds octets to a name."""
         self.kept.setdefault(name, []).append(octets)
         self.number += len(octets) + 40
         if self.number > KEPT:
@@ -51,62 +83,80 @@ class Files:
 
     def flush(self) -> None:
         """Writes what is kept in memory."""
-        try:
-            for name, pieces in self.kept.items():
-                with open(self.path(name), "ab") as file:
-                    file.write(b"".join(pieces))
-        except OSError as error:
-            raise Refused(f"what is kept in between doesn't fit into $TMPDIR: {reason_of(error)}") from None
+        with fitting():
+            for name, some in self.kept.items():
+                octets = b"".join(some)
+                some.clear()
+                first, last = self.ends.get(name, (self.size, 0))
+                if last:
+                    self._write(self.size.to_bytes(8, "big"), last)
+                self.ends[name] = first, self.size
+                self._write(LINK.pack(0, len(octets)) + octets, self.size)
+                self.size += LINK.size + len(octets)
         self.kept, self.number = {}, 0
 
-    def path(self, name: str) -> str:
-        """Where a file is."""
-        return os.path.join(self.folder, name)
+    def _write(self, octets: bytes, at: int) -> None:
+        while octets:
+            number = os.pwrite(self.file, octets, at)
+            octets, at = octets[number:], at + number
+
+    def pieces(self, name: str) -> Iterator[bytes]:
+        """What was added to a name, in pieces; what was added at once is never in two."""
+        at = self.ends.get(name, (0, 0))[0]
+        while at:
+            following, number = LINK.unpack(os.pread(self.file, LINK.size, at))
+            yield os.pread(self.file, number, at + LINK.size)
+            at = following
 
 
 class Packets:
     """The packets of a recording by channel. Of each there are records, and with `whole` also lines."""
 
-    def __init__(self, folder: str, whole: bool = False) -> None:
-        self.files, self.number, self.whole = Files(folder), 0, whole
-        self.channels: Set[Channel] = set()
+    def __init__(self, path: str, whole: bool = False) -> None:
+        self.files, self.number, self.whole = Files(path), 0, whole
+        self.channels: Dict[Channel, int] = {}               # how many packets each has
 
     def take(self, listing: Iterable[bytes], kind: str) -> None:
         """Takes the lines of `packets`."""
         at = 3 if kind == "tm" else 5
-        records: Dict[Key, List[bytes]] = {}
+        known: Dict[Key, Tuple[List[bytes], str]] = {}       # of a channel: records, and the name of its lines
         number, pack, add = 0, RECORD.pack, self.files.add
         for line in listing:
-            head, _, digits = line.rpartition(b" ")
-            if not digits.endswith(b"\n"):
+            if line[-1] != LINE_FEED:
                 break                                        # it is cut off, and the status says why
-            parts = head.split(b" ")
+            parts = line.split(b" ")
             channel: Key = parts[1] if at == 3 else (parts[1], parts[3])
-            record = pack(blake2b(digits, digest_size=16).digest(), int(parts[at]), int(parts[at + 8]))
             try:
-                records[channel].append(record)
+                records, name = known[channel]
             except KeyError:
-                records[channel] = [record]
+                records, name = known[channel] = [], _name(_channel(channel), "lines")
+            records.append(pack(blake2b(parts[-1], digest_size=16).digest(), int(parts[at]), int(parts[at + 8])))
             number += 1
             if number >= MOST_PACKETS:
-                self.put_all({_channel(words): some for words, some in records.items()})
+                self.put_all({_channel(words): some for words, (some, _) in known.items()})
                 number = 0
             if self.whole:
-                add(_name(_channel(channel), "lines"), line)
-        self.put_all({_channel(words): some for words, some in records.items()})
+                add(name, line)
+        self.put_all({_channel(words): some for words, (some, _) in known.items()})
         self.files.flush()
 
     def put_all(self, records: Dict[Channel, List[bytes]]) -> None:
         """Takes records of channels out of their lists."""
         for channel, some in records.items():
-            self.channels.add(channel)
-            self.number += len(some)
-            self.files.add(_name(channel, "records"), b"".join(some))
-            some.clear()
+            if some:
+                self.channels[channel] = self.channels.get(channel, 0) + len(some)
+                self.number += len(some)
+                self.files.add(_name(channel, "records"), b"".join(some))
+                some.clear()
 
-    def path(self, channel: Channel, what: str) -> str:
-        """The file of the records, or of the lines, of a channel."""
-        return self.files.path(_name(channel, what))
+    def records(self, channel: Channel) -> "Records":
+        """The records of a channel."""
+        return Records(partial(self.files.pieces, _name(channel, "records")), self.channels.get(channel, 0))
+
+    def lines(self, channel: Channel) -> Iterator[bytes]:
+        """The lines of a channel, where they are kept."""
+        for piece in self.files.pieces(_name(channel, "lines")):
+            yield from piece.splitlines(keepends=True)
 
 
 def _channel(words: Key) -> Channel:
@@ -120,33 +170,35 @@ def _name(channel: Channel, what: str) -> str:
 class Records:
     """The records of a channel, read from the front on."""
 
-    def __init__(self, path: str) -> None:
-        self.path, self.buffer, self.at, self.number = path, b"", 0, 0
-        self.file: Optional[BinaryIO] = open(path, "rb") if os.path.exists(path) else None
-        self.total = os.path.getsize(path) // SIZE if self.file else 0
+    def __init__(self, pieces: Callable[[], Iterator[bytes]], total: int) -> None:
+        self.pieces, self.total = pieces, total
+        self.buffer, self.at, self.number = b"", 0, 0
+        self._left = pieces()
 
     def window(self, number: int) -> int:
         """Has this number of records ready, or all that are left, and says how many there are."""
-        if self.file and len(self.buffer) - self.at < number * SIZE:
-            self.buffer = self.buffer[self.at:] + self.file.read(max(number, NEAR) * SIZE)
-            self.at = 0
-        return min(number, (len(self.buffer) - self.at) // SIZE)
+        number = min(number, self.total - self.number)
+        missing = number * SIZE - (len(self.buffer) - self.at)
+        if missing > 0:
+            some = [self.buffer[self.at:]]
+            for piece in self._left:
+                some.append(piece)
+                missing -= len(piece)
+                if missing <= 0:
+                    break
+            self.buffer, self.at = b"".join(some), 0
+        return number
 
-    def first(self, number: int) -> List[bytes]:
+    def first(self, number: int) -> bytes:
         """The first ones that are ready."""
-        return [self.buffer[at:at + SIZE] for at in range(self.at, self.at + number * SIZE, SIZE)]
+        return self.buffer[self.at:self.at + number * SIZE]
 
-    def digest(self, place: int) -> bytes:
-        """The digest in one that is ready."""
-        start = self.at + place * SIZE
-        return self.buffer[start:start + 16]
+    def digests(self, start: int, end: int, step: int = 1) -> Iterator[bytes]:
+        """The digests in some that are ready, or from the last one back where the step is -1."""
+        buffer, places = self.buffer, range(self.at + start * SIZE, self.at + end * SIZE, SIZE)
+        return (buffer[at:at + 16] for at in places[::step])
 
     def drop(self, number: int) -> None:
         """Goes on after the first ones."""
         self.at += number * SIZE
         self.number += number
-
-    def close(self) -> None:
-        """Closes the file."""
-        if self.file:
-            self.file.close()

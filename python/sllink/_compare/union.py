@@ -4,12 +4,12 @@ import os
 import stat
 import tempfile
 from collections import deque
-from itertools import islice
-from typing import Deque, Iterable, Iterator, NoReturn, Optional, Tuple
+from itertools import compress, islice
+from typing import Deque, Dict, Iterable, Iterator, NoReturn, Optional, Tuple
 
 from ..tool import Refused, reason_of, shown
 from .difference import COUNTS, Only
-from .store import NEAR
+from .store import FIELDS, NEAR
 
 
 class Union:
@@ -42,18 +42,24 @@ class Union:
     def merge(self, here: Only, there: Only, a: Iterator[bytes], b: Iterator[bytes]) -> None:
         """Writes the packets of both between two that both have: those of A first, but where counts say otherwise. Of
         each packet it is known whether it is new; the lines of all are taken from `a` and `b`."""
-        left, right = deque(here), deque(there)
-        fresh = [[_apid(record) for record, new in side if new] for side in (here, there)]
-        if all(fresh) and len({*fresh[0], *fresh[1]}) > 1:
-            self.unordered += len(fresh[0]) + len(fresh[1])
-        while left or right:
-            first = left and not (right and _comes_before(right[0][0], left))
-            _, new = (left if first else right).popleft()
-            line = islice(a if first else b, 1)
-            if new:
-                self.write(line)
-            else:
-                skip(line, 1)
+        fresh = [{apid for (apid, _), new in zip(FIELDS.iter_unpack(records), listed) if new}
+                 for records, listed in (here, there)]
+        if all(fresh) and len(fresh[0] | fresh[1]) > 1:
+            self.unordered += here[1].count(1) + there[1].count(1)
+        ahead: Dict[int, Deque[Tuple[int, int]]] = {}        # of each APID: where A has a packet, and its count
+        for place, (apid, count) in enumerate(FIELDS.iter_unpack(here[0])):
+            ahead.setdefault(apid, deque()).append((place, count))
+        at = 0                                               # of A
+        for (apid, count), new in zip(FIELDS.iter_unpack(there[0]), there[1]):
+            end = _end_before(count, ahead.get(apid, deque()), at)
+            at += self._take(a, here[1][at:end])
+            self._take(b, bytes([new]))
+        self._take(a, here[1][at:])
+
+    def _take(self, lines: Iterator[bytes], new: bytes) -> int:
+        """Takes the next lines, and writes those that are new."""
+        self.write(compress(islice(lines, len(new)), new))
+        return len(new)
 
     def _failed(self, error: OSError) -> NoReturn:
         raise Refused(f"--union: {shown(self.path)}: {reason_of(error)}") from None
@@ -80,19 +86,18 @@ class Union:
             os.unlink(self.part)
 
 
-def _apid(record: bytes) -> bytes:
-    return record[16:18]
-
-
-def _comes_before(record: bytes, others: Deque[Tuple[bytes, bool]]) -> bool:
-    """Whether the count says that a packet comes before one of the others, of its APID."""
-    apid, count = _apid(record), record[18:20]
-    for other, _ in islice(others, NEAR):
-        if _apid(other) == apid:
-            return 0 < (int.from_bytes(other[18:20], "big") - int.from_bytes(count, "big")) % COUNTS < COUNTS // 2
-    return False
+def _end_before(count: int, ahead: Deque[Tuple[int, int]], at: int) -> Optional[int]:
+    """Up to where the packets of A come before one of B, by the counts of its APID; None where all do. Those that do so
+    are taken out of `ahead`."""
+    while ahead:
+        place, other = ahead[0]
+        if place >= at and 0 < (other - count) % COUNTS < COUNTS // 2:
+            return max(at, place - NEAR + 1)
+        at = max(at, place + 1)
+        ahead.popleft()
+    return None
 
 
 def skip(some: Iterator[bytes], number: int) -> None:
     """Passes over lines."""
-    deque(islice(some, number), maxlen=0)
+    next(islice(some, number, number), None)

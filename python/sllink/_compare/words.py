@@ -13,7 +13,7 @@ A and B are files, and OPTION are options of sllink for both.
                       keeps the error control field with one that strips it
     --hex             List each packet that only one recording has, in the line of `packets`
     --union FILE      Write the packets of both into a file, once each, as lines of `packets`; one that comes
-                      twice in a recording is written twice
+                      twice in a recording is written twice. A file that is there is replaced, and keeps its mode
     --lines           Decide by the lines of `packets` alone, in little memory
     -h, --help        Print help
     -V, --version     Print the version
@@ -51,8 +51,8 @@ unknown.
 
 Normal forms decide where the options are the same and no recording is larger than 256 MiB; `normalise` keeps
 all packets in memory. Else, and where memory is short, the lines of `packets` decide, in at most 100 MB. What
-is kept in between goes into a folder in $TMPDIR that is deleted at the end: 20 octets a packet, and with
---hex and --union also its line.
+is kept in between goes into a folder in $TMPDIR that is deleted at the end: 20 to 44 octets a packet, and with
+--hex and --union also its line. It takes at most 20 times the octets of both recordings.
 
 Status: 0 same packets; 1 different packets; 2 neither can be said, with one line on the standard error that
 says why, or none where whoever reads the output goes away, or SIGINT, SIGTERM or SIGHUP stops the tool.

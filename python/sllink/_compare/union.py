@@ -1,9 +1,11 @@
 """The lines of the packets of two recordings, once each, in a file."""
 
+import atexit
 import os
 import stat
 import tempfile
 from collections import deque
+from contextlib import suppress
 from itertools import compress, islice
 from typing import Deque, Dict, Iterable, Iterator, NoReturn, Optional, Tuple
 
@@ -13,20 +15,21 @@ from .store import FIELDS, NEAR
 
 
 class Union:
-    """The lines of the packets of both recordings, in a file."""
+    """The lines of the packets of both recordings, in a file. What a link names is replaced, and the link stays."""
 
     def __init__(self, path: str) -> None:
         self.path, self.packets, self.unordered = path, 0, 0
-        self.part: Optional[str] = None
+        self.part, self.target = "", os.path.realpath(path)
         try:
-            if os.path.exists(path) and not stat.S_ISREG(os.stat(path).st_mode):
+            mode = os.stat(path).st_mode if os.path.exists(path) else None
+            if mode is not None and not stat.S_ISREG(mode):
                 self.file = open(path, "wb")
                 return
-            number, self.part = tempfile.mkstemp(prefix=".sllink-", dir=os.path.dirname(path) or ".")
-            mask = os.umask(0)
-            os.umask(mask)
-            os.fchmod(number, 0o666 & ~mask)
-            self.file = open(number, "wb")
+            self.part = tempfile.mktemp(prefix=".sllink-", dir=os.path.dirname(self.target))
+            atexit.register(self._delete)                    # where a signal comes between
+            self.file = open(os.open(self.part, os.O_WRONLY | os.O_CREAT | os.O_EXCL, 0o666), "wb")
+            if mode is not None:
+                os.fchmod(self.file.fileno(), stat.S_IMODE(mode))
         except OSError as error:
             self._failed(error)
 
@@ -69,8 +72,7 @@ class Union:
         try:
             self.file.close()
             if self.part:
-                os.replace(self.part, self.path)
-                self.part = None
+                os.replace(self.part, self.target)
         except OSError as error:
             self._failed(error)
         unordered = f"; the order of {self.unordered} is unknown" if self.unordered else ""
@@ -78,11 +80,13 @@ class Union:
 
     def close(self) -> None:
         """Leaves nothing behind where the end wasn't reached."""
-        try:
+        with suppress(OSError):
             self.file.close()
-        except OSError:
-            pass
-        if self.part:
+        self._delete()
+        atexit.unregister(self._delete)
+
+    def _delete(self) -> None:
+        with suppress(OSError):
             os.unlink(self.part)
 
 

@@ -6,7 +6,7 @@ import re
 import shutil
 import subprocess
 import threading
-from typing import Any, BinaryIO, Dict, Generator, Iterable, Iterator, List, Optional, Set, Tuple, Union
+from typing import Any, BinaryIO, Callable, Dict, Generator, Iterable, Iterator, List, Optional, Set, Tuple, Union
 
 from ._fault import SllinkError, explained
 from ._library import Library, Recording
@@ -87,15 +87,24 @@ class Child:
         source: Any = recording
         if hasattr(recording, "read"):
             self._child = _started(command, stdin=subprocess.PIPE, **pipes)
-            threading.Thread(target=self._feed, args=(source,), daemon=True).start()
+            self._beside(self._feed, source)
         elif isinstance(recording, int):
             self._child = _started(command, stdin=recording, **pipes)
         else:
             with open(source, "rb", buffering=0) as octets:
                 self._child = _started(command, stdin=octets, **pipes)
-        self._listener = threading.Thread(target=self._listen, daemon=True)
-        self._listener.start()
+        self._listener = self._beside(self._listen)
         self.output: BinaryIO = self._child.stdout           # type: ignore[assignment]
+
+    def _beside(self, target: Callable[..., None], *arguments: Any) -> threading.Thread:
+        """A thread that does something beside the program."""
+        thread = threading.Thread(target=target, args=arguments, daemon=True)
+        try:
+            thread.start()
+        except RuntimeError as error:                        # there is no memory for it
+            self.stop()
+            raise MemoryError(str(error)) from None
+        return thread
 
     def _feed(self, recording: Any) -> None:
         """Writes the recording to the program, as it comes."""
@@ -122,12 +131,16 @@ class Child:
     def _listen(self) -> None:
         """Reads all that the program says, so that it never waits, and keeps the beginning."""
         pipe: Any = self._child.stderr
-        with pipe:
-            while True:
-                octets = pipe.read1(1 << 16)
-                if not octets:
-                    break
-                self._said += octets[:MOST_SAID - len(self._said)]
+        try:
+            with pipe:
+                while True:
+                    octets = pipe.read1(1 << 16)
+                    if not octets:
+                        break
+                    self._said += octets[:MOST_SAID - len(self._said)]
+        except MemoryError as fault:
+            self._fault = fault
+            self._child.kill()
 
     def end(self, last: bytes = b"") -> None:
         """After the end of the output, and with its last line: raises where the program didn't come to the end of the

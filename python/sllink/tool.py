@@ -19,6 +19,10 @@ from ._fault import SllinkError
 from ._options import ASKS
 
 
+STOPS = (signal.SIGHUP, signal.SIGINT, signal.SIGTERM)
+NO_MEMORY = "there is not enough memory"
+
+
 class Refused(Exception):
     """Why the tool can't do what is asked, in a line; its status is 2."""
 
@@ -134,34 +138,52 @@ def complain(name: str, text: str) -> None:
         pass
 
 
+class Stopped(SystemExit):
+    """A signal stops the tool."""
+
+
 def run(name: str, main: Callable[[List[str]], int], text: Optional[str]) -> NoReturn:
     """Runs a tool, or prints its help, the text, or its version, and ends with its status. It is 2, with a line on the
     standard error, where it is refused or at a fault; 2 and no line where whoever reads its output goes away, or a
     signal stops it."""
-    _streams(name)
-    for number in (signal.SIGTERM, signal.SIGHUP, signal.SIGINT):
-        if signal.getsignal(number) != signal.SIG_IGN:       # as nohup has it
-            signal.signal(number, _stop)
     try:
+        for number in STOPS:
+            if signal.getsignal(number) != signal.SIG_IGN:   # as nohup has it
+                signal.signal(number, _stop)
+        status = _status(name, main, text)
+        try:
+            sys.stdout.flush()
+        except OSError:
+            _drop_output()
+    except Stopped:
+        status = 2
+        _drop_output()
+    sys.exit(status)
+
+
+def _status(name: str, main: Callable[[List[str]], int], text: Optional[str]) -> int:
+    try:
+        _streams(name)
         words = sys.argv[1:]
         status = 0 if _answered(name, text, words) else main(words)
         sys.stdout.flush()
+        return status
     except BrokenPipeError:
-        status = 2
+        return 2
     except OSError as error:
-        complain(name, f"{shown(error.filename) if error.filename else 'output'}: {reason_of(error)}")
-        status = 2
+        if error.errno != errno.ENOMEM:
+            said = f"{shown(error.filename) if error.filename else 'output'}: {reason_of(error)}"
+        else:
+            said = NO_MEMORY
     except (Refused, SllinkError) as reason:
-        complain(name, str(reason))
-        status = 2
+        said = str(reason)
     except MemoryError:
-        complain(name, "there is not enough memory")
-        status = 2
+        said = NO_MEMORY
     except Exception as error:                               # pylint: disable=broad-except
         # a fault of the tool itself; its status mustn't be 1, which may be an answer
-        complain(name, f"{type(error).__name__}: {error}")
-        status = 2
-    _end(status)
+        said = f"{type(error).__name__}: {error}"
+    complain(name, said)
+    return 2
 
 
 def _answered(name: str, text: Optional[str], words: List[str]) -> bool:
@@ -201,13 +223,12 @@ def _streams(name: str) -> None:
 
 
 def _stop(*_: Any) -> NoReturn:
-    raise SystemExit(2)
+    # a second signal mustn't break off what the first one ends, and what Python does at its own end
+    for number in STOPS:
+        signal.signal(number, signal.SIG_IGN)
+    raise Stopped(2)
 
 
-def _end(status: int) -> NoReturn:
-    # what can't be written any more isn't tried again at the end
-    try:
-        sys.stdout.flush()
-    except OSError:
-        os.dup2(os.open(os.devnull, os.O_WRONLY), 1)
-    sys.exit(status)
+def _drop_output() -> None:
+    # what can't be written any more, or isn't wanted, isn't tried again as Python ends
+    os.dup2(os.open(os.devnull, os.O_WRONLY), 1)

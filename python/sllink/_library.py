@@ -1,6 +1,8 @@
 """The library libsllink.so, which reads recordings in this process."""
 
+import errno
 import os
+import select
 from dataclasses import replace
 from typing import Any, BinaryIO, Optional, Union
 
@@ -80,12 +82,32 @@ def octets_of(recording: Recording) -> bytes:
     """All octets of a recording, from where it stands on."""
     source: Any = recording
     if hasattr(source, "read"):
-        parts = []
-        while True:
-            part = source.read()
-            if not part:
-                break
-            parts.append(memoryview(part).tobytes())
-        return b"".join(parts)
+        return b"".join(memoryview(part).tobytes() for part in iter(lambda: next_of(source), b""))
+    require_open(source)
     with open(source, "rb", closefd=not isinstance(source, int)) as file:
         return file.read()
+
+
+def require_open(recording: Recording) -> None:
+    """OSError where a recording is a file descriptor that isn't open, as one below 0, which calls take for something
+    else."""
+    if isinstance(recording, int):
+        os.fstat(recording)
+
+
+def next_of(source: Any, *size: int) -> bytes:
+    """What comes next of a file object, of at most a size where there is one; b"" at its end alone. One that doesn't
+    block is waited for. BlockingIOError: it can't be, as it has no file descriptor."""
+    octets: Optional[bytes] = source.read1(*size) if size and hasattr(source, "read1") else None
+    while not octets:                                        # read1 may have b"" where nothing is there yet
+        octets = source.read(*size)
+        if octets is not None:
+            return octets or b""
+        try:
+            descriptor = source.fileno()
+        except (AttributeError, OSError):
+            raise BlockingIOError(errno.EAGAIN, "has nothing yet, and no descriptor to wait for") from None
+        waiting = select.poll()
+        waiting.register(descriptor, select.POLLIN)
+        waiting.poll()
+    return octets

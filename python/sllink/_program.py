@@ -9,7 +9,7 @@ import threading
 from typing import Any, BinaryIO, Callable, Dict, Generator, Iterable, Iterator, List, Optional, Set, Tuple, Union
 
 from ._fault import SllinkError, explained
-from ._library import Library, Recording
+from ._library import Library, Recording, next_of, require_open
 from ._options import ASKS, Words, words_of
 
 HERE = os.path.dirname(os.path.realpath(__file__))
@@ -85,6 +85,7 @@ class Child:
         self._said = b""
         pipes: Dict[str, Any] = {"stdout": subprocess.PIPE, "stderr": subprocess.PIPE, "bufsize": CHUNK}
         source: Any = recording
+        require_open(recording)
         if hasattr(recording, "read"):
             self._child = _started(command, stdin=subprocess.PIPE, **pipes)
             self._beside(self._feed, source)
@@ -108,13 +109,9 @@ class Child:
 
     def _feed(self, recording: Any) -> None:
         """Writes the recording to the program, as it comes."""
-        read = getattr(recording, "read1", recording.read)
         pipe: Any = self._child.stdin
         try:
-            while True:
-                octets = read(1 << 16)
-                if not octets:
-                    break
+            for octets in iter(lambda: next_of(recording, CHUNK), b""):
                 pipe.write(octets)
                 pipe.flush()
         except BrokenPipeError:

@@ -1,5 +1,7 @@
 """What the module is for: frames, anomalies and packets of a recording, and normal forms."""
 
+import errno
+import io
 import os
 from contextlib import closing
 from hashlib import sha256
@@ -142,6 +144,8 @@ def _write(octets: bytes, file: BinaryIO) -> None:
     left = memoryview(octets)
     while left:
         written = file.write(left)                           # a raw file may take a part of them
+        if written is None and isinstance(file, io.RawIOBase):
+            raise BlockingIOError(errno.EAGAIN, "takes nothing more yet")
         left = left[len(left) if written is None else written:]
 
 

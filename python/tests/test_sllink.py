@@ -8,6 +8,7 @@ The program is the one that `find_program` finds.
 import contextlib
 import copy
 import dataclasses
+import errno
 import gzip
 import io
 import os
@@ -19,6 +20,7 @@ import signal
 import subprocess
 import sys
 import tempfile
+import threading
 import time
 import traceback
 import tracemalloc
@@ -31,6 +33,7 @@ sys.path.insert(0, str(ROOT / "python"))
 
 import sllink  # noqa: E402
 from sllink import tool  # noqa: E402
+from sllink._library import octets_of  # noqa: E402
 
 EXAMPLES = ROOT / "examples"
 STATION = sllink.Options(scid=1, tm_length=32, tm_fecf=True)
@@ -351,6 +354,43 @@ class Recordings(InAFolder):
             else:
                 recording.close()
 
+    def test_descriptors_below_0(self):
+        """They are no recording, whatever they mean in calls."""
+        for number in -1, -2, -3:
+            for read in sllink.frames, sllink.packets, sllink.anomalies:
+                with self.assertRaises(OSError) as raised:
+                    list(read("tm", number, STATION))
+                self.assertEqual(raised.exception.errno, errno.EBADF)
+            with self.assertRaises(OSError) as raised:
+                octets_of(number)
+            self.assertEqual(raised.exception.errno, errno.EBADF)
+
+    def test_a_file_that_does_not_block(self):
+        """It is waited for, also where read() has None, and read1() nothing, while nothing is there."""
+        for buffering in -1, 0:
+            for read in self.check, lambda file: self.assertEqual(octets_of(file), self.octets):
+                reader, writer = os.pipe()
+                os.set_blocking(reader, False)
+
+                def send(end=writer):
+                    for at in 0, 100, 320:
+                        time.sleep(0.1)
+                        os.write(end, self.octets[at:{0: 100, 100: 320}.get(at)])
+                    os.close(end)
+                sending = threading.Thread(target=send)
+                sending.start()
+                with os.fdopen(reader, "rb", buffering) as file:
+                    read(file)
+                sending.join()
+
+        class Empty(io.RawIOBase):
+            def read(self, _=-1):
+                return None
+        with self.assertRaises(BlockingIOError):
+            self.check(Empty())
+        with self.assertRaises(BlockingIOError):
+            octets_of(Empty())
+
     def test_refused_while_the_recording_waits(self):
         reader, writer = os.pipe()
         with os.fdopen(reader, "rb") as recording:
@@ -541,6 +581,16 @@ class NormalForms(InAFolder):
                 sllink.normal_form("tm", EXAMPLES / "first-station.tm", self.folder / "b", options)
         self.assertEqual((self.folder / "a").read_bytes(), b"as it was")
         self.assertFalse((self.folder / "b").exists())
+
+    def test_output_that_does_not_block(self):
+        """Where it takes nothing more, that is said."""
+        reader, writer = os.pipe()
+        os.set_blocking(writer, False)
+        form = self.folder / "long.tm"
+        form.write_bytes((EXAMPLES / "first-station.tm").read_bytes() * 500)
+        with os.fdopen(writer, "wb", 0) as file, self.assertRaises(BlockingIOError):
+            sllink.normal_form("tm", form, file, STATION)
+        os.close(reader)
 
     def test_output_that_is_full(self):
         with self.assertRaisesRegex(OSError, "No space left"):

@@ -76,13 +76,14 @@ class Answer:
 
 
 def quoted(name: str) -> str:
-    """A name as a shell has it, which no command takes for an option."""
+    """A name as a shell has it, which no command takes for an option. What a terminal mustn't get is written by printf,
+    but in a name that ends with a line feed, which $(..) takes away: that is for bash."""
     name = f"./{name}" if name.startswith("-") else name
     if all(letter.isprintable() for letter in name):
         return shlex.quote(name)
-    octets = os.fsencode(name)
-    return "$'" + "".join(chr(octet) if 32 <= octet < 127 and octet not in b"'\\" else f"\\x{octet:02x}"
-                          for octet in octets) + "'"
+    text = "".join(chr(octet) if 32 <= octet < 127 and octet not in b"'\\%!" else f"\\{octet:03o}"
+                   for octet in os.fsencode(name))
+    return f"$'{text}'" if name.endswith("\n") else f"\"$(printf '{text}')\""
 
 
 def shell(recording: RecordingFile, words: Sequence[str], source: Optional[str] = None) -> str:

@@ -4,17 +4,17 @@ Five things are looked at: an error control field that is there or isn't, the le
 randomisation, and sync markers. No other option is held against a recording.
 """
 
-import re
 from collections import Counter as counter
 from typing import Counter, Dict, List, NamedTuple, Optional, Sequence, Tuple
 
 from ._options import Options, Words, options_of
-from ._signs import (LONGEST_TC, MARKER, SHORTEST, Frames, by_control, columns, hardly_right, many, mostly_right,
-                     randomiser, right_fields, strides, tc_field, tc_randomiser, unmasked)
+from ._signs import (LONGEST_TC, MARKER, SHORTEST, Frames, by_control, columns, hardly_right, many, markers,
+                     mostly_right, randomiser, right_fields, strides, tc_field, tc_randomiser, unmasked)
 
 MOST = 1000                                               # frames that are looked at
 ENOUGH = 5                                                # frames of a spacecraft, or of a length, too many for chance
 NEAR = 5                                                  # below which a count rises by little
+TRIED = 64                                                # other lengths that are tried
 SEARCHED = 1 << 14                                        # octets in which TC frames are searched for
 
 
@@ -75,7 +75,7 @@ def tm_contradiction(octets: bytes, options: Options) -> Optional[str]:
 
 def marked(octets: bytes) -> Optional[str]:
     """Whether sync markers lie at one distance in most of the octets."""
-    places = [place.start() for place in re.finditer(re.escape(MARKER), octets)]
+    places = markers(octets)
     for distance, times in counter(there - here for here, there in zip(places, places[1:])).most_common(1):
         if times > 1 and 2 * (times + 1) * distance > len(octets) and distance >= SHORTEST + len(MARKER):
             return "there are sync markers (1ACFFC1D) between its frames"
@@ -112,7 +112,7 @@ def frames_of(octets: bytes, headers: Headers, length: int, scid: int) -> List[b
 
 def another_length(octets: bytes, headers: Headers, length: int, scid: int) -> Optional[int]:
     """The length at which most frames are of the spacecraft, or of another one with a right error control field."""
-    for other, _, _ in strides(octets):
+    for other, _, _ in sorted(sorted(strides(octets), key=lambda it: -it[1])[:TRIED]):
         found = Headers(octets, other)
         if other % length == 0 and not leaves_none_out(found, headers, scid):
             continue

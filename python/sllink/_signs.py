@@ -4,12 +4,15 @@ on up to the end of a frame, randomisation.
 sllink-identify finds out by these signs what a recording is, and `_contradiction` whether options contradict it.
 """
 
+import re
+from array import array
 from binascii import crc_hqx
 from collections import Counter as counter
 from typing import Counter, Dict, Iterable, List, Optional, Sequence, Tuple
 
 SHORTEST, LONGEST = 32, 2048                              # octets of a TM frame
 LONGEST_TC = 1024                                         # octets of a TC frame
+SPACECRAFT = 20                                           # that are told apart
 FOLLOWED = 300                                            # pairs of frames in which packets are followed
 MARKER = b"\x1a\xcf\xfc\x1d"                              # the sync marker of TM frames (131.0-B)
 HIGH = bytes(octet & 0xF0 for octet in range(256))
@@ -188,11 +191,11 @@ class Frames:
 
     @property
     def main(self) -> List[int]:
-        """The spacecraft identifiers too frequent to be chance."""
+        """The spacecraft identifiers too frequent to be chance, of very many those of most frames."""
         enough = max(3, self.number * 0.02)
         known = [key for key, number in self.scids.most_common()
                  if self.right[key] or number >= enough and self.risen[key] >= max(2, 0.3 * number)]
-        return known or [key for key, number in self.scids.most_common(1)]
+        return known[:SPACECRAFT] or [key for key, number in self.scids.most_common(1)]
 
     @property
     def share(self) -> float:
@@ -253,13 +256,33 @@ def by_control(frames: Frames) -> Tuple[Optional[bool], Optional[str]]:
     return None, "too few packets go on from frame to frame to tell whether other octets follow each frame"
 
 
+def inner(frames: Sequence[bytes]) -> Optional[int]:
+    """The octets of each frame up to a right error control field, where it isn't at the end; else None."""
+    if len(frames) < 3:
+        return None
+    counts: Counter[int] = counter()
+    for frame in frames[:8]:
+        register = 0xFFFF
+        for at in range(len(frame)):
+            register = crc_hqx(frame[at:at + 1], register)
+            if register == 0 and at + 1 >= SHORTEST:
+                counts[at + 1] += 1
+    length, number = max(counts.items(), key=lambda item: item[1], default=(0, 0))
+    return length if number >= 3 and number >= 0.5 * min(8, len(frames)) else None
+
+
 def plain_evidence(frames: Frames) -> bool:
     """Whether headers and counts are enough to be sure of the length, where no error control field is."""
     steps, share = frames.rising()
     return steps >= 5 and share >= 0.5 and frames.share >= 0.75
 
 
-# Headers of TM frames that lie at one distance.
+# Sync markers, and headers of TM frames that lie at one distance.
+
+def markers(octets: bytes) -> "array[int]":
+    """Where sync markers are; there may be a million."""
+    return array("l", (place.start() for place in re.finditer(re.escape(MARKER), octets)))
+
 
 def columns(block: bytes, stride: int, at: int, rows: int, mask: bytes) -> List[bytes]:
     """The first four octets of each row."""

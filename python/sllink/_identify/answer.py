@@ -10,14 +10,20 @@ from typing import List, Optional, Sequence, Tuple
 from .._signs import Frames, many
 
 WHOLE, HEAD = 4 << 20, 1 << 20                            # up to WHOLE a recording is read whole; else HEAD first
+READ, LOOKS = 8 << 20, 1 << 20                            # octets, and frames or the like, that are looked at
 LISTED = 20                                               # pieces that are listed, and places without frames
 NEAR = 8                                                  # frames at a cut that are looked at
+PIECES = 1 << 12                                          # pieces that are put together
 
 Piece = Tuple[int, int]                                   # where frames lie one after another: begin and end
 
 
+class Stopped(Exception):
+    """That a recording would have to be looked at further, and where."""
+
+
 class RecordingFile:
-    """A file of which pieces are read."""
+    """A file of which pieces are read. It counts what is read and looked at of it, whatever that is looked at for."""
 
     def __init__(self, name: str) -> None:
         self.name = name
@@ -27,14 +33,23 @@ class RecordingFile:
         if not stat.S_ISREG(about.st_mode):
             self.close()
             raise OSError(errno.ESPIPE, "is no file that can be read at any place", name)
-        self.size = about.st_size
+        self.size, self.read_of, self.looks = about.st_size, 0, 0
+
+    def look(self, place: int, looks: int = 1) -> None:
+        """Counts looks at frames, headers or code blocks that begin here. Stopped: they are too many."""
+        self.looks += looks
+        if self.looks > LOOKS:
+            raise Stopped(f"stopped at {place}, after {LOOKS} looks at frames, headers and code blocks")
 
     def close(self) -> None:
         """Closes the file."""
         self._file.close()
 
     def read(self, offset: int, length: int) -> bytes:
-        """The octets from an offset on, fewer only where the file ends."""
+        """The octets from an offset on, fewer only where the file ends. Stopped: they are too many."""
+        self.read_of += max(0, min(length, self.size - offset))
+        if self.read_of > READ:
+            raise Stopped(f"stopped at {offset}, after {READ} octets that were read")
         pieces = []
         while length > 0:
             piece = os.pread(self._file.fileno(), length, offset)
@@ -93,9 +108,9 @@ def shell(recording: RecordingFile, words: Sequence[str], source: Optional[str] 
     return f"sllink check {' '.join(words)} < {quoted(recording.name)}"
 
 
-def frames_line(recording: RecordingFile, frames: Frames, length: int) -> str:
+def frames_line(recording: RecordingFile, frames: Frames, length: int, vain: bool = False) -> str:
     """The line on how many frames there are, or are looked at."""
-    if recording.size <= WHOLE:
+    if recording.size <= WHOLE and not vain:
         return f"frames {frames.number}"
     return f"frames {frames.number} looked at, of about {recording.size // length}"
 
@@ -110,6 +125,11 @@ def piece_lines(pieces: Sequence[Piece]) -> List[str]:
     lines = listed([f"piece at {start} octets {end - start}" for start, end in pieces], "pieces")
     return [f"frames shift: octets are missing, or too many, between {many(len(pieces), 'piece')}"
             if len(pieces) > 1 else "the first frame isn't at the beginning", *lines]
+
+
+def astray(pieces: Sequence[Piece]) -> Optional[str]:
+    """Why pieces aren't put together, where they are too many."""
+    return f"frames shift too often: there are {len(pieces)} pieces" if len(pieces) > PIECES else None
 
 
 def piece_command(name: str, start: int, end: int, size: int) -> str:

@@ -1,32 +1,32 @@
 """CADUs: sync markers, and TM frames between them."""
 
-import re
 from collections import Counter
 from typing import List, Optional, Sequence
 
-from .._signs import LONGEST, MARKER, SHORTEST, Frames, by_control, plain_evidence, randomiser, unmasked
+from .._signs import LONGEST, SHORTEST, Frames, by_control, inner, markers, plain_evidence, randomiser, unmasked
 from .answer import Answer, RecordingFile, quoted
-from .tm import about_tm, inner, tm_commands
+from .tm import about_tm, tm_commands
 
+UNITS = 256                                               # frames between markers that are looked at
 CADUS = "CADUs: sync markers (1ACFFC1D) before frames"
 
 
 def cadus(recording: RecordingFile, head: bytes) -> Optional[Answer]:
     """Sync markers at one distance, and what is between them."""
-    at = [place.start() for place in re.finditer(re.escape(MARKER), head)]
+    at = markers(head)
     if not at or len(at) < 2 and at[0] != 0:
         return None
     distances = Counter(there - here for here, there in zip(at, at[1:]))
     lines = [f"sync markers {len(at)} in the first {len(head)} octets, the first one at {at[0]}"]
     lines += [f"distance {distance} times {number}" for distance, number in distances.most_common(4)]
-    if len(distances.most_common()) > 4:
+    if len(distances) > 4:
         lines.append(f"other distances {len(distances) - 4}")
     if not distances:
         return Answer(CADUS, lines, why="there is one marker alone")
     distance, number = distances.most_common(1)[0]
     if number < 0.3 * (len(at) - 1) or distance - 4 < SHORTEST:
         return Answer(CADUS, lines, why="the markers have no one distance")
-    units = [head[here + 4:here + distance] for here in at if here + distance <= len(head)]
+    units = [head[here + 4:here + distance] for here in at[:UNITS] if here + distance <= len(head)]
     answer = unmarked(recording, units, distance)
     answer.lines[:0] = lines
     return answer
@@ -35,7 +35,7 @@ def cadus(recording: RecordingFile, head: bytes) -> Optional[Answer]:
 def unmarked(recording: RecordingFile, units: Sequence[bytes], distance: int) -> Answer:
     """The answer for what lies between sync markers."""
     for mask, name in (None, "not randomised"), (randomiser(), "randomised"):
-        plain = [unmasked(unit[:LONGEST], mask) for unit in units[:256]]
+        plain = [unmasked(unit[:LONGEST], mask) for unit in units]
         for length in lengths_within(plain, distance - 4):
             frames = Frames([[frame[:length] for frame in plain]], length)
             fecf, why = by_control(frames)

@@ -1,6 +1,6 @@
 """What a recording is, of all that it may seem."""
 
-from .answer import HEAD, WHOLE, Answer, RecordingFile
+from .answer import HEAD, WHOLE, Answer, RecordingFile, Stopped
 from .cadu import cadus
 from .cltu import cltus
 from .other import archive, other_frames, space_packets
@@ -9,6 +9,14 @@ from .tm import shifted_tm, tm
 
 
 def chosen(recording: RecordingFile) -> Answer:
+    """What the recording is, as far as it is looked at."""
+    try:
+        return likeliest(recording)
+    except Stopped as stopped:
+        return Answer("unknown", why=str(stopped))
+
+
+def likeliest(recording: RecordingFile) -> Answer:
     """What the recording is."""
     if recording.size == 0:
         return Answer("empty", why="there is no octet")

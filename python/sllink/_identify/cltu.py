@@ -2,7 +2,7 @@
 
 import re
 from collections import Counter
-from typing import Optional, Sequence
+from typing import List, Optional, Sequence
 
 from .._signs import tc_field, tc_randomiser, unmasked
 from .answer import Answer, RecordingFile, field_line, quoted, shell
@@ -14,19 +14,21 @@ START, TAIL = b"\xeb\x90", b"\xc5" * 7 + b"\x79"
 
 def cltus(recording: RecordingFile, head: bytes) -> Optional[Answer]:
     """Start sequences, and code blocks of right parity behind them."""
-    units, firsts, covered = [], [], 0
+    units: List[bytes] = []
+    first = end = covered = 0
     for place in re.finditer(re.escape(START), head):
-        at, blocks = place.start() + 2, []
-        while at + 8 <= len(head) and head[at:at + 8] != TAIL and head[at + 7] & 0xFE == parity(head[at:at + 7]):
-            blocks.append(head[at:at + 7])
+        at, unit = place.start() + 2, bytearray()
+        while place.start() >= end and at + 8 <= len(head) and head[at:at + 8] != TAIL and (
+                head[at + 7] & 0xFE == parity(head[at:at + 7])):
+            recording.look(at)
+            unit += head[at:at + 7]
             at += 8
-        if blocks:
-            units.append(b"".join(blocks))
-            firsts.append(place.start())
-            covered += 10 + 8 * len(blocks)
+        if unit:
+            first, end = first if units else place.start(), at
+            units.append(bytes(unit))
+            covered += 8 + at - place.start()
     if not units or covered < 0.2 * len(head):
         return None
-    first = firsts[0]
     if head[:first].strip(b"\x55") and head[:first].strip(b"\xaa"):
         return None
     for sequenced, name in (None, "not randomised"), (tc_randomiser(), "randomised"):
@@ -61,13 +63,19 @@ def coded(recording: RecordingFile, frames: Sequence[bytes], name: str, scid: in
                   why)
 
 
+def after(register: int) -> int:
+    """The register of the parity, of seven bits with a 0 behind them, after eight bits."""
+    for _ in range(8):
+        register = register << 1 ^ (0x8A if register & 0x80 else 0)
+    return register & 0xFE
+
+
+AFTER = [after(register) for register in range(256)]
+
+
 def parity(octets: bytes) -> int:
     """The parity of the seven octets of a code block (231.0-B), with its last bit 0."""
     register = 0
     for octet in octets:
-        for place in range(7, -1, -1):
-            high = (register >> 6 ^ octet >> place) & 1
-            register = register << 1 & 0x7F
-            if high:
-                register ^= 0x45
-    return (register ^ 0x7F) << 1
+        register = AFTER[register ^ octet]
+    return register ^ 0xFE

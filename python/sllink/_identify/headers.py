@@ -3,6 +3,7 @@
 import re
 from collections import Counter
 from functools import lru_cache
+from itertools import compress
 from typing import FrozenSet, List, Optional
 
 from .._signs import Frames
@@ -29,8 +30,13 @@ def agreements(window: bytes, stride: int, keys: Keys = None) -> List[int]:
                | int.from_bytes(same.translate(ONE[0, 2]), "big") << 8 & up << 24)
     for place, table in enumerate(header_tables(keys)):
         first &= int.from_bytes(window[:size].translate(table), "big") << 8 * place
-    places = [place.start() for place in re.finditer(b"\x01", (first & counted).to_bytes(size, "big"))]
-    return [at for at in places if keys is None or window[at] << 4 | window[at + 1] >> 4 in keys]
+    marks = (first & counted).to_bytes(size, "big")
+    if 16 * marks.count(1) > size:                           # which of both is faster
+        places = list(compress(range(size), marks))
+    else:
+        places = [place.start() for place in re.finditer(b"\x01", marks)]
+    return places if keys is None or len(keys) == 1 else [
+        at for at in places if window[at] << 4 | window[at + 1] >> 4 in keys]
 
 
 @lru_cache(maxsize=64)

@@ -3,10 +3,10 @@
 import re
 from typing import Dict, Optional
 
-from .._signs import Frames, by_control, plain_evidence, randomiser, strides, unmasked
+from .._signs import Frames, by_control, inner, plain_evidence, randomiser, strides, unmasked
 from .answer import Answer, RecordingFile, quoted
 from .cadu import stripped
-from .tm import about_tm, inner, tm_commands
+from .tm import about_tm, tm_commands
 
 ARCHIVES = (
     (b"\x1f\x8b", "compressed by gzip", "gunzip < {} > {}"),

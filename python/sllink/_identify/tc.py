@@ -5,37 +5,39 @@ from collections import Counter
 from typing import Dict, Iterable, List, Optional, Sequence, Tuple
 
 from .._signs import chained_packets, many, tc_field
-from .answer import Answer, RecordingFile, field_line, joined, piece_lines, shell
+from .answer import Answer, RecordingFile, astray, field_line, joined, piece_lines, shell
 from .tc_frames import Numbered, TcFrames, channel_of
 
 
 def tc(recording: RecordingFile, head: bytes) -> List[Answer]:
     """What the recording is as TC frames, where it is any."""
-    whole = len(head) == recording.size
-    found = TcFrames(head, whole)
-    frames = found.frames
-    if not frames or len(frames) > 2 and found.covered() < 0.5 * found.pieces[-1][1]:
+    found = TcFrames(recording, head)
+    frames, whole = found.frames, found.end == recording.size
+    if not frames or len(frames) > 2 and found.covered < 0.5 * found.pieces[-1][1]:
         return []
     fecf, right, why = tc_field(frames)
-    scids = Counter(channel_of(frame)[0] for frame in frames)
+    numbered: Dict[int, List[Numbered]] = {}
+    for it in found.numbered:
+        numbered.setdefault(channel_of(it[1])[0], []).append(it)
+    scids = Counter({scid: len(some) for scid, some in numbered.items()})
     main = [scid for scid, number in scids.most_common() if number >= max(2, 0.05 * len(frames))] or [
         scid for scid, _ in scids.most_common(1)]
-    enough = len(frames) >= 3 and sum(map(len, frames)) >= 0.5 * len(head)
+    enough = len(frames) >= 3 and sum(map(len, frames)) >= 0.5 * found.end
     if not enough:
         why = f"{many(len(frames), 'frame')} of TC {'is' if len(frames) == 1 else 'are'} too few to be sure"
     elif not fecf and (8 * (len(found.pieces) - 1) > len(frames) or not ordered(frames)):
         why = why or "lengths lead from frame to frame, but too often astray, or N(S) doesn't rise"
     lines = [f"frames {len(frames)}" if whole else
-             f"frames {len(frames)} looked at, in the first {len(head)} of {recording.size} octets"]
-    uplinks = [Uplink(found.numbered, scid, fecf) for scid in main]
-    for it in uplinks:
-        lines += [f"spacecraft {it.scid} frames {scids[it.scid]}", *it.lines]
+             f"frames {len(frames)} looked at, in the first {found.end} of {recording.size} octets"]
+    uplinks = [Uplink(numbered[scid], scid, fecf) for scid in main]
+    for uplink in uplinks:
+        lines += [f"spacecraft {uplink.scid} frames {scids[uplink.scid]}", *uplink.lines]
     rest = len(frames) - sum(scids[scid] for scid in main)
     if rest:
         lines.append(f"other headers {rest}")
     lines.append(field_line(fecf, right))
     lines.append(f"longest frame {max(len(frame) for frame in frames if channel_of(frame)[0] in main)}")
-    words, pieces, source = uplinks[0].command(), found.pieces, None
+    words, pieces, source, why = uplinks[0].command(), found.pieces, None, why or astray(found.pieces)
     if len(pieces) > 1 or pieces[0][0]:
         lines += piece_lines(pieces)
         if not whole:
@@ -43,11 +45,11 @@ def tc(recording: RecordingFile, head: bytes) -> List[Answer]:
         source = joined(recording, pieces)
     if not whole:
         lines.append("shifts after these octets aren't looked for")
-    elif found.rest > 4:
+    elif found.end - found.pieces[-1][1] > 4:
         lines.append(f"no such frames at {found.pieces[-1][1]}")
     weight = right * 3 if fecf else 2 * len(frames)
     return [Answer("TC transfer frames", lines, words if source is None else (),
-                   [shell(recording, words, source)], why, weight, found.covered() / len(head))]
+                   [shell(recording, words, source)], why, weight, found.covered / found.end)]
 
 
 class Uplink:

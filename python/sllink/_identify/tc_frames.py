@@ -7,9 +7,10 @@ from itertools import accumulate
 from typing import Dict, Iterator, List, Optional, Tuple
 
 from .._signs import fits_unit
-from .answer import NEAR, Piece
+from .answer import NEAR, Piece, RecordingFile
 
 SEARCHED = 1 << 16                                        # octets in which the next frame is searched for
+MOST = 1 << 17                                            # frames that are looked at
 
 Channel = Tuple[int, int]                                 # a spacecraft, and a virtual channel
 Numbered = Tuple[int, bytes]                              # a frame, and before it the number of its piece
@@ -25,23 +26,28 @@ class TcFrames:
     """The TC frames that lie one after another in octets, from wherever the first one is, each with the number of its
     piece."""
 
-    def __init__(self, block: bytes, whole: bool) -> None:
-        self.block = block
+    def __init__(self, recording: RecordingFile, block: bytes) -> None:
+        self.recording, self.block = recording, block
         self.pieces: List[Piece] = []
         self.numbered: List[Numbered] = []
+        self.covered = 0                                     # the octets of all pieces
         self.next: Dict[Channel, Optional[int]] = {}         # the N(S) that come next
         self.scids, self.fecf = self.common()
+        self.begins = re.compile(rb"(?=[\x00-\x03\x20-\x23\x30-\x33][" + b"".join(
+            re.escape(bytes([scid & 255])) for scid in self.scids) + rb"])", re.DOTALL) if self.scids else None
         begin = self.front() if self.scids else None
         while begin is not None:
             places = self.walk(begin)
-            begin, end = self.cut(places)
+            full = len(self.numbered) + len(places) == MOST
+            begin, end = (None, sum(places[-1])) if full else self.cut(places)
             self.numbered += [(len(self.pieces), block[at:at + length]) for at, length in places if at < end]
             if end > places[0][0]:
                 self.pieces.append((places[0][0], end))
-            if end + 5 > len(block) or len(self.pieces) % 8 == 7 and self.covered() < 0.5 * end:
+                self.covered += end - places[0][0]
+            if end + 5 > len(block) or len(self.pieces) % 8 == 7 and self.covered < 0.5 * end:
                 break
         self.frames = [frame for _, frame in self.numbered]
-        self.rest = len(block) - self.pieces[-1][1] if whole and self.pieces else 0
+        self.end = self.pieces[-1][1] if len(self.frames) == MOST else len(block)    # of what is looked at
 
     def front(self) -> Optional[int]:
         """Where the first piece begins: at the beginning, where one of these frames is there."""
@@ -64,10 +70,6 @@ class TcFrames:
         if behind is None or not self.goes_on(behind) or self.goes_on(within) is not False:
             return False
         return behind not in accumulate(map(len, self.some(within)), initial=within)
-
-    def covered(self) -> int:
-        """The octets of all pieces."""
-        return sum(end - begin for begin, end in self.pieces)
 
     def header(self, at: int, damaged: bool = False) -> Optional[Tuple[int, int]]:
         """The spacecraft and the length of the frame here, or nothing where there can be none. That of a frame that may
@@ -117,15 +119,15 @@ class TcFrames:
     def places(self, at: int, end: int) -> Iterator[int]:
         """The places at which frames of these spacecraft lie: three one after another, or those up to the end, or one
         whose error control field is right or whose N(S) goes on, or that has whole packets."""
-        pattern = rb"(?=[\x00-\x03\x20-\x23\x30-\x33][" + b"".join(
-            re.escape(bytes([scid & 255])) for scid in self.scids) + rb"])"
-        for place in re.compile(pattern, re.DOTALL).finditer(self.block, at, end + 1):
-            frames = self.some(place.start())
-            right = [not crc_hqx(frame, 0xFFFF) for frame in frames[:1 if self.fecf else 3]]
-            if any(right) or not self.fecf and frames and (
-                    len(frames) == 3 or place.start() + sum(map(len, frames)) == len(self.block)
-                    or self.goes_on(place.start()) or self.alone(frames[0])):
-                yield place.start()
+        for found in self.begins.finditer(self.block, at, end + 1) if self.begins else ():
+            place = found.start()
+            self.recording.look(place)
+            frames = self.some(place)
+            plain = not self.fecf and bool(frames)
+            if plain and (len(frames) == 3 or place + sum(map(len, frames)) == len(self.block)) or any(
+                    not crc_hqx(frame, 0xFFFF) for frame in frames[:3 if plain else 1]) or plain and (
+                    self.goes_on(place) or self.alone(frames[0])):
+                yield place
 
     def alone(self, frame: bytes) -> bool:
         """Whether this seems a frame though others don't follow: its channel is known, it has whole packets or a
@@ -161,8 +163,9 @@ class TcFrames:
         places: List[Place] = []
         while True:
             header = self.header(at, True)
-            if not header or at + header[1] > len(self.block):
+            if not header or at + header[1] > len(self.block) or len(self.numbered) + len(places) == MOST:
                 return places
+            self.recording.look(at, 3)                       # here, for its field, and for its channel
             after, ours = self.header(at + header[1]), header[0] in self.scids
             if not ours and (not (after and after[0] in self.scids) or self.begin(at + 1, at + header[1]) is not None):
                 return places

@@ -1,12 +1,10 @@
 """TM frames: the lengths that they may have, and the answer for each."""
 
-from binascii import crc_hqx
-from collections import Counter
-from typing import Dict, Iterable, List, Optional, Sequence, Tuple
+from typing import Dict, Iterable, List, Optional, Tuple
 
-from .._signs import LONGEST, SHORTEST, Frames, by_control, plain_evidence, strides
-from .answer import (HEAD, WHOLE, Answer, RecordingFile, field_line, frames_line, joined, listed, piece_lines, quoted,
-                     shell)
+from .._signs import LONGEST, SHORTEST, Frames, by_control, inner, plain_evidence, strides
+from .answer import (HEAD, WHOLE, Answer, RecordingFile, astray, field_line, frames_line, joined, listed, piece_lines,
+                     quoted, shell)
 from .headers import ROWS, phases, spacecraft
 from .tm_search import TmSearch
 
@@ -19,6 +17,7 @@ def tm(recording: RecordingFile, head: bytes) -> List[Answer]:
     then from the shortest on."""
     candidates: List[Tuple[bool, int, Frames]] = []
     for stride, _, rows in strides(head):
+        recording.look(min(rows, 64) * stride, min(rows, 64))
         frames = [head[at:at + stride] for at in range(0, min(rows, 64) * stride, stride)]
         known = Frames([frames], stride)
         first = Frames([frames[:12]], stride)
@@ -48,6 +47,7 @@ def shifted_tm(recording: RecordingFile, head: bytes) -> List[Answer]:
             if len(block) < 3 * stride:
                 break
             counts = phases(block, stride, None, 12)
+            recording.look(place, sum(counts.values()) // 16)
             rows = min(12, len(block) // stride)
             found += [(rise / rows, stride, at) for at, rise in counts.most_common(3) if rise >= max(3, 0.25 * rows)]
         candidates: List[Tuple[int, int, Frames]] = []
@@ -95,18 +95,19 @@ def tm_answer(recording: RecordingFile, head: bytes, length: int, phase: int, fr
         why = f"too few headers agree, or too few counts rise: {rising} of {pairs}"
     if fecf and known.checked() < 3 and recording.size % length:
         why = "only two frames have a right error control field, and the recording doesn't end with a frame"
-    lines = [frames_line(recording, known, length), *about_tm(known, fecf)]
+    lines = [frames_line(recording, known, length, search.vain), *about_tm(known, fecf)]
     lines += listed([f"no such frames at {offset}" for offset in search.absent], "places without such frames")
     if search.covered() < 0.5:
         why = why or "less than half of the recording are such frames"
-    pieces, source = search.pieces, None
+    pieces, source, why = search.pieces, None, why or astray(search.pieces)
     if len(pieces) > 1 or pieces[0][0]:
         lines += piece_lines(pieces)
         source = joined(recording, pieces)
     weight = known.checked() * 3 if fecf else known.rising()[0]
     return Answer(f"TM transfer frames of {length} octets", lines,
                   tm_command(known.main[0], length, fecf) if source is None else (),
-                  tm_commands(recording, known, fecf, source), why, weight, search.covered(), (length, phase, frames))
+                  () if why else tm_commands(recording, known, fecf, source), why, weight, search.covered(),
+                  (length, phase, frames))
 
 
 def completed(recording: RecordingFile, head: bytes, answers: List[Answer]) -> List[Answer]:
@@ -129,21 +130,6 @@ def trailed(recording: RecordingFile, search: TmSearch, stride: int, length: int
              frames_line(recording, frames, stride), *about_tm(frames, fecf)]
     return Answer(f"TM transfer frames of {length} octets, with other octets between them", lines, (),
                   tm_commands(recording, frames, fecf, source), why, 3 * frames.checked())
-
-
-def inner(frames: Sequence[bytes]) -> Optional[int]:
-    """The octets of each frame up to a right error control field, where it isn't at the end; else None."""
-    if len(frames) < 3:
-        return None
-    counts: "Counter[int]" = Counter()
-    for frame in frames[:8]:
-        register = 0xFFFF
-        for at in range(len(frame)):
-            register = crc_hqx(frame[at:at + 1], register)
-            if register == 0 and at + 1 >= SHORTEST:
-                counts[at + 1] += 1
-    length, number = max(counts.items(), key=lambda item: item[1], default=(0, 0))
-    return length if number >= 3 and number >= 0.5 * min(8, len(frames)) else None
 
 
 def about_tm(frames: Frames, fecf: Optional[bool]) -> List[str]:

@@ -6,7 +6,7 @@ from collections import Counter
 from itertools import islice
 from typing import Dict, Iterable, Iterator, List, Optional, Sequence, Tuple
 
-from .._signs import Frames
+from .._signs import FOLLOWED, Frames, by_control, inner, right_fields
 from .answer import NEAR, WHOLE, Piece, RecordingFile
 from .headers import ROWS, agreements, header_tables, phases
 
@@ -21,7 +21,8 @@ Count = Tuple[Tuple[int, ...], int]                       # whose count it is, a
 
 class TmSearch:
     """A recording that is read as TM frames of one length. The pieces in which frames lie one after another, by their
-    first and last offsets; stretches of frames; and the places at which there are none."""
+    first and last offsets; stretches of frames; and the places at which there are none. It is in vain where the first
+    frames leave open what follows each: then nothing is sure, whatever comes later."""
 
     def __init__(self, recording: RecordingFile, head: bytes, length: int, phase: int, keys: Iterable[int], fecf: bool,
                  further: bool) -> None:
@@ -30,14 +31,15 @@ class TmSearch:
         self.pieces: List[Piece] = []
         self.absent: List[int] = []
         self.last: Dict[Tuple[int, ...], int] = {}           # the last value of each count
-        self.places = self.doubts = self.tried = 0
+        self.vain = False
+        self.places = self.doubts = self.tried = self.base = 0     # where a block that is looked at begins
         pieces = self.scan(head, 0, phase)
         self.others = [] if fecf else self.strangers(pieces)
         self.add(pieces)
-        self.in_head = sum(end - begin for begin, end in self.pieces) / len(head)
-        if self.pieces and further:
-            self.further()
-        if self.pieces:
+        self.in_head = sum(end - begin for begin, end in self.pieces) / (self.pieces[-1][1] if self.vain else len(head))
+        if self.pieces and not self.vain:
+            if further:
+                self.further()
             self.close()
 
     def covered(self) -> float:
@@ -46,6 +48,7 @@ class TmSearch:
 
     def fits(self, block: bytes, at: int) -> bool:
         """Whether a frame of these seems to be here."""
+        self.recording.look(self.base + at)
         if self.fecf:
             return block[at] < 64 and not crc_hqx(block[at:at + self.length], 0xFFFF)
         return (block[at] << 4 | block[at + 1] >> 4) in self.keys
@@ -61,6 +64,7 @@ class TmSearch:
         step = 4 * self.length
         for start in range(at, min(len(block), at + SEARCHED), step):
             found = [start + place for place in agreements(block[start:start + 2 * step], self.length, self.keys)]
+            self.recording.look(self.base + start, 1 + step // 128 + len(found) // 16)
             place = next((place for place in found
                           if place < start + step and self.fits(block, place) and self.goes_on(block, place)), None)
             if place is not None:
@@ -154,22 +158,40 @@ class TmSearch:
     def scan(self, block: bytes, base: int, at: Optional[int] = None) -> List[Piece]:
         """The pieces of a block, which begins at offset `base`."""
         pieces: List[Piece] = []
-        begun, walks = bool(self.last), 0
+        begun, walks, self.base = bool(self.last), 0, base
         if at is None or at + self.length > len(block) or not (self.fits(block, at) and self.goes_on(block, at)):
             at = self.first(block, 0)
         if at and not begun:
             pieces += self.few(block, max(0, at - NEAR * self.length), at) if self.fecf else self.early(block, at)
+        covered, judged = self.length * len(pieces), self.fecf or base > 0
         while at is not None:
             end, few, following = self.walk(block, at)
+            self.recording.look(base + end, 2 * ((end - at) // self.length + len(few)))    # when they are asked
             pieces += [(at, end), *few]
-            walks += 1
-            if walks % 64 == 0 and sum(end - begin for begin, end in pieces) < 0.3 * end:
+            walks, covered = walks + 1, covered + end - at + self.length * len(few)
+            if walks % 64 == 0 and covered < 0.3 * end:
                 break
+            if not judged and covered > (FOLLOWED + NEAR) * self.length:
+                judged, self.vain = True, self.in_vain(block, pieces)
+                if self.vain:
+                    break
             at = following
+        self.stretches += self.frames_in(block, pieces)
         pieces = [(begin, end) for begin, end in pieces if begin < end]
-        self.stretches += [[block[place:place + self.length] for place in range(begin, end, self.length)]
-                           for begin, end in pieces]
         return [(base + begin, base + end) for begin, end in pieces]
+
+    def in_vain(self, block: bytes, pieces: Sequence[Piece]) -> bool:
+        """Whether the first frames leave open what follows each, and hardly a later one has a right error control
+        field."""
+        stretches, end = self.frames_in(block, pieces), pieces[-1][1]
+        known, step = Frames(stretches, self.length), max(1, (len(block) - end) // self.length // 64) * self.length
+        return known.followed == FOLLOWED and by_control(known)[1] is not None and not inner(max(stretches, key=len)) \
+            and not right_fields(block[at:at + self.length] for at in range(end, len(block) - self.length + 1, step))
+
+    def frames_in(self, block: bytes, pieces: Sequence[Piece]) -> List[List[bytes]]:
+        """The frames of the pieces of a block."""
+        return [[block[place:place + self.length] for place in range(begin, end, self.length)]
+                for begin, end in pieces if begin < end]
 
     def early(self, block: bytes, end: int) -> List[Piece]:
         """Frames from the beginning on that come a little before those of the first piece."""
@@ -203,13 +225,14 @@ class TmSearch:
 
     def strangers(self, pieces: Sequence[Piece]) -> List[int]:
         """Further spacecraft: of the frames that lie as those of the pieces do, before, between and behind them."""
-        stretches, at = [], pieces[0][0] % self.length if pieces else 0
+        stretches, left, at = [], 1024, pieces[0][0] % self.length if pieces else 0
         for begin, end in [*pieces, (len(self.head), 0)] if pieces else ():
             if begin == len(self.head) or (begin - at) % self.length == 0:
                 last = min(begin, at + 64 * self.length) - self.length
                 stretches.append([self.head[place:place + self.length] for place in range(at, last + 1, self.length)])
+                left -= len(stretches[-1])
             at = end
-            if sum(map(len, stretches)) > 1024:
+            if left < 0:
                 break
         frames = Frames(stretches, self.length)
         return [key for key, number in frames.scids.items()
@@ -251,10 +274,10 @@ class TmSearch:
             self.stretches.append(stretch)
             left = right
 
-    def look(self, offset: int, phase: int) -> Optional[Tuple[int, List[bytes]]]:
+    def look(self, offset: int, phase: int, rows: int = ROWS) -> Optional[Tuple[int, List[bytes]]]:
         """The phase of the frames at a place, with these frames: the one that is expected, or another one; None where
         there are none."""
-        block = self.recording.read(offset, (ROWS + 1) * self.length)
+        block, self.base = self.recording.read(offset, (rows + 1) * self.length), offset
         found = [phase, *((offset + at) % self.length for at, _ in
                           phases(block, self.length, self.keys).most_common(4))]
         for other in found:
@@ -268,10 +291,10 @@ class TmSearch:
         return None
 
     def between(self, left: int, here: int, right: int, there: int) -> None:
-        """Finds the shifts between two places by halves."""
-        while right - left > 4 * ROWS * self.length:
+        """Finds the shifts between two places by halves, at which it looks at few frames where they are enough."""
+        while right - left > ROWS * self.length:
             middle = (left + right) // 2
-            found = self.look(middle, here)
+            found = self.look(middle, here, NEAR) or self.look(middle, here)
             if found is None:
                 break
             phase = found[0]

@@ -373,8 +373,9 @@ SHAPES = {name: Shape(kind, ("--scid", "1", *words.split()) * (kind != "paths"),
         ("equal-apart", lambda it: framed(cycle([packet(5, 0, bytes([it.side])) * SOME])),
          "packets that are all equal, other ones in each recording"),
         ("runs-in-turn", runs_in_turn, "runs of one packet in turn, of other lengths in each recording"),
-        ("cycle-shifted", cycle_shifted, "the same 16384 packets over and over, from another one on the second time"),
-        ("interleaved", interleaved, "the same packets on seven channels, whose frames come in another order"))),
+        ("cycle-shifted", cycle_shifted, "the same 16384 packets over and over, from another one on the second time"))),
+    ("tm", "--tm-length 1112", 7 * FULL, True, (
+        ("interleaved", interleaved, "the same packets on seven channels, whose frames come in another order"),)),
     ("tm", "--tm-length 2048", 2048, True, (
         ("longest-packets", longest_packets, "packets of 65542 octets, every second one ends otherwise"),)),
     ("tc", "--tc-length 16", 13, True, (

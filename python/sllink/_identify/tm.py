@@ -17,7 +17,7 @@ def tm(recording: RecordingFile, head: bytes) -> List[Answer]:
     then from the shortest on."""
     candidates: List[Tuple[bool, int, Frames]] = []
     for stride, _, rows in strides(head):
-        recording.look(min(rows, 64) * stride, min(rows, 64))
+        recording.look(min(rows, 64) * stride, 3 * min(rows, 64))
         frames = [head[at:at + stride] for at in range(0, min(rows, 64) * stride, stride)]
         known = Frames([frames], stride)
         first = Frames([frames[:12]], stride)

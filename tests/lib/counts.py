@@ -9,6 +9,7 @@ runs commands, each by a shell, one after another, and closes with one line over
 
 import os
 import re
+import signal
 import subprocess
 import sys
 from concurrent.futures import ThreadPoolExecutor
@@ -19,6 +20,9 @@ ROOT = os.path.dirname(os.path.dirname(HERE))
 LINE = re.compile(r"(\d+) passed, (\d+) failed(?:, (\d+) skipped)?\n?")
 counted = {"tried": 0, "failed": 0, "skipped": 0}
 fails = False
+# A shell in the background has its commands ignore SIGINT; those that are tried here don't.
+if signal.getsignal(signal.SIGINT) == signal.SIG_IGN:
+    signal.signal(signal.SIGINT, signal.default_int_handler)
 
 
 def begin() -> None:

@@ -391,7 +391,7 @@ SHAPES = {name: Shape(kind, ("--scid", "1", *words.split()) * (kind != "paths"),
         ("spacecraft-in-turn", spacecraft_in_turn, "each frame of any spacecraft"),)),
     ("tm", "--tm-length 1115", 1, False, (
         ("noise", lambda it: (it.noise() for _ in count()), "any octets"),
-        ("tm-phases", shifting("tm_ordinary", 1115), "other octets after each 24 to 59 frames"),
+        ("tm-phases", shifting("tm_short_packets", 1115), "other octets after each 24 to 59 frames"),
         ("tm-nested", tm_nested, "frames that hold frames of 33 octets with counts that rise"),
         ("marks-at-random", marks_at_random, "sync markers, start sequences and heads of archives, some cut off"),
         ("markers-uneven", markers_uneven, "CADUs of any length"),
@@ -401,7 +401,7 @@ SHAPES = {name: Shape(kind, ("--scid", "1", *words.split()) * (kind != "paths"),
         ("digits-first", lambda it: chain([it.noise().hex().encode()], (it.noise() for _ in count())),
          "hexadecimal digits, and then any octets"))),
     ("tm", "--tm-length 1115 --tm-fecf", 1, False, (
-        ("tm-phases-checked", shifting("tm_ordinary", 1115, True), "the same as tm-phases with error control"),)),
+        ("tm-phases-checked", shifting("tm_short_packets", 1115, True), "the same as tm-phases with error control"),)),
     ("tm", "--tm-length 32", 1, False, (
         ("tm-phases-short", shifting("tm_idle_frames", 32), "idle frames of 32 octets with other octets among them"),
         ("any-length", any_length, "headers with counts that rise at as many distances as there is room for"))),

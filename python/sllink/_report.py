@@ -37,6 +37,7 @@ class Recording:
             self.survey = Survey(kind, path, options, span)
             self.tally = Tally(kind, path, options, kept)
         self.digest = digest_of(path)
+        self.asked = questions(self.survey)
         self.survey.state.require_unchanged()
         self.name = self.survey.name
 
@@ -54,7 +55,7 @@ def report_of_one(kind: str, path: str, options: Sequence[str]) -> str:
     """The page of a recording."""
     it = Recording(kind, path, options)
     parts = ["<header>", heading(1, it.name), read_as(it), "</header>",
-             verdict(said(it.survey, it.tally), questions(it.survey), not it.survey.anomalies),
+             verdict(said(it.survey, it.tally), it.asked, not it.survey.anomalies),
              facts(facts_of(it)), heading(2, "Picture"), pictured(it, "rest")]
     parts += tables(it, 2)
     return page(f"{it.name}: {number_of(it.survey.frames, 'frame')}, {number_of(it.tally.packets(), 'packet')}", parts)
@@ -68,7 +69,7 @@ def report_of_two(kind: str, paths: Sequence[str], options: Sequence[Sequence[st
         one, other = (Recording(kind, *its, span) for its in zip(paths, options, (here, there)))
         lacks = Lacks(here, there, folder)
     name_apart(one, other, paths)
-    asked = [f"{it.name}: {question}" for it in (one, other) for question in questions(it.survey)]
+    asked = [f"{it.name}: {question}" for it in (one, other) for question in it.asked]
     alike = options[0] == options[1]
     parts = ["<header>", heading(1, f"{one.name} and {other.name}"), read_as(one) if alike else "", "</header>",
              verdict(said_of_two(one, other, lacks), asked, lacks.same),

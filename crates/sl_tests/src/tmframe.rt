@@ -3,8 +3,6 @@
 mod field;
 mod framer;
 
-ghost use Rattle.std.specs.Prelude.{IfSome, IsTrue, ◌<◌};
-
 use crate::support::recordings::{TM_FIELD, TM_FRAME, protected};
 use crate::support::rows::{Stop, holds, passes};
 use crate::support::tm::{frame, read, shape};
@@ -299,20 +297,16 @@ fn the_first_reason_to_skip_a_frame(rt: HostRuntime) {
     passes(&rt, &TM_FRAME, outcome);
 }
 
-fn is_in_field(first: Option<u16>) -> bool
-    ensures { IfSome first (λ first. IsTrue result → first < 26) }
-{
-    match first {
-        Some(first) => first < 26,
-        None => true,
-    }
-}
-
 // Adds a frame of spacecraft 1 with `TM_FIELD`.
 fn push(out: &mut Vec<u8>, shape: &TmShape, numbers: &Numbers) -> Result<(), Stop> {
     let (vc, mc, vcc, first) = *numbers;
-    if vc > 7 || !is_in_field(first) || shape.room() != 26 {
+    if vc > 7 || shape.room() != 26 {
         return Err(Stop::Absent);
+    }
+    if let Some(first) = first {
+        if first >= 26 {
+            return Err(Stop::Absent);
+        }
     }
     Ok(push_tm(out, shape, 1, vc, mc, vcc, first, &TM_FIELD)?)
 }

@@ -5,7 +5,7 @@ randomisation, and sync markers. No other option is held against a recording.
 """
 
 from collections import Counter as counter
-from typing import Counter, Dict, List, NamedTuple, Optional, Sequence, Tuple
+from typing import Counter, Dict, Iterator, List, NamedTuple, Optional, Sequence, Tuple
 
 from ._options import Options, Words, options_of
 from ._signs import (LONGEST_TC, MARKER, SHORTEST, Frames, by_control, columns, hardly_right, many, markers,
@@ -24,7 +24,21 @@ def contradiction(kind: str, recording: str, words: Words) -> Optional[str]:
     options = options_of(words)
     with open(recording, "rb") as file:
         octets = file.read(MOST * (options.tm_length + len(MARKER) if kind == "tm" else LONGEST_TC))
-    return tm_contradiction(octets, options) if kind == "tm" else tc_contradiction(octets, options)
+    return next((tm_contradictions if kind == "tm" else tc_contradictions)(octets, options), None)
+
+
+def another(own: Sequence[bytes], others: Sequence[bytes], other: int, scid: int) -> Iterator[str]:
+    """That most frames are of another spacecraft. They are noise where the error control field is right in the frames
+    of this one, and wrong in the others."""
+    if not (mostly_right(right_fields(own), len(own)) and hardly_right(right_fields(others), len(others))):
+        yield f"--scid is {scid}, and most of its frames are of spacecraft {other}"
+
+
+def field_denied(has_field: Optional[bool], wanted: bool, option: str) -> Iterator[str]:
+    """What is known of the error control field, against the option."""
+    if has_field is not None and has_field != wanted:
+        given, has = ("is given", "no") if wanted else ("isn't given", "an")
+        yield f"{option} {given}, and its frames have {has} error control field"
 
 
 # TM frames.
@@ -33,7 +47,7 @@ class Headers:
     """The headers of TM frames of one length: how many are of each spacecraft, and how many counts rise by little."""
 
     def __init__(self, octets: bytes, length: int, mask: bytes = bytes(4)) -> None:
-        self.number = min(len(octets) // length, MOST)
+        self.octets, self.length, self.number = octets, length, min(len(octets) // length, MOST)
         first, second, counts, channel_counts = columns(octets, length, 0, self.number, mask)
         self.keys = [one << 4 | other >> 4 for one, other in zip(first, second)]
         self.frames: Counter[int] = counter(self.keys)
@@ -57,64 +71,45 @@ class Headers:
                 return key
         return None
 
+    def of(self, scid: int) -> List[bytes]:
+        """The frames of a spacecraft."""
+        return [self.octets[at * self.length:(at + 1) * self.length] for at, key in enumerate(self.keys) if key == scid]
 
-def tm_contradiction(octets: bytes, options: Options) -> Optional[str]:
-    """The same for TM frames."""
+
+def tm_contradictions(octets: bytes, options: Options) -> Iterator[str]:
+    """What TM frames show: first what the others may come of."""
     length, scid = options.tm_length, options.scid
     headers = Headers(octets, length)
-    found = None
-    if not headers.has(scid, 0.6):
-        found = marked(octets) or tm_randomised(octets, length) or tm_another(octets, headers, options)
-        other = None if found else another_length(octets, headers, length, scid)
+    if headers.has(scid, 0.6):
+        apart = divided(octets, length, scid)
     else:
-        other = divided(octets, length, scid)
-    if other:
-        found = f"--tm-length is {length}, and its frames lie {other} octets apart"
-    return found or tm_field_denied(octets, headers, options)
-
-
-def marked(octets: bytes) -> Optional[str]:
-    """Whether sync markers lie at one distance in most of the octets."""
-    places = markers(octets)
-    for distance, times in counter(there - here for here, there in zip(places, places[1:])).most_common(1):
-        if times > 1 and 2 * (times + 1) * distance > len(octets) and distance >= SHORTEST + len(MARKER):
-            return "there are sync markers (1ACFFC1D) between its frames"
-    return None
-
-
-def tm_randomised(octets: bytes, length: int) -> Optional[str]:
-    """Whether most frames are of one spacecraft where they are derandomised."""
-    derandomised = Headers(octets, length, randomiser()[:4])
-    return None if derandomised.other(-1) is None else "its frames are randomised"
-
-
-def tm_another(octets: bytes, headers: Headers, options: Options) -> Optional[str]:
-    """Whether most frames are of another spacecraft."""
-    other = headers.other(options.scid)
-    if other is None:
-        return None
-    own, others = (frames_of(octets, headers, options.tm_length, scid) for scid in (options.scid, other))
-    return another(own, others, other, options.scid)
-
-
-def another(own: Sequence[bytes], others: Sequence[bytes], other: int, scid: int) -> Optional[str]:
-    """That most frames are of another spacecraft. They are noise where the error control field is right in the frames
-    of this one, and wrong in the others."""
-    if mostly_right(right_fields(own), len(own)) and hardly_right(right_fields(others), len(others)):
-        return None
-    return f"--scid is {scid}, and most of its frames are of spacecraft {other}"
-
-
-def frames_of(octets: bytes, headers: Headers, length: int, scid: int) -> List[bytes]:
-    """The frames of a spacecraft."""
-    return [octets[at * length:(at + 1) * length] for at, key in enumerate(headers.keys) if key == scid]
+        places = markers(octets)
+        for distance, times in counter(there - here for here, there in zip(places, places[1:])).most_common(1):
+            if times > 1 and 2 * (times + 1) * distance > len(octets) and distance >= SHORTEST + len(MARKER):
+                yield "there are sync markers (1ACFFC1D) between its frames"
+        if Headers(octets, length, randomiser()[:4]).other(-1) is not None:
+            yield "its frames are randomised"
+        other = headers.other(scid)
+        if other is not None:
+            yield from another(headers.of(scid), headers.of(other), other, scid)
+        apart = another_length(octets, headers, length, scid)
+    if apart:
+        yield f"--tm-length is {length}, and its frames lie {apart} octets apart"
+    own = headers.of(scid)
+    right = right_fields(own)
+    has_field: Optional[bool] = mostly_right(right, len(own)) or None
+    if options.tm_fecf and hardly_right(right, len(own)):
+        has_field, _ = by_control(Frames([own], length))
+    yield from field_denied(has_field, options.tm_fecf, "--tm-fecf")
 
 
 def another_length(octets: bytes, headers: Headers, length: int, scid: int) -> Optional[int]:
-    """The length at which most frames are of the spacecraft, or of another one with a right error control field."""
+    """The length at which most frames are of the spacecraft, or of another one with a right error control field. A
+    multiple of the length that is asked for is none where it leaves frames out, or others lie between."""
+    between = any(key != scid and headers.has(key, 0.1) for key in headers.frames)
     for other, _, _ in sorted(sorted(strides(octets), key=lambda it: -it[1])[:TRIED]):
         found = Headers(octets, other)
-        if other % length == 0 and not leaves_none_out(found, headers, scid):
+        if other % length == 0 and (between or found.frames[scid] < max(2 * ENOUGH, 0.9 * headers.frames[scid])):
             continue
         if found.frames[scid] >= ENOUGH and found.has(scid, 0.6):
             return other
@@ -122,12 +117,6 @@ def another_length(octets: bytes, headers: Headers, length: int, scid: int) -> O
         if found.other(scid) is not None and mostly_right(right_fields(frames), len(frames)):
             return other
     return None
-
-
-def leaves_none_out(found: Headers, headers: Headers, scid: int) -> bool:
-    """Whether a multiple of the length has all frames that the length itself has, and no others lie between them."""
-    others = [key for key in headers.frames if key != scid and headers.has(key, 0.1)]
-    return not others and found.frames[scid] >= max(2 * ENOUGH, 0.9 * headers.frames[scid])
 
 
 def divided(octets: bytes, length: int, scid: int) -> Optional[int]:
@@ -139,27 +128,6 @@ def divided(octets: bytes, length: int, scid: int) -> Optional[int]:
             if headers.risen[scid] >= ENOUGH and headers.has(scid, 0.75, 0.6):
                 return part
     return None
-
-
-def tm_field_denied(octets: bytes, headers: Headers, options: Options) -> Optional[str]:
-    """Whether the frames of the spacecraft have an error control field that the options leave out, or the other way
-    round."""
-    length = options.tm_length
-    own = frames_of(octets, headers, length, options.scid)
-    right = right_fields(own)
-    has_field: Optional[bool] = mostly_right(right, len(own)) or None
-    if options.tm_fecf and hardly_right(right, len(own)):
-        has_field, _ = by_control(Frames([own], length))
-    return field_denied(has_field, options.tm_fecf, "--tm-fecf")
-
-
-def field_denied(has_field: Optional[bool], wanted: bool, option: str) -> Optional[str]:
-    """What is known of the error control field, against the option."""
-    if has_field is None or has_field == wanted:
-        return None
-    if wanted:
-        return f"{option} is given, and its frames have no error control field"
-    return f"{option} isn't given, and its frames have an error control field"
 
 
 # TC frames.
@@ -182,45 +150,35 @@ class Commands:
         self.found: List[Command] = []
         at: Optional[int] = 0
         while at is not None and at + 5 <= len(octets) and len(self.found) < MOST:
-            at = self.take(at)
+            here = self.chain(at)
+            if here:
+                scid, end = here[0]
+                leads_on = any(it[1] == len(octets) for it in here[:2]) or any(it[0] == scid for it in here[1:])
+                self.found.append(Command(scid, unmasked(octets[at:end], mask), leads_on))
+                if leads_on or len(here) == 3:
+                    at = end
+                    continue
+            at = self.search(at + 1)
         self.scids = counter(it.scid for it in self.found)
 
-    def header(self, at: int) -> Optional[Tuple[int, int]]:
-        """The spacecraft and the end of the frame that begins here, if one can."""
-        if at + 5 > len(self.octets):
-            return None
-        head = self.octets[at:at + 4]
-        first, second, third, fourth = unmasked(head, self.mask) if self.mask else head
-        length = ((third & 3) << 8 | fourth) + 1
-        if first & 0xCC or first & 0x30 == 0x10 or length < 6 or at + length > len(self.octets):
-            return None
-        return (first & 3) << 8 | second, at + length
-
-    def take(self, at: int) -> Optional[int]:
-        """Takes the frame that begins here, and goes to the next one."""
-        here = self.header(at)
-        if here is None:
-            return self.search(at + 1)
-        scid, end = here
-        after = self.header(end)
-        further = self.header(after[1]) if after else None
-        last = end == len(self.octets) or after is not None and after[1] == len(self.octets)
-        leads_on = last or scid in (it[0] for it in (after, further) if it)
-        self.found.append(Command(scid, unmasked(self.octets[at:end], self.mask), leads_on))
-        return end if leads_on or further else self.search(at + 1)
-
-    def scid(self, at: int) -> Optional[int]:
-        """The spacecraft of the frame that begins here, if one can."""
-        here = self.header(at)
-        return here[0] if here else None
+    def chain(self, at: int) -> List[Tuple[int, int]]:
+        """The spacecraft and the ends of the frames that lie one after another here, three at most."""
+        found: List[Tuple[int, int]] = []
+        while len(found) < 3 and at + 5 <= len(self.octets):
+            head = self.octets[at:at + 4]
+            first, second, third, fourth = unmasked(head, self.mask) if self.mask else head
+            length = ((third & 3) << 8 | fourth) + 1
+            at += length
+            if first & 0xCC or first & 0x30 == 0x10 or length < 6 or at > len(self.octets):
+                break
+            found.append(((first & 3) << 8 | second, at))
+        return found
 
     def search(self, at: int) -> Optional[int]:
         """The next place from which three frames of a spacecraft lead on, or two up to the end."""
         while self.left and at + 5 <= len(self.octets):
-            here = self.header(at)
-            second = self.header(here[1]) if here else None
-            if here and second and here[0] == second[0] and (
-                    second[1] == len(self.octets) or second[0] == self.scid(second[1])):
+            here = self.chain(at)
+            if len({it[0] for it in here}) == 1 and (len(here) == 3 or here[1:] and here[1][1] == len(self.octets)):
                 return at
             at, self.left = at + 1, self.left - 1
         return None
@@ -241,20 +199,21 @@ class Commands:
         return sum(len(it.frame) for it in self.found)
 
 
-def tc_contradiction(octets: bytes, options: Options) -> Optional[str]:
-    """The same for TC frames."""
-    commands = Commands(octets)
-    scid = options.scid
+def tc_contradictions(octets: bytes, options: Options) -> Iterator[str]:
+    """What TC frames show: first what the others may come of."""
+    commands, scid = Commands(octets), options.scid
     if 2 * commands.scids[scid] <= len(commands.found):
         other = commands.most()
         if other is not None:
-            return another(commands.of(scid), commands.of(other), other, scid)
+            yield from another(commands.of(scid), commands.of(other), other, scid)
+            return
         derandomised = Commands(octets, tc_randomiser())
         if derandomised.most() is not None and derandomised.covered() > max(commands.covered(), len(octets) // 4):
-            return "its frames are randomised"
-    own = [it for it in commands.found if it.scid == scid]
-    longer = [len(it.frame) for it in own if it.leads_on and len(it.frame) > options.tc_length]
+            yield "its frames are randomised"
+    own = commands.of(scid)
+    longer = [len(it.frame) for it in commands.found
+              if it.scid == scid and it.leads_on and len(it.frame) > options.tc_length]
     if len(longer) > 1 and 10 * len(longer) > len(own):
-        return (f"--tc-length is {options.tc_length}, and {len(longer)} of {many(len(own), 'frame')} are longer, up to "
-                f"{max(longer)} octets")
-    return field_denied(tc_field(commands.of(scid))[0], options.tc_fecf, "--tc-fecf")
+        yield (f"--tc-length is {options.tc_length}, and {len(longer)} of {many(len(own), 'frame')} are longer, up to "
+               f"{max(longer)} octets")
+    yield from field_denied(tc_field(own)[0], options.tc_fecf, "--tc-fecf")

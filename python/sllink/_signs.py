@@ -72,41 +72,28 @@ class Course:
         it."""
         field, pointer = field_of(frame, self.trailer)
         if not is_next or frame[4] & 0x40 or len(field) <= pointer != 2047:
-            self._forget()
+            self.left, self.head = None, b""
             if frame[4] & 0x40 or pointer >= len(field):
                 return None
-        found = self._goes_on(field, pointer)
-        if pointer < len(field):
-            self._begin(field, pointer)
-        return found
-
-    def _forget(self) -> None:
-        self.left, self.head = None, b""
-
-    def _goes_on(self, field: bytes, pointer: int) -> Optional[bool]:
         if self.head:
             header = (self.head + field)[:6]
             if len(header) == 6 and not header[0] >> 5:
                 self.left = 7 + (header[4] << 8 | header[5]) - len(self.head)
             self.head = b""
-        if self.left is None:
+        left, at = self.left, pointer
+        if pointer >= len(field):                         # 2047: no packet starts here
+            if left is not None and left < len(field):
+                return False
+            self.left = None if left is None else left - len(field)
             return None
-        if self.left < len(field):
-            return pointer == self.left
-        self.left = self.left - len(field) if pointer == 2047 else None
-        return None if pointer == 2047 else False
-
-    def _begin(self, field: bytes, at: int) -> None:
-        """Goes from packet to packet up to the one that the frame doesn't end."""
-        self._forget()
-        while at + 6 <= len(field):
-            if field[at] >> 5:
-                return
+        self.left = None                                  # then those that start here, up to the one that goes on
+        while at + 6 <= len(field) and not field[at] >> 5:
             at += 7 + (field[at + 4] << 8 | field[at + 5])
-        if at < len(field):
-            self.head = field[at:]
-        else:
+        if at >= len(field):
             self.left = at - len(field)
+        elif at + 6 > len(field):
+            self.head = field[at:]
+        return None if left is None else pointer == left
 
 
 def field_of(frame: bytes, trailer: int) -> Tuple[bytes, int]:
@@ -117,15 +104,12 @@ def field_of(frame: bytes, trailer: int) -> Tuple[bytes, int]:
 
 def closings(frame: bytes, trailer: int) -> int:
     """How much speaks for this number of octets after the data and the operational control field: idle data that are
-    one octet up to their end, and an operational control field that is a CLCW."""
+    one octet up to their end, and an operational control field that is a CLCW, with COP-1 in effect and its spare bits
+    0."""
     field, pointer = field_of(frame, trailer)
     idle = pointer == 2046 and not frame[4] & 0x40 and len(field) > 8 and field.count(field[0]) == len(field)
-    return idle + (bool(frame[1] & 1) and is_clcw(frame[len(frame) - trailer - 4:]))
-
-
-def is_clcw(word: bytes) -> bool:
-    """Whether octets begin as a CLCW does, with COP-1 in effect and its spare bits 0."""
-    return word[0] & 0xE3 == 1 and not word[1] & 3 and not word[2] & 1
+    first, second, third = frame[len(frame) - trailer - 4:][:3]
+    return idle + (bool(frame[1] & 1) and first & 0xE3 == 1 and not second & 3 and not third & 1)
 
 
 class Frames:
@@ -217,10 +201,6 @@ class Frames:
         """How much speaks for the length: error control, counts that rise, headers that agree."""
         return min(self.checked(), 3), self.rising()[1] * self.share
 
-    def chained(self, trailer: int) -> Tuple[int, int]:
-        """How often packets go on, with this number of octets after the data, and how often they don't."""
-        return self.follow[trailer, True], self.follow[trailer, False]
-
 
 def mostly_right(right: int, number: int) -> bool:
     """Whether this many of the frames having a right error control field shows that they have one."""
@@ -240,12 +220,12 @@ def right_fields(frames: Iterable[bytes]) -> int:
 def by_control(frames: Frames) -> Tuple[Optional[bool], Optional[str]]:
     """Whether frames have the error control field, as far as that is sure: True, False, or None, and then why."""
     right = frames.checked()
-    followed, broken = frames.chained(0)
+    followed, broken = frames.follow[0, True], frames.follow[0, False]
     if mostly_right(right, frames.number):
         return True, None
     if not hardly_right(right, frames.number):
         return None, f"the error control field is right in {right} of {many(frames.number, 'frame')}, not in most"
-    shifted, closed = frames.chained(2)[0] + frames.closed[2], frames.closed[0]
+    shifted, closed = frames.follow[2, True] + frames.closed[2], frames.closed[0]
     if shifted >= 2 and shifted > followed + closed:
         return None, "after the packets two octets follow in each frame that aren't its error control field"
     known = followed >= 2 or followed + closed >= 2 and closed >= 0.5 * sum(frames.closed.values())

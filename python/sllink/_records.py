@@ -2,17 +2,25 @@
 the line back. What a line doesn't have is None."""
 
 from dataclasses import dataclass, fields
-from typing import Any, List, Optional, Tuple, Union
+from typing import Any, Dict, Optional, Tuple, Union
 
 
 class Line:
-    """A line of a listing."""
+    """A line of a listing: the names of the fields, each with its value, where a class doesn't say it otherwise."""
 
     __slots__ = ()
 
     def __reduce__(self) -> Tuple[Any, ...]:
         # without this a frozen class with slots can't be pickled
         return type(self), tuple(getattr(self, it.name) for it in fields(self))
+
+    def __str__(self) -> str:
+        return named({it.name: getattr(self, it.name) for it in fields(self)})
+
+
+def named(values: Dict[str, Any]) -> str:
+    """Values after their names. One that is None is left out."""
+    return " ".join(f"{name} {value}" for name, value in values.items() if value is not None)
 
 
 @dataclass(frozen=True)
@@ -85,11 +93,7 @@ class TcFrame(Frame):
     clcw: Clcw
 
     def __str__(self) -> str:
-        what = self.what
-        if self.ns is not None:
-            what += f" {self.ns}"
-        if self.setvr is not None:
-            what += f" {self.setvr}"
+        what = " ".join(str(it) for it in (self.what, self.ns, self.setvr) if it is not None)
         if self.octets is not None:
             what += " unit" if self.segment is None else f" segment {self.segment} map {self.map}"
             what += f" octets {self.octets}"
@@ -136,16 +140,11 @@ class Anomaly(Line):
     octets: Optional[int]
 
     def __str__(self) -> str:
-        words = [str(self.offset), self.word]
-        if self.reason is not None:
-            words.append(self.reason)
-        if self.word == "rest":
-            return f"{self.offset} rest {self.octets}"
-        for name, value in (("vc", self.vc), ("map", self.map), ("expected", self.expected), ("found", self.found),
-                            ("ad", self.ns), ("octets", self.octets)):
-            if value is not None:
-                words += [name, str(value)]
-        return " ".join(words)
+        if self.word in ("skip", "rest"):
+            return f"{self.offset} {self.word} {self.octets if self.reason is None else self.reason}"
+        words = named({"vc": self.vc, "map": self.map, "expected": self.expected, "found": self.found, "ad": self.ns,
+                       "octets": self.octets})
+        return f"{self.offset} {self.word} {words}"
 
 
 @dataclass(frozen=True)
@@ -158,10 +157,6 @@ class Totals(Line):
     packets: int
     idle: int
     anomalies: int
-
-    def __str__(self) -> str:
-        return (f"frames {self.frames} skipped {self.skipped} packets {self.packets} idle {self.idle}"
-                f" anomalies {self.anomalies}")
 
 
 @dataclass(frozen=True)
@@ -197,10 +192,6 @@ class Count(Line):
     octets: int
     jumps: int
 
-    def __str__(self) -> str:
-        channel = f"vc {self.vc}" if self.map is None else f"vc {self.vc} map {self.map}"
-        return f"{channel} apid {self.apid} packets {self.packets} octets {self.octets} jumps {self.jumps}"
-
 
 @dataclass(frozen=True)
 class Run(Line):
@@ -229,55 +220,41 @@ def run_line(side: str, channel: str, apid: int, first: int, last: int, packets:
 
 # From the words of a line.
 
-def _tm_frame(words: List[str]) -> TmFrame:
-    # OFFSET frame vc V mc M vcc C CLASS [POINTER] [ocf DIGITS | clcw DIGITS ..]
-    what, at = words[8], 9
-    first = None
-    if what == "first":
-        first, at = int(words[9]), 10
-    ocf = int(words[at + 1], 16) if len(words) > at else None
-    clcw = Clcw.of_word(ocf) if ocf is not None and words[at] == "clcw" else None
-    return TmFrame(int(words[0]), int(words[3]), int(words[5]), int(words[7]), what, first, ocf, clcw)
-
-
-def _tc_frame(words: List[str]) -> TcFrame:
-    # OFFSET frame vc V CONTENT VERDICT clcw DIGITS
-    what = words[4]
-    ns = int(words[5]) if what == "ad" else None
-    setvr = int(words[5]) if what == "setvr" else None
-    segment = map_id = octets = None
-    if "segment" in words:
-        at = words.index("segment")
-        segment, map_id = words[at + 1], int(words[at + 3])
-    if "octets" in words:
-        octets = int(words[words.index("octets") + 1])
-    return TcFrame(int(words[0]), int(words[3]), what, ns, setvr, segment, map_id, octets, words[-3],
-                   Clcw.of_word(int(words[-1], 16)))
-
-
 def frame_of(kind: str, line: str) -> Union[TmFrame, TcFrame, Skip, Remainder]:
     """A line of `show`."""
     words = line.split()
-    if words[1] == "skip":
-        return Skip(int(words[0]), words[2])
-    if words[1] == "rest":
-        return Remainder(int(words[0]), int(words[2]))
-    return _tm_frame(words) if kind == "tm" else _tc_frame(words)
+    offset, what = int(words[0]), words[1]
+    if what == "skip":
+        return Skip(offset, words[2])
+    if what == "rest":
+        return Remainder(offset, int(words[2]))
+    vc = int(words[3])
+    if kind == "tm":
+        # OFFSET frame vc V mc M vcc C CLASS [POINTER] [ocf DIGITS | clcw DIGITS ..]
+        first = int(words[9]) if words[8] == "first" else None
+        at = 9 if first is None else 10
+        ocf = int(words[at + 1], 16) if len(words) > at else None
+        clcw = Clcw.of_word(ocf) if ocf is not None and words[at] == "clcw" else None
+        return TmFrame(offset, vc, int(words[5]), int(words[7]), words[8], first, ocf, clcw)
+    # OFFSET frame vc V WHAT [NUMBER] [unit octets N | segment FLAGS map M octets N] VERDICT clcw DIGITS
+    what = words[4]
+    number = int(words[5]) if what in ("ad", "setvr") else None
+    segment, map_id = (words[-8], int(words[-6])) if "segment" in words else (None, None)
+    octets = int(words[-4]) if words[-5] == "octets" else None
+    return TcFrame(offset, vc, what, number if what == "ad" else None, number if what == "setvr" else None, segment,
+                   map_id, octets, words[-3], Clcw.of_word(int(words[-1], 16)))
 
 
 def anomaly_of(line: str) -> Union[Anomaly, Totals]:
     """A line of `check`: an Anomaly, or the Totals."""
-    words = line.split()
-    if words[0] == "frames":
-        return Totals(*map(int, words[1::2]))
-    offset, word = int(words[0]), words[1]
+    first, word, *words = line.split()
+    if first == "frames":
+        return Totals(int(word), *map(int, words[1::2]))
     if word == "skip":
-        return Anomaly(offset, word, None, None, words[2], None, None, None, None)
-    if word == "rest":
-        return Anomaly(offset, word, None, None, None, None, None, None, int(words[2]))
-    of = dict(zip(words[2::2], map(int, words[3::2])))
-    return Anomaly(offset, word, of.get("vc"), of.get("map"), None, of.get("expected"), of.get("found"), of.get("ad"),
-                   of.get("octets"))
+        return Anomaly(int(first), word, None, None, words[0], None, None, None, None)
+    of = {"octets": int(words[0])} if word == "rest" else dict(zip(words[::2], map(int, words[1::2])))
+    return Anomaly(int(first), word, of.get("vc"), of.get("map"), None, of.get("expected"), of.get("found"),
+                   of.get("ad"), of.get("octets"))
 
 
 def packet_of(line: str) -> Packet:

@@ -6,7 +6,7 @@ import re
 import shutil
 import subprocess
 import threading
-from typing import Any, BinaryIO, Callable, Dict, Generator, Iterable, Iterator, List, Optional, Set, Tuple, Union
+from typing import Any, BinaryIO, Callable, Generator, Iterable, Iterator, List, Optional, Set, Tuple, Union
 
 from ._fault import SllinkError, explained
 from ._library import Library, Recording, next_of, require_open
@@ -21,7 +21,6 @@ CHUNK = 1 << 16                                              # octets that are r
 BLOCK = 3 << 20                                              # octets of lines that are read together
 VERSION = re.compile(rb"sllink \d+(\.\d+)*\n")               # what the program answers to --version
 TOTALS = re.compile(rb"frames \d+ skipped \d+ packets \d+ idle \d+ anomalies \d+\n")   # the last line of `check`
-DONE = {"check": (0, 1)}                                     # statuses of a run to the end, where not 0 alone
 
 Path = Optional[Union[str, "os.PathLike[str]"]]
 Program = Union[Path, Library]
@@ -35,10 +34,10 @@ def find_program(program: Path = None) -> str:
     return os.environ.get("SLLINK") or shutil.which("sllink") or (INSTALLED if os.path.exists(INSTALLED) else BUILT)
 
 
-_known: Set[Tuple[int, int, int, int]] = set()               # programs that have answered as sllink
+_known: Set[Tuple[int, ...]] = set()                         # programs that have answered as sllink
 
 
-def _started(command: List[str], **pipes: Any) -> "subprocess.Popen[bytes]":
+def _started(command: List[str], **pipes: Any) -> Any:
     try:
         return subprocess.Popen(command, **pipes)            # pylint: disable=consider-using-with
     except (FileNotFoundError, NotADirectoryError, PermissionError):
@@ -48,22 +47,19 @@ def _started(command: List[str], **pipes: Any) -> "subprocess.Popen[bytes]":
 def require_sllink(name: str) -> None:
     """Asks a program for its version at its first use, and refuses one that doesn't answer as sllink does. What another
     program says of a recording, or leaves unsaid, might look like an answer."""
-    try:
+    key: Tuple[int, ...] = ()
+    with contextlib.suppress(OSError):                       # starting it says why
         it = os.stat(shutil.which(name) or name)
-    except OSError:
-        it = None                                            # starting it says why
-    key = (it.st_dev, it.st_ino, it.st_size, it.st_mtime_ns) if it else None
+        key = it.st_dev, it.st_ino, it.st_size, it.st_mtime_ns
     if key in _known:
         return
-    child = _started([name, "--version"], stdin=subprocess.DEVNULL, stdout=subprocess.PIPE, stderr=subprocess.DEVNULL)
-    pipe: Any = child.stdout
-    try:
-        said = pipe.read(MOST_VERSION)
-        answered = len(said) < MOST_VERSION and child.wait() == 0 and VERSION.fullmatch(said)
-    finally:
-        child.kill()
-        child.wait()
-        pipe.close()
+    with _started([name, "--version"], stdin=subprocess.DEVNULL, stdout=subprocess.PIPE,
+                  stderr=subprocess.DEVNULL) as child:
+        try:
+            said = child.stdout.read(MOST_VERSION)
+            answered = len(said) < MOST_VERSION and child.wait() == 0 and VERSION.fullmatch(said)
+        finally:
+            child.kill()
     if not answered:
         raise SllinkError(127, f"{name}: isn't sllink, by its answer to --version; $SLLINK says where sllink is")
     if key:
@@ -73,29 +69,26 @@ def require_sllink(name: str) -> None:
 class Child:
     """A running program, whose standard output is `output`."""
 
-    def __init__(self, verb: str, kind: str, recording: Recording, options: Words,
-                 program: Path = None) -> None:
+    def __init__(self, verb: str, kind: str, recording: Recording, options: Words, program: Path = None) -> None:
         name = find_program(program)
         command = [name, verb, kind, *words_of(options)]
         for word in filter(ASKS, command[1:]):
             raise SllinkError(2, f"sllink: {word} is no option for a recording")
         require_sllink(name)
-        self._verb = verb
+        self._verb, self._said = verb, b""
         self._fault: Optional[BaseException] = None          # of reading the recording
-        self._said = b""
-        pipes: Dict[str, Any] = {"stdout": subprocess.PIPE, "stderr": subprocess.PIPE, "bufsize": CHUNK}
-        source: Any = recording
         require_open(recording)
-        if hasattr(recording, "read"):
-            self._child = _started(command, stdin=subprocess.PIPE, **pipes)
-            self._beside(self._feed, source)
-        elif isinstance(recording, int):
-            self._child = _started(command, stdin=recording, **pipes)
-        else:
-            with open(source, "rb", buffering=0) as octets:
-                self._child = _started(command, stdin=octets, **pipes)
+        source: Any = recording
+        with contextlib.ExitStack() as opened:
+            if hasattr(recording, "read"):
+                source = subprocess.PIPE
+            elif not isinstance(recording, int):
+                source = opened.enter_context(open(source, "rb", buffering=0))
+            self._child = _started(command, stdin=source, stdout=subprocess.PIPE, stderr=subprocess.PIPE, bufsize=CHUNK)
+        self.output: BinaryIO = self._child.stdout
+        if self._child.stdin:
+            self._beside(self._feed, recording)
         self._listener = self._beside(self._listen)
-        self.output: BinaryIO = self._child.stdout           # type: ignore[assignment]
 
     def _beside(self, target: Callable[..., None], *arguments: Any) -> threading.Thread:
         """A thread that does something beside the program."""
@@ -103,13 +96,13 @@ class Child:
         try:
             thread.start()
         except RuntimeError as error:                        # there is no memory for it
-            self.stop()
+            self.close()
             raise MemoryError(str(error)) from None
         return thread
 
     def _feed(self, recording: Any) -> None:
         """Writes the recording to the program, as it comes."""
-        pipe: Any = self._child.stdin
+        pipe = self._child.stdin
         try:
             for octets in iter(lambda: next_of(recording, CHUNK), b""):
                 pipe.write(octets)
@@ -120,53 +113,46 @@ class Child:
             self._fault = fault
             self._child.kill()
         finally:
-            try:
+            with contextlib.suppress(OSError):
                 pipe.close()
-            except OSError:
-                pass
 
     def _listen(self) -> None:
         """Reads all that the program says, so that it never waits, and keeps the beginning."""
-        pipe: Any = self._child.stderr
         try:
-            with pipe:
-                while True:
-                    octets = pipe.read1(1 << 16)
-                    if not octets:
-                        break
+            with self._child.stderr as pipe:
+                while octets := pipe.read1(1 << 16):
                     self._said += octets[:MOST_SAID - len(self._said)]
         except MemoryError as fault:
             self._fault = fault
             self._child.kill()
+
+    def parts(self) -> Iterator[bytes]:
+        """The output in parts, all but the last one of CHUNK octets, and then the end."""
+        yield from iter(lambda: self.output.read(CHUNK), b"")
+        self.end()
 
     def end(self, last: bytes = b"") -> None:
         """After the end of the output, and with its last line: raises where the program didn't come to the end of the
         recording. `check` has totals there."""
         status = self._child.wait()
         self._listener.join(10)
-        self._close()
+        self.output.close()
         if self._fault is not None:
             raise self._fault
-        if status not in DONE.get(self._verb, (0,)):
-            first, *rest = (" ".join(part.split()) for part in self._said.decode(errors="backslashreplace").split("\n\n"))
+        if status and (status, self._verb) != (1, "check"):
+            first, *rest = (" ".join(it.split()) for it in self._said.decode(errors="backslashreplace").split("\n\n"))
             reason = "; ".join([first, *(part for part in rest if part.startswith("tip: "))])
-            for before in ("error: ", "sllink: "):
-                if reason.startswith(before):
-                    reason = reason[len(before):]
-            raise SllinkError(status, f"sllink: {explained(reason) or 'status ' + str(status)}")
+            reason = explained(re.sub("^(error: )?(sllink: )?", "", reason))
+            raise SllinkError(status, f"sllink: {reason or 'status ' + str(status)}")
         if self._verb == "check" and not TOTALS.fullmatch(last):
             raise SllinkError(3, "sllink: the totals are missing")
 
-    def stop(self) -> None:
+    def close(self) -> None:
         """Ends the program where it is."""
         if self._child.returncode is None:
             self._child.kill()
             self._child.wait()
-        self._close()
-
-    def _close(self) -> None:
-        if self._child.stdout is not None:
-            self._child.stdout.close()
+        self.output.close()
 
 
 def lines(verb: str, kind: str, recording: Recording, options: Words, *,
@@ -175,15 +161,12 @@ def lines(verb: str, kind: str, recording: Recording, options: Words, *,
     if isinstance(program, Library):
         yield from program.text(verb, kind, recording, options).decode("ascii").splitlines()
         return
-    child = Child(verb, kind, recording, options, program)
-    line = b""
-    try:
+    with contextlib.closing(Child(verb, kind, recording, options, program)) as child:
+        line = b""
         for line in child.output:
             if line.endswith(b"\n"):                         # else it is cut off, and the status says why
                 yield line[:-1].decode("ascii")
         child.end(line)
-    finally:
-        child.stop()
 
 
 @contextlib.contextmanager
@@ -192,26 +175,15 @@ def packet_lines(kind: str, recording: Recording, options: Words, program: Progr
     if isinstance(program, Library):
         yield program.text("packets", kind, recording, options).splitlines(keepends=True)
         return
-    child = Child("packets", kind, recording, options, program)
-    try:
+    with contextlib.closing(Child("packets", kind, recording, options, program)) as child:
         yield child.output
         child.end()
-    finally:
-        child.stop()
 
 
-def blocks(verb: str, kind: str, recording: Recording, options: Words) -> Generator[bytes, None, None]:
+def blocks(verb: str, kind: str, recording: Recording, options: Words) -> Iterator[bytes]:
     """The lines of a listing, with their line feeds, many of them together."""
-    child = Child(verb, kind, recording, options)
-    try:
-        rest = last = b""
-        for octets in iter(lambda: child.output.read(BLOCK), b""):
-            end = octets.rfind(b"\n") + 1
-            if end:
-                whole = rest + octets[:end]
-                last, rest = whole[whole.rfind(b"\n", 0, -1) + 1:], b""
-                yield whole
-            rest += octets[end:]
-        child.end(last + rest)                               # a rest is cut off, and the status says why
-    finally:
-        child.stop()
+    with contextlib.closing(Child(verb, kind, recording, options)) as child:
+        block = b""
+        for block in iter(lambda: child.output.read(BLOCK) + child.output.readline(), b""):
+            yield block[:block.rfind(b"\n") + 1]             # a rest is cut off, and the status says why
+        child.end(block[block.rfind(b"\n", 0, -1) + 1:])

@@ -3,16 +3,18 @@
 import errno
 import io
 import os
-from contextlib import closing
+from contextlib import ExitStack, closing, contextmanager
 from hashlib import sha256
-from typing import Any, BinaryIO, Dict, Generator, Iterable, Iterator, List, Literal, Optional, Tuple, Union, overload
+from itertools import chain, zip_longest
+from typing import (Any, BinaryIO, ContextManager, Dict, Generator, Iterable, Iterator, List, Literal, Optional, Tuple,
+                    Union, overload)
 
 from ._compare.difference import Difference
 from ._compare.store import Packets, room
 from ._fault import SllinkError
 from ._library import Library, Recording
 from ._options import Words, words_of
-from ._program import CHUNK, Child, Program, lines, packet_lines
+from ._program import Child, Program, lines, packet_lines
 from ._records import Anomaly, Count, Packet, Remainder, Run, Skip, TcFrame, TmFrame, Totals
 from ._records import anomaly_of, frame_of, packet_of
 from .tool import Refused
@@ -40,7 +42,7 @@ def frames(kind: str, recording: Recording, options: Words, *, program: Program 
             yield frame_of(kind, line)
 
 
-class Anomalies(Iterator[Anomaly]):
+class Anomalies(Iterator[Anomaly], ContextManager["Anomalies"]):
     """The anomalies of a recording in their order. `totals` reads on to the end, if that isn't reached, and gives the
     totals."""
 
@@ -51,10 +53,9 @@ class Anomalies(Iterator[Anomaly]):
     def __next__(self) -> Anomaly:
         for line in self._lines:
             it = anomaly_of(line)
-            if isinstance(it, Totals):
-                self._totals = it
-            elif isinstance(it, Anomaly):
+            if isinstance(it, Anomaly):
                 return it
+            self._totals = it
         raise StopIteration
 
     @property
@@ -69,9 +70,6 @@ class Anomalies(Iterator[Anomaly]):
     def close(self) -> None:
         """Ends the program where it is."""
         self._lines.close()
-
-    def __enter__(self) -> "Anomalies":
-        return self
 
     def __exit__(self, *_: Any) -> None:
         self.close()
@@ -108,36 +106,22 @@ def normal_form(kind: str, recording: Recording, output: Union[str, bytes, "os.P
                 options: Words, *, program: Program = None) -> None:
     """Writes the normal form of a recording into a file, which is made anew, or to a binary file object. Where the
     program refuses something or stops while it reads, nothing is written, and a file that is there stays as it is."""
+    with _form(kind, recording, options, program) as form:
+        first = next(form, b"")
+        with ExitStack() as opened:
+            file: Any = output if hasattr(output, "write") else opened.enter_context(open(output, "wb"))
+            for octets in chain([first], form):
+                _write(octets, file)
+
+
+@contextmanager
+def _form(kind: str, recording: Recording, options: Words, program: Program) -> Iterator[Iterator[bytes]]:
+    """The normal form of a recording, in parts; of a library all at once."""
     if isinstance(program, Library):
-        _put(program.text("normalise", kind, recording, options), output)
+        yield iter([program.text("normalise", kind, recording, options)])
         return
-    child = Child("normalise", kind, recording, options, program)
-    try:
-        octets = child.output.read(CHUNK)
-        if not octets:
-            child.end()
-        if hasattr(output, "write"):
-            _copy(octets, child, output)                     # type: ignore[arg-type]
-        else:
-            with open(output, "wb") as file:
-                _copy(octets, child, file)
-        child.end()
-    finally:
-        child.stop()
-
-
-def _copy(octets: bytes, child: Child, file: BinaryIO) -> None:
-    while octets:
-        _write(octets, file)
-        octets = child.output.read(CHUNK)
-
-
-def _put(form: bytes, output: Union[str, bytes, "os.PathLike[str]", BinaryIO]) -> None:
-    if hasattr(output, "write"):
-        _write(form, output)                                 # type: ignore[arg-type]
-    else:
-        with open(output, "wb") as file:
-            _write(form, file)
+    with closing(Child("normalise", kind, recording, options, program)) as child:
+        yield child.parts()
 
 
 def _write(octets: bytes, file: BinaryIO) -> None:
@@ -165,24 +149,8 @@ def same_packets(kind: str, a: Recording, b: Recording, options: Words, b_option
             packets(kind, b, b_options, program=program))
     if isinstance(program, Library):
         return program.same_packets(kind, a, b, options)
-    one = Child("normalise", kind, a, options, program)
-    try:
-        other = Child("normalise", kind, b, options, program)
-        try:
-            while True:
-                here, there = one.output.read(CHUNK), other.output.read(CHUNK)
-                if not here:
-                    one.end()
-                if not there:
-                    other.end()
-                if here != there:
-                    return False
-                if not here:
-                    return True
-        finally:
-            other.stop()
-    finally:
-        one.stop()
+    with _form(kind, a, options, program) as one, _form(kind, b, options, program) as other:
+        return all(here == there for here, there in zip_longest(one, other))
 
 
 def difference(kind: str, a: Recording, b: Recording, options: Words, b_options: Optional[Words] = None, *,

@@ -8,14 +8,16 @@ sllink-compare has a word for each, with which --allow answers it; that of the l
     foreign    `check` has lines of a word that mostly comes of a wrong option
 """
 
-from typing import TYPE_CHECKING, Collection, List, Optional, Protocol, Sequence
+from typing import TYPE_CHECKING, Collection, List, Optional, Sequence, Union
 
 from ._check_words import CHECK_WORDS, REASONS, Reason
 from ._contradiction import contradiction
 from .tool import command_of, identified, shown
 
 if TYPE_CHECKING:
+    from ._compare.command import Checked
     from ._survey import Survey
+    Read = Union[Checked, Survey]                         # a recording as it was read, and its totals
 
 QUESTIONS = ["nothing", "most", "options"]
 ALONE = {
@@ -28,38 +30,17 @@ DISCARDED = ("FARM-1 discards most frames of type AD. Does the recording begin i
              "V(R) of that moment for each virtual channel?")
 
 
-class Read(Protocol):
-    """A recording as it was read, and its totals."""
-
-    kind: str
-    recording: str
-    options: List[str]
-    frames: int
-    skipped: int
-    packets: int
-
-
-def denied(it: Read) -> Optional[str]:
-    """What the first frames show that the options deny."""
-    return contradiction(it.kind, it.recording, it.options)
-
-
-def delivers_nothing(it: Read) -> bool:
-    """Whether there is no packet."""
-    return it.packets == 0
-
-
-def mostly_skipped(it: Read) -> bool:
+def mostly_skipped(it: "Read") -> bool:
     """Whether more than half of the frames are skipped."""
     return 2 * it.skipped > it.frames
 
 
 # In a line of sllink-compare.
 
-def contradicted(some: Sequence[Read], allowed: Collection[str]) -> Optional[str]:
+def contradicted(some: Sequence["Read"], allowed: Collection[str]) -> Optional[str]:
     """What the first frames of a recording show that its options deny, where --allow doesn't answer it."""
     for it in some if "options" not in allowed else ():
-        found = denied(it)
+        found = contradiction(it.kind, it.recording, it.options)
         if found:
             command = command_of(it.recording)
             return (f"{shown(it.recording)}: {found}; are the options right? --allow options says so"
@@ -67,22 +48,22 @@ def contradicted(some: Sequence[Read], allowed: Collection[str]) -> Optional[str
     return None
 
 
-def unanswered(some: Sequence[Read], allowed: Collection[str]) -> Optional[str]:
+def unanswered(some: Sequence["Read"], allowed: Collection[str]) -> Optional[str]:
     """Why nothing can be said of a recording, where --allow doesn't answer it."""
-    silent = list(filter(delivers_nothing, some))
+    silent = [it for it in some if not it.packets]
     if "nothing" not in allowed and silent:
         if len(silent) == 2:
             return "neither recording delivers a packet; are the options right?" + _perhaps(silent[0])
         return (f"{shown(silent[0].recording)}: delivers no packet; are the options right? --allow nothing says so"
                 + _perhaps(silent[0], ";"))
     for it in some:
-        if "most" not in allowed and mostly_skipped(it) and not delivers_nothing(it):
+        if "most" not in allowed and mostly_skipped(it) and it.packets:
             return (f"{shown(it.recording)}: {it.skipped} of {it.frames} frames are skipped; are the options right? "
                     "--allow most says so" + _perhaps(it, ";"))
     return None
 
 
-def _perhaps(it: Read, before: str = "") -> str:
+def _perhaps(it: "Read", before: str = "") -> str:
     """What the recording may be."""
     found = identified(it.recording)
     return f"{before} sllink-identify says of {shown(it.recording)}: {found}" if found else ""
@@ -97,37 +78,25 @@ def doubted(words: Collection[str]) -> List[str]:
 
 def questions(survey: "Survey") -> List[str]:
     """What to ask where the options may be wrong for the recording: first what its first frames show against them."""
-    found = denied(survey)
+    found = contradiction(survey.kind, survey.recording, survey.options)
     asked = [f"{found[0].upper()}{found[1:]}. Are the options right?"] if found else []
-    asked += _of_frames(survey) + _of_lines(survey)
-    if survey.frames > survey.skipped and delivers_nothing(survey) and not asked:
-        asked.append("No packet is delivered. Are the options right?")
-    if asked:
-        said = identified(survey.recording)
-        asked[-1] += f" sllink-identify says: {said}." if said else f" {IDENTIFY}"
-    return asked
-
-
-def _of_frames(survey: "Survey") -> List[str]:
-    """What frames that are skipped ask, and octets after the last one."""
-    asked = []
     if mostly_skipped(survey):
         reason = survey.reasons.most_common(1)[0][0]
         asked.append(f"{REASONS.get(reason, Reason()).asks} {ALONE[survey.kind]}")
     if survey.rest and survey.rest[1] * 2 > survey.size:
         asked.append(f"Most octets come after the last whole frame. {REST[survey.kind]} {ALONE[survey.kind]}")
-    return asked
-
-
-def _of_lines(survey: "Survey") -> List[str]:
-    """What lines of `check` ask, if there are many; of a downlink any that mostly come of a wrong option."""
+    # What lines of `check` ask, if there are many; of a downlink any that mostly come of a wrong option.
     read = survey.frames - survey.skipped
     many = [word for word, it in CHECK_WORDS.items() if it.asks and survey.anomalies[word] * 4 > read > 0]
     many.sort(key=lambda word: not CHECK_WORDS[word].mostly)
     some = [word for word in doubted(survey.anomalies) if survey.kind == "tm" and word not in many]
-    asked = [CHECK_WORDS[word].asks for word in many + some]
-    if survey.kind == "tc":
-        sent = sum(survey.of_row(row).get("accept", 0) for row in survey.rows())
-        if survey.anomalies["outside"] + survey.anomalies["refused"] > sent:
-            asked.append(DISCARDED)
+    asked += [CHECK_WORDS[word].asks for word in many + some]
+    accepted = sum(sum(numbers) for (_, what), numbers in survey.bins.items() if what == "accept")
+    if survey.kind == "tc" and survey.anomalies["outside"] + survey.anomalies["refused"] > accepted:
+        asked.append(DISCARDED)
+    if read > 0 and not survey.packets and not asked:
+        asked.append("No packet is delivered. Are the options right?")
+    if asked:
+        said = identified(survey.recording)
+        asked[-1] += f" sllink-identify says: {said}." if said else f" {IDENTIFY}"
     return asked

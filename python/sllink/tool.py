@@ -29,13 +29,9 @@ class Refused(Exception):
 
 def shown(name: Union[str, bytes]) -> str:
     """A name as it stands in a line: what is no printable text is escaped."""
-    text = os.fsdecode(name)
-    return "".join(it if it.isprintable() else _escaped(it) for it in text) or "''"
-
-
-def _escaped(letter: str) -> str:
-    code = ord(letter)
-    return f"\\x{code - 0xDC00:02x}" if 0xDC80 <= code <= 0xDCFF else ascii(letter)[1:-1]
+    # an octet that is no text is a letter as \udcff
+    letters = [it if it.isprintable() else ascii(it)[1:-1].replace("\\udc", "\\x") for it in os.fsdecode(name)]
+    return "".join(letters) or "''"
 
 
 def require_file(path: Union[str, bytes], again: bool = True) -> None:
@@ -81,14 +77,11 @@ def about(recording: str) -> Iterator[None]:
 def identified(recording: str) -> str:
     """What the sllink-identify that lies beside this tool says of a recording, in some words; nothing where it can't
     be asked."""
-    lines = _identify(recording)
-    if not lines:
-        return ""
-    what, last = lines[0][len(shown(recording)) + 2:], lines[-1]
-    if last.startswith("sllink check "):
-        what += f", read with {last[13:].partition(' < ')[0]}"
+    what, *lines = _identify(recording) or ["", ""]
+    if lines[-1].startswith("sllink check "):
+        what += f", read with {lines[-1][13:].partition(' < ')[0]}"
     telling = ("frames shift:", "the first frame isn't", "secondary header ", "virtual channel access ", "can't say: ")
-    return "; ".join([what, *(line for line in lines[1:] if line.startswith(telling))])
+    return "; ".join([what, *(line for line in lines if line.startswith(telling))])
 
 
 def command_of(recording: str) -> str:
@@ -101,14 +94,14 @@ def command_of(recording: str) -> str:
 
 
 def _identify(recording: str) -> List[str]:
-    """The lines of the sllink-identify that lies beside this tool; none where it can't be asked."""
+    """The lines of the sllink-identify that lies beside this tool, without the name; none where it can't be asked."""
     beside = os.path.join(os.path.dirname(os.path.realpath(sys.argv[0])), "sllink-identify")
     try:
         asked = subprocess.run([beside, "--", recording], stdin=subprocess.DEVNULL, stdout=subprocess.PIPE,
                                stderr=subprocess.DEVNULL, check=False)
     except OSError:
         return []
-    lines = os.fsdecode(asked.stdout).splitlines()
+    lines = os.fsdecode(asked.stdout)[len(shown(recording)) + 2:].splitlines()
     return lines if asked.returncode in (0, 1) and len(lines) > 1 else []
 
 
@@ -124,18 +117,14 @@ def own_options(name: str, text: str) -> List[str]:
 
 
 def write(octets: bytes) -> None:
-    """Writes octets to the standard output. Where that has no buffer, as with PYTHONUNBUFFERED, a write of its own
-    might take a part of them and say nothing."""
-    with open(sys.stdout.fileno(), "wb", closefd=False) as output:
-        output.write(octets)
+    """Writes octets to the standard output, which has a buffer."""
+    sys.stdout.buffer.write(octets)
 
 
 def complain(name: str, text: str) -> None:
     """A line on the standard error. That it can't be written changes nothing."""
-    try:
+    with contextlib.suppress(OSError):
         print(f"{name}: {shown(text)}", file=sys.stderr, flush=True)
-    except OSError:
-        pass
 
 
 class Stopped(SystemExit):
@@ -150,31 +139,34 @@ def run(name: str, main: Callable[[List[str]], int], text: Optional[str]) -> NoR
         for number in STOPS:
             if signal.getsignal(number) != signal.SIG_IGN:   # as nohup has it
                 signal.signal(number, _stop)
-        status = _status(name, main, text)
-        try:
-            sys.stdout.flush()
-        except OSError:
-            _drop_output()
-    except Stopped:
+        status = _status(name, main, text or "")
+        sys.stdout.flush()
+    except (OSError, Stopped):
         status = 2
-        _drop_output()
+        # what can't be written any more, or isn't wanted, isn't tried again as Python ends
+        os.dup2(os.open(os.devnull, os.O_WRONLY), 1)
     sys.exit(status)
 
 
-def _status(name: str, main: Callable[[List[str]], int], text: Optional[str]) -> int:
+def _status(name: str, main: Callable[[List[str]], int], text: str) -> int:
     try:
         _streams(name)
         words = sys.argv[1:]
-        status = 0 if _answered(name, text, words) else main(words)
+        asked = words[:words.index("--")] if "--" in words else words      # a word after -- is a name
+        status = 0
+        if "-h" in asked or "--help" in asked:
+            print(text.strip())
+        elif "-V" in asked or "--version" in asked:
+            print(f"{name} {__version__}")
+        else:
+            status = main(words)
         sys.stdout.flush()
         return status
     except BrokenPipeError:
         return 2
     except OSError as error:
-        if error.errno != errno.ENOMEM:
-            said = f"{shown(error.filename) if error.filename else 'output'}: {reason_of(error)}"
-        else:
-            said = NO_MEMORY
+        said = NO_MEMORY if error.errno == errno.ENOMEM else (
+            f"{shown(error.filename) if error.filename else 'output'}: {reason_of(error)}")
     except (Refused, SllinkError) as reason:
         said = str(reason)
     except MemoryError:
@@ -186,40 +178,22 @@ def _status(name: str, main: Callable[[List[str]], int], text: Optional[str]) ->
     return 2
 
 
-def _answered(name: str, text: Optional[str], words: List[str]) -> bool:
-    """Whether the help or the version is asked for, which it prints. A word after -- is a name."""
-    words = words[:words.index("--")] if "--" in words else words
-    if "-h" in words or "--help" in words:
-        print((text or "").strip())
-    elif "-V" in words or "--version" in words:
-        print(f"{name} {__version__}")
-    else:
-        return False
-    return True
-
-
 def _streams(name: str) -> None:
     """Streams that are closed: without a standard output there is nothing to do, the others are /dev/null."""
     for number in (0, 2):
         try:
             os.fstat(number)
         except OSError:
-            # the lowest number that is free is the one that is wanted, but for 2 where 1 is closed too
-            null = os.open(os.devnull, os.O_RDWR)
-            if null != number:
-                os.dup2(null, number)
-                os.close(null)
-    if sys.stdin is None:
-        sys.stdin = open(0, closefd=False)                   # pylint: disable=consider-using-with
-    if sys.stderr is None:
-        sys.stderr = open(2, "w", closefd=False)             # pylint: disable=consider-using-with
+            os.dup2(os.open(os.devnull, os.O_RDWR), number)
+    # pylint: disable=consider-using-with
+    sys.stdin = sys.stdin or open(0, closefd=False)
+    sys.stderr = sys.stderr or open(2, "w", closefd=False)
     if sys.stdout is None:
         complain(name, f"output: {os.strerror(errno.EBADF)}")
         sys.exit(2)
     if not isinstance(sys.stdout.buffer, io.BufferedWriter):
         # as with PYTHONUNBUFFERED; then a write that takes a part of the octets would go for a whole one
-        sys.stdout = open(1, "w", encoding=sys.stdout.encoding,  # pylint: disable=consider-using-with
-                          errors=sys.stdout.errors, closefd=False)
+        sys.stdout = open(1, "w", encoding=sys.stdout.encoding, errors=sys.stdout.errors, closefd=False)
 
 
 def _stop(*_: Any) -> NoReturn:
@@ -227,8 +201,3 @@ def _stop(*_: Any) -> NoReturn:
     for number in STOPS:
         signal.signal(number, signal.SIG_IGN)
     raise Stopped(2)
-
-
-def _drop_output() -> None:
-    # what can't be written any more, or isn't wanted, isn't tried again as Python ends
-    os.dup2(os.open(os.devnull, os.O_WRONLY), 1)

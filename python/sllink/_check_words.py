@@ -3,22 +3,16 @@
 from typing import Dict, NamedTuple
 
 
-class Look(NamedTuple):
-    """What a picture has for a word: the colours of a mark, also where the page is dark, or of a cell; its words in the
-    legend; and the path of a mark round the origin."""
+class Word(NamedTuple):
+    """A word: what it means; the colours of its mark in a picture, also where the page is dark, or of its cell; its
+    words in the legend; the path of its mark round the origin; what many such lines ask, where they make an option
+    doubtful; whether it mostly comes of a wrong option; and what it means of TC, where that is something else."""
 
+    meaning: str
     colour: str
     dark: str
     words: str
     path: str = ""
-
-
-class Word(NamedTuple):
-    """A word: what it means, of TC where that is something else too; its look; what many such lines ask, where they
-    make an option doubtful; and whether it mostly comes of a wrong option."""
-
-    meaning: str
-    look: Look
     asks: str = ""
     mostly: bool = False
     meaning_tc: str = ""
@@ -36,46 +30,40 @@ SQUARE, CIRCLE, ARROW = "M-4-4H4V4H-4Z", "M-4 0a4 4 0 1 0 8 0a4 4 0 1 0-8 0Z", "
 
 # In the order in which sllink-compare counts them.
 CHECK_WORDS: Dict[str, Word] = {
-    "skip": Word("frame skipped", Look("#7d1128", "#e05c7a", "skipped")),
-    "gap": Word(
-        "the frame count isn't the one that comes next on the channel",
-        Look("#d00000", "#ff7a6b", "gap in the frame counts, larger the more frames are lost", TRIANGLE)),
-    "dropped": Word(
-        "incomplete packet dropped", Look("#d00000", "#ff7a6b", "incomplete packet or series dropped", CROSS),
-        meaning_tc="incomplete series of segments dropped"),
+    "skip": Word("frame skipped", "#7d1128", "#e05c7a", "skipped"),
+    "gap": Word("the frame count isn't the one that comes next on the channel", "#d00000", "#ff7a6b",
+                "gap in the frame counts, larger the more frames are lost", TRIANGLE),
+    "dropped": Word("incomplete packet dropped", "#d00000", "#ff7a6b", "incomplete packet or series dropped", CROSS,
+                    meaning_tc="incomplete series of segments dropped"),
     "opaque": Word(
         "frame whose data field isn't read: secondary header, other data than packets, pointer past the end",
-        Look("#e69f00", "", "opaque"),
-        "Many frames are opaque, so their data fields aren't read. Have they a secondary header, or other data than "
-        "packets?"),
+        "#e69f00", "", "opaque", asks="Many frames are opaque, so their data fields aren't read. Have they a secondary "
+        "header, or other data than packets?"),
     "foreign": Word(
-        "octets at a packet start that are of another packet version",
-        Look("#7a3fa0", "#c9a2f0", "another packet version", DIAMOND),
-        "Octets at packet starts are of another packet version. Do the frames have an error control field, which the "
-        "options leave out?", mostly=True),
-    "rest": Word("octets after the last whole frame", Look("", "", "octets after the last frame")),
-    "open": Word(
-        "packet or series that is incomplete at the end", Look("#222222", "#e8eaed", "incomplete at the end", ARROW)),
-    "early": Word("frame of type AD discarded: N(S) is ahead, within the window", Look("#f0e442", "", "early")),
-    "late": Word("frame of type AD discarded: N(S) is behind, within the window", Look("#e69f00", "", "late")),
-    "outside": Word(
-        "frame of type AD discarded: N(S) is outside the window, and lockout begins",
-        Look("#d55e00", "", "outside, lockout begins")),
-    "refused": Word("frame of type AD discarded in lockout", Look("#cc79a7", "", "refused in lockout")),
+        "octets at a packet start that are of another packet version", "#7a3fa0", "#c9a2f0", "another packet version",
+        DIAMOND, "Octets at packet starts are of another packet version. Do the frames have an error control field, "
+        "which the options leave out?", mostly=True),
+    "rest": Word("octets after the last whole frame", "", "", "octets after the last frame"),
+    "open": Word("packet or series that is incomplete at the end", "#222222", "#e8eaed", "incomplete at the end",
+                 ARROW),
+    "early": Word("frame of type AD discarded: N(S) is ahead, within the window", "#f0e442", "", "early"),
+    "late": Word("frame of type AD discarded: N(S) is behind, within the window", "#e69f00", "", "late"),
+    "outside": Word("frame of type AD discarded: N(S) is outside the window, and lockout begins", "#d55e00", "",
+                    "outside, lockout begins"),
+    "refused": Word("frame of type AD discarded in lockout", "#cc79a7", "", "refused in lockout"),
     "stray": Word(
-        "segment that continues or ends no series", Look("#7a3fa0", "#c9a2f0", "segment out of sequence", DIAMOND),
+        "segment that continues or ends no series", "#7a3fa0", "#c9a2f0", "segment out of sequence", DIAMOND,
         "Many segments are out of sequence. Has the channel no segment headers, so that --plain has to name it?"),
-    "long": Word(
-        "series of segments given up: it is longer than a packet can be",
-        Look("#7a3fa0", "#c9a2f0", "series too long", SQUARE)),
+    "long": Word("series of segments given up: it is longer than a packet can be", "#7a3fa0", "#c9a2f0",
+                 "series too long", SQUARE),
     "tail": Word(
-        "octets after the packets of a service data unit",
-        Look("#b35900", "#f0a35e", "octets after the packets of a unit", CIRCLE),
+        "octets after the packets of a service data unit", "#b35900", "#f0a35e", "octets after the packets of a unit",
+        CIRCLE,
         "Many units have octets after their packets. Is --tc-fecf right, and does --plain name the right channels?"),
 }
 # What a picture shows by marks, of which `open` stands at the end of a row; and by cells, with their colours and words.
-MARKS = {word: it.look for word, it in sorted(CHECK_WORDS.items(), key=lambda it: it[0] == "open") if it.look.path}
-CELLED = {word: (it.look.colour, it.look.words) for word, it in CHECK_WORDS.items() if not it.look.path}
+MARKS = {word: it for word, it in sorted(CHECK_WORDS.items(), key=lambda it: it[0] == "open") if it.path}
+CELLED = {word: (it.colour, it.words) for word, it in CHECK_WORDS.items() if not it.path}
 
 REASONS: Dict[str, Reason] = {
     "fecf": Reason(
@@ -95,8 +83,8 @@ REASONS: Dict[str, Reason] = {
 def meaning_of(line: str, kind: str) -> str:
     """What a word means, or of `skip` the word and the reason. A word that isn't known has no meaning."""
     word, _, reason = line.partition(" ")
-    it = CHECK_WORDS.get(word)
-    if it is None:
+    if word not in CHECK_WORDS:
         return ""
+    it = CHECK_WORDS[word]
     meaning = it.meaning_tc if kind == "tc" and it.meaning_tc else it.meaning
     return f"{meaning}: {REASONS.get(reason, Reason()).meaning}" if reason else meaning

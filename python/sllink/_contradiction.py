@@ -72,7 +72,6 @@ class Headers:
         return None
 
     def of(self, scid: int) -> List[bytes]:
-        """The frames of a spacecraft."""
         return [self.octets[at * self.length:(at + 1) * self.length] for at, key in enumerate(self.keys) if key == scid]
 
 
@@ -191,11 +190,9 @@ class Commands:
         return None
 
     def of(self, scid: int) -> List[bytes]:
-        """The frames of a spacecraft."""
         return [it.frame for it in self.found if it.scid == scid]
 
     def covered(self) -> int:
-        """The octets of all frames."""
         return sum(len(it.frame) for it in self.found)
 
 

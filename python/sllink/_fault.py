@@ -12,8 +12,7 @@ TAKEN["--window"] = TAKEN["--window"].replace("a ", "an even ")
 TAKEN["--plain"] = "virtual channels from {} to {}, rising, as in 5,6".format(*CHANNELS)
 TAKEN["--vr-of"] = "virtual channels from {} to {}, each with its V(R) from {} to {}, rising, as in 0:12,5:57".format(
     *CHANNELS, *NUMBERS["vr"])
-MANAGED = {"spacecraft": "--scid", "tm length": "--tm-length", "tc length": "--tc-length", "window": "--window",
-           "limit": "--limit", "plain": "--plain", "start": "--vr-of"}
+MANAGED = {"spacecraft": "--scid", "start": "--vr-of"}      # of the others the word is the option's name
 
 
 class SllinkError(Exception):
@@ -38,6 +37,6 @@ def explained(reason: str) -> str:
     """What the program says, and after it what the option takes that it refuses."""
     if reason == "too long":
         return f"{reason}; the recording has more octets than --limit"
-    found = re.match(r"managed: (?P<value>.+)|invalid value .* for '(?P<option>--[a-z-]+)", reason)
-    option = (found["option"] or MANAGED.get(found["value"], "")) if found else ""
+    found = re.match(r"managed: (.+)|invalid value .* for '(--[a-z-]+)", reason)
+    option = (found[2] or MANAGED.get(found[1], f"--{found[1].replace(' ', '-')}")) if found else ""
     return f"{reason}; {option} takes {TAKEN[option]}" if option in TAKEN else reason

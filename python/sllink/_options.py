@@ -42,10 +42,7 @@ class Options:
     def words(self) -> List[str]:
         """The words of the command line that say the same."""
         words = [f"--{name.replace('_', '-')}={getattr(self, name)}" for name in NUMBERS]
-        if self.tm_fecf:
-            words.append("--tm-fecf")
-        if self.tc_fecf:
-            words.append("--tc-fecf")
+        words += [f"--{name.replace('_', '-')}" for name in FLAGS if getattr(self, name)]
         if self.vr_of:
             words.append("--vr-of=" + ",".join(f"{vc}:{vr}" for vc, vr in sorted(self.vr_of.items())))
         if self.plain:
@@ -89,15 +86,13 @@ def options_of(words: Words) -> Options:
     for word in rest:
         option, equals, value = word.partition("=")
         name = option[2:].replace("-", "_")
+        value = value if equals or name in FLAGS else next(rest, "")
         if name in FLAGS:
             found[name] = True
-            continue
-        value = value if equals else next(rest, "")
-        if name in NUMBERS:
+        elif name in NUMBERS:
             found[name] = int(value)
         elif name == "vr_of":
-            pairs = [it.partition(":") for it in value.split(",")]
-            found[name] = {int(vc): int(vr) for vc, _, vr in pairs}
+            found[name] = {int(vc): int(vr) for vc, _, vr in (it.partition(":") for it in value.split(","))}
         elif name == "plain":
             found[name] = list(map(int, value.split(",")))
     return Options(**found)

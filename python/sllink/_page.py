@@ -72,7 +72,6 @@ DARK = "".join(["""
 
 
 def page(title: str, parts: Iterable[str]) -> str:
-    """A whole page."""
     head = ['<!doctype html>', '<html lang="en">', '<head>', '<meta charset="utf-8">',
             '<meta name="viewport" content="width=device-width, initial-scale=1">',
             f"<title>{escape(title)}</title>", f"<style>{STYLE}{LOOK}{DARK}</style>", "</head>", "<body>", "<main>"]
@@ -80,12 +79,10 @@ def page(title: str, parts: Iterable[str]) -> str:
 
 
 def heading(level: int, words: str) -> str:
-    """A heading."""
     return f"<h{level}>{escape(words)}</h{level}>"
 
 
 def paragraph(words: str, kind: str = "") -> str:
-    """A paragraph."""
     return f'<p class="{kind}">{escape(words)}</p>' if kind else f"<p>{escape(words)}</p>"
 
 
@@ -134,7 +131,7 @@ class Table:
     def html(self) -> str:
         """The table as HTML, and under it how many rows are left out."""
         head = "".join(f'<th scope="col"{self._class(name, None)}>{escape(name)}</th>' for name in self.heads)
-        body = "".join(self._row(row) for row in self.rows[:MOST_ROWS])
+        body = "".join(map(self._row, self.rows[:MOST_ROWS]))
         foot = f"<tfoot>{self._row(self.sums)}</tfoot>" if self.sums and len(self.rows) > 1 else ""
         left = self.left + max(0, len(self.rows) - MOST_ROWS)
         more = paragraph(f"and {left:,} more", "note") if left else ""
@@ -158,14 +155,12 @@ class Table:
 
 
 def cell(value: Optional[Value], is_name: bool) -> str:
-    """A value in a cell."""
     return "" if value is None else f"{value:,}" if isinstance(value, int) and not is_name else escape(str(value))
 
 
 def listing(lines: Iterable[str]) -> str:
     """Lines as they stand in a listing."""
-    words = escape("\n".join(lines))
-    return f'<pre tabindex="0">{words}</pre>'
+    return '<pre tabindex="0">' + escape("\n".join(lines)) + "</pre>"
 
 
 def folded(summary: str, inner: str) -> str:

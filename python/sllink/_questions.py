@@ -64,7 +64,6 @@ def unanswered(some: Sequence["Read"], allowed: Collection[str]) -> Optional[str
 
 
 def _perhaps(it: "Read", before: str = "") -> str:
-    """What the recording may be."""
     found = identified(it.recording)
     return f"{before} sllink-identify says of {shown(it.recording)}: {found}" if found else ""
 

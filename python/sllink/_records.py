@@ -213,7 +213,6 @@ class Run(Line):
 
 
 def run_line(side: str, channel: str, apid: int, first: int, last: int, packets: int) -> str:
-    """The line of a Run."""
     counts = first if packets == 1 else f"{first}..{last}"
     return f"{side} {channel} apid {apid} counts {counts} packets {packets}"
 

@@ -60,8 +60,6 @@ class Course:
     """The packets of a virtual channel, followed from frame to frame, if this number of octets comes after the data of
     each frame."""
 
-    __slots__ = ("trailer", "left", "head")
-
     def __init__(self, trailer: int) -> None:
         self.trailer = trailer
         self.left: Optional[int] = None                   # octets of a packet that come in later frames, where known
@@ -133,7 +131,6 @@ class Frames:
             self.take(stretch)
 
     def take(self, stretch: Sequence[bytes]) -> None:
-        """Adds a stretch."""
         last: Dict[int, int] = {}
         last_of: Dict[Channel, int] = {}
         courses: Dict[Channel, Tuple[Course, Course]] = {}

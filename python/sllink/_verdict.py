@@ -7,7 +7,6 @@ from ._tally import Lacks, Tally
 
 
 def number_of(number: int, what: str) -> str:
-    """A number and a noun."""
     return f"{number:,} {what}" if number == 1 else f"{number:,} {what}s"
 
 
@@ -31,16 +30,13 @@ def said(survey: Survey, tally: Tally) -> str:
         return f"No whole frame: the recording has {number_of(survey.size, 'octet')}." if survey.size else \
             "The recording is empty."
     parts = [frames_said(survey)]
-    if survey.kind == "tm" and survey.frames > survey.skipped:
-        parts.append(losses_said(survey))
-    elif survey.frames > survey.skipped:
-        parts += farm_said(survey)
+    if survey.frames > survey.skipped:
+        parts += [losses_said(survey)] if survey.kind == "tm" else farm_said(survey)
     parts.append(f"{number_of(tally.packets(), 'packet')} delivered" if tally.counts else "no packet delivered")
     return "; ".join(parts) + "."
 
 
 def frames_said(survey: Survey) -> str:
-    """How many frames are read, and how many are skipped."""
     if not survey.skipped:
         return f"All {survey.frames:,} frames read" if survey.frames > 1 else "The one frame read"
     reasons = ", ".join(f"{reason} {number:,}" if len(survey.reasons) > 1 else reason
@@ -59,12 +55,11 @@ def losses_said(survey: Survey) -> str:
     lost, on = number_of(lost_frames(survey), "frame"), channels(sorted(survey.gaps))
     if not damaged:
         return f"{lost} lost on {on}"
-    skipped = "1 skipped frame" if damaged == 1 else f"{damaged:,} skipped frames"
-    return f"{lost} lost ({number_of(missing, 'count')} missing on {on}, less {skipped}, whose channel isn't known)"
+    return (f"{lost} lost ({number_of(missing, 'count')} missing on {on}, less {number_of(damaged, 'skipped frame')}, "
+            "whose channel isn't known)")
 
 
 def missing_counts(survey: Survey) -> int:
-    """How many frame counts are missing."""
     return sum(gaps.lost for gaps in survey.gaps.values())
 
 
@@ -77,15 +72,12 @@ def farm_said(survey: Survey) -> List[str]:
     """What FARM-1 made of the frames."""
     verdicts = {what: sum(survey.of_row(row).get(what, 0) for row in survey.rows())
                 for what in ("accept", "early", "late", "outside", "refused")}
-    sent = sum(verdicts.values())
+    sent, accepted = sum(verdicts.values()), verdicts.pop("accept")
     if not sent:
         return ["no frame of type AD"]
-    discarded = [f"{what} {verdicts[what]:,}" for what in ("early", "late", "outside", "refused") if verdicts[what]]
-    if discarded:
-        parts = [f"FARM-1 accepted {verdicts['accept']:,} of {sent:,} frames of type AD ({', '.join(discarded)})"]
-    else:
-        parts = [f"FARM-1 accepted all {sent:,} frames of type AD" if sent > 1 else
-                 "FARM-1 accepted the one frame of type AD"]
+    discarded = ", ".join(f"{what} {number:,}" for what, number in verdicts.items() if number)
+    parts = [f"FARM-1 accepted {accepted:,} of {sent:,} frames of type AD ({discarded})" if discarded else
+             f"FARM-1 accepted {f'all {sent:,} frames' if sent > 1 else 'the one frame'} of type AD"]
     locked = [vc for vc, digits in sorted(survey.farms.items()) if int(digits, 16) >> 13 & 1]
     return parts + ([f"lockout at the end on {channels(locked)}"] if locked else [])
 
@@ -108,5 +100,4 @@ def said_of_two(one: Any, other: Any, lacks: Lacks) -> str:
 
 
 def some(number: int) -> str:
-    """A number, or none."""
     return f"{number:,}" if number else "none"

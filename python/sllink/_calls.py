@@ -3,9 +3,6 @@
 import ctypes
 from typing import Any, List, Tuple
 
-VERBS = "show", "check", "packets", "normalise"
-KINDS = "tm", "tc"
-
 
 class Managed(ctypes.Structure):
     """sllink_managed."""
@@ -28,13 +25,11 @@ def loaded(path: str) -> Any:
     """The library, with the types of its calls over recordings."""
     calls = ctypes.CDLL(path)
     size, octets, managed = ctypes.c_size_t, ctypes.c_char_p, ctypes.POINTER(Managed)
-    for kind in KINDS:
-        same = getattr(calls, f"sllink_same_packets_{kind}")
-        same.argtypes = [managed, octets, size, octets, size, ctypes.POINTER(ctypes.c_bool)]
-        same.restype = ctypes.c_uint
-        for verb in VERBS:
+    for kind in "tm", "tc":
+        for verb in "show", "check", "packets", "normalise", "same_packets":
             call = getattr(calls, f"sllink_{verb}_{kind}")
-            call.argtypes = [managed, octets, size, octets, size, ctypes.POINTER(size), ctypes.POINTER(Totals)]
+            answers: List[Any] = [ctypes.c_bool] if verb == "same_packets" else [size, Totals]
+            call.argtypes = [managed, octets, size, octets, size, *map(ctypes.POINTER, answers)]
             call.restype = ctypes.c_uint
     return calls
 

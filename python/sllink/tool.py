@@ -20,7 +20,6 @@ from ._options import ASKS
 
 
 STOPS = (signal.SIGHUP, signal.SIGINT, signal.SIGTERM)
-NO_MEMORY = "there is not enough memory"
 
 
 class Refused(Exception):
@@ -164,13 +163,13 @@ def _status(name: str, main: Callable[[List[str]], int], text: str) -> int:
         return status
     except BrokenPipeError:
         return 2
-    except OSError as error:
-        said = NO_MEMORY if error.errno == errno.ENOMEM else (
-            f"{shown(error.filename) if error.filename else 'output'}: {reason_of(error)}")
+    except (MemoryError, OSError) as error:
+        if isinstance(error, MemoryError) or error.errno == errno.ENOMEM:
+            said = "there is not enough memory"
+        else:
+            said = f"{shown(error.filename) if error.filename else 'output'}: {reason_of(error)}"
     except (Refused, SllinkError) as reason:
         said = str(reason)
-    except MemoryError:
-        said = NO_MEMORY
     except Exception as error:                               # pylint: disable=broad-except
         # a fault of the tool itself; its status mustn't be 1, which may be an answer
         said = f"{type(error).__name__}: {error}"

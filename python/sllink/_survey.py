@@ -12,8 +12,7 @@ from typing import Counter, Dict, Iterator, List, NamedTuple, Optional, Sequence
 
 from ._check_words import CELLED
 from ._program import blocks
-from ._state import State
-from .tool import shown
+from .tool import State, shown
 
 BINS = 480                                                # stretches of a picture, in which frames are counted
 SPOTS, MARKED = 960, 120                                  # those in which anomalies are counted; of a long recording

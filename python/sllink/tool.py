@@ -56,6 +56,21 @@ def reason_of(error: BaseException) -> str:
     return getattr(error, "strerror", None) or str(error)
 
 
+class State:
+    """The size of a recording, and when it changed, as they are before it is read, for what reads it more than once."""
+
+    def __init__(self, recording: str) -> None:
+        require_file(recording)
+        self.recording, state = recording, os.stat(recording)
+        self.size, self._changed = state.st_size, state.st_mtime_ns
+
+    def require_unchanged(self) -> None:
+        """Refuses a recording that has another size now, or was written since."""
+        state = os.stat(self.recording)
+        if (state.st_size, state.st_mtime_ns) != (self.size, self._changed):
+            raise Refused(f"{shown(self.recording)}: has changed while it was read")
+
+
 def require_name(word: str) -> None:
     """Refuses a recording whose name begins like an option."""
     if word.startswith("-"):

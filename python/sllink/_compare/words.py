@@ -76,8 +76,7 @@ from typing import Deque, List, Optional, Set, Tuple
 
 from .._check_words import CHECK_WORDS
 from .._questions import QUESTIONS
-from .._state import State
-from ..tool import Refused, own_options, require_name, shown
+from ..tool import Refused, State, own_options, require_name, shown
 
 HELP = __doc__
 NAME = "sllink-compare"

@@ -8,7 +8,7 @@ sllink-compare has a word for each, with which --allow answers it; that of the l
     foreign    `check` has lines of a word that mostly comes of a wrong option
 """
 
-from typing import TYPE_CHECKING, Collection, List, Optional, Sequence, Union
+from typing import TYPE_CHECKING, Collection, Iterator, List, Sequence, Union
 
 from ._check_words import CHECK_WORDS, REASONS, Reason
 from ._contradiction import contradiction
@@ -37,30 +37,25 @@ def mostly_skipped(it: "Read") -> bool:
 
 # In a line of sllink-compare.
 
-def contradicted(some: Sequence["Read"], allowed: Collection[str]) -> Optional[str]:
-    """What the first frames of a recording show that its options deny, where --allow doesn't answer it."""
+def unanswered(some: Sequence["Read"], allowed: Collection[str]) -> Iterator[str]:
+    """Why nothing can be said of recordings, where --allow doesn't answer it: first what the frames show against the
+    options."""
     for it in some if "options" not in allowed else ():
         found = contradiction(it.kind, it.recording, it.options)
         if found:
             command = command_of(it.recording)
-            return (f"{shown(it.recording)}: {found}; are the options right? --allow options says so"
-                    + (f"; sllink-identify has: {command}" if command else ""))
-    return None
-
-
-def unanswered(some: Sequence["Read"], allowed: Collection[str]) -> Optional[str]:
-    """Why nothing can be said of a recording, where --allow doesn't answer it."""
-    silent = [it for it in some if not it.packets]
-    if "nothing" not in allowed and silent:
-        if len(silent) == 2:
-            return "neither recording delivers a packet; are the options right?" + _perhaps(silent[0])
-        return (f"{shown(silent[0].recording)}: delivers no packet; are the options right? --allow nothing says so"
-                + _perhaps(silent[0], ";"))
+            yield (f"{shown(it.recording)}: {found}; are the options right? --allow options says so"
+                   + (f"; sllink-identify has: {command}" if command else ""))
+    silent = [it for it in some if not it.packets and "nothing" not in allowed]
+    if len(silent) == 2:
+        yield "neither recording delivers a packet; are the options right?" + _perhaps(silent[0])
+    for it in silent:
+        yield (f"{shown(it.recording)}: delivers no packet; are the options right? --allow nothing says so"
+               + _perhaps(it, ";"))
     for it in some:
         if "most" not in allowed and mostly_skipped(it) and it.packets:
-            return (f"{shown(it.recording)}: {it.skipped} of {it.frames} frames are skipped; are the options right? "
-                    "--allow most says so" + _perhaps(it, ";"))
-    return None
+            yield (f"{shown(it.recording)}: {it.skipped} of {it.frames} frames are skipped; are the options right? "
+                   "--allow most says so" + _perhaps(it, ";"))
 
 
 def _perhaps(it: "Read", before: str = "") -> str:

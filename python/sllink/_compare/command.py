@@ -11,7 +11,7 @@ from typing import BinaryIO, Callable, Iterator, List, Optional, cast
 from .. import SllinkError, lines, normal_form
 from .._check_words import CHECK_WORDS
 from .._program import packet_lines
-from .._questions import contradicted, doubted, unanswered
+from .._questions import doubted, unanswered
 from ..tool import Refused, about, shown
 from .difference import Difference, Hunk, Runs
 from .store import Channel, Packets, room
@@ -29,8 +29,7 @@ def main(given: List[str]) -> int:
         checked.append(Checked(words, side))
         print(checked[-1], flush=True)
     doubts = doubts_of(checked, words)
-    asked = contradicted(checked, words.allowed) or unanswered(checked, words.allowed)
-    if asked:
+    for asked in unanswered(checked, words.allowed):
         raise Refused(asked)
     same = same_forms(words, checked)
     if not same:

@@ -24,7 +24,6 @@ ALONE = {
     "tm": "Does the recording hold TM frames alone, with sync markers, parity and randomisation taken off?",
     "tc": "Does the recording hold TC frames alone, with CLTUs and randomisation taken off?",
 }
-IDENTIFY = "sllink-identify says what a recording is."
 REST = {"tm": "Is --tm-length right?", "tc": "Is --tc-fecf right?"}
 DISCARDED = ("FARM-1 discards most frames of type AD. Does the recording begin in mid-pass, and does --vr-of name the "
              "V(R) of that moment for each virtual channel?")
@@ -92,5 +91,5 @@ def questions(survey: "Survey") -> List[str]:
         asked.append("No packet is delivered. Are the options right?")
     if asked:
         said = identified(survey.recording)
-        asked[-1] += f" sllink-identify says: {said}." if said else f" {IDENTIFY}"
+        asked[-1] += f" sllink-identify says: {said}." if said else " sllink-identify says what a recording is."
     return asked

@@ -102,8 +102,7 @@ def field_of(frame: bytes, trailer: int) -> Tuple[bytes, int]:
 
 def closings(frame: bytes, trailer: int) -> int:
     """How much speaks for this number of octets after the data and the operational control field: idle data that are
-    one octet up to their end, and an operational control field that is a CLCW, with COP-1 in effect and its spare bits
-    0."""
+    one octet up to their end, and an operational control field that begins as a CLCW does, with spare bits of 0."""
     field, pointer = field_of(frame, trailer)
     idle = pointer == 2046 and not frame[4] & 0x40 and len(field) > 8 and field.count(field[0]) == len(field)
     first, second, third = frame[len(frame) - trailer - 4:][:3]

@@ -391,6 +391,7 @@ SHAPES = {name: Shape(kind, ("--scid", "1", *words.split()) * (kind != "paths"),
         ("spacecraft-in-turn", spacecraft_in_turn, "each frame of any spacecraft"),)),
     ("tm", "--tm-length 1115", 1, False, (
         ("noise", lambda it: (it.noise() for _ in count()), "any octets"),
+        ("few-octets", lambda it: (it.noise(SOME, 4) for _ in count()), "octets from 0 to 3 in no order"),
         ("tm-phases", shifting("tm_short_packets", 1115), "other octets after each 24 to 59 frames"),
         ("tm-nested", tm_nested, "frames that hold frames of 33 octets with counts that rise"),
         ("marks-at-random", marks_at_random, "sync markers, start sequences and heads of archives, some cut off"),

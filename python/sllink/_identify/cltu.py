@@ -17,12 +17,14 @@ def cltus(recording: RecordingFile, head: bytes) -> Optional[Answer]:
     units: List[bytes] = []
     first = end = covered = 0
     for place in re.finditer(re.escape(START), head):
+        if place.start() < end:
+            continue
         at, unit = place.start() + 2, bytearray()
-        while place.start() >= end and at + 8 <= len(head) and head[at:at + 8] != TAIL and (
-                head[at + 7] & 0xFE == parity(head[at:at + 7])):
-            recording.look(at)
+        recording.look(at)
+        while at + 8 <= len(head) and head[at:at + 8] != TAIL and head[at + 7] & 0xFE == parity(head[at:at + 7]):
             unit += head[at:at + 7]
             at += 8
+            recording.look(at)
         if unit:
             first, end = first if units else place.start(), at
             units.append(bytes(unit))

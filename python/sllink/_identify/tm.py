@@ -17,7 +17,7 @@ def tm(recording: RecordingFile, head: bytes) -> List[Answer]:
     then from the shortest on."""
     candidates: List[Tuple[bool, int, Frames]] = []
     for stride, _, rows in strides(head):
-        recording.look(min(rows, 64) * stride, 3 * min(rows, 64))
+        recording.look(min(rows, 64) * stride, 4 * min(rows, 64))
         frames = [head[at:at + stride] for at in range(0, min(rows, 64) * stride, stride)]
         known = Frames([frames], stride)
         first = Frames([frames[:12]], stride)
@@ -47,7 +47,7 @@ def shifted_tm(recording: RecordingFile, head: bytes) -> List[Answer]:
             if len(block) < 3 * stride:
                 break
             counts = phases(block, stride, None, 12)
-            recording.look(place, sum(counts.values()) // 16)
+            recording.look(place, stride // 20 + sum(counts.values()) // 16)
             rows = min(12, len(block) // stride)
             found += [(rise / rows, stride, at) for at, rise in counts.most_common(3) if rise >= max(3, 0.25 * rows)]
         candidates: List[Tuple[int, int, Frames]] = []

@@ -49,13 +49,18 @@ class TmSearch:
     def fits(self, block: bytes, at: int) -> bool:
         """Whether a frame of these seems to be here."""
         self.recording.look(self.base + at)
+        return self.seems(block, at)
+
+    def seems(self, block: bytes, at: int) -> bool:
+        """The same, where it is counted otherwise."""
         if self.fecf:
             return block[at] < 64 and not crc_hqx(block[at:at + self.length], 0xFFFF)
         return (block[at] << 4 | block[at + 1] >> 4) in self.keys
 
     def goes_on(self, block: bytes, at: int) -> bool:
         """Whether frames come after this one."""
-        after = [self.fits(block, place) for place in
+        self.recording.look(self.base + at, 3 if self.fecf else 1)
+        after = [self.seems(block, place) for place in
                  range(at + self.length, min(at + 4 * self.length, len(block) - self.length + 1), self.length)]
         return sum(after) >= max(1, min(2, len(after)))
 

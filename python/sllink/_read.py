@@ -169,7 +169,7 @@ def difference(kind: str, a: Recording, b: Recording, options: Words, b_options:
             for side, recording, of in zip(sides, (a, b), (options, options if b_options is None else b_options)):
                 with packet_lines(kind, recording, of, program) as listing:
                     side.take(listing, kind)
-            yield from Difference(sides, folder, by_apid=False).runs()
+            yield from Difference(sides, folder).runs()
     except Refused as reason:
         raise OSError(str(reason)) from None
 

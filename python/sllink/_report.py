@@ -11,7 +11,7 @@ from ._page import Table, facts, figure, folded, heading, listing, page, paragra
 from ._picture import Picture
 from ._questions import questions
 from ._survey import MOST_LINES, MOST_LOCKOUTS, Reports, Survey
-from ._tally import MOST_APIDS, MOST_RUNS, Lacks, Missing, Tally
+from ._tally import MOST_APIDS, MOST_RUNS, Lacks, Tally
 from ._verdict import listed, lost_frames, missing_counts, number_of, said, said_of_two
 from .tool import about, shown
 
@@ -235,11 +235,11 @@ def packets(tally: Tally) -> List[str]:
     losses = ["Jumps", "Missing by the counts"]
     heads = ["Virtual channel", *["MAP"] * with_map, "APID", "Packets", *losses, "Octets", "First count", "Last count"]
     table = Table("Packets", heads, losses, ["MAP", "APID", "First count", "Last count"])
-    for it in [*sorted(tally.counts.values(), key=lambda it: it.key), tally.others]:
-        table.rows.append([*columns(it.key, with_map), it.packets, it.jumps, it.missing, it.octets, it.first, it.last])
+    for key, it in [*sorted(tally.counts.items()), ((0, 0, 0), tally.others)]:
+        table.rows.append([*columns(key, with_map), it.packets, it.jumps, it.missing, it.octets, it.first, it.last])
     table.sum_up()
     table.rows.pop()                                      # the others
-    table.left = tally.others.number
+    table.left = tally.left
     several = len({apid for _, _, apid in tally.counts}) < len(tally.counts)
     return [table.html(), paragraph(JUMPS + SEVERAL * several + FIRST * bool(table.left), "note")]
 
@@ -273,11 +273,10 @@ def lacked(one: Recording, other: Recording, lacks: Lacks) -> List[str]:
     table = differing(one, other, lacks)
     if table.rows:
         parts.append(table.html())
-    if not lacks.are_all_known():
+    if lacks.left:
         parts.append(paragraph(f"Only the {MOST_APIDS:,} APIDs of channels that come first are counted each.", "note"))
-    for it, missing in (one, lacks.only_other), (other, lacks.only_one):
-        parts += runs(it, missing, lacks)
-    if lacks.moved.total:
+    parts += runs(one, lacks, 1) + runs(other, lacks, 0)
+    if lacks.moved:
         parts.append(paragraph(f"The packets in another order are on {', '.join(lacks.reordered())}. They are in the "
                                "runs of each recording.", "note"))
     return parts
@@ -290,11 +289,10 @@ def differing(one: Recording, other: Recording, lacks: Lacks) -> Table:
     last = [f"Lacked by {name}" for name in names]
     heads = ["Virtual channel", *["MAP"] * with_map, "APID", *(f"Packets in {name}" for name in names), *last]
     table = Table("APIDs with missing packets", heads, last, ["MAP", "APID"])
-    missing = lacks.only_other, lacks.only_one
-    for key in sorted({*missing[0].each, *missing[1].each}):
-        numbers = [lacks.of(of, key) for of in missing]
-        if any(numbers):
-            table.rows.append([*columns(key, with_map), *(it.tally.of(key) for it in (one, other)), *numbers])
+    for key, (here, there, moved) in sorted(lacks.each.items()):
+        if here > moved or there > moved:
+            table.rows.append([*columns(key, with_map), one.tally.of(key), other.tally.of(key), there - moved,
+                               here - moved])
     return table
 
 
@@ -303,11 +301,11 @@ def shortened(name: str) -> str:
     return name if len(name) <= 32 else f"{name[:16]}..{name[-14:]}"
 
 
-def runs(it: Recording, missing: Missing, lacks: Lacks) -> List[str]:
-    """The packets that a recording lacks, or has in another order, in runs of the sequence count."""
+def runs(it: Recording, lacks: Lacks, side: int) -> List[str]:
+    """The packets that a recording lacks, or has in another order, in runs of the other side's sequence count."""
+    missing, number, moved = lacks.only[side], lacks.total(side), lacks.moved
     if not missing.number:
         return [paragraph(f"{it.name} lacks no packet of the other.")]
-    number, moved = lacks.total(missing), lacks.moved.total
     words = f"{it.name} lacks {number_of(number, 'packet') if number else 'no packet'}"
     words += f" and has {moved:,} in another order" if moved else ""
     words += f", in {number_of(missing.number, 'run')} of the sequence count"

@@ -89,10 +89,9 @@ def said_of_two(one: Any, other: Any, lacks: Lacks) -> str:
         return "Neither recording delivers a packet."
     if lacks.same:
         return f"Both recordings deliver the same {number_of(here, 'packet')}."
-    numbers = lacks.total(lacks.only_other), lacks.total(lacks.only_one)
+    numbers, moved = (lacks.total(1), lacks.total(0)), lacks.moved
     if not any(numbers):
         return f"The recordings deliver the same packets in another order, on {listed(lacks.reordered())}."
-    moved = lacks.moved.total
     return ("The recordings deliver different packets: "
             f"{one.name} lacks {some(numbers[0])} of the {there:,} in {other.name}, and "
             f"{other.name} lacks {some(numbers[1])} of the {here:,} in {one.name}."

@@ -13,21 +13,14 @@ PLACED = Struct(">16sQ")                                  # a digest, and the nu
 
 def same_front(a: Records, b: Records) -> int:
     """How many records the two have in common at the front, of those that are looked at: few first, then more."""
-    number = NEAR
+    number = 0
     for some in 16, 256, NEAR:
         number = min(a.window(some), b.window(some))
-        if a.buffer[a.at:a.at + number * SIZE] != b.buffer[b.at:b.at + number * SIZE]:
-            break
-    else:
-        return number
-    low, high = 0, number                                    # the same at the front up to low, and not up to high
-    while high - low > 1:
-        middle = (low + high) // 2
-        if a.buffer[a.at:a.at + middle * SIZE] == b.buffer[b.at:b.at + middle * SIZE]:
-            low = middle
-        else:
-            high = middle
-    return low
+        here, there = a.first(number), b.first(number)
+        if here != there:
+            differing = int.from_bytes(here, "big") ^ int.from_bytes(there, "big")
+            return number - 1 - (differing.bit_length() - 1) // (8 * SIZE)
+    return number
 
 
 def meeting(a: Records, b: Records, least: int, most: int) -> Optional[Tuple[int, int]]:

@@ -142,7 +142,7 @@ def by_lines(words: Words, checked: List[Checked], doubts: List[str]) -> bool:
         same = listing.same()
         if same:
             require_none(doubts)
-        moved = sum(listing.difference.moved.values())
+        moved = listing.difference.moved
         if moved:
             print(f"in another order: {moved} of these packets, which are listed for each")
         if union:
@@ -157,7 +157,7 @@ class Listing:
                  differ: Callable[[], None]) -> None:
         self.words, self.union, self.differ = words, union, differ
         self.sides = [packets_of(words, checked[side], side, folder) for side in (0, 1)]
-        self.difference = Difference(self.sides, folder, by_apid=False)
+        self.difference = Difference(self.sides, folder)
 
     def same(self) -> bool:
         """Goes through the channels; whether the packets are the same."""

@@ -2,7 +2,7 @@
 
 import collections
 from collections import deque
-from typing import Counter, Deque, Dict, Iterator, List, NamedTuple, OrderedDict, Sequence, Tuple
+from typing import Deque, Dict, Iterator, List, NamedTuple, OrderedDict, Sequence, Tuple
 
 from .._records import Run, run_line
 from .alignment import hunks
@@ -26,12 +26,10 @@ class Hunk(NamedTuple):
 
 
 class Difference:
-    """What two recordings have. `moved` counts the packets that are listed for each, as they come in another order; it
-    is by APID where `by_apid` is, of which there may be many."""
+    """What two recordings have. `moved` counts the packets that are listed for each, as they come in another order."""
 
-    def __init__(self, sides: Sequence[Packets], folder: str, by_apid: bool = True) -> None:
-        self.sides, self.folder, self.by_apid = sides, folder, by_apid
-        self.moved: Counter[Key] = collections.Counter()
+    def __init__(self, sides: Sequence[Packets], folder: str) -> None:
+        self.sides, self.folder, self.moved = sides, folder, 0
 
     def channels(self) -> List[Channel]:
         """The channels of both."""
@@ -45,14 +43,12 @@ class Difference:
             only = ((here, listed.new(0, here)), (there, listed.new(1, there))) if not both else NOTHING
             for records, new in only:
                 if 0 in new:
-                    self._count(channel, records, new)
+                    self.move(channel, records, new)
             yield Hunk(both, only)
 
-    def _count(self, channel: Channel, records: bytes, new: bytes) -> None:
-        if self.by_apid:
-            self.moved.update((*channel, apid) for (_, apid, _), it in zip(RECORD.iter_unpack(records), new) if not it)
-        else:
-            self.moved[(*channel, -1)] += new.count(0)
+    def move(self, channel: Channel, records: bytes, new: bytes) -> None:
+        """Takes packets, of which those that aren't new are listed for both."""
+        self.moved += new.count(0)
 
     def runs(self) -> Iterator[Run]:
         """The packets that only one of them has, in runs."""

@@ -32,8 +32,8 @@ ROOT = pathlib.Path(__file__).resolve().parents[2]
 sys.path.insert(0, str(ROOT / "python"))
 
 import sllink  # noqa: E402
-from sllink import tool  # noqa: E402
-from sllink._library import octets_of  # noqa: E402
+from sllink import _calls, tool  # noqa: E402
+from sllink._library import INSTALLED, octets_of  # noqa: E402
 
 EXAMPLES = ROOT / "examples"
 STATION = sllink.Options(scid=1, tm_length=32, tm_fecf=True)
@@ -209,6 +209,18 @@ class TheOptions(unittest.TestCase):
         self.assertEqual(ask("--version"), f"sllink {sllink.__version__}\n")
         self.assertIn(f'version = "{sllink.__version__}"', (ROOT / "python" / "pyproject.toml").read_text())
 
+    def test_those_of_the_library(self):
+        """Its structures are those of the header, with all options; it is looked for by the name that is installed."""
+        header = (ROOT / "include" / "sllink.h").read_text()
+        for name, structure in ("managed", _calls.Managed), ("totals", _calls.Totals):
+            fields = header.partition(f"typedef struct sllink_{name} {{")[2].partition("}")[0]
+            self.assertEqual(re.findall(r"^ +\w+ (\w+)", fields, re.M), [it for it, _ in structure._fields_])
+        named = {"scid": "spacecraft", "vr_of": "vr"}
+        self.assertEqual({named.get(it.name, it.name) for it in dataclasses.fields(sllink.Options)},
+                         {it for it, _ in _calls.Managed._fields_})
+        soname = re.findall(r"^SONAME = (\S+)", (ROOT / "Makefile").read_text(), re.M)
+        self.assertEqual([os.path.basename(INSTALLED)], soname)
+
     def test_each_as_words(self):
         words = ["--scid", "1", "--tm-length=32", "--tm-fecf"]
         self.assertEqual(list(sllink.packets("tm", EXAMPLES / "first-station.tm", words)),
@@ -249,6 +261,7 @@ class TheOptions(unittest.TestCase):
                 sllink.Options(**{"scid": 1, name: value})
             self.assertEqual((raised.exception.status, str(raised.exception)),
                              (2, f"sllink: {name}={value!r}; {name} takes {takes}"))
+        self.assertEqual({*EDGES, "tm_fecf", "tc_fecf"}, {it.name for it in dataclasses.fields(sllink.Options)})
         for name, (taken, refused) in EDGES.items():
             for value in taken + refused:
                 word = f"--{name.replace('_', '-')}=" + re.sub(r"[][{} ]", "", str(value))

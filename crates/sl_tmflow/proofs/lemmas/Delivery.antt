@@ -1,8 +1,7 @@
-pub mod AtStarts
 pub mod Channel
-pub mod Delivery
 pub mod End
 pub mod Handed
+pub mod Listed
 pub mod OneMore
 pub mod Outcome
 pub mod Push

@@ -1,12 +1,9 @@
 pub mod Canonical
 pub mod Cut
 pub mod CutDelivery
-pub mod CutView
 pub mod FieldStart
 pub mod Fill
-pub mod Form
-pub mod LeastStart
+pub mod Frames
 pub mod Left
 pub mod Order
-pub mod Push
-pub mod Steps
+pub mod Pieces

@@ -1,7 +1,4 @@
-pub mod KeptList
-pub mod KeptPacket
-pub mod KeptRecording
+pub mod Kept
+pub mod KeptFrames
 pub mod KeptRun
 pub mod Local
-pub mod Loss
-pub mod Sublist

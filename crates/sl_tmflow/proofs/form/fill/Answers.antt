@@ -1,6 +1,6 @@
 use Rattle.std.proofs.Common.{◌≤◌, ◌∙◌, arith, sym}
 use Rattle.sl_tmframe.specs.PacketFrame.{field_room_of}
-use Rattle.sl_tmflow.proofs.lemmas.Form.Push.{none_beyond_filling}
+use Rattle.sl_tmflow.proofs.lemmas.Form.Frames.{none_beyond_filling}
 use Rattle.sl_tmflow.proofs.form.fill.Goals as goal
 
 pub returns-clause-beyond : goal.returns-clause-beyond

@@ -19,19 +19,12 @@ use Rattle.sl_tmflow.specs.Incomplete.{frame_incomplete, incomplete_octets}
 use Rattle.sl_tmflow.specs.Extraction.{ExtractorState, HasSeen, HasProcessed, ended_by, held_as}
 use Rattle.sl_tmflow.specs.PacketStart.{whole_packets}
 use Rattle.sl_tmflow.specs.StepReport.{StepReport, counts_of}
-use Rattle.sl_tmflow.proofs.lemmas.Delivery.AtStarts.{at_rest}
-use Rattle.sl_tmflow.proofs.lemmas.Incomplete.List.{incomplete_of_idle, incomplete_of_opaque, incomplete_without_pointer, incomplete_from_pointer}
+use Rattle.sl_tmflow.proofs.lemmas.Places.{has_last}
+use Rattle.sl_tmflow.proofs.lemmas.Delivery.Start.{at_rest}
+use Rattle.sl_tmflow.proofs.lemmas.Incomplete.List.{field_incomplete, incomplete_from_pointer}
 use Rattle.sl_tmflow.proofs.lemmas.Delivery.OneMore.{carried, carried_into, incomplete_first, incomplete_next, ending_first, ending_next}
 
 -- ---- the last frame of a channel
-
-abbrev pub EndsWith : List TmView → Type 0
-EndsWith channel = (before : List TmView) × (last : TmView) × (channel ≡ before ++ last ∷ [])
-
-ends_with : (view : TmView) (later : List TmView) → EndsWith (view ∷ later)
-ends_with view [] = ([], view, refl)
-ends_with view (next ∷ later) =
-    let w = ends_with next later in (view ∷ w.0, w.1, ap (λ l. view ∷ l) w.2)
 
 pub last_count-push : (before : List TmView) (last : TmView) → last_count (before ++ last ∷ []) ≡ Some last.vc_count
 last_count-push [] last = refl
@@ -57,7 +50,7 @@ one_more_after state before last next s =
 pub one_more : (state : ChannelState) (channel : List TmView) (next : TmView) → HasSeen state channel → packets_ending channel next ≡ packets_after state next
 one_more state [] next s = ending_first next ∙ ap (λ c. ended (held_step c state.held next) ++ whole_packets next.field) (sym s.count)
 one_more state (view ∷ later) next s =
-    let w = ends_with view later in
+    let w = has_last view later in
     ap (λ l. packets_ending l next) w.2 ∙ one_more_after state w.0 w.1 next (subst (HasSeen state) w.2 s)
 
 -- ---- the octets that are held
@@ -113,22 +106,18 @@ held_at_rest : (view : TmView) (rest : List ℕ) → held_as (incomplete_in (fro
 held_at_rest view [] = ap held_as (none_incomplete (front []))
 held_at_rest view (octet ∷ rest) = rest_held view octet rest (front (octet ∷ rest))
 
-incomplete_in_field : (view : TmView) (field : DataField) (kept : List ℕ) → view.field ≡ field
-    → ((pointer : ℕ) (octets : List ℕ) → field ≡ Packets (Some pointer) octets → kept ≡ [])
-    → held_as (held_after field kept) ≡ held_as kept ++ frame_incomplete view []
-incomplete_in_field view (Packets None octets) kept is none =
-    sym (ap (λ l. held_as kept ++ l) (incomplete_without_pointer view [] octets is) ∙ append-nil (held_as kept))
-incomplete_in_field view (Packets (Some pointer) octets) kept is none =
-    held_at_rest view (rest_of (drop pointer octets)) ∙ sym (incomplete_from_pointer view [] pointer octets is)
-    ∙ ap (λ l. held_as l ++ frame_incomplete view []) (sym (none pointer octets refl))
-incomplete_in_field view Idle kept is none = sym (ap (λ l. held_as kept ++ l) (incomplete_of_idle view [] is) ∙ append-nil (held_as kept))
-incomplete_in_field view Opaque kept is none = sym (ap (λ l. held_as kept ++ l) (incomplete_of_opaque view [] is) ∙ append-nil (held_as kept))
+incomplete_in_field : (view : TmView) (field : DataField) (kept : List ℕ) → ((pointer : ℕ) (octets : List ℕ) → field ≡ Packets (Some pointer) octets → kept ≡ [])
+    → held_as (held_after field kept) ≡ held_as kept ++ field_incomplete view [] field
+incomplete_in_field view (Packets (Some pointer) octets) kept none =
+    held_at_rest view (rest_of (drop pointer octets)) ∙ sym (incomplete_from_pointer view [] pointer octets)
+    ∙ ap (λ l. held_as l ++ field_incomplete view [] (Packets (Some pointer) octets)) (sym (none pointer octets refl))
+incomplete_in_field view field kept none = sym (append-nil (held_as kept))
 
 held_by_frame : (count : Option ℕ) (held : List ℕ) (next : TmView)
     → held_as (held_after next.field (kept_octets (held_step count held next) held next))
     ≡ held_as (kept_octets (held_step count held next) held next) ++ frame_incomplete next []
 held_by_frame count held next =
-    incomplete_in_field next next.field (kept_octets (held_step count held next) held next) refl (λ pointer octets is. none_kept count held next pointer octets is)
+    incomplete_in_field next next.field (kept_octets (held_step count held next) held next) (λ pointer octets is. none_kept count held next pointer octets is)
 
 -- ---- one more frame
 
@@ -158,7 +147,7 @@ seen_next state before last next s =
 pub seen_more : (state : ChannelState) (channel : List TmView) (next : TmView) → HasSeen state channel → HasSeen (state_after state next) (channel ++ next ∷ [])
 seen_more state [] next s = seen_first state next s
 seen_more state (view ∷ later) next s =
-    let w = ends_with view later in
+    let w = has_last view later in
     subst (λ l. HasSeen (state_after state next) (l ++ next ∷ [])) (sym w.2) (seen_next state w.0 w.1 next (subst (HasSeen state) w.2 s))
 
 -- ---- one of the channels

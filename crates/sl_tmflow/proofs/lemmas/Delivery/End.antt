@@ -14,7 +14,8 @@ use Rattle.sl_tmflow.specs.PacketStart.{IsStart}
 use Rattle.sl_tmflow.specs.Delivery.{IsDeliveredBy, Delivery, IsDelivery, EndsAreInOrder, EachEndsByTheNextStart, start_offset, NoneOverlap}
 use Rattle.sl_tmflow.specs.Incomplete.{HasNoStart}
 use Rattle.sl_tmflow.proofs.lemmas.Places.{same_place}
-use Rattle.sl_tmflow.proofs.lemmas.Incomplete.Incomplete.{reassembly-append, reassembly-push}
+use Rattle.sl_tmflow.proofs.lemmas.Delivery.Listed.{from_frame}
+use Rattle.sl_tmflow.proofs.lemmas.Incomplete.After.{reassembly-append, reassembly-push}
 use Rattle.sl_tmflow.proofs.lemmas.Delivery.Outcome.{delivered_tail, incomplete_before_more, delivered_goes_on}
 use Rattle.std.proofs.lemmas.Option.{same_Some}
 
@@ -71,30 +72,26 @@ no_start_before_last view octets (v ∷ earlier) next second run packet d =
 
 -- ---- of two deliveries
 
-pub at_start : (x : DataField) (first : Option ℕ) (octets : List ℕ) (first' : Option ℕ) (octets' : List ℕ)
-    → x ≡ Packets first octets → x ≡ Packets first' octets' → (first' ≡ first) × (octets' ≡ octets)
-at_start x first octets first' octets' is is' = let same : Packets first octets ≡ Packets first' octets' = sym is ∙ is' in (cc, cc)
-
--- the channel from a delivery's frame on
-from_frame : (channel : List TmView) (d : Delivery) (x : IsDelivery channel d) → channel ≡ x.before ++ x.view ∷ (x.run ++ x.after)
-from_frame channel d x = x.in_order ∙ append_assoc x.before (x.view ∷ x.run) x.after
+pub at_start : (data_field : DataField) (first : Option ℕ) (octets : List ℕ) (first' : Option ℕ) (octets' : List ℕ)
+    → data_field ≡ Packets first octets → data_field ≡ Packets first' octets' → (first' ≡ first) × (octets' ≡ octets)
+at_start data_field first octets first' octets' is is' = let same : Packets first octets ≡ Packets first' octets' = sym is ∙ is' in (cc, cc)
 
 -- the start of another packet in the same frame is one of the same data field
-start_in_frame : (channel : List TmView) (d e : Delivery) (x : IsDelivery channel d) → IsDelivery channel e → d.frame ≡ e.frame
-    → IsStart x.octets x.first e.start
-start_in_frame channel d e x y same =
-    let view : x.view ≡ y.view =
-    (same_place x.before y.before x.view y.view (x.run ++ x.after) (y.run ++ y.after) (sym (from_frame channel d x) ∙ from_frame channel e y)
-    (omega (arith, x.frame, y.frame))).0 in
-    let (first, octets) = at_start x.view.field x.first x.octets y.first y.octets x.field (ap (λ v. v.field) view ∙ y.field) in
-    subst (λ o. IsStart o x.first e.start) octets (subst (λ f. IsStart y.octets f e.start) first y.start)
+start_in_frame : (channel : List TmView) (d e : Delivery) (is_d : IsDelivery channel d) → IsDelivery channel e → d.frame ≡ e.frame
+    → IsStart is_d.octets is_d.first e.start
+start_in_frame channel d e is_d is_e same =
+    let view : is_d.view ≡ is_e.view =
+    (same_place is_d.before is_e.before is_d.view is_e.view (is_d.run ++ is_d.after) (is_e.run ++ is_e.after) (sym (from_frame channel d is_d) ∙ from_frame channel e is_e)
+    (omega (arith, is_d.frame, is_e.frame))).0 in
+    let (first, octets) = at_start is_d.view.field is_d.first is_d.octets is_e.first is_e.octets is_d.field (ap (λ v. v.field) view ∙ is_e.field) in
+    subst (λ o. IsStart o is_d.first e.start) octets (subst (λ f. IsStart is_e.octets f e.start) first is_e.start)
 
 in_one_frame : (channel : List TmView) (d e : Delivery)
     → IsDelivery channel d → IsDelivery channel e → d.frame ≡ e.frame → d.start < e.start → d.ending ≤ e.frame
-in_one_frame channel d e x y same less =
-    let start = start_in_frame channel d e x y same in
-    let here = ends_in_its_frame x.view x.octets x.first d.start e.start x.run d.packet x.start start less x.delivered in
-    omega (arith, x.ending)
+in_one_frame channel d e is_d is_e same less =
+    let start = start_in_frame channel d e is_d is_e same in
+    let here = ends_in_its_frame is_d.view is_d.octets is_d.first d.start e.start is_d.run d.packet is_d.start start less is_d.delivered in
+    omega (arith, is_d.ending)
 
 -- a frame within the run of a delivery and before its last one
 within_run : (view : TmView) (octets : List ℕ) (run after : List TmView) (packet : List ℕ) (earlier : List TmView) (next : TmView) (later : List TmView)
@@ -111,36 +108,36 @@ within_run view octets run after packet earlier next later d same before =
     cases (second ∷ more) some d = no_start_before_last view octets earlier next second more packet d
 
 -- the frames between the starts of two packets
-frames_between : (channel : List TmView) (d e : Delivery) (x : IsDelivery channel d) (y : IsDelivery channel e) → d.frame < e.frame
-    → (earlier : List TmView) × (y.before ≡ (x.before ++ x.view ∷ []) ++ earlier) × (x.run ++ x.after ≡ earlier ++ y.view ∷ (y.run ++ y.after))
-frames_between channel d e x y less =
-    longer_begins (x.before ++ x.view ∷ []) (x.run ++ x.after) y.before (y.view ∷ (y.run ++ y.after))
-    (sym (from_frame channel e y) ∙ from_frame channel d x ∙ sym (append_assoc x.before (x.view ∷ []) (x.run ++ x.after)))
-    (omega (arith, x.frame, y.frame, length_push x.before x.view))
+frames_between : (channel : List TmView) (d e : Delivery) (is_d : IsDelivery channel d) (is_e : IsDelivery channel e) → d.frame < e.frame
+    → (earlier : List TmView) × (is_e.before ≡ (is_d.before ++ is_d.view ∷ []) ++ earlier) × (is_d.run ++ is_d.after ≡ earlier ++ is_e.view ∷ (is_e.run ++ is_e.after))
+frames_between channel d e is_d is_e less =
+    longer_begins (is_d.before ++ is_d.view ∷ []) (is_d.run ++ is_d.after) is_e.before (is_e.view ∷ (is_e.run ++ is_e.after))
+    (sym (from_frame channel e is_e) ∙ from_frame channel d is_d ∙ sym (append_assoc is_d.before (is_d.view ∷ []) (is_d.run ++ is_d.after)))
+    (omega (arith, is_d.frame, is_e.frame, length_push is_d.before is_d.view))
 
 -- a packet never ends after a later frame in which another one starts
 ended_by_then : (channel : List TmView) (d e : Delivery) → IsDelivery channel d → IsDelivery channel e → d.frame < e.frame → e.frame < d.ending → ⊥
-ended_by_then channel d e x y less over =
-    let (earlier, is, rest) = frames_between channel d e x y less in
-    let none : y.first ≡ None = within_run x.view (drop d.start x.octets) x.run x.after d.packet earlier y.view (y.run ++ y.after) x.delivered rest
-    (omega (arith, x.frame, y.frame, x.ending, ap length is, length_push x.before x.view, length-append (x.before ++ x.view ∷ []) earlier))
-    y.first y.octets y.field in
-    let both : Some y.start.pointer ≡ None = sym y.start.pointed ∙ none in
+ended_by_then channel d e is_d is_e less over =
+    let (earlier, is, rest) = frames_between channel d e is_d is_e less in
+    let none : is_e.first ≡ None = within_run is_d.view (drop d.start is_d.octets) is_d.run is_d.after d.packet earlier is_e.view (is_e.run ++ is_e.after) is_d.delivered rest
+    (omega (arith, is_d.frame, is_e.frame, is_d.ending, ap length is, length_push is_d.before is_d.view, length-append (is_d.before ++ is_d.view ∷ []) earlier))
+    is_e.first is_e.octets is_e.field in
+    let both : Some is_e.start.pointer ≡ None = sym is_e.start.pointed ∙ none in
     cc
 
 in_later_frame : (channel : List TmView) (d e : Delivery) → IsDelivery channel d → IsDelivery channel e → d.frame < e.frame → d.ending ≤ e.frame
-in_later_frame channel d e x y less =
+in_later_frame channel d e is_d is_e less =
     elim (cases_lt e.frame d.ending) [
-      | inl over ↦ absurd (ended_by_then channel d e x y less over)
+      | inl over ↦ absurd (ended_by_then channel d e is_d is_e less over)
       | inr by_then ↦ by_then
     ]
 
 pub each_ends_by_the_next_start : EachEndsByTheNextStart
-each_ends_by_the_next_start channel d e x y (inl less) = in_later_frame channel d e x y less
-each_ends_by_the_next_start channel d e x y (inr same) = in_one_frame channel d e x y same.0 same.1
+each_ends_by_the_next_start channel d e is_d is_e (inl less) = in_later_frame channel d e is_d is_e less
+each_ends_by_the_next_start channel d e is_d is_e (inr same) = in_one_frame channel d e is_d is_e same.0 same.1
 
 pub ends_are_in_order : EndsAreInOrder
-ends_are_in_order channel d e x y before = omega (arith, each_ends_by_the_next_start channel d e x y before, y.ending)
+ends_are_in_order channel d e is_d is_e before = omega (arith, each_ends_by_the_next_start channel d e is_d is_e before, is_e.ending)
 
 -- ---- places
 
@@ -183,19 +180,19 @@ begins_in_frame view octets run packet d none =
 
 apart_in_one_frame : (channel : List TmView) (d e : Delivery) → IsDelivery channel d → IsDelivery channel e → d.frame ≡ e.frame → d.start < e.start
     → start_offset channel d + length d.packet ≤ start_offset channel e
-apart_in_one_frame channel d e x y same less =
-    let start = start_in_frame channel d e x y same in
-    let here = ends_in_its_frame x.view x.octets x.first d.start e.start x.run d.packet x.start start less x.delivered in
-    let past = ends_by_start x.octets x.first d.start e.start d.packet x.delivered.ends.0 x.start start less x.delivered.is_packet
-    (begins_in_frame x.view (drop d.start x.octets) x.run d.packet x.delivered here) in
+apart_in_one_frame channel d e is_d is_e same less =
+    let start = start_in_frame channel d e is_d is_e same in
+    let here = ends_in_its_frame is_d.view is_d.octets is_d.first d.start e.start is_d.run d.packet is_d.start start less is_d.delivered in
+    let past = ends_by_start is_d.octets is_d.first d.start e.start d.packet is_d.delivered.ends.0 is_d.start start less is_d.delivered.is_packet
+    (begins_in_frame is_d.view (drop d.start is_d.octets) is_d.run d.packet is_d.delivered here) in
     omega (arith, past, ap (λ n. length (reassembly [] (take n channel))) same)
 
 -- the offset of a delivery's start, by the frames before it
-offset_is : (channel : List TmView) (d : Delivery) (x : IsDelivery channel d) → start_offset channel d ≡ length (reassembly [] x.before) + d.start
-offset_is channel d x =
-    let before : take d.frame channel ≡ x.before =
-    ap (λ l. take d.frame l) (from_frame channel d x) ∙ ap (λ n. take n (x.before ++ x.view ∷ (x.run ++ x.after))) x.frame
-    ∙ take_at x.before (x.view ∷ (x.run ++ x.after)) (length x.before) refl in
+offset_is : (channel : List TmView) (d : Delivery) (is_d : IsDelivery channel d) → start_offset channel d ≡ length (reassembly [] is_d.before) + d.start
+offset_is channel d is_d =
+    let before : take d.frame channel ≡ is_d.before =
+    ap (λ l. take d.frame l) (from_frame channel d is_d) ∙ ap (λ n. take n (is_d.before ++ is_d.view ∷ (is_d.run ++ is_d.after))) is_d.frame
+    ∙ take_at is_d.before (is_d.view ∷ (is_d.run ++ is_d.after)) (length is_d.before) refl in
     ap (λ l. length (reassembly [] l) + d.start) before
 
 agreeing_some : (ends : Bool) (place pointer : ℕ) → (if ends then Some place else None) ≡ Some pointer → place ≡ pointer
@@ -224,25 +221,25 @@ ends_by_pointer view octets run after packet earlier next later pointer field d 
 
 apart_in_later_frame : (channel : List TmView) (d e : Delivery) → IsDelivery channel d → IsDelivery channel e → d.frame < e.frame
     → start_offset channel d + length d.packet ≤ start_offset channel e
-apart_in_later_frame channel d e x y less =
-    let (earlier, is, rest) = frames_between channel d e x y less in
-    let carried : length (packet_data x.view) ≡ length x.octets = ap (λ f. length (data_of f)) x.field in
+apart_in_later_frame channel d e is_d is_e less =
+    let (earlier, is, rest) = frames_between channel d e is_d is_e less in
+    let carried : length (packet_data is_d.view) ≡ length is_d.octets = ap (λ f. length (data_of f)) is_d.field in
     let so_far = length (concat (map packet_data earlier)) in
-    let before : length (reassembly [] y.before) ≡ length (reassembly [] x.before) + length (packet_data x.view) + so_far =
-    ap (λ l. length (reassembly [] l)) is ∙ ap length (reassembly-append [] (x.before ++ x.view ∷ []) earlier)
-    ∙ length-append (reassembly [] (x.before ++ x.view ∷ [])) (concat (map packet_data earlier))
-    ∙ ap (λ l. length l + so_far) (reassembly-push [] x.before x.view)
-    ∙ ap (λ n. n + so_far) (length-append (reassembly [] x.before) (packet_data x.view)) in
-    let pointed : y.view.field ≡ Packets (Some y.start.pointer) y.octets = y.field ∙ ap (λ f. Packets f y.octets) y.start.pointed in
-    let past = ends_by_pointer x.view (drop d.start x.octets) x.run x.after d.packet earlier y.view (y.run ++ y.after) y.start.pointer y.octets x.delivered rest pointed in
-    let long = length-append (drop d.start x.octets) (concat (map packet_data earlier)) in
-    let inside = x.start.inside in
-    let here = y.start.here in
-    let dropped = length-drop d.start x.octets in
-    let from = offset_is channel d x in
-    let to = offset_is channel e y in
+    let before : length (reassembly [] is_e.before) ≡ length (reassembly [] is_d.before) + length (packet_data is_d.view) + so_far =
+    ap (λ l. length (reassembly [] l)) is ∙ ap length (reassembly-append [] (is_d.before ++ is_d.view ∷ []) earlier)
+    ∙ length-append (reassembly [] (is_d.before ++ is_d.view ∷ [])) (concat (map packet_data earlier))
+    ∙ ap (λ l. length l + so_far) (reassembly-push [] is_d.before is_d.view)
+    ∙ ap (λ n. n + so_far) (length-append (reassembly [] is_d.before) (packet_data is_d.view)) in
+    let pointed : is_e.view.field ≡ Packets (Some is_e.start.pointer) is_e.octets = is_e.field ∙ ap (λ f. Packets f is_e.octets) is_e.start.pointed in
+    let past = ends_by_pointer is_d.view (drop d.start is_d.octets) is_d.run is_d.after d.packet earlier is_e.view (is_e.run ++ is_e.after) is_e.start.pointer is_e.octets is_d.delivered rest pointed in
+    let long = length-append (drop d.start is_d.octets) (concat (map packet_data earlier)) in
+    let inside = is_d.start.inside in
+    let here = is_e.start.here in
+    let dropped = length-drop d.start is_d.octets in
+    let from = offset_is channel d is_d in
+    let to = offset_is channel e is_e in
     omega arith
 
 pub none_overlap : NoneOverlap
-none_overlap channel d e x y (inl less) = apart_in_later_frame channel d e x y less
-none_overlap channel d e x y (inr same) = apart_in_one_frame channel d e x y same.0 same.1
+none_overlap channel d e is_d is_e (inl less) = apart_in_later_frame channel d e is_d is_e less
+none_overlap channel d e is_d is_e (inr same) = apart_in_one_frame channel d e is_d is_e same.0 same.1

@@ -11,11 +11,9 @@ use Rattle.sl_tmflow.specs.Loss.{HandedOverAreKept, HandedOverAreSublist}
 use Rattle.sl_tmflow.specs.Recording.{packets_of_channel}
 use Rattle.sl_tmflow.specs.Sublist.{IsSublist}
 use Rattle.sl_tmflow.proofs.lemmas.Delivery.Channel.{other_seen, same_seen}
-use Rattle.sl_tmflow.proofs.lemmas.Loss.KeptList.{packets_are_kept}
-use Rattle.sl_tmflow.proofs.lemmas.Loss.KeptPacket.{packets_are_sublist}
 use Rattle.sl_tmflow.proofs.lemmas.Delivery.Push.{delivered_push}
-use Rattle.sl_tmflow.proofs.lemmas.Loss.Sublist.{sublist_filter}
 use Rattle.sl_packet.proofs.WithoutIdleLemmas.{without_idle-append}
+use Rattle.sl_tmflow.proofs.lemmas.Loss.Kept.{packets_are_kept, packets_are_sublist, sublist_filter}
 
 -- the packets that a frame adds to those of a virtual channel
 handed_step : (vc : ℕ) (views : List TmView) (next : TmView)

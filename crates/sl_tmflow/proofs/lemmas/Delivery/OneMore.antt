@@ -14,10 +14,10 @@ use Rattle.sl_tmflow.specs.Channel.{packet_data}
 use Rattle.sl_tmflow.specs.PacketStart.{starts_from, starts_of, whole_packets}
 use Rattle.sl_tmflow.specs.Delivery.{Delivery, Outcome, Completes, StillIncomplete, Undelivered, Continuation, Ends, Continues, Breaks, ended, step_of, after_step, outcome_after, outcome_of_front, outcome_of, delivery_of, frame_deliveries, deliveries_from, ending_in, packets_delivered, packets_ending}
 use Rattle.sl_tmflow.specs.Incomplete.{incomplete_octets, frame_incomplete, incomplete_of}
-use Rattle.sl_tmflow.proofs.lemmas.Incomplete.Incomplete.{last_of, last_of-push}
+use Rattle.sl_tmflow.proofs.lemmas.Incomplete.After.{last_of, last_of-push}
 use Rattle.sl_tmflow.proofs.lemmas.Delivery.Outcome.{outcome_delivered}
-use Rattle.sl_tmflow.proofs.lemmas.Delivery.Delivery.{field_deliveries, delivery_with}
-use Rattle.sl_tmflow.proofs.lemmas.Delivery.AtStarts.{flat_map-pieces, at_rest, at_starts, none_in_rest}
+use Rattle.sl_tmflow.proofs.lemmas.Delivery.Listed.{field_deliveries, delivery_with}
+use Rattle.sl_tmflow.proofs.lemmas.Delivery.Start.{flat_map-pieces, at_rest, at_starts, none_in_rest}
 
 -- ---- a packet start
 
@@ -27,18 +27,18 @@ with_next passed last next (Completes packet n) = Completes packet n
 with_next passed last next (StillIncomplete octets) = after_step (step_of last octets next) passed (StillIncomplete (octets ++ packet_data next))
 with_next passed last next Undelivered = Undelivered
 
-with_next-step : (s : Continuation) (n passed : ℕ) (last next : TmView) (o : Outcome)
-    → after_step s n (with_next passed last next o) ≡ with_next passed last next (after_step s n o)
-with_next-step (Ends packet) n passed last next o = refl
-with_next-step Continues n passed last next o = refl
-with_next-step Breaks n passed last next o = refl
+with_next-step : (step : Continuation) (n passed : ℕ) (last next : TmView) (outcome : Outcome)
+    → after_step step n (with_next passed last next outcome) ≡ with_next passed last next (after_step step n outcome)
+with_next-step (Ends packet) n passed last next outcome = refl
+with_next-step Continues n passed last next outcome = refl
+with_next-step Breaks n passed last next outcome = refl
 
 outcome_after-push : (n : ℕ) (view : TmView) (octets : List ℕ) (later : List TmView) (next : TmView) (passed : ℕ) → n + (length later + 1) ≡ passed
     → outcome_after n view octets (later ++ next ∷ []) ≡ with_next passed (last_of view later) next (outcome_after n view octets later)
-outcome_after-push n view octets [] next passed so_many =
+outcome_after-push n view octets [] next passed counted =
     let same : n + 1 ≡ passed = omega arith in
     ap (λ k. after_step (step_of view octets next) k (StillIncomplete (octets ++ packet_data next))) same
-outcome_after-push n view octets (v ∷ later) next passed so_many =
+outcome_after-push n view octets (v ∷ later) next passed counted =
     ap (after_step (step_of view octets v) (n + 1)) (outcome_after-push (n + 1) v (octets ++ packet_data v) later next passed (omega arith))
     ∙ with_next-step (step_of view octets v) (n + 1) passed (last_of v later) next (outcome_after (n + 1) v (octets ++ packet_data v) later)
 
@@ -69,7 +69,7 @@ carried_step (Ends packet) passed octets = refl
 carried_step Continues passed octets = refl
 carried_step Breaks passed octets = refl
 
-incomplete_with_next : (passed : ℕ) (last next : TmView) (o : Outcome) → flat_map (carried_into last next) (incomplete_octets o) ≡ incomplete_octets (with_next passed last next o)
+incomplete_with_next : (passed : ℕ) (last next : TmView) (outcome : Outcome) → flat_map (carried_into last next) (incomplete_octets outcome) ≡ incomplete_octets (with_next passed last next outcome)
 incomplete_with_next passed last next (Completes packet n) = refl
 incomplete_with_next passed last next (StillIncomplete octets) = carried_step (step_of last octets next) passed (octets ++ packet_data next)
 incomplete_with_next passed last next Undelivered = refl
@@ -89,21 +89,29 @@ frame_incomplete-push view later next =
 pub incomplete_first : (next : TmView) → incomplete_of (next ∷ []) ≡ frame_incomplete next []
 incomplete_first next = append-nil (frame_incomplete next [])
 
+-- what comes of the incomplete packets of each frame comes of those of the channel
+module _ (go_on : TmView → List ℕ → List (List ℕ)) (number : ℕ) (of : ℕ → List TmView → List (List ℕ)) (end : List (List ℕ)) (stop : of number [] ≡ end)
+    (step : (frame : ℕ) (view : TmView) (later : List TmView) → frame + (length later + 1) ≡ number
+    → of frame (view ∷ later) ≡ flat_map (go_on (last_of view later)) (frame_incomplete view later) ++ of (frame + 1) later) where
+  pub by_frames : (frame : ℕ) (before : List TmView) (last : TmView) → frame + length (before ++ last ∷ []) ≡ number
+      → of frame (before ++ last ∷ []) ≡ flat_map (go_on last) (incomplete_of (before ++ last ∷ [])) ++ end
+  by_frames frame [] last counted =
+      let next : frame + 1 ≡ number = omega arith in
+      step frame last [] (omega arith)
+      ∙ ap₂ (λ xs ys. xs ++ ys) (ap (flat_map (go_on last)) (sym (incomplete_first last))) (ap (λ n. of n []) next ∙ stop)
+  by_frames frame (view ∷ before) last counted =
+      let later = before ++ last ∷ [] in
+      step frame view later (omega arith)
+      ∙ ap₂ (λ xs ys. xs ++ ys) (ap (λ v. flat_map (go_on v) (frame_incomplete view later)) (last_of-push view before last)) (by_frames (frame + 1) before last (omega arith))
+      ∙ sym (append_assoc (flat_map (go_on last) (frame_incomplete view later)) (flat_map (go_on last) (incomplete_of later)) end)
+      ∙ ap (λ l. l ++ end) (sym (flat_map-append (go_on last) (frame_incomplete view later) (incomplete_of later)))
+
 -- after each other frame, the incomplete packet is the one that goes on, or starts in this frame
 pub incomplete_next : (before : List TmView) (last next : TmView)
     → incomplete_of ((before ++ last ∷ []) ++ next ∷ []) ≡ flat_map (carried_into last next) (incomplete_of (before ++ last ∷ [])) ++ frame_incomplete next []
-incomplete_next [] last next =
-    let go_on = carried_into last next in
-    ap₂ (λ xs ys. xs ++ ys) (sym (frame_incomplete-push last [] next)) (incomplete_first next)
-    ∙ ap (λ l. flat_map go_on l ++ frame_incomplete next []) (sym (incomplete_first last))
-incomplete_next (view ∷ before) last next =
-    let go_on = carried_into last next in
-    let later = before ++ last ∷ [] in
-    let here : frame_incomplete view (later ++ next ∷ []) ≡ flat_map go_on (frame_incomplete view later) =
-    sym (ap (λ v. flat_map (carried_into v next) (frame_incomplete view later)) (sym (last_of-push view before last)) ∙ frame_incomplete-push view later next) in
-    ap₂ (λ xs ys. xs ++ ys) here (incomplete_next before last next)
-    ∙ sym (append_assoc (flat_map go_on (frame_incomplete view later)) (flat_map go_on (incomplete_of later)) (frame_incomplete next []))
-    ∙ ap (λ l. l ++ frame_incomplete next []) (sym (flat_map-append go_on (frame_incomplete view later) (incomplete_of later)))
+incomplete_next before last next =
+    by_frames (λ view. carried_into view next) (length (before ++ last ∷ [])) (λ frame channel. incomplete_of (channel ++ next ∷ [])) (frame_incomplete next []) (incomplete_first next)
+    (λ frame view later counted. ap (λ l. l ++ incomplete_of (later ++ next ∷ [])) (sym (frame_incomplete-push view later next))) 0 before last (omega arith)
 
 -- ---- the packets that end
 
@@ -177,9 +185,9 @@ step_ending number frame start Continues passed octets here = refl
 step_ending number frame start Breaks passed octets here = refl
 
 -- a packet that ended earlier doesn't end in the next frame
-ending_with_next : (number frame start : ℕ) (last next : TmView) (passed : ℕ) (o : Outcome)
-    → frame + passed ≡ number → ((packet : List ℕ) (n : ℕ) → o ≡ Completes packet n → n + 1 ≤ passed)
-    → packets_at number (delivery_of frame start (with_next passed last next o)) ≡ flat_map (ended_in last next) (incomplete_octets o)
+ending_with_next : (number frame start : ℕ) (last next : TmView) (passed : ℕ) (outcome : Outcome)
+    → frame + passed ≡ number → ((packet : List ℕ) (n : ℕ) → outcome ≡ Completes packet n → n + 1 ≤ passed)
+    → packets_at number (delivery_of frame start (with_next passed last next outcome)) ≡ flat_map (ended_in last next) (incomplete_octets outcome)
 ending_with_next number frame start last next passed (Completes packet n) here earlier =
     let before = earlier packet n refl in
     ends_elsewhere number frame start packet n (λ same. absurd (omega arith))
@@ -206,27 +214,6 @@ frame_ending-push number frame view later next here =
     ∙ sym (flat_map-pieces (flat_map (ended_in last next)) refl (flat_map-append (ended_in last next))
     (λ start. incomplete_octets (outcome_of view (octets start) later)) ends (λ start. refl) (starts_of view.field))
 
-ending_from : (number frame : ℕ) (before : List TmView) (last next : TmView) → frame + length (before ++ last ∷ []) ≡ number
-    → packets_at number (deliveries_from frame ((before ++ last ∷ []) ++ next ∷ []))
-    ≡ flat_map (ended_in last next) (incomplete_of (before ++ last ∷ [])) ++ whole_packets next.field
-ending_from number frame [] last next here =
-    let there : frame + 1 ≡ number = omega arith in
-    let later = deliveries_from (frame + 1) (next ∷ []) in
-    packets_at-append number (frame_deliveries frame last (next ∷ [])) later
-    ∙ ap₂ (λ xs ys. xs ++ ys) (frame_ending-push number frame last [] next (omega arith))
-    (ap (λ n. packets_at n later) (sym there) ∙ at_last_frame (frame + 1) next)
-    ∙ ap (λ l. flat_map (ended_in last next) l ++ whole_packets next.field) (sym (incomplete_first last))
-ending_from number frame (view ∷ before) last next here =
-    let later = before ++ last ∷ [] in
-    let ends = ended_in last next in
-    let first : packets_at number (frame_deliveries frame view (later ++ next ∷ [])) ≡ flat_map ends (frame_incomplete view later) =
-    frame_ending-push number frame view later next (omega arith)
-    ∙ ap (λ v. flat_map (ended_in v next) (frame_incomplete view later)) (last_of-push view before last) in
-    packets_at-append number (frame_deliveries frame view (later ++ next ∷ [])) (deliveries_from (frame + 1) (later ++ next ∷ []))
-    ∙ ap₂ (λ xs ys. xs ++ ys) first (ending_from number (frame + 1) before last next (omega arith))
-    ∙ sym (append_assoc (flat_map ends (frame_incomplete view later)) (flat_map ends (incomplete_of later)) (whole_packets next.field))
-    ∙ ap (λ l. l ++ whole_packets next.field) (sym (flat_map-append ends (frame_incomplete view later) (incomplete_of later)))
-
 -- in the first frame of a channel, the packets that lie whole in it end
 pub ending_first : (next : TmView) → packets_ending [] next ≡ whole_packets next.field
 ending_first next = at_last_frame 0 next
@@ -234,4 +221,9 @@ ending_first next = at_last_frame 0 next
 -- in each other frame, the incomplete packet that ends there ends too
 pub ending_next : (before : List TmView) (last next : TmView)
     → packets_ending (before ++ last ∷ []) next ≡ flat_map (ended_in last next) (incomplete_of (before ++ last ∷ [])) ++ whole_packets next.field
-ending_next before last next = ending_from (length (before ++ last ∷ [])) 0 before last next (omega arith)
+ending_next before last next =
+    let number : ℕ = length (before ++ last ∷ []) in
+    let from = λ (frame : ℕ) (later : List TmView). deliveries_from frame (later ++ next ∷ []) in
+    by_frames (λ view. ended_in view next) number (λ frame channel. packets_at number (from frame channel)) (whole_packets next.field) (at_last_frame number next)
+    (λ frame view later counted. packets_at-append number (frame_deliveries frame view (later ++ next ∷ [])) (from (frame + 1) later)
+    ∙ ap (λ l. l ++ packets_at number (from (frame + 1) later)) (frame_ending-push number frame view later next counted)) 0 before last (omega arith)

@@ -13,7 +13,7 @@ use Rattle.sl_tmflow.specs.Incomplete.{HasNoStart}
 use Rattle.sl_fields.proofs.ListLemmas.{each-among, each-append}
 use Rattle.sl_tmflow.proofs.lemmas.Places.{some_element, has_last, cases_last}
 use Rattle.sl_tmflow.proofs.lemmas.Delivery.Step.{EndsIn, GoesOnPast, step_ends, ends_step, step_continues, continues_step, agreeing_none, prefix_of_first, incomplete_before_end, incomplete_is_no_packet}
-use Rattle.sl_tmflow.proofs.lemmas.Incomplete.Incomplete.{IsIncompleteAfter, reassembly-append, reassembly-cons, reassembly-push, is_incomplete_at_start, is_incomplete_one_more, consecutive_to_last}
+use Rattle.sl_tmflow.proofs.lemmas.Incomplete.After.{IsIncompleteAfter, reassembly-append, reassembly-cons, reassembly-push, is_incomplete_at_start, is_incomplete_one_more, consecutive_to_last}
 
 -- ---- an incomplete packet that ends in the next frame
 
@@ -32,10 +32,10 @@ same_packets a b xs ys same = (cc, cc)
 agreed_last : (octets : List ℕ) (next : TmView) (packet : List ℕ) (start : List ℕ) (run earlier : List TmView) (first : Option ℕ) (field : List ℕ)
     → EndsIn octets next.field packet → octets ≡ reassembly start run → run ≡ earlier → next.field ≡ Packets first field
     → first ≡ agreeing_pointer (length packet) (length (reassembly start earlier)) field
-agreed_last octets next packet start run earlier first field x came same is =
-    let (pointer, carried) = same_packets x.first first x.carried field (sym x.is_packets ∙ is) in
-    sym pointer ∙ x.agrees
-    ∙ ap (λ l. agreeing_pointer (length packet) (length l) x.carried) (came ∙ ap (reassembly start) same)
+agreed_last octets next packet start run earlier first field ending came same is =
+    let (pointer, carried) = same_packets ending.first first ending.carried field (sym ending.is_packets ∙ is) in
+    sym pointer ∙ ending.agrees
+    ∙ ap (λ l. agreeing_pointer (length packet) (length l) ending.carried) (came ∙ ap (reassembly start) same)
     ∙ ap (agreeing_pointer (length packet) (length (reassembly start earlier))) carried
 
 -- the octets of a frame are among those that are reassembled
@@ -62,24 +62,24 @@ agreed_earlier packet start run earlier next later first field short none same i
 pub ends_delivered : (view : TmView) (start : List ℕ) (run : List TmView) (last : TmView) (octets : List ℕ) (next : TmView) (packet : List ℕ)
     → IsIncompleteAfter view start run last octets → is_consecutive last next ≡ true → EndsIn octets next.field packet
     → IsDeliveredBy view start (run ++ next ∷ []) packet
-ends_delivered view start run last octets next packet o test x =
-    let carried : packet_data next ≡ x.carried = ap data_of x.is_packets in
-    let all : reassembly start (run ++ next ∷ []) ≡ octets ++ x.carried =
-    reassembly-push start run next ∙ ap (λ l. l ++ packet_data next) (sym o.came) ∙ ap (λ l. octets ++ l) carried in
-    let short : length octets < length packet = shorter_than_packet octets x.carried packet x.ends.0 x.is_packet (sym x.ends.1) o.incomplete in
-    let short_run : length (reassembly start run) < length packet = rw (← o.came) short in
+ends_delivered view start run last octets next packet held test ending =
+    let carried : packet_data next ≡ ending.carried = ap data_of ending.is_packets in
+    let all : reassembly start (run ++ next ∷ []) ≡ octets ++ ending.carried =
+    reassembly-push start run next ∙ ap (λ l. l ++ packet_data next) (sym held.came) ∙ ap (λ l. octets ++ l) carried in
+    let short : length octets < length packet = shorter_than_packet octets ending.carried packet ending.ends.0 ending.is_packet (sym ending.ends.1) held.incomplete in
+    let short_run : length (reassembly start run) < length packet = rw (← held.came) short in
     record {
-      is_packet = x.is_packet;
-      ends = (x.ends.0, x.ends.1 ∙ sym all);
+      is_packet = ending.is_packet;
+      ends = (ending.ends.0, ending.ends.1 ∙ sym all);
       not_earlier = λ earlier last' same prefix.
           let run_is : run ≡ earlier = (same_from_push run earlier next last' same).0 in
-          incomplete_is_no_packet octets packet x.is_packet o.incomplete (prefix.0, prefix.1 ∙ ap (reassembly start) (sym run_is) ∙ sym o.came);
-      consecutive = consecutive_to_last view start run last octets next o test;
-      none_opaque = each-append (λ v. v.field ≢ Opaque) run (next ∷ []) o.none_opaque ((λ opaque. let both : Packets x.first x.carried ≡ Opaque = sym x.is_packets ∙ opaque in cc), tt);
+          incomplete_is_no_packet octets packet ending.is_packet held.incomplete (prefix.0, prefix.1 ∙ ap (reassembly start) (sym run_is) ∙ sym held.came);
+      consecutive = consecutive_to_last view start run last octets next held test;
+      none_opaque = each-append (λ v. v.field ≢ Opaque) run (next ∷ []) held.none_opaque ((λ opaque. let both : Packets ending.first ending.carried ≡ Opaque = sym ending.is_packets ∙ opaque in cc), tt);
       agreed = λ earlier next' later first field same is.
           elim (cases_last run next earlier next' later same) [
-            | inl here ↦ agreed_last octets next packet start run earlier first field x o.came here.0 (ap (λ v. v.field) here.1 ∙ is)
-            | inr there ↦ agreed_earlier packet start run earlier next' there.0 first field short_run o.no_start there.1 is
+            | inl here ↦ agreed_last octets next packet start run earlier first field ending held.came here.0 (ap (λ v. v.field) here.1 ∙ is)
+            | inr there ↦ agreed_earlier packet start run earlier next' there.0 first field short_run held.no_start there.1 is
           ];
     }
 
@@ -103,8 +103,8 @@ delivered_step Breaks passed rest packet n e = absurd (cc)
 pub delivered_after : (first : TmView) (start : List ℕ) (run : List TmView) (passed : ℕ) (view : TmView) (octets : List ℕ) (later : List TmView) (packet : List ℕ) (n : ℕ)
     → IsIncompleteAfter first start run view octets → passed ≡ length run → outcome_after passed view octets later ≡ Completes packet n
     → IsDeliveredWithin first start (run ++ later) packet n
-delivered_after first start run passed view octets [] packet n o so_many e = absurd (cc)
-delivered_after first start run passed view octets (next ∷ later) packet n o so_many e =
+delivered_after first start run passed view octets [] packet n held counted e = absurd (cc)
+delivered_after first start run passed view octets (next ∷ later) packet n held counted e =
     let rest = outcome_after (passed + 1) next (octets ++ packet_data next) later in
     let one_more : passed + 1 ≡ length (run ++ next ∷ []) = omega (arith, length_push run next) in
     elim (delivered_step (step_of view octets next) (passed + 1) rest packet n e) [
@@ -115,11 +115,11 @@ delivered_after first start run passed view octets (next ∷ later) packet n o s
             after = later;
             in_order = sym (append_assoc run (next ∷ []) later);
             passed_is = sym here.1 ∙ one_more;
-            delivered = ends_delivered first start run view octets next packet o consecutive ending;
+            delivered = ends_delivered first start run view octets next packet held consecutive ending;
           }
       | inr there ↦
-          let (consecutive, past) = step_continues view octets next o.incomplete there.0 in
-          let now = is_incomplete_one_more first start run view octets next o consecutive past in
+          let (consecutive, past) = step_continues view octets next held.incomplete there.0 in
+          let now = is_incomplete_one_more first start run view octets next held consecutive past in
           rw (← append_assoc run (next ∷ []) later)
           (delivered_after first start (run ++ next ∷ []) (passed + 1) next (octets ++ packet_data next) later packet n now one_more there.1)
     ]
@@ -147,13 +147,7 @@ outcome_delivered view octets later packet n e = cases (front octets) refl e
     cases Incomplete is outcome = delivered_after view octets [] 0 view octets later packet n (is_incomplete_at_start view octets is) refl outcome
     cases (WholePacket len) is outcome =
         let same = same_outcome (take len octets) packet 0 n outcome in
-        record {
-          run = [];
-          after = later;
-          in_order = refl;
-          passed_is = sym same.1;
-          delivered = rw (← same.0) (whole_delivered view octets len is);
-        }
+        record { run = []; after = later; in_order = refl; passed_is = sym same.1; delivered = rw (← same.0) (whole_delivered view octets len is) }
 
 -- ---- from the relation to the outcome
 
@@ -240,11 +234,11 @@ delivered_outcome_after passed view octets next [] after packet d =
     ap (λ s. after_step s (passed + 1) (outcome_after (passed + 1) next (octets ++ packet_data next) after))
     (ends_step view octets next packet d.consecutive.0 (delivered_ends view octets next packet d))
 delivered_outcome_after passed view octets next (second ∷ run) after packet d =
-    let so_many : passed + 1 + length (second ∷ run) ≡ passed + length (next ∷ second ∷ run) = omega arith in
+    let counted : passed + 1 + length (second ∷ run) ≡ passed + length (next ∷ second ∷ run) = omega arith in
     ap (λ s. after_step s (passed + 1) (outcome_after (passed + 1) next (octets ++ packet_data next) (second ∷ run ++ after)))
     (continues_step view octets next d.consecutive.0 (delivered_goes_on view octets next second run packet d))
     ∙ delivered_outcome_after (passed + 1) next (octets ++ packet_data next) second run after packet (delivered_tail view octets next (second ∷ run) packet d)
-    ∙ ap (Completes packet) so_many
+    ∙ ap (Completes packet) counted
 
 pub delivered_outcome : (view : TmView) (octets : List ℕ) (run after : List TmView) (packet : List ℕ) → IsDeliveredBy view octets run packet
     → outcome_of view octets (run ++ after) ≡ Completes packet (length run)

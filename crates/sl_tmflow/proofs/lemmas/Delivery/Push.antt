@@ -1,7 +1,6 @@
 -- The packets that a channel delivers with one more frame: those before, and then those that end in this frame.
-use Rattle.std.proofs.Common.{◌≡◌, ℕ, ◌+◌, ◌≤◌, ◌==◌, if◌then◌else◌, List, [], ◌∷◌, ◌++◌, length, drop, None, Some, inl, inr, refl, sym, ◌∙◌, ap, ap₂, arith, length-append, length-drop, append-nil, append_assoc}
+use Rattle.std.proofs.Common.{◌≡◌, ℕ, ◌+◌, ◌≤◌, List, [], ◌∷◌, ◌++◌, length, drop, None, Some, inl, inr, refl, sym, ◌∙◌, ap, ap₂, arith, length-append, length-drop, append-nil, append_assoc}
 use Rattle.std.specs.List.{AllByRecursion, flat_map}
-use Rattle.std.proofs.lemmas.Bool.Decides.{eqb_tells}
 use Rattle.std.proofs.lemmas.List.{map-append, map-id, take_at}
 use Rattle.std.proofs.lemmas.List.Concat.{flat_map_single}
 use Rattle.sl_packet.specs.Packet.{IsPacket}
@@ -9,31 +8,29 @@ use Rattle.sl_packet.specs.Front.{Front, OtherVersion, Incomplete, WholePacket, 
 use Rattle.sl_packet.specs.Packets.{whole_at, packets_of, rest_of}
 use Rattle.sl_packet.proofs.FrontLemmas.{packet_is_whole}
 use Rattle.sl_tmframe.specs.TmFrame.{TmView, DataField, Packets, Idle, Opaque}
-use Rattle.sl_tmflow.specs.Channel.{channel_of, data_of, packet_data}
+use Rattle.sl_tmflow.specs.Channel.{data_of, packet_data}
 use Rattle.sl_tmflow.specs.PacketStart.{starts_from, starts_of, whole_packets}
 use Rattle.sl_tmflow.specs.Delivery.{Delivery, Outcome, Completes, StillIncomplete, Undelivered, Continuation, Ends, Continues, Breaks, ended, step_of, after_step, outcome_of_front, outcome_of, delivery_of, frame_deliveries, deliveries_from, deliveries_of, packets_delivered, packets_ending, PacketsEndOnce}
 use Rattle.sl_tmflow.specs.Incomplete.{HasNoStart, incomplete_octets, frame_incomplete, incomplete_of}
-use Rattle.sl_tmflow.proofs.lemmas.Delivery.AtStarts.{flat_map-pieces, at_rest, at_starts}
-use Rattle.sl_tmflow.proofs.lemmas.Delivery.Channel.{same_seen, other_seen}
+use Rattle.sl_tmflow.proofs.lemmas.Delivery.Start.{flat_map-pieces, at_rest, at_starts, no_starts}
 use Rattle.sl_packet.proofs.CountLemmas.{split_count, packets_within}
-use Rattle.sl_tmflow.proofs.lemmas.Delivery.Delivery.{field_deliveries}
-use Rattle.sl_tmflow.proofs.lemmas.Places.{has_last}
-use Rattle.sl_tmflow.proofs.lemmas.Incomplete.List.{incomplete_of_idle, incomplete_of_opaque, incomplete_without_pointer, incomplete_from_pointer, one_of_frame, one_is_incomplete}
+use Rattle.sl_tmflow.proofs.lemmas.Delivery.Listed.{delivery_at, field_deliveries}
+use Rattle.sl_tmflow.proofs.lemmas.Places.{few_each, has_last}
+use Rattle.sl_tmflow.proofs.lemmas.Incomplete.List.{field_incomplete, incomplete_from_pointer, one_of_field, one_is_incomplete}
 use Rattle.sl_tmflow.proofs.lemmas.Delivery.OneMore.{with_next, outcome_of-push, packets_at, packets_at-append, at_last, ended_in, frame_ending-push, ending_first, ending_next}
-use Rattle.sl_tmflow.proofs.lemmas.Incomplete.Incomplete.{last_of}
+use Rattle.sl_tmflow.proofs.lemmas.Incomplete.After.{last_of}
 
 -- ---- the packets of a frame's starts
 
 -- the packet of a start that is delivered
-abbrev completed : Outcome → List (List ℕ)
+abbrev pub completed : Outcome → List (List ℕ)
 completed (Completes packet passed) = packet ∷ []
 completed (StillIncomplete octets) = []
 completed Undelivered = []
 
-is_completed : (frame start : ℕ) (o : Outcome) → packets_delivered (delivery_of frame start o) ≡ completed o
+is_completed : (frame start : ℕ) (outcome : Outcome) → packets_delivered (delivery_of frame start outcome) ≡ completed outcome
 is_completed frame start (Completes packet passed) = refl
-is_completed frame start (StillIncomplete octets) = refl
-is_completed frame start Undelivered = refl
+is_completed frame start outcome = refl
 
 delivered-append : (xs ys : List Delivery) → packets_delivered (xs ++ ys) ≡ packets_delivered xs ++ packets_delivered ys
 delivered-append xs ys = map-append (λ d. d.packet) xs ys
@@ -45,7 +42,7 @@ at_packet view later packet more p =
     ∙ ap (λ l. l ∷ []) (take_at packet more (length packet) refl)
 
 -- the packets of a frame's starts: those that lie whole in the data field, and that of the octets after them
-from_pointer : (frame : ℕ) (view : TmView) (later : List TmView) (pointer : ℕ) (octets : List ℕ)
+pub from_pointer : (frame : ℕ) (view : TmView) (later : List TmView) (pointer : ℕ) (octets : List ℕ)
     → packets_delivered (field_deliveries frame view later (Packets (Some pointer) octets))
     ≡ packets_of (drop pointer octets) ++ at_rest (λ l. completed (outcome_of view l later)) (rest_of (drop pointer octets))
 from_pointer frame view later pointer octets =
@@ -63,8 +60,8 @@ step_more (Ends packet) passed octets = refl
 step_more Continues passed octets = refl
 step_more Breaks passed octets = refl
 
-outcome_more : (passed : ℕ) (last next : TmView) (o : Outcome)
-    → completed (with_next passed last next o) ≡ completed o ++ flat_map (ended_in last next) (incomplete_octets o)
+outcome_more : (passed : ℕ) (last next : TmView) (outcome : Outcome)
+    → completed (with_next passed last next outcome) ≡ completed outcome ++ flat_map (ended_in last next) (incomplete_octets outcome)
 outcome_more passed last next (Completes packet n) = refl
 outcome_more passed last next (StillIncomplete octets) = step_more (step_of last octets next) passed (octets ++ packet_data next)
 outcome_more passed last next Undelivered = refl
@@ -79,26 +76,19 @@ rest_more view later next (octet ∷ rest) =
     ∙ outcome_more (length later + 1) (last_of view later) next (outcome_of view (octet ∷ rest) later)
 
 -- the packets of a frame that were incomplete and end in the next frame are delivered too
-frame_more : (frame : ℕ) (view : TmView) (later : List TmView) (next : TmView)
-    → packets_delivered (frame_deliveries frame view (later ++ next ∷ []))
-    ≡ packets_delivered (frame_deliveries frame view later) ++ flat_map (ended_in (last_of view later) next) (frame_incomplete view later)
-frame_more frame view later next = cases view.field refl
-  where
-    cases : (f : DataField) → view.field ≡ f
-        → packets_delivered (field_deliveries frame view (later ++ next ∷ []) f)
-        ≡ packets_delivered (field_deliveries frame view later f) ++ flat_map (ended_in (last_of view later) next) (frame_incomplete view later)
-    cases (Packets None octets) is = sym (ap (flat_map (ended_in (last_of view later) next)) (incomplete_without_pointer view later octets is))
-    cases (Packets (Some pointer) octets) is =
-        let ends = flat_map (ended_in (last_of view later) next) in
-        let at = λ (l : List ℕ). completed (outcome_of view l later) in
-        let whole = packets_of (drop pointer octets) in
-        let rest = rest_of (drop pointer octets) in
-        let held = at_rest (λ l. incomplete_octets (outcome_of view l later)) rest in
-        from_pointer frame view (later ++ next ∷ []) pointer octets ∙ ap (λ l. whole ++ l) (rest_more view later next rest)
-        ∙ sym (append_assoc whole (at_rest at rest) (ends held))
-        ∙ ap₂ (λ xs ys. xs ++ ends ys) (sym (from_pointer frame view later pointer octets)) (sym (incomplete_from_pointer view later pointer octets is))
-    cases Idle is = sym (ap (flat_map (ended_in (last_of view later) next)) (incomplete_of_idle view later is))
-    cases Opaque is = sym (ap (flat_map (ended_in (last_of view later) next)) (incomplete_of_opaque view later is))
+field_more : (frame : ℕ) (view : TmView) (later : List TmView) (next : TmView) (field : DataField)
+    → packets_delivered (field_deliveries frame view (later ++ next ∷ []) field)
+    ≡ packets_delivered (field_deliveries frame view later field) ++ flat_map (ended_in (last_of view later) next) (field_incomplete view later field)
+field_more frame view later next (Packets (Some pointer) octets) =
+    let ends = flat_map (ended_in (last_of view later) next) in
+    let at = λ (l : List ℕ). completed (outcome_of view l later) in
+    let whole = packets_of (drop pointer octets) in
+    let rest = rest_of (drop pointer octets) in
+    let held = at_rest (λ l. incomplete_octets (outcome_of view l later)) rest in
+    from_pointer frame view (later ++ next ∷ []) pointer octets ∙ ap (λ l. whole ++ l) (rest_more view later next rest)
+    ∙ sym (append_assoc whole (at_rest at rest) (ends held))
+    ∙ ap₂ (λ xs ys. xs ++ ends ys) (sym (from_pointer frame view later pointer octets)) (sym (incomplete_from_pointer view later pointer octets))
+field_more frame view later next field = refl
 
 -- ---- the last frame
 
@@ -121,26 +111,17 @@ last_frame frame view =
 
 -- ---- no packet starts after one that is incomplete
 
-none_in_frame : (frame : ℕ) (view : TmView) (later : List TmView) → HasNoStart view → frame_deliveries frame view later ≡ []
-none_in_frame frame view later none = cases view.field refl
-  where
-    cases : (f : DataField) → view.field ≡ f → field_deliveries frame view later f ≡ []
-    cases (Packets None octets) is = refl
-    cases (Packets (Some pointer) octets) is = absurd (let both = none (Some pointer) octets is in cc)
-    cases Idle is = refl
-    cases Opaque is = refl
-
 none_without_starts : (frame : ℕ) (channel : List TmView) → AllByRecursion HasNoStart channel → deliveries_from frame channel ≡ []
 none_without_starts frame [] none = refl
 none_without_starts frame (view ∷ later) none =
-    ap₂ (λ xs ys. xs ++ ys) (none_in_frame frame view later none.0) (none_without_starts (frame + 1) later none.1)
+    ap₂ (λ xs ys. xs ++ ys) (ap (flat_map (delivery_at frame view later)) (no_starts view view.field none.0 refl)) (none_without_starts (frame + 1) later none.1)
 
 -- Either no packet of a frame is incomplete, or later frames deliver none, so the order of the two doesn't matter.
 no_later : (frame : ℕ) (view : TmView) (later : List TmView) (ends : List ℕ → List (List ℕ))
     → flat_map ends (frame_incomplete view later) ++ packets_delivered (deliveries_from frame later)
     ≡ packets_delivered (deliveries_from frame later) ++ flat_map ends (frame_incomplete view later)
 no_later frame view later ends =
-    elim (one_of_frame view later) [
+    elim (one_of_field view later view.field) [
       | inl none ↦ rw (none) (sym (append-nil (packets_delivered (deliveries_from frame later))))
       | inr one ↦ rw (none_without_starts frame later one.2) (append-nil (flat_map ends (frame_incomplete view later)))
     ]
@@ -166,7 +147,7 @@ delivered_from number frame (view ∷ later) next here =
     let rest = deliveries_from (frame + 1) later in
     let rest' = deliveries_from (frame + 1) (later ++ next ∷ []) in
     delivered-append now' rest'
-    ∙ ap₂ (λ xs ys. xs ++ ys) (frame_more frame view later next) (delivered_from number (frame + 1) later next (omega arith))
+    ∙ ap₂ (λ xs ys. xs ++ ys) (field_more frame view later next view.field) (delivered_from number (frame + 1) later next (omega arith))
     ∙ between (packets_delivered now) ends (packets_delivered rest) (packets_at number rest')
     (no_later (frame + 1) view later (ended_in (last_of view later) next))
     ∙ ap₂ (λ xs ys. xs ++ (ys ++ packets_at number rest')) (sym (delivered-append now rest))
@@ -176,16 +157,6 @@ delivered_from number frame (view ∷ later) next here =
 -- the packets of a channel with one more frame are those before, and then those that end in this frame
 pub delivered_push : PacketsEndOnce
 delivered_push channel next = delivered_from (length channel) 0 channel next (omega arith)
-
--- the same for each channel of frames: the new packets come where the frame is the channel's own
-pub packets_of_channel_step : (vc : ℕ) (views : List TmView) (next : TmView)
-    → packets_delivered (deliveries_of (channel_of vc (views ++ next ∷ [])))
-    ≡ packets_delivered (deliveries_of (channel_of vc views)) ++ (if next.vc == vc then packets_ending (channel_of vc views) next else [])
-packets_of_channel_step vc views next =
-    elim (eqb_tells next.vc vc) [
-      | inl (test, same) ↦ rw (test, same_seen vc views next same) (delivered_push (channel_of vc views) next)
-      | inr (test, other) ↦ rw (test, other_seen vc views next other) (sym (append-nil (packets_delivered (deliveries_of (channel_of vc views)))))
-    ]
 
 -- ---- how many packets end
 
@@ -201,23 +172,17 @@ step_few (Ends packet) = omega arith
 step_few Continues = omega arith
 step_few Breaks = omega arith
 
-ends_few : (last next : TmView) (held : List (List ℕ)) → length (flat_map (ended_in last next) held) ≤ length held
-ends_few last next [] = omega arith
-ends_few last next (octets ∷ held) =
-    let s = step_of last octets next in
-    omega (arith, step_few s, ends_few last next held, length-append (ended s) (flat_map (ended_in last next) held))
-
 -- no more packets end in a frame than it has octets of packets, and one
 pub ended_few : (channel : List TmView) (next : TmView) → length (packets_ending channel next) ≤ length (packet_data next) + 1
 ended_few [] next = omega (arith, ap length (ending_first next), whole_few next.field)
 ended_few (view ∷ later) next =
-    let w = has_last view later in
-    let ends = flat_map (ended_in w.1 next) (incomplete_of (w.0 ++ w.1 ∷ [])) in
+    let (before, last, same) = has_last view later in
+    let few = few_each (ended_in last next) (λ octets. step_few (step_of last octets next)) (incomplete_of (before ++ last ∷ [])) in
     omega (
       arith,
-      ap length (ap (λ l. packets_ending l next) w.2 ∙ ending_next w.0 w.1 next),
-      length-append ends (whole_packets next.field),
-      ends_few w.1 next (incomplete_of (w.0 ++ w.1 ∷ [])),
-      one_is_incomplete (w.0 ++ w.1 ∷ []),
+      ap length (ap (λ l. packets_ending l next) same ∙ ending_next before last next),
+      length-append (flat_map (ended_in last next) (incomplete_of (before ++ last ∷ []))) (whole_packets next.field),
+      few,
+      one_is_incomplete (before ++ last ∷ []),
       whole_few next.field,
     )

@@ -10,7 +10,7 @@ use Rattle.sl_tmflow.specs.Canonical.{RecordedListsAreDeliverable}
 use Rattle.sl_tmflow.specs.Channel.{channel_of}
 use Rattle.sl_tmflow.specs.Delivery.{Delivery, IsDelivery, deliveries_of, packets_delivered}
 use Rattle.sl_tmflow.specs.Recording.{packets_of_channel, recorded_views}
-use Rattle.sl_tmflow.proofs.lemmas.Delivery.Delivery.{each_is_delivery}
+use Rattle.sl_tmflow.proofs.lemmas.Delivery.Listed.{each_is_delivery}
 
 are_packets : (channel : List TmView) (deliveries : List Delivery) → AllByRecursion (IsDelivery channel) deliveries → AllByRecursion IsPacket (packets_delivered deliveries)
 are_packets channel [] each = tt
@@ -26,7 +26,4 @@ each_due views from (suc n) =
 
 pub recorded_lists_are_deliverable : RecordedListsAreDeliverable
 recorded_lists_are_deliverable format spacecraft recording =
-    record {
-      eight = refl;
-      each = each_due (recorded_views format spacecraft recording) 0 8;
-    }
+    record { eight = refl; each = each_due (recorded_views format spacecraft recording) 0 8 }

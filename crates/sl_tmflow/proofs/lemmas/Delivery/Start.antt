@@ -1,16 +1,21 @@
 -- The list of the packet starts of a data field: each listed offset is a packet start, and each packet start is
--- listed.
-use Rattle.std.proofs.Common.{◌≡◌, ℕ, ◌+◌, ◌-◌, ◌<◌, List, [], ◌∷◌, ◌++◌, length, drop, Option, None, Some, inl, inr, refl, sym, ◌∙◌, ap, subst, arith, length-append, length-drop, append_assoc}
+-- listed. What is found at packet starts.
+use Rattle.std.proofs.Common.{◌≡◌, ℕ, ◌+◌, ◌-◌, ◌<◌, List, [], ◌∷◌, ◌++◌, length, take, drop, Option, None, Some, inl, inr, refl, sym, ◌∙◌, ap, ap₂, subst, arith, length-append, length-drop, append-nil, append_assoc}
 use Rattle.std.specs.Prelude.{⊤}
-use Rattle.std.specs.List.{AllByRecursion, concat}
-use Rattle.std.proofs.lemmas.List.{drop-drop, drop_at}
+use Rattle.std.specs.List.{AllByRecursion, concat, flat_map}
+use Rattle.std.proofs.lemmas.List.{drop-drop, drop_at, length_push, take-append-drop}
 use Rattle.sl_packet.specs.Packet.{IsPacket}
+use Rattle.sl_packet.specs.Front.{WholePacket, front}
 use Rattle.sl_packet.specs.Packets.{packets_of, rest_of}
+use Rattle.sl_packet.proofs.FrontLemmas.{whole_is_a_packet}
 use Rattle.sl_packet.proofs.PacketLemmas.{packet_least}
 use Rattle.sl_packet.proofs.PacketsLemmas.{packets_of-concat, rest_of-concat, each_has_packets}
+use Rattle.sl_tmframe.specs.TmFrame.{TmView, DataField, Packets, Idle, Opaque}
 use Rattle.sl_tmflow.specs.Among.{IsAmong}
-use Rattle.sl_tmflow.specs.PacketStart.{IsStart, packet_offsets, starts_from}
-use Rattle.sl_fields.proofs.ListLemmas.{concat-push, each-append}
+use Rattle.sl_tmflow.specs.Incomplete.{HasNoStart}
+use Rattle.sl_tmflow.specs.PacketStart.{IsStart, packet_offsets, starts_from, starts_of}
+use Rattle.sl_fields.proofs.ListLemmas.{concat-push, each-append, each-flat_map, each-weaker}
+use Rattle.sl_tmflow.proofs.lemmas.Places.{among-left, among-right, among-flat_map}
 
 -- ---- each listed offset is a packet start
 
@@ -113,3 +118,97 @@ pub starts_rise : (first : Option ℕ) (field : List ℕ) → AreRising (starts_
 starts_rise None field = tt
 starts_rise (Some pointer) field =
     offsets_rise pointer (packets_of (drop pointer field)) (rest_of (drop pointer field)) (each_has_packets (drop pointer field)).each
+
+pub field_starts_rise : (field : DataField) → AreRising (starts_of field)
+field_starts_rise (Packets first octets) = starts_rise first octets
+field_starts_rise Idle = tt
+field_starts_rise Opaque = tt
+
+-- ---- lists of lists
+
+-- a function that keeps lists end to end also keeps them element by element
+pub flat_map-pieces : {X A B : Type 0} (h : List A → List B) → h [] ≡ [] → ((xs ys : List A) → h (xs ++ ys) ≡ h xs ++ h ys)
+    → (f : X → List A) (g : X → List B) → ((x : X) → h (f x) ≡ g x) → (xs : List X) → h (flat_map f xs) ≡ flat_map g xs
+flat_map-pieces h none end_to_end f g each [] = none
+flat_map-pieces h none end_to_end f g each (x ∷ xs) =
+    end_to_end (f x) (flat_map f xs) ∙ ap₂ (λ ys zs. ys ++ zs) (each x) (flat_map-pieces h none end_to_end f g each xs)
+
+-- ---- the starts of a data field
+
+-- what is found at the octets after packets
+abbrev pub at_rest : (List ℕ → List (List ℕ)) → List ℕ → List (List ℕ)
+at_rest f [] = []
+at_rest f (octet ∷ rest) = f (octet ∷ rest)
+
+at_offsets : (f g : List ℕ → List (List ℕ)) → ((packet more : List ℕ) → IsPacket packet → f (packet ++ more) ≡ g packet)
+    → (octets : List ℕ) (offset : ℕ) (packets : List (List ℕ)) (rest : List ℕ) → AllByRecursion IsPacket packets → drop offset octets ≡ concat packets ++ rest
+    → flat_map (λ start. f (drop start octets)) (packet_offsets offset packets rest) ≡ flat_map g packets ++ at_rest f rest
+at_offsets f g at_packet octets offset [] [] each parts = refl
+at_offsets f g at_packet octets offset [] (octet ∷ rest) each parts = append-nil (f (drop offset octets)) ∙ ap f parts
+at_offsets f g at_packet octets offset (packet ∷ packets) rest each parts =
+    let later : drop offset octets ≡ packet ++ (concat packets ++ rest) = parts ∙ append_assoc packet (concat packets) rest in
+    let behind : drop (offset + length packet) octets ≡ concat packets ++ rest =
+    sym (drop-drop (length packet) offset octets) ∙ ap (drop (length packet)) later ∙ drop_at packet (concat packets ++ rest) (length packet) refl in
+    ap₂ (λ xs ys. xs ++ ys) (ap f later ∙ at_packet packet (concat packets ++ rest) each.0)
+    (at_offsets f g at_packet octets (offset + length packet) packets rest each.1 behind)
+    ∙ sym (append_assoc (g packet) (flat_map g packets) (at_rest f rest))
+
+pub at_starts : (f g : List ℕ → List (List ℕ)) → ((packet more : List ℕ) → IsPacket packet → f (packet ++ more) ≡ g packet) → (pointer : ℕ) (octets : List ℕ)
+    → flat_map (λ start. f (drop start octets)) (starts_from (Some pointer) octets)
+    ≡ flat_map g (packets_of (drop pointer octets)) ++ at_rest f (rest_of (drop pointer octets))
+at_starts f g at_packet pointer octets =
+    let has = each_has_packets (drop pointer octets) in
+    at_offsets f g at_packet octets pointer (packets_of (drop pointer octets)) (rest_of (drop pointer octets)) has.each has.end_to_end
+
+-- no packet is whole in the octets after packets
+pub none_in_rest : (octets : List ℕ) (len : ℕ) → front (rest_of octets) ≡ WholePacket len → ⊥
+none_in_rest octets len whole =
+    (each_has_packets octets).no_more (take len (rest_of octets)) (drop len (rest_of octets)) (whole_is_a_packet (rest_of octets) len whole).0
+    (sym (take-append-drop len (rest_of octets)))
+
+-- ---- what is found at the packet starts of all frames
+
+-- `at` is what is found at a packet start of the frame of a number before later frames, and `all` what is found in the
+-- frames from a number on
+module _ {X : Type 0} (at : ℕ → TmView → List TmView → ℕ → List X) (all : ℕ → List TmView → List X) (none : (number : ℕ) → all number [] ≡ [])
+    (more : (number : ℕ) (view : TmView) (later : List TmView) → all number (view ∷ later) ≡ flat_map (at number view later) (starts_of view.field) ++ all (number + 1) later) where
+  found_in_frame : (P : X → Type 0) (number : ℕ) (view : TmView) (later : List TmView)
+      → ((first : Option ℕ) (octets : List ℕ) (start : ℕ) → view.field ≡ Packets first octets → IsStart octets first start → AllByRecursion P (at number view later start))
+      → (field : DataField) → view.field ≡ field → AllByRecursion P (flat_map (at number view later) (starts_of field))
+  found_in_frame P number view later found (Packets first octets) is =
+      each-flat_map P (at number view later) (starts_from first octets)
+      (each-weaker (IsStart octets first) (λ start. AllByRecursion P (at number view later start)) (λ start s. found first octets start is s) (starts_from first octets) (each_is_start first octets))
+  found_in_frame P number view later found Idle is = tt
+  found_in_frame P number view later found Opaque is = tt
+
+  -- what is so of all that is found at each packet start is so of all that is found
+  pub each_found : (P : X → Type 0) (channel before later : List TmView) (number : ℕ)
+      → ((before : List TmView) (view : TmView) (later : List TmView) (number : ℕ) (first : Option ℕ) (octets : List ℕ) (start : ℕ) → channel ≡ before ++ view ∷ later
+      → number ≡ length before → view.field ≡ Packets first octets → IsStart octets first start → AllByRecursion P (at number view later start))
+      → channel ≡ before ++ later → number ≡ length before → AllByRecursion P (all number later)
+  each_found P channel before [] number found here counted = rw (none number) tt
+  each_found P channel before (view ∷ later) number found here counted =
+      subst (AllByRecursion P) (sym (more number view later))
+      (each-append P (flat_map (at number view later) (starts_of view.field)) (all (number + 1) later)
+      (found_in_frame P number view later (λ first octets start is s. found before view later number first octets start here counted is s) view.field refl)
+      (each_found P channel (before ++ view ∷ []) later (number + 1) found (here ∙ sym (append_assoc before (view ∷ []) later)) (omega (arith, counted, length_push before view))))
+
+  -- what is found at a packet start is found in the frames
+  pub found_among : (x : X) (before : List TmView) (view : TmView) (later : List TmView) (number frame start : ℕ) (first : Option ℕ) (octets : List ℕ)
+      → frame ≡ number + length before → view.field ≡ Packets first octets → IsStart octets first start → IsAmong x (at frame view later start)
+      → IsAmong x (all number (before ++ view ∷ later))
+  found_among x [] view later number frame start first octets counted is s there =
+      let same : frame ≡ number = omega arith in
+      subst (IsAmong x) (sym (more number view later))
+      (among-left x (flat_map (at number view later) (starts_of view.field)) (all (number + 1) later)
+      (among-flat_map x (at number view later) start (starts_of view.field) (rw is (is_among octets first start s)) (subst (λ n. IsAmong x (at n view later start)) same there)))
+  found_among x (other ∷ before) view later number frame start first octets counted is s there =
+      subst (IsAmong x) (sym (more number other (before ++ view ∷ later)))
+      (among-right x (flat_map (at number other (before ++ view ∷ later)) (starts_of other.field)) (all (number + 1) (before ++ view ∷ later))
+      (found_among x before view later (number + 1) frame start first octets (omega arith) is s there))
+
+-- ---- frames in which no packet starts
+
+pub no_starts : (view : TmView) (field : DataField) → HasNoStart view → view.field ≡ field → starts_of field ≡ []
+no_starts view (Packets (Some pointer) octets) none is = absurd (let both = none (Some pointer) octets is in cc)
+no_starts view field none is = refl

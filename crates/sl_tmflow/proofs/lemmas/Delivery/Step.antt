@@ -128,16 +128,16 @@ field_ends octets Idle packet e = absurd (cc)
 field_ends octets Opaque packet e = absurd (cc)
 
 pub ends_field : (octets : List ℕ) (field : DataField) (packet : List ℕ) → EndsIn octets field packet → field_step octets field ≡ Ends packet
-ends_field octets field packet x =
-    let all : octets ++ x.carried ≡ packet ++ x.ends.0 = sym x.ends.1 in
-    let is_whole : front (octets ++ x.carried) ≡ WholePacket (length packet) = ap front all ∙ packet_is_whole packet x.ends.0 x.is_packet in
-    let test : option_eq nat_eq x.first (agreeing_pointer (length packet) (length octets) x.carried) ≡ true =
-    ap (λ first. option_eq nat_eq first (agreeing_pointer (length packet) (length octets) x.carried)) x.agrees
-    ∙ pointers_same (agreeing_pointer (length packet) (length octets) x.carried) in
-    ap (field_step octets) x.is_packets
-    ∙ ap (front_step x.first (length octets) x.carried (octets ++ x.carried)) is_whole
-    ∙ ap (λ b. if b then Ends (take (length packet) (octets ++ x.carried)) else Breaks) test
-    ∙ ap (λ l. Ends (take (length packet) l)) all ∙ ap Ends (take_at packet x.ends.0 (length packet) refl)
+ends_field octets field packet ending =
+    let all : octets ++ ending.carried ≡ packet ++ ending.ends.0 = sym ending.ends.1 in
+    let is_whole : front (octets ++ ending.carried) ≡ WholePacket (length packet) = ap front all ∙ packet_is_whole packet ending.ends.0 ending.is_packet in
+    let test : option_eq nat_eq ending.first (agreeing_pointer (length packet) (length octets) ending.carried) ≡ true =
+    ap (λ first. option_eq nat_eq first (agreeing_pointer (length packet) (length octets) ending.carried)) ending.agrees
+    ∙ pointers_same (agreeing_pointer (length packet) (length octets) ending.carried) in
+    ap (field_step octets) ending.is_packets
+    ∙ ap (front_step ending.first (length octets) ending.carried (octets ++ ending.carried)) is_whole
+    ∙ ap (λ b. if b then Ends (take (length packet) (octets ++ ending.carried)) else Breaks) test
+    ∙ ap (λ l. Ends (take (length packet) l)) all ∙ ap Ends (take_at packet ending.ends.0 (length packet) refl)
 
 continues_test : (b : Bool) (whole : List ℕ) → (if b then Ends whole else Breaks) ≡ Continues → ⊥
 continues_test true whole e = cc
@@ -157,25 +157,17 @@ front_continues first before field all (WholePacket len) e =
 pub field_continues : (octets : List ℕ) (field : DataField) → front octets ≡ Incomplete → field_step octets field ≡ Continues → GoesOnPast octets field
 field_continues octets (Packets first carried) incomplete e =
     let step = front_continues first (length octets) carried (octets ++ carried) (front (octets ++ carried)) e in
-    record {
-      is_read = λ same. cc;
-      no_start = λ first' carried' same. let p : first' ≡ first = cc in p ∙ step.1;
-      incomplete = step.0;
-    }
+    record { is_read = λ same. cc; no_start = λ first' carried' same. let p : first' ≡ first = cc in p ∙ step.1; incomplete = step.0 }
 field_continues octets Idle incomplete e =
-    record {
-      is_read = λ same. cc;
-      no_start = λ first carried same. absurd (cc);
-      incomplete = ap front (append-nil octets) ∙ incomplete;
-    }
+    record { is_read = λ same. cc; no_start = λ first carried same. absurd (cc); incomplete = ap front (append-nil octets) ∙ incomplete }
 field_continues octets Opaque incomplete e = absurd (cc)
 
 pub continues_field : (octets : List ℕ) (field : DataField) → GoesOnPast octets field → field_step octets field ≡ Continues
-continues_field octets (Packets first carried) x =
-    ap (front_step first (length octets) carried (octets ++ carried)) x.incomplete
-    ∙ ap (λ p. if is_some p then Breaks else Continues) (x.no_start first carried refl)
-continues_field octets Idle x = refl
-continues_field octets Opaque x = absurd (x.is_read refl)
+continues_field octets (Packets first carried) past =
+    ap (front_step first (length octets) carried (octets ++ carried)) past.incomplete
+    ∙ ap (λ p. if is_some p then Breaks else Continues) (past.no_start first carried refl)
+continues_field octets Idle past = refl
+continues_field octets Opaque past = absurd (past.is_read refl)
 
 -- the next frame is consecutive where its step isn't a break
 pub step_ends : (view : TmView) (octets : List ℕ) (next : TmView) (packet : List ℕ) → step_of view octets next ≡ Ends packet
@@ -189,8 +181,8 @@ step_ends view octets next packet e = cases (is_consecutive view next) refl e
 
 pub ends_step : (view : TmView) (octets : List ℕ) (next : TmView) (packet : List ℕ) → is_consecutive view next ≡ true → EndsIn octets next.field packet
     → step_of view octets next ≡ Ends packet
-ends_step view octets next packet consecutive x =
-    ap (λ b. if b then field_step octets next.field else Breaks) consecutive ∙ ends_field octets next.field packet x
+ends_step view octets next packet consecutive ending =
+    ap (λ b. if b then field_step octets next.field else Breaks) consecutive ∙ ends_field octets next.field packet ending
 
 pub step_continues : (view : TmView) (octets : List ℕ) (next : TmView) → front octets ≡ Incomplete → step_of view octets next ≡ Continues
     → (is_consecutive view next ≡ true) × GoesOnPast octets next.field
@@ -203,5 +195,5 @@ step_continues view octets next incomplete e = cases (is_consecutive view next) 
 
 pub continues_step : (view : TmView) (octets : List ℕ) (next : TmView) → is_consecutive view next ≡ true → GoesOnPast octets next.field
     → step_of view octets next ≡ Continues
-continues_step view octets next consecutive x =
-    ap (λ b. if b then field_step octets next.field else Breaks) consecutive ∙ continues_field octets next.field x
+continues_step view octets next consecutive past =
+    ap (λ b. if b then field_step octets next.field else Breaks) consecutive ∙ continues_field octets next.field past

@@ -1,8 +1,10 @@
 -- The normal form of packets, read as a recording.
-use Rattle.std.proofs.Common.{◌≡◌, ℕ, zero, suc, ◌+◌, ◌*◌, ◌/◌, ◌%◌, ◌<◌, ◌≤◌, ◌==◌, true, false, List, [], ◌∷◌, ◌++◌, length, drop, map, Option, None, Some, IfSome, refl, sym, ◌∙◌, ap, ap₂, subst, arith, length-drop, length-take-le, append_assoc, append-nil, eq-eqb, ne_eqb, mul-le-mul_right, add-mul, one-mul}
+use Rattle.std.proofs.Common.{◌≡◌, ◌≢◌, ℕ, zero, suc, ◌+◌, ◌*◌, ◌/◌, ◌%◌, ◌<◌, ◌≤◌, ◌==◌, true, false, List, [], ◌∷◌, ◌++◌, length, drop, map, Option, None, Some, IfSome, refl, sym, ◌∙◌, ap, ap₂, subst, arith, length-drop, length-take-le, append_assoc, append-nil, eq-eqb, ne_eqb, mul-le-mul_right, add-mul, one-mul}
 use Rattle.std.specs.Result.{result_ok}
-use Rattle.std.specs.List.{AllByRecursion, cons_option, concat, range_with_len}
+use Rattle.std.specs.List.{AllByRecursion, cons_option, concat, range_with_len, slice_index_or}
+use Rattle.std.proofs.lemmas.List.{ext_get_or}
 use Rattle.std.proofs.lemmas.List.Elements.{filter-append, filter_map-append}
+use Rattle.std.proofs.lemmas.List.FromFn.{get_or-map-range_with_len}
 use Rattle.std.proofs.lemmas.Nat.{div-add-mod', mod_below}
 use Rattle.sl_fields.proofs.FecfLemmas.{fecf_len_le}
 use Rattle.sl_packet.specs.Delivered.{IsDeliverable}
@@ -18,12 +20,11 @@ use Rattle.sl_tmflow.specs.Delivery.{deliveries_of, packets_delivered}
 use Rattle.sl_tmflow.specs.NormalForm.{with_filling, filling, data_field_of, first_of, IsLeastStart, channel_frame, channel_frames, frames_from_channel, normal_form}
 use Rattle.sl_tmflow.specs.PacketStart.{packet_offsets}
 use Rattle.sl_tmflow.specs.Recording.{packets_of_channel, recorded_views, virtual_channels}
-use Rattle.sl_tmflow.proofs.lemmas.Form.CutDelivery.{all_delivered}
-use Rattle.sl_tmflow.proofs.lemmas.Form.CutView.{views_from}
-use Rattle.sl_fields.proofs.ListLemmas.{each-append, each-weaker, filter_all, filter_none}
+use Rattle.sl_tmflow.proofs.lemmas.Form.CutDelivery.{all_delivered, view_at, views_from}
+use Rattle.sl_fields.proofs.ListLemmas.{each-append, each-at, each-every, each-map, each-weaker, filter_all, filter_none}
 use Rattle.sl_packet.proofs.WithoutIdleLemmas.{due_packets}
 use Rattle.sl_tmflow.proofs.lemmas.Form.Fill.{filled_whole, filled_without_idle, filling_is}
-use Rattle.sl_tmflow.proofs.lemmas.Form.LeastStart.{each_pointer_is_least}
+use Rattle.sl_tmflow.proofs.lemmas.Form.FieldStart.{each_pointer_is_least}
 
 -- the first packet start of a data field lies in it
 start_inside : (room number : ℕ) (offsets : List ℕ) (first : Option ℕ) → IsLeastStart room number offsets first → IfSome first (λ offset. offset < room)
@@ -39,8 +40,8 @@ short_room format is = let most = is.most in omega arith
 
 -- each frame of a virtual channel has this virtual channel
 each_of_channel : (room vc mc : ℕ) (packets : List (List ℕ)) (many number : ℕ) → AllByRecursion (λ view. view.vc ≡ vc) (views_from room vc mc packets number many)
-each_of_channel room vc mc packets zero number = tt
-each_of_channel room vc mc packets (suc many) number = (refl, each_of_channel room vc mc packets many (number + 1))
+each_of_channel room vc mc packets many number =
+    each-map (λ view. view.vc ≡ vc) (view_at room vc mc packets) (range_with_len number many) (each-every (λ number. vc ≡ vc) (λ number. refl) (range_with_len number many))
 
 -- a format's frames of packets, for a spacecraft, are such
 abbrev EachFrameIs : TmFormat → ℕ → (List ℕ → Type 0) → Type 0
@@ -145,7 +146,7 @@ module _ (format : TmFormat) (spacecraft vc mc : ℕ) (packets : List (List ℕ)
 
 -- ---- the frames of all virtual channels
 
-pub of_none : (vc : ℕ) (views : List TmView) → AllByRecursion (λ view. view.vc ≡ vc → ⊥) views → channel_of vc views ≡ []
+of_none : (vc : ℕ) (views : List TmView) → AllByRecursion (λ view. view.vc ≡ vc → ⊥) views → channel_of vc views ≡ []
 of_none vc views others =
     filter_none (λ view. view.vc == vc) views (each-weaker (λ view. view.vc ≡ vc → ⊥) (λ view. (view.vc == vc) ≡ false) (λ view other. ne_eqb view.vc vc other) views others)
 
@@ -153,19 +154,13 @@ of_all : (vc : ℕ) (views : List TmView) → AllByRecursion (λ view. view.vc �
 of_all vc views same =
     filter_all (λ view. view.vc == vc) views (each-weaker (λ view. view.vc ≡ vc) (λ view. (view.vc == vc) ≡ true) (λ view same. eq-eqb view.vc vc same) views same)
 
--- the frames of a virtual channel, between those of lower and of higher ones
-pub of_middle : (vc : ℕ) (before own after : List TmView) → AllByRecursion (λ view. view.vc < vc) before → AllByRecursion (λ view. view.vc ≡ vc) own
-    → AllByRecursion (λ view. vc + 1 ≤ view.vc) after → channel_of vc (before ++ (own ++ after)) ≡ own
-of_middle vc before own after low same high =
-    let is_of = λ (view : TmView). view.vc == vc in
-    let left : channel_of vc before ≡ [] = of_none vc before (each-weaker (λ view. view.vc < vc) (λ view. view.vc ≡ vc → ⊥) (λ view below is. omega arith) before low) in
-    let right : channel_of vc after ≡ [] = of_none vc after (each-weaker (λ view. vc + 1 ≤ view.vc) (λ view. view.vc ≡ vc → ⊥) (λ view above is. omega arith) after high) in
-    filter-append is_of before (own ++ after) ∙ ap₂ (λ xs ys. xs ++ ys) left (filter-append is_of own after)
-    ∙ ap₂ (λ xs ys. xs ++ ys) (of_all vc own same) right ∙ append-nil own
-
 module _ (format : TmFormat) (spacecraft : ℕ) (is : IsFormat format) (fits : spacecraft ≤ 1023) where
   abbrev pub form_views : ℕ → ℕ → List (List (List ℕ)) → List TmView
   form_views vc mc lists = views_of format spacecraft (frames_from_channel format spacecraft vc mc lists)
+
+  -- the number of frames up to the next virtual channel
+  abbrev pub next : ℕ → ℕ → List (List ℕ) → ℕ
+  next vc mc packets = mc + length (channel_frames format spacecraft vc mc packets)
 
   form_each : (P : List ℕ → Type 0) → EachFrameIs format spacecraft P → (lists : List (List (List ℕ))) (vc mc : ℕ) → vc + length lists ≤ 8
       → AllByRecursion (AllByRecursion IsDeliverable) lists → AllByRecursion P (frames_from_channel format spacecraft vc mc lists)
@@ -190,34 +185,42 @@ module _ (format : TmFormat) (spacecraft : ℕ) (is : IsFormat format) (fits : s
   form_above [] vc mc inside each = tt
   form_above (packets ∷ lists) vc mc inside each =
       let own = channel_views format vc mc packets in
-      let next = mc + length (channel_frames format spacecraft vc mc packets) in
+      let rest = form_views (vc + 1) (next vc mc packets) lists in
       subst (AllByRecursion (λ view. vc ≤ view.vc)) (sym (form_parts packets lists vc mc (omega (arith, inside)) each.0))
-      (each-append (λ view. vc ≤ view.vc) own (form_views (vc + 1) next lists)
+      (each-append (λ view. vc ≤ view.vc) own rest
       (each-weaker (λ view. view.vc ≡ vc) (λ view. vc ≤ view.vc) (λ view same. omega arith) own (channel_of_own format vc mc packets))
-      (each-weaker (λ view. vc + 1 ≤ view.vc) (λ view. vc ≤ view.vc) (λ view above. omega arith) (form_views (vc + 1) next lists) (form_above lists (vc + 1) next (omega (arith, inside)) each.1)))
+      (each-weaker (λ view. vc + 1 ≤ view.vc) (λ view. vc ≤ view.vc) (λ view above. omega arith) rest (form_above lists (vc + 1) (next vc mc packets) (omega (arith, inside)) each.1)))
 
-  -- the packets of each virtual channel from one on, after the frames of lower ones
-  form_lists : (lists : List (List (List ℕ))) (vc mc : ℕ) (before : List TmView) → vc + length lists ≤ 8 → AllByRecursion (AllByRecursion IsDeliverable) lists
-      → AllByRecursion (λ view. view.vc < vc) before
-      → map (λ v. without_idle (packets_of_channel (before ++ form_views vc mc lists) v)) (range_with_len vc (length lists)) ≡ lists
-  form_lists [] vc mc before inside each low = refl
-  form_lists (packets ∷ lists) vc mc before inside each low =
-      let own = channel_views format vc mc packets in
-      let next = mc + length (channel_frames format spacecraft vc mc packets) in
-      let rest = form_views (vc + 1) next lists in
-      let fit : vc ≤ 7 = omega (arith, inside) in
-      let fit_rest : vc + 1 + length lists ≤ 8 = omega (arith, inside) in
-      let parts : form_views vc mc (packets ∷ lists) ≡ own ++ rest = form_parts packets lists vc mc fit each.0 in
-      let same = channel_of_own format vc mc packets in
-      let here : channel_of vc (before ++ (own ++ rest)) ≡ own = of_middle vc before own rest low same (form_above lists (vc + 1) next fit_rest each.1) in
-      let passed : AllByRecursion (λ view. view.vc < vc + 1) (before ++ own) =
-      each-append (λ view. view.vc < vc + 1) before own (each-weaker (λ view. view.vc < vc) (λ view. view.vc < vc + 1) (λ view below. omega arith) before low)
-      (each-weaker (λ view. view.vc ≡ vc) (λ view. view.vc < vc + 1) (λ view is_it. omega arith) own same) in
-      ap₂ (λ ps pss. ps ∷ pss)
-      (ap (λ l. without_idle (packets_of_channel (before ++ l) vc)) parts ∙ ap (λ l. without_idle (packets_delivered (deliveries_of l))) here
-      ∙ channel_delivers format spacecraft vc mc packets is fits fit each.0)
-      (ap (λ l. map (λ v. without_idle (packets_of_channel l v)) (range_with_len (vc + 1) (length lists))) (ap (λ l. before ++ l) parts ∙ sym (append_assoc before own rest))
-      ∙ form_lists lists (vc + 1) next (before ++ own) fit_rest each.1 passed)
+  -- the frames of the first virtual channel, and those of another one
+  pub first_channel : (packets : List (List ℕ)) (lists : List (List (List ℕ))) (vc mc : ℕ) → vc + 1 + length lists ≤ 8 → AllByRecursion IsDeliverable packets
+      → AllByRecursion (AllByRecursion IsDeliverable) lists → channel_of vc (form_views vc mc (packets ∷ lists)) ≡ channel_views format vc mc packets
+  first_channel packets lists vc mc inside own each =
+      let views = channel_views format vc mc packets in
+      let rest = form_views (vc + 1) (next vc mc packets) lists in
+      ap (channel_of vc) (form_parts packets lists vc mc (omega (arith, inside)) own) ∙ filter-append (λ (view : TmView). view.vc == vc) views rest
+      ∙ ap₂ (λ xs ys. xs ++ ys) (of_all vc views (channel_of_own format vc mc packets))
+      (of_none vc rest (each-weaker (λ view. vc + 1 ≤ view.vc) (λ view. view.vc ≡ vc → ⊥) (λ view above same. omega arith) rest (form_above lists (vc + 1) (next vc mc packets) inside each)))
+      ∙ append-nil views
+
+  pub other_channel : (packets : List (List ℕ)) (lists : List (List (List ℕ))) (vc mc v : ℕ) → vc ≤ 7 → AllByRecursion IsDeliverable packets → vc ≢ v
+      → channel_of v (form_views vc mc (packets ∷ lists)) ≡ channel_of v (form_views (vc + 1) (next vc mc packets) lists)
+  other_channel packets lists vc mc v inside own other =
+      let views = channel_views format vc mc packets in
+      let rest = form_views (vc + 1) (next vc mc packets) lists in
+      ap (channel_of v) (form_parts packets lists vc mc inside own) ∙ filter-append (λ (view : TmView). view.vc == v) views rest
+      ∙ ap (λ l. l ++ channel_of v rest)
+      (of_none v views (each-weaker (λ view. view.vc ≡ vc) (λ view. view.vc ≡ v → ⊥) (λ view same e. other (sym same ∙ e)) views (channel_of_own format vc mc packets)))
+
+  -- the frames of a virtual channel are those that its packets are divided into
+  pub own_channel : (lists : List (List (List ℕ))) (vc mc v index : ℕ) → vc + length lists ≤ 8 → AllByRecursion (AllByRecursion IsDeliverable) lists → v ≡ vc + index → index < length lists
+      → (before : ℕ) × (channel_of v (form_views vc mc lists) ≡ channel_views format v before (slice_index_or lists index []))
+  own_channel [] vc mc v index inside each at below = absurd (omega arith)
+  own_channel (packets ∷ lists) vc mc v zero inside each at below =
+      let same : v ≡ vc = omega (arith, at) in
+      rw same (mc, first_channel packets lists vc mc (omega (arith, inside)) each.0 each.1)
+  own_channel (packets ∷ lists) vc mc v (suc index) inside each at below =
+      let (before, is_own) = own_channel lists (vc + 1) (next vc mc packets) v index (omega (arith, inside)) each.1 (omega (arith, at)) (omega (arith, below)) in
+      (before, other_channel packets lists vc mc v (omega (arith, inside)) each.0 (λ e. omega (arith, at, e)) ∙ is_own)
 
 pub is_frames : NormalFormIsFrames
 is_frames format spacecraft lists is fits due =
@@ -246,7 +249,11 @@ views_are format spacecraft lists is fits due =
 pub delivers : NormalFormDelivers
 delivers format spacecraft lists is fits due =
     let eight = due.eight in
-    let frames = frames_from_channel format spacecraft 0 0 lists in
-    ap (λ views. map (λ vc. without_idle (packets_of_channel views vc)) virtual_channels) (views_are format spacecraft lists is fits due)
-    ∙ ap (λ n. map (λ vc. without_idle (packets_of_channel (views_of format spacecraft frames) vc)) (range_with_len 0 n)) (sym eight)
-    ∙ form_lists format spacecraft is fits lists 0 0 [] (omega arith) due.each tt
+    let packets_on = λ (views : List TmView) (vc : ℕ). without_idle (packets_of_channel views vc) in
+    let views = form_views format spacecraft is fits 0 0 lists in
+    ap (λ views. map (packets_on views) virtual_channels) (views_are format spacecraft lists is fits due)
+    ∙ ext_get_or [] (map (packets_on views) virtual_channels) lists (sym eight)
+    (λ vc below.
+    let (before, own) = own_channel format spacecraft is fits lists 0 0 vc vc (omega arith) due.each (omega arith) (omega (arith, below)) in
+    get_or-map-range_with_len (packets_on views) 0 8 vc vc [] (omega (arith, below)) (omega arith) ∙ ap (λ l. without_idle (packets_delivered (deliveries_of l))) own
+    ∙ channel_delivers format spacecraft vc before (slice_index_or lists vc []) is fits (omega (arith, below)) (each-at (AllByRecursion IsDeliverable) lists vc [] tt due.each))

@@ -110,12 +110,7 @@ module _ (room : ℕ) (packets : List (List ℕ)) where
       let place = s.place in
       let next = next_field number in
       let same : number * room + s.start ≡ (number + 1) * room + 0 = omega (arith, place, next) in
-      record {
-        found = λ n after. s.found n after ∙ ap (λ k. found_in room n k todo) same;
-        octets = s.octets;
-        size = omega (arith, s.size);
-        each = s.each;
-      }
+      record { found = λ n after. s.found n after ∙ ap (λ k. found_in room n k todo) same; octets = s.octets; size = omega (arith, s.size); each = s.each }
 
   -- to the next data field, where a packet goes on in it
   pub past_begun : (number gap : ℕ) (packet : List ℕ) (todo : List (List ℕ)) (count : ℕ) → 0 < gap → gap ≤ length packet → IsInside number gap (packet ∷ todo) count

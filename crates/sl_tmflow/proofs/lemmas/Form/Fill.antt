@@ -39,14 +39,14 @@ whole_rooms room (suc q) zero s e some = let z = zero-mul room in absurd (omega 
 whole_rooms room (suc q) (suc k) s e some =
     let p = suc-mul q room in let o = suc-mul k room in whole_rooms room q k s (omega arith) some
 
-pub none_left : (room k : ℕ) → k * room % room ≡ 0
-none_left room k =
-    let e : k * room ≡ k * room + 0 = omega arith in
-    ap (λ n. n % room) e ∙ mul-add-mod_self_right k room 0 ∙ zero-mod room
+pub none_left : (room count : ℕ) → count * room % room ≡ 0
+none_left room count =
+    let e : count * room ≡ count * room + 0 = omega arith in
+    ap (λ n. n % room) e ∙ mul-add-mod_self_right count room 0 ∙ zero-mod room
 
-at_least_one : (room k : ℕ) → 0 < k → room ≤ k * room
+at_least_one : (room count : ℕ) → 0 < count → room ≤ count * room
 at_least_one room zero some = absurd (omega arith)
-at_least_one room (suc k) some = let e = suc-mul k room in omega arith
+at_least_one room (suc count) some = let e = suc-mul count room in omega arith
 
 -- a multiple of the room after the octets of a part of a room has at least the rest of this room
 past_one_room : (room left gap other d : ℕ) → 0 < left → gap + left ≡ room → left + other ≡ d * room → gap ≤ other

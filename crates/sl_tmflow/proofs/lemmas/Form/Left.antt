@@ -17,8 +17,7 @@ use Rattle.sl_tmflow.specs.NormalForm.{with_filling, filling, fill_of, channel_f
 use Rattle.sl_packet.specs.Packet.{IsPacket}
 use Rattle.sl_tmflow.proofs.lemmas.Incomplete.List.{stated_packet_len-most}
 use Rattle.sl_tmflow.proofs.lemmas.Form.Fill.{no_filling, none_left, fill_is_least, filled_whole}
-use Rattle.sl_tmflow.proofs.lemmas.Form.Form.{fields_are, two_ranges, count_later, starts_here, starts_no_later, pending_next, found_here, no_frames}
-use Rattle.sl_tmflow.proofs.lemmas.Form.Steps.{after_packet, filling_of, next_channel, piece_of}
+use Rattle.sl_tmflow.proofs.lemmas.Form.Pieces.{fields_are, two_ranges, count_later, starts_here, starts_no_later, pending_next, found_here, no_frames, after_packet, filling_of, next_channel, piece_of}
 
 -- ---- the next packet
 
@@ -169,6 +168,17 @@ octets_of_all s left later is l =
     let p = l.pending in
     omega (arith, ap length p.parts, length-append p.made (s.octets ++ concat (drop s.taken (filled_packets s))), length-append s.octets (concat (drop s.taken (filled_packets s))), p.size, ap (λ ps. length (concat ps)) is)
 
+-- where the packets are taken, the filling is next, and the packets fill what was made and is kept
+at_end : (s : FormProgress) (left : List ℕ) → s.taken ≡ length (channel_packets s) → (l : IsLeft s left)
+    → (drop s.taken (filled_packets s) ≡ filling (field_room_of s.format) (length (concat (channel_packets s))))
+    × (length (concat (channel_packets s)) ≡ l.count * field_room_of s.format + length s.octets)
+at_end s left last l =
+    let packets = channel_packets s in
+    let fill = filling (field_room_of s.format) (length (concat packets)) in
+    let next : drop s.taken (filled_packets s) ≡ fill = ap (λ n. drop n (packets ++ fill)) last ∙ drop-append_seam packets fill in
+    let both : length (concat (filled_packets s)) ≡ length (concat packets) + length (concat fill) = ap length (concat-append packets fill) ∙ length-append (concat packets) (concat fill) in
+    (next, omega (arith, octets_of_all s left fill next l, both))
+
 -- where octets are left and no packets, the filling isn't taken yet
 last_taken : (s : FormProgress) (left : List ℕ) → 7 ≤ field_room_of s.format → field_room_of s.format ≤ 65536 → length s.octets < field_room_of s.format → 0 < length s.octets
     → length (channel_packets s) ≤ s.taken → IsLeft s left → s.taken ≡ length (channel_packets s)
@@ -178,10 +188,9 @@ last_taken s left wide short few some beyond l =
       | inl (test, inside) ↦ omega (arith, inside, beyond)
       | inr (test, over) ↦
           let none : drop s.taken (filled_packets s) ≡ [] = drop_all s.taken (filled_packets s) (omega (arith, few_filled s, over)) in
-          let size = octets_of_all s left [] none l in
-          let nothing : l.count * room + length s.octets + 0 ≡ l.count * room + length s.octets = omega arith in
+          let size : length (concat (filled_packets s)) ≡ l.count * room + length s.octets = omega (arith, octets_of_all s left [] none l) in
           let whole : length s.octets ≡ 0 =
-          sym (mod-eq_of_lt few) ∙ sym (mul-add-mod_self_right l.count room (length s.octets)) ∙ ap (λ n. n % room) (sym (size ∙ nothing)) ∙ filled_whole room (channel_packets s) wide short in
+          sym (mod-eq_of_lt few) ∙ sym (mul-add-mod_self_right l.count room (length s.octets)) ∙ ap (λ n. n % room) (sym size) ∙ filled_whole room (channel_packets s) wide short in
           absurd (omega (arith, whole, some))
     ]
 
@@ -193,14 +202,8 @@ pub filling_here : (s : FormProgress) (left : List ℕ) → 7 ≤ field_room_of 
     → length (channel_packets s) ≤ s.taken → IsLeft s left → drop s.taken (filled_packets s) ≡ filling_of s ∷ []
 filling_here s left wide short few some beyond l =
     let room = field_room_of s.format in
-    let packets = channel_packets s in
-    let fill = filling room (length (concat packets)) in
-    let last = last_taken s left wide short few some beyond l in
-    let next : drop s.taken (filled_packets s) ≡ fill = ap (λ n. drop n (packets ++ fill)) last ∙ drop-append_seam packets fill in
-    let size = octets_of_all s left fill next l in
-    let both : length (concat (filled_packets s)) ≡ length (concat packets) + length (concat fill) = ap length (concat-append packets fill) ∙ length-append (concat packets) (concat fill) in
-    let len : length (concat packets) ≡ l.count * room + length s.octets = omega (arith, size, both) in
-    let same : fill ≡ filling room (length s.octets) = same_filling room (length (concat packets)) (length s.octets) (ap (λ n. n % room) len ∙ mul-add-mod_self_right l.count room (length s.octets)) in
+    let (next, len) = at_end s left (last_taken s left wide short few some beyond l) l in
+    let same = same_filling room (length (concat (channel_packets s))) (length s.octets) (ap (λ n. n % room) len ∙ mul-add-mod_self_right l.count room (length s.octets)) in
     elim (eqb_tells (fill_of room (length s.octets)) 0) [
       | inl (test, none) ↦
           let sum : length s.octets + fill_of room (length s.octets) ≡ length s.octets = omega (arith, none) in
@@ -240,18 +243,7 @@ adds_filling s s' taken before after wide short few some beyond last next added 
 
 -- the progress with these octets kept
 abbrev pub keeping : FormProgress → List ℕ → FormProgress
-keeping s octets =
-    record {
-      format = s.format;
-      spacecraft = s.spacecraft;
-      lists = s.lists;
-      vc = s.vc;
-      taken = s.taken;
-      master = s.master;
-      counter = s.counter;
-      octets = octets;
-      start = s.start;
-    }
+keeping s octets = record s { octets = octets }
 
 pub passed_is : (s : FormProgress) (octets packet : List ℕ) (frames taken : ℕ) → octets ≡ beyond_fields s.format (s.octets ++ packet) → frames ≡ fields_in s.format (s.octets ++ packet)
     → passed (keeping s octets) frames taken ≡ after_packet s packet taken
@@ -263,25 +255,20 @@ passed_is s octets packet frames taken is many = rw (is, many) refl
 none_many : (s : FormProgress) (left : List ℕ) → 0 < field_room_of s.format → length (channel_packets s) ≤ s.taken → s.octets ≡ [] → (l : IsLeft s left) → l.many ≡ 0
 none_many s left roomy beyond nothing l =
     let room = field_room_of s.format in
-    let packets = channel_packets s in
-    let fill = filling room (length (concat packets)) in
     let no_octets = ap length nothing in
-    elim (leb_tells s.taken (length packets)) [
+    elim (leb_tells s.taken (length (channel_packets s))) [
       | inl (test, inside) ↦
-          let last : s.taken ≡ length packets = omega (arith, inside, beyond) in
-          let next : drop s.taken (filled_packets s) ≡ fill = ap (λ n. drop n (packets ++ fill)) last ∙ drop-append_seam packets fill in
-          let size = octets_of_all s left fill next l in
-          let both : length (concat (filled_packets s)) ≡ length (concat packets) + length (concat fill) = ap length (concat-append packets fill) ∙ length-append (concat packets) (concat fill) in
-          let len : length (concat packets) ≡ l.count * room = omega (arith, size, both, no_octets) in
-          let same : fill ≡ [] = same_filling room (length (concat packets)) 0 (ap (λ n. n % room) len ∙ none_left room l.count ∙ sym (zero-mod room)) ∙ no_filling room in
-          counted (l.count * room + 0) (size ∙ omega (arith, no_octets, ap (λ ps. length (concat ps)) same)) refl
-      | inr (test, over) ↦
-          let none : drop s.taken (filled_packets s) ≡ [] = drop_all s.taken (filled_packets s) (omega (arith, few_filled s, over)) in
-          counted (l.count * room + 0) (octets_of_all s left [] none l ∙ omega (arith, no_octets)) refl
+          let (next, len) = at_end s left (omega (arith, inside, beyond)) l in
+          let rooms : length (concat (channel_packets s)) ≡ l.count * room = omega (arith, len, no_octets) in
+          let same = same_filling room (length (concat (channel_packets s))) 0 (ap (λ n. n % room) rooms ∙ none_left room l.count ∙ sym (zero-mod room)) ∙ no_filling room in
+          counted (octets_of_all s left [] (next ∙ same) l)
+      | inr (test, over) ↦ counted (octets_of_all s left [] (drop_all s.taken (filled_packets s) (omega (arith, few_filled s, over))) l)
     ]
   where
-    counted : (n : ℕ) → length (concat (filled_packets s)) ≡ n → n ≡ l.count * field_room_of s.format + 0 → l.many ≡ 0
-    counted n size is = let frames = ap (λ k. k / field_room_of s.format) (size ∙ is) ∙ div-mul-add l.count (field_room_of s.format) 0 roomy in omega (arith, l.all, frames)
+    counted : length (concat (filled_packets s)) ≡ l.count * field_room_of s.format + length s.octets + 0 → l.many ≡ 0
+    counted size =
+        let rooms : length (concat (filled_packets s)) ≡ l.count * field_room_of s.format + 0 = omega (arith, size, ap length nothing) in
+        let frames = ap (λ k. k / field_room_of s.format) rooms ∙ div-mul-add l.count (field_room_of s.format) 0 roomy in omega (arith, l.all, frames)
 
 pub left_next_channel : (s : FormProgress) (left : List ℕ) → 0 < field_room_of s.format → length (channel_packets s) ≤ s.taken → s.octets ≡ [] → IsLeft s left → IsLeft (next_channel s) left
 left_next_channel s left roomy beyond nothing l =

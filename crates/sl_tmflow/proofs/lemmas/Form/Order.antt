@@ -4,12 +4,11 @@ use Rattle.std.specs.Prelude.{⊤}
 use Rattle.std.specs.List.{AllByRecursion, concat, range_with_len, slice_index_or}
 use Rattle.std.proofs.lemmas.Bool.Decides.{eqb_tells}
 use Rattle.std.proofs.lemmas.List.{drop-drop, drop_all, take-append-drop}
-use Rattle.std.proofs.lemmas.List.Elements.{filter-append}
 use Rattle.std.proofs.lemmas.List.FromFn.{length-map-range_with_len}
 use Rattle.std.proofs.lemmas.Simd.{map-map}
 use Rattle.std.proofs.Math.Nat.{add-mul, one-mul, zero-mul}
 use Rattle.sl_fields.specs.NeverFall.{NeverFall}
-use Rattle.sl_fields.proofs.ListLemmas.{each-append, each-every, each-map, each-weaker}
+use Rattle.sl_fields.proofs.ListLemmas.{each-append, each-at, each-every, each-map}
 use Rattle.sl_fields.proofs.NeverFallLemmas.{lower, then_later}
 use Rattle.sl_packet.specs.Delivered.{IsDeliverable}
 use Rattle.sl_tmframe.specs.PacketFrame.{field_room_of}
@@ -19,8 +18,8 @@ use Rattle.sl_tmflow.specs.Channel.{channel_of, packet_data}
 use Rattle.sl_tmflow.specs.FormOrder.{CarriesPackets, ChannelsNeverFall, EachCarriesPackets, McCounts, PacketsLieEndToEnd, VcCounts}
 use Rattle.sl_tmflow.specs.NormalForm.{channel_frame, channel_frames, data_field_of, first_of, with_filling}
 use Rattle.sl_tmflow.specs.PacketStart.{packet_offsets}
-use Rattle.sl_tmflow.proofs.lemmas.Form.Canonical.{channel_of_own, channel_views, filled_size, form_above, form_parts, form_views, of_middle, of_none, views_are}
-use Rattle.sl_tmflow.proofs.lemmas.Form.CutView.{view_at}
+use Rattle.sl_tmflow.proofs.lemmas.Form.Canonical.{channel_of_own, channel_views, filled_size, first_channel, form_parts, form_views, next, other_channel, own_channel, views_are}
+use Rattle.sl_tmflow.proofs.lemmas.Form.CutDelivery.{view_at}
 
 -- ---- numbers that count
 
@@ -125,54 +124,33 @@ module _ (format : TmFormat) (spacecraft : ℕ) (is : IsFormat format) (fits : s
   abbrev views_by : ℕ → ℕ → List (List (List ℕ)) → List TmView
   views_by vc mc lists = form_views format spacecraft is fits vc mc lists
 
-  abbrev next : ℕ → ℕ → List (List ℕ) → ℕ
-  next vc mc packets = mc + length (channel_frames format spacecraft vc mc packets)
-
   all_carry : (lists : List (List (List ℕ))) (vc mc : ℕ) → vc + length lists ≤ 8 → AllByRecursion (AllByRecursion IsDeliverable) lists
       → AllByRecursion CarriesPackets (views_by vc mc lists)
   all_carry [] vc mc inside each = tt
   all_carry (packets ∷ lists) vc mc inside each =
       subst (AllByRecursion CarriesPackets) (sym (form_parts format spacecraft is fits packets lists vc mc (omega (arith, inside)) each.0))
-      (each-append CarriesPackets (channel_views format vc mc packets) (views_by (vc + 1) (next vc mc packets) lists) (own_carry format vc mc packets)
-      (all_carry lists (vc + 1) (next vc mc packets) (omega (arith, inside)) each.1))
+      (each-append CarriesPackets (channel_views format vc mc packets) (views_by (vc + 1) (next format spacecraft is fits vc mc packets) lists) (own_carry format vc mc packets)
+      (all_carry lists (vc + 1) (next format spacecraft is fits vc mc packets) (omega (arith, inside)) each.1))
 
   all_rise : (lists : List (List (List ℕ))) (vc mc : ℕ) → vc + length lists ≤ 8 → AllByRecursion (AllByRecursion IsDeliverable) lists
       → NeverFall vc (map (λ (view : TmView). view.vc) (views_by vc mc lists))
   all_rise [] vc mc inside each = tt
   all_rise (packets ∷ lists) vc mc inside each =
-      let rest = views_by (vc + 1) (next vc mc packets) lists in
+      let rest = views_by (vc + 1) (next format spacecraft is fits vc mc packets) lists in
       subst (λ views. NeverFall vc (map (λ (view : TmView). view.vc) views)) (sym (form_parts format spacecraft is fits packets lists vc mc (omega (arith, inside)) each.0))
       (then_later (λ (view : TmView). view.vc) vc vc (channel_views format vc mc packets) rest (omega arith) (channel_of_own format vc mc packets)
-      (lower (vc + 1) vc (map (λ (view : TmView). view.vc) rest) (omega arith) (all_rise lists (vc + 1) (next vc mc packets) (omega (arith, inside)) each.1)))
+      (lower (vc + 1) vc (map (λ (view : TmView). view.vc) rest) (omega arith) (all_rise lists (vc + 1) (next format spacecraft is fits vc mc packets) (omega (arith, inside)) each.1)))
 
   all_master : (lists : List (List (List ℕ))) (vc mc : ℕ) → vc + length lists ≤ 8 → AllByRecursion (AllByRecursion IsDeliverable) lists
       → Count (λ (view : TmView). view.mc_count) mc (views_by vc mc lists)
   all_master [] vc mc inside each = tt
   all_master (packets ∷ lists) vc mc inside each =
       let own = channel_views format vc mc packets in
-      let rest = views_by (vc + 1) (next vc mc packets) lists in
-      let mid : next vc mc packets ≡ mc + length own = ap (λ n. mc + n) (sym (as_many format vc mc packets spacecraft)) in
+      let rest = views_by (vc + 1) (next format spacecraft is fits vc mc packets) lists in
+      let mid : next format spacecraft is fits vc mc packets ≡ mc + length own = ap (λ n. mc + n) (sym (as_many format vc mc packets spacecraft)) in
       subst (Count (λ (view : TmView). view.mc_count) mc) (sym (form_parts format spacecraft is fits packets lists vc mc (omega (arith, inside)) each.0))
       (count_more (λ (view : TmView). view.mc_count) mc own rest (own_master format vc mc packets)
-      (subst (λ n. Count (λ (view : TmView). view.mc_count) n rest) mid (all_master lists (vc + 1) (next vc mc packets) (omega (arith, inside)) each.1)))
-
-  -- the frames of the first virtual channel, and those of another one
-  first_channel : (packets : List (List ℕ)) (lists : List (List (List ℕ))) (vc mc : ℕ) → vc + 1 + length lists ≤ 8 → AllByRecursion IsDeliverable packets
-      → AllByRecursion (AllByRecursion IsDeliverable) lists → channel_of vc (views_by vc mc (packets ∷ lists)) ≡ channel_views format vc mc packets
-  first_channel packets lists vc mc inside own each =
-      ap (channel_of vc) (form_parts format spacecraft is fits packets lists vc mc (omega (arith, inside)) own)
-      ∙ of_middle vc [] (channel_views format vc mc packets) (views_by (vc + 1) (next vc mc packets) lists) tt (channel_of_own format vc mc packets)
-      (form_above format spacecraft is fits lists (vc + 1) (next vc mc packets) inside each)
-
-  other_channel : (packets : List (List ℕ)) (lists : List (List (List ℕ))) (vc mc v : ℕ) → vc ≤ 7 → AllByRecursion IsDeliverable packets → vc ≢ v
-      → channel_of v (views_by vc mc (packets ∷ lists)) ≡ channel_of v (views_by (vc + 1) (next vc mc packets) lists)
-  other_channel packets lists vc mc v inside own other =
-      let views = channel_views format vc mc packets in
-      let rest = views_by (vc + 1) (next vc mc packets) lists in
-      ap (channel_of v) (form_parts format spacecraft is fits packets lists vc mc inside own)
-      ∙ filter-append (λ (view : TmView). view.vc == v) views rest
-      ∙ ap (λ l. l ++ channel_of v rest)
-      (of_none v views (each-weaker (λ view. view.vc ≡ vc) (λ view. view.vc ≡ v → ⊥) (λ view same e. other (sym same ∙ e)) views (channel_of_own format vc mc packets)))
+      (subst (λ n. Count (λ (view : TmView). view.mc_count) n rest) mid (all_master lists (vc + 1) (next format spacecraft is fits vc mc packets) (omega (arith, inside)) each.1)))
 
   all_count : (lists : List (List (List ℕ))) (vc mc v : ℕ) → vc + length lists ≤ 8 → AllByRecursion (AllByRecursion IsDeliverable) lists
       → Count (λ (view : TmView). view.vc_count) 0 (channel_of v (views_by vc mc lists))
@@ -181,24 +159,11 @@ module _ (format : TmFormat) (spacecraft : ℕ) (is : IsFormat format) (fits : s
       elim (eqb_tells vc v) [
         | inl (test, same) ↦
             subst (λ n. Count (λ (view : TmView). view.vc_count) 0 (channel_of n (views_by vc mc (packets ∷ lists)))) same
-            (subst (Count (λ (view : TmView). view.vc_count) 0) (sym (first_channel packets lists vc mc (omega (arith, inside)) each.0 each.1)) (own_count format vc mc packets))
+            (subst (Count (λ (view : TmView). view.vc_count) 0) (sym (first_channel format spacecraft is fits packets lists vc mc (omega (arith, inside)) each.0 each.1)) (own_count format vc mc packets))
         | inr (test, other) ↦
-            subst (Count (λ (view : TmView). view.vc_count) 0) (sym (other_channel packets lists vc mc v (omega (arith, inside)) each.0 other))
-            (all_count lists (vc + 1) (next vc mc packets) v (omega (arith, inside)) each.1)
+            subst (Count (λ (view : TmView). view.vc_count) 0) (sym (other_channel format spacecraft is fits packets lists vc mc v (omega (arith, inside)) each.0 other))
+            (all_count lists (vc + 1) (next format spacecraft is fits vc mc packets) v (omega (arith, inside)) each.1)
       ]
-
-  all_data : (lists : List (List (List ℕ))) (vc mc v index : ℕ) → vc + length lists ≤ 8 → AllByRecursion (AllByRecursion IsDeliverable) lists
-      → v ≡ vc + index → index < length lists
-      → concat (map packet_data (channel_of v (views_by vc mc lists))) ≡ concat (with_filling (field_room_of format) (slice_index_or lists index []))
-  all_data [] vc mc v index inside each at below = absurd (omega arith)
-  all_data (packets ∷ lists) vc mc v zero inside each at below =
-      let same : v ≡ vc = omega (arith, at) in
-      ap (λ n. concat (map packet_data (channel_of n (views_by vc mc (packets ∷ lists))))) same
-      ∙ ap (λ views. concat (map packet_data views)) (first_channel packets lists vc mc (omega (arith, inside)) each.0 each.1)
-      ∙ own_data format vc mc packets is (omega (arith, inside)) each.0
-  all_data (packets ∷ lists) vc mc v (suc index) inside each at below =
-      ap (λ views. concat (map packet_data views)) (other_channel packets lists vc mc v (omega (arith, inside)) each.0 (λ e. omega (arith, at, e)))
-      ∙ all_data lists (vc + 1) (next vc mc packets) v index (omega (arith, inside)) each.1 (omega (arith, at)) (omega (arith, below))
 
 -- ---- the laws
 
@@ -230,5 +195,6 @@ vc_counts format spacecraft lists is fits due vc before later view at =
 pub packets_lie_end_to_end : PacketsLieEndToEnd
 packets_lie_end_to_end format spacecraft lists is fits due vc below =
     let eight = due.eight in
-    ap (λ views. concat (map packet_data (channel_of vc views))) (views_are format spacecraft lists is fits due)
-    ∙ all_data format spacecraft is fits lists 0 0 vc vc (omega arith) due.each (omega arith) (omega arith)
+    let (before, own) = own_channel format spacecraft is fits lists 0 0 vc vc (omega arith) due.each (omega arith) (omega arith) in
+    ap (λ views. concat (map packet_data (channel_of vc views))) (views_are format spacecraft lists is fits due) ∙ ap (λ l. concat (map packet_data l)) own
+    ∙ own_data format vc before (slice_index_or lists vc []) is (omega arith) (each-at (AllByRecursion IsDeliverable) lists vc [] tt due.each)

@@ -1,34 +1,35 @@
--- The packets that are incomplete after the last frame of a channel.
-use Rattle.std.proofs.Common.{◌≡◌, ◌⊎◌, ℕ, ◌<◌, ◌≤◌, nat_lt, Bool, true, false, if◌then◌else◌, List, [], ◌∷◌, ◌++◌, length, drop, map, None, Some, inl, inr, refl, sym, ◌∙◌, ap, ap₂, subst, arith, length-append, length-drop}
+-- The list of the incomplete packets of a channel: each listed packet is incomplete, and each incomplete packet is
+-- listed. There is at most one, and it is short.
+use Rattle.std.proofs.Common.{◌≡◌, ◌⊎◌, ℕ, ◌<◌, ◌≤◌, nat_lt, Bool, true, false, if◌then◌else◌, List, [], ◌∷◌, ◌++◌, length, drop, take, map, Option, Some, inl, inr, refl, sym, ◌∙◌, ap, ap₂, subst, arith, append_assoc, length-append, length-drop}
 use Rattle.std.specs.List.{AllByRecursion, concat, flat_map}
-use Rattle.std.proofs.lemmas.Bool.{ltb-true}
-use Rattle.sl_packet.specs.Packet.{stated_packet_len, IsPacket}
-use Rattle.sl_packet.specs.Front.{OtherVersion, Incomplete, WholePacket, is_foreign, front}
+use Rattle.std.proofs.lemmas.Bool.{both_ways, ltb-true}
+use Rattle.std.proofs.lemmas.List.{take-append-drop}
+use mathlib.Core.List.{IsPrefix}
+use Rattle.sl_packet.specs.Packet.{version_of, stated_packet_len, IsPacket}
+use Rattle.sl_packet.specs.Front.{Front, OtherVersion, Incomplete, WholePacket, is_foreign, front}
 use Rattle.sl_packet.specs.Packets.{packets_of, rest_of}
-use Rattle.sl_packet.proofs.FrontLemmas.{packet_is_whole}
-use Rattle.sl_tmframe.specs.TmFrame.{TmView, DataField, Packets, Idle, Opaque}
-use Rattle.sl_tmflow.specs.Channel.{packet_data, data_of}
-use Rattle.sl_tmflow.specs.PacketStart.{IsStart, starts_from, starts_of}
-use Rattle.sl_tmflow.specs.Delivery.{Outcome, Completes, StillIncomplete, Undelivered, outcome_of_front, outcome_of}
-use Rattle.sl_tmflow.specs.Incomplete.{HasNoStart, incomplete_octets, frame_incomplete, incomplete_of, OneIsIncomplete, IsShort, IncompleteIsShort}
-use Rattle.sl_fields.proofs.ListLemmas.{each-append, each-flat_map, each-weaker}
-use Rattle.sl_tmflow.proofs.lemmas.Delivery.Start.{each_is_start}
-use Rattle.sl_tmflow.proofs.lemmas.Incomplete.Incomplete.{outcome_incomplete}
-use Rattle.sl_tmflow.proofs.lemmas.Delivery.AtStarts.{at_rest, at_starts}
+use Rattle.sl_packet.proofs.FrontLemmas.{foreign_tests, not_foreign, packet_is_whole, whole_is_a_packet, incomplete_may_become_whole}
+use Rattle.sl_packet.proofs.PacketLemmas.{version_of-append}
+use Rattle.sl_tmframe.specs.TmFrame.{TmView, DataField, Packets}
+use Rattle.sl_tmflow.specs.Among.{IsAmong}
+use Rattle.sl_tmflow.specs.Channel.{packet_data, data_of, reassembly}
+use Rattle.sl_tmflow.specs.PacketStart.{IsStart, starts_of}
+use Rattle.sl_tmflow.specs.Delivery.{Outcome, StillIncomplete, outcome_of_front, outcome_of}
+use Rattle.sl_tmflow.specs.Incomplete.{HasNoStart, IsIncomplete, IsIncompleteAt, incomplete_octets, incomplete_of, EachListedIsIncomplete, EachIncompleteIsListed, OneIsIncomplete, IsShort, IncompleteIsShort, IncompleteIsCounted, WhatIsCountedIsIncomplete}
+use Rattle.sl_fields.proofs.ListLemmas.{each-weaker}
+use Rattle.sl_tmflow.proofs.lemmas.Places.{count_of_one, some_of_each}
+use Rattle.sl_tmflow.proofs.lemmas.Incomplete.After.{last_of, outcome_incomplete, incomplete_outcome}
+use Rattle.sl_tmflow.proofs.lemmas.Delivery.Start.{at_rest, at_starts, each_found, found_among, no_starts}
+use Rattle.sl_tmflow.proofs.lemmas.Delivery.Step.{incomplete_is_no_packet}
 
 -- ---- those that start in one frame, by its data field
 
 abbrev pub field_incomplete : TmView → List TmView → DataField → List (List ℕ)
 field_incomplete view later field = flat_map (λ start. incomplete_octets (outcome_of view (drop start (data_of field)) later)) (starts_of field)
 
-pub incomplete_of_idle : (view : TmView) (later : List TmView) → view.field ≡ Idle → frame_incomplete view later ≡ []
-incomplete_of_idle view later is = ap (field_incomplete view later) is
-
-pub incomplete_of_opaque : (view : TmView) (later : List TmView) → view.field ≡ Opaque → frame_incomplete view later ≡ []
-incomplete_of_opaque view later is = ap (field_incomplete view later) is
-
-pub incomplete_without_pointer : (view : TmView) (later : List TmView) (octets : List ℕ) → view.field ≡ Packets None octets → frame_incomplete view later ≡ []
-incomplete_without_pointer view later octets is = ap (field_incomplete view later) is
+-- the octets so far at a packet start of a frame
+abbrev pub incomplete_at : ℕ → TmView → List TmView → ℕ → List (List ℕ)
+incomplete_at number view later start = incomplete_octets (outcome_of view (drop start (packet_data view)) later)
 
 -- a whole packet is not incomplete
 none_at_packet : (view : TmView) (later : List TmView) (packet more : List ℕ) → IsPacket packet → incomplete_octets (outcome_of view (packet ++ more) later) ≡ []
@@ -39,11 +40,11 @@ none_of_each [] = refl
 none_of_each (packet ∷ packets) = none_of_each packets
 
 -- only the octets after the packets may be incomplete
-pub incomplete_from_pointer : (view : TmView) (later : List TmView) (pointer : ℕ) (octets : List ℕ) → view.field ≡ Packets (Some pointer) octets
-    → frame_incomplete view later ≡ at_rest (λ l. incomplete_octets (outcome_of view l later)) (rest_of (drop pointer octets))
-incomplete_from_pointer view later pointer octets is =
+pub incomplete_from_pointer : (view : TmView) (later : List TmView) (pointer : ℕ) (octets : List ℕ)
+    → field_incomplete view later (Packets (Some pointer) octets) ≡ at_rest (λ l. incomplete_octets (outcome_of view l later)) (rest_of (drop pointer octets))
+incomplete_from_pointer view later pointer octets =
     let at = λ (l : List ℕ). incomplete_octets (outcome_of view l later) in
-    ap (field_incomplete view later) is ∙ at_starts at (λ packet. []) (none_at_packet view later) pointer octets
+    at_starts at (λ packet. []) (none_at_packet view later) pointer octets
     ∙ ap (λ l. l ++ at_rest at (rest_of (drop pointer octets))) (none_of_each (packets_of (drop pointer octets)))
 
 -- ---- at most one
@@ -52,42 +53,28 @@ incomplete_from_pointer view later pointer octets is =
 abbrev pub OneAtMost : List TmView → List (List ℕ) → Type 0
 OneAtMost later held = (held ≡ []) ⊎ ((octets : List ℕ) × (held ≡ octets ∷ []) × AllByRecursion HasNoStart later)
 
-one_of_outcome : (view : TmView) (octets : List ℕ) (later : List TmView) (o : Outcome) → outcome_of view octets later ≡ o → OneAtMost later (incomplete_octets o)
-one_of_outcome view octets later (Completes packet passed) e = inl refl
+one_of_outcome : (view : TmView) (octets : List ℕ) (later : List TmView) (outcome : Outcome) → outcome_of view octets later ≡ outcome → OneAtMost later (incomplete_octets outcome)
 one_of_outcome view octets later (StillIncomplete so_far) e = inr (so_far, refl, (outcome_incomplete view octets later so_far e).no_start)
-one_of_outcome view octets later Undelivered e = inl refl
+one_of_outcome view octets later outcome e = inl refl
 
 one_of_rest : (view : TmView) (later : List TmView) (rest : List ℕ) → OneAtMost later (at_rest (λ l. incomplete_octets (outcome_of view l later)) rest)
 one_of_rest view later [] = inl refl
 one_of_rest view later (octet ∷ rest) = one_of_outcome view (octet ∷ rest) later (outcome_of view (octet ∷ rest) later) refl
 
-pub one_of_frame : (view : TmView) (later : List TmView) → OneAtMost later (frame_incomplete view later)
-one_of_frame view later = cases view.field refl
-  where
-    cases : (f : DataField) → view.field ≡ f → OneAtMost later (frame_incomplete view later)
-    cases (Packets None octets) is = inl (incomplete_without_pointer view later octets is)
-    cases (Packets (Some pointer) octets) is =
-        subst (OneAtMost later) (sym (incomplete_from_pointer view later pointer octets is)) (one_of_rest view later (rest_of (drop pointer octets)))
-    cases Idle is = inl (incomplete_of_idle view later is)
-    cases Opaque is = inl (incomplete_of_opaque view later is)
-
-none_of_frame : (view : TmView) (later : List TmView) → HasNoStart view → frame_incomplete view later ≡ []
-none_of_frame view later none = cases view.field refl
-  where
-    cases : (f : DataField) → view.field ≡ f → frame_incomplete view later ≡ []
-    cases (Packets None octets) is = incomplete_without_pointer view later octets is
-    cases (Packets (Some pointer) octets) is = absurd (let both = none (Some pointer) octets is in cc)
-    cases Idle is = incomplete_of_idle view later is
-    cases Opaque is = incomplete_of_opaque view later is
+pub one_of_field : (view : TmView) (later : List TmView) (field : DataField) → OneAtMost later (field_incomplete view later field)
+one_of_field view later (Packets (Some pointer) octets) =
+    subst (OneAtMost later) (sym (incomplete_from_pointer view later pointer octets)) (one_of_rest view later (rest_of (drop pointer octets)))
+one_of_field view later field = inl refl
 
 none_without_starts : (channel : List TmView) → AllByRecursion HasNoStart channel → incomplete_of channel ≡ []
 none_without_starts [] none = refl
-none_without_starts (view ∷ later) none = ap₂ (λ xs ys. xs ++ ys) (none_of_frame view later none.0) (none_without_starts later none.1)
+none_without_starts (view ∷ later) none =
+    ap₂ (λ xs ys. xs ++ ys) (ap (flat_map (incomplete_at 0 view later)) (no_starts view view.field none.0 refl)) (none_without_starts later none.1)
 
 pub incomplete_cases : (channel : List TmView) → (incomplete_of channel ≡ []) ⊎ ((octets : List ℕ) × (incomplete_of channel ≡ octets ∷ []))
 incomplete_cases [] = inl refl
 incomplete_cases (view ∷ later) =
-    elim (one_of_frame view later) [
+    elim (one_of_field view later view.field) [
       | inl none ↦ elim (incomplete_cases later) [
         | inl none' ↦ inl (ap₂ (λ xs ys. xs ++ ys) none none')
         | inr one ↦ inr (one.0, ap₂ (λ xs ys. xs ++ ys) none one.1)
@@ -102,34 +89,91 @@ one_is_incomplete channel =
       | inr one ↦ omega (arith, ap length one.1)
     ]
 
+-- ---- octets that begin a packet
+
+-- octets that begin a packet have version 0
+begun_version : (octets : List ℕ) → front octets ≡ Incomplete → 1 ≤ length octets → version_of octets ≡ 0
+begun_version octets incomplete some =
+    let (more, are_octets, packet) = incomplete_may_become_whole octets incomplete in sym (version_of-append octets more some) ∙ packet.version
+
+-- octets of version 0 begin a packet where no packet is whole
+begins : (octets : List ℕ) → version_of octets ≡ 0 → ((packet : List ℕ) → IsPacket packet → IsPrefix packet octets → ⊥) → front octets ≡ Incomplete
+begins octets version none = cases (front octets) refl
+  where
+    cases : (f : Front) → front octets ≡ f → f ≡ Incomplete
+    cases OtherVersion e =
+        let foreign = foreign_tests (is_foreign octets) (nat_lt (length octets) (stated_packet_len octets)) (stated_packet_len octets) e in
+        absurd (both_ways (is_foreign octets) (not_foreign (length octets) (version_of octets) version) foreign)
+    cases Incomplete e = refl
+    cases (WholePacket len) e =
+        absurd (none (take len octets) (whole_is_a_packet octets len e).0 (drop len octets, take-append-drop len octets))
+
+-- ---- each listed packet is incomplete
+
+-- the packet of a start is incomplete where the start's outcome says so
+pub incomplete_at_start : (channel before : List TmView) (view : TmView) (later : List TmView) (first : Option ℕ) (field : List ℕ) (offset : ℕ) (so_far : List ℕ)
+    → channel ≡ before ++ view ∷ later → view.field ≡ Packets first field → IsStart field first offset
+    → outcome_of view (drop offset (packet_data view)) later ≡ StillIncomplete so_far → IsIncompleteAt channel (length before) offset so_far
+incomplete_at_start channel before view later first field offset so_far all is s e =
+    let w = outcome_incomplete view (drop offset (packet_data view)) later so_far e in
+    let came : so_far ≡ reassembly (drop offset field) later = w.came ∙ ap (λ f. reassembly (drop offset (data_of f)) later) is in
+    let inside = s.inside in
+    let some : 1 ≤ length so_far = omega (arith, ap length came, length-append (drop offset field) (concat (map packet_data later)), length-drop offset field) in
+    record {
+      incomplete = record {
+        before = before;
+        view = view;
+        run = later;
+        in_order = all;
+        first = first;
+        field = field;
+        carries = is;
+        offset = offset;
+        start = s;
+        came = came;
+        version = begun_version so_far w.incomplete some;
+        no_packet = λ packet p prefix. incomplete_is_no_packet so_far packet p w.incomplete prefix;
+        consecutive = w.consecutive;
+        none_opaque = w.none_opaque;
+        no_start = w.no_start;
+      };
+      in_frame = refl;
+      at = refl;
+    }
+
+start_incomplete : (channel before : List TmView) (view : TmView) (later : List TmView) (first : Option ℕ) (field : List ℕ) (offset : ℕ)
+    → channel ≡ before ++ view ∷ later → view.field ≡ Packets first field → IsStart field first offset
+    → (outcome : Outcome) → outcome_of view (drop offset (packet_data view)) later ≡ outcome → AllByRecursion (IsIncomplete channel) (incomplete_octets outcome)
+start_incomplete channel before view later first field offset all is s (StillIncomplete so_far) e =
+    ((incomplete_at_start channel before view later first field offset so_far all is s e).incomplete, tt)
+start_incomplete channel before view later first field offset all is s outcome e = tt
+
+pub each_listed_is_incomplete : EachListedIsIncomplete
+each_listed_is_incomplete channel =
+    each_found incomplete_at (λ number. incomplete_of) (λ number. refl) (λ number view later. refl) (IsIncomplete channel) channel [] channel 0
+    (λ before view later number first field offset all counted is s. start_incomplete channel before view later first field offset all is s (outcome_of view (drop offset (packet_data view)) later) refl) refl refl
+
+-- ---- each incomplete packet is listed
+
+-- the outcome of an incomplete packet's start says that it is incomplete
+pub incomplete_start_outcome : (channel : List TmView) (octets : List ℕ) (is_incomplete : IsIncomplete channel octets) → outcome_of is_incomplete.view (drop is_incomplete.offset (packet_data is_incomplete.view)) is_incomplete.run ≡ StillIncomplete octets
+incomplete_start_outcome channel octets is_incomplete =
+    incomplete_outcome is_incomplete.view (drop is_incomplete.offset (packet_data is_incomplete.view)) is_incomplete.run (last_of is_incomplete.view is_incomplete.run) octets record {
+      ended_by = refl;
+      came = is_incomplete.came ∙ ap (λ f. reassembly (drop is_incomplete.offset (data_of f)) is_incomplete.run) (sym is_incomplete.carries);
+      consecutive = is_incomplete.consecutive;
+      none_opaque = is_incomplete.none_opaque;
+      no_start = is_incomplete.no_start;
+      incomplete = begins octets is_incomplete.version is_incomplete.no_packet;
+    }
+
+pub each_incomplete_is_listed : EachIncompleteIsListed
+each_incomplete_is_listed channel octets is_incomplete =
+    subst (λ l. IsAmong octets (incomplete_of l)) (sym is_incomplete.in_order)
+    (found_among incomplete_at (λ number. incomplete_of) (λ number. refl) (λ number view later. refl) octets is_incomplete.before is_incomplete.view is_incomplete.run 0 (length is_incomplete.before) is_incomplete.offset is_incomplete.first is_incomplete.field (omega arith) is_incomplete.carries is_incomplete.start
+    (subst (λ outcome. IsAmong octets (incomplete_octets outcome)) (sym (incomplete_start_outcome channel octets is_incomplete)) (inl refl)))
+
 -- ---- incomplete packets are short
-
--- the octets are some of a packet's, and not all
-abbrev IsBegun : List ℕ → Type 0
-IsBegun octets = (front octets ≡ Incomplete) × (1 ≤ length octets)
-
-outcome_begun : (view : TmView) (octets : List ℕ) (later : List TmView) → 1 ≤ length octets → (o : Outcome) → outcome_of view octets later ≡ o
-    → AllByRecursion IsBegun (incomplete_octets o)
-outcome_begun view octets later some (Completes packet passed) e = tt
-outcome_begun view octets later some (StillIncomplete so_far) e =
-    let w = outcome_incomplete view octets later so_far e in
-    ((w.incomplete, omega (arith, ap length w.came, length-append octets (concat (map packet_data later)))), tt)
-outcome_begun view octets later some Undelivered e = tt
-
-frame_begun : (view : TmView) (later : List TmView) (field : DataField) → AllByRecursion IsBegun (field_incomplete view later field)
-frame_begun view later (Packets first octets) =
-    let at = λ (start : ℕ). incomplete_octets (outcome_of view (drop start octets) later) in
-    each-flat_map IsBegun at (starts_from first octets)
-    (each-weaker (IsStart octets first) (λ start. AllByRecursion IsBegun (at start))
-    (λ start s. outcome_begun view (drop start octets) later (omega (arith, s.inside, length-drop start octets))
-    (outcome_of view (drop start octets) later) refl)
-    (starts_from first octets) (each_is_start first octets))
-frame_begun view later Idle = tt
-frame_begun view later Opaque = tt
-
-each_is_begun : (channel : List TmView) → AllByRecursion IsBegun (incomplete_of channel)
-each_is_begun [] = tt
-each_is_begun (view ∷ later) = each-append IsBegun (frame_incomplete view later) (incomplete_of later) (frame_begun view later view.field) (each_is_begun later)
 
 incomplete_test : (foreign fewer : Bool) (len : ℕ) → (if foreign then OtherVersion else if fewer then Incomplete else WholePacket len) ≡ Incomplete → fewer ≡ true
 incomplete_test true fewer len e = absurd (cc)
@@ -147,5 +191,18 @@ stated_packet_len-most octets = omega arith
 
 pub incomplete_is_short : IncompleteIsShort
 incomplete_is_short channel =
-    each-weaker IsBegun IsShort (λ octets b. (b.1, omega (arith, fewer_than_stated octets b.0, stated_packet_len-most octets)))
-    (incomplete_of channel) (each_is_begun channel)
+    each-weaker (IsIncomplete channel) IsShort
+    (λ octets x. let inside = x.start.inside in (
+      omega (arith, ap length x.came, length-append (drop x.offset x.field) (concat (map packet_data x.run)), length-drop x.offset x.field),
+      omega (arith, fewer_than_stated octets (begins octets x.version x.no_packet), stated_packet_len-most octets),
+    )) (incomplete_of channel) (each_listed_is_incomplete channel)
+
+-- ---- how many octets incomplete packets have
+
+pub incomplete_is_counted : IncompleteIsCounted
+incomplete_is_counted channel octets is_incomplete =
+    count_of_one octets (incomplete_of channel) (one_is_incomplete channel) (each_incomplete_is_listed channel octets is_incomplete)
+
+pub what_is_counted_is_incomplete : WhatIsCountedIsIncomplete
+what_is_counted_is_incomplete channel some =
+    some_of_each (IsIncomplete channel) (incomplete_of channel) (each_listed_is_incomplete channel) some

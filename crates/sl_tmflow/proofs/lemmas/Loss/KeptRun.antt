@@ -4,9 +4,10 @@ use Rattle.std.proofs.lemmas.Bool.{cases_lt}
 use Rattle.sl_tmflow.specs.Among.{IsAmong}
 use Rattle.sl_tmflow.specs.Delivery.{Delivery}
 use Rattle.sl_tmflow.specs.Loss.{FewAreLost, HasNumber, IsSameDelivery, KeptRunsAreLeft, RiseFrom, RunsAreKept}
-use Rattle.sl_tmflow.proofs.lemmas.Delivery.Delivery.{among-right, delivery_with}
+use Rattle.sl_tmflow.proofs.lemmas.Places.{among-right}
+use Rattle.sl_tmflow.proofs.lemmas.Delivery.Listed.{delivery_with}
 use Rattle.sl_tmflow.proofs.lemmas.Loss.Local.{each_is_left, number_from}
-use Rattle.sl_tmflow.proofs.lemmas.Loss.Loss.{at_least, near_from}
+use Rattle.sl_tmflow.proofs.lemmas.Loss.KeptFrames.{at_least, near_from}
 
 -- ---- elements and their numbers
 
@@ -15,22 +16,12 @@ module _ {X : Type 0} where
   has_number [] number less = absurd (omega arith)
   has_number (x ∷ xs) zero less = (
     x,
-    record {
-      before = [];
-      after = xs;
-      in_order = refl;
-      counted = refl;
-    },
+    record { before = []; after = xs; in_order = refl; counted = refl },
   )
   has_number (x ∷ xs) (suc number) less =
       let (y, at) = has_number xs number (omega arith) in (
         y,
-        record {
-          before = x ∷ at.before;
-          after = at.after;
-          in_order = ap (λ l. x ∷ l) at.in_order;
-          counted = omega (arith, at.counted);
-        },
+        record { before = x ∷ at.before; after = at.after; in_order = ap (λ l. x ∷ l) at.in_order; counted = omega (arith, at.counted) },
       )
 
   pub number_among : (xs : List X) (number : ℕ) (x : X) → HasNumber xs number x → IsAmong x xs
@@ -40,22 +31,12 @@ module _ {X : Type 0} where
   among_number x [] there = absurd there
   among_number x (y ∷ ys) (inl here) = (
     0,
-    record {
-      before = [];
-      after = ys;
-      in_order = ap (λ z. z ∷ ys) (sym here);
-      counted = refl;
-    },
+    record { before = []; after = ys; in_order = ap (λ z. z ∷ ys) (sym here); counted = refl },
   )
   among_number x (y ∷ ys) (inr there) =
       let (number, at) = among_number x ys there in (
         number + 1,
-        record {
-          before = y ∷ at.before;
-          after = at.after;
-          in_order = ap (λ l. y ∷ l) at.in_order;
-          counted = omega (arith, at.counted);
-        },
+        record { before = y ∷ at.before; after = at.after; in_order = ap (λ l. y ∷ l) at.in_order; counted = omega (arith, at.counted) },
       )
 
 -- rising numbers are at least as far apart as their places
@@ -111,17 +92,17 @@ run_numbers numbers first frame (suc passed) near at all =
     subst (λ n. HasNumber numbers n (frame + suc passed)) is next
 
 pub kept_runs_are_left : KeptRunsAreLeft
-kept_runs_are_left channel numbers kept whole left x all =
-    let passed : ℕ = length x.run in
-    let (first, at) = among_number whole.frame numbers (all whole.frame (omega arith) (omega (arith, x.ending))) in
-    let ending = run_numbers numbers first whole.frame passed left.few_lost at (λ number above below. all number above (omega (arith, x.ending))) in
+kept_runs_are_left channel numbers kept whole left is_whole all =
+    let passed : ℕ = length is_whole.run in
+    let (first, at) = among_number whole.frame numbers (all whole.frame (omega arith) (omega (arith, is_whole.ending))) in
+    let ending = run_numbers numbers first whole.frame passed left.few_lost at (λ number above below. all number above (omega (arith, is_whole.ending))) in
     let d : Delivery = delivery_with first whole.start (first + passed) whole.packet in
     let same : IsSameDelivery numbers d whole =
     record {
       frame = at;
-      ending = subst (HasNumber numbers (first + passed)) (sym x.ending) ending;
-      none_lost = omega (arith, x.ending);
+      ending = subst (HasNumber numbers (first + passed)) (sym is_whole.ending) ending;
+      none_lost = omega (arith, is_whole.ending);
       start = refl;
       packet = refl;
     } in
-    (d, each_is_left channel numbers kept d whole left x same, same)
+    (d, each_is_left channel numbers kept d whole left is_whole same, same)

@@ -6,10 +6,10 @@ use Rattle.sl_tmframe.specs.TmFrame.{TmView}
 use Rattle.sl_tmflow.specs.Delivery.{Delivery, IsDelivery, IsDeliveredBy}
 use Rattle.sl_tmflow.specs.Loss.{AreKept, FewAreLost, EachIsLeft, HasNoGap, HasNumber, HaveNumbers, IsSameDelivery, NoneIsNew, RiseFrom}
 use Rattle.sl_tmflow.specs.PacketStart.{IsStart}
-use Rattle.sl_tmflow.proofs.lemmas.Delivery.Delivery.{delivery_with}
+use Rattle.sl_tmflow.proofs.lemmas.Delivery.Listed.{delivery_with, from_frame}
 use Rattle.sl_tmflow.proofs.lemmas.Places.{same_place}
 use Rattle.sl_tmflow.proofs.lemmas.Delivery.End.{longer_begins}
-use Rattle.sl_tmflow.proofs.lemmas.Loss.Loss.{at_least, frame_at, kept_at, near_from, no_gap_at, run_is_kept, run_of_whole}
+use Rattle.sl_tmflow.proofs.lemmas.Loss.KeptFrames.{at_least, frame_at, kept_at, near_from, no_gap_at, run_is_kept, run_of_whole}
 
 -- a number among those from another one on is among all numbers
 number_later : (numbers earlier : List ℕ) (number : ℕ) (more : List ℕ) (place last : ℕ) → numbers ≡ earlier ++ number ∷ more
@@ -25,43 +25,38 @@ number_later numbers earlier number more place last same at =
 -- ---- each delivery from the kept frames
 
 pub none_is_new : NoneIsNew
-none_is_new channel numbers kept d left x =
-    let k = kept_at channel numbers x.before x.view (x.run ++ x.after)
-    (subst (HaveNumbers channel numbers) (x.in_order ∙ append_assoc x.before (x.view ∷ x.run) x.after) left.frames) in
-    let f = k.frame in
-    let w = run_of_whole channel f.before x.view f.after k.number k.more x.run x.after f.in_order f.counted
-    (no_gap_at f.before x.view f.after (subst HasNoGap f.in_order left.no_gap)) (near_from k.earlier k.number k.more (subst FewAreLost k.in_order left.few_lost))
-    k.rest x.delivered.consecutive in
-    let last = number_later numbers k.earlier k.number k.more (length x.run) w.last k.in_order w.ending in (
-      delivery_with k.number d.start w.last d.packet,
+none_is_new channel numbers kept d left is_d =
+    let place = kept_at channel numbers is_d.before is_d.view (is_d.run ++ is_d.after)
+    (subst (HaveNumbers channel numbers) (from_frame kept d is_d) left.frames) in
+    let there = place.here in
+    let w = run_of_whole channel there.before is_d.view there.after place.this place.more is_d.run is_d.after there.in_order there.counted
+    (no_gap_at there.before is_d.view there.after (subst HasNoGap there.in_order left.no_gap)) (near_from place.earlier place.this place.more (subst FewAreLost place.in_order left.few_lost))
+    place.rest is_d.delivered.consecutive in
+    let last = number_later numbers place.earlier place.this place.more (length is_d.run) w.last place.in_order w.ending in (
+      delivery_with place.this d.start w.last d.packet,
       record {
-        before = f.before;
-        view = x.view;
-        run = x.run;
+        before = there.before;
+        view = is_d.view;
+        run = is_d.run;
         after = w.more;
-        in_order = f.in_order ∙ ap (λ l. f.before ++ x.view ∷ l) w.in_order ∙ sym (append_assoc f.before (x.view ∷ x.run) w.more);
-        frame = f.counted;
+        in_order = there.in_order ∙ ap (λ l. there.before ++ is_d.view ∷ l) w.in_order ∙ sym (append_assoc there.before (is_d.view ∷ is_d.run) w.more);
+        frame = there.counted;
         ending = w.is_last;
-        first = x.first;
-        octets = x.octets;
-        field = x.field;
-        start = x.start;
-        delivered = x.delivered;
+        first = is_d.first;
+        octets = is_d.octets;
+        field = is_d.field;
+        start = is_d.start;
+        delivered = is_d.delivered;
       },
       record {
-        frame = record {
-          before = k.earlier;
-          after = k.more;
-          in_order = k.in_order;
-          counted = x.frame ∙ sym k.as_many;
-        };
+        frame = record { before = place.earlier; after = place.more; in_order = place.in_order; counted = is_d.frame ∙ sym place.as_many };
         ending = record {
           before = last.before;
           after = last.after;
           in_order = last.in_order;
-          counted = omega (arith, x.frame, x.ending, k.as_many, last.counted);
+          counted = omega (arith, is_d.frame, is_d.ending, place.as_many, last.counted);
         };
-        none_lost = omega (arith, w.is_last, x.ending);
+        none_lost = omega (arith, w.is_last, is_d.ending);
         start = refl;
         packet = refl;
       },
@@ -94,38 +89,38 @@ number_from numbers a b x y at other fewer =
 
 delivered_from_kept : (channel : List TmView) (numbers : List ℕ) (kept : List TmView) (d whole : Delivery) → AreKept channel numbers kept
     → IsDelivery channel whole → IsSameDelivery numbers d whole → d.frame ≤ d.ending → IsDelivery kept d
-delivered_from_kept channel numbers kept d whole left x same fewer =
+delivered_from_kept channel numbers kept d whole left is_whole same fewer =
     let at = same.frame in
     let rise : RiseFrom whole.frame at.after = near_from at.before whole.frame at.after (subst FewAreLost at.in_order left.few_lost) in
-    let f = frame_at channel at.before whole.frame at.after kept (subst (λ l. HaveNumbers channel l kept) at.in_order left.frames) in
-    let all : channel ≡ x.before ++ x.view ∷ (x.run ++ x.after) = x.in_order ∙ append_assoc x.before (x.view ∷ x.run) x.after in
-    let there = same_place f.frame.before x.before f.view x.view f.frame.after (x.run ++ x.after) (sym f.frame.in_order ∙ all)
-    (omega (arith, f.frame.counted, x.frame)) in
-    let passed : d.ending - d.frame ≡ length x.run = omega (arith, same.none_lost, x.ending) in
-    let ending : HasNumber (whole.frame ∷ at.after) (length x.run) whole.ending =
+    let place = frame_at channel kept at.before whole.frame at.after (subst (λ l. HaveNumbers channel l kept) at.in_order left.frames) in
+    let all = from_frame channel whole is_whole in
+    let there = same_place place.here.before is_whole.before place.this is_whole.view place.here.after (is_whole.run ++ is_whole.after) (sym place.here.in_order ∙ all)
+    (omega (arith, place.here.counted, is_whole.frame)) in
+    let passed : d.ending - d.frame ≡ length is_whole.run = omega (arith, same.none_lost, is_whole.ending) in
+    let ending : HasNumber (whole.frame ∷ at.after) (length is_whole.run) whole.ending =
     subst (λ n. HasNumber (whole.frame ∷ at.after) n whole.ending) passed (number_from numbers d.frame d.ending whole.frame whole.ending at same.ending fewer) in
-    let (after, rest) = run_is_kept channel x.before x.view x.run x.after whole.frame whole.ending at.after f.later ending.before ending.after all x.frame x.ending
-    rise f.rest ending.in_order (sym ending.counted) in
+    let (after, rest) = run_is_kept channel is_whole.before is_whole.view is_whole.run is_whole.after whole.frame whole.ending at.after place.more ending.before ending.after all is_whole.frame is_whole.ending
+    rise place.rest ending.in_order (sym ending.counted) in
     record {
-      before = f.before;
-      view = x.view;
-      run = x.run;
+      before = place.earlier;
+      view = is_whole.view;
+      run = is_whole.run;
       after = after;
-      in_order = f.in_order ∙ ap (λ v. f.before ++ v ∷ f.later) there.0 ∙ ap (λ l. f.before ++ x.view ∷ l) rest
-          ∙ sym (append_assoc f.before (x.view ∷ x.run) after);
-      frame = at.counted ∙ sym f.as_many;
+      in_order = place.in_order ∙ ap (λ v. place.earlier ++ v ∷ place.more) there.0 ∙ ap (λ l. place.earlier ++ is_whole.view ∷ l) rest
+          ∙ sym (append_assoc place.earlier (is_whole.view ∷ is_whole.run) after);
+      frame = at.counted ∙ sym place.as_many;
       ending = omega arith;
-      first = x.first;
-      octets = x.octets;
-      field = x.field;
-      start = subst (IsStart x.octets x.first) (sym same.start) x.start;
-      delivered = subst (λ s. IsDeliveredBy x.view (drop s x.octets) x.run d.packet) (sym same.start)
-          (subst (IsDeliveredBy x.view (drop whole.start x.octets) x.run) (sym same.packet) x.delivered);
+      first = is_whole.first;
+      octets = is_whole.octets;
+      field = is_whole.field;
+      start = subst (IsStart is_whole.octets is_whole.first) (sym same.start) is_whole.start;
+      delivered = subst (λ s. IsDeliveredBy is_whole.view (drop s is_whole.octets) is_whole.run d.packet) (sym same.start)
+          (subst (IsDeliveredBy is_whole.view (drop whole.start is_whole.octets) is_whole.run) (sym same.packet) is_whole.delivered);
     }
 
 pub each_is_left : EachIsLeft
-each_is_left channel numbers kept d whole left x same =
+each_is_left channel numbers kept d whole left is_whole same =
     elim (cases_lt d.ending d.frame) [
-      | inl less ↦ absurd (not_before numbers d.frame d.ending whole.frame whole.ending left.few_lost same.frame same.ending less (omega (arith, x.ending)))
-      | inr fewer ↦ delivered_from_kept channel numbers kept d whole left x same fewer
+      | inl less ↦ absurd (not_before numbers d.frame d.ending whole.frame whole.ending left.few_lost same.frame same.ending less (omega (arith, is_whole.ending)))
+      | inr fewer ↦ delivered_from_kept channel numbers kept d whole left is_whole same fewer
     ]

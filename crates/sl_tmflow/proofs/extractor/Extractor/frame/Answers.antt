@@ -2,9 +2,8 @@ use Rattle.std.proofs.Common.{refl, sym, ◌∙◌, ap, arith}
 use Rattle.sl_packet.proofs.StoppingLemmas.{counts_stopped}
 use Rattle.std.specs.List.{slice_index_or}
 use Rattle.sl_tmflow.specs.Channel.{channel_of}
-use Rattle.sl_tmflow.proofs.lemmas.Anomaly.Anomaly.{foreign_is}
+use Rattle.sl_tmflow.proofs.lemmas.Anomaly.{foreign_is, dropped_seen, gap_seen, incomplete_around}
 use Rattle.sl_tmflow.proofs.lemmas.Delivery.Channel.{handed_now, processed_more, seen_at}
-use Rattle.sl_tmflow.proofs.lemmas.Anomaly.Seen.{dropped_seen, gap_seen, incomplete_around}
 use Rattle.sl_tmflow.proofs.extractor.Extractor.frame.Goals as goal
 
 pub returns-in-Err-clause-stopped : goal.returns-in-Err-clause-stopped

@@ -2,7 +2,7 @@ use Rattle.std.proofs.Common.{◌∙◌, ap, arith}
 use Rattle.std.specs.List.{slice_index_or}
 use Rattle.sl_tmflow.specs.Channel.{channel_of}
 use Rattle.sl_tmflow.proofs.lemmas.Delivery.Channel.{seen_at}
-use Rattle.sl_tmflow.proofs.lemmas.Anomaly.Seen.{held_seen}
+use Rattle.sl_tmflow.proofs.lemmas.Anomaly.{held_seen}
 use Rattle.sl_tmflow.proofs.extractor.Extractor.held.Goals as goal
 
 pub returns-clause-value : goal.returns-clause-value

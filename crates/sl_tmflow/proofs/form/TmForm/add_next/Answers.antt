@@ -8,10 +8,10 @@ use Rattle.sl_tmframe.specs.PacketFrame.{field_room_of}
 use Rattle.sl_tmflow.specs.FormLeft.{FormState, HasMore, channel_packets, packets_left}
 use Rattle.sl_tmflow.specs.TmFormModel.{form_progress}
 use Rattle.sl_tmflow.proofs.lemmas.Form.Canonical.{short_room, wide_room}
-use Rattle.sl_tmflow.proofs.lemmas.Form.Push.{short_filling, small_piece}
+use Rattle.sl_tmflow.proofs.lemmas.Form.Frames.{short_filling, small_piece}
 use Rattle.sl_tmflow.proofs.lemmas.Form.Left.{adds_filling, adds_packet, channel_is, fewer_after, fewer_filled, longest_packet, octets_left, passed_is}
 use Rattle.std.proofs.lemmas.List.Elements.{All-from_recursion}
-use Rattle.sl_tmflow.proofs.lemmas.Form.Steps.{filling_of}
+use Rattle.sl_tmflow.proofs.lemmas.Form.Pieces.{filling_of}
 use Rattle.sl_tmflow.proofs.form.TmForm.add_next.Goals as goal
 
 pub returns-in_err-frames-clause-full : goal.returns-in_err-frames-clause-full

@@ -6,11 +6,7 @@ use Rattle.sl_tmflow.proofs.form.TmForm.next.Goals as goal
 
 pub returns-then-not-go_on-clause-piece : goal.returns-then-not-go_on-clause-piece
 returns-then-not-go_on-clause-piece c =
-    record {
-      piece = [];
-      added = sym (append-nil c.args.form.now.items);
-      left = λ octets l. (octets, (refl, c.go_on.ensures.left octets l));
-    }
+    record { piece = []; added = sym (append-nil c.args.form.now.items); left = λ octets l. (octets, (refl, c.go_on.ensures.left octets l)) }
 
 pub returns-in_err-reserve-clause-packets : goal.returns-in_err-reserve-clause-packets
 returns-in_err-reserve-clause-packets c =

@@ -6,7 +6,7 @@ use Rattle.std.proofs.lemmas.List.{length_push}
 use Rattle.sl_tmframe.specs.TmFrame.{TmView}
 use Rattle.sl_tmflow.specs.Channel.{AreConsecutive, is_consecutive}
 use Rattle.sl_tmflow.specs.Loss.{FewAreLost, HasNoGap, HasNumber, HaveNumbers, RiseFrom}
-use Rattle.sl_tmflow.proofs.lemmas.Places.{head_same, same_place, some_element, tail_same}
+use Rattle.sl_tmflow.proofs.lemmas.Places.{same_place, some_element}
 use Rattle.sl_tmflow.proofs.lemmas.Delivery.End.{longer_begins}
 
 -- ---- counts
@@ -53,85 +53,45 @@ near_from (first ∷ earlier) number more near = rise_from first earlier number 
 -- each number is at least as far above the first one as its place
 pub at_least : (low : ℕ) (numbers before : List ℕ) (number : ℕ) (after : List ℕ) → RiseFrom low numbers → low ∷ numbers ≡ before ++ number ∷ after
     → low + length before ≤ number
-at_least low numbers [] number after rise same = let e = head_same low number numbers after same in omega arith
-at_least low [] (other ∷ before) number after rise same = absurd (some_element before number after (tail_same low other [] (before ++ number ∷ after) same))
+at_least low numbers [] number after rise same = let first : low ≡ number = cc in omega arith
+at_least low [] (other ∷ before) number after rise same = absurd (some_element before number after (cc))
 at_least low (next ∷ numbers) (other ∷ before) number after rise same =
-    let above = at_least next numbers before number after rise.2 (tail_same low other (next ∷ numbers) (before ++ number ∷ after) same) in
+    let above = at_least next numbers before number after rise.2 (cc) in
     omega (arith, rise.0)
 
 -- ---- frames with numbers
 
--- a kept frame, with its number
-pub record IsKeptAt (channel : List TmView) (numbers : List ℕ) (before : List TmView) (view : TmView) (later : List TmView) : Type 0 where
-  pub earlier : List ℕ
-  pub number : ℕ
-  pub more : List ℕ
-  pub in_order : numbers ≡ earlier ++ number ∷ more
+-- in two lists whose elements go together, an element of the second one, and the one of the first that goes with it
+pub record GoesWith {X Y : Type 0} (together : List X → List Y → Type 0) (with_it : X → Y → Type 0) (xs : List X) (before : List Y) (y : Y) (later : List Y) : Type 0 where
+  pub earlier : List X
+  pub this : X
+  pub more : List X
+  pub in_order : xs ≡ earlier ++ this ∷ more
   pub as_many : length earlier ≡ length before
-  pub frame : HasNumber channel number view
-  pub rest : HaveNumbers channel more later
+  pub here : with_it this y
+  pub rest : together more later
 
+module _ {X Y : Type 0} (together : List X → List Y → Type 0) (with_it : X → Y → Type 0) (no_more : (y : Y) (ys : List Y) → together [] (y ∷ ys) → ⊥)
+    (first : (x : X) (xs : List X) (y : Y) (ys : List Y) → together (x ∷ xs) (y ∷ ys) → with_it x y × together xs ys) where
+  goes_with : (xs : List X) (before : List Y) (y : Y) (later : List Y) → together xs (before ++ y ∷ later) → GoesWith together with_it xs before y later
+  goes_with [] [] y later both = absurd (no_more y later both)
+  goes_with [] (z ∷ before) y later both = absurd (no_more z (before ++ y ∷ later) both)
+  goes_with (x ∷ xs) [] y later both =
+      let parts = first x xs y later both in
+      record { earlier = []; this = x; more = xs; in_order = refl; as_many = refl; here = parts.0; rest = parts.1 }
+  goes_with (x ∷ xs) (z ∷ before) y later both =
+      let s = goes_with xs before y later (first x xs z (before ++ y ∷ later) both).1 in
+      record { earlier = x ∷ s.earlier; this = s.this; more = s.more; in_order = ap (λ l. x ∷ l) s.in_order; as_many = omega (arith, s.as_many); here = s.here; rest = s.rest }
+
+-- a kept frame, with its number
 pub kept_at : (channel : List TmView) (numbers : List ℕ) (before : List TmView) (view : TmView) (later : List TmView)
-    → HaveNumbers channel numbers (before ++ view ∷ later) → IsKeptAt channel numbers before view later
-kept_at channel [] [] view later have = absurd have
-kept_at channel [] (first ∷ before) view later have = absurd have
-kept_at channel (number ∷ numbers) [] view later have =
-    record {
-      earlier = [];
-      number = number;
-      more = numbers;
-      in_order = refl;
-      as_many = refl;
-      frame = have.0;
-      rest = have.1;
-    }
-kept_at channel (number ∷ numbers) (first ∷ before) view later have =
-    let k = kept_at channel numbers before view later have.1 in
-    record {
-      earlier = number ∷ k.earlier;
-      number = k.number;
-      more = k.more;
-      in_order = ap (λ l. number ∷ l) k.in_order;
-      as_many = omega (arith, k.as_many);
-      frame = k.frame;
-      rest = k.rest;
-    }
+    → HaveNumbers channel numbers (before ++ view ∷ later) → GoesWith (HaveNumbers channel) (HasNumber channel) numbers before view later
+kept_at channel = goes_with (HaveNumbers channel) (HasNumber channel) (λ view kept none. none) (λ number numbers view kept both. both)
 
 -- a number, with the frame of this number
-pub record IsFrameAt (channel : List TmView) (earlier : List ℕ) (number : ℕ) (more : List ℕ) (kept : List TmView) : Type 0 where
-  pub before : List TmView
-  pub view : TmView
-  pub later : List TmView
-  pub in_order : kept ≡ before ++ view ∷ later
-  pub as_many : length before ≡ length earlier
-  pub frame : HasNumber channel number view
-  pub rest : HaveNumbers channel more later
-
-pub frame_at : (channel : List TmView) (earlier : List ℕ) (number : ℕ) (more : List ℕ) (kept : List TmView)
-    → HaveNumbers channel (earlier ++ number ∷ more) kept → IsFrameAt channel earlier number more kept
-frame_at channel [] number more [] have = absurd have
-frame_at channel (first ∷ earlier) number more [] have = absurd have
-frame_at channel [] number more (view ∷ kept) have =
-    record {
-      before = [];
-      view = view;
-      later = kept;
-      in_order = refl;
-      as_many = refl;
-      frame = have.0;
-      rest = have.1;
-    }
-frame_at channel (first ∷ earlier) number more (view ∷ kept) have =
-    let f = frame_at channel earlier number more kept have.1 in
-    record {
-      before = view ∷ f.before;
-      view = f.view;
-      later = f.later;
-      in_order = ap (λ l. view ∷ l) f.in_order;
-      as_many = omega (arith, f.as_many);
-      frame = f.frame;
-      rest = f.rest;
-    }
+pub frame_at : (channel : List TmView) (kept : List TmView) (earlier : List ℕ) (number : ℕ) (more : List ℕ) → HaveNumbers channel (earlier ++ number ∷ more) kept
+    → GoesWith (λ kept numbers. HaveNumbers channel numbers kept) (λ view number. HasNumber channel number view) kept earlier number more
+frame_at channel = goes_with (λ kept numbers. HaveNumbers channel numbers kept) (λ view number. HasNumber channel number view) (λ number numbers none. none) (λ view kept number numbers both. both)
 
 -- ---- runs
 
@@ -169,12 +129,7 @@ run_of_whole channel before view later number numbers [] after all here each ris
       in_order = refl;
       last = number;
       is_last = omega arith;
-      ending = record {
-        before = [];
-        after = numbers;
-        in_order = refl;
-        counted = refl;
-      };
+      ending = record { before = []; after = numbers; in_order = refl; counted = refl };
     }
 run_of_whole channel before view later number [] (next ∷ run) after all here each rise have consecutive = absurd have
 run_of_whole channel before view later number (other ∷ numbers) (next ∷ run) after all here each rise have consecutive =
@@ -206,12 +161,12 @@ pub run_is_kept : (channel before : List TmView) (view : TmView) (run more : Lis
 run_is_kept channel before view [] more number last numbers kept earlier beyond all here is_last rise have same many = (kept, refl)
 run_is_kept channel before view (next ∷ run) more number last numbers kept [] beyond all here is_last rise have same many = absurd (omega arith)
 run_is_kept channel before view (next ∷ run) more number last [] kept (first ∷ earlier) beyond all here is_last rise have same many =
-    absurd (some_element earlier last beyond (tail_same number first [] (earlier ++ last ∷ beyond) same))
+    absurd (some_element earlier last beyond (cc))
 run_is_kept channel before view (next ∷ run) more number last (other ∷ numbers) [] (first ∷ earlier) beyond all here is_last rise have same many =
     absurd have
 run_is_kept channel before view (next ∷ run) more number last (other ∷ numbers) (second ∷ kept) (first ∷ earlier) beyond all here is_last rise have same many =
     let all' : channel ≡ (before ++ view ∷ []) ++ next ∷ (run ++ more) = all ∙ sym (append_assoc before (view ∷ []) (next ∷ (run ++ more))) in
-    let tail : other ∷ numbers ≡ earlier ++ last ∷ beyond = tail_same number first (other ∷ numbers) (earlier ++ last ∷ beyond) same in
+    let tail : other ∷ numbers ≡ earlier ++ last ∷ beyond = cc in
     let low = at_least other numbers earlier last beyond rise.2 tail in
     let neighbour : other ≡ number + 1 = omega (arith, rise.0) in
     let there = same_place have.0.before (before ++ view ∷ []) second next have.0.after (run ++ more)

@@ -11,7 +11,7 @@ use Rattle.sl_fields.specs.Field.{octets_of}
 use Rattle.sl_tmframe.proofs.PacketFrameLemmas.{with_fecf_whole}
 use Rattle.sl_tmframe.specs.PacketFrame.{field_room_of, frame_fields}
 use Rattle.sl_tmframe.specs.TmFrame.{TmFormat}
-use Rattle.sl_tmflow.specs.FormLeft.{field_frames, fields_in, beyond_fields, filled_up, headed_frame, heading_after}
+use Rattle.sl_tmflow.specs.FormLeft.{field_frames, frames_len, frames_of, fields_in, beyond_fields, filled_up, headed_frame, heading_after}
 use Rattle.sl_tmflow.specs.declared.form.Heading.{Heading}
 use Rattle.sl_tmflow.specs.NormalForm.{filling, fill_of}
 use Rattle.sl_tmflow.proofs.lemmas.Form.Fill.{fill_inside, fill_is_least, filling_is}
@@ -97,36 +97,47 @@ all_pushed format heading end size first left form len few p =
 
 -- ---- octets and a packet after them
 
-module _ (format : TmFormat) (octets head rest packet : List ℕ) (roomy : 0 < field_room_of format) (whole : length (octets ++ head) ≡ field_room_of format) (divided : packet ≡ head ++ rest) where
+-- the head of a packet fills the octets before it up to a data field
+pub record FillsUp (format : TmFormat) (octets packet head rest : List ℕ) : Type 0 where
+  pub roomy : 0 < field_room_of format
+  pub divided : packet ≡ head ++ rest
+  pub whole : length (octets ++ head) ≡ field_room_of format
+
+module _ {format : TmFormat} {octets packet head rest : List ℕ} (s : FillsUp format octets packet head rest) where
   both : octets ++ packet ≡ (octets ++ head) ++ rest
-  both = ap (λ l. octets ++ l) divided ∙ sym (append_assoc octets head rest)
+  both = ap (λ l. octets ++ l) s.divided ∙ sym (append_assoc octets head rest)
 
   pub fields_of_both : fields_in format (octets ++ packet) ≡ suc (fields_in format rest)
-  fields_of_both = one_more_field format (octets ++ packet) (octets ++ head) rest roomy both whole
+  fields_of_both = one_more_field format (octets ++ packet) (octets ++ head) rest s.roomy both s.whole
 
-  pub field_of_first : fields_in format (octets ++ head) ≡ 1
+  field_of_first : fields_in format (octets ++ head) ≡ 1
   field_of_first =
-      one_more_field format (octets ++ head) (octets ++ head) [] roomy (sym (append-nil (octets ++ head))) whole ∙ ap suc (zero-div (field_room_of format))
+      one_more_field format (octets ++ head) (octets ++ head) [] s.roomy (sym (append-nil (octets ++ head))) s.whole ∙ ap suc (zero-div (field_room_of format))
+
+  pub frames_len_of_first : frames_len format (octets ++ head) ≡ format.len
+  frames_len_of_first = ap (λ n. n * format.len) field_of_first ∙ one-mul format.len
+
+  pub frames_len_of_both : frames_len format (octets ++ packet) ≡ format.len + frames_len format rest
+  frames_len_of_both = let first = ap (λ n. n * format.len) fields_of_both in let lengths = suc-mul (fields_in format rest) format.len in omega arith
 
   pub beyond_both : (from : ℕ) → from ≡ length rest - length rest % field_room_of format → beyond_fields format (octets ++ packet) ≡ drop from rest
   beyond_both from is =
       let fields = div-add-mod' (length rest) (field_room_of format) in
       let rooms = suc-mul (fields_in format rest) (field_room_of format) in
-      let at : fields_in format (octets ++ packet) * field_room_of format ≡ length (octets ++ head) + from = omega (arith, ap (λ n. n * field_room_of format) fields_of_both, rooms, fields, whole, is) in
+      let at : fields_in format (octets ++ packet) * field_room_of format ≡ length (octets ++ head) + from = omega (arith, ap (λ n. n * field_room_of format) fields_of_both, rooms, fields, s.whole, is) in
       ap (λ n. drop n (octets ++ packet)) at ∙ ap (drop (length (octets ++ head) + from)) both ∙ sym (drop-drop from (length (octets ++ head)) ((octets ++ head) ++ rest)) ∙ ap (drop from) (drop-append_seam (octets ++ head) rest)
 
   pub frames_of_both : (heading : Heading) (first : Option ℕ) (form form₁ form₂ : List ℕ)
-      → form₁ ≡ form ++ field_frames format (fields_in format (octets ++ head)) heading first (octets ++ head)
-      → form₂ ≡ form₁ ++ field_frames format (fields_in format rest) (heading_after heading 1) None rest
-      → form₂ ≡ form ++ field_frames format (fields_in format (octets ++ packet)) heading first (octets ++ packet)
+      → form₁ ≡ form ++ frames_of format heading first (octets ++ head) → form₂ ≡ form₁ ++ frames_of format (heading_after heading 1) None rest
+      → form₂ ≡ form ++ frames_of format heading first (octets ++ packet)
   frames_of_both heading first form form₁ form₂ one two =
       let frame = headed_frame format heading first (octets ++ head) in
-      let others = field_frames format (fields_in format rest) (heading_after heading 1) None rest in
-      let alone : field_frames format (fields_in format (octets ++ head)) heading first (octets ++ head) ≡ frame =
-      next_field format heading first (octets ++ head) (octets ++ head) [] roomy (sym (append-nil (octets ++ head))) whole
+      let others = frames_of format (heading_after heading 1) None rest in
+      let alone : frames_of format heading first (octets ++ head) ≡ frame =
+      next_field format heading first (octets ++ head) (octets ++ head) [] s.roomy (sym (append-nil (octets ++ head))) s.whole
       ∙ ap (λ n. frame ++ field_frames format n (heading_after heading 1) None []) (zero-div (field_room_of format)) ∙ append-nil frame in
       two ∙ ap (λ f. f ++ others) (one ∙ ap (λ f. form ++ f) alone) ∙ append_assoc form frame others
-      ∙ ap (λ l. form ++ l) (sym (next_field format heading first (octets ++ packet) (octets ++ head) rest roomy both whole))
+      ∙ ap (λ l. form ++ l) (sym (next_field format heading first (octets ++ packet) (octets ++ head) rest s.roomy both s.whole))
 
 -- ---- the room for a piece
 

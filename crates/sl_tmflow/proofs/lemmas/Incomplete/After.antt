@@ -61,32 +61,25 @@ consecutive-push view (v ∷ run) next before test = (before.0, consecutive-push
 
 pub is_incomplete_at_start : (view : TmView) (octets : List ℕ) → front octets ≡ Incomplete → IsIncompleteAfter view octets [] view octets
 is_incomplete_at_start view octets incomplete =
-    record {
-      ended_by = refl;
-      came = sym (append-nil octets);
-      consecutive = tt;
-      none_opaque = tt;
-      no_start = tt;
-      incomplete = incomplete;
-    }
+    record { ended_by = refl; came = sym (append-nil octets); consecutive = tt; none_opaque = tt; no_start = tt; incomplete = incomplete }
 
 -- the next frame is consecutive to the last one of a run with one more frame
 pub consecutive_to_last : (view : TmView) (octets : List ℕ) (run : List TmView) (last : TmView) (so_far : List ℕ) (next : TmView)
     → IsIncompleteAfter view octets run last so_far → is_consecutive last next ≡ true → AreConsecutive view (run ++ next ∷ [])
-consecutive_to_last view octets run last so_far next o test =
-    consecutive-push view run next o.consecutive (ap (λ v. is_consecutive v next) (sym o.ended_by) ∙ test)
+consecutive_to_last view octets run last so_far next held test =
+    consecutive-push view run next held.consecutive (ap (λ v. is_consecutive v next) (sym held.ended_by) ∙ test)
 
 pub is_incomplete_one_more : (view : TmView) (octets : List ℕ) (run : List TmView) (last : TmView) (so_far : List ℕ) (next : TmView)
     → IsIncompleteAfter view octets run last so_far → is_consecutive last next ≡ true → GoesOnPast so_far next.field
     → IsIncompleteAfter view octets (run ++ next ∷ []) next (so_far ++ packet_data next)
-is_incomplete_one_more view octets run last so_far next o test x =
+is_incomplete_one_more view octets run last so_far next held test past =
     record {
       ended_by = sym (last_of-push view run next);
-      came = ap (λ l. l ++ packet_data next) o.came ∙ sym (reassembly-push octets run next);
-      consecutive = consecutive_to_last view octets run last so_far next o test;
-      none_opaque = each-append (λ v. v.field ≢ Opaque) run (next ∷ []) o.none_opaque (x.is_read, tt);
-      no_start = each-append HasNoStart run (next ∷ []) o.no_start (x.no_start, tt);
-      incomplete = x.incomplete;
+      came = ap (λ l. l ++ packet_data next) held.came ∙ sym (reassembly-push octets run next);
+      consecutive = consecutive_to_last view octets run last so_far next held test;
+      none_opaque = each-append (λ v. v.field ≢ Opaque) run (next ∷ []) held.none_opaque (past.is_read, tt);
+      no_start = each-append HasNoStart run (next ∷ []) held.no_start (past.no_start, tt);
+      incomplete = past.incomplete;
     }
 
 -- ---- the outcome of an incomplete packet
@@ -100,36 +93,36 @@ incomplete_step Breaks passed rest so_far e = absurd (cc)
 pub outcome_to_incomplete : (passed : ℕ) (first : TmView) (start : List ℕ) (run : List TmView) (view : TmView) (octets : List ℕ) (later : List TmView) (so_far : List ℕ)
     → IsIncompleteAfter first start run view octets → outcome_after passed view octets later ≡ StillIncomplete so_far
     → IsIncompleteAfter first start (run ++ later) (last_of view later) so_far
-outcome_to_incomplete passed first start run view octets [] so_far o e =
+outcome_to_incomplete passed first start run view octets [] so_far held e =
     let same : octets ≡ so_far = cc in
-    rw (append-nil run) (rw (← same) o)
-outcome_to_incomplete passed first start run view octets (next ∷ later) so_far o e =
+    rw (append-nil run) (rw (← same) held)
+outcome_to_incomplete passed first start run view octets (next ∷ later) so_far held e =
     let (goes_on, rest) = incomplete_step (step_of view octets next) (passed + 1) (outcome_after (passed + 1) next (octets ++ packet_data next) later) so_far e in
-    let (consecutive, past) = step_continues view octets next o.incomplete goes_on in
-    let now = is_incomplete_one_more first start run view octets next o consecutive past in
+    let (consecutive, past) = step_continues view octets next held.incomplete goes_on in
+    let now = is_incomplete_one_more first start run view octets next held consecutive past in
     rw (← append_assoc run (next ∷ []) later)
     (outcome_to_incomplete (passed + 1) first start (run ++ next ∷ []) next (octets ++ packet_data next) later so_far now rest)
 
 -- where the packet is incomplete after all later frames, the outcome is that it is still incomplete
 pub incomplete_to_outcome : (passed : ℕ) (view : TmView) (octets : List ℕ) (later : List TmView) (last : TmView) (so_far : List ℕ)
     → IsIncompleteAfter view octets later last so_far → outcome_after passed view octets later ≡ StillIncomplete so_far
-incomplete_to_outcome passed view octets [] last so_far o = ap StillIncomplete (sym (append-nil octets) ∙ sym o.came)
-incomplete_to_outcome passed view octets (next ∷ later) last so_far o =
-    let came : so_far ≡ reassembly (octets ++ packet_data next) later = o.came ∙ reassembly-cons octets next later in
+incomplete_to_outcome passed view octets [] last so_far held = ap StillIncomplete (sym (append-nil octets) ∙ sym held.came)
+incomplete_to_outcome passed view octets (next ∷ later) last so_far held =
+    let came : so_far ≡ reassembly (octets ++ packet_data next) later = held.came ∙ reassembly-cons octets next later in
     let past : GoesOnPast octets next.field = record {
-      is_read = o.none_opaque.0;
-      no_start = o.no_start.0;
-      incomplete = incomplete_before (octets ++ packet_data next) (concat (map packet_data later)) (ap front (sym came) ∙ o.incomplete);
+      is_read = held.none_opaque.0;
+      no_start = held.no_start.0;
+      incomplete = incomplete_before (octets ++ packet_data next) (concat (map packet_data later)) (ap front (sym came) ∙ held.incomplete);
     } in
     let rest : IsIncompleteAfter next (octets ++ packet_data next) later last so_far = record {
-      ended_by = o.ended_by;
+      ended_by = held.ended_by;
       came = came;
-      consecutive = o.consecutive.1;
-      none_opaque = o.none_opaque.1;
-      no_start = o.no_start.1;
-      incomplete = o.incomplete;
+      consecutive = held.consecutive.1;
+      none_opaque = held.none_opaque.1;
+      no_start = held.no_start.1;
+      incomplete = held.incomplete;
     } in
-    ap (λ s. after_step s (passed + 1) (outcome_after (passed + 1) next (octets ++ packet_data next) later)) (continues_step view octets next o.consecutive.0 past)
+    ap (λ s. after_step s (passed + 1) (outcome_after (passed + 1) next (octets ++ packet_data next) later)) (continues_step view octets next held.consecutive.0 past)
     ∙ incomplete_to_outcome (passed + 1) next (octets ++ packet_data next) later last so_far rest
 
 front_incomplete : (f : Front) (view : TmView) (octets : List ℕ) (later : List TmView) (so_far : List ℕ) → outcome_of_front f view octets later ≡ StillIncomplete so_far
@@ -148,6 +141,6 @@ outcome_incomplete view octets later so_far e =
 
 pub incomplete_outcome : (view : TmView) (octets : List ℕ) (later : List TmView) (last : TmView) (so_far : List ℕ) → IsIncompleteAfter view octets later last so_far
     → outcome_of view octets later ≡ StillIncomplete so_far
-incomplete_outcome view octets later last so_far o =
-    let incomplete : front octets ≡ Incomplete = incomplete_before octets (concat (map packet_data later)) (ap front (sym o.came) ∙ o.incomplete) in
-    ap (λ f. outcome_of_front f view octets later) incomplete ∙ incomplete_to_outcome 0 view octets later last so_far o
+incomplete_outcome view octets later last so_far held =
+    let incomplete : front octets ≡ Incomplete = incomplete_before octets (concat (map packet_data later)) (ap front (sym held.came) ∙ held.incomplete) in
+    ap (λ f. outcome_of_front f view octets later) incomplete ∙ incomplete_to_outcome 0 view octets later last so_far held

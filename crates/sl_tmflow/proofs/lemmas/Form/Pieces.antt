@@ -8,12 +8,45 @@ use Rattle.std.proofs.Math.Nat.{add-mul, suc-mul, zero-mul, one-mul, zero-div}
 use Rattle.std.proofs.Math.Seq.{drop-append_seam}
 use Rattle.sl_tmframe.specs.PacketFrame.{field_room_of, packet_frame}
 use Rattle.sl_tmframe.specs.TmFrame.{TmFormat}
-use Rattle.sl_tmflow.specs.FormLeft.{IsPending, start_in, field_frames}
+use Rattle.sl_tmflow.specs.FormLeft.{IsPending, start_in, field_frames, FormProgress, beyond_fields, fields_in, frames_of}
 use Rattle.sl_tmflow.specs.declared.form.Heading.{Heading}
-use Rattle.sl_tmflow.specs.NormalForm.{first_of, data_field_of, channel_frame, frames_of_packets, channel_frames}
+use Rattle.sl_tmflow.specs.NormalForm.{first_of, data_field_of, channel_frame, frames_of_packets, channel_frames, filling}
 use Rattle.sl_tmflow.specs.PacketStart.{packet_offsets}
 use Rattle.sl_tmflow.proofs.lemmas.Form.FieldStart.{lies_here, lies_elsewhere, no_later, skip_packet}
 use Rattle.sl_tmflow.proofs.lemmas.Form.Fill.{no_filling}
+
+-- ---- the steps that make a normal form
+
+-- the heading of the next frame
+abbrev pub heading_of : FormProgress → Heading
+heading_of s = record { spacecraft = s.spacecraft; vc = s.vc; master = s.master; counter = s.counter }
+
+-- the idle packet that fills up the octets that are left of a virtual channel, or nothing
+abbrev pub filling_of : FormProgress → List ℕ
+filling_of s = concat (filling (field_room_of s.format) (length s.octets))
+
+-- the frames that a packet completes
+abbrev pub piece_of : FormProgress → List ℕ → List ℕ
+piece_of s packet = frames_of s.format (heading_of s) (Some s.start) (s.octets ++ packet)
+
+-- the progress after a packet, when `taken` packets were taken
+abbrev pub after_packet : FormProgress → List ℕ → ℕ → FormProgress
+after_packet s packet taken =
+    let frames : ℕ = fields_in s.format (s.octets ++ packet) in
+    let octets : List ℕ = beyond_fields s.format (s.octets ++ packet) in
+    record s {
+      taken = taken;
+      master = (s.master + frames) % 256;
+      counter = (s.counter + frames) % 256;
+      octets = octets;
+      start = if frames == 0 then s.start else length octets;
+    }
+
+-- the progress at the front of the next virtual channel
+abbrev pub next_channel : FormProgress → FormProgress
+next_channel s = record s { vc = s.vc + 1; taken = 0; counter = 0 }
+
+-- ---- counts and numbers
 
 same_frame : (format : TmFormat) (spacecraft vc mc mc' vcc vcc' : ℕ) (first first' : Option ℕ) (field field' : List ℕ) → mc ≡ mc' → vcc ≡ vcc' → first ≡ first' → field ≡ field'
     → packet_frame format spacecraft vc mc vcc first field ≡ packet_frame format spacecraft vc mc' vcc' first' field'
@@ -22,8 +55,8 @@ same_frame format spacecraft vc mc mc' vcc vcc' first first' field field' a b c 
 count_next : (count n : ℕ) → count ≡ n % 256 → (count + 1) % 256 ≡ (n + 1) % 256
 count_next count n is = omega (arith, is)
 
-pub count_later : (count n k : ℕ) → count ≡ n % 256 → (count + k) % 256 ≡ (n + k) % 256
-count_later count n k is = omega (arith, is)
+pub count_later : (count n frames : ℕ) → count ≡ n % 256 → (count + frames) % 256 ≡ (n + frames) % 256
+count_later count n frames is = omega (arith, is)
 
 -- a range of numbers in two parts
 pub two_ranges : (f : ℕ → List ℕ) (n from m : ℕ) → map f (range_with_len from (n + m)) ≡ map f (range_with_len from n) ++ map f (range_with_len (from + n) m)

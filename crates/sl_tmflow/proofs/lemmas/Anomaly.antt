@@ -27,13 +27,10 @@ use Rattle.sl_tmflow.proofs.lemmas.Incomplete.BrokenOff.{broken_next, lost, lost
 -- ---- gaps
 
 pub each_gap_is_told : EachGapIsTold
-each_gap_is_told channel next expected gap =
-    ap (λ l. gap_of l next) gap.in_order ∙ ap (λ c. gap_after c next.vc_count) (last_count-push gap.earlier gap.last)
-    ∙ ap (λ b. if b then None else Some ((gap.last.vc_count + 1) % 256)) gap.broken ∙ ap Some (sym gap.value)
+each_gap_is_told channel next expected gap = grind (arith, last_count-push)
 
 told_gap : (b : Bool) (n expected : ℕ) → (if b then None else Some n) ≡ Some expected → (b ≡ false) × (expected ≡ n)
-told_gap true n expected e = absurd (cc)
-told_gap false n expected e = (refl, cc)
+told_gap b n expected e = grind arith
 
 pub each_told_is_a_gap : EachToldIsAGap
 each_told_is_a_gap [] next expected e = absurd (cc)
@@ -47,11 +44,7 @@ each_told_is_a_gap (view ∷ later) next expected e =
 
 any_found : {X : Type 0} (P : X → Type 0) (p : X → Bool) (xs : List X) → AllByRecursion P xs → list_any p xs ≡ true → (x : X) × P x × (p x ≡ true)
 any_found P p [] each e = absurd (cc)
-any_found P p (x ∷ xs) each e = cases (p x) refl e (any_found P p xs each.1)
-  where
-    cases : (b : Bool) → p x ≡ b → (b || list_any p xs) ≡ true → (list_any p xs ≡ true → (y : _) × P y × (p y ≡ true)) → (y : _) × P y × (p y ≡ true)
-    cases true here any later = (x, each.0, here)
-    cases false here any later = later any
+any_found P p (x ∷ xs) each e = grind (arith, any_found P p xs each.1)
 
 -- ---- octets of another version
 
@@ -67,25 +60,11 @@ each_foreign_start_is_told field foreign =
     (foreign_test (length (drop foreign.start foreign.octets)) (version_of (drop foreign.start foreign.octets)) some foreign.version))
 
 pub each_told_is_a_foreign_start : EachToldIsAForeignStart
-each_told_is_a_foreign_start (Packets first octets) e =
-    let (start, is_start, told) =
-    any_found (IsStart octets first) (λ start. is_foreign (drop start octets)) (starts_from first octets) (each_is_start first octets) e in
-    record {
-      first = first;
-      octets = octets;
-      carries = refl;
-      start = start;
-      is_start = is_start;
-      version = (foreign_true (length (drop start octets)) (version_of (drop start octets)) told).1;
-    }
-each_told_is_a_foreign_start Idle e = absurd (cc)
-each_told_is_a_foreign_start Opaque e = absurd (cc)
+each_told_is_a_foreign_start field e = grind (arith, any_found, each_is_start, foreign_true)
 
 -- a packet has version 0
 packet_not_foreign : (packet more : List ℕ) → IsPacket packet → is_foreign (packet ++ more) ≡ false
-packet_not_foreign packet more p =
-    let some : 1 ≤ length packet = omega (arith, packet_least packet p) in
-    not_foreign (length (packet ++ more)) (version_of (packet ++ more)) (version_of-append packet more some ∙ p.version)
+packet_not_foreign packet more p = grind (arith, packet_least, not_foreign, version_of-append)
 
 foreign_offsets : (octets : List ℕ) (offset : ℕ) (packets : List (List ℕ)) (rest : List ℕ) → AllByRecursion IsPacket packets → drop offset octets ≡ concat packets ++ rest
     → list_any (λ start. is_foreign (drop start octets)) (packet_offsets offset packets rest) ≡ is_foreign rest
@@ -116,32 +95,25 @@ gap_seen state channel next s = ap (λ c. gap_after c next.vc_count) (sym s.coun
 -- ---- the octets that are held
 
 held_octets : (held : List ℕ) → concat (held_as held) ≡ held
-held_octets [] = refl
-held_octets (octet ∷ octets) = append-nil (octet ∷ octets)
+held_octets held = grind (arith, append-nil)
 
 pub held_seen : (state : ChannelState) (channel : List TmView) → HasSeen state channel → length state.held ≡ length (concat (incomplete_of channel))
 held_seen state channel s = ap length (sym (held_octets state.held) ∙ ap concat s.held)
 
 none_held : (held : List ℕ) → held_as held ≡ [] → held ≡ []
-none_held [] e = refl
-none_held (octet ∷ octets) e = absurd (cc)
+none_held held e = grind arith
 
 -- ---- the packet that the next frame breaks off
 
 lost_octets : (s : Continuation) (octets : List ℕ) → concat (lost s octets ++ []) ≡ lost_of s octets
-lost_octets (Ends packet) octets = refl
-lost_octets Continues octets = refl
-lost_octets Breaks octets = append-nil octets
+lost_octets s octets = grind (arith, append-nil)
 
 lost_held : (last next : TmView) (held : List ℕ) → concat (flat_map (lost_in last next) (held_as held)) ≡ lost_of (held_step (Some last.vc_count) held next) held
-lost_held last next [] = refl
-lost_held last next (octet ∷ octets) = lost_octets (step_of last (octet ∷ octets) next) (octet ∷ octets)
+lost_held last next held = grind (arith, lost_octets)
 
 dropped_after : (state : ChannelState) (before : List TmView) (last next : TmView) → HasSeen state (before ++ last ∷ [])
     → concat (broken_off (before ++ last ∷ []) next) ≡ lost_by state next
-dropped_after state before last next s =
-    ap concat (broken_next before last next) ∙ ap (λ l. concat (flat_map (lost_in last next) l)) (sym s.held)
-    ∙ lost_held last next state.held ∙ ap (λ c. lost_of (held_step c state.held next) state.held) (sym (s.count ∙ last_count-push before last))
+dropped_after state before last next s = grind (arith, broken_next, lost_held, last_count-push)
 
 pub dropped_seen : (state : ChannelState) (channel : List TmView) (next : TmView) → HasSeen state channel → dropped_of channel next ≡ length (lost_by state next)
 dropped_seen state [] next s =

@@ -72,9 +72,4 @@ pub cases_last : {X : Type 0} (xs : List X) (last : X) (earlier : List X) (x : X
 cases_last [] last [] x later same = inl (refl, cc)
 cases_last [] last (e ∷ earlier) x later same = absurd (some_element earlier x later (cc))
 cases_last (y ∷ ys) last [] x later same = inr (ys, cc)
-cases_last (y ∷ ys) last (e ∷ earlier) x later same =
-    let first : y ≡ e = cc in
-    elim (cases_last ys last earlier x later (cc)) [
-      | inl here ↦ inl (cc (here.0, first), here.1)
-      | inr there ↦ inr (there.0, cc (there.1, first))
-    ]
+cases_last (y ∷ ys) last (e ∷ earlier) x later same = grind (arith, cases_last ys last earlier x later (cc))

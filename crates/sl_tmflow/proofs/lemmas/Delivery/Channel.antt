@@ -35,17 +35,11 @@ last_count-push (view ∷ next ∷ before) last = last_count-push (next ∷ befo
 
 ended_held : (last next : TmView) (held : List ℕ)
     → flat_map (λ octets. ended (step_of last octets next)) (held_as held) ≡ ended (held_step (Some last.vc_count) held next)
-ended_held last next [] = refl
-ended_held last next (octet ∷ octets) = append-nil (ended (step_of last (octet ∷ octets) next))
+ended_held last next held = grind (arith, append-nil)
 
 one_more_after : (state : ChannelState) (before : List TmView) (last next : TmView) → HasSeen state (before ++ last ∷ [])
     → packets_ending (before ++ last ∷ []) next ≡ packets_after state next
-one_more_after state before last next s =
-    let whole = whole_packets next.field in
-    ending_next before last next
-    ∙ ap (λ l. flat_map (λ octets. ended (step_of last octets next)) l ++ whole) (sym s.held)
-    ∙ ap (λ l. l ++ whole) (ended_held last next state.held)
-    ∙ ap (λ c. ended (held_step c state.held next) ++ whole) (sym (s.count ∙ last_count-push before last))
+one_more_after state before last next s = grind (arith, ending_next, ended_held, last_count-push)
 
 pub one_more : (state : ChannelState) (channel : List TmView) (next : TmView) → HasSeen state channel → packets_ending channel next ≡ packets_after state next
 one_more state [] next s = ending_first next ∙ ap (λ c. ended (held_step c state.held next) ++ whole_packets next.field) (sym s.count)
@@ -56,62 +50,41 @@ one_more state (view ∷ later) next s =
 -- ---- the octets that are held
 
 goes_on : (s : Continuation) (octet : ℕ) (octets : List ℕ) → carried s (octet ∷ octets) ++ [] ≡ held_as (kept_of s (octet ∷ octets))
-goes_on (Ends packet) octet octets = refl
-goes_on Continues octet octets = refl
-goes_on Breaks octet octets = refl
+goes_on s octet octets = grind arith
 
 carried_held : (last next : TmView) (held : List ℕ)
     → flat_map (carried_into last next) (held_as held) ≡ held_as (kept_octets (held_step (Some last.vc_count) held next) held next)
-carried_held last next [] = refl
-carried_held last next (octet ∷ octets) = goes_on (step_of last (octet ∷ octets) next) octet (octets ++ packet_data next)
+carried_held last next held = grind (arith, goes_on)
 
 -- where a packet starts, the incomplete one doesn't go on
 
 ends_or_breaks : (b : Bool) (packet octets : List ℕ) → kept_of (if b then Ends packet else Breaks) octets ≡ []
-ends_or_breaks true packet octets = refl
-ends_or_breaks false packet octets = refl
+ends_or_breaks b packet octets = grind arith
 
 not_past_start : (pointer before : ℕ) (field all : List ℕ) (f : Front) → kept_of (front_step (Some pointer) before field all f) all ≡ []
-not_past_start pointer before field all OtherVersion = refl
-not_past_start pointer before field all Incomplete = refl
-not_past_start pointer before field all (WholePacket len) = ends_or_breaks (option_eq nat_eq (Some pointer) (agreeing_pointer len before field)) (take len all) all
+not_past_start pointer before field all f = grind (arith, ends_or_breaks)
 
 if_follows : (b : Bool) (s : Continuation) (octets : List ℕ) → kept_of s octets ≡ [] → kept_of (if b then s else Breaks) octets ≡ []
-if_follows true s octets none = none
-if_follows false s octets none = refl
+if_follows b s octets none = grind arith
 
 none_kept : (count : Option ℕ) (held : List ℕ) (next : TmView) (pointer : ℕ) (octets : List ℕ) → next.field ≡ Packets (Some pointer) octets
     → kept_octets (held_step count held next) held next ≡ []
-none_kept None held next pointer octets is = refl
-none_kept (Some count) [] next pointer octets is = refl
-none_kept (Some count) (octet ∷ held) next pointer octets is =
-    let before = octet ∷ held in
-    let all = before ++ octets in
-    if_follows (follows count next.vc_count) (field_step before next.field) (before ++ packet_data next)
-    (rw is (not_past_start pointer (length before) octets all (front all)))
+none_kept count held next pointer octets is = grind (arith, if_follows, not_past_start)
 
 -- the packets that start in the frame
 
 none_incomplete : (f : Front) → incomplete_in f [] ≡ []
-none_incomplete OtherVersion = refl
-none_incomplete Incomplete = refl
-none_incomplete (WholePacket len) = refl
+none_incomplete f = grind arith
 
 rest_held : (view : TmView) (octet : ℕ) (rest : List ℕ) (f : Front) → held_as (incomplete_in f (octet ∷ rest)) ≡ incomplete_octets (outcome_of_front f view (octet ∷ rest) [])
-rest_held view octet rest OtherVersion = refl
-rest_held view octet rest Incomplete = refl
-rest_held view octet rest (WholePacket len) = refl
+rest_held view octet rest f = grind arith
 
 held_at_rest : (view : TmView) (rest : List ℕ) → held_as (incomplete_in (front rest) rest) ≡ at_rest (λ l. incomplete_octets (outcome_of view l [])) rest
-held_at_rest view [] = ap held_as (none_incomplete (front []))
-held_at_rest view (octet ∷ rest) = rest_held view octet rest (front (octet ∷ rest))
+held_at_rest view rest = grind (arith, none_incomplete, rest_held)
 
 incomplete_in_field : (view : TmView) (field : DataField) (kept : List ℕ) → ((pointer : ℕ) (octets : List ℕ) → field ≡ Packets (Some pointer) octets → kept ≡ [])
     → held_as (held_after field kept) ≡ held_as kept ++ field_incomplete view [] field
-incomplete_in_field view (Packets (Some pointer) octets) kept none =
-    held_at_rest view (rest_of (drop pointer octets)) ∙ sym (incomplete_from_pointer view [] pointer octets)
-    ∙ ap (λ l. held_as l ++ field_incomplete view [] (Packets (Some pointer) octets)) (sym (none pointer octets refl))
-incomplete_in_field view field kept none = sym (append-nil (held_as kept))
+incomplete_in_field view field kept none = grind (arith, held_at_rest, incomplete_from_pointer, append-nil)
 
 held_by_frame : (count : Option ℕ) (held : List ℕ) (next : TmView)
     → held_as (held_after next.field (kept_octets (held_step count held next) held next))
@@ -122,27 +95,11 @@ held_by_frame count held next =
 -- ---- one more frame
 
 seen_first : (state : ChannelState) (next : TmView) → HasSeen state [] → HasSeen (state_after state next) (next ∷ [])
-seen_first state next s =
-    record {
-      count = refl;
-      held =
-          held_by_frame state.count state.held next
-          ∙ ap (λ c. held_as (kept_octets (held_step c state.held next) state.held next) ++ frame_incomplete next []) s.count
-          ∙ sym (incomplete_first next);
-    }
+seen_first state next s = grind (arith, held_by_frame, incomplete_first)
 
 seen_next : (state : ChannelState) (before : List TmView) (last next : TmView) → HasSeen state (before ++ last ∷ [])
     → HasSeen (state_after state next) ((before ++ last ∷ []) ++ next ∷ [])
-seen_next state before last next s =
-    record {
-      count = sym (last_count-push (before ++ last ∷ []) next);
-      held =
-          held_by_frame state.count state.held next
-          ∙ ap (λ c. held_as (kept_octets (held_step c state.held next) state.held next) ++ frame_incomplete next []) (s.count ∙ last_count-push before last)
-          ∙ ap (λ l. l ++ frame_incomplete next []) (sym (carried_held last next state.held))
-          ∙ ap (λ l. flat_map (carried_into last next) l ++ frame_incomplete next []) s.held
-          ∙ sym (incomplete_next before last next);
-    }
+seen_next state before last next s = grind (arith, last_count-push, held_by_frame, carried_held, incomplete_next)
 
 pub seen_more : (state : ChannelState) (channel : List TmView) (next : TmView) → HasSeen state channel → HasSeen (state_after state next) (channel ++ next ∷ [])
 seen_more state [] next s = seen_first state next s
@@ -153,20 +110,10 @@ seen_more state (view ∷ later) next s =
 -- ---- one of the channels
 
 pub same_seen : (vc : ℕ) (views : List TmView) (next : TmView) → next.vc ≡ vc → channel_of vc (views ++ next ∷ []) ≡ channel_of vc views ++ next ∷ []
-same_seen vc views next same =
-    filter-append (λ view. view.vc == vc) views (next ∷ [])
-    ∙ elim (eqb_tells next.vc vc) [
-      | inl (test, is) ↦ rw (test) refl
-      | inr (test, other) ↦ absurd (other same)
-    ]
+same_seen vc views next same = grind (arith, filter-append, eqb_tells)
 
 pub other_seen : (vc : ℕ) (views : List TmView) (next : TmView) → (next.vc ≡ vc → ⊥) → channel_of vc (views ++ next ∷ []) ≡ channel_of vc views
-other_seen vc views next other =
-    filter-append (λ view. view.vc == vc) views (next ∷ [])
-    ∙ elim (eqb_tells next.vc vc) [
-      | inl (test, is) ↦ absurd (other is)
-      | inr (test, not) ↦ rw (test) (append-nil (channel_of vc views))
-    ]
+other_seen vc views next other = grind (arith, filter-append, eqb_tells, append-nil)
 
 -- the state of each channel, where one of them has one more frame
 pub each_seen : (states : List KeptChannel) (after : KeptChannel) (views : List TmView) (next : TmView) → next.vc < length states
@@ -189,12 +136,7 @@ each_seen states after views next inside is vc s =
 -- the state of the channel of a number
 pub seen_at : (old : ExtractorState) (views : List TmView) (states : List KeptChannel) (at vc : ℕ) (d : KeptChannel) → HasProcessed old views → states ≡ old.channels
     → length states ≡ 8 → vc ≤ 7 → at ≡ vc → HasSeen (slice_index_or states at d).state (channel_of vc views)
-seen_at old views states at vc d p are eight fits same =
-    let inside : vc < length states = omega arith in
-    let seen : HasSeen (slice_index_or states vc new_channel).state (channel_of vc views) =
-    subst (λ l. HasSeen (slice_index_or l vc new_channel).state (channel_of vc views)) (sym are) (p.each vc (omega arith)) in
-    subst (λ i. HasSeen (slice_index_or states i d).state (channel_of vc views)) (sym same)
-    (subst (λ (s : KeptChannel). HasSeen s.state (channel_of vc views)) (get_or_default states vc new_channel d inside) seen)
+seen_at old views states at vc d p are eight fits same = grind (arith, get_or_default)
 
 module _ (old : ExtractorState) (views : List TmView) (next : TmView) (states : List KeptChannel) (at : ℕ) (d : KeptChannel) where
   pub ended_now : HasProcessed old views → states ≡ old.channels → length states ≡ 8 → next.vc ≤ 7 → at ≡ next.vc

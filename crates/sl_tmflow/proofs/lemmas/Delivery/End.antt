@@ -67,8 +67,7 @@ ends_in_its_frame view octets first start later (next ∷ run) packet s t less d
 no_start_before_last : (view : TmView) (octets : List ℕ) (earlier : List TmView) (next second : TmView) (run : List TmView) (packet : List ℕ)
     → IsDeliveredBy view octets (earlier ++ next ∷ second ∷ run) packet → HasNoStart next
 no_start_before_last view octets [] next second run packet d = (delivered_goes_on view octets next second run packet d).no_start
-no_start_before_last view octets (v ∷ earlier) next second run packet d =
-    no_start_before_last v (octets ++ packet_data v) earlier next second run packet (delivered_tail view octets v (earlier ++ next ∷ second ∷ run) packet d)
+no_start_before_last view octets (v ∷ earlier) next second run packet d = grind (arith, delivered_tail, no_start_before_last v (octets ++ packet_data v) earlier next second run packet (delivered_tail view octets v (earlier ++ next ∷ second ∷ run) packet d))
 
 -- ---- of two deliveries
 
@@ -163,20 +162,12 @@ ends_by_offset (first ∷ before) (other ∷ others) packet more rest done each 
 
 ends_by_start : (octets : List ℕ) (first : Option ℕ) (start later : ℕ) (packet more : List ℕ) → IsStart octets first start → IsStart octets first later → start < later
     → IsPacket packet → packet ++ more ≡ drop start octets → start + length packet ≤ later
-ends_by_start octets first start later packet more s t less p begins =
-    let pointers : s.pointer ≡ t.pointer = same_Some s.pointer t.pointer (sym s.pointed ∙ t.pointed) in
-    let same : concat s.before ++ (packet ++ more) ≡ concat t.before ++ drop later octets =
-    ap (λ l. concat s.before ++ l) begins ∙ sym s.end_to_end ∙ ap (λ n. drop n octets) pointers ∙ t.end_to_end in
-    let here = s.here in
-    let there = t.here in
-    let offset = ends_by_offset s.before t.before packet more (drop later octets) s.packets t.packets p same (omega arith) in
-    omega arith
+ends_by_start octets first start later packet more s t less p begins = grind (arith, same_Some, ends_by_offset)
 
 -- the octets of a packet that is delivered in its own frame
 begins_in_frame : (view : TmView) (octets : List ℕ) (run : List TmView) (packet : List ℕ) (d : IsDeliveredBy view octets run packet) → length run ≡ 0
     → packet ++ d.ends.0 ≡ octets
-begins_in_frame view octets run packet d none =
-    d.ends.1 ∙ ap (reassembly octets) (nil_from_length run none) ∙ append-nil octets
+begins_in_frame view octets run packet d none = grind (arith, nil_from_length, append-nil)
 
 apart_in_one_frame : (channel : List TmView) (d e : Delivery) → IsDelivery channel d → IsDelivery channel e → d.frame ≡ e.frame → d.start < e.start
     → start_offset channel d + length d.packet ≤ start_offset channel e
@@ -196,8 +187,7 @@ offset_is channel d is_d =
     ap (λ l. length (reassembly [] l) + d.start) before
 
 agreeing_some : (ends : Bool) (place pointer : ℕ) → (if ends then Some place else None) ≡ Some pointer → place ≡ pointer
-agreeing_some true place pointer e = same_Some place pointer e
-agreeing_some false place pointer e = absurd (cc)
+agreeing_some ends place pointer e = grind (arith, same_Some)
 
 -- a packet ends before the pointer of a frame after its start, or at it
 ends_by_pointer : (view : TmView) (octets : List ℕ) (run after : List TmView) (packet : List ℕ) (earlier : List TmView) (next : TmView) (later : List TmView)
@@ -241,5 +231,4 @@ apart_in_later_frame channel d e is_d is_e less =
     omega arith
 
 pub none_overlap : NoneOverlap
-none_overlap channel d e is_d is_e (inl less) = apart_in_later_frame channel d e is_d is_e less
-none_overlap channel d e is_d is_e (inr same) = apart_in_one_frame channel d e is_d is_e same.0 same.1
+none_overlap channel d e is_d is_e before = grind (arith, apart_in_later_frame, apart_in_one_frame)

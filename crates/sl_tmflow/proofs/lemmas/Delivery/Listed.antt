@@ -62,9 +62,7 @@ each_is_delivery channel =
 
 -- the outcome of a delivery's start is the delivery
 pub delivery_outcome : (channel : List TmView) (d : Delivery) (is_d : IsDelivery channel d) → outcome_of is_d.view (drop d.start (packet_data is_d.view)) (is_d.run ++ is_d.after) ≡ Completes d.packet (length is_d.run)
-delivery_outcome channel d is_d =
-    subst (λ field. outcome_of is_d.view (drop d.start (data_of field)) (is_d.run ++ is_d.after) ≡ Completes d.packet (length is_d.run)) (sym is_d.field)
-    (delivered_outcome is_d.view (drop d.start is_d.octets) is_d.run is_d.after d.packet is_d.delivered)
+delivery_outcome channel d is_d = grind (arith, delivered_outcome)
 
 pub each_is_listed : EachIsListed
 each_is_listed channel d is_d =
@@ -77,8 +75,7 @@ each_is_listed channel d is_d =
 
 pub in_order-append : (xs ys : List Delivery) → AreInOrder xs → AreInOrder ys → AllByRecursion (λ x. AllByRecursion (StartsBefore x) ys) xs → AreInOrder (xs ++ ys)
 in_order-append [] ys left right between = right
-in_order-append (x ∷ xs) ys left right between =
-    (each-append (StartsBefore x) xs ys left.0 between.0, in_order-append xs ys left.1 right between.1)
+in_order-append (x ∷ xs) ys left right between = grind (arith, each-append, in_order-append xs ys left.1 right between.1)
 
 -- a delivery from this start in this frame
 abbrev IsFrom : ℕ → ℕ → Delivery → Type 0
@@ -89,28 +86,18 @@ abbrev IsPast : ℕ → ℕ → Delivery → Type 0
 IsPast frame start d = (d.frame ≡ frame) × (start < d.start)
 
 is_from : (frame start : ℕ) (outcome : Outcome) → AllByRecursion (IsFrom frame start) (delivery_of frame start outcome)
-is_from frame start (Completes packet passed) = ((refl, refl), tt)
-is_from frame start outcome = tt
+is_from frame start outcome = grind arith
 
 at_most_one : (frame start : ℕ) (outcome : Outcome) → AreInOrder (delivery_of frame start outcome)
-at_most_one frame start (Completes packet passed) = (tt, tt)
-at_most_one frame start outcome = tt
+at_most_one frame start outcome = grind arith
 
 past : (frame start : ℕ) (outcomes : ℕ → Outcome) (starts : List ℕ) → AllByRecursion (λ later. start < later) starts
     → AllByRecursion (IsPast frame start) (flat_map (λ s. delivery_of frame s (outcomes s)) starts)
-past frame start outcomes starts each =
-    each-flat_map (IsPast frame start) (λ s. delivery_of frame s (outcomes s)) starts
-    (each-weaker (λ later. start < later) (λ s. AllByRecursion (IsPast frame start) (delivery_of frame s (outcomes s)))
-    (λ s above. each-weaker (IsFrom frame s) (IsPast frame start) (λ d at. (at.0, omega (arith, at.1))) (delivery_of frame s (outcomes s)) (is_from frame s (outcomes s))) starts each)
+past frame start outcomes starts each = grind (arith, each-flat_map, each-weaker, is_from)
 
 in_order_starts : (frame : ℕ) (outcomes : ℕ → Outcome) (starts : List ℕ) → AreRising starts → AreInOrder (flat_map (λ s. delivery_of frame s (outcomes s)) starts)
 in_order_starts frame outcomes [] rising = tt
-in_order_starts frame outcomes (start ∷ starts) rising =
-    let later : List Delivery = flat_map (λ s. delivery_of frame s (outcomes s)) starts in
-    in_order-append (delivery_of frame start (outcomes start)) later (at_most_one frame start (outcomes start)) (in_order_starts frame outcomes starts rising.1)
-    (each-weaker (IsFrom frame start) (λ d. AllByRecursion (StartsBefore d) later)
-    (λ d at. each-weaker (IsPast frame start) (StartsBefore d) (λ e beyond. inr (at.0 ∙ sym beyond.0, omega (arith, at.1, beyond.1))) later (past frame start outcomes starts rising.0))
-    (delivery_of frame start (outcomes start)) (is_from frame start (outcomes start)))
+in_order_starts frame outcomes (start ∷ starts) rising = grind (arith, in_order-append, at_most_one, each-weaker, past, is_from, in_order_starts frame outcomes starts rising.1)
 
 frame_in_order : (frame : ℕ) (view : TmView) (later : List TmView) → AreInOrder (frame_deliveries frame view later)
 frame_in_order frame view later =
@@ -118,27 +105,16 @@ frame_in_order frame view later =
 
 -- the deliveries of a frame are of that frame
 pub each_of_frame : (frame : ℕ) (view : TmView) (later : List TmView) → AllByRecursion (λ d. d.frame ≡ frame) (frame_deliveries frame view later)
-each_of_frame frame view later =
-    each-flat_map (λ d. d.frame ≡ frame) (delivery_at frame view later) (starts_of view.field)
-    (each-every (λ start. AllByRecursion (λ d. d.frame ≡ frame) (delivery_at frame view later start))
-    (λ start. each-weaker (IsFrom frame start) (λ d. d.frame ≡ frame) (λ d at. at.0) (delivery_at frame view later start) (is_from frame start (outcome_of view (drop start (packet_data view)) later))) (starts_of view.field))
+each_of_frame frame view later = grind (arith, each-flat_map, each-every, each-weaker, is_from)
 
 -- the deliveries of the frame of a number and of later frames have this number or a greater one
 pub each_from_frame : (frame : ℕ) (channel : List TmView) → AllByRecursion (λ d. frame ≤ d.frame) (deliveries_from frame channel)
 each_from_frame frame [] = tt
-each_from_frame frame (view ∷ later) =
-    each-append (λ d. frame ≤ d.frame) (frame_deliveries frame view later) (deliveries_from (frame + 1) later)
-    (each-weaker (λ d. d.frame ≡ frame) (λ d. frame ≤ d.frame) (λ d same. omega arith) (frame_deliveries frame view later) (each_of_frame frame view later))
-    (each-weaker (λ d. frame + 1 ≤ d.frame) (λ d. frame ≤ d.frame) (λ d above. omega arith) (deliveries_from (frame + 1) later) (each_from_frame (frame + 1) later))
+each_from_frame frame (view ∷ later) = grind (arith, each-append, each-weaker, each_of_frame, each_from_frame (frame + 1) later)
 
 in_order_from : (frame : ℕ) (channel : List TmView) → AreInOrder (deliveries_from frame channel)
 in_order_from frame [] = tt
-in_order_from frame (view ∷ later) =
-    let rest : List Delivery = deliveries_from (frame + 1) later in
-    in_order-append (frame_deliveries frame view later) rest (frame_in_order frame view later) (in_order_from (frame + 1) later)
-    (each-weaker (λ d. d.frame ≡ frame) (λ d. AllByRecursion (StartsBefore d) rest)
-    (λ d same. each-weaker (λ e. frame + 1 ≤ e.frame) (StartsBefore d) (λ e above. inl (omega arith)) rest (each_from_frame (frame + 1) later))
-    (frame_deliveries frame view later) (each_of_frame frame view later))
+in_order_from frame (view ∷ later) = grind (arith, in_order-append, frame_in_order, each-weaker, each_from_frame, each_of_frame, in_order_from (frame + 1) later)
 
 pub are_in_order : DeliveriesAreInOrder
 are_in_order channel = in_order_from 0 channel

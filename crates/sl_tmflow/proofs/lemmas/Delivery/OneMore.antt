@@ -29,24 +29,16 @@ with_next passed last next Undelivered = Undelivered
 
 with_next-step : (step : Continuation) (n passed : ℕ) (last next : TmView) (outcome : Outcome)
     → after_step step n (with_next passed last next outcome) ≡ with_next passed last next (after_step step n outcome)
-with_next-step (Ends packet) n passed last next outcome = refl
-with_next-step Continues n passed last next outcome = refl
-with_next-step Breaks n passed last next outcome = refl
+with_next-step step n passed last next outcome = grind arith
 
 outcome_after-push : (n : ℕ) (view : TmView) (octets : List ℕ) (later : List TmView) (next : TmView) (passed : ℕ) → n + (length later + 1) ≡ passed
     → outcome_after n view octets (later ++ next ∷ []) ≡ with_next passed (last_of view later) next (outcome_after n view octets later)
-outcome_after-push n view octets [] next passed counted =
-    let same : n + 1 ≡ passed = omega arith in
-    ap (λ k. after_step (step_of view octets next) k (StillIncomplete (octets ++ packet_data next))) same
-outcome_after-push n view octets (v ∷ later) next passed counted =
-    ap (after_step (step_of view octets v) (n + 1)) (outcome_after-push (n + 1) v (octets ++ packet_data v) later next passed (omega arith))
-    ∙ with_next-step (step_of view octets v) (n + 1) passed (last_of v later) next (outcome_after (n + 1) v (octets ++ packet_data v) later)
+outcome_after-push n view octets [] next passed counted = grind (arith)
+outcome_after-push n view octets (v ∷ later) next passed counted = grind (arith, with_next-step, outcome_after-push (n + 1) v (octets ++ packet_data v) later next passed (omega arith))
 
 front-push : (f : Front) (view : TmView) (octets : List ℕ) (later : List TmView) (next : TmView)
     → outcome_of_front f view octets (later ++ next ∷ []) ≡ with_next (length later + 1) (last_of view later) next (outcome_of_front f view octets later)
-front-push OtherVersion view octets later next = refl
-front-push Incomplete view octets later next = outcome_after-push 0 view octets later next (length later + 1) (omega arith)
-front-push (WholePacket len) view octets later next = refl
+front-push f view octets later next = grind (arith, outcome_after-push)
 
 pub outcome_of-push : (view : TmView) (octets : List ℕ) (later : List TmView) (next : TmView)
     → outcome_of view octets (later ++ next ∷ []) ≡ with_next (length later + 1) (last_of view later) next (outcome_of view octets later)
@@ -65,14 +57,10 @@ abbrev pub carried_into : TmView → TmView → List ℕ → List (List ℕ)
 carried_into last next octets = carried (step_of last octets next) (octets ++ packet_data next)
 
 carried_step : (s : Continuation) (passed : ℕ) (octets : List ℕ) → carried s octets ++ [] ≡ incomplete_octets (after_step s passed (StillIncomplete octets))
-carried_step (Ends packet) passed octets = refl
-carried_step Continues passed octets = refl
-carried_step Breaks passed octets = refl
+carried_step s passed octets = grind arith
 
 incomplete_with_next : (passed : ℕ) (last next : TmView) (outcome : Outcome) → flat_map (carried_into last next) (incomplete_octets outcome) ≡ incomplete_octets (with_next passed last next outcome)
-incomplete_with_next passed last next (Completes packet n) = refl
-incomplete_with_next passed last next (StillIncomplete octets) = carried_step (step_of last octets next) passed (octets ++ packet_data next)
-incomplete_with_next passed last next Undelivered = refl
+incomplete_with_next passed last next outcome = grind (arith, carried_step)
 
 frame_incomplete-push : (view : TmView) (later : List TmView) (next : TmView)
     → flat_map (carried_into (last_of view later) next) (frame_incomplete view later) ≡ frame_incomplete view (later ++ next ∷ [])
@@ -95,16 +83,8 @@ module _ (go_on : TmView → List ℕ → List (List ℕ)) (number : ℕ) (of : 
     → of frame (view ∷ later) ≡ flat_map (go_on (last_of view later)) (frame_incomplete view later) ++ of (frame + 1) later) where
   pub by_frames : (frame : ℕ) (before : List TmView) (last : TmView) → frame + length (before ++ last ∷ []) ≡ number
       → of frame (before ++ last ∷ []) ≡ flat_map (go_on last) (incomplete_of (before ++ last ∷ [])) ++ end
-  by_frames frame [] last counted =
-      let next : frame + 1 ≡ number = omega arith in
-      step frame last [] (omega arith)
-      ∙ ap₂ (λ xs ys. xs ++ ys) (ap (flat_map (go_on last)) (sym (incomplete_first last))) (ap (λ n. of n []) next ∙ stop)
-  by_frames frame (view ∷ before) last counted =
-      let later = before ++ last ∷ [] in
-      step frame view later (omega arith)
-      ∙ ap₂ (λ xs ys. xs ++ ys) (ap (λ v. flat_map (go_on v) (frame_incomplete view later)) (last_of-push view before last)) (by_frames (frame + 1) before last (omega arith))
-      ∙ sym (append_assoc (flat_map (go_on last) (frame_incomplete view later)) (flat_map (go_on last) (incomplete_of later)) end)
-      ∙ ap (λ l. l ++ end) (sym (flat_map-append (go_on last) (frame_incomplete view later) (incomplete_of later)))
+  by_frames frame [] last counted = grind (arith, incomplete_first)
+  by_frames frame (view ∷ before) last counted = grind (arith, last_of-push, append_assoc, flat_map-append, by_frames (frame + 1) before last (omega arith))
 
 -- after each other frame, the incomplete packet is the one that goes on, or starts in this frame
 pub incomplete_next : (before : List TmView) (last next : TmView)
@@ -120,40 +100,30 @@ abbrev pub packets_at : ℕ → List Delivery → List (List ℕ)
 packets_at number deliveries = packets_delivered (ending_in number deliveries)
 
 pub packets_at-append : (number : ℕ) (xs ys : List Delivery) → packets_at number (xs ++ ys) ≡ packets_at number xs ++ packets_at number ys
-packets_at-append number xs ys =
-    ap packets_delivered (filter-append (λ d. d.ending == number) xs ys)
-    ∙ map-append (λ d. d.packet) (ending_in number xs) (ending_in number ys)
+packets_at-append number xs ys = grind (arith, filter-append, map-append)
 
 ends_there : (number frame start : ℕ) (packet : List ℕ) (passed : ℕ) → frame + passed ≡ number
     → packets_at number (delivery_of frame start (Completes packet passed)) ≡ packet ∷ []
-ends_there number frame start packet passed same =
-    ap (λ b. packets_delivered (cond b (delivery_with frame start (frame + passed) packet ∷ []) [])) (eq-eqb (frame + passed) number same)
+ends_there number frame start packet passed same = grind (arith, eq-eqb)
 
 ends_elsewhere : (number frame start : ℕ) (packet : List ℕ) (passed : ℕ) → (frame + passed ≡ number → ⊥)
     → packets_at number (delivery_of frame start (Completes packet passed)) ≡ []
-ends_elsewhere number frame start packet passed other =
-    ap (λ b. packets_delivered (cond b (delivery_with frame start (frame + passed) packet ∷ []) [])) (ne_eqb (frame + passed) number other)
+ends_elsewhere number frame start packet passed other = grind (arith, ne_eqb)
 
 -- ---- the packets that lie whole in the last frame
 
 pub at_last : (frame start : ℕ) (view : TmView) (octets : List ℕ) (f : Front)
     → packets_at frame (delivery_of frame start (outcome_of_front f view octets [])) ≡ whole_at f octets
-at_last frame start view octets OtherVersion = refl
-at_last frame start view octets Incomplete = refl
-at_last frame start view octets (WholePacket len) = ends_there frame frame start (take len octets) 0 (omega arith)
+at_last frame start view octets f = grind (arith, ends_there)
 
 packet_first : (packet more : List ℕ) → IsPacket packet → whole_at (front (packet ++ more)) (packet ++ more) ≡ packet ∷ []
-packet_first packet more p =
-    ap (λ f. whole_at f (packet ++ more)) (packet_is_whole packet more p) ∙ ap (λ l. l ∷ []) (take_at packet more (length packet) refl)
+packet_first packet more p = grind (arith, packet_is_whole, take_at)
 
 none_first : (octets : List ℕ) (f : Front) → ((len : ℕ) → f ≡ WholePacket len → ⊥) → whole_at f octets ≡ []
-none_first octets OtherVersion none = refl
-none_first octets Incomplete none = refl
-none_first octets (WholePacket len) none = absurd (none len refl)
+none_first octets f none = grind arith
 
 none_at_rest : (rest : List ℕ) → ((len : ℕ) → front rest ≡ WholePacket len → ⊥) → at_rest (λ l. whole_at (front l) l) rest ≡ []
-none_at_rest [] none = refl
-none_at_rest (octet ∷ rest) none = none_first (octet ∷ rest) (front (octet ∷ rest)) none
+none_at_rest rest none = grind (arith, none_first)
 
 at_last_field : (frame : ℕ) (view : TmView) (field : DataField) → packets_at frame (field_deliveries frame view [] field) ≡ whole_packets field
 at_last_field frame view (Packets None octets) = refl
@@ -180,20 +150,13 @@ ended_in last next octets = ended (step_of last octets next)
 
 step_ending : (number frame start : ℕ) (s : Continuation) (passed : ℕ) (octets : List ℕ) → frame + passed ≡ number
     → packets_at number (delivery_of frame start (after_step s passed (StillIncomplete octets))) ≡ ended s ++ []
-step_ending number frame start (Ends packet) passed octets here = ends_there number frame start packet passed here
-step_ending number frame start Continues passed octets here = refl
-step_ending number frame start Breaks passed octets here = refl
+step_ending number frame start s passed octets here = grind (arith, ends_there)
 
 -- a packet that ended earlier doesn't end in the next frame
 ending_with_next : (number frame start : ℕ) (last next : TmView) (passed : ℕ) (outcome : Outcome)
     → frame + passed ≡ number → ((packet : List ℕ) (n : ℕ) → outcome ≡ Completes packet n → n + 1 ≤ passed)
     → packets_at number (delivery_of frame start (with_next passed last next outcome)) ≡ flat_map (ended_in last next) (incomplete_octets outcome)
-ending_with_next number frame start last next passed (Completes packet n) here earlier =
-    let before = earlier packet n refl in
-    ends_elsewhere number frame start packet n (λ same. absurd (omega arith))
-ending_with_next number frame start last next passed (StillIncomplete octets) here earlier =
-    step_ending number frame start (step_of last octets next) passed (octets ++ packet_data next) here
-ending_with_next number frame start last next passed Undelivered here earlier = refl
+ending_with_next number frame start last next passed outcome here earlier = grind (arith, ends_elsewhere, step_ending)
 
 ends_before : (view : TmView) (octets : List ℕ) (later : List TmView) (packet : List ℕ) (n : ℕ)
     → outcome_of view octets later ≡ Completes packet n → n + 1 ≤ length later + 1

@@ -19,11 +19,7 @@ use Rattle.sl_tmflow.proofs.lemmas.Incomplete.After.{IsIncompleteAfter, reassemb
 
 -- octets that begin a packet that isn't there whole are fewer than the packet has
 shorter_than_packet : (octets more packet rest : List ℕ) → IsPacket packet → octets ++ more ≡ packet ++ rest → front octets ≡ Incomplete → length octets < length packet
-shorter_than_packet octets more packet rest p same incomplete =
-    elim (cases_lt (length octets) (length packet)) [
-      | inl short ↦ short
-      | inr long ↦ absurd (incomplete_is_no_packet octets packet p incomplete (prefix_of_first octets more packet rest same long))
-    ]
+shorter_than_packet octets more packet rest p same incomplete = grind (arith, cases_lt, incomplete_is_no_packet, prefix_of_first)
 
 same_packets : (a b : Option ℕ) (xs ys : List ℕ) → Packets a xs ≡ Packets b ys → (a ≡ b) × (xs ≡ ys)
 same_packets a b xs ys same = (cc, cc)
@@ -32,32 +28,18 @@ same_packets a b xs ys same = (cc, cc)
 agreed_last : (octets : List ℕ) (next : TmView) (packet : List ℕ) (start : List ℕ) (run earlier : List TmView) (first : Option ℕ) (field : List ℕ)
     → EndsIn octets next.field packet → octets ≡ reassembly start run → run ≡ earlier → next.field ≡ Packets first field
     → first ≡ agreeing_pointer (length packet) (length (reassembly start earlier)) field
-agreed_last octets next packet start run earlier first field ending came same is =
-    let (pointer, carried) = same_packets ending.first first ending.carried field (sym ending.is_packets ∙ is) in
-    sym pointer ∙ ending.agrees
-    ∙ ap (λ l. agreeing_pointer (length packet) (length l) ending.carried) (came ∙ ap (reassembly start) same)
-    ∙ ap (agreeing_pointer (length packet) (length (reassembly start earlier))) carried
+agreed_last octets next packet start run earlier first field ending came same is = grind (arith, same_packets)
 
 -- the octets of a frame are among those that are reassembled
 reassembled_inside : (start : List ℕ) (earlier : List TmView) (next : TmView) (later : List TmView) (first : Option ℕ) (field : List ℕ) → next.field ≡ Packets first field
     → length (reassembly start earlier) + length field ≤ length (reassembly start (earlier ++ next ∷ later))
-reassembled_inside start earlier next later first field is =
-    let before = reassembly start earlier in
-    let carried : length (packet_data next) ≡ length field = ap (λ f. length (data_of f)) is in
-    let all : length (reassembly start (earlier ++ next ∷ later)) ≡ length before + (length (packet_data next) + length (concat (map packet_data later))) =
-    ap length (reassembly-append start earlier (next ∷ later)) ∙ length-append before (packet_data next ++ concat (map packet_data later))
-    ∙ ap (λ n. length before + n) (length-append (packet_data next) (concat (map packet_data later))) in
-    omega arith
+reassembled_inside start earlier next later first field is = grind (arith, reassembly-append, length-append)
 
 -- the pointer in an earlier frame
 agreed_earlier : (packet start : List ℕ) (run earlier : List TmView) (next : TmView) (later : List TmView) (first : Option ℕ) (field : List ℕ)
     → length (reassembly start run) < length packet → AllByRecursion HasNoStart run → run ≡ earlier ++ next ∷ later → next.field ≡ Packets first field
     → first ≡ agreeing_pointer (length packet) (length (reassembly start earlier)) field
-agreed_earlier packet start run earlier next later first field short none same is =
-    let no_start : HasNoStart next = each-among HasNoStart earlier next later (rw (← same) none) in
-    let inside = reassembled_inside start earlier next later first field is in
-    let long : length (reassembly start run) ≡ length (reassembly start (earlier ++ next ∷ later)) = ap (λ l. length (reassembly start l)) same in
-    no_start first field is ∙ sym (agreeing_none (length packet) (length (reassembly start earlier)) field (omega arith))
+agreed_earlier packet start run earlier next later first field short none same is = grind (arith, each-among, reassembled_inside, agreeing_none)
 
 pub ends_delivered : (view : TmView) (start : List ℕ) (run : List TmView) (last : TmView) (octets : List ℕ) (next : TmView) (packet : List ℕ)
     → IsIncompleteAfter view start run last octets → is_consecutive last next ≡ true → EndsIn octets next.field packet
@@ -96,9 +78,7 @@ pub record IsDeliveredWithin (view : TmView) (octets : List ℕ) (later : List T
 -- a step to a delivery: the packet ends here, or it goes on and ends later
 pub delivered_step : (s : Continuation) (passed : ℕ) (rest : Outcome) (packet : List ℕ) (n : ℕ) → after_step s passed rest ≡ Completes packet n
     → ((s ≡ Ends packet) × (passed ≡ n)) ⊎ ((s ≡ Continues) × (rest ≡ Completes packet n))
-delivered_step (Ends other) passed rest packet n e = inl (cc, cc)
-delivered_step Continues passed rest packet n e = inr (refl, e)
-delivered_step Breaks passed rest packet n e = absurd (cc)
+delivered_step s passed rest packet n e = grind arith
 
 pub delivered_after : (first : TmView) (start : List ℕ) (run : List TmView) (passed : ℕ) (view : TmView) (octets : List ℕ) (later : List TmView) (packet : List ℕ) (n : ℕ)
     → IsIncompleteAfter first start run view octets → passed ≡ length run → outcome_after passed view octets later ≡ Completes packet n
@@ -185,8 +165,7 @@ longer_than_before view octets next run packet d =
 -- where a packet takes another frame, it isn't whole before
 pub incomplete_before_more : (view : TmView) (octets : List ℕ) (next : TmView) (run : List TmView) (packet : List ℕ) → IsDeliveredBy view octets (next ∷ run) packet
     → front octets ≡ Incomplete
-incomplete_before_more view octets next run packet d =
-    incomplete_before_end octets (concat (map packet_data (next ∷ run))) packet d.ends.0 d.is_packet (sym d.ends.1) (longer_than_before view octets next run packet d)
+incomplete_before_more view octets next run packet d = grind (arith, incomplete_before_end, longer_than_before)
 
 agreed_first : (view : TmView) (octets : List ℕ) (next : TmView) (run : List TmView) (packet : List ℕ) (first : Option ℕ) (field : List ℕ)
     → IsDeliveredBy view octets (next ∷ run) packet → next.field ≡ Packets first field → first ≡ agreeing_pointer (length packet) (length octets) field

@@ -29,17 +29,14 @@ completed (StillIncomplete octets) = []
 completed Undelivered = []
 
 is_completed : (frame start : ℕ) (outcome : Outcome) → packets_delivered (delivery_of frame start outcome) ≡ completed outcome
-is_completed frame start (Completes packet passed) = refl
-is_completed frame start outcome = refl
+is_completed frame start outcome = grind arith
 
 delivered-append : (xs ys : List Delivery) → packets_delivered (xs ++ ys) ≡ packets_delivered xs ++ packets_delivered ys
 delivered-append xs ys = map-append (λ d. d.packet) xs ys
 
 at_packet : (view : TmView) (later : List TmView) (packet more : List ℕ) → IsPacket packet
     → completed (outcome_of view (packet ++ more) later) ≡ packet ∷ []
-at_packet view later packet more p =
-    ap (λ f. completed (outcome_of_front f view (packet ++ more) later)) (packet_is_whole packet more p)
-    ∙ ap (λ l. l ∷ []) (take_at packet more (length packet) refl)
+at_packet view later packet more p = grind (arith, packet_is_whole, take_at)
 
 -- the packets of a frame's starts: those that lie whole in the data field, and that of the octets after them
 pub from_pointer : (frame : ℕ) (view : TmView) (later : List TmView) (pointer : ℕ) (octets : List ℕ)
@@ -56,15 +53,11 @@ from_pointer frame view later pointer octets =
 -- ---- one more frame after a start
 
 step_more : (s : Continuation) (passed : ℕ) (octets : List ℕ) → completed (after_step s passed (StillIncomplete octets)) ≡ ended s ++ []
-step_more (Ends packet) passed octets = refl
-step_more Continues passed octets = refl
-step_more Breaks passed octets = refl
+step_more s passed octets = grind arith
 
 outcome_more : (passed : ℕ) (last next : TmView) (outcome : Outcome)
     → completed (with_next passed last next outcome) ≡ completed outcome ++ flat_map (ended_in last next) (incomplete_octets outcome)
-outcome_more passed last next (Completes packet n) = refl
-outcome_more passed last next (StillIncomplete octets) = step_more (step_of last octets next) passed (octets ++ packet_data next)
-outcome_more passed last next Undelivered = refl
+outcome_more passed last next outcome = grind (arith, step_more)
 
 rest_more : (view : TmView) (later : List TmView) (next : TmView) (rest : List ℕ)
     → at_rest (λ l. completed (outcome_of view l (later ++ next ∷ []))) rest
@@ -94,9 +87,7 @@ field_more frame view later next field = refl
 
 at_end : (frame start : ℕ) (view : TmView) (octets : List ℕ) (f : Front)
     → packets_delivered (delivery_of frame start (outcome_of_front f view octets [])) ≡ whole_at f octets
-at_end frame start view octets OtherVersion = refl
-at_end frame start view octets Incomplete = refl
-at_end frame start view octets (WholePacket len) = refl
+at_end frame start view octets f = grind arith
 
 -- a packet that starts in the last frame and is delivered ends in it
 last_frame : (frame : ℕ) (view : TmView) → packets_delivered (frame_deliveries frame view []) ≡ packets_at frame (frame_deliveries frame view [])
@@ -113,8 +104,7 @@ last_frame frame view =
 
 none_without_starts : (frame : ℕ) (channel : List TmView) → AllByRecursion HasNoStart channel → deliveries_from frame channel ≡ []
 none_without_starts frame [] none = refl
-none_without_starts frame (view ∷ later) none =
-    ap₂ (λ xs ys. xs ++ ys) (ap (flat_map (delivery_at frame view later)) (no_starts view view.field none.0 refl)) (none_without_starts (frame + 1) later none.1)
+none_without_starts frame (view ∷ later) none = grind (arith, no_starts, none_without_starts (frame + 1) later none.1)
 
 -- Either no packet of a frame is incomplete, or later frames deliver none, so the order of the two doesn't matter.
 no_later : (frame : ℕ) (view : TmView) (later : List TmView) (ends : List ℕ → List (List ℕ))
@@ -129,9 +119,7 @@ no_later frame view later ends =
 -- ---- one more frame
 
 between : {X : Type 0} (xs ys zs ws : List X) → ys ++ zs ≡ zs ++ ys → (xs ++ ys) ++ (zs ++ ws) ≡ (xs ++ zs) ++ (ys ++ ws)
-between xs ys zs ws same =
-    append_assoc xs ys (zs ++ ws) ∙ ap (λ l. xs ++ l) (sym (append_assoc ys zs ws) ∙ ap (λ l. l ++ ws) same ∙ append_assoc zs ys ws)
-    ∙ sym (append_assoc xs zs (ys ++ ws))
+between xs ys zs ws same = grind (arith, append_assoc)
 
 delivered_from : (number frame : ℕ) (channel : List TmView) (next : TmView) → frame + length channel ≡ number
     → packets_delivered (deliveries_from frame (channel ++ next ∷ []))
@@ -168,9 +156,7 @@ whole_few Idle = omega arith
 whole_few Opaque = omega arith
 
 step_few : (s : Continuation) → length (ended s) ≤ 1
-step_few (Ends packet) = omega arith
-step_few Continues = omega arith
-step_few Breaks = omega arith
+step_few s = grind arith
 
 -- no more packets end in a frame than it has octets of packets, and one
 pub ended_few : (channel : List TmView) (next : TmView) → length (packets_ending channel next) ≤ length (packet_data next) + 1

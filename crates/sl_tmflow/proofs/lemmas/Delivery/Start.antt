@@ -77,24 +77,15 @@ among_offsets : (offset start : ℕ) (before packets : List (List ℕ)) (rest : 
 among_offsets offset start [] [] [] here some = absurd (omega arith)
 among_offsets offset start [] [] (octet ∷ rest) here some = inl (omega arith)
 among_offsets offset start [] (packet ∷ packets) rest here some = inl (omega arith)
-among_offsets offset start (packet ∷ before) packets rest here some =
-    inr (among_offsets (offset + length packet) start before packets rest (omega (arith, length-append packet (concat before))) some)
+among_offsets offset start (packet ∷ before) packets rest here some = grind (arith, length-append, among_offsets (offset + length packet) start before packets rest (omega (arith, length-append packet (concat before))) some)
 
 among_starts : (field : List ℕ) (pointer start : ℕ) (before : List (List ℕ)) → AllByRecursion IsPacket before
     → drop pointer field ≡ concat before ++ drop start field → start ≡ pointer + length (concat before) → start < length field
     → IsAmong start (starts_from (Some pointer) field)
-among_starts field pointer start before packets parts here inside =
-    let later = packets_of (drop start field) in
-    let rest = rest_of (drop start field) in
-    let all : packets_of (drop pointer field) ≡ before ++ later = ap packets_of parts ∙ packets_of-concat before (drop start field) packets in
-    let left : rest_of (drop pointer field) ≡ rest = ap rest_of parts ∙ rest_of-concat before (drop start field) packets in
-    let some : 0 < length (concat later ++ rest) =
-    omega (arith, ap length (each_has_packets (drop start field)).end_to_end, length-drop start field) in
-    rw (left, all) (among_offsets pointer start before later rest here some)
+among_starts field pointer start before packets parts here inside = grind (arith, packets_of-concat, rest_of-concat, each_has_packets, length-drop, among_offsets)
 
 pub is_among : (field : List ℕ) (first : Option ℕ) (start : ℕ) → IsStart field first start → IsAmong start (starts_from first field)
-is_among field first start s =
-    subst (λ f. IsAmong start (starts_from f field)) (sym s.pointed) (among_starts field s.pointer start s.before s.packets s.end_to_end s.here s.inside)
+is_among field first start s = grind (arith, among_starts)
 
 -- ---- packet starts rise
 
@@ -120,9 +111,7 @@ starts_rise (Some pointer) field =
     offsets_rise pointer (packets_of (drop pointer field)) (rest_of (drop pointer field)) (each_has_packets (drop pointer field)).each
 
 pub field_starts_rise : (field : DataField) → AreRising (starts_of field)
-field_starts_rise (Packets first octets) = starts_rise first octets
-field_starts_rise Idle = tt
-field_starts_rise Opaque = tt
+field_starts_rise field = grind (arith, starts_rise)
 
 -- ---- lists of lists
 
@@ -130,8 +119,7 @@ field_starts_rise Opaque = tt
 pub flat_map-pieces : {X A B : Type 0} (h : List A → List B) → h [] ≡ [] → ((xs ys : List A) → h (xs ++ ys) ≡ h xs ++ h ys)
     → (f : X → List A) (g : X → List B) → ((x : X) → h (f x) ≡ g x) → (xs : List X) → h (flat_map f xs) ≡ flat_map g xs
 flat_map-pieces h none end_to_end f g each [] = none
-flat_map-pieces h none end_to_end f g each (x ∷ xs) =
-    end_to_end (f x) (flat_map f xs) ∙ ap₂ (λ ys zs. ys ++ zs) (each x) (flat_map-pieces h none end_to_end f g each xs)
+flat_map-pieces h none end_to_end f g each (x ∷ xs) = grind (arith, flat_map-pieces h none end_to_end f g each xs)
 
 -- ---- the starts of a data field
 
@@ -156,9 +144,7 @@ at_offsets f g at_packet octets offset (packet ∷ packets) rest each parts =
 pub at_starts : (f g : List ℕ → List (List ℕ)) → ((packet more : List ℕ) → IsPacket packet → f (packet ++ more) ≡ g packet) → (pointer : ℕ) (octets : List ℕ)
     → flat_map (λ start. f (drop start octets)) (starts_from (Some pointer) octets)
     ≡ flat_map g (packets_of (drop pointer octets)) ++ at_rest f (rest_of (drop pointer octets))
-at_starts f g at_packet pointer octets =
-    let has = each_has_packets (drop pointer octets) in
-    at_offsets f g at_packet octets pointer (packets_of (drop pointer octets)) (rest_of (drop pointer octets)) has.each has.end_to_end
+at_starts f g at_packet pointer octets = grind (arith, each_has_packets, at_offsets)
 
 -- no packet is whole in the octets after packets
 pub none_in_rest : (octets : List ℕ) (len : ℕ) → front (rest_of octets) ≡ WholePacket len → ⊥
@@ -210,5 +196,4 @@ module _ {X : Type 0} (at : ℕ → TmView → List TmView → ℕ → List X) (
 -- ---- frames in which no packet starts
 
 pub no_starts : (view : TmView) (field : DataField) → HasNoStart view → view.field ≡ field → starts_of field ≡ []
-no_starts view (Packets (Some pointer) octets) none is = absurd (let both = none (Some pointer) octets is in cc)
-no_starts view field none is = refl
+no_starts view field none is = grind arith

@@ -57,26 +57,19 @@ incomplete_before octets more incomplete = cases (front octets) refl
 
 -- where no packet is whole, none lies at the front
 pub incomplete_is_no_packet : (octets packet : List ℕ) → IsPacket packet → front octets ≡ Incomplete → IsPrefix packet octets → ⊥
-incomplete_is_no_packet octets packet p incomplete prefix =
-    let both : Incomplete ≡ WholePacket (length packet) = sym incomplete ∙ ap front (sym prefix.1) ∙ packet_is_whole packet prefix.0 p in
-    cc
+incomplete_is_no_packet octets packet p incomplete prefix = grind (arith, packet_is_whole)
 
 -- ---- pointers
 
 same_pointers : (a b : Option ℕ) → option_eq nat_eq a b ≡ true → a ≡ b
-same_pointers None None same = refl
-same_pointers None (Some b) same = absurd (cc)
-same_pointers (Some a) None same = absurd (cc)
-same_pointers (Some a) (Some b) same = ap Some (eqb-true a b same)
+same_pointers a b same = grind (arith, eqb-true)
 
 pointers_same : (a : Option ℕ) → option_eq nat_eq a a ≡ true
-pointers_same None = refl
-pointers_same (Some a) = eq-eqb a a refl
+pointers_same a = grind (arith, eq-eqb)
 
 -- a packet that covers a data field to its end agrees with no pointer
 pub agreeing_none : (len before : ℕ) (field : List ℕ) → before + length field ≤ len → agreeing_pointer len before field ≡ None
-agreeing_none len before field covered =
-    ap (λ b. if b then Some (len - before) else None) (le-ltb len (before + length field) covered)
+agreeing_none len before field covered = grind (arith, le-ltb)
 
 -- ---- the three steps
 
@@ -96,20 +89,14 @@ pub record GoesOnPast (octets : List ℕ) (field : DataField) : Type 0 where
   pub incomplete : front (octets ++ data_of field) ≡ Incomplete
 
 ends_test : (b : Bool) (whole packet : List ℕ) → (if b then Ends whole else Breaks) ≡ Ends packet → (b ≡ true) × (whole ≡ packet)
-ends_test true whole packet e = (refl, cc)
-ends_test false whole packet e = absurd (cc)
+ends_test b whole packet e = grind arith
 
 no_end : (first : Option ℕ) (packet : List ℕ) → (if is_some first then Breaks else Continues) ≡ Ends packet → ⊥
-no_end None packet e = cc
-no_end (Some first) packet e = cc
+no_end first packet e = grind arith
 
 front_ends : (first : Option ℕ) (before : ℕ) (field all : List ℕ) (f : Front) (packet : List ℕ) → front_step first before field all f ≡ Ends packet
     → (len : ℕ) × (f ≡ WholePacket len) × (first ≡ agreeing_pointer len before field) × (take len all ≡ packet)
-front_ends first before field all OtherVersion packet e = absurd (cc)
-front_ends first before field all Incomplete packet e = absurd (no_end first packet e)
-front_ends first before field all (WholePacket len) packet e =
-    let test = ends_test (option_eq nat_eq first (agreeing_pointer len before field)) (take len all) packet e in
-    (len, refl, same_pointers first (agreeing_pointer len before field) test.0, test.1)
+front_ends first before field all f packet e = grind (arith, no_end, ends_test, same_pointers)
 
 pub field_ends : (octets : List ℕ) (field : DataField) (packet : List ℕ) → field_step octets field ≡ Ends packet → EndsIn octets field packet
 field_ends octets (Packets first carried) packet e =
@@ -128,46 +115,23 @@ field_ends octets Idle packet e = absurd (cc)
 field_ends octets Opaque packet e = absurd (cc)
 
 pub ends_field : (octets : List ℕ) (field : DataField) (packet : List ℕ) → EndsIn octets field packet → field_step octets field ≡ Ends packet
-ends_field octets field packet ending =
-    let all : octets ++ ending.carried ≡ packet ++ ending.ends.0 = sym ending.ends.1 in
-    let is_whole : front (octets ++ ending.carried) ≡ WholePacket (length packet) = ap front all ∙ packet_is_whole packet ending.ends.0 ending.is_packet in
-    let test : option_eq nat_eq ending.first (agreeing_pointer (length packet) (length octets) ending.carried) ≡ true =
-    ap (λ first. option_eq nat_eq first (agreeing_pointer (length packet) (length octets) ending.carried)) ending.agrees
-    ∙ pointers_same (agreeing_pointer (length packet) (length octets) ending.carried) in
-    ap (field_step octets) ending.is_packets
-    ∙ ap (front_step ending.first (length octets) ending.carried (octets ++ ending.carried)) is_whole
-    ∙ ap (λ b. if b then Ends (take (length packet) (octets ++ ending.carried)) else Breaks) test
-    ∙ ap (λ l. Ends (take (length packet) l)) all ∙ ap Ends (take_at packet ending.ends.0 (length packet) refl)
+ends_field octets field packet ending = grind (arith, packet_is_whole, pointers_same, take_at)
 
 continues_test : (b : Bool) (whole : List ℕ) → (if b then Ends whole else Breaks) ≡ Continues → ⊥
-continues_test true whole e = cc
-continues_test false whole e = cc
+continues_test b whole e = grind arith
 
 no_pointer : (first : Option ℕ) → (if is_some first then Breaks else Continues) ≡ Continues → first ≡ None
-no_pointer None e = refl
-no_pointer (Some first) e = absurd (cc)
+no_pointer first e = grind arith
 
 front_continues : (first : Option ℕ) (before : ℕ) (field all : List ℕ) (f : Front) → front_step first before field all f ≡ Continues
     → (f ≡ Incomplete) × (first ≡ None)
-front_continues first before field all OtherVersion e = absurd (cc)
-front_continues first before field all Incomplete e = (refl, no_pointer first e)
-front_continues first before field all (WholePacket len) e =
-    absurd (continues_test (option_eq nat_eq first (agreeing_pointer len before field)) (take len all) e)
+front_continues first before field all f e = grind (arith, no_pointer, continues_test)
 
 pub field_continues : (octets : List ℕ) (field : DataField) → front octets ≡ Incomplete → field_step octets field ≡ Continues → GoesOnPast octets field
-field_continues octets (Packets first carried) incomplete e =
-    let step = front_continues first (length octets) carried (octets ++ carried) (front (octets ++ carried)) e in
-    record { is_read = λ same. cc; no_start = λ first' carried' same. let p : first' ≡ first = cc in p ∙ step.1; incomplete = step.0 }
-field_continues octets Idle incomplete e =
-    record { is_read = λ same. cc; no_start = λ first carried same. absurd (cc); incomplete = ap front (append-nil octets) ∙ incomplete }
-field_continues octets Opaque incomplete e = absurd (cc)
+field_continues octets field incomplete e = grind (arith, front_continues, append-nil)
 
 pub continues_field : (octets : List ℕ) (field : DataField) → GoesOnPast octets field → field_step octets field ≡ Continues
-continues_field octets (Packets first carried) past =
-    ap (front_step first (length octets) carried (octets ++ carried)) past.incomplete
-    ∙ ap (λ p. if is_some p then Breaks else Continues) (past.no_start first carried refl)
-continues_field octets Idle past = refl
-continues_field octets Opaque past = absurd (past.is_read refl)
+continues_field octets field past = grind arith
 
 -- the next frame is consecutive where its step isn't a break
 pub step_ends : (view : TmView) (octets : List ℕ) (next : TmView) (packet : List ℕ) → step_of view octets next ≡ Ends packet
@@ -186,14 +150,8 @@ ends_step view octets next packet consecutive ending =
 
 pub step_continues : (view : TmView) (octets : List ℕ) (next : TmView) → front octets ≡ Incomplete → step_of view octets next ≡ Continues
     → (is_consecutive view next ≡ true) × GoesOnPast octets next.field
-step_continues view octets next incomplete e = cases (is_consecutive view next) refl e
-  where
-    cases : (b : Bool) → is_consecutive view next ≡ b → (if b then field_step octets next.field else Breaks) ≡ Continues
-        → (is_consecutive view next ≡ true) × GoesOnPast octets next.field
-    cases true test s = (test, field_continues octets next.field incomplete s)
-    cases false test s = absurd (cc)
+step_continues view octets next incomplete e = grind (arith, field_continues)
 
 pub continues_step : (view : TmView) (octets : List ℕ) (next : TmView) → is_consecutive view next ≡ true → GoesOnPast octets next.field
     → step_of view octets next ≡ Continues
-continues_step view octets next consecutive past =
-    ap (λ b. if b then field_step octets next.field else Breaks) consecutive ∙ continues_field octets next.field past
+continues_step view octets next consecutive past = grind (arith, continues_field)

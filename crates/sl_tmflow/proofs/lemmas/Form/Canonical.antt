@@ -28,8 +28,7 @@ use Rattle.sl_tmflow.proofs.lemmas.Form.FieldStart.{each_pointer_is_least}
 
 -- the first packet start of a data field lies in it
 start_inside : (room number : ℕ) (offsets : List ℕ) (first : Option ℕ) → IsLeastStart room number offsets first → IfSome first (λ offset. offset < room)
-start_inside room number offsets None least = tt
-start_inside room number offsets (Some first) least = let lies = least.1 in let below = lies.below in omega arith
+start_inside room number offsets first least = grind arith
 
 -- the room of a data field
 pub wide_room : (format : TmFormat) → IsFormat format → 24 ≤ field_room_of format
@@ -40,8 +39,7 @@ short_room format is = let most = is.most in omega arith
 
 -- each frame of a virtual channel has this virtual channel
 each_of_channel : (room vc mc : ℕ) (packets : List (List ℕ)) (many number : ℕ) → AllByRecursion (λ view. view.vc ≡ vc) (views_from room vc mc packets number many)
-each_of_channel room vc mc packets many number =
-    each-map (λ view. view.vc ≡ vc) (view_at room vc mc packets) (range_with_len number many) (each-every (λ number. vc ≡ vc) (λ number. refl) (range_with_len number many))
+each_of_channel room vc mc packets many number = grind (arith, each-map, each-every)
 
 -- a format's frames of packets, for a spacecraft, are such
 abbrev EachFrameIs : TmFormat → ℕ → (List ℕ → Type 0) → Type 0
@@ -67,35 +65,16 @@ module _ (format : TmFormat) (spacecraft vc mc : ℕ) (packets : List (List ℕ)
 
   frame_fits : (number : ℕ) → number < count
       → FitFrame format spacecraft vc ((mc + number) % 256) (number % 256) (first_of room number (packet_offsets 0 packets [])) (data_field_of room number (concat packets))
-  frame_fits number below =
-      let wide = wide_room format is in
-      record {
-        least = is.least;
-        most = is.most;
-        spacecraft_fits = fits;
-        vc_fits = vc_fits;
-        mc_fits = mod_below (mc + number) 256 (omega arith);
-        vcc_fits = mod_below number 256 (omega arith);
-        points_inside = start_inside room number (packet_offsets 0 packets []) (first_of room number (packet_offsets 0 packets [])) (each_pointer_is_least room number packets (omega (arith, wide)));
-        fills = field_filled number below;
-      }
+  frame_fits number below = grind (arith, wide_room, mod_below, start_inside, each_pointer_is_least, field_filled)
 
   -- what is so of each frame that fits is so of all
   frames_each : (P : List ℕ → Type 0) → EachFrameIs format spacecraft P → (many number : ℕ) → number + many ≤ count → AllByRecursion P (frames number many)
   frames_each P each zero number inside = tt
-  frames_each P each (suc many) number inside = (
-    each vc ((mc + number) % 256) (number % 256) (first_of room number (packet_offsets 0 packets [])) (data_field_of room number (concat packets))
-        (frame_fits number (omega (arith, inside))),
-    frames_each P each many (number + 1) (omega (arith, inside)),
-  )
+  frames_each P each (suc many) number inside = grind (arith, frame_fits, frames_each P each many (number + 1) (omega (arith, inside)))
 
   frames_back : (many number : ℕ) → number + many ≤ count → views_of format spacecraft (frames number many) ≡ views_from room vc mc packets number many
   frames_back zero number inside = refl
-  frames_back (suc many) number inside =
-      let fit = frame_fits number (omega (arith, inside)) in
-      ap₂ (λ read views. cons_option (result_ok read) views)
-      (packet_frame_back format spacecraft vc ((mc + number) % 256) (number % 256) (first_of room number (packet_offsets 0 packets [])) (data_field_of room number (concat packets)) fit)
-      (frames_back many (number + 1) (omega (arith, inside)))
+  frames_back (suc many) number inside = grind (arith, frame_fits, packet_frame_back, frames_back many (number + 1) (omega (arith, inside)))
 
 -- ---- the frames of a virtual channel
 
@@ -107,9 +86,7 @@ channel_views format vc mc packets =
     views_from room vc mc filled 0 (length (concat filled) / room)
 
 pub channel_of_own : (format : TmFormat) (vc mc : ℕ) (packets : List (List ℕ)) → AllByRecursion (λ view. view.vc ≡ vc) (channel_views format vc mc packets)
-channel_of_own format vc mc packets =
-    let filled = with_filling (field_room_of format) packets in
-    each_of_channel (field_room_of format) vc mc filled (length (concat filled) / field_room_of format) 0
+channel_of_own format vc mc packets = grind (arith, each_of_channel)
 
 module _ (format : TmFormat) (spacecraft vc mc : ℕ) (packets : List (List ℕ)) (is : IsFormat format) (fits : spacecraft ≤ 1023) (vc_fits : vc ≤ 7)
     (each : AllByRecursion IsDeliverable packets) where
@@ -120,17 +97,10 @@ module _ (format : TmFormat) (spacecraft vc mc : ℕ) (packets : List (List ℕ)
   frame_count = length (concat filled) / field_room_of format
 
   filled_each : AllByRecursion IsPacket filled
-  filled_each =
-      let wide = wide_room format is in
-      let fill = filling_is (field_room_of format) (length (concat packets)) (omega (arith, wide)) (omega (arith, short_room format is)) in
-      each-append IsPacket packets (filling (field_room_of format) (length (concat packets))) (due_packets packets each) fill.0
+  filled_each = grind (arith, wide_room, filling_is, short_room, each-append, due_packets)
 
   pub filled_size : length (concat filled) ≡ frame_count * field_room_of format
-  filled_size =
-      let wide = wide_room format is in
-      let parts = div-add-mod' (length (concat filled)) (field_room_of format) in
-      let none = filled_whole (field_room_of format) packets (omega (arith, wide)) (omega (arith, short_room format is)) in
-      omega arith
+  filled_size = grind (arith, wide_room, div-add-mod', filled_whole, short_room)
 
   channel_each : (P : List ℕ → Type 0) → EachFrameIs format spacecraft P → AllByRecursion P (channel_frames format spacecraft vc mc packets)
   channel_each P each_is = frames_each format spacecraft vc mc filled frame_count is fits vc_fits filled_size P each_is frame_count 0 (omega arith)
@@ -139,20 +109,15 @@ module _ (format : TmFormat) (spacecraft vc mc : ℕ) (packets : List (List ℕ)
   channel_back = frames_back format spacecraft vc mc filled frame_count is fits vc_fits filled_size frame_count 0 (omega arith)
 
   pub channel_delivers : without_idle (packets_delivered (deliveries_of (channel_views format vc mc packets))) ≡ packets
-  channel_delivers =
-      let wide = wide_room format is in
-      ap without_idle (all_delivered (field_room_of format) vc mc filled frame_count (omega (arith, wide)) filled_each filled_size)
-      ∙ filled_without_idle (field_room_of format) packets (omega (arith, wide)) (omega (arith, short_room format is)) each
+  channel_delivers = grind (arith, wide_room, all_delivered, filled_each, filled_size, filled_without_idle, short_room)
 
 -- ---- the frames of all virtual channels
 
 of_none : (vc : ℕ) (views : List TmView) → AllByRecursion (λ view. view.vc ≡ vc → ⊥) views → channel_of vc views ≡ []
-of_none vc views others =
-    filter_none (λ view. view.vc == vc) views (each-weaker (λ view. view.vc ≡ vc → ⊥) (λ view. (view.vc == vc) ≡ false) (λ view other. ne_eqb view.vc vc other) views others)
+of_none vc views others = grind (arith, filter_none, each-weaker, ne_eqb)
 
 of_all : (vc : ℕ) (views : List TmView) → AllByRecursion (λ view. view.vc ≡ vc) views → channel_of vc views ≡ views
-of_all vc views same =
-    filter_all (λ view. view.vc == vc) views (each-weaker (λ view. view.vc ≡ vc) (λ view. (view.vc == vc) ≡ true) (λ view same. eq-eqb view.vc vc same) views same)
+of_all vc views same = grind (arith, filter_all, each-weaker, eq-eqb)
 
 module _ (format : TmFormat) (spacecraft : ℕ) (is : IsFormat format) (fits : spacecraft ≤ 1023) where
   abbrev pub form_views : ℕ → ℕ → List (List (List ℕ)) → List TmView
@@ -175,10 +140,7 @@ module _ (format : TmFormat) (spacecraft : ℕ) (is : IsFormat format) (fits : s
   pub form_parts : (packets : List (List ℕ)) (lists : List (List (List ℕ))) (vc mc : ℕ) → vc ≤ 7 → AllByRecursion IsDeliverable packets
       → form_views vc mc (packets ∷ lists)
       ≡ channel_views format vc mc packets ++ form_views (vc + 1) (mc + length (channel_frames format spacecraft vc mc packets)) lists
-  form_parts packets lists vc mc inside each =
-      let frames = channel_frames format spacecraft vc mc packets in
-      filter_map-append (λ frame. result_ok (tm_frame format spacecraft frame)) frames (frames_from_channel format spacecraft (vc + 1) (mc + length frames) lists)
-      ∙ ap (λ views. views ++ form_views (vc + 1) (mc + length frames) lists) (channel_back format spacecraft vc mc packets is fits inside each)
+  form_parts packets lists vc mc inside each = grind (arith, filter_map-append, channel_back)
 
   pub form_above : (lists : List (List (List ℕ))) (vc mc : ℕ) → vc + length lists ≤ 8 → AllByRecursion (AllByRecursion IsDeliverable) lists
       → AllByRecursion (λ view. vc ≤ view.vc) (form_views vc mc lists)
@@ -194,22 +156,11 @@ module _ (format : TmFormat) (spacecraft : ℕ) (is : IsFormat format) (fits : s
   -- the frames of the first virtual channel, and those of another one
   pub first_channel : (packets : List (List ℕ)) (lists : List (List (List ℕ))) (vc mc : ℕ) → vc + 1 + length lists ≤ 8 → AllByRecursion IsDeliverable packets
       → AllByRecursion (AllByRecursion IsDeliverable) lists → channel_of vc (form_views vc mc (packets ∷ lists)) ≡ channel_views format vc mc packets
-  first_channel packets lists vc mc inside own each =
-      let views = channel_views format vc mc packets in
-      let rest = form_views (vc + 1) (next vc mc packets) lists in
-      ap (channel_of vc) (form_parts packets lists vc mc (omega (arith, inside)) own) ∙ filter-append (λ (view : TmView). view.vc == vc) views rest
-      ∙ ap₂ (λ xs ys. xs ++ ys) (of_all vc views (channel_of_own format vc mc packets))
-      (of_none vc rest (each-weaker (λ view. vc + 1 ≤ view.vc) (λ view. view.vc ≡ vc → ⊥) (λ view above same. omega arith) rest (form_above lists (vc + 1) (next vc mc packets) inside each)))
-      ∙ append-nil views
+  first_channel packets lists vc mc inside own each = grind (arith, form_parts, filter-append, of_all, channel_of_own, of_none, each-weaker, form_above, append-nil)
 
   pub other_channel : (packets : List (List ℕ)) (lists : List (List (List ℕ))) (vc mc v : ℕ) → vc ≤ 7 → AllByRecursion IsDeliverable packets → vc ≢ v
       → channel_of v (form_views vc mc (packets ∷ lists)) ≡ channel_of v (form_views (vc + 1) (next vc mc packets) lists)
-  other_channel packets lists vc mc v inside own other =
-      let views = channel_views format vc mc packets in
-      let rest = form_views (vc + 1) (next vc mc packets) lists in
-      ap (channel_of v) (form_parts packets lists vc mc inside own) ∙ filter-append (λ (view : TmView). view.vc == v) views rest
-      ∙ ap (λ l. l ++ channel_of v rest)
-      (of_none v views (each-weaker (λ view. view.vc ≡ vc) (λ view. view.vc ≡ v → ⊥) (λ view same e. other (sym same ∙ e)) views (channel_of_own format vc mc packets)))
+  other_channel packets lists vc mc v inside own other = grind (arith, form_parts, filter-append, of_none, each-weaker, channel_of_own)
 
   -- the frames of a virtual channel are those that its packets are divided into
   pub own_channel : (lists : List (List (List ℕ))) (vc mc v index : ℕ) → vc + length lists ≤ 8 → AllByRecursion (AllByRecursion IsDeliverable) lists → v ≡ vc + index → index < length lists
@@ -241,10 +192,7 @@ none_is_skipped format spacecraft lists is fits due =
 -- the frames of the normal form are those that are read
 pub views_are : (format : TmFormat) (spacecraft : ℕ) (lists : List (List (List ℕ))) → IsFormat format → spacecraft ≤ 1023 → AreDeliverable lists
     → recorded_views format spacecraft (normal_form format spacecraft lists) ≡ views_of format spacecraft (frames_from_channel format spacecraft 0 0 lists)
-views_are format spacecraft lists is fits due =
-    ap (views_of format spacecraft)
-    (only_frames format.len (normal_form format spacecraft lists) (frames_from_channel format spacecraft 0 0 lists) []
-    (let least = is.least in omega arith) (is_frames format spacecraft lists is fits due))
+views_are format spacecraft lists is fits due = grind (arith, only_frames, is_frames)
 
 pub delivers : NormalFormDelivers
 delivers format spacecraft lists is fits due =

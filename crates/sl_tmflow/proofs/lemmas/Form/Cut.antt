@@ -23,19 +23,11 @@ module _ (room : ℕ) (packets : List (List ℕ)) where
     pub each : AllByRecursion IsPacket todo
 
   pub first_cut : (count : ℕ) → AllByRecursion IsPacket packets → length (concat packets) ≡ count * room → IsCut 0 [] packets count
-  first_cut count each size =
-      let none : 0 * room + 0 ≡ 0 = omega (arith, zero-mul room) in
-      record {
-        found = λ n after. ap (λ k. found_in room n k packets) (sym none);
-        octets = ap (λ k. drop k (concat packets)) (zero-mul room);
-        size = omega (arith, size);
-        each = each;
-      }
+  first_cut count each size = grind (arith, zero-mul)
 
   pub pointer_is : (number : ℕ) (before : List ℕ) (todo : List (List ℕ)) (count : ℕ) → 0 < room → IsCut number before todo (suc count)
       → first_of room number (packet_offsets 0 packets []) ≡ pointer_at room (length before)
-  pointer_is number before todo count some s =
-      first_is room number (length before) packets todo some (omega (arith, s.size, suc-mul count room)) (s.found number (omega arith))
+  pointer_is number before todo count some s = grind (arith, first_is, suc-mul)
 
   pub field_is : (number : ℕ) (before : List ℕ) (todo : List (List ℕ)) (count : ℕ) → IsCut number before todo count
       → data_field_of room number (concat packets) ≡ take room (before ++ concat todo)
@@ -51,16 +43,7 @@ module _ (room : ℕ) (packets : List (List ℕ)) where
   -- past a data field that an earlier packet covers to its end
   pub past_covered : (number : ℕ) (before : List ℕ) (todo : List (List ℕ)) (count : ℕ) → room ≤ length before → IsCut number before todo (suc count)
       → IsCut (number + 1) (drop room before) todo count
-  past_covered number before todo count covered s =
-      let next = next_field number in
-      let left = length-drop room before in
-      let same : number * room + length before ≡ (number + 1) * room + length (drop room before) = omega (arith, next, left, covered) in
-      record {
-        found = λ n after. s.found n (omega (arith, after)) ∙ ap (λ k. found_in room n k todo) same;
-        octets = past_field number ∙ ap (drop room) s.octets ∙ drop-append-le room before (concat todo) covered;
-        size = omega (arith, s.size, left, covered, suc-mul count room);
-        each = s.each;
-      }
+  past_covered number before todo count covered s = grind (arith, next_field, length-drop, past_field, drop-append-le, suc-mul)
 
   -- In the data field of a number, `gap` octets are left, from the front of these packets on, and `count` data fields
   -- come later.
@@ -106,25 +89,9 @@ module _ (room : ℕ) (packets : List (List ℕ)) where
 
   -- to the next data field, where the packets fill this one
   pub past_filled : (number : ℕ) (todo : List (List ℕ)) (count : ℕ) → IsInside number 0 todo count → IsCut (number + 1) [] todo count
-  past_filled number todo count s =
-      let place = s.place in
-      let next = next_field number in
-      let same : number * room + s.start ≡ (number + 1) * room + 0 = omega (arith, place, next) in
-      record { found = λ n after. s.found n after ∙ ap (λ k. found_in room n k todo) same; octets = s.octets; size = omega (arith, s.size); each = s.each }
+  past_filled number todo count s = grind (arith, next_field)
 
   -- to the next data field, where a packet goes on in it
   pub past_begun : (number gap : ℕ) (packet : List ℕ) (todo : List (List ℕ)) (count : ℕ) → 0 < gap → gap ≤ length packet → IsInside number gap (packet ∷ todo) count
       → IsCut (number + 1) (drop gap packet) todo count
-  past_begun number gap packet todo count some more s =
-      let place = s.place in
-      let next = next_field number in
-      let left = length-drop gap packet in
-      let same : number * room + s.start + length packet ≡ (number + 1) * room + length (drop gap packet) = omega (arith, place, next, left, more) in
-      record {
-        found = λ n after.
-            s.found n after ∙ skip_packet room n (number * room + s.start) packet todo (lies_elsewhere room number n s.start (omega (arith, place, some)) (omega (arith, after)))
-            ∙ ap (λ k. found_in room n k todo) same;
-        octets = s.octets ∙ drop-append-le gap packet (concat todo) more;
-        size = omega (arith, s.size, length-append packet (concat todo), left, more);
-        each = s.each.1;
-      }
+  past_begun number gap packet todo count some more s = grind (arith, next_field, length-drop, skip_packet, lies_elsewhere, drop-append-le, length-append)

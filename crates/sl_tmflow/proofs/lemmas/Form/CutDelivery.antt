@@ -28,16 +28,7 @@ use Rattle.sl_tmflow.proofs.lemmas.Delivery.Step.{EndsIn, GoesOnPast, ends_step,
 -- a packet with `before` octets so far, which ends in a data field or at its end, agrees with the next packet start
 pointer_agrees : (room len before more : ℕ) (field : List ℕ) → length field ≡ room → len ≡ before + more → more ≤ room
     → pointer_at room more ≡ agreeing_pointer len before field
-pointer_agrees room len before more field whole long ends =
-    elim (leb_tells (suc more) room) [
-      | inl (test, inside) ↦
-          let below : nat_lt len (before + length field) ≡ true = lt-ltb len (before + length field) (omega (arith, inside, whole, long)) in
-          let rest : len - before ≡ more = omega (arith, long) in
-          rw (test, below, rest) refl
-      | inr (test, beyond) ↦
-          let above : nat_lt len (before + length field) ≡ false = le-ltb len (before + length field) (omega (arith, beyond, whole, long)) in
-          rw (test, above) refl
-    ]
+pointer_agrees room len before more field whole long ends = grind (arith, leb_tells, lt-ltb, le-ltb)
 
 -- virtual channel frame counts are the numbers of the frames, modulo 256
 pub next_count : (number : ℕ) → follows (number % 256) ((number + 1) % 256) ≡ true
@@ -50,20 +41,14 @@ abbrev pub delivered_in : TmView → List TmView → List ℕ → List (List ℕ
 delivered_in view later octets = packets_of octets ++ at_rest (λ l. completed (outcome_of view l later)) (rest_of octets)
 
 in_packet : (view : TmView) (later : List TmView) (packet octets : List ℕ) → IsPacket packet → delivered_in view later (packet ++ octets) ≡ packet ∷ delivered_in view later octets
-in_packet view later packet octets p =
-    ap₂ (λ ps rest. ps ++ at_rest (λ l. completed (outcome_of view l later)) rest) (packets_of-packet packet octets p) (rest_of-packet packet octets p)
+in_packet view later packet octets p = grind (arith, packets_of-packet, rest_of-packet)
 
 at_some_rest : (f : List ℕ → List (List ℕ)) (octets : List ℕ) → 0 < length octets → at_rest f octets ≡ f octets
-at_some_rest f [] some = absurd (omega arith)
-at_some_rest f (octet ∷ octets) some = refl
+at_some_rest f octets some = grind arith
 
 in_begun : (view : TmView) (later : List TmView) (octets : List ℕ) → 0 < length octets → front octets ≡ Incomplete
     → delivered_in view later octets ≡ completed (outcome_of_front Incomplete view octets later)
-in_begun view later octets some incomplete =
-    let none : (len : ℕ) → front octets ≡ WholePacket len → ⊥ = λ len whole. let both : Incomplete ≡ WholePacket len = sym incomplete ∙ whole in cc in
-    let at = λ (l : List ℕ). completed (outcome_of view l later) in
-    ap₂ (λ ps rest. ps ++ at_rest at rest) (packets_of-none octets none) (rest_of-none octets none)
-    ∙ at_some_rest at octets some ∙ ap (λ f. completed (outcome_of_front f view octets later)) incomplete
+in_begun view later octets some incomplete = grind (arith, packets_of-none, rest_of-none, at_some_rest)
 
 -- a list of packets without octets is empty
 no_octets : (packets : List (List ℕ)) → AllByRecursion IsPacket packets → length (concat packets) ≡ 0 → packets ≡ []

@@ -19,8 +19,7 @@ pub lies_here : (room number start : ℕ) → start < room → lies_in room numb
 lies_here room number start inside = eq-eqb ((number * room + start) / room) number (div-mul-add number room start inside)
 
 pub lies_elsewhere : (room number other start : ℕ) → start < room → number < other → lies_in room other (number * room + start) ≡ false
-lies_elsewhere room number other start inside less =
-    let e = div-mul-add number room start inside in ne_eqb ((number * room + start) / room) other (λ h. absurd (omega arith))
+lies_elsewhere room number other start inside less = grind (arith, div-mul-add, ne_eqb)
 
 -- an offset beyond a data field doesn't lie in it
 pub no_later : (room number offset : ℕ) (packets : List (List ℕ)) → 0 < room → number * room + room ≤ offset → found_in room number offset packets ≡ None
@@ -53,18 +52,10 @@ first_is room number start packets (packet ∷ todo) some more found =
 
 -- an offset lies in the data field of its number, and in no other
 lies_there : (room number offset : ℕ) → 0 < room → lies_in room number offset ≡ true → LiesIn room number offset
-lies_there room number offset some test =
-    let same : offset / room ≡ number = eqb-true (offset / room) number test in
-    let parts : number * room + offset % room ≡ offset = ap (λ n. n * room + offset % room) (sym same) ∙ div-add-mod' offset room in
-    let short : offset % room < room = mod_below offset room some in
-    record { from = omega arith; below = omega arith }
+lies_there room number offset some test = grind (arith, eqb-true, div-add-mod', mod_below)
 
 tells : (room number offset : ℕ) → LiesIn room number offset → lies_in room number offset ≡ true
-tells room number offset lies =
-    let from = lies.from in
-    let below = lies.below in
-    let back : number * room + (offset - number * room) ≡ offset = omega arith in
-    ap (lies_in room number) (sym back) ∙ lies_here room number (offset - number * room) (omega arith)
+tells room number offset lies = grind (arith, lies_here)
 
 -- packets that lie end to end have no start before the first one
 none_before : (offset : ℕ) (packets : List (List ℕ)) (start : ℕ) → IsAmong start (packet_offsets offset packets []) → offset ≤ start
@@ -93,25 +84,12 @@ one_more room number offset offsets (Some first) outside least = (
 with_first : (room number offset : ℕ) (packet : List ℕ) (packets : List (List ℕ)) → 0 < room → (b : Bool) → lies_in room number offset ≡ b
     → IsLeastStart room number (packet_offsets (offset + length packet) packets []) (first_of room number (packet_offsets (offset + length packet) packets []))
     → IsLeastStart room number (packet_offsets offset (packet ∷ packets) []) (first_of room number (packet_offsets offset (packet ∷ packets) []))
-with_first room number offset packet packets some true test later =
-    let lies = lies_there room number offset some test in
-    let from = lies.from in
-    let back : number * room + (offset - number * room) ≡ offset = omega arith in
-    rw (test) (
-      inl back,
-      subst (LiesIn room number) (sym back) lies,
-      λ start among there. omega (arith, back, none_before offset (packet ∷ packets) start among),
-    )
-with_first room number offset packet packets some false test later =
-    let offsets = packet_offsets (offset + length packet) packets [] in
-    rw (test) (one_more room number offset offsets (first_of room number offsets)
-    (λ lies. let both : true ≡ false = sym (tells room number offset lies) ∙ test in cc) later)
+with_first room number offset packet packets some b test later = grind (arith, lies_there, none_before, one_more, tells)
 
 least_from : (room number offset : ℕ) (packets : List (List ℕ)) → 0 < room
     → IsLeastStart room number (packet_offsets offset packets []) (first_of room number (packet_offsets offset packets []))
 least_from room number offset [] some = λ start among lies. absurd among
-least_from room number offset (packet ∷ packets) some =
-    with_first room number offset packet packets some (lies_in room number offset) refl (least_from room number (offset + length packet) packets some)
+least_from room number offset (packet ∷ packets) some = grind (arith, with_first, least_from room number (offset + length packet) packets some)
 
 pub each_pointer_is_least : EachPointerIsLeast
 each_pointer_is_least room number packets some = least_from room number 0 packets some

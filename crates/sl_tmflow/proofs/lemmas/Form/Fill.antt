@@ -19,25 +19,20 @@ abbrev wide_enough : ℕ → ℕ → ℕ
 wide_enough room gap = if (gap == 0) || not (nat_lt gap 7) then gap else gap + room
 
 as_it_is : (room gap : ℕ) → (gap ≡ 0) ⊎ (7 ≤ gap) → wide_enough room gap ≡ gap
-as_it_is room gap (inl h) = grind (arith, nat_tests)
-as_it_is room gap (inr h) = grind (arith, nat_tests)
+as_it_is room gap allowed = grind (arith, nat_tests)
 
 one_room_more : (room gap : ℕ) → 0 < gap → gap < 7 → wide_enough room gap ≡ gap + room
 one_room_more room gap some narrow = grind (arith, nat_tests)
 
 -- a multiple of the room that is neither 0 nor the room is two rooms at least
 at_least_two : (room k : ℕ) → 0 < k → (k ≡ 1 → ⊥) → room + room ≤ k * room
-at_least_two room zero some more = absurd (omega arith)
-at_least_two room (suc zero) some more = absurd (more refl)
-at_least_two room (suc (suc k)) some more =
-    let e = add-mul (suc k) 1 room in let f = add-mul k 1 room in let one = one-mul room in omega arith
+at_least_two room k some more = grind (arith, add-mul, one-mul)
 
 -- the octets after whole rooms, in a multiple of the room, are whole rooms
 whole_rooms : (room q k s : ℕ) → q * room + s ≡ k * room → 0 < s → (d : ℕ) × (s ≡ d * room)
 whole_rooms room zero k s e some = (k, omega (arith, e, zero-mul room))
 whole_rooms room (suc q) zero s e some = let z = zero-mul room in absurd (omega arith)
-whole_rooms room (suc q) (suc k) s e some =
-    let p = suc-mul q room in let o = suc-mul k room in whole_rooms room q k s (omega arith) some
+whole_rooms room (suc q) (suc k) s e some = grind (arith, suc-mul, whole_rooms room q k s (omega arith) some)
 
 pub none_left : (room count : ℕ) → count * room % room ≡ 0
 none_left room count =
@@ -45,13 +40,11 @@ none_left room count =
     ap (λ n. n % room) e ∙ mul-add-mod_self_right count room 0 ∙ zero-mod room
 
 at_least_one : (room count : ℕ) → 0 < count → room ≤ count * room
-at_least_one room zero some = absurd (omega arith)
-at_least_one room (suc count) some = let e = suc-mul count room in omega arith
+at_least_one room count some = grind (arith, suc-mul)
 
 -- a multiple of the room after the octets of a part of a room has at least the rest of this room
 past_one_room : (room left gap other d : ℕ) → 0 < left → gap + left ≡ room → left + other ≡ d * room → gap ≤ other
-past_one_room room left gap other zero some whole e = let z = zero-mul room in absurd (omega arith)
-past_one_room room left gap other (suc d) some whole e = let o = at_least_one room (suc d) (omega arith) in omega arith
+past_one_room room left gap other d some whole e = grind (arith, zero-mul, at_least_one)
 
 past_two_rooms : (room left gap other d : ℕ) → 0 < left → 0 < gap → gap < 7 → gap + left ≡ room → (other ≡ 0) ⊎ (7 ≤ other) → left + other ≡ d * room → gap + room ≤ other
 past_two_rooms room left gap other d some there narrow whole (inl none) e =
@@ -118,40 +111,17 @@ pub no_filling : (room : ℕ) → filling room 0 ≡ []
 no_filling room = ap (λ n. if◌then◌else◌ {A = List (List ℕ)} (n == 0) [] (idle_packet n ∷ [])) (no_fill room)
 
 pub fill_inside : (room len : ℕ) → 7 ≤ room → fill_of room len ≤ room + 6
-fill_inside room len some =
-    let gap : (room - len % room) % room < room = mod_below (room - len % room) room (omega arith) in
-    elim (leb_tells ((room - len % room) % room) 6) [
-      | inl (test, low) ↦ elim (eqb_tells ((room - len % room) % room) 0) [
-        | inl (is, none) ↦ omega (arith, as_it_is room ((room - len % room) % room) (inl none))
-        | inr (is, some_gap) ↦ omega (arith, one_room_more room ((room - len % room) % room) (omega (arith, some_gap)) (omega (arith, low)), low)
-      ]
-      | inr (test, high) ↦ omega (arith, as_it_is room ((room - len % room) % room) (inr (omega (arith, high))))
-    ]
+fill_inside room len some = grind (arith, mod_below, leb_tells, eqb_tells, as_it_is, one_room_more)
 
 some_fill : (room len : ℕ) → 7 ≤ room → (fill_of room len ≡ 0 → ⊥) → 7 ≤ fill_of room len
-some_fill room len some there =
-    elim (fill_is_least room len some).allowed [
-      | inl none ↦ absurd (there none)
-      | inr wide ↦ wide
-    ]
+some_fill room len some there = grind (arith, fill_is_least)
 
 -- the filling is an idle packet of the needed length
 pub filling_is : (room len : ℕ) → 7 ≤ room → room ≤ 65536 → AllByRecursion IsPacket (filling room len) × (length (concat (filling room len)) ≡ fill_of room len)
-filling_is room len some short =
-    elim (eqb_tells (fill_of room len) 0) [
-      | inl (test, none) ↦ rw (test) (tt, sym none)
-      | inr (test, there) ↦
-          let wide = some_fill room len some there in
-          let fits = fill_inside room len some in
-          rw (test) ((idle_packet_is_a_packet (fill_of room len) wide (omega arith), tt), ap length (append-nil (idle_packet (fill_of room len))) ∙ length-idle_packet (fill_of room len) wide)
-    ]
+filling_is room len some short = grind (arith, eqb_tells, some_fill, fill_inside, idle_packet_is_a_packet, append-nil, length-idle_packet)
 
 filling_is_idle : (room len : ℕ) → 7 ≤ room → room ≤ 65536 → AllByRecursion (λ packet. is_idle_packet packet ≡ true) (filling room len)
-filling_is_idle room len some short =
-    elim (eqb_tells (fill_of room len) 0) [
-      | inl (test, none) ↦ rw (test) tt
-      | inr (test, there) ↦ rw (test) (idle_packet_is_idle (fill_of room len) (some_fill room len some there) (let fits = fill_inside room len some in omega arith), tt)
-    ]
+filling_is_idle room len some short = grind (arith, eqb_tells, idle_packet_is_idle, some_fill, fill_inside)
 
 pub filled_octets : (room : ℕ) (packets : List (List ℕ)) → concat packets ++ concat (filling room (length (concat packets))) ≡ concat (with_filling room packets)
 filled_octets room packets = sym (concat-append packets (filling room (length (concat packets))))

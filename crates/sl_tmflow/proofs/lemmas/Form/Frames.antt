@@ -19,41 +19,22 @@ use Rattle.sl_tmflow.proofs.lemmas.Form.Fill.{fill_inside, fill_is_least, fillin
 -- ---- how many data fields
 
 pub none_filled : (format : TmFormat) (octets : List ℕ) → length octets < field_room_of format → fields_in format octets ≡ 0
-none_filled format octets few =
-    let none : length octets ≡ 0 * field_room_of format + length octets = omega (arith, zero-mul (field_room_of format)) in
-    ap (λ n. n / field_room_of format) none ∙ div-mul-add 0 (field_room_of format) (length octets) few
+none_filled format octets few = grind (arith, zero-mul, div-mul-add)
 
 pub few_beyond : (format : TmFormat) (octets : List ℕ) → length octets < field_room_of format → beyond_fields format octets ≡ octets
 few_beyond format octets few = ap (λ n. drop (n * field_room_of format) octets) (none_filled format octets few) ∙ ap (λ n. drop n octets) (zero-mul (field_room_of format))
 
 pub none_beyond_filling : (format : TmFormat) (octets : List ℕ) → 7 ≤ field_room_of format → field_room_of format ≤ 65536 → beyond_fields format (filled_up format octets) ≡ []
-none_beyond_filling format octets wide short =
-    let room = field_room_of format in
-    let len = length octets in
-    let all = filled_up format octets in
-    let size : length all ≡ len + fill_of room len = length-append octets (concat (filling room len)) ∙ ap (λ n. len + n) (filling_is room len wide short).1 in
-    let whole : length all % room ≡ 0 = ap (λ n. n % room) size ∙ (fill_is_least room len wide).fills in
-    let parts = div-add-mod' (length all) room in
-    drop_all (length all / room * room) all (omega (arith, whole, parts))
+none_beyond_filling format octets wide short = grind (arith, length-append, filling_is, fill_is_least, div-add-mod', drop_all)
 
 pub one_more_field : (format : TmFormat) (left field later : List ℕ) → 0 < field_room_of format → left ≡ field ++ later → length field ≡ field_room_of format
     → fields_in format left ≡ suc (fields_in format later)
-one_more_field format left field later roomy divided whole =
-    let one = one-mul (field_room_of format) in
-    let size : length left ≡ length later + 1 * field_room_of format = omega (arith, ap length divided, length-append field later, whole, one) in
-    let more = ap (λ n. n / field_room_of format) size ∙ add-mul-div_right (length later) 1 roomy in
-    omega (arith, more)
+one_more_field format left field later roomy divided whole = grind (arith, one-mul, length-append, add-mul-div_right)
 
 pub next_field : (format : TmFormat) (heading : Heading) (first : Option ℕ) (left field later : List ℕ) → 0 < field_room_of format → left ≡ field ++ later → length field ≡ field_room_of format
     → field_frames format (fields_in format left) heading first left
     ≡ headed_frame format heading first field ++ field_frames format (fields_in format later) (heading_after heading 1) None later
-next_field format heading first left field later roomy divided whole =
-    let front : take (field_room_of format) left ≡ field = ap (λ n. take n left) (sym whole) ∙ ap (take (length field)) divided ∙ take-append_seam field later in
-    let back : drop (field_room_of format) left ≡ later = ap (λ n. drop n left) (sym whole) ∙ ap (drop (length field)) divided ∙ drop-append_seam field later in
-    let many = fields_in format later in
-    ap (λ n. field_frames format n heading first left) (one_more_field format left field later roomy divided whole)
-    ∙ ap (λ f. headed_frame format heading first f ++ field_frames format many (heading_after heading 1) None (drop (field_room_of format) left)) front
-    ∙ ap (λ l. headed_frame format heading first field ++ field_frames format many (heading_after heading 1) None l) back
+next_field format heading first left field later roomy divided whole = grind (arith, take-append_seam, drop-append_seam, one_more_field)
 
 -- a frame has the length of its format
 pub frame_size : (format : TmFormat) (heading : Heading) (first : Option ℕ) (field : List ℕ) → 8 ≤ format.len → length field ≡ field_room_of format
@@ -73,27 +54,12 @@ pub pushes_next : (format : TmFormat) (heading : Heading) (end : List ℕ) (size
     → form' ≡ form ++ headed_frame format heading first field → len ≡ length form → len' ≡ length form'
     → IsPushing format heading end size first left form len
     → IsPushing format (heading_after heading 1) end size None later form' len'
-pushes_next format heading end size first left field later form form' len len' roomy long divided whole added is is' p =
-    let frame = headed_frame format heading first field in
-    let others = field_frames format (fields_in format later) (heading_after heading 1) None later in
-    let more = one_more_field format left field later roomy divided whole in
-    let lengths = suc-mul (fields_in format later) format.len in
-    let step = ap (λ n. n * format.len) more in
-    record {
-      frames = ap (λ f. f ++ others) added ∙ append_assoc form frame others ∙ ap (λ l. form ++ l) (sym (next_field format heading first left field later roomy divided whole)) ∙ p.frames;
-      sizes = omega (arith, p.sizes, step, lengths, is, is', ap length added, length-append form frame, frame_size format heading first field long whole);
-    }
+pushes_next format heading end size first left field later form form' len len' roomy long divided whole added is is' p = grind (arith, one_more_field, suc-mul, append_assoc, next_field, length-append, frame_size)
 
 -- all frames are pushed where no data field is left
 pub all_pushed : (format : TmFormat) (heading : Heading) (end : List ℕ) (size : ℕ) (first : Option ℕ) (left form : List ℕ) (len : ℕ) → length left < field_room_of format
     → IsPushing format heading end size first left form len → (form ≡ end) × (len ≡ size)
-all_pushed format heading end size first left form len few p =
-    let none = none_filled format left few in
-    let nothing = zero-mul format.len in
-    let no_octets = ap (λ n. n * format.len) none in (
-      sym (append-nil form) ∙ ap (λ n. form ++ field_frames format n heading first left) (sym none) ∙ p.frames,
-      omega (arith, p.sizes, no_octets, nothing),
-    )
+all_pushed format heading end size first left form len few p = grind (arith, none_filled, zero-mul, append-nil)
 
 -- ---- octets and a packet after them
 
@@ -111,8 +77,7 @@ module _ {format : TmFormat} {octets packet head rest : List ℕ} (s : FillsUp f
   fields_of_both = one_more_field format (octets ++ packet) (octets ++ head) rest s.roomy both s.whole
 
   field_of_first : fields_in format (octets ++ head) ≡ 1
-  field_of_first =
-      one_more_field format (octets ++ head) (octets ++ head) [] s.roomy (sym (append-nil (octets ++ head))) s.whole ∙ ap suc (zero-div (field_room_of format))
+  field_of_first = grind (arith, one_more_field, append-nil, zero-div)
 
   pub frames_len_of_first : frames_len format (octets ++ head) ≡ format.len
   frames_len_of_first = ap (λ n. n * format.len) field_of_first ∙ one-mul format.len
@@ -143,8 +108,7 @@ module _ {format : TmFormat} {octets packet head rest : List ℕ} (s : FillsUp f
 
 thrice : (many room len : ℕ) → 24 ≤ room → len ≤ room + 8 → 3 * (many * len) ≤ 4 * (many * room)
 thrice zero room len wide short = let a = zero-mul room in let b = zero-mul len in omega arith
-thrice (suc many) room len wide short =
-    let a = suc-mul many room in let b = suc-mul many len in let so_far = thrice many room len wide short in omega arith
+thrice (suc many) room len wide short = grind (arith, suc-mul, thrice many room len wide short)
 
 pub piece_fits : (many room len octets : ℕ) → 24 ≤ room → len ≤ room + 8 → many * room ≤ octets → octets ≤ 67584 → many * len ≤ 90112
 piece_fits many room len octets wide short fields most = let t = thrice many room len wide short in omega arith
@@ -159,7 +123,4 @@ small_piece format octets packet wide short few most =
     piece_fits (fields_in format all) (field_room_of format) format.len 67584 wide (omega (arith, wide, last)) (omega (arith, parts, size, few, short, most)) (omega arith)
 
 pub short_filling : (room : ℕ) (octets : List ℕ) → 24 ≤ room → room ≤ 2042 → length (concat (filling room (length octets))) ≤ 65542
-short_filling room octets wide short =
-    let size = (filling_is room (length octets) (omega (arith, wide)) (omega (arith, short))).1 in
-    let most = fill_inside room (length octets) (omega (arith, wide)) in
-    omega (arith, size, most, short)
+short_filling room octets wide short = grind (arith, filling_is, fill_inside)

@@ -136,16 +136,10 @@ same_filling : (room a b : ℕ) → a % room ≡ b % room → filling room a ≡
 same_filling room a b same = rw (same) refl
 
 few_filling : (room len : ℕ) → length (filling room len) ≤ 1
-few_filling room len =
-    elim (eqb_tells (fill_of room len) 0) [
-      | inl (test, none) ↦ rw (test) (omega arith)
-      | inr (test, some) ↦ rw (test) (omega arith)
-    ]
+few_filling room len = grind (arith, eqb_tells)
 
 few_filled : (s : FormProgress) → length (filled_packets s) ≤ length (channel_packets s) + 1
-few_filled s =
-    let fill = filling (field_room_of s.format) (length (concat (channel_packets s))) in
-    omega (arith, length-append (channel_packets s) fill, few_filling (field_room_of s.format) (length (concat (channel_packets s))))
+few_filled s = grind (arith, length-append, few_filling)
 
 -- the packets of a virtual channel, among the lists of all
 pub channel_is : (s : FormProgress) → s.vc < 8 → channel_packets s ≡ slice_index_or s.lists s.vc []
@@ -154,30 +148,18 @@ channel_is s inside = get_or-take 8 s.lists s.vc [] inside
 -- the next packet, where packets are left
 pub packet_here : (s : FormProgress) → s.taken < length (channel_packets s)
     → drop s.taken (filled_packets s) ≡ slice_index_or (channel_packets s) s.taken [] ∷ drop (s.taken + 1) (filled_packets s)
-packet_here s inside =
-    let packets = channel_packets s in
-    let fill = filling (field_room_of s.format) (length (concat packets)) in
-    drop-append-le s.taken packets fill (omega arith) ∙ ap (λ l. l ++ fill) (drop-cons packets s.taken [] inside)
-    ∙ ap (λ n. slice_index_or packets s.taken [] ∷ (drop n packets ++ fill)) (sym (add-one s.taken))
-    ∙ ap (λ l. slice_index_or packets s.taken [] ∷ l) (sym (drop-append-le (s.taken + 1) packets fill (omega (arith, inside))))
+packet_here s inside = grind (arith, drop-append-le, drop-cons, add-one)
 
 -- how many octets the filled-up packets of the channel have, where these packets are still to be taken
 octets_of_all : (s : FormProgress) (left : List ℕ) (later : List (List ℕ)) → drop s.taken (filled_packets s) ≡ later → (l : IsLeft s left)
     → length (concat (filled_packets s)) ≡ l.count * field_room_of s.format + length s.octets + length (concat later)
-octets_of_all s left later is l =
-    let p = l.pending in
-    omega (arith, ap length p.parts, length-append p.made (s.octets ++ concat (drop s.taken (filled_packets s))), length-append s.octets (concat (drop s.taken (filled_packets s))), p.size, ap (λ ps. length (concat ps)) is)
+octets_of_all s left later is l = grind (arith, length-append)
 
 -- where the packets are taken, the filling is next, and the packets fill what was made and is kept
 at_end : (s : FormProgress) (left : List ℕ) → s.taken ≡ length (channel_packets s) → (l : IsLeft s left)
     → (drop s.taken (filled_packets s) ≡ filling (field_room_of s.format) (length (concat (channel_packets s))))
     × (length (concat (channel_packets s)) ≡ l.count * field_room_of s.format + length s.octets)
-at_end s left last l =
-    let packets = channel_packets s in
-    let fill = filling (field_room_of s.format) (length (concat packets)) in
-    let next : drop s.taken (filled_packets s) ≡ fill = ap (λ n. drop n (packets ++ fill)) last ∙ drop-append_seam packets fill in
-    let both : length (concat (filled_packets s)) ≡ length (concat packets) + length (concat fill) = ap length (concat-append packets fill) ∙ length-append (concat packets) (concat fill) in
-    (next, omega (arith, octets_of_all s left fill next l, both))
+at_end s left last l = grind (arith, drop-append_seam, concat-append, length-append, octets_of_all)
 
 -- where octets are left and no packets, the filling isn't taken yet
 last_taken : (s : FormProgress) (left : List ℕ) → 7 ≤ field_room_of s.format → field_room_of s.format ≤ 65536 → length s.octets < field_room_of s.format → 0 < length s.octets
@@ -317,16 +299,16 @@ some_packets s left m l =
 
 -- octets are left where more is left and no packet
 pub octets_left : (s : FormProgress) → HasMore s → length (channel_packets s) ≤ s.taken → 0 < length s.octets
-octets_left s m beyond =
-    let inside = m.inside in
-    let is = channel_is s (omega (arith, inside)) in
-    elim m.more [
-      | inl taken ↦ absurd (omega (arith, taken, ap length is, beyond))
-      | inr some ↦ elim (eqb_tells (length s.octets) 0) [
-        | inl (test, none) ↦ absurd (some (nil_from_length s.octets none))
-        | inr (test, left) ↦ omega (arith, left)
-      ]
-    ]
+octets_left s m beyond = grind (arith, channel_is, eqb_tells, nil_from_length)
+
+-- the progress is at a virtual channel that has more: its packets, and their number
+pub record IsAtChannel (s : FormProgress) (packets : List (List ℕ)) (many : ℕ) : Type 0 where
+  pub more : HasMore s
+  pub are : packets ≡ channel_packets s
+  pub long : length (channel_packets s) ≡ many
+  pub inside : s.vc < length (take 8 s.lists)
+  pub wide : 24 ≤ field_room_of s.format
+  pub short : field_room_of s.format ≤ 2042
 
 -- no packet has more than 65,542 octets
 pub longest_packet : (packet : List ℕ) → IsPacket packet → length packet ≤ 65542
@@ -335,9 +317,7 @@ longest_packet packet is = let len = is.len in let most = stated_packet_len-most
 -- ---- there is a last piece
 
 pub fewer_after : (s : FormProgress) (packet : List ℕ) → s.vc < length (take 8 s.lists) → s.taken ≤ length (channel_packets s) → packets_left (after_packet s packet (s.taken + 1)) < packets_left s
-fewer_after s packet inside some =
-    let here = ap packet_count (drop-cons (take 8 s.lists) s.vc [] inside) in
-    omega (arith, here)
+fewer_after s packet inside some = grind (arith, drop-cons)
 
 -- fewer pieces are left after the packet that fills up
 pub fewer_filled : (s : FormProgress) (left packet : List ℕ) (taken : ℕ) → 7 ≤ field_room_of s.format → field_room_of s.format ≤ 65536 → length s.octets < field_room_of s.format → 0 < length s.octets
@@ -348,7 +328,4 @@ fewer_filled s left packet taken wide short few some beyond inside is l =
     subst (λ n. packets_left (after_packet s packet n) < packets_left s) next (fewer_after s packet inside (omega (arith, last)))
 
 pub no_more_after : (s : FormProgress) → s.vc < length (take 8 s.lists) → s.taken ≤ length (channel_packets s) + 1 → packets_left (next_channel s) ≤ packets_left s
-no_more_after s inside some =
-    let here = ap packet_count (drop-cons (take 8 s.lists) s.vc [] inside) in
-    let next = ap (λ n. packet_count (drop n (take 8 s.lists))) (add-one s.vc) in
-    omega (arith, here, next)
+no_more_after s inside some = grind (arith, drop-cons, add-one)

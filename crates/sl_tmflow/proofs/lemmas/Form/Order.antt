@@ -51,9 +51,7 @@ module _ {X : Type 0} (f : X → ℕ) where
 
   count_map : (of : ℕ → X) (shift number many : ℕ) → ((n : ℕ) → f (of n) ≡ (shift + n) % 256) → Count (shift + number) (map of (range_with_len number many))
   count_map of shift number zero each = tt
-  count_map of shift number (suc many) each =
-      let step : shift + (number + 1) ≡ shift + number + 1 = omega arith in
-      (each number, subst (λ n. Count n (map of (range_with_len (number + 1) many))) step (count_map of shift (number + 1) many each))
+  count_map of shift number (suc many) each = grind (arith, count_map of shift (number + 1) many each)
 
 -- ---- data fields end to end
 
@@ -97,10 +95,7 @@ module _ (format : TmFormat) (vc mc : ℕ) (packets : List (List ℕ)) where
       }) (range_with_len 0 many))
 
   own_master : Count (λ (view : TmView). view.mc_count) mc own
-  own_master =
-      let none : mc + 0 ≡ mc = omega arith in
-      subst (λ n. Count (λ (view : TmView). view.mc_count) n own) none
-      (count_map (λ (view : TmView). view.mc_count) (view_at room vc mc filled) mc 0 many (λ number. refl))
+  own_master = grind (arith, count_map)
 
   own_count : Count (λ (view : TmView). view.vc_count) 0 own
   own_count =
@@ -115,8 +110,7 @@ module _ (format : TmFormat) (vc mc : ℕ) (packets : List (List ℕ)) where
       ∙ fields_joined room (concat filled) 0 many size ∙ ap (λ n. drop n (concat filled)) (zero-mul room)
 
   as_many : (spacecraft : ℕ) → length own ≡ length (channel_frames format spacecraft vc mc packets)
-  as_many spacecraft =
-      length-map-range_with_len (view_at room vc mc filled) 0 many ∙ sym (length-map-range_with_len (channel_frame format spacecraft vc mc filled) 0 many)
+  as_many spacecraft = grind (arith, length-map-range_with_len)
 
 -- ---- the frames of all virtual channels
 
@@ -127,43 +121,22 @@ module _ (format : TmFormat) (spacecraft : ℕ) (is : IsFormat format) (fits : s
   all_carry : (lists : List (List (List ℕ))) (vc mc : ℕ) → vc + length lists ≤ 8 → AllByRecursion (AllByRecursion IsDeliverable) lists
       → AllByRecursion CarriesPackets (views_by vc mc lists)
   all_carry [] vc mc inside each = tt
-  all_carry (packets ∷ lists) vc mc inside each =
-      subst (AllByRecursion CarriesPackets) (sym (form_parts format spacecraft is fits packets lists vc mc (omega (arith, inside)) each.0))
-      (each-append CarriesPackets (channel_views format vc mc packets) (views_by (vc + 1) (next format spacecraft is fits vc mc packets) lists) (own_carry format vc mc packets)
-      (all_carry lists (vc + 1) (next format spacecraft is fits vc mc packets) (omega (arith, inside)) each.1))
+  all_carry (packets ∷ lists) vc mc inside each = grind (arith, form_parts, each-append, own_carry, all_carry lists (vc + 1) (next format spacecraft is fits vc mc packets) (omega (arith, inside)) each.1)
 
   all_rise : (lists : List (List (List ℕ))) (vc mc : ℕ) → vc + length lists ≤ 8 → AllByRecursion (AllByRecursion IsDeliverable) lists
       → NeverFall vc (map (λ (view : TmView). view.vc) (views_by vc mc lists))
   all_rise [] vc mc inside each = tt
-  all_rise (packets ∷ lists) vc mc inside each =
-      let rest = views_by (vc + 1) (next format spacecraft is fits vc mc packets) lists in
-      subst (λ views. NeverFall vc (map (λ (view : TmView). view.vc) views)) (sym (form_parts format spacecraft is fits packets lists vc mc (omega (arith, inside)) each.0))
-      (then_later (λ (view : TmView). view.vc) vc vc (channel_views format vc mc packets) rest (omega arith) (channel_of_own format vc mc packets)
-      (lower (vc + 1) vc (map (λ (view : TmView). view.vc) rest) (omega arith) (all_rise lists (vc + 1) (next format spacecraft is fits vc mc packets) (omega (arith, inside)) each.1)))
+  all_rise (packets ∷ lists) vc mc inside each = grind (arith, form_parts, then_later, channel_of_own, lower, all_rise lists (vc + 1) (next format spacecraft is fits vc mc packets) (omega (arith, inside)) each.1)
 
   all_master : (lists : List (List (List ℕ))) (vc mc : ℕ) → vc + length lists ≤ 8 → AllByRecursion (AllByRecursion IsDeliverable) lists
       → Count (λ (view : TmView). view.mc_count) mc (views_by vc mc lists)
   all_master [] vc mc inside each = tt
-  all_master (packets ∷ lists) vc mc inside each =
-      let own = channel_views format vc mc packets in
-      let rest = views_by (vc + 1) (next format spacecraft is fits vc mc packets) lists in
-      let mid : next format spacecraft is fits vc mc packets ≡ mc + length own = ap (λ n. mc + n) (sym (as_many format vc mc packets spacecraft)) in
-      subst (Count (λ (view : TmView). view.mc_count) mc) (sym (form_parts format spacecraft is fits packets lists vc mc (omega (arith, inside)) each.0))
-      (count_more (λ (view : TmView). view.mc_count) mc own rest (own_master format vc mc packets)
-      (subst (λ n. Count (λ (view : TmView). view.mc_count) n rest) mid (all_master lists (vc + 1) (next format spacecraft is fits vc mc packets) (omega (arith, inside)) each.1)))
+  all_master (packets ∷ lists) vc mc inside each = grind (arith, as_many, form_parts, count_more, own_master, all_master lists (vc + 1) (next format spacecraft is fits vc mc packets) (omega (arith, inside)) each.1)
 
   all_count : (lists : List (List (List ℕ))) (vc mc v : ℕ) → vc + length lists ≤ 8 → AllByRecursion (AllByRecursion IsDeliverable) lists
       → Count (λ (view : TmView). view.vc_count) 0 (channel_of v (views_by vc mc lists))
   all_count [] vc mc v inside each = tt
-  all_count (packets ∷ lists) vc mc v inside each =
-      elim (eqb_tells vc v) [
-        | inl (test, same) ↦
-            subst (λ n. Count (λ (view : TmView). view.vc_count) 0 (channel_of n (views_by vc mc (packets ∷ lists)))) same
-            (subst (Count (λ (view : TmView). view.vc_count) 0) (sym (first_channel format spacecraft is fits packets lists vc mc (omega (arith, inside)) each.0 each.1)) (own_count format vc mc packets))
-        | inr (test, other) ↦
-            subst (Count (λ (view : TmView). view.vc_count) 0) (sym (other_channel format spacecraft is fits packets lists vc mc v (omega (arith, inside)) each.0 other))
-            (all_count lists (vc + 1) (next format spacecraft is fits vc mc packets) v (omega (arith, inside)) each.1)
-      ]
+  all_count (packets ∷ lists) vc mc v inside each = grind (arith, eqb_tells, first_channel, own_count, other_channel, all_count lists (vc + 1) (next format spacecraft is fits vc mc packets) v (omega (arith, inside)) each.1)
 
 -- ---- the laws
 

@@ -88,9 +88,7 @@ module _ (format : TmFormat) (spacecraft vc before : ℕ) (packets : List (List 
   -- the next data field is at the front of the octets after the data fields that were made
   field_is : (number : ℕ) (made octets more : List ℕ) → concat packets ≡ made ++ (octets ++ more) → length made ≡ number * room → room ≤ length octets
       → take room octets ≡ data_field_of room number (concat packets)
-  field_is number made octets more parts size enough =
-      sym (ap (take room) (ap (λ l. drop (number * room) l) parts ∙ ap (λ n. drop n (made ++ (octets ++ more))) (sym size) ∙ drop-append_seam made (octets ++ more))
-      ∙ take-append-le room octets more enough)
+  field_is number made octets more parts size enough = grind (arith, drop-append_seam, take-append-le)
 
   pub fields_are : (many number : ℕ) (first : Option ℕ) (master counter : ℕ) (made octets more : List ℕ)
       → concat packets ≡ made ++ (octets ++ more) → length made ≡ number * room → many * room ≤ length octets
@@ -134,9 +132,7 @@ module _ (room : ℕ) (packets : List (List ℕ)) (count start : ℕ) (octets pa
 
   -- the packet doesn't start in a later data field
   past : (number : ℕ) → count < number → start_in room number 0 packets ≡ start_in room number (count * room + length all) later
-  past number above =
-      let on : count * room + length octets + length packet ≡ count * room + length all = omega (arith, length-append octets packet) in
-      p.after number above ∙ skip_packet room number (count * room + length octets) packet later (lies_elsewhere room count number (length octets) few above) ∙ ap (λ n. start_in room number n later) on
+  past number above = grind (arith, length-append, skip_packet, lies_elsewhere)
 
   -- the octets of whole data fields, and the octets beyond them
   whole : many * room + length (drop (many * room) all) ≡ length all
@@ -188,6 +184,4 @@ module _ (room : ℕ) (packets : List (List ℕ)) (count start : ℕ) (octets pa
 
 -- a channel without packets has no frames
 pub no_frames : (format : TmFormat) (spacecraft vc mc : ℕ) → channel_frames format spacecraft vc mc [] ≡ []
-no_frames format spacecraft vc mc =
-    ap (frames_of_packets format spacecraft vc mc) (no_filling (field_room_of format))
-    ∙ ap (λ n. map (channel_frame format spacecraft vc mc []) (range_with_len 0 n)) (zero-div (field_room_of format))
+no_frames format spacecraft vc mc = grind (arith, no_filling, zero-div)

@@ -128,14 +128,10 @@ each_broken_off_is_listed channel next octets broken =
 -- ---- a broken-off packet was incomplete
 
 lost_step : (s : Continuation) (passed : ℕ) (octets more : List ℕ) → lost s octets ++ [] ≡ broken_octets (StillIncomplete octets) (after_step s passed (StillIncomplete more))
-lost_step (Ends packet) passed octets more = refl
-lost_step Continues passed octets more = refl
-lost_step Breaks passed octets more = refl
+lost_step s passed octets more = grind arith
 
 lost_with_next : (passed : ℕ) (last next : TmView) (outcome : Outcome) → flat_map (lost_in last next) (incomplete_octets outcome) ≡ broken_octets outcome (with_next passed last next outcome)
-lost_with_next passed last next (Completes packet n) = refl
-lost_with_next passed last next (StillIncomplete octets) = lost_step (step_of last octets next) passed octets (octets ++ packet_data next)
-lost_with_next passed last next Undelivered = refl
+lost_with_next passed last next outcome = grind (arith, lost_step)
 
 frame_broken-push : (view : TmView) (later : List TmView) (next : TmView)
     → flat_map (lost_in (last_of view later) next) (frame_incomplete view later) ≡ frame_broken view later next
@@ -155,9 +151,7 @@ broken_next before last next =
     ∙ append-nil (flat_map (lost_in last next) (incomplete_of (before ++ last ∷ [])))
 
 one_lost : (s : Continuation) (octets : List ℕ) → length (lost s octets) ≤ 1
-one_lost (Ends packet) octets = omega arith
-one_lost Continues octets = omega arith
-one_lost Breaks octets = omega arith
+one_lost s octets = grind arith
 
 pub one_is_broken_off : OneIsBrokenOff
 one_is_broken_off [] next = omega arith
@@ -181,5 +175,4 @@ broken_off_is_told channel next octets broken =
     count_of_one octets (broken_off channel next) (one_is_broken_off channel next) (each_broken_off_is_listed channel next octets broken)
 
 pub what_is_told_is_broken_off : WhatIsToldIsBrokenOff
-what_is_told_is_broken_off channel next some =
-    some_of_each (IsBrokenOff channel next) (broken_off channel next) (each_listed_is_broken_off channel next) some
+what_is_told_is_broken_off channel next some = grind (arith, some_of_each, each_listed_is_broken_off)

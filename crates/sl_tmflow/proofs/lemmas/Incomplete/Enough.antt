@@ -35,8 +35,7 @@ whole_stays octets more len e =
 -- of octets where a packet ends, only the packet's own matter
 packet_same : (first : Option ℕ) (before : ℕ) (field a b : List ℕ) (len : ℕ) → take len a ≡ take len b
     → front_step first before field a (WholePacket len) ≡ front_step first before field b (WholePacket len)
-packet_same first before field a b len same =
-    ap (λ packet. if option_eq nat_eq first (agreeing_pointer len before field) then Ends packet else Breaks) same
+packet_same first before field a b len same = grind arith
 
 -- octets that aren't incomplete decide the step, whatever follows
 told : (first : Option ℕ) (before : ℕ) (field octets more : List ℕ) → (front octets ≡ Incomplete → ⊥)
@@ -72,8 +71,7 @@ none_is_enough held field begun fits =
 -- octets that need no more aren't incomplete
 pub none_is_wanted : ForeignIsForeign → WholeIsWhole → (held : List ℕ) → (need_of held ≡ Foreign) ⊎ ((len : ℕ) × (need_of held ≡ Whole len))
     → front held ≡ Incomplete → ⊥
-none_is_wanted foreign whole held (inl e) incomplete = let both : OtherVersion ≡ Incomplete = sym ((foreign held).0 e) ∙ incomplete in cc
-none_is_wanted foreign whole held (inr (len, e)) incomplete = let both : WholePacket len ≡ Incomplete = sym ((whole held len).0 e) ∙ incomplete in cc
+none_is_wanted foreign whole held needs_none incomplete = grind arith
 
 -- a packet isn't incomplete any more with the octets that it needs
 pub wanted_complete : OctetsMakeAPacket → (held more : List ℕ) (n : ℕ) → need_of held ≡ Octets n → length more ≡ n → front (held ++ more) ≡ Incomplete → ⊥
@@ -85,8 +83,4 @@ wanted_complete law held more n wants long incomplete =
 
 -- a packet with the octets that it needs is no longer than the longest packet
 pub wanted_fits : OctetsMakeAPacket → (held : List ℕ) (n : ℕ) → need_of held ≡ Octets n → length held + n ≤ 65542
-wanted_fits law held n wants =
-    let more : List ℕ = replicate n 0 in
-    let long : length more ≡ n = length-replicate n 0 in
-    let p = law held more n wants long in
-    omega (arith, p.len, stated_packet_len-most (held ++ more), length-append held more, long)
+wanted_fits law held n wants = grind (arith, length-replicate, stated_packet_len-most, length-append)

@@ -62,14 +62,11 @@ one_of_rest view later [] = inl refl
 one_of_rest view later (octet ∷ rest) = one_of_outcome view (octet ∷ rest) later (outcome_of view (octet ∷ rest) later) refl
 
 pub one_of_field : (view : TmView) (later : List TmView) (field : DataField) → OneAtMost later (field_incomplete view later field)
-one_of_field view later (Packets (Some pointer) octets) =
-    subst (OneAtMost later) (sym (incomplete_from_pointer view later pointer octets)) (one_of_rest view later (rest_of (drop pointer octets)))
-one_of_field view later field = inl refl
+one_of_field view later field = grind (arith, incomplete_from_pointer, one_of_rest)
 
 none_without_starts : (channel : List TmView) → AllByRecursion HasNoStart channel → incomplete_of channel ≡ []
 none_without_starts [] none = refl
-none_without_starts (view ∷ later) none =
-    ap₂ (λ xs ys. xs ++ ys) (ap (flat_map (incomplete_at 0 view later)) (no_starts view view.field none.0 refl)) (none_without_starts later none.1)
+none_without_starts (view ∷ later) none = grind (arith, no_starts, none_without_starts later none.1)
 
 pub incomplete_cases : (channel : List TmView) → (incomplete_of channel ≡ []) ⊎ ((octets : List ℕ) × (incomplete_of channel ≡ octets ∷ []))
 incomplete_cases [] = inl refl
@@ -83,18 +80,13 @@ incomplete_cases (view ∷ later) =
     ]
 
 pub one_is_incomplete : OneIsIncomplete
-one_is_incomplete channel =
-    elim (incomplete_cases channel) [
-      | inl none ↦ omega (arith, ap length none)
-      | inr one ↦ omega (arith, ap length one.1)
-    ]
+one_is_incomplete channel = grind (arith, incomplete_cases)
 
 -- ---- octets that begin a packet
 
 -- octets that begin a packet have version 0
 begun_version : (octets : List ℕ) → front octets ≡ Incomplete → 1 ≤ length octets → version_of octets ≡ 0
-begun_version octets incomplete some =
-    let (more, are_octets, packet) = incomplete_may_become_whole octets incomplete in sym (version_of-append octets more some) ∙ packet.version
+begun_version octets incomplete some = grind (arith, incomplete_may_become_whole, version_of-append)
 
 -- octets of version 0 begin a packet where no packet is whole
 begins : (octets : List ℕ) → version_of octets ≡ 0 → ((packet : List ℕ) → IsPacket packet → IsPrefix packet octets → ⊥) → front octets ≡ Incomplete
@@ -176,14 +168,11 @@ each_incomplete_is_listed channel octets is_incomplete =
 -- ---- incomplete packets are short
 
 incomplete_test : (foreign fewer : Bool) (len : ℕ) → (if foreign then OtherVersion else if fewer then Incomplete else WholePacket len) ≡ Incomplete → fewer ≡ true
-incomplete_test true fewer len e = absurd (cc)
-incomplete_test false true len e = refl
-incomplete_test false false len e = absurd (cc)
+incomplete_test foreign fewer len e = grind arith
 
 -- an incomplete packet has fewer octets than its header states
 pub fewer_than_stated : (octets : List ℕ) → front octets ≡ Incomplete → length octets < stated_packet_len octets
-fewer_than_stated octets e =
-    ltb-true (length octets) (stated_packet_len octets) (incomplete_test (is_foreign octets) (nat_lt (length octets) (stated_packet_len octets)) (stated_packet_len octets) e)
+fewer_than_stated octets e = grind (arith, ltb-true, incomplete_test)
 
 -- a header states 65,542 octets at most
 pub stated_packet_len-most : (octets : List ℕ) → stated_packet_len octets ≤ 65542
@@ -204,5 +193,4 @@ incomplete_is_counted channel octets is_incomplete =
     count_of_one octets (incomplete_of channel) (one_is_incomplete channel) (each_incomplete_is_listed channel octets is_incomplete)
 
 pub what_is_counted_is_incomplete : WhatIsCountedIsIncomplete
-what_is_counted_is_incomplete channel some =
-    some_of_each (IsIncomplete channel) (incomplete_of channel) (each_listed_is_incomplete channel) some
+what_is_counted_is_incomplete channel some = grind (arith, some_of_each, each_listed_is_incomplete)

@@ -65,9 +65,7 @@ same_start channel octets others one other view =
 
 same_octets : (channel : List TmView) (octets others : List ℕ) (one : IsIncomplete channel octets) (other : IsIncomplete channel others)
     → one.view ≡ other.view → one.run ≡ other.run → one.offset ≡ other.offset → octets ≡ others
-same_octets channel octets others one other view run offset =
-    let (first, field) = at_start one.view.field one.first one.field other.first other.field one.carries (ap (λ v. v.field) view ∙ other.carries) in
-    one.came ∙ ap₂ (λ n f. reassembly (drop n f) one.run) offset (sym field) ∙ ap (reassembly (drop other.offset other.field)) run ∙ sym other.came
+same_octets channel octets others one other view run offset = grind (arith, at_start)
 
 pub one_start_is_incomplete : OneStartIsIncomplete
 one_start_is_incomplete channel frame start octets other_frame other_start others x y =

@@ -30,19 +30,14 @@ module _ {X : Type 0} where
   -- a sublist stays one where a test may put the same element in front of both lists
   sublist_both : (test other : Bool) (x y : X) (xs ys : List X) → test ≡ other → x ≡ y → IsSublist xs ys
       → IsSublist (if test then x ∷ xs else xs) (if other then y ∷ ys else ys)
-  sublist_both true true x y xs ys alike same within = inl (same, within)
-  sublist_both true false x y xs ys alike same within = absurd (cc)
-  sublist_both false true x y xs ys alike same within = absurd (cc)
-  sublist_both false false x y xs ys alike same within = within
+  sublist_both test other x y xs ys alike same within = grind arith
 
   -- the elements of a sublist that pass a test are a sublist of those of the list that pass it
   pub sublist_filter : (test : X → Bool) (xs ys : List X) → IsSublist xs ys → IsSublist (filter test xs) (filter test ys)
   sublist_filter test [] ys within = tt
   sublist_filter test (x ∷ xs) [] within = absurd within
-  sublist_filter test (x ∷ xs) (y ∷ ys) (inl here) =
-      sublist_both (test x) (test y) x y (filter test xs) (filter test ys) (ap test here.0) here.0 (sublist_filter test xs ys here.1)
-  sublist_filter test (x ∷ xs) (y ∷ ys) (inr later) =
-      sublist_more (test y) y (filter test (x ∷ xs)) (filter test ys) (sublist_filter test (x ∷ xs) ys later)
+  sublist_filter test (x ∷ xs) (y ∷ ys) (inl here) = grind (arith, sublist_both, sublist_filter test xs ys here.1)
+  sublist_filter test (x ∷ xs) (y ∷ ys) (inr later) = grind (arith, sublist_more, sublist_filter test (x ∷ xs) ys later)
 
 -- ---- the test
 
@@ -67,9 +62,7 @@ all_range test from (suc n) all number above below =
 range_all : (test : ℕ → Bool) (from n : ℕ) → ((number : ℕ) → from ≤ number → number < from + n → test number ≡ true)
     → list_all test (range_with_len from n) ≡ true
 range_all test from zero each = refl
-range_all test from (suc n) each =
-    and_from (test from) (list_all test (range_with_len (from + 1) n)) (each from (omega arith) (omega arith))
-    (range_all test (from + 1) n (λ number above below. each number (omega arith) (omega arith)))
+range_all test from (suc n) each = grind (arith, and_from, range_all test (from + 1) n (λ number above below. each number (omega arith) (omega arith)))
 
 run_from_test : (numbers : List ℕ) (whole : Delivery) → keeps_run numbers whole ≡ true → RunIsKept numbers whole
 run_from_test numbers whole passes number above below =
@@ -88,19 +81,16 @@ test_tells_run numbers whole = (run_from_test numbers whole, test_from_run numbe
 
 module _ {X : Type 0} where
   among_kept : (b : Bool) (x y : X) (ys : List X) → IsAmong x ys → IsAmong x (if b then y ∷ ys else ys)
-  among_kept true x y ys there = inr there
-  among_kept false x y ys there = there
+  among_kept b x y ys there = grind arith
 
   filter_among : (test : X → Bool) (x : X) (xs : List X) → IsAmong x xs → test x ≡ true → IsAmong x (filter test xs)
   filter_among test x [] there passes = absurd there
-  filter_among test x (y ∷ ys) (inl here) passes =
-      subst (λ b. IsAmong x (if b then y ∷ filter test ys else filter test ys)) (sym (ap test (sym here) ∙ passes)) (inl here)
+  filter_among test x (y ∷ ys) (inl here) passes = grind (arith)
   filter_among test x (y ∷ ys) (inr there) passes = among_kept (test y) x y (filter test ys) (filter_among test x ys there passes)
 
 order_kept : (b : Bool) (d : Delivery) (deliveries : List Delivery) → AllByRecursion (StartsBefore d) deliveries → AreInOrder deliveries
     → AreInOrder (if b then d ∷ deliveries else deliveries)
-order_kept true d deliveries after order = (after, order)
-order_kept false d deliveries after order = order
+order_kept b d deliveries after order = grind arith
 
 in_order-filter : (test : Delivery → Bool) (deliveries : List Delivery) → AreInOrder deliveries → AreInOrder (filter test deliveries)
 in_order-filter test [] order = tt
@@ -122,10 +112,7 @@ same_order numbers d e whole other near is_d is_e (inr same) =
     inr (omega (arith, same.0), omega (arith, same.1, is_d.start, is_e.start))
 
 not_both_ways : (d e : Delivery) → StartsBefore d e → StartsBefore e d → ⊥
-not_both_ways d e (inl less) (inl more) = omega arith
-not_both_ways d e (inl less) (inr same) = omega (arith, same.0)
-not_both_ways d e (inr same) (inl more) = omega (arith, same.0)
-not_both_ways d e (inr same) (inr other) = omega (arith, same.1, other.1)
+not_both_ways d e before after = grind arith
 
 module _ (numbers : List ℕ) (near : FewAreLost numbers) where
   -- the delivery is the same as one in this list of the whole channel
@@ -205,8 +192,7 @@ kept_sublist test (d ∷ deliveries) = cases (test d) (kept_sublist test deliver
     cases false later = sublist_more true d.packet (packets_delivered (filter test deliveries)) (packets_delivered deliveries) later
 
 pub packets_are_sublist : PacketsAreSublist
-packets_are_sublist channel numbers kept left =
-    subst (λ l. IsSublist l (packets_delivered (deliveries_of channel))) (sym (packets_are_kept channel numbers kept left)) (kept_sublist (keeps_run numbers) (deliveries_of channel))
+packets_are_sublist channel numbers kept left = grind (arith, packets_are_kept, kept_sublist)
 
 -- ---- recordings
 

@@ -27,18 +27,12 @@ count_after view next test = eqb-true next.vc_count ((view.vc_count + 1) % 256) 
 count_later : (view : TmView) (between : List TmView) (next : TmView) (later : List TmView) → AreConsecutive view (between ++ next ∷ later)
     → next.vc_count ≡ (view.vc_count + (length between + 1)) % 256
 count_later view [] next later each = count_after view next each.0
-count_later view (second ∷ between) next later each =
-    let one = count_after view second each.0 in
-    let rest = count_later second between next later each.1 in
-    omega arith
+count_later view (second ∷ between) next later each = grind (arith, count_after, count_later second between next later each.1)
 
 -- of frames less than 257 apart, only neighbours are consecutive
 none_between : (view : TmView) (between : List TmView) (next : TmView) (later : List TmView) → AreConsecutive view (between ++ next ∷ later)
     → is_consecutive view next ≡ true → length between < 256 → length between ≡ 0
-none_between view between next later each test few =
-    let one = count_after view next test in
-    let other = count_later view between next later each in
-    omega arith
+none_between view between next later each test few = grind (arith, count_after, count_later)
 
 -- ---- numbers
 
@@ -55,9 +49,7 @@ pub at_least : (low : ℕ) (numbers before : List ℕ) (number : ℕ) (after : L
     → low + length before ≤ number
 at_least low numbers [] number after rise same = let first : low ≡ number = cc in omega arith
 at_least low [] (other ∷ before) number after rise same = absurd (some_element before number after (cc))
-at_least low (next ∷ numbers) (other ∷ before) number after rise same =
-    let above = at_least next numbers before number after rise.2 (cc) in
-    omega (arith, rise.0)
+at_least low (next ∷ numbers) (other ∷ before) number after rise same = grind (arith, at_least next numbers before number after rise.2 (cc))
 
 -- ---- frames with numbers
 

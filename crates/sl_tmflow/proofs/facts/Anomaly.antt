@@ -1,5 +1,5 @@
 -- Anomalies at the next frame of a small channel, computed from the definitions.
-use Rattle.std.proofs.Common.{◌≡◌, ℕ, true, false, List, [], ◌∷◌, ◌++◌, None, Some, refl}
+use Rattle.std.proofs.Common.{◌≡◌, ℕ, true, false, List, [], ◌∷◌, ◌++◌, None, Some}
 use Rattle.sl_tmframe.specs.TmFrame.{Packets, Idle, Opaque}
 use Rattle.sl_tmflow.specs.Anomaly.{broken_off, dropped_of, foreign_of, gap_of}
 use Rattle.sl_tmflow.proofs.facts.Incomplete.{frame, long, begun, remainder, packet, idle, covered, passed, first, second}

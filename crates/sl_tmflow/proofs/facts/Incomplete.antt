@@ -1,6 +1,6 @@
 -- Packets that end in the frames of a small channel, and packets that are incomplete after them, computed from the
 -- definitions.
-use Rattle.std.proofs.Common.{◌≡◌, ℕ, List, [], ◌∷◌, ◌++◌, replicate, None, Some, refl}
+use Rattle.std.proofs.Common.{◌≡◌, ℕ, List, [], ◌∷◌, ◌++◌, replicate, None, Some}
 use Rattle.sl_tmframe.specs.TmFrame.{TmView, DataField, Packets, Idle, Opaque}
 use Rattle.sl_tmflow.specs.Delivery.{packets_ending}
 use Rattle.sl_tmflow.specs.Incomplete.{incomplete_of}

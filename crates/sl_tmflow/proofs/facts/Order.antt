@@ -1,6 +1,6 @@
 -- The frames of a normal form of spacecraft 1, as they are read, computed from the definitions: two frames of virtual
 -- channel 0 and one of virtual channel 1, with data fields of 26 octets.
-use Rattle.std.proofs.Common.{◌≡◌, ℕ, false, List, [], ◌∷◌, ◌++◌, map, replicate, take, drop, Some, refl}
+use Rattle.std.proofs.Common.{◌≡◌, ℕ, false, List, [], ◌∷◌, ◌++◌, map, replicate, take, drop, Some}
 use Rattle.std.specs.List.{concat}
 use Rattle.sl_packet.specs.IdlePacket.{idle_packet}
 use Rattle.sl_tmframe.specs.TmFrame.{TmFormat, TmView, Packets}

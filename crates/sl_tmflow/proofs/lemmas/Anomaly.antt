@@ -1,6 +1,6 @@
 -- Gaps of a channel, and octets of another packet version in a data field, are reported where they are. The anomalies
 -- at the next frame, and the octets that are held, from the state of the channel.
-use Rattle.std.proofs.Common.{◌≡◌, ◌≢◌, ℕ, ◌+◌, ◌<◌, ◌≤◌, ◌%◌, ◌==◌, ◌&&◌, ◌||◌, nat_lt, Bool, true, false, not, if◌then◌else◌, List, [], ◌∷◌, ◌++◌, length, drop, None, Some, refl, sym, ◌∙◌, ap, subst, arith, append_assoc, length-drop, ◌⊎◌, inl, inr, append-nil}
+use Rattle.std.proofs.Common.{◌≡◌, ◌≢◌, ℕ, ◌+◌, ◌<◌, ◌%◌, ◌==◌, ◌&&◌, ◌||◌, nat_lt, Bool, true, false, not, if◌then◌else◌, List, [], ◌∷◌, ◌++◌, length, drop, None, Some, refl, sym, ◌∙◌, ap, subst, arith, append_assoc, length-drop, ◌⊎◌, inl, inr, append-nil}
 use Rattle.std.specs.List.{AllByRecursion, concat, list_any, flat_map}
 use Rattle.std.proofs.lemmas.Bool.Decides.{nat_tests}
 use Rattle.std.proofs.lemmas.List.{drop-drop, drop_at}
@@ -13,13 +13,13 @@ use Rattle.sl_tmframe.specs.TmFrame.{DataField, Packets, Idle, Opaque, TmView}
 use Rattle.sl_tmflow.specs.Anomaly.{EachForeignStartIsTold, EachGapIsTold, EachToldIsAForeignStart, EachToldIsAGap, foreign_of, gap_after, gap_of, broken_off, dropped_of}
 use Rattle.sl_tmflow.specs.Channel.{is_consecutive, channel_of}
 use Rattle.sl_tmflow.specs.ChannelState.{foreign_in, ChannelState, held_step, lost_of, lost_by, state_after}
-use Rattle.sl_tmflow.specs.PacketStart.{IsStart, packet_offsets, starts_from}
+use Rattle.sl_tmflow.specs.PacketStart.{packet_offsets, starts_from}
 use Rattle.sl_tmflow.proofs.lemmas.Delivery.Channel.{last_count-push, same_seen, seen_more}
 use Rattle.sl_tmflow.proofs.lemmas.Places.{some_passes, has_last}
 use Rattle.sl_tmflow.proofs.lemmas.Delivery.Start.{each_is_start, is_among}
 use Rattle.sl_packet.proofs.FrontLemmas.{foreign_true, not_foreign}
 use Rattle.std.proofs.Math.Bool.{or-false}
-use Rattle.sl_tmflow.specs.Delivery.{Continuation, Ends, Continues, Breaks, step_of}
+use Rattle.sl_tmflow.specs.Delivery.{Continuation}
 use Rattle.sl_tmflow.specs.Extraction.{HasSeen, IsIncompleteAround, held_as}
 use Rattle.sl_tmflow.specs.Incomplete.{incomplete_of}
 use Rattle.sl_tmflow.proofs.lemmas.Incomplete.BrokenOff.{broken_next, lost, lost_in}

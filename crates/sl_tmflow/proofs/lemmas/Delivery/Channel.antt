@@ -1,20 +1,18 @@
 -- The state of a channel is the one that its frames lead to, frame by frame.
-use Rattle.std.proofs.Common.{◌≡◌, ℕ, ◌<◌, ◌≤◌, ◌==◌, nat_eq, Bool, true, false, if◌then◌else◌, List, [], ◌∷◌, ◌++◌, length, take, drop, set, Option, None, Some, Result, inl, inr, refl, sym, ◌∙◌, ap, subst, arith, append-nil}
+use Rattle.std.proofs.Common.{◌≡◌, ℕ, ◌<◌, ◌≤◌, Bool, false, if◌then◌else◌, List, [], ◌∷◌, ◌++◌, length, set, Option, Some, Result, inl, inr, refl, sym, ◌∙◌, ap, subst, arith, append-nil}
 use Rattle.std.specs.List.{flat_map, slice_index_or}
-use Rattle.std.specs.Option.{option_eq}
 use Rattle.std.proofs.lemmas.Bool.Decides.{eqb_tells}
 use Rattle.std.proofs.lemmas.List.{get_or_default, get_or-set_same, get_or-set_other}
 use Rattle.std.proofs.lemmas.List.Elements.{filter-append}
-use Rattle.sl_packet.specs.Front.{Front, OtherVersion, Incomplete, WholePacket, front}
-use Rattle.sl_packet.specs.Packets.{rest_of}
+use Rattle.sl_packet.specs.Front.{Front, front}
 use Rattle.sl_packet.specs.Stopping.{HandsOver}
 use Rattle.sl_packet.specs.declared.flow_fault.FlowFault.{FlowFault}
 use Rattle.sl_packet.specs.declared.sink.SinkFault.{SinkFault}
 use Rattle.sl_packet.proofs.StoppingLemmas.{hands_same}
-use Rattle.sl_tmframe.specs.TmFrame.{TmView, DataField, Packets, Idle, Opaque}
-use Rattle.sl_tmflow.specs.Channel.{channel_of, follows, last_count, packet_data}
+use Rattle.sl_tmframe.specs.TmFrame.{TmView, DataField, Packets}
+use Rattle.sl_tmflow.specs.Channel.{channel_of, last_count}
 use Rattle.sl_tmflow.specs.ChannelState.{ChannelState, KeptChannel, new_channel, held_step, kept_of, kept_octets, incomplete_in, held_after, state_after, packets_after}
-use Rattle.sl_tmflow.specs.Delivery.{Continuation, Ends, Continues, Breaks, agreeing_pointer, ended, field_step, front_step, outcome_of, outcome_of_front, packets_ending, step_of}
+use Rattle.sl_tmflow.specs.Delivery.{Continuation, Ends, Breaks, ended, front_step, outcome_of, outcome_of_front, packets_ending, step_of}
 use Rattle.sl_tmflow.specs.Incomplete.{frame_incomplete, incomplete_octets}
 use Rattle.sl_tmflow.specs.Extraction.{ExtractorState, HasSeen, HasProcessed, ended_by, held_as}
 use Rattle.sl_tmflow.specs.PacketStart.{whole_packets}

@@ -1,12 +1,12 @@
 -- The list of the deliveries of a channel: each listed one is a delivery, each delivery is listed, and they are in
 -- order.
-use Rattle.std.proofs.Common.{◌≡◌, ℕ, ◌+◌, ◌<◌, ◌≤◌, List, [], ◌∷◌, ◌++◌, length, drop, Option, inl, inr, refl, sym, ◌∙◌, ap, subst, arith, append_assoc}
+use Rattle.std.proofs.Common.{◌≡◌, ℕ, ◌+◌, ◌<◌, ◌≤◌, List, [], ◌∷◌, ◌++◌, length, drop, Option, inl, refl, sym, ◌∙◌, ap, subst, arith, append_assoc}
 use Rattle.std.specs.List.{AllByRecursion, flat_map}
-use Rattle.sl_tmframe.specs.TmFrame.{TmView, DataField, Packets, Idle, Opaque}
+use Rattle.sl_tmframe.specs.TmFrame.{TmView, DataField, Packets}
 use Rattle.sl_tmflow.specs.Channel.{data_of, packet_data}
 use Rattle.sl_tmflow.specs.Among.{IsAmong}
-use Rattle.sl_tmflow.specs.PacketStart.{IsStart, starts_from, starts_of}
-use Rattle.sl_tmflow.specs.Delivery.{Delivery, IsDeliveredBy, IsDelivery, Outcome, Completes, StillIncomplete, Undelivered, outcome_of, delivery_of, frame_deliveries, deliveries_from, deliveries_of, EachIsDelivery, EachIsListed, StartsBefore, AreInOrder, DeliveriesAreInOrder}
+use Rattle.sl_tmflow.specs.PacketStart.{IsStart, starts_of}
+use Rattle.sl_tmflow.specs.Delivery.{Delivery, IsDeliveredBy, IsDelivery, Outcome, Completes, outcome_of, delivery_of, frame_deliveries, deliveries_from, deliveries_of, EachIsDelivery, EachIsListed, StartsBefore, AreInOrder, DeliveriesAreInOrder}
 use Rattle.sl_fields.proofs.ListLemmas.{each-append, each-every, each-flat_map, each-weaker}
 use Rattle.sl_tmflow.proofs.lemmas.Delivery.Start.{AreRising, each_found, field_starts_rise, found_among}
 use Rattle.sl_tmflow.proofs.lemmas.Delivery.Outcome.{outcome_delivered, delivered_outcome}

@@ -1,12 +1,12 @@
 -- What the next frame of a channel does: the packets that end in it, and the packet that is incomplete after it.
-use Rattle.std.proofs.Common.{◌≡◌, ℕ, ◌+◌, ◌≤◌, ◌==◌, cond, List, [], ◌∷◌, ◌++◌, length, take, drop, None, Some, refl, sym, ◌∙◌, ap, ap₂, arith, length-append, append-nil, append_assoc, eq-eqb, ne_eqb}
+use Rattle.std.proofs.Common.{◌≡◌, ℕ, ◌+◌, ◌≤◌, List, [], ◌∷◌, ◌++◌, length, drop, None, Some, refl, sym, ◌∙◌, ap, ap₂, arith, length-append, append-nil, append_assoc, eq-eqb, ne_eqb}
 use Rattle.std.specs.List.{flat_map}
 use Rattle.std.proofs.lemmas.Grind.{flat_map-append}
 use Rattle.std.proofs.lemmas.List.{map-append, map-id, take_at}
 use Rattle.std.proofs.lemmas.List.Concat.{flat_map_single}
 use Rattle.std.proofs.lemmas.List.Elements.{filter-append}
 use Rattle.sl_packet.specs.Packet.{IsPacket}
-use Rattle.sl_packet.specs.Front.{Front, OtherVersion, Incomplete, WholePacket, front}
+use Rattle.sl_packet.specs.Front.{Front, WholePacket, front}
 use Rattle.sl_packet.specs.Packets.{whole_at, packets_of, rest_of}
 use Rattle.sl_packet.proofs.FrontLemmas.{packet_is_whole}
 use Rattle.sl_tmframe.specs.TmFrame.{TmView, DataField, Packets, Idle, Opaque}
@@ -16,7 +16,7 @@ use Rattle.sl_tmflow.specs.Delivery.{Delivery, Outcome, Completes, StillIncomple
 use Rattle.sl_tmflow.specs.Incomplete.{incomplete_octets, frame_incomplete, incomplete_of}
 use Rattle.sl_tmflow.proofs.lemmas.Incomplete.After.{last_of, last_of-push}
 use Rattle.sl_tmflow.proofs.lemmas.Delivery.Outcome.{outcome_delivered}
-use Rattle.sl_tmflow.proofs.lemmas.Delivery.Listed.{field_deliveries, delivery_with}
+use Rattle.sl_tmflow.proofs.lemmas.Delivery.Listed.{field_deliveries}
 use Rattle.sl_tmflow.proofs.lemmas.Delivery.Start.{flat_map-pieces, at_rest, at_starts, none_in_rest}
 
 -- ---- a packet start

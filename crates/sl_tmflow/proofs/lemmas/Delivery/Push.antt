@@ -4,17 +4,17 @@ use Rattle.std.specs.List.{AllByRecursion, flat_map}
 use Rattle.std.proofs.lemmas.List.{map-append, map-id, take_at}
 use Rattle.std.proofs.lemmas.List.Concat.{flat_map_single}
 use Rattle.sl_packet.specs.Packet.{IsPacket}
-use Rattle.sl_packet.specs.Front.{Front, OtherVersion, Incomplete, WholePacket, front}
+use Rattle.sl_packet.specs.Front.{Front, front}
 use Rattle.sl_packet.specs.Packets.{whole_at, packets_of, rest_of}
 use Rattle.sl_packet.proofs.FrontLemmas.{packet_is_whole}
 use Rattle.sl_tmframe.specs.TmFrame.{TmView, DataField, Packets, Idle, Opaque}
 use Rattle.sl_tmflow.specs.Channel.{data_of, packet_data}
 use Rattle.sl_tmflow.specs.PacketStart.{starts_from, starts_of, whole_packets}
-use Rattle.sl_tmflow.specs.Delivery.{Delivery, Outcome, Completes, StillIncomplete, Undelivered, Continuation, Ends, Continues, Breaks, ended, step_of, after_step, outcome_of_front, outcome_of, delivery_of, frame_deliveries, deliveries_from, deliveries_of, packets_delivered, packets_ending, PacketsEndOnce}
+use Rattle.sl_tmflow.specs.Delivery.{Delivery, Outcome, Completes, StillIncomplete, Undelivered, Continuation, ended, step_of, after_step, outcome_of_front, outcome_of, delivery_of, frame_deliveries, deliveries_from, packets_delivered, packets_ending, PacketsEndOnce}
 use Rattle.sl_tmflow.specs.Incomplete.{HasNoStart, incomplete_octets, frame_incomplete, incomplete_of}
 use Rattle.sl_tmflow.proofs.lemmas.Delivery.Start.{flat_map-pieces, at_rest, at_starts, no_starts}
 use Rattle.sl_packet.proofs.CountLemmas.{split_count, packets_within}
-use Rattle.sl_tmflow.proofs.lemmas.Delivery.Listed.{delivery_at, field_deliveries}
+use Rattle.sl_tmflow.proofs.lemmas.Delivery.Listed.{field_deliveries}
 use Rattle.sl_tmflow.proofs.lemmas.Places.{few_each, has_last}
 use Rattle.sl_tmflow.proofs.lemmas.Incomplete.List.{field_incomplete, incomplete_from_pointer, one_of_field, one_is_incomplete}
 use Rattle.sl_tmflow.proofs.lemmas.Delivery.OneMore.{with_next, outcome_of-push, packets_at, packets_at-append, at_last, ended_in, frame_ending-push, ending_first, ending_next}

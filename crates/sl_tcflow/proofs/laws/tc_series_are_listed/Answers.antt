@@ -1,11 +1,5 @@
-use Rattle.sl_tcflow.proofs.lemmas.Series.Series.{each_is_series, each_series_is_listed, series_are_apart}
+use Rattle.sl_tcflow.proofs.lemmas.Series.Listed.{each_is_series, each_series_is_listed, series_are_apart}
 use Rattle.sl_tcflow.proofs.laws.tc_series_are_listed.Goals as goal
 
-pub returns-clause-each : goal.returns-clause-each
-returns-clause-each c = each_is_series
-
-pub returns-clause-all : goal.returns-clause-all
-returns-clause-all c = each_series_is_listed
-
-pub returns-clause-apart : goal.returns-clause-apart
-returns-clause-apart c = series_are_apart
+pub returns : goal.returns
+returns c = record { each = each_is_series; all = each_series_is_listed; apart = series_are_apart }

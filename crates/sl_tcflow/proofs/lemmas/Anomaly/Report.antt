@@ -10,7 +10,7 @@ use Rattle.sl_tcflow.specs.Receiving.{AreIncomplete, channel_at, map_by, segment
 use Rattle.sl_tcflow.specs.ReceptionParameters.{ReceptionParameters}
 use Rattle.sl_tcflow.specs.Series.{flags_of, header_at, segment_data}
 use Rattle.sl_tcflow.specs.StepReport.{StepReport}
-use Rattle.sl_tcflow.proofs.lemmas.Anomaly.Anomaly.{told_at, told_none}
+use Rattle.sl_tcflow.proofs.lemmas.Anomaly.Told.{told_at, told_none}
 use Rattle.sl_tcflow.proofs.lemmas.Reception.Ended.{tail_next}
 
 -- the report on a frame whose unit is accepted

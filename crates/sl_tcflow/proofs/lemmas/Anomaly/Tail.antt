@@ -10,7 +10,7 @@ use Rattle.sl_tcflow.specs.Anomaly.{left_in, tail_of, HasTail, TailIsTold, WhatI
 use Rattle.sl_tcflow.specs.Incomplete.{are_continuing}
 use Rattle.sl_tcflow.specs.Series.{flags_of, IsSeriesOf, SeriesAt, past, reassembled, series_of}
 use Rattle.sl_tcflow.proofs.lemmas.Series.OneMore.{each_ending, ending_is, series_ending, series_next, series_within}
-use Rattle.sl_tcflow.proofs.lemmas.Series.Series.{each_is_series, each_series_is_listed, series_at}
+use Rattle.sl_tcflow.proofs.lemmas.Series.Listed.{each_is_series, each_series_is_listed, series_at}
 
 -- ---- lists
 

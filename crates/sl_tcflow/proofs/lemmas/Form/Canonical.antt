@@ -18,7 +18,7 @@ use Rattle.sl_tcflow.specs.Recording.{map_channels, packets_of_channel, recorded
 use Rattle.sl_tcflow.specs.Series.{segment_in, segments_on}
 use Rattle.sl_tcflow.specs.TcNormalForm.{tc_frames_form, tc_normal_form_of, units_of_maps}
 use Rattle.sl_fields.proofs.ListLemmas.{each-at, each-drop, each-take, each-weaker, filter_all}
-use Rattle.sl_tcflow.proofs.lemmas.Form.Form.{all_accepted, channel_back, form_cut, form_within, lists_on, some_room}
+use Rattle.sl_tcflow.proofs.lemmas.Form.Frames.{all_accepted, channel_back, form_cut, form_within, lists_on, some_room}
 use Rattle.sl_tcflow.proofs.lemmas.Form.Plain.{back_on, list_on}
 use Rattle.sl_packet.proofs.WithoutIdleLemmas.{due_packets}
 

@@ -15,13 +15,13 @@ use Rattle.sl_tcflow.specs.FormOrder.{CarryPackets, EachPacketIsOneSeries, none,
 use Rattle.sl_tcflow.specs.Series.{whole, header_at, segment_data, segment_in, segments_on, whole_segment}
 use Rattle.sl_tcflow.specs.TcNormalForm.{AreSegments, IsDividedInto, last, units_of_maps, units_of_packet}
 use Rattle.sl_fields.proofs.ListLemmas.{each-at, each-every, each-map, filter_all, filter_none}
-use Rattle.sl_tcflow.proofs.lemmas.Form.Form.{lists_on, some_room, views_from}
+use Rattle.sl_tcflow.proofs.lemmas.Form.Frames.{lists_on, some_room, views_from}
 use Rattle.sl_tcflow.proofs.lemmas.Form.Order.{own_views, units}
 use Rattle.sl_tcflow.proofs.lemmas.Form.Plain.{first_on, list_on, others_empty}
 use Rattle.sl_tcflow.proofs.lemmas.Series.Divided.{each_is_divided}
 use Rattle.sl_tcflow.proofs.lemmas.Series.Part.{packet_size}
 use Rattle.sl_tcflow.proofs.lemmas.Series.Segment.{flat_units, parts_of_map, units_are_packets, units_are_segments}
-use Rattle.sl_tcflow.proofs.lemmas.Series.Whole.{plain_unit_is_whole}
+use Rattle.sl_tcflow.proofs.lemmas.Series.Whole.{all_segments, no_segments, plain_unit_is_whole}
 
 -- the units of the frames, as they are read
 units_back : (vc ns : ℕ) (list : List (List ℕ)) → flat_map (λ (view : TcView). unit_of view.content) (views_from vc ns list) ≡ list
@@ -54,20 +54,6 @@ undivided room (packet ∷ packets) each short =
     more packet (whole_segment packet ∷ []) packets (map whole_segment packets)
     (one_segment room packet (packet_size packet each.0).0 short.0) (undivided room packets each.1 short.1)
 
-all_on_0 : (packets : List (List ℕ)) → segments_on 0 (map whole_segment packets) ≡ map whole_segment packets
-all_on_0 packets =
-    filter_all (λ segment. (header_at segment).map == 0) (map whole_segment packets)
-    (each-map (λ segment. ((header_at segment).map == 0) ≡ true) whole_segment packets
-    (each-every (λ packet. ((header_at (whole_segment packet)).map == 0) ≡ true)
-    (λ packet. eq-eqb (header_at (whole_segment packet)).map 0 (let is = plain_unit_is_whole packet in is.map)) packets))
-
-none_above_0 : (map_id : ℕ) (packets : List (List ℕ)) → 0 < map_id → segments_on map_id (map whole_segment packets) ≡ []
-none_above_0 map_id packets above =
-    filter_none (λ segment. (header_at segment).map == map_id) (map whole_segment packets)
-    (each-map (λ segment. ((header_at segment).map == map_id) ≡ false) whole_segment packets
-    (each-every (λ packet. ((header_at (whole_segment packet)).map == map_id) ≡ false)
-    (λ packet. ne_eqb (header_at (whole_segment packet)).map map_id (λ e. let is = plain_unit_is_whole packet in let on = is.map in omega (arith, e, on, above))) packets))
-
 -- ---- the segments of a virtual channel and a MAP
 
 module _ (format : TcFormat) (lists : List (List (List ℕ))) (vc : ℕ) (inside : vc < 64) (are : AreDeliverable lists) where
@@ -98,13 +84,13 @@ module _ (format : TcFormat) (lists : List (List (List ℕ))) (vc : ℕ) (inside
       units_are_packets (segment_room_of format) 0 (lists_on lists vc) (others_empty format lists vc fit) ∙ first_on lists vc in
       let index : 64 * vc ≡ 64 * vc + 0 = omega arith in
       subst (λ n. CarryPackets (plain_room_of format) 0 (packets_at n) (segments_on 0 (map whole_segment (units_of_maps true (segment_room_of format) 0 (lists_on lists vc))))) index
-      (subst (CarryPackets (plain_room_of format) 0 (packets_at (64 * vc))) (sym (ap (λ l. segments_on 0 (map whole_segment l)) units ∙ all_on_0 (packets_at (64 * vc))))
+      (subst (CarryPackets (plain_room_of format) 0 (packets_at (64 * vc))) (sym (ap (λ l. segments_on 0 (map whole_segment l)) units ∙ all_segments (packets_at (64 * vc))))
       (undivided (plain_room_of format) (packets_at (64 * vc)) (are_packets (64 * vc)) fit.short))
   carried true (suc map_id) small some fits =
       let fit = fits refl in
       let list = units_of_maps true (segment_room_of format) 0 (lists_on lists vc) in
       subst (λ packets. CarryPackets (plain_room_of format) (suc map_id) packets (segments_on (suc map_id) (map whole_segment list))) (sym (fit.others (suc map_id) (omega arith) small))
-      (subst (CarryPackets (plain_room_of format) (suc map_id) []) (sym (none_above_0 (suc map_id) list (omega arith))) none)
+      (subst (CarryPackets (plain_room_of format) (suc map_id) []) (sym (no_segments (suc map_id) list (omega arith))) none)
 
 pub each_packet_is_one_series : EachPacketIsOneSeries
 each_packet_is_one_series format spacecraft starts plain lists can vc map_id inside small =

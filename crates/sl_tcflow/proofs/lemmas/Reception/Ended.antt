@@ -11,7 +11,7 @@ use Rattle.sl_tcflow.specs.Reception.{packets_ended}
 use Rattle.sl_tcflow.specs.Series.{flags_of, segment_data, SeriesAt, past, series_of, reassembled}
 use Rattle.sl_tcflow.proofs.lemmas.Series.Fit.{reassembled-push, extended_fits}
 use Rattle.sl_tcflow.proofs.lemmas.Series.OneMore.{series_ending, ending_is}
-use Rattle.sl_tcflow.proofs.lemmas.Series.Series.{series_at}
+use Rattle.sl_tcflow.proofs.lemmas.Series.Listed.{series_at}
 
 -- ---- by the sequence flags of the next segment
 

@@ -55,9 +55,6 @@ pub record AreSet (w : ℕ) (starts : List ℕ) (n : ℕ) (farms : List FarmView
   pub count : length farms ≡ 64
   pub each : (vc : ℕ) (d : FarmView) → vc < n → slice_index_or farms vc d ≡ record { window = w; state = farm_start (slice_index_or starts vc 0) }
 
-pub stepped_none : (r : ReceptionParameters) (farms : List FarmView) → AreSet r.window r.starts 64 farms → HaveStepped r farms []
-stepped_none r farms s = record { count = s.count; each = λ vc below. s.each vc (farm_at_start r vc) below }
-
 same_farm : (a b : FarmView) → a.window ≡ b.window → a.state ≡ b.state → a ≡ b
 same_farm a b window state = ap₂ (λ w s. record { window = w; state = s }) window state
 

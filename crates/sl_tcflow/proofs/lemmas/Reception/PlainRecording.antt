@@ -27,8 +27,8 @@ use Rattle.sl_tcflow.specs.Series.{SeriesAt, reassembled, segment_in, segments_o
 use Rattle.sl_fields.proofs.ListLemmas.{each-append, each-filter, each-weaker}
 use Rattle.sl_tcflow.proofs.lemmas.Reception.Reordered.{recorded_on}
 use Rattle.sl_tcflow.proofs.lemmas.Series.Segment.{octets_of_unit}
-use Rattle.sl_tcflow.proofs.lemmas.Series.Series.{begins_whole, series_at}
-use Rattle.sl_tcflow.proofs.lemmas.Series.Whole.{header_of_whole}
+use Rattle.sl_tcflow.proofs.lemmas.Series.Listed.{begins_whole, series_at}
+use Rattle.sl_tcflow.proofs.lemmas.Series.Whole.{all_segments, header_of_whole, no_segments}
 
 -- ---- the units of frames
 
@@ -94,23 +94,6 @@ units_within format spacecraft r vc frames =
     let channel = channel_of vc views in
     accepted_within (plain_room_of format) (verdicts_of r.window (farm_start (initial_vr r vc)) (events_of channel)) channel
     (each-filter (IsViewWithin (plain_room_of format)) (IsViewWithin (plain_room_of format)) (λ view. view.vc == vc) (λ view exceeds_limit is. is) views (each_view format spacecraft frames))
-
--- ---- whole segments
-
--- whole segments are on no other MAP than 0
-no_segments : (map_id : ℕ) (units : List (List ℕ)) → 0 < map_id → segments_on map_id (map whole_segment units) ≡ []
-no_segments map_id [] other = refl
-no_segments map_id (unit ∷ units) other =
-    ap (λ (h : SegmentFields). cond (h.map == map_id) (whole_segment unit ∷ segments_on map_id (map whole_segment units)) (segments_on map_id (map whole_segment units))) (header_of_whole unit)
-    ∙ ap (λ b. cond b (whole_segment unit ∷ segments_on map_id (map whole_segment units)) (segments_on map_id (map whole_segment units))) (ne_eqb 0 map_id (λ e. absurd (omega (arith, e, other))))
-    ∙ no_segments map_id units other
-
--- whole segments are all on MAP 0
-all_segments : (units : List (List ℕ)) → segments_on 0 (map whole_segment units) ≡ map whole_segment units
-all_segments [] = refl
-all_segments (unit ∷ units) =
-    ap (λ (h : SegmentFields). cond (h.map == 0) (whole_segment unit ∷ segments_on 0 (map whole_segment units)) (segments_on 0 (map whole_segment units))) (header_of_whole unit)
-    ∙ ap (λ l. whole_segment unit ∷ l) (all_segments units)
 
 -- no packet has more octets than the list of packets end to end
 each_within : (packets : List (List ℕ)) → AreWithin (length (concat packets)) packets

@@ -5,7 +5,7 @@ use Rattle.std.proofs.lemmas.Bool.{cases_lt}
 use Rattle.sl_tcflow.specs.Incomplete.{IsIncomplete, if_fits, are_continuing, incomplete_of, WhatIsToldIsIncomplete, IncompleteIsTold, OneBegins, OneIsIncomplete, IncompleteFits}
 use Rattle.sl_tcflow.specs.Series.{flags_of, reassembled}
 use Rattle.sl_tcflow.proofs.lemmas.Series.Fit.{fits_some, fits_are}
-use Rattle.sl_tcflow.proofs.lemmas.Series.Series.{IsContinuing}
+use Rattle.sl_tcflow.proofs.lemmas.Series.Listed.{IsContinuing}
 use Rattle.std.proofs.lemmas.Bool.{and_left, and_parts, and_right}
 
 -- ---- continuing segments

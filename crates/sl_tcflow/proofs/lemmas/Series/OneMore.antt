@@ -12,7 +12,7 @@ use Rattle.sl_tcflow.specs.Series.{flags_of, segment_data, SeriesAt, IsSeriesOf,
 use Rattle.sl_fields.proofs.ListLemmas.{each-weaker, filter_all, filter_none}
 use Rattle.sl_tcflow.proofs.lemmas.Series.Fit.{reassembled-push, extended_fits}
 use Rattle.sl_tcflow.proofs.lemmas.Series.Incomplete.{continuing_each}
-use Rattle.sl_tcflow.proofs.lemmas.Series.Series.{IsContinuing, series_at, completed_continuing, completed_last, completed_other, completed_all, begins_whole, begins_divided, begins_none, each_is_series}
+use Rattle.sl_tcflow.proofs.lemmas.Series.Listed.{IsContinuing, series_at, completed_continuing, completed_last, completed_other, completed_all, begins_whole, begins_divided, begins_none, each_is_series}
 use Rattle.std.proofs.lemmas.Bool.{and_parts}
 use Rattle.std.proofs.Math.Bool.{and_assoc}
 

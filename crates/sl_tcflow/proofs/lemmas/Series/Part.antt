@@ -16,7 +16,7 @@ use Rattle.sl_tcflow.specs.TcNormalForm.{segment_count, piece_at, flags_at, segm
 use Rattle.sl_fields.proofs.ListLemmas.{each-append, each-weaker}
 use Rattle.sl_tcflow.proofs.lemmas.Form.Pushed.{counts_more}
 use Rattle.sl_tcflow.proofs.lemmas.Series.Segment.{unit_made, part_at, part_is, segments_of_packet, units_of_parts, header_of_unit, octets_of_unit}
-use Rattle.sl_tcflow.proofs.lemmas.Series.Series.{IsContinuing, BeginsNone, series_at, begins_whole, begins_divided, completed_all, none_begin, continuing_begins_none, last_begins_none}
+use Rattle.sl_tcflow.proofs.lemmas.Series.Listed.{IsContinuing, BeginsNone, series_at, begins_whole, begins_divided, completed_all, none_begin, continuing_begins_none, last_begins_none}
 
 -- ---- the octets of the segments
 

@@ -1,6 +1,6 @@
 -- The segments of the units of a virtual channel without segment headers: none of them leaves a series incomplete,
 -- and octets that are left are their only anomaly.
-use Rattle.std.proofs.Common.{◌≡◌, ℕ, ◌==◌, ◌&&◌, Bool, true, false, if◌then◌else◌, List, [], ◌∷◌, length, map, None, refl, ◌∙◌, ap, arith}
+use Rattle.std.proofs.Common.{◌≡◌, ℕ, ◌<◌, ◌==◌, ◌&&◌, Bool, true, false, cond, if◌then◌else◌, List, [], ◌∷◌, length, map, None, refl, ◌∙◌, ap, arith, ne_eqb}
 use Rattle.std.specs.List.{AllByRecursion}
 use Rattle.std.specs.Prelude.{is_none, option_map}
 use Rattle.sl_fields.specs.SegmentHeader.{SegmentFields}
@@ -86,3 +86,20 @@ plain_unit_has_tail_alone r views next plain =
       dropped = told_of_whole None (dropped_of before) (λ unit. none_dropped before unit none) (is_plain r next.vc) units plain;
       long = told_of_whole false (long_of before) (λ unit. none_long before unit) (is_plain r next.vc) units plain;
     }
+
+-- ---- whole segments
+
+-- whole segments are on no other MAP than 0
+pub no_segments : (map_id : ℕ) (units : List (List ℕ)) → 0 < map_id → segments_on map_id (map whole_segment units) ≡ []
+no_segments map_id [] other = refl
+no_segments map_id (unit ∷ units) other =
+    ap (λ (h : SegmentFields). cond (h.map == map_id) (whole_segment unit ∷ segments_on map_id (map whole_segment units)) (segments_on map_id (map whole_segment units))) (header_of_whole unit)
+    ∙ ap (λ b. cond b (whole_segment unit ∷ segments_on map_id (map whole_segment units)) (segments_on map_id (map whole_segment units))) (ne_eqb 0 map_id (λ e. absurd (omega (arith, e, other))))
+    ∙ no_segments map_id units other
+
+-- whole segments are all on MAP 0
+pub all_segments : (units : List (List ℕ)) → segments_on 0 (map whole_segment units) ≡ map whole_segment units
+all_segments [] = refl
+all_segments (unit ∷ units) =
+    ap (λ (h : SegmentFields). cond (h.map == 0) (whole_segment unit ∷ segments_on 0 (map whole_segment units)) (segments_on 0 (map whole_segment units))) (header_of_whole unit)
+    ∙ ap (λ l. whole_segment unit ∷ l) (all_segments units)

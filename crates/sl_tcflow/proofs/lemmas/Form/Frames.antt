@@ -94,15 +94,7 @@ module _ (format : TcFormat) (spacecraft : ℕ) (is : IsFormat format) (known : 
 
   fits_frame : (vc ns : ℕ) (unit : List ℕ) → vc ≤ 63 → ns < 256 → IsUnit format unit → FitAdFrame format spacecraft vc ns unit
   fits_frame vc ns unit below small s =
-      record {
-        least = is.least;
-        most = is.most;
-        spacecraft_fits = known;
-        vc_fits = below;
-        ns_fits = small;
-        some = s.0;
-        inside = s.1;
-      }
+      record { least = is.least; most = is.most; spacecraft_fits = known; vc_fits = below; ns_fits = small; some = s.0; inside = s.1 }
 
   -- a property of each frame that fits holds for all frames
   each_of_units : (P : List ℕ → Type 0)

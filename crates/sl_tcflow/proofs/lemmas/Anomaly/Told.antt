@@ -101,12 +101,7 @@ pub what_is_told_is_dropped : WhatIsToldIsDropped
 what_is_told_is_dropped list next count e =
     let (test, counted) = some_if (begins next) (octets_held list) count e in
     let (octets, x, count_is) = some_held list (incomplete_of list) count refl counted in
-    record {
-      anew = one_of (flags_of next) 1 3 test;
-      octets = octets;
-      incomplete = x;
-      count_is = count_is;
-    }
+    record { anew = one_of (flags_of next) 1 3 test; octets = octets; incomplete = x; count_is = count_is }
 
 -- ---- too long
 
@@ -125,9 +120,4 @@ pub what_is_told_is_long : WhatIsToldIsLong
 what_is_told_is_long list next e =
     let (test, over) = and_parts (continues next) (exceeds_limit (octets_held list) (length (segment_data next))) e in
     let (octets, x, too_many) = some_passes list (incomplete_of list) (length (segment_data next)) refl over in
-    record {
-      goes_on = one_of (flags_of next) 0 2 test;
-      octets = octets;
-      incomplete = x;
-      too_many = too_many;
-    }
+    record { goes_on = one_of (flags_of next) 0 2 test; octets = octets; incomplete = x; too_many = too_many }

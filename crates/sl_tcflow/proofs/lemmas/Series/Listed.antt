@@ -96,15 +96,7 @@ completion so_far (segment ∷ later) =
             | inl (test', is) ↦ inr (
               so_far ++ segment ∷ [],
               completed_last so_far segment later is,
-              record {
-                middle = [];
-                last = segment;
-                more = later;
-                in_order = refl;
-                goes_on = tt;
-                ends = is;
-                series_is = refl;
-              },
+              record { middle = []; last = segment; more = later; in_order = refl; goes_on = tt; ends = is; series_is = refl },
             )
             | inr (test', not_2) ↦ inl (completed_other so_far segment later not_0 not_2)
           ]
@@ -156,14 +148,7 @@ beginning segment later =
       | inl (test, is) ↦ inr (
         segment ∷ [],
         begins_whole segment later is,
-        record {
-          tail = [];
-          behind = later;
-          in_order = refl;
-          series_is = refl;
-          is_series = whole segment is;
-          begin_none = tt;
-        },
+        record { tail = []; behind = later; in_order = refl; series_is = refl; is_series = whole segment is; begin_none = tt },
       )
       | inr (test, not_3) ↦
           elim (eqb_tells (flags_of segment) 1) [

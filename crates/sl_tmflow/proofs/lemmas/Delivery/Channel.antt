@@ -1,5 +1,6 @@
 -- The state of a channel is the one that its frames lead to, frame by frame.
 use Rattle.std.proofs.Common.{◌≡◌, ℕ, ◌<◌, ◌≤◌, Bool, false, if◌then◌else◌, List, [], ◌∷◌, ◌++◌, length, set, Option, Some, Result, inl, inr, refl, sym, ◌∙◌, ap, subst, arith, append-nil}
+use Rattle.std.proofs.lemmas.Grind.{common_steps}
 use Rattle.std.specs.List.{flat_map, slice_index_or}
 use Rattle.std.proofs.lemmas.Bool.Decides.{eqb_tells}
 use Rattle.std.proofs.lemmas.List.{get_or_default, get_or-set_same, get_or-set_other}
@@ -139,8 +140,7 @@ seen_at old views states at vc d p are eight fits same = grind (arith, get_or_de
 module _ (old : ExtractorState) (views : List TmView) (next : TmView) (states : List KeptChannel) (at : ℕ) (d : KeptChannel) where
   pub ended_now : HasProcessed old views → states ≡ old.channels → length states ≡ 8 → next.vc ≤ 7 → at ≡ next.vc
       → ended_by views next ≡ packets_after (slice_index_or states at d).state next
-  ended_now p are eight fits same =
-      one_more (slice_index_or states at d).state (channel_of next.vc views) next (seen_at old views states at next.vc d p are eight fits same)
+  ended_now p are eight fits same = grind (arith, common_steps, one_more, seen_at)
 
   -- a step that hands over the packets of the state hands over those that end in the frame
   pub handed_now : {S : Type 0} {taking : S → ℕ → List ℕ → S → Type 0} {failing : S → ℕ → List ℕ → SinkFault → S → Type 0} {failures : S → ℕ}

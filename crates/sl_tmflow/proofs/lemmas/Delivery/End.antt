@@ -1,5 +1,6 @@
 -- Packets in the order of their starts are in the order of their ends, and no two share an octet.
 use Rattle.std.proofs.Common.{◌≡◌, ℕ, ◌+◌, ◌-◌, ◌<◌, ◌≤◌, nat_lt, Bool, if◌then◌else◌, List, [], ◌∷◌, ◌++◌, length, take, drop, map, Option, None, Some, inl, inr, refl, sym, ◌∙◌, ap, subst, arith, length-append, length-drop, append-nil, append_assoc}
+use Rattle.std.proofs.lemmas.Grind.{common_steps}
 use Rattle.std.proofs.lemmas.Bool.{cases_lt}
 use Rattle.std.proofs.lemmas.List.{append_cancel_left, length_push, take-append-drop, take-append-le, take_at, nil_from_length}
 use Rattle.std.specs.List.{AllByRecursion, concat}
@@ -78,12 +79,7 @@ at_start data_field first octets first' octets' is is' = let same : Packets firs
 -- the start of another packet in the same frame is one of the same data field
 start_in_frame : (channel : List TmView) (d e : Delivery) (is_d : IsDelivery channel d) → IsDelivery channel e → d.frame ≡ e.frame
     → IsStart is_d.octets is_d.first e.start
-start_in_frame channel d e is_d is_e same =
-    let view : is_d.view ≡ is_e.view =
-    (same_place is_d.before is_e.before is_d.view is_e.view (is_d.run ++ is_d.after) (is_e.run ++ is_e.after) (sym (from_frame channel d is_d) ∙ from_frame channel e is_e)
-    (omega (arith, is_d.frame, is_e.frame))).0 in
-    let (first, octets) = at_start is_d.view.field is_d.first is_d.octets is_e.first is_e.octets is_d.field (ap (λ v. v.field) view ∙ is_e.field) in
-    subst (λ o. IsStart o is_d.first e.start) octets (subst (λ f. IsStart is_e.octets f e.start) first is_e.start)
+start_in_frame channel d e is_d is_e same = grind (arith, common_steps, same_place, from_frame, at_start)
 
 in_one_frame : (channel : List TmView) (d e : Delivery)
     → IsDelivery channel d → IsDelivery channel e → d.frame ≡ e.frame → d.start < e.start → d.ending ≤ e.frame
@@ -180,11 +176,7 @@ apart_in_one_frame channel d e is_d is_e same less =
 
 -- the offset of a delivery's start, by the frames before it
 offset_is : (channel : List TmView) (d : Delivery) (is_d : IsDelivery channel d) → start_offset channel d ≡ length (reassembly [] is_d.before) + d.start
-offset_is channel d is_d =
-    let before : take d.frame channel ≡ is_d.before =
-    ap (λ l. take d.frame l) (from_frame channel d is_d) ∙ ap (λ n. take n (is_d.before ++ is_d.view ∷ (is_d.run ++ is_d.after))) is_d.frame
-    ∙ take_at is_d.before (is_d.view ∷ (is_d.run ++ is_d.after)) (length is_d.before) refl in
-    ap (λ l. length (reassembly [] l) + d.start) before
+offset_is channel d is_d = grind (arith, common_steps, from_frame, take_at)
 
 agreeing_some : (ends : Bool) (place pointer : ℕ) → (if ends then Some place else None) ≡ Some pointer → place ≡ pointer
 agreeing_some ends place pointer e = grind (arith, same_Some)

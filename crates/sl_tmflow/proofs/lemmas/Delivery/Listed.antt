@@ -100,8 +100,7 @@ in_order_starts frame outcomes [] rising = tt
 in_order_starts frame outcomes (start ∷ starts) rising = grind (arith, in_order-append, at_most_one, each-weaker, past, is_from, in_order_starts frame outcomes starts rising.1)
 
 frame_in_order : (frame : ℕ) (view : TmView) (later : List TmView) → AreInOrder (frame_deliveries frame view later)
-frame_in_order frame view later =
-    in_order_starts frame (λ start. outcome_of view (drop start (data_of view.field)) later) (starts_of view.field) (field_starts_rise view.field)
+frame_in_order frame view later = search (arith, in_order_starts, field_starts_rise)
 
 -- the deliveries of a frame are of that frame
 pub each_of_frame : (frame : ℕ) (view : TmView) (later : List TmView) → AllByRecursion (λ d. d.frame ≡ frame) (frame_deliveries frame view later)

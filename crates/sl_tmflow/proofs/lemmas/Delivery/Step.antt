@@ -1,5 +1,6 @@
 -- What the next frame does to an incomplete packet: it ends the packet, continues it, or breaks it off.
 use Rattle.std.proofs.Common.{◌≡◌, ◌≢◌, ℕ, ◌+◌, ◌<◌, ◌≤◌, nat_eq, Bool, true, false, if◌then◌else◌, List, [], ◌++◌, length, take, drop, Option, None, is_some, refl, sym, ◌∙◌, ap, arith, append-nil, append_assoc, eqb-true, eq-eqb, le-ltb}
+use Rattle.std.proofs.lemmas.Grind.{common_steps}
 use Rattle.std.specs.Option.{option_eq}
 use Rattle.std.proofs.lemmas.List.{take-append-drop, take-append-le, take_at, length-take-le}
 use mathlib.Core.List.{IsPrefix}
@@ -22,38 +23,11 @@ prefix_of_first octets more packet rest same inside =
 
 -- a packet isn't whole before its end
 pub incomplete_before_end : (octets more packet rest : List ℕ) → IsPacket packet → octets ++ more ≡ packet ++ rest → length octets < length packet → front octets ≡ Incomplete
-incomplete_before_end octets more packet rest p same short = cases (front octets) refl
-  where
-    cases : (f : Front) → front octets ≡ f → f ≡ Incomplete
-    cases OtherVersion e = absurd (foreign_is_no_packet octets more packet rest e same p)
-    cases Incomplete e = refl
-    cases (WholePacket len) e =
-        let whole = whole_is_a_packet octets len e in
-        let split : take len octets ++ (drop len octets ++ more) ≡ packet ++ rest =
-        sym (append_assoc (take len octets) (drop len octets) more) ∙ ap (λ l. l ++ more) (take-append-drop len octets) ∙ same in
-        let is_it : take len octets ≡ packet = one_packet (take len octets) packet (drop len octets ++ more) rest whole.0 p split in
-        let len_is : len ≡ length packet = sym (length-take-le len octets whole.1) ∙ ap length is_it in
-        let fits = whole.1 in
-        absurd (omega arith)
+incomplete_before_end octets more packet rest p same short = grind (arith, common_steps, foreign_is_no_packet, whole_is_a_packet, append_assoc, take-append-drop, length-take-le)
 
 -- where no packet is whole, none was whole before
 pub incomplete_before : (octets more : List ℕ) → front (octets ++ more) ≡ Incomplete → front octets ≡ Incomplete
-incomplete_before octets more incomplete = cases (front octets) refl
-  where
-    cases : (f : Front) → front octets ≡ f → f ≡ Incomplete
-    cases OtherVersion e =
-        let (rest, are_octets, p) = incomplete_may_become_whole (octets ++ more) incomplete in
-        absurd (foreign_is_no_packet octets (more ++ rest) ((octets ++ more) ++ rest) [] e
-        (sym (append_assoc octets more rest) ∙ sym (append-nil ((octets ++ more) ++ rest))) p)
-    cases Incomplete e = refl
-    cases (WholePacket len) e =
-        let whole = whole_is_a_packet octets len e in
-        let split : take len octets ++ (drop len octets ++ more) ≡ octets ++ more =
-        sym (append_assoc (take len octets) (drop len octets) more) ∙ ap (λ l. l ++ more) (take-append-drop len octets) in
-        let there : front (octets ++ more) ≡ WholePacket (length (take len octets)) =
-        ap front (sym split) ∙ packet_is_whole (take len octets) (drop len octets ++ more) whole.0 in
-        let both : Incomplete ≡ WholePacket (length (take len octets)) = sym incomplete ∙ there in
-        absurd (cc)
+incomplete_before octets more incomplete = grind (arith, common_steps, incomplete_may_become_whole, foreign_is_no_packet, append_assoc, append-nil, whole_is_a_packet, take-append-drop, packet_is_whole)
 
 -- where no packet is whole, none lies at the front
 pub incomplete_is_no_packet : (octets packet : List ℕ) → IsPacket packet → front octets ≡ Incomplete → IsPrefix packet octets → ⊥
@@ -136,17 +110,11 @@ continues_field octets field past = grind arith
 -- the next frame is consecutive where its step isn't a break
 pub step_ends : (view : TmView) (octets : List ℕ) (next : TmView) (packet : List ℕ) → step_of view octets next ≡ Ends packet
     → (is_consecutive view next ≡ true) × EndsIn octets next.field packet
-step_ends view octets next packet e = cases (is_consecutive view next) refl e
-  where
-    cases : (b : Bool) → is_consecutive view next ≡ b → (if b then field_step octets next.field else Breaks) ≡ Ends packet
-        → (is_consecutive view next ≡ true) × EndsIn octets next.field packet
-    cases true test s = (test, field_ends octets next.field packet s)
-    cases false test s = absurd (cc)
+step_ends view octets next packet e = grind (arith, common_steps, field_ends)
 
 pub ends_step : (view : TmView) (octets : List ℕ) (next : TmView) (packet : List ℕ) → is_consecutive view next ≡ true → EndsIn octets next.field packet
     → step_of view octets next ≡ Ends packet
-ends_step view octets next packet consecutive ending =
-    ap (λ b. if b then field_step octets next.field else Breaks) consecutive ∙ ends_field octets next.field packet ending
+ends_step view octets next packet consecutive ending = grind (arith, common_steps, ends_field)
 
 pub step_continues : (view : TmView) (octets : List ℕ) (next : TmView) → front octets ≡ Incomplete → step_of view octets next ≡ Continues
     → (is_consecutive view next ≡ true) × GoesOnPast octets next.field

@@ -1,5 +1,6 @@
 -- The normal form of packets, read as a recording.
 use Rattle.std.proofs.Common.{◌≡◌, ◌≢◌, ℕ, zero, suc, ◌+◌, ◌*◌, ◌/◌, ◌%◌, ◌<◌, ◌≤◌, List, [], ◌∷◌, ◌++◌, length, drop, map, Option, IfSome, refl, sym, ◌∙◌, ap, subst, arith, length-drop, length-take-le, append-nil, eq-eqb, ne_eqb, mul-le-mul_right, add-mul, one-mul}
+use Rattle.std.proofs.lemmas.Grind.{common_steps}
 use Rattle.std.specs.List.{AllByRecursion, concat, range_with_len, slice_index_or}
 use Rattle.std.proofs.lemmas.List.{ext_get_or}
 use Rattle.std.proofs.lemmas.List.Elements.{filter-append, filter_map-append}
@@ -56,11 +57,7 @@ module _ (format : TmFormat) (spacecraft vc mc : ℕ) (packets : List (List ℕ)
   frames number many = map (channel_frame format spacecraft vc mc packets) (range_with_len number many)
 
   field_filled : (number : ℕ) → number < count → length (data_field_of room number (concat packets)) ≡ room
-  field_filled number below =
-      let up_to : (number + 1) * room ≤ count * room = mul-le-mul_right room (omega arith) in
-      let next = add-mul number 1 room in
-      let one = one-mul room in
-      length-take-le room (drop (number * room) (concat packets)) (omega (arith, up_to, next, one, size, length-drop (number * room) (concat packets)))
+  field_filled number below = grind (arith, common_steps, mul-le-mul_right, add-mul, one-mul, length-take-le, length-drop)
 
   frame_fits : (number : ℕ) → number < count
       → FitFrame format spacecraft vc ((mc + number) % 256) (number % 256) (first_of room number (packet_offsets 0 packets [])) (data_field_of room number (concat packets))

@@ -66,19 +66,7 @@ none_before offset (packet ∷ packets) start (inr among) = omega (arith, none_b
 -- an offset in front that doesn't lie in the data field changes nothing
 one_more : (room number offset : ℕ) (offsets : List ℕ) (first : Option ℕ) → (LiesIn room number offset → ⊥)
     → IsLeastStart room number offsets first → IsLeastStart room number (offset ∷ offsets) first
-one_more room number offset offsets None outside least =
-    λ start among lies. elim among [
-      | inl same ↦ outside (subst (LiesIn room number) same lies)
-      | inr there ↦ least start there lies
-    ]
-one_more room number offset offsets (Some first) outside least = (
-  inr least.0,
-  least.1,
-  λ start among lies. elim among [
-    | inl same ↦ absurd (outside (subst (LiesIn room number) same lies))
-    | inr there ↦ least.2 start there lies
-  ],
-)
+one_more room number offset offsets first outside least = search arith
 
 -- an offset in front, of packets that lie end to end
 with_first : (room number offset : ℕ) (packet : List ℕ) (packets : List (List ℕ)) → 0 < room → (b : Bool) → lies_in room number offset ≡ b

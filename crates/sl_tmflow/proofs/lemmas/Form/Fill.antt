@@ -1,5 +1,6 @@
 -- The filling of octets up to a multiple of the room.
 use Rattle.std.proofs.Common.{◌≡◌, ◌⊎◌, ℕ, zero, suc, ◌+◌, ◌-◌, ◌*◌, ◌/◌, ◌%◌, ◌<◌, ◌≤◌, ◌==◌, ◌||◌, nat_lt, true, false, not, if◌then◌else◌, List, [], ◌∷◌, ◌++◌, length, refl, sym, ◌∙◌, ap, ap₂, arith, inl, inr, append-nil, length-append}
+use Rattle.std.proofs.lemmas.Grind.{common_steps}
 use Rattle.std.specs.List.{AllByRecursion, concat}
 use Rattle.std.proofs.lemmas.List.Folds.{concat-append}
 use Rattle.std.proofs.Math.Nat.{mod_self, mod-eq_of_lt, add-mul, one-mul, zero-mul, suc-mul, zero-mod, mul-add-mod_self_right}
@@ -134,10 +135,4 @@ filled_whole room packets some short =
 
 -- packets that an idle packet filled up are the same without it
 pub filled_without_idle : (room : ℕ) (packets : List (List ℕ)) → 7 ≤ room → room ≤ 65536 → AllByRecursion IsDeliverable packets → without_idle (with_filling room packets) ≡ packets
-filled_without_idle room packets some short each =
-    let fill = filling room (length (concat packets)) in
-    let keeps = λ (packet : List ℕ). not (is_idle_packet packet) in
-    filter-append keeps packets fill
-    ∙ ap₂ (λ ps fs. ps ++ fs) (filter_all keeps packets (each-weaker IsDeliverable (λ packet. keeps packet ≡ true) (λ packet due. ap not due.1) packets each))
-    (filter_none keeps fill (each-weaker (λ packet. is_idle_packet packet ≡ true) (λ packet. keeps packet ≡ false) (λ packet idle. ap not idle) fill (filling_is_idle room (length (concat packets)) some short)))
-    ∙ append-nil packets
+filled_without_idle room packets some short each = grind (arith, common_steps, filter-append, filter_all, each-weaker, filter_none, filling_is_idle, append-nil)

@@ -1,5 +1,6 @@
 -- The code's steps: frames of the data fields that octets fill.
 use Rattle.std.proofs.Common.{◌≡◌, ℕ, zero, suc, ◌+◌, ◌-◌, ◌*◌, ◌%◌, ◌<◌, ◌≤◌, List, [], ◌++◌, length, drop, Option, None, sym, ◌∙◌, ap, arith, length-append, append_assoc, append-nil}
+use Rattle.std.proofs.lemmas.Grind.{common_steps}
 use Rattle.std.proofs.lemmas.List.{drop_all, drop-drop}
 use Rattle.std.specs.List.{concat}
 use Rattle.std.proofs.lemmas.Nat.{div-add-mod', div-mul-add}
@@ -39,9 +40,7 @@ next_field format heading first left field later roomy divided whole = grind (ar
 -- a frame has the length of its format
 pub frame_size : (format : TmFormat) (heading : Heading) (first : Option ℕ) (field : List ℕ) → 8 ≤ format.len → length field ≡ field_room_of format
     → length (headed_frame format heading first field) ≡ format.len
-frame_size format heading first field long whole =
-    let header = frame_fields heading.spacecraft heading.vc heading.master heading.counter first in
-    with_fecf_whole format (octets_of 6 header) field long (length-octets_of 6 header) whole
+frame_size format heading first field long whole = grind (arith, common_steps, with_fecf_whole, length-octets_of)
 
 -- ---- frames that were pushed so far
 

@@ -1,6 +1,7 @@
 -- The octets that are still to come of a normal form that is made piece by piece, from piece to piece and from
 -- channel to channel.
 use Rattle.std.proofs.Common.{◌≡◌, ℕ, suc, ◌+◌, ◌-◌, ◌*◌, ◌/◌, ◌%◌, ◌<◌, ◌≤◌, ◌==◌, false, if◌then◌else◌, List, [], ◌∷◌, ◌++◌, length, take, drop, map, Some, refl, sym, ◌∙◌, ap, ap₂, subst, arith, inl, inr, length-append, append_assoc, append-nil, add-one}
+use Rattle.std.proofs.lemmas.Grind.{common_steps}
 use Rattle.std.specs.List.{concat, range_with_len, slice_index_or}
 use Rattle.std.proofs.lemmas.Bool.Decides.{eqb_tells, leb_tells}
 use Rattle.std.proofs.lemmas.List.{get_or_past, length-take, drop_all, drop-append-le, get_or-take, nil_from_length}
@@ -164,17 +165,7 @@ at_end s left last l = grind (arith, drop-append_seam, concat-append, length-app
 -- where octets are left and no packets, the filling isn't taken yet
 last_taken : (s : FormProgress) (left : List ℕ) → 7 ≤ field_room_of s.format → field_room_of s.format ≤ 65536 → length s.octets < field_room_of s.format → 0 < length s.octets
     → length (channel_packets s) ≤ s.taken → IsLeft s left → s.taken ≡ length (channel_packets s)
-last_taken s left wide short few some beyond l =
-    let room = field_room_of s.format in
-    elim (leb_tells s.taken (length (channel_packets s))) [
-      | inl (test, inside) ↦ omega (arith, inside, beyond)
-      | inr (test, over) ↦
-          let none : drop s.taken (filled_packets s) ≡ [] = drop_all s.taken (filled_packets s) (omega (arith, few_filled s, over)) in
-          let size : length (concat (filled_packets s)) ≡ l.count * room + length s.octets = omega (arith, octets_of_all s left [] none l) in
-          let whole : length s.octets ≡ 0 =
-          sym (mod-eq_of_lt few) ∙ sym (mul-add-mod_self_right l.count room (length s.octets)) ∙ ap (λ n. n % room) (sym size) ∙ filled_whole room (channel_packets s) wide short in
-          absurd (omega (arith, whole, some))
-    ]
+last_taken s left wide short few some beyond l = grind (arith, common_steps, leb_tells, drop_all, few_filled, octets_of_all, mod-eq_of_lt, mul-add-mod_self_right, filled_whole)
 
 one_packet : (room len : ℕ) → (fill_of room len == 0) ≡ false → filling room len ≡ concat (filling room len) ∷ []
 one_packet room len test = rw (test) (ap (λ q. q ∷ []) (sym (append-nil (idle_packet (fill_of room len)))))
@@ -265,17 +256,7 @@ left_next_channel s left roomy beyond nothing l =
 
 -- no octets are left after the last channel
 pub none_left_after : (s : FormProgress) → 8 ≤ s.vc → IsAllMade s
-none_left_after s beyond left l =
-    let room = field_room_of s.format in
-    let few : length (take 8 s.lists) ≤ 8 = omega (arith, length-take 8 s.lists) in
-    let none = get_or_past (take 8 s.lists) s.vc [] (omega (arith, few, beyond)) in
-    let no_packets : filled_packets s ≡ [] = ap (with_filling room) none ∙ no_filling room in
-    let frames : length (concat (filled_packets s)) / room ≡ 0 = ap (λ ps. length (concat ps) / room) no_packets ∙ zero-div room in
-    let many : l.many ≡ 0 = omega (arith, l.all, frames) in
-    let frame = channel_frame s.format s.spacecraft s.vc l.before (filled_packets s) in
-    let others = λ (n : ℕ) (lists : List (List (List ℕ))). concat (frames_from_channel s.format s.spacecraft (s.vc + 1) (l.before + (l.count + n)) lists) in
-    l.left_is ∙ ap (λ n. concat (map frame (range_with_len l.count n)) ++ others n (drop (s.vc + 1) (take 8 s.lists))) many
-    ∙ ap (others 0) (drop_all (s.vc + 1) (take 8 s.lists) (omega (arith, few, beyond)))
+none_left_after s beyond left l = search (arith, length-take, get_or_past, no_filling, zero-div, drop_all)
 
 -- there are packets where more is left
 pub some_packets : (s : FormProgress) (left : List ℕ) → HasMore s → IsLeft s left → HasPackets s.lists

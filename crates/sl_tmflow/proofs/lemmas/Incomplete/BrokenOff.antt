@@ -171,8 +171,7 @@ broken_off_is_short channel next =
 -- ---- how many octets broken-off packets have
 
 pub broken_off_is_told : BrokenOffIsTold
-broken_off_is_told channel next octets broken =
-    count_of_one octets (broken_off channel next) (one_is_broken_off channel next) (each_broken_off_is_listed channel next octets broken)
+broken_off_is_told channel next octets broken = search (arith, count_of_one, one_is_broken_off, each_broken_off_is_listed)
 
 pub what_is_told_is_broken_off : WhatIsToldIsBrokenOff
 what_is_told_is_broken_off channel next some = grind (arith, some_of_each, each_listed_is_broken_off)

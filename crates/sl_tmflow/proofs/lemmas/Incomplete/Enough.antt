@@ -1,5 +1,6 @@
 -- The octets of a data field that decide what happens to an incomplete packet.
 use Rattle.std.proofs.Common.{◌≡◌, ℕ, ◌+◌, ◌≤◌, ◌⊎◌, List, [], ◌++◌, length, take, drop, Option, refl, sym, ◌∙◌, ap, arith, append-nil, append_assoc, length-append}
+use Rattle.std.proofs.lemmas.Grind.{common_steps}
 use Rattle.std.proofs.lemmas.List.{length-replicate, length-take-le, take-append-drop, take-append-le}
 use Rattle.sl_packet.specs.Front.{Front, OtherVersion, Incomplete, WholePacket, front}
 use Rattle.sl_packet.specs.Partial.{ForeignIsForeign, WholeIsWhole, OctetsMakeAPacket, need_of}
@@ -14,22 +15,11 @@ use Rattle.sl_tmflow.proofs.lemmas.Delivery.Step.{incomplete_before}
 
 -- octets of another version stay so with more octets
 foreign_stays : (octets more : List ℕ) → front octets ≡ OtherVersion → front (octets ++ more) ≡ OtherVersion
-foreign_stays octets more e = cases (front (octets ++ more)) refl
-  where
-    cases : (f : Front) → front (octets ++ more) ≡ f → f ≡ OtherVersion
-    cases OtherVersion e' = refl
-    cases Incomplete e' = let both : OtherVersion ≡ Incomplete = sym e ∙ incomplete_before octets more e' in absurd (cc)
-    cases (WholePacket len) e' =
-        absurd (foreign_is_no_packet octets more (take len (octets ++ more)) (drop len (octets ++ more)) e
-        (sym (take-append-drop len (octets ++ more))) (whole_is_a_packet (octets ++ more) len e').0)
+foreign_stays octets more e = grind (arith, common_steps, incomplete_before, foreign_is_no_packet, take-append-drop, whole_is_a_packet)
 
 -- octets with a whole packet stay so with more octets
 whole_stays : (octets more : List ℕ) (len : ℕ) → front octets ≡ WholePacket len → front (octets ++ more) ≡ WholePacket len
-whole_stays octets more len e =
-    let whole = whole_is_a_packet octets len e in
-    let split : take len octets ++ (drop len octets ++ more) ≡ octets ++ more =
-    sym (append_assoc (take len octets) (drop len octets) more) ∙ ap (λ l. l ++ more) (take-append-drop len octets) in
-    ap front (sym split) ∙ packet_is_whole (take len octets) (drop len octets ++ more) whole.0 ∙ ap WholePacket (length-take-le len octets whole.1)
+whole_stays octets more len e = grind (arith, common_steps, whole_is_a_packet, append_assoc, take-append-drop, packet_is_whole, length-take-le)
 
 -- of octets where a packet ends, only the packet's own matter
 packet_same : (first : Option ℕ) (before : ℕ) (field a b : List ℕ) (len : ℕ) → take len a ≡ take len b
@@ -39,15 +29,7 @@ packet_same first before field a b len same = grind arith
 -- octets that aren't incomplete decide the step, whatever follows
 told : (first : Option ℕ) (before : ℕ) (field octets more : List ℕ) → (front octets ≡ Incomplete → ⊥)
     → front_step first before field octets (front octets) ≡ front_step first before field (octets ++ more) (front (octets ++ more))
-told first before field octets more begun = cases (front octets) refl
-  where
-    cases : (f : Front) → front octets ≡ f → front_step first before field octets f ≡ front_step first before field (octets ++ more) (front (octets ++ more))
-    cases OtherVersion e = ap (front_step first before field (octets ++ more)) (sym (foreign_stays octets more e))
-    cases Incomplete e = absurd (begun e)
-    cases (WholePacket len) e =
-        let inside = (whole_is_a_packet octets len e).1 in
-        packet_same first before field octets (octets ++ more) len (sym (take-append-le len octets more inside))
-        ∙ ap (front_step first before field (octets ++ more)) (sym (whole_stays octets more len e))
+told first before field octets more begun = grind (arith, common_steps, foreign_stays, whole_is_a_packet, packet_same, take-append-le, whole_stays)
 
 -- ---- octets of a data field
 
@@ -64,8 +46,7 @@ some_is_enough held field n begun fits = record {
 
 -- no octet of the field is needed where the packet isn't incomplete before the field
 pub none_is_enough : (held field : List ℕ) → (front held ≡ Incomplete → ⊥) → length held ≤ 65542 → IsEnough held field []
-none_is_enough held field begun fits =
-    some_is_enough held field 0 (λ incomplete. begun (ap front (sym (append-nil held)) ∙ incomplete)) (omega arith)
+none_is_enough held field begun fits = grind (arith, common_steps, some_is_enough, append-nil)
 
 -- octets that need no more aren't incomplete
 pub none_is_wanted : ForeignIsForeign → WholeIsWhole → (held : List ℕ) → (need_of held ≡ Foreign) ⊎ ((len : ℕ) × (need_of held ≡ Whole len))
@@ -74,11 +55,7 @@ none_is_wanted foreign whole held needs_none incomplete = grind arith
 
 -- a packet isn't incomplete any more with the octets that it needs
 pub wanted_complete : OctetsMakeAPacket → (held more : List ℕ) (n : ℕ) → need_of held ≡ Octets n → length more ≡ n → front (held ++ more) ≡ Incomplete → ⊥
-wanted_complete law held more n wants long incomplete =
-    let packet = held ++ more in
-    let both : Incomplete ≡ WholePacket (length packet) =
-    sym incomplete ∙ ap front (sym (append-nil packet)) ∙ packet_is_whole packet [] (law held more n wants long) in
-    cc
+wanted_complete law held more n wants long incomplete = grind (arith, common_steps, append-nil, packet_is_whole)
 
 -- a packet with the octets that it needs is no longer than the longest packet
 pub wanted_fits : OctetsMakeAPacket → (held : List ℕ) (n : ℕ) → need_of held ≡ Octets n → length held + n ≤ 65542

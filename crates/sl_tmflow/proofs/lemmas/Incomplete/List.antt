@@ -1,6 +1,7 @@
 -- The list of the incomplete packets of a channel: each listed packet is incomplete, and each incomplete packet is
 -- listed. There is at most one, and it is short.
 use Rattle.std.proofs.Common.{◌≡◌, ◌⊎◌, ℕ, ◌<◌, ◌≤◌, nat_lt, Bool, true, if◌then◌else◌, List, [], ◌∷◌, ◌++◌, length, drop, take, map, Option, Some, inl, inr, refl, sym, ◌∙◌, ap, ap₂, subst, arith, length-append, length-drop}
+use Rattle.std.proofs.lemmas.Grind.{common_steps}
 use Rattle.std.specs.List.{AllByRecursion, concat, flat_map}
 use Rattle.std.proofs.lemmas.Bool.{both_ways, ltb-true}
 use Rattle.std.proofs.lemmas.List.{take-append-drop}
@@ -179,18 +180,12 @@ pub stated_packet_len-most : (octets : List ℕ) → stated_packet_len octets �
 stated_packet_len-most octets = omega arith
 
 pub incomplete_is_short : IncompleteIsShort
-incomplete_is_short channel =
-    each-weaker (IsIncomplete channel) IsShort
-    (λ octets x. let inside = x.start.inside in (
-      omega (arith, ap length x.came, length-append (drop x.offset x.field) (concat (map packet_data x.run)), length-drop x.offset x.field),
-      omega (arith, fewer_than_stated octets (begins octets x.version x.no_packet), stated_packet_len-most octets),
-    )) (incomplete_of channel) (each_listed_is_incomplete channel)
+incomplete_is_short channel = grind (arith, common_steps, each-weaker, length-append, length-drop, fewer_than_stated, begins, stated_packet_len-most, each_listed_is_incomplete)
 
 -- ---- how many octets incomplete packets have
 
 pub incomplete_is_counted : IncompleteIsCounted
-incomplete_is_counted channel octets is_incomplete =
-    count_of_one octets (incomplete_of channel) (one_is_incomplete channel) (each_incomplete_is_listed channel octets is_incomplete)
+incomplete_is_counted channel octets is_incomplete = search (arith, count_of_one, one_is_incomplete, each_incomplete_is_listed)
 
 pub what_is_counted_is_incomplete : WhatIsCountedIsIncomplete
 what_is_counted_is_incomplete channel some = grind (arith, some_of_each, each_listed_is_incomplete)

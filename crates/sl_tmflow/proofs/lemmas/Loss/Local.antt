@@ -1,5 +1,6 @@
 -- Loss is local: the deliveries of a channel that the kept frames still have.
 use Rattle.std.proofs.Common.{◌≡◌, ℕ, ◌+◌, ◌-◌, ◌<◌, ◌≤◌, List, [], ◌∷◌, ◌++◌, length, drop, inl, inr, refl, sym, ◌∙◌, ap, subst, arith, length-append, append_assoc}
+use Rattle.std.proofs.lemmas.Grind.{common_steps}
 use Rattle.std.proofs.lemmas.Bool.{cases_lt}
 use Rattle.std.proofs.lemmas.List.{length_push}
 use Rattle.sl_tmframe.specs.TmFrame.{TmView}
@@ -77,15 +78,7 @@ not_before numbers a b x y near at other less above =
 -- a later number is among those from the earlier one on
 pub number_from : (numbers : List ℕ) (a b x y : ℕ) (at : HasNumber numbers a x) → HasNumber numbers b y → a ≤ b
     → HasNumber (x ∷ at.after) (b - a) y
-number_from numbers a b x y at other fewer =
-    let (between, is, rest) = longer_begins at.before (x ∷ at.after) other.before (y ∷ other.after) (sym other.in_order ∙ at.in_order)
-    (omega (arith, at.counted, other.counted)) in
-    record {
-      before = between;
-      after = other.after;
-      in_order = rest;
-      counted = omega (arith, at.counted, other.counted, ap length is, length-append at.before between);
-    }
+number_from numbers a b x y at other fewer = grind (arith, common_steps, longer_begins, length-append)
 
 delivered_from_kept : (channel : List TmView) (numbers : List ℕ) (kept : List TmView) (d whole : Delivery) → AreKept channel numbers kept
     → IsDelivery channel whole → IsSameDelivery numbers d whole → d.frame ≤ d.ending → IsDelivery kept d
@@ -119,8 +112,4 @@ delivered_from_kept channel numbers kept d whole left is_whole same fewer =
     }
 
 pub each_is_left : EachIsLeft
-each_is_left channel numbers kept d whole left is_whole same =
-    elim (cases_lt d.ending d.frame) [
-      | inl less ↦ absurd (not_before numbers d.frame d.ending whole.frame whole.ending left.few_lost same.frame same.ending less (omega (arith, is_whole.ending)))
-      | inr fewer ↦ delivered_from_kept channel numbers kept d whole left is_whole same fewer
-    ]
+each_is_left channel numbers kept d whole left is_whole same = search (arith, cases_lt, not_before, delivered_from_kept)

@@ -105,11 +105,8 @@ none_held held e = grind arith
 
 -- ---- the packet that the next frame breaks off
 
-lost_octets : (s : Continuation) (octets : List ℕ) → concat (lost s octets ++ []) ≡ lost_of s octets
-lost_octets s octets = grind (arith, append-nil)
-
 lost_held : (last next : TmView) (held : List ℕ) → concat (flat_map (lost_in last next) (held_as held)) ≡ lost_of (held_step (Some last.vc_count) held next) held
-lost_held last next held = grind (arith, lost_octets)
+lost_held last next held = grind (arith, append-nil)
 
 dropped_after : (state : ChannelState) (before : List TmView) (last next : TmView) → HasSeen state (before ++ last ∷ [])
     → concat (broken_off (before ++ last ∷ []) next) ≡ lost_by state next

@@ -32,13 +32,9 @@ last_count-push (view ∷ next ∷ before) last = last_count-push (next ∷ befo
 
 -- ---- the packets that end in the next frame
 
-ended_held : (last next : TmView) (held : List ℕ)
-    → flat_map (λ octets. ended (step_of last octets next)) (held_as held) ≡ ended (held_step (Some last.vc_count) held next)
-ended_held last next held = grind (arith, append-nil)
-
 one_more_after : (state : ChannelState) (before : List TmView) (last next : TmView) → HasSeen state (before ++ last ∷ [])
     → packets_ending (before ++ last ∷ []) next ≡ packets_after state next
-one_more_after state before last next s = grind (arith, ending_next, ended_held, last_count-push)
+one_more_after state before last next s = grind (arith, ending_next, last_count-push, append-nil)
 
 pub one_more : (state : ChannelState) (channel : List TmView) (next : TmView) → HasSeen state channel → packets_ending channel next ≡ packets_after state next
 one_more state [] next s = ending_first next ∙ ap (λ c. ended (held_step c state.held next) ++ whole_packets next.field) (sym s.count)
@@ -51,35 +47,22 @@ one_more state (view ∷ later) next s =
 goes_on : (s : Continuation) (octet : ℕ) (octets : List ℕ) → carried s (octet ∷ octets) ++ [] ≡ held_as (kept_of s (octet ∷ octets))
 goes_on s octet octets = grind arith
 
-carried_held : (last next : TmView) (held : List ℕ)
-    → flat_map (carried_into last next) (held_as held) ≡ held_as (kept_octets (held_step (Some last.vc_count) held next) held next)
-carried_held last next held = grind (arith, goes_on)
-
 -- where a packet starts, the incomplete one doesn't go on
 
-ends_or_breaks : (b : Bool) (packet octets : List ℕ) → kept_of (if b then Ends packet else Breaks) octets ≡ []
-ends_or_breaks b packet octets = grind arith
-
 not_past_start : (pointer before : ℕ) (field all : List ℕ) (f : Front) → kept_of (front_step (Some pointer) before field all f) all ≡ []
-not_past_start pointer before field all f = grind (arith, ends_or_breaks)
-
-if_follows : (b : Bool) (s : Continuation) (octets : List ℕ) → kept_of s octets ≡ [] → kept_of (if b then s else Breaks) octets ≡ []
-if_follows b s octets none = grind arith
+not_past_start pointer before field all f = grind arith
 
 none_kept : (count : Option ℕ) (held : List ℕ) (next : TmView) (pointer : ℕ) (octets : List ℕ) → next.field ≡ Packets (Some pointer) octets
     → kept_octets (held_step count held next) held next ≡ []
-none_kept count held next pointer octets is = grind (arith, if_follows, not_past_start)
+none_kept count held next pointer octets is = grind (arith, not_past_start)
 
 -- the packets that start in the frame
-
-none_incomplete : (f : Front) → incomplete_in f [] ≡ []
-none_incomplete f = grind arith
 
 rest_held : (view : TmView) (octet : ℕ) (rest : List ℕ) (f : Front) → held_as (incomplete_in f (octet ∷ rest)) ≡ incomplete_octets (outcome_of_front f view (octet ∷ rest) [])
 rest_held view octet rest f = grind arith
 
 held_at_rest : (view : TmView) (rest : List ℕ) → held_as (incomplete_in (front rest) rest) ≡ at_rest (λ l. incomplete_octets (outcome_of view l [])) rest
-held_at_rest view rest = grind (arith, none_incomplete, rest_held)
+held_at_rest view rest = grind (arith, rest_held)
 
 incomplete_in_field : (view : TmView) (field : DataField) (kept : List ℕ) → ((pointer : ℕ) (octets : List ℕ) → field ≡ Packets (Some pointer) octets → kept ≡ [])
     → held_as (held_after field kept) ≡ held_as kept ++ field_incomplete view [] field
@@ -98,7 +81,7 @@ seen_first state next s = grind (arith, held_by_frame, incomplete_first)
 
 seen_next : (state : ChannelState) (before : List TmView) (last next : TmView) → HasSeen state (before ++ last ∷ [])
     → HasSeen (state_after state next) ((before ++ last ∷ []) ++ next ∷ [])
-seen_next state before last next s = grind (arith, last_count-push, held_by_frame, carried_held, incomplete_next)
+seen_next state before last next s = grind (arith, last_count-push, held_by_frame, incomplete_next, goes_on)
 
 pub seen_more : (state : ChannelState) (channel : List TmView) (next : TmView) → HasSeen state channel → HasSeen (state_after state next) (channel ++ next ∷ [])
 seen_more state [] next s = seen_first state next s

@@ -56,11 +56,8 @@ carried Breaks octets = []
 abbrev pub carried_into : TmView → TmView → List ℕ → List (List ℕ)
 carried_into last next octets = carried (step_of last octets next) (octets ++ packet_data next)
 
-carried_step : (s : Continuation) (passed : ℕ) (octets : List ℕ) → carried s octets ++ [] ≡ incomplete_octets (after_step s passed (StillIncomplete octets))
-carried_step s passed octets = grind arith
-
 incomplete_with_next : (passed : ℕ) (last next : TmView) (outcome : Outcome) → flat_map (carried_into last next) (incomplete_octets outcome) ≡ incomplete_octets (with_next passed last next outcome)
-incomplete_with_next passed last next outcome = grind (arith, carried_step)
+incomplete_with_next passed last next outcome = grind arith
 
 frame_incomplete-push : (view : TmView) (later : List TmView) (next : TmView)
     → flat_map (carried_into (last_of view later) next) (frame_incomplete view later) ≡ frame_incomplete view (later ++ next ∷ [])
@@ -102,28 +99,17 @@ packets_at number deliveries = packets_delivered (ending_in number deliveries)
 pub packets_at-append : (number : ℕ) (xs ys : List Delivery) → packets_at number (xs ++ ys) ≡ packets_at number xs ++ packets_at number ys
 packets_at-append number xs ys = grind (arith, filter-append, map-append)
 
-ends_there : (number frame start : ℕ) (packet : List ℕ) (passed : ℕ) → frame + passed ≡ number
-    → packets_at number (delivery_of frame start (Completes packet passed)) ≡ packet ∷ []
-ends_there number frame start packet passed same = grind (arith, eq-eqb)
-
-ends_elsewhere : (number frame start : ℕ) (packet : List ℕ) (passed : ℕ) → (frame + passed ≡ number → ⊥)
-    → packets_at number (delivery_of frame start (Completes packet passed)) ≡ []
-ends_elsewhere number frame start packet passed other = grind (arith, ne_eqb)
-
 -- ---- the packets that lie whole in the last frame
 
 pub at_last : (frame start : ℕ) (view : TmView) (octets : List ℕ) (f : Front)
     → packets_at frame (delivery_of frame start (outcome_of_front f view octets [])) ≡ whole_at f octets
-at_last frame start view octets f = grind (arith, ends_there)
+at_last frame start view octets f = grind (arith, eq-eqb)
 
 packet_first : (packet more : List ℕ) → IsPacket packet → whole_at (front (packet ++ more)) (packet ++ more) ≡ packet ∷ []
 packet_first packet more p = grind (arith, packet_is_whole, take_at)
 
-none_first : (octets : List ℕ) (f : Front) → ((len : ℕ) → f ≡ WholePacket len → ⊥) → whole_at f octets ≡ []
-none_first octets f none = grind arith
-
 none_at_rest : (rest : List ℕ) → ((len : ℕ) → front rest ≡ WholePacket len → ⊥) → at_rest (λ l. whole_at (front l) l) rest ≡ []
-none_at_rest rest none = grind (arith, none_first)
+none_at_rest rest none = grind arith
 
 at_last_field : (frame : ℕ) (view : TmView) (field : DataField) → packets_at frame (field_deliveries frame view [] field) ≡ whole_packets field
 at_last_field frame view (Packets None octets) = refl
@@ -150,13 +136,13 @@ ended_in last next octets = ended (step_of last octets next)
 
 step_ending : (number frame start : ℕ) (s : Continuation) (passed : ℕ) (octets : List ℕ) → frame + passed ≡ number
     → packets_at number (delivery_of frame start (after_step s passed (StillIncomplete octets))) ≡ ended s ++ []
-step_ending number frame start s passed octets here = grind (arith, ends_there)
+step_ending number frame start s passed octets here = grind (arith, eq-eqb)
 
 -- a packet that ended earlier doesn't end in the next frame
 ending_with_next : (number frame start : ℕ) (last next : TmView) (passed : ℕ) (outcome : Outcome)
     → frame + passed ≡ number → ((packet : List ℕ) (n : ℕ) → outcome ≡ Completes packet n → n + 1 ≤ passed)
     → packets_at number (delivery_of frame start (with_next passed last next outcome)) ≡ flat_map (ended_in last next) (incomplete_octets outcome)
-ending_with_next number frame start last next passed outcome here earlier = grind (arith, ends_elsewhere, step_ending)
+ending_with_next number frame start last next passed outcome here earlier = grind (arith, step_ending, ne_eqb)
 
 ends_before : (view : TmView) (octets : List ℕ) (later : List TmView) (packet : List ℕ) (n : ℕ)
     → outcome_of view octets later ≡ Completes packet n → n + 1 ≤ length later + 1

@@ -30,16 +30,11 @@ agreed_last : (octets : List ℕ) (next : TmView) (packet : List ℕ) (start : L
     → first ≡ agreeing_pointer (length packet) (length (reassembly start earlier)) field
 agreed_last octets next packet start run earlier first field ending came same is = grind (arith, same_packets)
 
--- the octets of a frame are among those that are reassembled
-reassembled_inside : (start : List ℕ) (earlier : List TmView) (next : TmView) (later : List TmView) (first : Option ℕ) (field : List ℕ) → next.field ≡ Packets first field
-    → length (reassembly start earlier) + length field ≤ length (reassembly start (earlier ++ next ∷ later))
-reassembled_inside start earlier next later first field is = grind (arith, reassembly-append, length-append)
-
 -- the pointer in an earlier frame
 agreed_earlier : (packet start : List ℕ) (run earlier : List TmView) (next : TmView) (later : List TmView) (first : Option ℕ) (field : List ℕ)
     → length (reassembly start run) < length packet → AllByRecursion HasNoStart run → run ≡ earlier ++ next ∷ later → next.field ≡ Packets first field
     → first ≡ agreeing_pointer (length packet) (length (reassembly start earlier)) field
-agreed_earlier packet start run earlier next later first field short none same is = grind (arith, each-among, reassembled_inside, agreeing_none)
+agreed_earlier packet start run earlier next later first field short none same is = grind (arith, each-among, agreeing_none, reassembly-append, length-append)
 
 pub ends_delivered : (view : TmView) (start : List ℕ) (run : List TmView) (last : TmView) (octets : List ℕ) (next : TmView) (packet : List ℕ)
     → IsIncompleteAfter view start run last octets → is_consecutive last next ≡ true → EndsIn octets next.field packet

@@ -52,12 +52,9 @@ from_pointer frame view later pointer octets =
 
 -- ---- one more frame after a start
 
-step_more : (s : Continuation) (passed : ℕ) (octets : List ℕ) → completed (after_step s passed (StillIncomplete octets)) ≡ ended s ++ []
-step_more s passed octets = grind arith
-
 outcome_more : (passed : ℕ) (last next : TmView) (outcome : Outcome)
     → completed (with_next passed last next outcome) ≡ completed outcome ++ flat_map (ended_in last next) (incomplete_octets outcome)
-outcome_more passed last next outcome = grind (arith, step_more)
+outcome_more passed last next outcome = grind arith
 
 rest_more : (view : TmView) (later : List TmView) (next : TmView) (rest : List ℕ)
     → at_rest (λ l. completed (outcome_of view l (later ++ next ∷ []))) rest

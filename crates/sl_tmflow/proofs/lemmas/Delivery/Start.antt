@@ -79,13 +79,8 @@ among_offsets offset start [] [] (octet ∷ rest) here some = inl (omega arith)
 among_offsets offset start [] (packet ∷ packets) rest here some = inl (omega arith)
 among_offsets offset start (packet ∷ before) packets rest here some = grind (arith, length-append, among_offsets (offset + length packet) start before packets rest (omega (arith, length-append packet (concat before))) some)
 
-among_starts : (field : List ℕ) (pointer start : ℕ) (before : List (List ℕ)) → AllByRecursion IsPacket before
-    → drop pointer field ≡ concat before ++ drop start field → start ≡ pointer + length (concat before) → start < length field
-    → IsAmong start (starts_from (Some pointer) field)
-among_starts field pointer start before packets parts here inside = grind (arith, packets_of-concat, rest_of-concat, each_has_packets, length-drop, among_offsets)
-
 pub is_among : (field : List ℕ) (first : Option ℕ) (start : ℕ) → IsStart field first start → IsAmong start (starts_from first field)
-is_among field first start s = grind (arith, among_starts)
+is_among field first start s = grind (arith, packets_of-concat, rest_of-concat, each_has_packets, length-drop, among_offsets)
 
 -- ---- packet starts rise
 

@@ -35,12 +35,6 @@ incomplete_is_no_packet octets packet p incomplete prefix = grind (arith, packet
 
 -- ---- pointers
 
-same_pointers : (a b : Option ℕ) → option_eq nat_eq a b ≡ true → a ≡ b
-same_pointers a b same = grind (arith, eqb-true)
-
-pointers_same : (a : Option ℕ) → option_eq nat_eq a a ≡ true
-pointers_same a = grind (arith, eq-eqb)
-
 -- a packet that covers a data field to its end agrees with no pointer
 pub agreeing_none : (len before : ℕ) (field : List ℕ) → before + length field ≤ len → agreeing_pointer len before field ≡ None
 agreeing_none len before field covered = grind (arith, le-ltb)
@@ -70,7 +64,7 @@ no_end first packet e = grind arith
 
 front_ends : (first : Option ℕ) (before : ℕ) (field all : List ℕ) (f : Front) (packet : List ℕ) → front_step first before field all f ≡ Ends packet
     → (len : ℕ) × (f ≡ WholePacket len) × (first ≡ agreeing_pointer len before field) × (take len all ≡ packet)
-front_ends first before field all f packet e = grind (arith, no_end, ends_test, same_pointers)
+front_ends first before field all f packet e = grind (arith, no_end, ends_test, eqb-true)
 
 pub field_ends : (octets : List ℕ) (field : DataField) (packet : List ℕ) → field_step octets field ≡ Ends packet → EndsIn octets field packet
 field_ends octets (Packets first carried) packet e =
@@ -89,23 +83,14 @@ field_ends octets Idle packet e = absurd (cc)
 field_ends octets Opaque packet e = absurd (cc)
 
 pub ends_field : (octets : List ℕ) (field : DataField) (packet : List ℕ) → EndsIn octets field packet → field_step octets field ≡ Ends packet
-ends_field octets field packet ending = grind (arith, packet_is_whole, pointers_same, take_at)
-
-continues_test : (b : Bool) (whole : List ℕ) → (if b then Ends whole else Breaks) ≡ Continues → ⊥
-continues_test b whole e = grind arith
+ends_field octets field packet ending = grind (arith, packet_is_whole, take_at, eq-eqb)
 
 no_pointer : (first : Option ℕ) → (if is_some first then Breaks else Continues) ≡ Continues → first ≡ None
 no_pointer first e = grind arith
 
 front_continues : (first : Option ℕ) (before : ℕ) (field all : List ℕ) (f : Front) → front_step first before field all f ≡ Continues
     → (f ≡ Incomplete) × (first ≡ None)
-front_continues first before field all f e = grind (arith, no_pointer, continues_test)
-
-pub field_continues : (octets : List ℕ) (field : DataField) → front octets ≡ Incomplete → field_step octets field ≡ Continues → GoesOnPast octets field
-field_continues octets field incomplete e = grind (arith, front_continues, append-nil)
-
-pub continues_field : (octets : List ℕ) (field : DataField) → GoesOnPast octets field → field_step octets field ≡ Continues
-continues_field octets field past = grind arith
+front_continues first before field all f e = grind (arith, no_pointer)
 
 -- the next frame is consecutive where its step isn't a break
 pub step_ends : (view : TmView) (octets : List ℕ) (next : TmView) (packet : List ℕ) → step_of view octets next ≡ Ends packet
@@ -118,8 +103,8 @@ ends_step view octets next packet consecutive ending = grind (arith, common_step
 
 pub step_continues : (view : TmView) (octets : List ℕ) (next : TmView) → front octets ≡ Incomplete → step_of view octets next ≡ Continues
     → (is_consecutive view next ≡ true) × GoesOnPast octets next.field
-step_continues view octets next incomplete e = grind (arith, field_continues)
+step_continues view octets next incomplete e = grind (arith, front_continues, append-nil)
 
 pub continues_step : (view : TmView) (octets : List ℕ) (next : TmView) → is_consecutive view next ≡ true → GoesOnPast octets next.field
     → step_of view octets next ≡ Continues
-continues_step view octets next consecutive past = grind (arith, continues_field)
+continues_step view octets next consecutive past = grind arith

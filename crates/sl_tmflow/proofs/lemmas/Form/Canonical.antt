@@ -26,20 +26,12 @@ use Rattle.sl_packet.proofs.WithoutIdleLemmas.{due_packets}
 use Rattle.sl_tmflow.proofs.lemmas.Form.Fill.{filled_whole, filled_without_idle, filling_is}
 use Rattle.sl_tmflow.proofs.lemmas.Form.FieldStart.{each_pointer_is_least}
 
--- the first packet start of a data field lies in it
-start_inside : (room number : ℕ) (offsets : List ℕ) (first : Option ℕ) → IsLeastStart room number offsets first → IfSome first (λ offset. offset < room)
-start_inside room number offsets first least = grind arith
-
 -- the room of a data field
 pub wide_room : (format : TmFormat) → IsFormat format → 24 ≤ field_room_of format
 wide_room format is = let least = is.least in let last = fecf_len_le format.fecf in omega arith
 
 pub short_room : (format : TmFormat) → IsFormat format → field_room_of format ≤ 2042
 short_room format is = let most = is.most in omega arith
-
--- each frame of a virtual channel has this virtual channel
-each_of_channel : (room vc mc : ℕ) (packets : List (List ℕ)) (many number : ℕ) → AllByRecursion (λ view. view.vc ≡ vc) (views_from room vc mc packets number many)
-each_of_channel room vc mc packets many number = grind (arith, each-map, each-every)
 
 -- a format's frames of packets, for a spacecraft, are such
 abbrev EachFrameIs : TmFormat → ℕ → (List ℕ → Type 0) → Type 0
@@ -61,7 +53,7 @@ module _ (format : TmFormat) (spacecraft vc mc : ℕ) (packets : List (List ℕ)
 
   frame_fits : (number : ℕ) → number < count
       → FitFrame format spacecraft vc ((mc + number) % 256) (number % 256) (first_of room number (packet_offsets 0 packets [])) (data_field_of room number (concat packets))
-  frame_fits number below = grind (arith, wide_room, mod_below, start_inside, each_pointer_is_least, field_filled)
+  frame_fits number below = grind (arith, wide_room, mod_below, each_pointer_is_least, field_filled)
 
   -- what is so of each frame that fits is so of all
   frames_each : (P : List ℕ → Type 0) → EachFrameIs format spacecraft P → (many number : ℕ) → number + many ≤ count → AllByRecursion P (frames number many)
@@ -82,7 +74,7 @@ channel_views format vc mc packets =
     views_from room vc mc filled 0 (length (concat filled) / room)
 
 pub channel_of_own : (format : TmFormat) (vc mc : ℕ) (packets : List (List ℕ)) → AllByRecursion (λ view. view.vc ≡ vc) (channel_views format vc mc packets)
-channel_of_own format vc mc packets = grind (arith, each_of_channel)
+channel_of_own format vc mc packets = grind (arith, each-map, each-every)
 
 module _ (format : TmFormat) (spacecraft vc mc : ℕ) (packets : List (List ℕ)) (is : IsFormat format) (fits : spacecraft ≤ 1023) (vc_fits : vc ≤ 7)
     (each : AllByRecursion IsDeliverable packets) where
@@ -91,9 +83,6 @@ module _ (format : TmFormat) (spacecraft vc mc : ℕ) (packets : List (List ℕ)
 
   abbrev frame_count : ℕ
   frame_count = length (concat filled) / field_room_of format
-
-  filled_each : AllByRecursion IsPacket filled
-  filled_each = grind (arith, wide_room, filling_is, short_room, each-append, due_packets)
 
   pub filled_size : length (concat filled) ≡ frame_count * field_room_of format
   filled_size = grind (arith, wide_room, div-add-mod', filled_whole, short_room)
@@ -105,15 +94,12 @@ module _ (format : TmFormat) (spacecraft vc mc : ℕ) (packets : List (List ℕ)
   channel_back = frames_back format spacecraft vc mc filled frame_count is fits vc_fits filled_size frame_count 0 (omega arith)
 
   pub channel_delivers : without_idle (packets_delivered (deliveries_of (channel_views format vc mc packets))) ≡ packets
-  channel_delivers = grind (arith, wide_room, all_delivered, filled_each, filled_size, filled_without_idle, short_room)
+  channel_delivers = grind (arith, wide_room, all_delivered, filled_size, filled_without_idle, short_room, filling_is, each-append, due_packets)
 
 -- ---- the frames of all virtual channels
 
 of_none : (vc : ℕ) (views : List TmView) → AllByRecursion (λ view. view.vc ≡ vc → ⊥) views → channel_of vc views ≡ []
 of_none vc views others = grind (arith, filter_none, each-weaker, ne_eqb)
-
-of_all : (vc : ℕ) (views : List TmView) → AllByRecursion (λ view. view.vc ≡ vc) views → channel_of vc views ≡ views
-of_all vc views same = grind (arith, filter_all, each-weaker, eq-eqb)
 
 module _ (format : TmFormat) (spacecraft : ℕ) (is : IsFormat format) (fits : spacecraft ≤ 1023) where
   abbrev pub form_views : ℕ → ℕ → List (List (List ℕ)) → List TmView
@@ -152,7 +138,7 @@ module _ (format : TmFormat) (spacecraft : ℕ) (is : IsFormat format) (fits : s
   -- the frames of the first virtual channel, and those of another one
   pub first_channel : (packets : List (List ℕ)) (lists : List (List (List ℕ))) (vc mc : ℕ) → vc + 1 + length lists ≤ 8 → AllByRecursion IsDeliverable packets
       → AllByRecursion (AllByRecursion IsDeliverable) lists → channel_of vc (form_views vc mc (packets ∷ lists)) ≡ channel_views format vc mc packets
-  first_channel packets lists vc mc inside own each = grind (arith, form_parts, filter-append, of_all, channel_of_own, of_none, each-weaker, form_above, append-nil)
+  first_channel packets lists vc mc inside own each = grind (arith, form_parts, filter-append, channel_of_own, of_none, each-weaker, form_above, append-nil, filter_all, eq-eqb)
 
   pub other_channel : (packets : List (List ℕ)) (lists : List (List (List ℕ))) (vc mc v : ℕ) → vc ≤ 7 → AllByRecursion IsDeliverable packets → vc ≢ v
       → channel_of v (form_views vc mc (packets ∷ lists)) ≡ channel_of v (form_views (vc + 1) (next vc mc packets) lists)

@@ -43,12 +43,9 @@ delivered_in view later octets = packets_of octets ++ at_rest (λ l. completed (
 in_packet : (view : TmView) (later : List TmView) (packet octets : List ℕ) → IsPacket packet → delivered_in view later (packet ++ octets) ≡ packet ∷ delivered_in view later octets
 in_packet view later packet octets p = grind (arith, packets_of-packet, rest_of-packet)
 
-at_some_rest : (f : List ℕ → List (List ℕ)) (octets : List ℕ) → 0 < length octets → at_rest f octets ≡ f octets
-at_some_rest f octets some = grind arith
-
 in_begun : (view : TmView) (later : List TmView) (octets : List ℕ) → 0 < length octets → front octets ≡ Incomplete
     → delivered_in view later octets ≡ completed (outcome_of_front Incomplete view octets later)
-in_begun view later octets some incomplete = grind (arith, packets_of-none, rest_of-none, at_some_rest)
+in_begun view later octets some incomplete = grind (arith, packets_of-none, rest_of-none)
 
 -- a list of packets without octets is empty
 no_octets : (packets : List (List ℕ)) → AllByRecursion IsPacket packets → length (concat packets) ≡ 0 → packets ≡ []

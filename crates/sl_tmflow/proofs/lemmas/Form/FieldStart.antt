@@ -50,10 +50,6 @@ first_is room number start packets (packet ∷ todo) some more found =
 
 -- ---- the least packet start
 
--- an offset lies in the data field of its number, and in no other
-lies_there : (room number offset : ℕ) → 0 < room → lies_in room number offset ≡ true → LiesIn room number offset
-lies_there room number offset some test = grind (arith, eqb-true, div-add-mod', mod_below)
-
 tells : (room number offset : ℕ) → LiesIn room number offset → lies_in room number offset ≡ true
 tells room number offset lies = grind (arith, lies_here)
 
@@ -72,7 +68,7 @@ one_more room number offset offsets first outside least = search arith
 with_first : (room number offset : ℕ) (packet : List ℕ) (packets : List (List ℕ)) → 0 < room → (b : Bool) → lies_in room number offset ≡ b
     → IsLeastStart room number (packet_offsets (offset + length packet) packets []) (first_of room number (packet_offsets (offset + length packet) packets []))
     → IsLeastStart room number (packet_offsets offset (packet ∷ packets) []) (first_of room number (packet_offsets offset (packet ∷ packets) []))
-with_first room number offset packet packets some b test later = grind (arith, lies_there, none_before, one_more, tells)
+with_first room number offset packet packets some b test later = grind (arith, none_before, one_more, tells, eqb-true, div-add-mod', mod_below)
 
 least_from : (room number offset : ℕ) (packets : List (List ℕ)) → 0 < room
     → IsLeastStart room number (packet_offsets offset packets []) (first_of room number (packet_offsets offset packets []))

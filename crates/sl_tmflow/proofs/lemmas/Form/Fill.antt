@@ -121,9 +121,6 @@ some_fill room len some there = grind (arith, fill_is_least)
 pub filling_is : (room len : ℕ) → 7 ≤ room → room ≤ 65536 → AllByRecursion IsPacket (filling room len) × (length (concat (filling room len)) ≡ fill_of room len)
 filling_is room len some short = grind (arith, eqb_tells, some_fill, fill_inside, idle_packet_is_a_packet, append-nil, length-idle_packet)
 
-filling_is_idle : (room len : ℕ) → 7 ≤ room → room ≤ 65536 → AllByRecursion (λ packet. is_idle_packet packet ≡ true) (filling room len)
-filling_is_idle room len some short = grind (arith, eqb_tells, idle_packet_is_idle, some_fill, fill_inside)
-
 pub filled_octets : (room : ℕ) (packets : List (List ℕ)) → concat packets ++ concat (filling room (length (concat packets))) ≡ concat (with_filling room packets)
 filled_octets room packets = sym (concat-append packets (filling room (length (concat packets))))
 
@@ -135,4 +132,4 @@ filled_whole room packets some short =
 
 -- packets that an idle packet filled up are the same without it
 pub filled_without_idle : (room : ℕ) (packets : List (List ℕ)) → 7 ≤ room → room ≤ 65536 → AllByRecursion IsDeliverable packets → without_idle (with_filling room packets) ≡ packets
-filled_without_idle room packets some short each = grind (arith, common_steps, filter-append, filter_all, each-weaker, filter_none, filling_is_idle, append-nil)
+filled_without_idle room packets some short each = grind (arith, common_steps, filter-append, filter_all, each-weaker, filter_none, append-nil, eqb_tells, idle_packet_is_idle, some_fill, fill_inside)

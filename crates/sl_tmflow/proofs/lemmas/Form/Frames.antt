@@ -37,11 +37,6 @@ pub next_field : (format : TmFormat) (heading : Heading) (first : Option ℕ) (l
     ≡ headed_frame format heading first field ++ field_frames format (fields_in format later) (heading_after heading 1) None later
 next_field format heading first left field later roomy divided whole = grind (arith, take-append_seam, drop-append_seam, one_more_field)
 
--- a frame has the length of its format
-pub frame_size : (format : TmFormat) (heading : Heading) (first : Option ℕ) (field : List ℕ) → 8 ≤ format.len → length field ≡ field_room_of format
-    → length (headed_frame format heading first field) ≡ format.len
-frame_size format heading first field long whole = grind (arith, common_steps, with_fecf_whole, length-octets_of)
-
 -- ---- frames that were pushed so far
 
 pub record IsPushing (format : TmFormat) (heading : Heading) (end : List ℕ) (size : ℕ) (first : Option ℕ) (left form : List ℕ) (len : ℕ) : Type 0 where
@@ -53,7 +48,7 @@ pub pushes_next : (format : TmFormat) (heading : Heading) (end : List ℕ) (size
     → form' ≡ form ++ headed_frame format heading first field → len ≡ length form → len' ≡ length form'
     → IsPushing format heading end size first left form len
     → IsPushing format (heading_after heading 1) end size None later form' len'
-pushes_next format heading end size first left field later form form' len len' roomy long divided whole added is is' p = grind (arith, one_more_field, suc-mul, append_assoc, next_field, length-append, frame_size)
+pushes_next format heading end size first left field later form form' len len' roomy long divided whole added is is' p = grind (arith, one_more_field, suc-mul, append_assoc, next_field, length-append, common_steps, with_fecf_whole, length-octets_of)
 
 -- all frames are pushed where no data field is left
 pub all_pushed : (format : TmFormat) (heading : Heading) (end : List ℕ) (size : ℕ) (first : Option ℕ) (left form : List ℕ) (len : ℕ) → length left < field_room_of format

@@ -136,11 +136,8 @@ left_at_front s before roomy taken counter octets start master =
 same_filling : (room a b : ℕ) → a % room ≡ b % room → filling room a ≡ filling room b
 same_filling room a b same = rw (same) refl
 
-few_filling : (room len : ℕ) → length (filling room len) ≤ 1
-few_filling room len = grind (arith, eqb_tells)
-
 few_filled : (s : FormProgress) → length (filled_packets s) ≤ length (channel_packets s) + 1
-few_filled s = grind (arith, length-append, few_filling)
+few_filled s = grind (arith, length-append, eqb_tells)
 
 -- the packets of a virtual channel, among the lists of all
 pub channel_is : (s : FormProgress) → s.vc < 8 → channel_packets s ≡ slice_index_or s.lists s.vc []

@@ -127,11 +127,8 @@ each_broken_off_is_listed channel next octets broken =
 
 -- ---- a broken-off packet was incomplete
 
-lost_step : (s : Continuation) (passed : ℕ) (octets more : List ℕ) → lost s octets ++ [] ≡ broken_octets (StillIncomplete octets) (after_step s passed (StillIncomplete more))
-lost_step s passed octets more = grind arith
-
 lost_with_next : (passed : ℕ) (last next : TmView) (outcome : Outcome) → flat_map (lost_in last next) (incomplete_octets outcome) ≡ broken_octets outcome (with_next passed last next outcome)
-lost_with_next passed last next outcome = grind (arith, lost_step)
+lost_with_next passed last next outcome = grind arith
 
 frame_broken-push : (view : TmView) (later : List TmView) (next : TmView)
     → flat_map (lost_in (last_of view later) next) (frame_incomplete view later) ≡ frame_broken view later next

@@ -13,10 +13,6 @@ use Rattle.sl_tmflow.proofs.lemmas.Delivery.Step.{incomplete_before}
 
 -- ---- octets that begin with something
 
--- octets of another version stay so with more octets
-foreign_stays : (octets more : List ℕ) → front octets ≡ OtherVersion → front (octets ++ more) ≡ OtherVersion
-foreign_stays octets more e = grind (arith, common_steps, incomplete_before, foreign_is_no_packet, take-append-drop, whole_is_a_packet)
-
 -- octets with a whole packet stay so with more octets
 whole_stays : (octets more : List ℕ) (len : ℕ) → front octets ≡ WholePacket len → front (octets ++ more) ≡ WholePacket len
 whole_stays octets more len e = grind (arith, common_steps, whole_is_a_packet, append_assoc, take-append-drop, packet_is_whole, length-take-le)
@@ -29,7 +25,7 @@ packet_same first before field a b len same = grind arith
 -- octets that aren't incomplete decide the step, whatever follows
 told : (first : Option ℕ) (before : ℕ) (field octets more : List ℕ) → (front octets ≡ Incomplete → ⊥)
     → front_step first before field octets (front octets) ≡ front_step first before field (octets ++ more) (front (octets ++ more))
-told first before field octets more begun = grind (arith, common_steps, foreign_stays, whole_is_a_packet, packet_same, take-append-le, whole_stays)
+told first before field octets more begun = grind (arith, common_steps, whole_is_a_packet, packet_same, take-append-le, whole_stays, incomplete_before, foreign_is_no_packet, take-append-drop)
 
 -- ---- octets of a data field
 

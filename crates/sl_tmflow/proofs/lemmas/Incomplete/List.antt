@@ -168,12 +168,9 @@ each_incomplete_is_listed channel octets is_incomplete =
 
 -- ---- incomplete packets are short
 
-incomplete_test : (foreign fewer : Bool) (len : ℕ) → (if foreign then OtherVersion else if fewer then Incomplete else WholePacket len) ≡ Incomplete → fewer ≡ true
-incomplete_test foreign fewer len e = grind arith
-
 -- an incomplete packet has fewer octets than its header states
 pub fewer_than_stated : (octets : List ℕ) → front octets ≡ Incomplete → length octets < stated_packet_len octets
-fewer_than_stated octets e = grind (arith, ltb-true, incomplete_test)
+fewer_than_stated octets e = grind (arith, ltb-true)
 
 -- a header states 65,542 octets at most
 pub stated_packet_len-most : (octets : List ℕ) → stated_packet_len octets ≤ 65542

@@ -7,9 +7,7 @@ use Rattle.sl_fields.proofs.ListLemmas.{each-append, each-weaker, filter_all, fi
 
 pub each-flat_map_range : {X : Type 0} (P : X → Type 0) (f : ℕ → List X) (from n : ℕ) → ((i : ℕ) → i < from + n → AllByRecursion P (f i)) → AllByRecursion P (flat_map f (range_with_len from n))
 each-flat_map_range P f from zero each = tt
-each-flat_map_range P f from (suc n) each =
-    each-append P (f from) (flat_map f (range_with_len (from + 1) n)) (each from (omega arith))
-    (each-flat_map_range P f (from + 1) n (λ i below. each i (omega arith)))
+each-flat_map_range P f from (suc n) each = grind (arith, each-append, each-flat_map_range P f (from + 1) n (λ i below. each i (omega arith)))
 
 -- the elements with a key, in lists by rising key with one key each
 module _ {X : Type 0} (key : X → ℕ) (f : ℕ → List X) (each : (i : ℕ) → AllByRecursion (λ x. key x ≡ i) (f i)) (k : ℕ) where
@@ -24,9 +22,7 @@ module _ {X : Type 0} (key : X → ℕ) (f : ℕ → List X) (each : (i : ℕ) �
 
   after_key : (from n : ℕ) → k < from → filter has_key (flat_map f (range_with_len from n)) ≡ []
   after_key from zero after = refl
-  after_key from (suc n) after =
-      let later = flat_map f (range_with_len (from + 1) n) in
-      filter-append has_key (f from) later ∙ ap (λ l. l ++ filter has_key later) (key_none from (λ e. omega arith)) ∙ after_key (from + 1) n (omega arith)
+  after_key from (suc n) after = grind (arith, filter-append, key_none, after_key (from + 1) n (omega arith))
 
   pub own_part : (from n : ℕ) → from ≤ k → k < from + n → filter has_key (flat_map f (range_with_len from n)) ≡ f k
   own_part from zero above below = absurd (omega arith)

@@ -1,5 +1,5 @@
 -- The report on the next frame, from the series that is incomplete at the index of its unit.
-use Rattle.std.proofs.Common.{◌≡◌, ℕ, ◌<◌, false, List, [], ◌∷◌, Option, None, refl, sym, ◌∙◌}
+use Rattle.std.proofs.Common.{arith, ◌≡◌, ℕ, ◌<◌, false, List, [], ◌∷◌, Option, None, refl, sym, ◌∙◌}
 use Rattle.sl_cop.specs.declared.verdict.Verdict.{Verdict}
 use Rattle.sl_cop.specs.declared.verdict.Verdict.TheVariants.{Accept}
 use Rattle.sl_tcframe.specs.TcFrame.{TcView}
@@ -30,11 +30,4 @@ reported_more r old views next unit vc step are inside unit_is map_id_is same_vc
 -- the report on a frame without an accepted unit
 pub reported_none : (r : ReceptionParameters) (views : List TcView) (next : TcView) (verdict : Verdict) → verdict ≡ verdict_on r views next
     → segment_by r views next ≡ [] → IsReportedOf r views next (record quiet_report { verdict = verdict })
-reported_none r views next verdict is none =
-    record {
-      verdict = is;
-      stray = sym (told_none false stray_of r views next none);
-      dropped = sym (told_none None dropped_of r views next none);
-      long = sym (told_none false long_of r views next none);
-      tail = sym (told_none 0 tail_of r views next none);
-    }
+reported_none r views next verdict is none = grind (arith, told_none)

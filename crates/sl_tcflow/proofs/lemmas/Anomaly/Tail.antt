@@ -21,21 +21,16 @@ abbrev AtMostOne : List SeriesAt → Type 0
 AtMostOne list = (list ≡ []) ⊎ ((s : SeriesAt) × (list ≡ s ∷ []))
 
 only_one : (list : List SeriesAt) (s : SeriesAt) → AtMostOne list → Contains list s → list ≡ s ∷ []
-only_one list s (inl none) held = let (k, below, is) = subst (λ l. Contains l s) none held in absurd (omega (arith, below))
-only_one list s (inr (t, one)) held =
-    one ∙ ap (λ u. u ∷ []) (each-contained (λ u. t ≡ u) (t ∷ []) s (refl, tt) (subst (λ l. Contains l s) one held))
+only_one list s one held = grind (arith, each-contained)
 
 -- ---- the series that ends with a segment
 
 one_or : (b : Bool) (s : SeriesAt) (list : List SeriesAt) → AtMostOne list → AtMostOne (if b then s ∷ [] else list)
-one_or true s list few = inr (s, refl)
-one_or false s list few = few
+one_or b s list few = grind arith
 
 ending_one : (before : ℕ) (list : List (List ℕ)) (next : List ℕ) → AtMostOne (series_ending before list next)
 ending_one before [] next = one_or (flags_of next == 3) (series_at before (next ∷ [])) [] (inl refl)
-ending_one before (segment ∷ later) next =
-    one_or ((flags_of segment == 1 && are_continuing later) && flags_of next == 2) (series_at before (segment ∷ (later ++ next ∷ [])))
-    (series_ending (before + 1) later next) (ending_one (before + 1) later next)
+ending_one before (segment ∷ later) next = grind (arith, one_or, ending_one (before + 1) later next)
 
 abbrev left_of : List SeriesAt → List ℕ
 left_of list = flat_map (λ (s : SeriesAt). left_in s.segments) list

@@ -1,6 +1,6 @@
 -- The anomalies of a segment of a MAP are reported exactly where they are, and from the series that is incomplete
 -- before the segment.
-use Rattle.std.proofs.Common.{◌≡◌, ◌⊎◌, ℕ, ◌+◌, ◌<◌, ◌==◌, ◌&&◌, ◌||◌, Bool, true, false, if◌then◌else◌, List, [], ◌∷◌, length, Option, None, Some, inl, inr, refl, sym, ◌∙◌, ap, eqb-true, lt-ltb}
+use Rattle.std.proofs.Common.{arith, ◌≡◌, ◌⊎◌, ℕ, ◌+◌, ◌<◌, ◌==◌, ◌&&◌, ◌||◌, Bool, true, false, if◌then◌else◌, List, [], ◌∷◌, length, Option, None, Some, inl, inr, refl, sym, ◌∙◌, ap, eqb-true, lt-ltb}
 use Rattle.std.proofs.lemmas.Bool.{ltb-true}
 use Rattle.std.proofs.lemmas.Bool.Decides.{eqb_tells}
 use Rattle.std.specs.Prelude.{is_none, option_map}
@@ -30,38 +30,26 @@ module _ (r : ReceptionParameters) (old : List (Option (List ℕ))) (views : Lis
       → AreIncomplete r old views → next.vc < 64 → segment_by r views next ≡ unit ∷ []
       → map_by r next ≡ (header_at unit).map
       → of_accepted none told r views next ≡ from (at old (channel_at next.vc (header_at unit).map)) unit
-  told_more none told from same are inside unit_is map_id_is =
-      let map_id = (header_at unit).map in
-      ap (of_segment none (told (segments_of r next.vc (map_by r next) views))) unit_is
-      ∙ ap (λ n. told (segments_of r next.vc n views) unit) map_id_is
-      ∙ same (segments_of r next.vc map_id views) unit
-      ∙ ap (λ held. from held unit) (sym (are next.vc map_id inside (map_fits unit)))
+  told_more none told from same are inside unit_is map_id_is = grind (arith, map_fits)
 
   pub told_at : {X : Type 0} (none : X) (told : List (List ℕ) → List ℕ → X) (from : Option (List ℕ) → List ℕ → X)
       → ((list : List (List ℕ)) (segment : List ℕ) → told list segment ≡ from (incomplete_of list) segment)
       → (vc : ℕ) (answer : X) → AreIncomplete r old views → next.vc < 64 → segment_by r views next ≡ unit ∷ []
       → map_by r next ≡ (header_at unit).map → vc ≡ next.vc → answer ≡ from (at old (channel_at vc (header_at unit).map)) unit
       → answer ≡ of_accepted none told r views next
-  told_at none told from same vc answer are inside unit_is map_id_is same_vc is =
-      is ∙ ap (λ n. from (at old (channel_at n (header_at unit).map)) unit) same_vc ∙ sym (told_more none told from same are inside unit_is map_id_is)
+  told_at none told from same vc answer are inside unit_is map_id_is same_vc is = grind (arith, told_more)
 
 -- ---- by the sequence flags
 
 continues_is : (next : List ℕ) → (flags_of next ≡ 0) ⊎ (flags_of next ≡ 2) → continues next ≡ true
-continues_is next (inl is) = ap (λ flags. flags == 0 || flags == 2) is
-continues_is next (inr is) = ap (λ flags. flags == 0 || flags == 2) is
+continues_is next is = grind arith
 
 begins_is : (next : List ℕ) → (flags_of next ≡ 1) ⊎ (flags_of next ≡ 3) → begins next ≡ true
-begins_is next (inl is) = ap (λ flags. flags == 1 || flags == 3) is
-begins_is next (inr is) = ap (λ flags. flags == 1 || flags == 3) is
+begins_is next is = grind arith
 
 -- one of two numbers
 one_of : (n a b : ℕ) → (n == a || n == b) ≡ true → (n ≡ a) ⊎ (n ≡ b)
-one_of n a b e =
-    elim (eqb_tells n a) [
-      | inl (test, is) ↦ inl is
-      | inr (test, other) ↦ inr (eqb-true n b (sym (ap (λ t. t || n == b) test) ∙ e))
-    ]
+one_of n a b e = grind (arith, eqb_tells, eqb-true)
 
 -- ---- out of sequence
 
@@ -88,20 +76,15 @@ dropped_is_told list next count x =
     ∙ ap (option_map length) (incomplete_is_told list x.octets x.incomplete) ∙ ap Some (sym x.count_is)
 
 some_if : (b : Bool) (held : Option ℕ) (count : ℕ) → (if b then held else None) ≡ Some count → (b ≡ true) × (held ≡ Some count)
-some_if true held count e = (refl, e)
-some_if false held count e = absurd (cc)
+some_if b held count e = grind arith
 
 -- the series whose octets are counted
 some_held : (list : List (List ℕ)) (held : Option (List ℕ)) (count : ℕ) → incomplete_of list ≡ held → option_map length held ≡ Some count
     → (octets : List ℕ) × IsIncomplete list octets × (count ≡ length octets)
-some_held list None count e counted = absurd (cc)
-some_held list (Some octets) count e counted = (octets, what_is_told_is_incomplete list octets e, cc)
+some_held list held count e counted = grind (arith, what_is_told_is_incomplete)
 
 pub what_is_told_is_dropped : WhatIsToldIsDropped
-what_is_told_is_dropped list next count e =
-    let (test, counted) = some_if (begins next) (octets_held list) count e in
-    let (octets, x, count_is) = some_held list (incomplete_of list) count refl counted in
-    record { anew = one_of (flags_of next) 1 3 test; octets = octets; incomplete = x; count_is = count_is }
+what_is_told_is_dropped list next count e = grind (arith, some_if, some_held, one_of)
 
 -- ---- too long
 
@@ -113,11 +96,7 @@ long_is_told list next x =
 
 some_passes : (list : List (List ℕ)) (held : Option (List ℕ)) (more : ℕ) → incomplete_of list ≡ held → exceeds_limit (option_map length held) more ≡ true
     → (octets : List ℕ) × IsIncomplete list octets × (65542 < length octets + more)
-some_passes list None more e over = absurd (cc)
-some_passes list (Some octets) more e over = (octets, what_is_told_is_incomplete list octets e, ltb-true 65542 (length octets + more) over)
+some_passes list held more e over = grind (arith, what_is_told_is_incomplete, ltb-true)
 
 pub what_is_told_is_long : WhatIsToldIsLong
-what_is_told_is_long list next e =
-    let (test, over) = and_parts (continues next) (exceeds_limit (octets_held list) (length (segment_data next))) e in
-    let (octets, x, too_many) = some_passes list (incomplete_of list) (length (segment_data next)) refl over in
-    record { goes_on = one_of (flags_of next) 0 2 test; octets = octets; incomplete = x; too_many = too_many }
+what_is_told_is_long list next e = grind (arith, and_parts, some_passes, one_of)

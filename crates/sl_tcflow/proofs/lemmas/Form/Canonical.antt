@@ -48,14 +48,10 @@ views_are format spacecraft starts plain lists is known are fits =
 
 -- no packet is left out of packets that may be delivered
 none_idle : (packets : List (List ℕ)) → AllByRecursion IsDeliverable packets → without_idle packets ≡ packets
-none_idle packets each =
-    filter_all (λ packet. not (is_idle_packet packet)) packets
-    (each-weaker IsDeliverable (λ packet. not (is_idle_packet packet) ≡ true) (λ packet is. ap not is.1) packets each)
+none_idle packets each = grind (arith, filter_all, each-weaker)
 
 some_lists : (n m : ℕ) (lists : List (List (List ℕ))) → AllByRecursion (AllByRecursion IsDeliverable) lists → AllByRecursion (AllByRecursion IsPacket) (take n (drop m lists))
-some_lists n m lists each =
-    each-take (AllByRecursion IsPacket) n (drop m lists)
-    (each-drop (AllByRecursion IsPacket) m lists (each-weaker (AllByRecursion IsDeliverable) (AllByRecursion IsPacket) due_packets lists each))
+some_lists n m lists each = grind (arith, each-take, each-drop, each-weaker, due_packets)
 
 module _ (format : TcFormat) (spacecraft : ℕ) (r : ReceptionParameters) (lists : List (List (List ℕ))) (is : IsFormat format) (known : spacecraft ≤ 1023) (octets : AreStarts r.starts) (are : AreDeliverable lists) (fits : FitsTc format r.plain lists) where
   abbrev form : List ℕ

@@ -69,12 +69,7 @@ module _ (format : TcFormat) (spacecraft : ℕ) (is : IsFormat format) (known : 
   some_room = let least = is.least in omega (arith, fecf_len_le format.fecf)
 
   segment_is_unit : (segment : SegmentFields × List ℕ) → IsSegment (segment_room_of format) (λ m. 0 ≤ m) segment → IsUnit format (unit_made segment)
-  segment_is_unit segment s =
-      let size = length-append (segment_octets segment.0) segment.1 in
-      let one = length-octets_of 1 (segment_fields segment.0) in
-      let inside = s.inside in
-      let least = is.least in
-      (omega (arith, size, one), omega (arith, size, one, inside, fecf_len_le format.fecf))
+  segment_is_unit segment s = grind (arith, length-append, length-octets_of, fecf_len_le)
 
   -- the lists of a virtual channel have units that frames can have
   pub are_units : (lists : List (List (List ℕ))) (vc : ℕ) (b : Bool) → AllByRecursion (AllByRecursion IsDeliverable) lists → (b ≡ true → FitsOn format lists vc)
@@ -93,8 +88,7 @@ module _ (format : TcFormat) (spacecraft : ℕ) (is : IsFormat format) (known : 
   -- ---- frames
 
   fits_frame : (vc ns : ℕ) (unit : List ℕ) → vc ≤ 63 → ns < 256 → IsUnit format unit → FitAdFrame format spacecraft vc ns unit
-  fits_frame vc ns unit below small s =
-      record { least = is.least; most = is.most; spacecraft_fits = known; vc_fits = below; ns_fits = small; some = s.0; inside = s.1 }
+  fits_frame vc ns unit below small s = grind arith
 
   -- a property of each frame that fits holds for all frames
   each_of_units : (P : List ℕ → Type 0)
@@ -102,16 +96,12 @@ module _ (format : TcFormat) (spacecraft : ℕ) (is : IsFormat format) (known : 
       → (vc ns : ℕ) (units : List (List ℕ)) → vc ≤ 63 → AllByRecursion (IsUnit format) units
       → AllByRecursion P (frames_of_units format spacecraft vc ns units)
   each_of_units P each vc ns [] below all = tt
-  each_of_units P each vc ns (unit ∷ units) below all =
-      (each vc (ns % 256) unit (fits_frame vc (ns % 256) unit below (omega arith) all.0), each_of_units P each vc (ns + 1) units below all.1)
+  each_of_units P each vc ns (unit ∷ units) below all = grind (arith, fits_frame, each_of_units P each vc (ns + 1) units below all.1)
 
   views_back : (vc ns : ℕ) (units : List (List ℕ)) → vc ≤ 63 → AllByRecursion (IsUnit format) units
       → views_of format spacecraft (frames_of_units format spacecraft vc ns units) ≡ views_from vc ns units
   views_back vc ns [] below all = refl
-  views_back vc ns (unit ∷ units) below all =
-      ap (λ r. cons_option (result_ok r) (views_of format spacecraft (frames_of_units format spacecraft vc (ns + 1) units)))
-      (ad_frame_back format spacecraft vc (ns % 256) unit (fits_frame vc (ns % 256) unit below (omega arith) all.0))
-      ∙ ap (λ l. record { vc = vc; content = Ad (ns % 256) unit } ∷ l) (views_back vc (ns + 1) units below all.1)
+  views_back vc ns (unit ∷ units) below all = grind (arith, ad_frame_back, fits_frame, views_back vc (ns + 1) units below all.1)
 
   -- ---- the virtual channels
 
@@ -145,9 +135,7 @@ module _ (format : TcFormat) (spacecraft : ℕ) (is : IsFormat format) (known : 
     pub views_by : (from n : ℕ) → from + n ≤ 64
         → views_of format spacecraft (flat_map frames_on (range_with_len from n)) ≡ flat_map (λ vc. views_from vc (start vc) (units_on vc)) (range_with_len from n)
     views_by from zero below = refl
-    views_by from (suc n) below =
-        filter_map-append (λ frame. result_ok (tc_frame format spacecraft frame)) (frames_on from) (flat_map frames_on (range_with_len (from + 1) n))
-        ∙ ap₂ (λ a b. a ++ b) (views_back from (start from) (units_on from) (omega arith) (each_unit from (omega arith))) (views_by (from + 1) n (omega arith))
+    views_by from (suc n) below = grind (arith, filter_map-append, views_back, each_unit, views_by (from + 1) n (omega arith))
 
     -- the frames of a virtual channel are read as those of its units
     pub channel_back : (vc : ℕ) → vc < 64 → channel_of vc (views_of format spacecraft (tc_frames_form format spacecraft starts plain lists)) ≡ views_from vc (start vc) (units_on vc)

@@ -22,8 +22,7 @@ use Rattle.sl_tcflow.proofs.lemmas.Form.Pushed.{frames_from_same, frames_from-ap
 -- the MAPs from one on are this one and those after it
 split_maps : (b : Bool) (room map_id n : ℕ) (lists : List (List (List ℕ)))
     → units_of_maps b room map_id (take (suc n) lists) ≡ flat_map (units_of_packet b room map_id) (slice_index_or lists 0 []) ++ units_of_maps b room (map_id + 1) (take n (drop 1 lists))
-split_maps b room map_id n [] = sym (ap (units_of_maps b room (map_id + 1)) (take-nil n))
-split_maps b room map_id n (packets ∷ lists) = refl
+split_maps b room map_id n lists = grind (arith, take-nil)
 
 module _ (format : TcFormat) (spacecraft : ℕ) (starts plain : List ℕ) (lists : List (List (List ℕ))) where
   abbrev room : ℕ
@@ -52,16 +51,11 @@ module _ (format : TcFormat) (spacecraft : ℕ) (starts plain : List ℕ) (lists
   left_is : (vc map_id channel framed ns : ℕ) → map_id < 64 → channel ≡ 64 * vc + map_id
       → left channel framed ns ≡ on_maps vc map_id ns (drop framed (list channel)) (take (63 - map_id) (drop (channel + 1) lists)) ++ on_channels (vc + 1) (63 - vc)
   unfolding form_left
-  left_is vc map_id channel framed ns small is =
-      let v : channel / 64 ≡ vc = omega (arith, is, small) in
-      let m : channel % 64 ≡ map_id = omega (arith, is, small) in
-      ap₂ (λ a b. on_maps a b ns (drop framed (list channel)) (take (63 - b) (drop (channel + 1) lists)) ++ on_channels (a + 1) (63 - a)) v m
+  left_is vc map_id channel framed ns small is = grind arith
 
   -- the lists from a channel on are the channel's own and those after it
   first_list : (channel : ℕ) → slice_index_or (drop channel lists) 0 [] ≡ list channel
-  first_list channel =
-      let same : channel + 0 ≡ channel = omega arith in
-      get_or-drop channel lists 0 [] ∙ ap list same
+  first_list channel = grind (arith, get_or-drop)
 
   later_lists : (channel : ℕ) → drop 1 (drop channel lists) ≡ drop (channel + 1) lists
   later_lists channel = drop-drop 1 channel lists
@@ -151,14 +145,7 @@ module _ (format : TcFormat) (spacecraft : ℕ) (starts plain : List ℕ) (lists
       ]
 
   number_on : (channel between next ns : ℕ) → channel ≤ between → between ≤ next → number between next (number channel between ns) ≡ number channel next ns
-  number_on channel between next ns a b =
-      elim (eqb_tells (next / 64) (between / 64)) [
-        | inl (test, same) ↦
-            ap (λ t. if t then number channel between ns else start (next / 64)) test ∙ ap (λ v. if v == channel / 64 then ns else start v) (sym same)
-        | inr (test, other) ↦
-            ap (λ t. if t then number channel between ns else start (next / 64)) test
-            ∙ ap (λ t. if t then ns else start (next / 64)) (sym (ne_eqb (next / 64) (channel / 64) (λ e. other (omega (arith, e, a, b)))))
-      ]
+  number_on channel between next ns a b = grind (arith, eqb_tells, ne_eqb)
 
   -- the octets to come are those from the next channel with packets on
   pub to_later : (k channel next framed ns : ℕ) → next ≡ channel + 1 + k → next ≤ 4096 → length lists ≡ 4096 → length (list channel) ≤ framed
@@ -224,65 +211,41 @@ module _ (format : TcFormat) (spacecraft : ℕ) (starts plain : List ℕ) (lists
   pub piece_first : (b : Bool) (channel framed ns next : ℕ) (packet : List ℕ) → b ≡ no_headers (channel / 64) → framed < length (list channel)
       → packet ≡ slice_index_or (list channel) framed [] → next ≡ ns_after format b channel ns packet
       → left channel framed ns ≡ piece_of format spacecraft b channel ns packet ++ left channel (framed + 1) next
-  piece_first b channel framed ns next packet headers inside here =
-      subst (λ b. next ≡ ns_after format b channel ns packet → left channel framed ns ≡ piece_of format spacecraft b channel ns packet ++ left channel (framed + 1) next)
-      (sym headers) (piece_made (channel / 64) (channel % 64) channel framed ns next packet (omega arith) (omega arith) inside here)
+  piece_first b channel framed ns next packet headers inside here next_is = grind (arith, piece_made)
 
 -- ---- the octets of a piece
 
 module _ (format : TcFormat) (spacecraft : ℕ) where
   frame_some : (vc ns : ℕ) (unit : List ℕ) → 0 < length (ad_frame format spacecraft vc ns unit)
-  frame_some vc ns unit =
-      let h = ad_fields spacecraft vc ns (ad_len format (length unit)) in
-      let covered = octets_of 5 h ++ unit in
-      omega (arith, length-with_fecf format.fecf covered, length-append (octets_of 5 h) unit, length-octets_of 5 h)
+  frame_some vc ns unit = grind (arith, length-with_fecf, length-append, length-octets_of)
 
   frames_some : (vc ns : ℕ) (units : List (List ℕ)) → 0 < length units → 0 < length (concat (frames_of_units format spacecraft vc ns units))
   frames_some vc ns [] some = absurd (omega arith)
-  frames_some vc ns (unit ∷ units) some =
-      let frame = ad_frame format spacecraft vc (ns % 256) unit in
-      let later = concat (frames_of_units format spacecraft vc (ns + 1) units) in
-      omega (arith, length-append frame later, frame_some vc (ns % 256) unit)
+  frames_some vc ns (unit ∷ units) some = grind (arith, length-append, frame_some)
 
   some_units : (b : Bool) (room map_id : ℕ) (packet : List ℕ) → 0 < room → 0 < length packet → 0 < length (units_of_packet b room map_id packet)
-  some_units true room map_id packet wide long = omega arith
-  some_units false room map_id packet wide long =
-      let parts = some_parts room packet wide long in
-      let count = length-map-range_with_len (segment_of room map_id packet) 0 (segment_count room packet) in
-      omega (arith, parts, count)
+  some_units b room map_id packet wide long = grind (arith, some_parts, length-map-range_with_len)
 
   pub piece_some : (b : Bool) (channel ns : ℕ) (packet : List ℕ) → 0 < segment_room_of format → 0 < length packet → 0 < length (piece_of format spacecraft b channel ns packet)
-  piece_some b channel ns packet wide long =
-      frames_some (channel / 64) ns (units_of_packet b (segment_room_of format) (channel % 64) packet) (some_units b (segment_room_of format) (channel % 64) packet wide long)
+  piece_some b channel ns packet wide long = grind (arith, frames_some, some_units)
 
   -- where there are no segment headers, the piece is one frame
   pub piece_whole : (b : Bool) (channel ns : ℕ) (packet : List ℕ) → b ≡ true → ns < 256
       → piece_of format spacecraft b channel ns packet ≡ ad_frame format spacecraft (channel / 64) ns packet
-  piece_whole false channel ns packet is small = absurd (cc)
-  piece_whole true channel ns packet is small =
-      let same : ns % 256 ≡ ns = omega (arith, small) in
-      append-nil (ad_frame format spacecraft (channel / 64) (ns % 256) packet) ∙ ap (λ n. ad_frame format spacecraft (channel / 64) n packet) same
+  piece_whole b channel ns packet is small = grind (arith, append-nil)
 
 -- ---- places and pieces
 
 -- the place after all packets
 pub no_packet : (d : PacketLists) (channel framed : ℕ) → IsPlace d channel framed → length (list_at d channel) ≤ framed → channel ≡ 4096
-no_packet d channel framed place past =
-    let inside : channel ≤ 4096 = place.inside in
-    elim (leb_tells 4096 channel) [
-      | inl (test, high) ↦ omega (arith, inside, high)
-      | inr (test, low) ↦ absurd (let there : framed < length (list_at d channel) = place.packet low in omega (arith, there, past))
-    ]
+no_packet d channel framed place past = grind (arith, leb_tells)
 
 -- the octets that are made and those to come are one form
 pub piece_moved : (left made left' made' form : List ℕ) → made ++ left ≡ form → AddsPiece left made left' made' → made' ++ left' ≡ form
-piece_moved left made left' made' form all adds =
-    ap (λ l. l ++ left') adds.added ∙ append_assoc made adds.piece left' ∙ ap (λ l. made ++ l) (sym adds.front) ∙ all
+piece_moved left made left' made' form all adds = grind (arith, append_assoc)
 
 pub left_shorter : (left made left' made' : List ℕ) → AddsPiece left made left' made' → length left' < length left
-left_shorter left made left' made' adds =
-    let some = adds.some in
-    omega (arith, some, ap length adds.front, length-append adds.piece left')
+left_shorter left made left' made' adds = grind (arith, length-append)
 
 pub none_after : (made left : List ℕ) → made ++ left ≡ [] → left ≡ []
 none_after [] left none = none

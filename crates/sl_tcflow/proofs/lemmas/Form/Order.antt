@@ -28,19 +28,12 @@ no_frame_is_skipped format spacecraft starts plain lists can =
 module _ {X : Type 0} (f : X → ℕ) where
   by_range : (of : ℕ → List X) → ((i : ℕ) → AllByRecursion (λ x. f x ≡ i) (of i)) → (from n : ℕ) → NeverFall from (map f (flat_map of (range_with_len from n)))
   by_range of each from zero = tt
-  by_range of each from (suc n) =
-      let later = by_range of each (from + 1) n in
-      then_later f from from (of from) (flat_map of (range_with_len (from + 1) n)) (omega arith) (each from)
-      (lower (from + 1) from (map f (flat_map of (range_with_len (from + 1) n))) (omega arith) later)
+  by_range of each from (suc n) = grind (arith, then_later, lower, by_range of each (from + 1) n)
 
 -- ---- the MAPs of units
 
 on_one_map : (room map_id : ℕ) (packets : List (List ℕ)) → map_id < 64 → AllByRecursion (λ unit. (header_at unit).map ≡ map_id) (map unit_made (flat_map (segments_of_packet room map_id) packets))
-on_one_map room map_id packets small =
-    let segments = flat_map (segments_of_packet room map_id) packets in
-    each-map (λ unit. (header_at unit).map ≡ map_id) unit_made segments
-    (each-weaker (IsSegment room (λ m. m ≡ map_id)) (λ segment. (header_at (unit_made segment)).map ≡ map_id)
-    (λ segment is. map_of_unit room (λ m. m ≡ map_id) segment is ∙ is.on) segments (packets_parts room map_id small packets))
+on_one_map room map_id packets small = grind (arith, each-map, each-weaker, map_of_unit, packets_parts)
 
 maps_rise : (room map_id : ℕ) (lists : List (List (List ℕ))) → map_id + length lists ≤ 64 → NeverFall map_id (map (λ unit. (header_at unit).map) (units_of_maps false room map_id lists))
 maps_rise room map_id [] few = tt

@@ -56,9 +56,7 @@ whole_part packet is =
 whole_parts : (packets : List (List ℕ)) → AllByRecursion IsPacket packets
     → map whole_segment packets ≡ map unit_made (flat_map (segments_of_packet most 0) packets)
 whole_parts [] each = refl
-whole_parts (packet ∷ packets) each =
-    ap (λ l. whole_segment packet ∷ l) (whole_parts packets each.1)
-    ∙ sym (ap (λ l. map unit_made (l ++ flat_map (segments_of_packet most 0) packets)) (whole_part packet each.0))
+whole_parts (packet ∷ packets) each = grind (arith, whole_part, whole_parts packets each.1)
 
 -- ---- the packets of a MAP come back
 
@@ -96,11 +94,7 @@ module _ (format : TcFormat) (lists : List (List (List ℕ))) (vc room : ℕ) (s
 module _ (format : TcFormat) (lists : List (List (List ℕ))) (vc channel : ℕ) (here : channel ≡ 64 * vc) where
   pub fits_by : AllByRecursion (λ packet. length packet ≤ plain_room_of format) (slice_index_or lists channel [])
       → ((other : ℕ) → channel + 1 ≤ other → other < channel + 64 → slice_index_or lists other [] ≡ []) → FitsOn format lists vc
-  fits_by short none =
-      record {
-        short = subst (λ n. AllByRecursion (λ packet. length packet ≤ plain_room_of format) (slice_index_or lists n [])) here short;
-        others = λ map_id some inside. none (64 * vc + map_id) (omega (arith, here, some)) (omega (arith, here, inside));
-      }
+  fits_by short none = grind arith
 
   pub short_by : FitsOn format lists vc → AllByRecursion (λ packet. length packet ≤ plain_room_of format) (slice_index_or lists channel [])
   short_by fits = subst (λ n. AllByRecursion (λ packet. length packet ≤ plain_room_of format) (slice_index_or lists n [])) (sym here) fits.short

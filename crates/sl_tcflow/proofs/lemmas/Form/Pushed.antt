@@ -18,17 +18,11 @@ module _ (format : TcFormat) (spacecraft vc : ℕ) where
   -- N(S) matters modulo 256 alone
   pub frames_from_same : (ns ns' : ℕ) (units : List (List ℕ)) → ns % 256 ≡ ns' % 256 → frames_from ns units ≡ frames_from ns' units
   frames_from_same ns ns' [] same = refl
-  frames_from_same ns ns' (unit ∷ units) same =
-      let later = frames_from_same (ns + 1) (ns' + 1) units (omega (arith, same)) in
-      ap (λ n. ad_frame format spacecraft vc n unit ∷ frames_from (ns + 1) units) same
-      ∙ ap (λ l. ad_frame format spacecraft vc (ns' % 256) unit ∷ l) later
+  frames_from_same ns ns' (unit ∷ units) same = grind (arith, frames_from_same (ns + 1) (ns' + 1) units (omega (arith, same)))
 
   pub frames_from-append : (ns : ℕ) (units more : List (List ℕ)) → frames_from ns (units ++ more) ≡ frames_from ns units ++ frames_from (ns + length units) more
   frames_from-append ns [] more = let same : ns ≡ ns + 0 = omega arith in ap (λ n. frames_from n more) same
-  frames_from-append ns (unit ∷ units) more =
-      let same : ns + 1 + length units ≡ ns + length (unit ∷ units) = omega arith in
-      ap (λ l. ad_frame format spacecraft vc (ns % 256) unit ∷ l) (frames_from-append (ns + 1) units more)
-      ∙ ap (λ n. ad_frame format spacecraft vc (ns % 256) unit ∷ (frames_from (ns + 1) units ++ frames_from n more)) same
+  frames_from-append ns (unit ∷ units) more = grind (arith, frames_from-append (ns + 1) units more)
 
   module _ (base : List ℕ) (ns : ℕ) where
     -- the frames of these units were added to a form: the first one has N(S) `ns`, and the next one has N(S) `next`
@@ -42,31 +36,17 @@ module _ (format : TcFormat) (spacecraft vc : ℕ) where
     pub pushed_more : (units more : List (List ℕ)) (next next' : ℕ) (form form' : List ℕ) → IsPushed units next form
         → form' ≡ form ++ concat (frames_from next more) → next' ≡ (next + length more) % 256
         → IsPushed (units ++ more) next' form'
-    pushed_more units more next next' form form' s added up =
-        let before = frames_from ns units in
-        let number : next % 256 ≡ (ns + length units) % 256 = omega (arith, s.next_is) in
-        let later = frames_from_same next (ns + length units) more number in
-        record {
-          form_is = added ∙ ap (λ l. l ++ concat (frames_from next more)) s.form_is ∙ append_assoc base (concat before) (concat (frames_from next more))
-              ∙ ap (λ l. base ++ (concat before ++ concat l)) later
-              ∙ ap (λ l. base ++ l) (sym (concat-append before (frames_from (ns + length units) more)) ∙ ap concat (sym (frames_from-append ns units more)));
-          next_is = omega (arith, up, s.next_is, length-append units more);
-        }
+    pushed_more units more next next' form form' s added up = grind (arith, frames_from_same, append_assoc, concat-append, frames_from-append, length-append)
 
 -- ---- the segments of a packet
 
 -- another segment begins within the packet
 pub counts_more : (room : ℕ) (packet : List ℕ) (number : ℕ) → 0 < room → number * room < length packet → number < segment_count room packet
-counts_more room packet number some inside =
-    let one = suc-mul number room in
-    (le-div_iff_mul-le {k = room} {x = suc number} {y = length packet + room - 1} some).1 (omega arith)
+counts_more room packet number some inside = grind (arith, suc-mul, le-div_iff_mul-le)
 
 -- no segment begins after the packet's end
 pub counts_all : (room : ℕ) (packet : List ℕ) (number : ℕ) → 0 < room → length packet ≤ number * room → segment_count room packet ≤ number
-counts_all room packet number some outside =
-    let one = suc-mul number room in
-    let below : segment_count room packet < suc number = (div-lt_iff_lt-mul {k = room} {x = length packet + room - 1} {y = suc number} some).1 (omega arith) in
-    omega (arith, below)
+counts_all room packet number some outside = grind (arith, suc-mul, div-lt_iff_lt-mul)
 
 flags_are : (count number : ℕ) → number < count
     → flags_at count number ≡ (if number == 0 then (if number + 1 == count then 3 else 1) else (if number + 1 == count then 2 else 0))
@@ -74,18 +54,12 @@ flags_are count number inside = grind (arith, nat_tests)
 
 -- the segment at the packet's front is the first one
 is_first_one : (room len number : ℕ) → 0 < room → number * room < len → (len - number * room == len) ≡ (number == 0)
-is_first_one room len zero some inside = let none = zero-mul room in grind (arith, nat_tests)
-is_first_one room len (suc number) some inside = let one = suc-mul number room in grind (arith, nat_tests)
+is_first_one room len number some inside = grind (arith, zero-mul, nat_tests, suc-mul)
 
 -- the segment that leaves no octets is the last one
 is_last_one : (room : ℕ) (packet : List ℕ) (number : ℕ) → 0 < room → number < segment_count room packet
     → (length packet - number * room - room == 0) ≡ (number + 1 == segment_count room packet)
-is_last_one room packet number some there =
-    let one = suc-mul number room in
-    elim (leb_tells (length packet) (suc number * room)) [
-      | inl (test, low) ↦ let all = counts_all room packet (suc number) some low in grind (arith, nat_tests)
-      | inr (test, high) ↦ let more = counts_more room packet (suc number) some (omega (arith, high)) in grind (arith, nat_tests)
-    ]
+is_last_one room packet number some there = grind (arith, suc-mul, leb_tells, counts_all, nat_tests, counts_more)
 
 module _ (format : TcFormat) (spacecraft vc map_id : ℕ) (base : List ℕ) (ns room : ℕ) (packet : List ℕ) where
   abbrev unit_at : ℕ → List ℕ
@@ -147,11 +121,7 @@ module _ (format : TcFormat) (spacecraft vc map_id : ℕ) (base : List ℕ) (ns 
   -- all segments were added
   pub all_divided : (left : List ℕ) (next : ℕ) (form : List ℕ) → 0 < room → length left ≡ 0 → IsDivided left next form
       → IsPushed format spacecraft vc base ns (units_of_packet false room map_id packet) next form
-  all_divided left next form some none s =
-      let size : length left ≡ length packet - s.number * room = ap length s.left_is ∙ length-drop (s.number * room) packet in
-      let all : segment_count room packet ≤ s.number = counts_all room packet s.number some (omega (arith, size, none)) in
-      let count : s.number ≡ segment_count room packet = omega (arith, s.so_far, all) in
-      subst (λ n. IsPushed format spacecraft vc base ns (units_to n) next form) count s.pushed
+  all_divided left next form some none s = grind (arith, length-drop, counts_all)
 
 -- ---- how many octets the frames have
 
@@ -167,9 +137,7 @@ none_few base size = record { before_end = λ some. omega arith; most = omega ar
 -- the bound holds with one more frame
 pub few_next : (base size len len' left left' octets around room : ℕ) → 8 ≤ room → around ≤ 8 → 0 < left → octets ≡ min room left → left' ≡ left - room
     → len' ≡ len + (octets + around) → AreFew base size len left → AreFew base size len' left'
-few_next base size len len' left left' octets around room wide thin some taken rest added few =
-    let before = few.before_end some in
-    record { before_end = λ more. omega (arith, before); most = omega (arith, before) }
+few_next base size len len' left left' octets around room wide thin some taken rest added few = grind arith
 
 -- there is room for one more frame
 pub few_fit : (base size len left octets around room : ℕ) → around ≤ 8 → 0 < left → octets ≡ min room left → AreFew base size len left

@@ -24,12 +24,10 @@ use Rattle.sl_tcflow.proofs.lemmas.Reception.Unit.{ended_none, segments_next}
 -- ---- the octets of a service data unit
 
 fitting : (octets : List ℕ) (b : Bool) → length (octets_of_series (if b then Some octets else None)) ≤ length octets
-fitting octets true = omega arith
-fitting octets false = omega arith
+fitting octets b = grind arith
 
 extending : (held : Option (List ℕ)) (octets : List ℕ) → length (octets_of_series (extended held octets)) ≤ length (octets_of_series held) + length octets
-extending None octets = omega arith
-extending (Some before) octets = let most = fitting (before ++ octets) (nat_le (length (before ++ octets)) 65542) in omega (arith, most, length-append before octets)
+extending held octets = grind (arith, fitting, length-append)
 
 ending : (ended : Option (List ℕ)) → length (packets_of_service_unit ended) ≤ length (octets_of_series ended)
 ending None = omega arith
@@ -43,49 +41,26 @@ module _ (held : Option (List ℕ)) (next : List ℕ) where
   -- before and the segment's
   incomplete_most : (first continuing : Bool)
       → length (octets_of_series (if first then if_fits octets else if continuing then extended held octets else None)) ≤ length (octets_of_series held) + length octets
-  incomplete_most true continuing = let most = fitting octets (nat_le (length octets) 65542) in omega (arith, most)
-  incomplete_most false true = extending held octets
-  incomplete_most false false = omega arith
+  incomplete_most first continuing = grind (arith, fitting, extending)
 
   ended_most : (whole last : Bool)
       → length (octets_of_series (if whole then if_fits octets else if last then extended held octets else None)) ≤ length (octets_of_series held) + length octets
-  ended_most true last = let most = fitting octets (nat_le (length octets) 65542) in omega (arith, most)
-  ended_most false true = extending held octets
-  ended_most false false = omega arith
+  ended_most whole last = grind (arith, fitting, extending)
 
   goes_on : (flags : ℕ) → flags ≢ 3 → flags ≢ 2 → flags_of next ≡ flags → service_unit_ended held next ≡ None
-  goes_on flags not_3 not_2 is =
-      ap (λ b. if b then if_fits octets else if flags_of next == 2 then extended held octets else None) (ne_eqb (flags_of next) 3 (λ e. not_3 (sym is ∙ e)))
-      ∙ ap (λ b. if b then extended held octets else None) (ne_eqb (flags_of next) 2 (λ e. not_2 (sym is ∙ e)))
+  goes_on flags not_3 not_2 is = grind (arith, ne_eqb)
 
   ends : flags_of next ≢ 1 → flags_of next ≢ 0 → incomplete_after held next ≡ None
-  ends not_1 not_0 =
-      ap (λ b. if b then if_fits octets else if flags_of next == 0 then extended held octets else None) (ne_eqb (flags_of next) 1 not_1)
-      ∙ ap (λ b. if b then extended held octets else None) (ne_eqb (flags_of next) 0 not_0)
+  ends not_1 not_0 = grind (arith, ne_eqb)
 
   begun : (flags : ℕ) → flags ≢ 3 → flags ≢ 2 → flags_of next ≡ flags
       → length (packets_after held next) + length (octets_of_series (incomplete_after held next)) ≤ length (octets_of_series held) + length octets
-  begun flags not_3 not_2 is =
-      let none = ap (λ o. length (packets_of_service_unit o)) (goes_on flags not_3 not_2 is) in
-      let most = incomplete_most (flags_of next == 1) (flags_of next == 0) in
-      omega (arith, none, most)
+  begun flags not_3 not_2 is = grind (arith, goes_on, incomplete_most)
 
   -- the packets that end with a segment and the octets held after it, counted together, are no more than the octets
   -- held before it and the segment's
   pub ended_within : length (packets_after held next) + length (octets_of_series (incomplete_after held next)) ≤ length (octets_of_series held) + length octets
-  ended_within =
-      elim (eqb_tells (flags_of next) 1) [
-        | inl (test, is) ↦ begun 1 (λ e. absurd (omega (arith, e))) (λ e. absurd (omega (arith, e))) is
-        | inr (test, not_1) ↦
-            elim (eqb_tells (flags_of next) 0) [
-              | inl (test', is) ↦ begun 0 (λ e. absurd (omega (arith, e))) (λ e. absurd (omega (arith, e))) is
-              | inr (test', not_0) ↦
-                  let none = ap (λ o. length (octets_of_series o)) (ends not_1 not_0) in
-                  let few = ending (service_unit_ended held next) in
-                  let most = ended_most (flags_of next == 3) (flags_of next == 2) in
-                  omega (arith, none, few, most)
-            ]
-      ]
+  ended_within = grind (arith, eqb_tells, ends, ending, ended_most)
 
 -- ---- the unit of a frame
 
@@ -98,8 +73,7 @@ unit_len (SetVr vr) = 0
 
 -- the segment of a unit has no more octets after its header than the unit
 octets_within : (plain : Bool) (unit : List ℕ) → length (segment_data (segment_in plain unit)) ≤ length unit
-octets_within true unit = omega (arith, ap length (octets_of_unit (record { flags = 3; map = 0 }, unit)))
-octets_within false unit = omega (arith, length-drop 1 unit)
+octets_within plain unit = grind (arith, octets_of_unit, length-drop)
 
 abbrev IsAccepted : Bool → Verdict → Content → Type 0
 IsAccepted plain verdict content =
@@ -107,21 +81,10 @@ IsAccepted plain verdict content =
     × (length (segment_data segment) ≤ unit_len content)
 
 none_or_accepted : (plain : Bool) (verdict : Verdict) (content : Content) → (map (segment_in plain) (unit_by verdict content) ≡ []) ⊎ IsAccepted plain verdict content
-none_or_accepted plain Accept (Ad ns unit) = inr (segment_in plain unit, refl, refl, octets_within plain unit)
-none_or_accepted plain Accept (Bd unit) = inr (segment_in plain unit, refl, refl, octets_within plain unit)
-none_or_accepted plain Accept Unlock = inl refl
-none_or_accepted plain Accept (SetVr vr) = inl refl
-none_or_accepted plain Early content = inl refl
-none_or_accepted plain Late content = inl refl
-none_or_accepted plain Outside content = inl refl
-none_or_accepted plain Refused content = inl refl
-none_or_accepted plain Command content = inl refl
+none_or_accepted plain verdict content = grind (arith, octets_within)
 
 pub small_map : (plain : Bool) (content : Content) → map_of plain content < 64
-small_map plain (Ad ns unit) = omega arith
-small_map plain (Bd unit) = omega arith
-small_map plain Unlock = omega arith
-small_map plain (SetVr vr) = omega arith
+small_map plain content = grind arith
 
 -- ---- one more frame
 
@@ -146,51 +109,24 @@ module _ (r : ReceptionParameters) (views : List TcView) (next : TcView) where
 
   -- a frame adds nothing to the segments of other channels than its own
   segments_other : (vc map_id : ℕ) → channel_at vc map_id ≢ unit_channel r next → segments_of r vc map_id after ≡ segments_of r vc map_id views
-  segments_other vc map_id other =
-      elim (eqb_tells next.vc vc) [
-        | inl (test, same) ↦
-            subst (λ n. segments_of r n map_id after ≡ segments_of r n map_id views) same
-            (segments_next r map_id views next
-            ∙ ap (λ l. segments_of r next.vc map_id views ++ l) (on_none map_id (λ e. other (ap₂ channel_at (sym same) e)))
-            ∙ append-nil (segments_of r next.vc map_id views))
-        | inr (test, apart) ↦ ap (λ l. segments_on map_id (map (segment_in (is_plain r vc)) (accepted_units r.window (initial_vr r vc) l))) (other_channel vc views next apart)
-      ]
+  segments_other vc map_id other = grind (arith, eqb_tells, segments_next, on_none, append-nil, other_channel)
 
   -- a frame without an accepted unit adds nothing to the segments of its own channel
   own_none : units ≡ [] → segments_of r next.vc (map_by r next) after ≡ own
-  own_none none =
-      segments_next r (map_by r next) views next ∙ ap (λ l. own ++ segments_on (map_by r next) l) none ∙ append-nil own
+  own_none none = grind (arith, segments_next, append-nil)
 
   own_next : (unit : List ℕ) → units ≡ unit ∷ [] → map_by r next ≡ (header_at unit).map → segments_of r next.vc (map_by r next) after ≡ own ++ unit ∷ []
-  own_next unit is map_is =
-      segments_next r (map_by r next) views next ∙ ap (λ l. own ++ segments_on (map_by r next) l) is
-      ∙ ap (λ b. own ++ cond b (unit ∷ []) []) (eq-eqb (header_at unit).map (map_by r next) (sym map_is))
+  own_next unit is map_is = grind (arith, segments_next, eq-eqb)
 
   ended_of : (unit : List ℕ) → units ≡ unit ∷ [] → ended_by r views next ≡ packets_ended own unit
   ended_of unit is = ap (flat_map (packets_ended own)) is ∙ append-nil (packets_ended own unit)
 
   own_packets : packets_of_segments (segments_of r next.vc (map_by r next) after) ≡ packets_of_segments own ++ ended_by r views next
-  own_packets =
-      elim (none_or_accepted (is_plain r next.vc) (verdict_on r views next) next.content) [
-        | inl none ↦
-            ap packets_of_segments (own_none none) ∙ sym (ap (λ l. packets_of_segments own ++ l) (ended_none r views next none) ∙ append-nil (packets_of_segments own))
-        | inr (unit, is, map_is, len) ↦
-            ap packets_of_segments (own_next unit is map_is) ∙ packets_next own unit ∙ ap (λ l. packets_of_segments own ++ l) (sym (ended_of unit is))
-      ]
+  own_packets = grind (arith, none_or_accepted, own_none, ended_none, append-nil, own_next, packets_next, ended_of)
 
   own_held : length (ended_by r views next) + length (octets_of_series (incomplete_of (segments_of r next.vc (map_by r next) after)))
       ≤ length (octets_of_series (incomplete_of own)) + unit_len next.content
-  own_held =
-      elim (none_or_accepted (is_plain r next.vc) (verdict_on r views next) next.content) [
-        | inl none ↦
-            let same = ap (λ l. length (octets_of_series (incomplete_of l))) (own_none none) in
-            let no_packets = ap length (ended_none r views next none) in
-            omega (arith, same, no_packets)
-        | inr (unit, is, map_is, len) ↦
-            let same = ap (λ l. length (octets_of_series (incomplete_of l))) (own_next unit is map_is) ∙ ap (λ o. length (octets_of_series o)) (incomplete_next own unit) in
-            let packets = ap length (ended_of unit is ∙ ended_next own unit) in
-            omega (arith, same, packets, ended_within (incomplete_of own) unit, len)
-      ]
+  own_held = grind (arith, none_or_accepted, own_none, ended_none, own_next, incomplete_next, ended_of, ended_next, ended_within)
 
   -- ---- the same by channel
 
@@ -202,26 +138,18 @@ module _ (r : ReceptionParameters) (views : List TcView) (next : TcView) where
 
   pub packets_own : (channel : ℕ) → channel ≡ unit_channel r next
       → packets_of_channel r after channel ≡ packets_of_channel r views channel ++ ended_by r views next
-  packets_own channel is =
-      let (vc, map_id) = of_channel channel is in
-      ap₂ (λ v m. packets_of_segments (segments_of r v m after)) vc map_id ∙ own_packets
-      ∙ sym (ap₂ (λ v m. packets_of_segments (segments_of r v m views) ++ ended_by r views next) vc map_id)
+  packets_own channel is = grind (arith, of_channel, own_packets)
 
   pub packets_other : (channel : ℕ) → channel ≢ unit_channel r next → packets_of_channel r after channel ≡ packets_of_channel r views channel
   packets_other channel other = ap packets_of_segments (segments_other (channel / 64) (channel % 64) (λ e. other (sym (channel_is channel) ∙ e)))
 
   pub held_own : (channel : ℕ) → channel ≡ unit_channel r next
       → length (ended_by r views next) + length (held_in r after channel) ≤ length (held_in r views channel) + unit_len next.content
-  held_own channel is =
-      let (vc, map_id) = of_channel channel is in
-      let now = ap₂ (λ v m. length (octets_of_series (incomplete_of (segments_of r v m after)))) vc map_id in
-      let before = ap₂ (λ v m. length (octets_of_series (incomplete_of (segments_of r v m views)))) vc map_id in
-      omega (arith, now, before, own_held)
+  held_own channel is = grind (arith, of_channel, own_held)
 
   pub incomplete_other : (channel : ℕ) → channel ≢ unit_channel r next
       → incomplete_of (segments_of r (channel / 64) (channel % 64) after) ≡ incomplete_of (segments_of r (channel / 64) (channel % 64) views)
-  incomplete_other channel other =
-      ap incomplete_of (segments_other (channel / 64) (channel % 64) (λ e. other (sym (channel_is channel) ∙ e)))
+  incomplete_other channel other = grind (arith, segments_other, channel_is)
 
   pub held_other : (channel : ℕ) → channel ≢ unit_channel r next → held_in r after channel ≡ held_in r views channel
   held_other channel other = ap octets_of_series (incomplete_other channel other)

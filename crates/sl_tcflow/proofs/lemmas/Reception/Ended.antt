@@ -1,6 +1,6 @@
 -- The packets of the service data unit that ends with the next segment of a MAP, and the octets after them, from the
 -- series that is incomplete before this segment.
-use Rattle.std.proofs.Common.{◌≡◌, ◌≢◌, ℕ, ◌+◌, ◌==◌, ◌&&◌, nat_le, Bool, true, false, if◌then◌else◌, List, [], ◌∷◌, ◌++◌, length, Option, None, Some, inl, inr, refl, sym, ◌∙◌, ap, append-nil, ne_eqb}
+use Rattle.std.proofs.Common.{arith, ◌≡◌, ◌≢◌, ℕ, ◌+◌, ◌==◌, ◌&&◌, nat_le, Bool, true, false, if◌then◌else◌, List, [], ◌∷◌, ◌++◌, length, Option, None, Some, inl, inr, refl, sym, ◌∙◌, ap, append-nil, ne_eqb}
 use Rattle.std.specs.List.{filter, flat_map}
 use Rattle.std.proofs.lemmas.Bool.Decides.{eqb_tells}
 use Rattle.sl_packet.specs.Packets.{packets_of, rest_of}
@@ -16,14 +16,11 @@ use Rattle.sl_tcflow.proofs.lemmas.Series.Listed.{series_at}
 -- ---- by the sequence flags of the next segment
 
 ended_last : (held : Option (List ℕ)) (next : List ℕ) → flags_of next ≡ 2 → service_unit_ended held next ≡ extended held (segment_data next)
-ended_last held next is =
-    ap (λ flags. if flags == 3 then if_fits (segment_data next) else if flags == 2 then extended held (segment_data next) else None) is
+ended_last held next is = grind arith
 
 -- the incomplete series matters to a last segment alone
 ended_other : (held other : Option (List ℕ)) (next : List ℕ) → flags_of next ≢ 2 → service_unit_ended held next ≡ service_unit_ended other next
-ended_other held other next not_2 =
-    let by = λ (before : Option (List ℕ)). ap (λ b. if flags_of next == 3 then if_fits (segment_data next) else if b then extended before (segment_data next) else None) (ne_eqb (flags_of next) 2 not_2) in
-    by held ∙ sym (by other)
+ended_other held other next not_2 = grind (arith, ne_eqb)
 
 -- ---- lists that belong to a service data unit
 
@@ -38,23 +35,13 @@ module _ {X : Type 0} (of : List ℕ → List X) where
   in_segments segments = if nat_le (length (reassembled segments)) 65542 then of (reassembled segments) else []
 
   in_if : (b : Bool) (octets : List ℕ) → (if b then of octets else []) ≡ in_unit (if b then Some octets else None)
-  in_if true octets = refl
-  in_if false octets = refl
+  in_if b octets = grind arith
 
   in_reassembled : (segments : List (List ℕ)) → in_segments segments ≡ in_unit (if_fits (reassembled segments))
   in_reassembled segments = in_if (nat_le (length (reassembled segments)) 65542) (reassembled segments)
 
   in_first : (before : ℕ) (next : List ℕ) → flat_map (λ (s : SeriesAt). in_segments s.segments) (series_ending before [] next) ≡ in_unit (service_unit_ended None next)
-  in_first before next =
-      by (flags_of next == 3) (flags_of next == 2)
-      ∙ ap (λ l. in_unit (if flags_of next == 3 then if_fits l else if flags_of next == 2 then None else None)) (append-nil (segment_data next))
-    where
-      by : (three two : Bool)
-          → flat_map (λ (s : SeriesAt). in_segments s.segments) (if three then series_at before (next ∷ []) ∷ [] else [])
-          ≡ in_unit (if three then if_fits (segment_data next ++ []) else if two then None else None)
-      by true two = append-nil (in_segments (next ∷ [])) ∙ in_reassembled (next ∷ [])
-      by false true = refl
-      by false false = refl
+  in_first before next = grind (arith, append-nil, in_reassembled)
 
   in_after : (begun : Bool) (segment : List ℕ) (later : List (List ℕ)) (next : List ℕ) (ending : List SeriesAt) (before : ℕ) (held : Option (List ℕ))
       → flat_map (λ (s : SeriesAt). in_segments s.segments) ending ≡ in_unit (service_unit_ended held next)
@@ -80,9 +67,7 @@ module _ {X : Type 0} (of : List ℕ → List X) where
   in_from : (before : ℕ) (list : List (List ℕ)) (next : List ℕ)
       → flat_map (λ (s : SeriesAt). in_segments s.segments) (series_ending before list next) ≡ in_unit (service_unit_ended (incomplete_of list) next)
   in_from before [] next = in_first before next
-  in_from before (segment ∷ later) next =
-      in_after (flags_of segment == 1 && are_continuing later) segment later next (series_ending (before + 1) later next) before (incomplete_of later)
-      (in_from (before + 1) later next)
+  in_from before (segment ∷ later) next = grind (arith, in_after, in_from (before + 1) later next)
 
   in_ended : (list : List (List ℕ)) (next : List ℕ)
       → flat_map (λ (s : SeriesAt). in_segments s.segments) (filter (λ (s : SeriesAt). past s == length list + 1) (series_of (list ++ next ∷ [])))

@@ -16,20 +16,10 @@ use Rattle.sl_tcflow.specs.ReceptionParameters.{ReceptionParameters, is_plain, i
 -- ---- one of the channels
 
 pub same_channel : (vc : ℕ) (views : List TcView) (next : TcView) → next.vc ≡ vc → channel_of vc (views ++ next ∷ []) ≡ channel_of vc views ++ next ∷ []
-same_channel vc views next same =
-    filter-append (λ view. view.vc == vc) views (next ∷ [])
-    ∙ elim (eqb_tells next.vc vc) [
-      | inl (test, is) ↦ rw (test) refl
-      | inr (test, other) ↦ absurd (other same)
-    ]
+same_channel vc views next same = grind (arith, filter-append, eqb_tells)
 
 pub other_channel : (vc : ℕ) (views : List TcView) (next : TcView) → (next.vc ≡ vc → ⊥) → channel_of vc (views ++ next ∷ []) ≡ channel_of vc views
-other_channel vc views next other =
-    filter-append (λ view. view.vc == vc) views (next ∷ [])
-    ∙ elim (eqb_tells next.vc vc) [
-      | inl (test, is) ↦ absurd (other is)
-      | inr (test, not) ↦ rw (test) (append-nil (channel_of vc views))
-    ]
+other_channel vc views next other = grind (arith, filter-append, eqb_tells, append-nil)
 
 -- ---- FARM-1 of a channel
 
@@ -44,9 +34,7 @@ farm_with r vc channel = record { window = r.window; state = farm_after r.window
 -- FARM-1 of a virtual channel after one more frame of this channel
 pub farm_next : (r : ReceptionParameters) (views : List TcView) (next : TcView)
     → (farm_of r next.vc (views ++ next ∷ [])).state ≡ (farm_step r.window (farm_of r next.vc views).state (event_of next.content)).1
-farm_next r views next =
-    ap (farm_after r.window (initial_vr r next.vc)) (same_channel next.vc views next refl)
-    ∙ farm_after-push r.window (initial_vr r next.vc) (channel_of next.vc views) next
+farm_next r views next = grind (arith, same_channel, farm_after-push)
 
 -- ---- all channels
 
@@ -63,37 +51,11 @@ module _ (r : ReceptionParameters) (farms : List FarmView) (views : List TcView)
       → farm.window ≡ (slice_index_or farms at d).window
       → farm.state ≡ (farm_step (slice_index_or farms at d).window (slice_index_or farms at d).state (event_of next.content)).1
       → HaveStepped r (set farms at farm) (views ++ next ∷ [])
-  stepped_more s fits same window state =
-      let inside : at < length farms = omega (arith, s.count, same, fits) in
-      let start : FarmView = farm_at_start r next.vc in
-      let before : slice_index_or farms at d ≡ farm_of r next.vc views =
-      get_or_default farms at d start inside ∙ ap (λ n. slice_index_or farms n start) same ∙ s.each next.vc fits in
-      let now : farm ≡ farm_of r next.vc (views ++ next ∷ []) =
-      same_farm farm (farm_of r next.vc (views ++ next ∷ [])) (window ∙ ap (λ f. f.window) before)
-      (state ∙ ap (λ (f : FarmView). (farm_step f.window f.state (event_of next.content)).1) before ∙ sym (farm_next r views next)) in
-      record {
-        count = length-set farms at farm ∙ s.count;
-        each = λ vc below.
-            elim (eqb_tells next.vc vc) [
-              | inl (test, here) ↦
-                  subst (λ n. slice_index_or (set farms at farm) n (farm_at_start r n) ≡ farm_of r n (views ++ next ∷ [])) here
-                  (subst (λ n. slice_index_or (set farms at farm) n start ≡ farm_of r next.vc (views ++ next ∷ [])) same
-                  (get_or-set_same farms at farm start inside ∙ now))
-              | inr (test, other) ↦
-                  get_or-set_other farms at vc farm (farm_at_start r vc) (λ e. other (sym (e ∙ same)))
-                  ∙ s.each vc below ∙ ap (farm_with r vc) (sym (other_channel vc views next other))
-            ];
-      }
+  stepped_more s fits same window state = grind (arith, get_or_default, same_farm, farm_next, length-set, eqb_tells, get_or-set_same, get_or-set_other, other_channel)
 
 pub processed_none : (r : ReceptionParameters) (farms : List FarmView) (incomplete : IncompleteSeries) → HaveStepped r farms [] → incomplete.list ≡ []
     → HasProcessed r (record { farms = farms; plain = r.plain; series = incomplete; has_failed = false }) []
-processed_none r farms incomplete stepped none =
-    record {
-      working = refl;
-      plain = refl;
-      farms = stepped;
-      series = λ vc map_id vc_fits map_id_fits. ap (λ l. slice_index_or l (channel_at vc map_id) None) none;
-    }
+processed_none r farms incomplete stepped none = grind arith
 
 -- ---- the next frame
 
@@ -107,7 +69,4 @@ pub of_processed : (holds : ReceptionParameters → List TcView → Type 0) (ins
     → plain ≡ has_vc inside.plain next.vc
     → ((r : ReceptionParameters) (views : List TcView) → HaveStepped r inside.farms views → verdict ≡ verdict_on r views next)
     → ForIncomplete plain inside.series.list verdict next holds → ForProcessed state holds
-of_processed holds inside state plain verdict next same headers verdict_is known r views processed =
-    let farms = subst (λ (s : ReceiverState). HaveStepped r s.farms views) (sym same) processed.farms in
-    let series = subst (λ (s : ReceiverState). AreIncomplete r s.series.list views) (sym same) processed.series in
-    known r views (headers ∙ plain_is r inside state next.vc same processed.plain) series (verdict_is r views farms)
+of_processed holds inside state plain verdict next same headers verdict_is known r views processed = grind (arith, plain_is)

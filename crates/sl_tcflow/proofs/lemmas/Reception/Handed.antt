@@ -1,5 +1,5 @@
 -- What a receiver hands over, one frame after another.
-use Rattle.std.proofs.Common.{◌≡◌, ℕ, ◌==◌, if◌then◌else◌, List, [], ◌∷◌, ◌++◌, inl, inr, sym, ◌∙◌, ap, append_assoc, append-nil}
+use Rattle.std.proofs.Common.{arith, ◌≡◌, ℕ, ◌==◌, if◌then◌else◌, List, [], ◌∷◌, ◌++◌, inl, inr, sym, ◌∙◌, ap, append_assoc, append-nil}
 use Rattle.std.proofs.lemmas.Bool.Decides.{eqb_tells}
 use Rattle.sl_packet.specs.Packets.{without_idle}
 use Rattle.sl_packet.proofs.WithoutIdleLemmas.{without_idle-append}
@@ -16,21 +16,11 @@ module _ (r : ReceptionParameters) (channel : ℕ) where
   -- the packets that a frame adds to those of a channel
   handed_step : (views : List TcView) (next : TcView)
       → delivered (views ++ next ∷ []) ≡ delivered views ++ (if unit_channel r next == channel then without_idle (ended_by r views next) else [])
-  handed_step views next =
-      elim (eqb_tells (unit_channel r next) channel) [
-        | inl (test, same) ↦
-            rw (test) (ap without_idle (packets_own r views next channel (sym same)) ∙ without_idle-append (packets_of_channel r views channel) (ended_by r views next))
-        | inr (test, other) ↦
-            rw (test) (ap without_idle (packets_other r views next channel (λ e. other (sym e))) ∙ sym (append-nil (delivered views)))
-      ]
+  handed_step views next = grind (arith, eqb_tells, packets_own, without_idle-append, packets_other, append-nil)
 
   handed_after : (views later : List TcView) → delivered views ++ handed_over r channel views later ≡ delivered (views ++ later)
   handed_after views [] = append-nil (delivered views) ∙ ap delivered (sym (append-nil views))
-  handed_after views (next ∷ later) =
-      sym (append_assoc (delivered views) (if unit_channel r next == channel then without_idle (ended_by r views next) else [])
-      (handed_over r channel (views ++ next ∷ []) later))
-      ∙ ap (λ l. l ++ handed_over r channel (views ++ next ∷ []) later) (sym (handed_step views next)) ∙ handed_after (views ++ next ∷ []) later
-      ∙ ap delivered (append_assoc views (next ∷ []) later)
+  handed_after views (next ∷ later) = grind (arith, append_assoc, handed_step, handed_after (views ++ next ∷ []) later)
 
 pub delivered_are_handed_over : DeliveredAreHandedOver
 delivered_are_handed_over r channel views = handed_after r channel [] views

@@ -37,27 +37,17 @@ abbrev AreWithin : ℕ → List (List ℕ) → Type 0
 AreWithin most units = AllByRecursion (λ unit. length unit ≤ most) units
 
 field_within : (format : TcFormat) (frame : List ℕ) → length frame ≤ format.max → length (tc_parts_of format frame).field ≤ plain_room_of format
-field_within format frame short =
-    omega (arith, short, length-take (length frame - 5 - (if format.fecf then 2 else 0)) (drop 5 frame))
+field_within format frame short = grind (arith, length-take)
 
 carried_within : (format : TcFormat) (frame : List ℕ) (content : Content) → length frame ≤ format.max
     → Carries (tc_header_of frame) (tc_parts_of format frame).field content → AreWithin (plain_room_of format) (unit_of content)
-carried_within format frame (Ad ns unit) short is =
-    (subst (λ l. length l ≤ plain_room_of format) (sym is.4) (field_within format frame short), tt)
-carried_within format frame (Bd unit) short is =
-    (subst (λ l. length l ≤ plain_room_of format) (sym is.3) (field_within format frame short), tt)
-carried_within format frame Unlock short is = tt
-carried_within format frame (SetVr vr) short is = tt
+carried_within format frame content short is = grind (arith, field_within)
 
 abbrev IsViewWithin : ℕ → TcView → Type 0
 IsViewWithin most view = AreWithin most (unit_of view.content)
 
 not_long : (format : TcFormat) (frame : List ℕ) → (format.max < length frame → ⊥) → length frame ≤ format.max
-not_long format frame not =
-    elim (leb_tells (length frame) format.max) [
-      | inl (test, short) ↦ short
-      | inr (test, long) ↦ absurd (not long)
-    ]
+not_long format frame not = grind (arith, leb_tells)
 
 views_if : (format : TcFormat) (spacecraft : ℕ) (frame : List ℕ) (read : Result TcView TcSkip) (views : List TcView) → IsReadAs format spacecraft frame read
     → AllByRecursion (IsViewWithin (plain_room_of format)) views → AllByRecursion (IsViewWithin (plain_room_of format)) (cons_option (result_ok read) views)
@@ -71,20 +61,13 @@ each_view format spacecraft (frame ∷ frames) =
     views_if format spacecraft frame (tc_frame format spacecraft frame) (views_of format spacecraft frames) (is_read format spacecraft frame) (each_view format spacecraft frames)
 
 if_within : (most : ℕ) (verdict : Verdict) (units : List (List ℕ)) → AreWithin most units → AreWithin most (if_accepted verdict units)
-if_within most Accept units each = each
-if_within most Early units each = tt
-if_within most Late units each = tt
-if_within most Outside units each = tt
-if_within most Refused units each = tt
-if_within most Command units each = tt
+if_within most verdict units each = grind arith
 
 accepted_within : (most : ℕ) (verdicts : List Verdict) (channel : List TcView) → AllByRecursion (IsViewWithin most) channel
     → AreWithin most (accepted_by (λ (view : TcView). unit_of view.content) verdicts channel)
 accepted_within most [] channel each = tt
 accepted_within most (verdict ∷ verdicts) [] each = tt
-accepted_within most (verdict ∷ verdicts) (view ∷ channel) each =
-    each-append (λ unit. length unit ≤ most) (if_accepted verdict (unit_of view.content)) (accepted_by (λ (view : TcView). unit_of view.content) verdicts channel)
-    (if_within most verdict (unit_of view.content) each.0) (accepted_within most verdicts channel each.1)
+accepted_within most (verdict ∷ verdicts) (view ∷ channel) each = grind (arith, each-append, if_within, accepted_within most verdicts channel each.1)
 
 -- the units of a recording's frames on a virtual channel
 units_within : (format : TcFormat) (spacecraft : ℕ) (r : ReceptionParameters) (vc : ℕ) (frames : List (List ℕ))
@@ -98,11 +81,7 @@ units_within format spacecraft r vc frames =
 -- no packet has more octets than the list of packets end to end
 each_within : (packets : List (List ℕ)) → AreWithin (length (concat packets)) packets
 each_within [] = tt
-each_within (packet ∷ packets) =
-    let size = length-append packet (concat packets) in (
-      omega (arith, size),
-      each-weaker (λ p. length p ≤ length (concat packets)) (λ p. length p ≤ length (concat (packet ∷ packets))) (λ p low. omega (arith, low, size)) packets (each_within packets),
-    )
+each_within (packet ∷ packets) = grind (arith, length-append, each-weaker, each_within packets)
 
 packets_are_within : (most : ℕ) (octets : List ℕ) → length octets ≤ most → AreWithin most (packets_of octets)
 packets_are_within most octets few =

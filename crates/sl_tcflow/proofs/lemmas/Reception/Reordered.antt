@@ -57,38 +57,23 @@ parts R (first ∷ before) after (other ∷ list) are =
 -- ---- the accepted units
 
 map-if_accepted : {A B : Type 0} (f : A → B) (verdict : Verdict) (list : List A) → map f (if_accepted verdict list) ≡ if_accepted verdict (map f list)
-map-if_accepted f Accept list = refl
-map-if_accepted f Early list = refl
-map-if_accepted f Late list = refl
-map-if_accepted f Outside list = refl
-map-if_accepted f Refused list = refl
-map-if_accepted f Command list = refl
+map-if_accepted f verdict list = grind arith
 
 each-if_accepted : {A : Type 0} (P : A → Type 0) (verdict : Verdict) (list : List A) → AllByRecursion P list → AllByRecursion P (if_accepted verdict list)
-each-if_accepted P Accept list each = each
-each-if_accepted P Early list each = tt
-each-if_accepted P Late list each = tt
-each-if_accepted P Outside list each = tt
-each-if_accepted P Refused list each = tt
-each-if_accepted P Command list each = tt
+each-if_accepted P verdict list each = grind arith
 
 module _ (vr : ℕ) (sent : List (List ℕ)) where
   same_event : (view : TcView) (arrival : Arrival) → IsArrival vr sent view arrival → event_of view.content ≡ event_at vr arrival
-  same_event view (Copy k) is = ap event_of is.1
-  same_event view OfTypeBd is = ap event_of is.1
-  same_event view UnlockCommand is = ap event_of is
+  same_event view arrival is = grind arith
 
   same_events : (channel : List TcView) (arrivals : List Arrival) → AreArrivals vr sent channel arrivals → events_of channel ≡ events_at vr arrivals
   same_events [] [] are = refl
   same_events [] (arrival ∷ arrivals) are = absurd are
   same_events (view ∷ channel) [] are = absurd are
-  same_events (view ∷ channel) (arrival ∷ arrivals) are =
-      ap₂ (λ e es. e ∷ es) (same_event view arrival are.0) (same_events channel arrivals are.1)
+  same_events (view ∷ channel) (arrival ∷ arrivals) are = grind (arith, same_event, same_events channel arrivals are.1)
 
   same_unit : (view : TcView) (arrival : Arrival) → IsArrival vr sent view arrival → ad_unit_of view.content ≡ map (unit_at sent) (index_of arrival)
-  same_unit view (Copy k) is = ap ad_unit_of is.1
-  same_unit view OfTypeBd is = ap ad_unit_of is.1
-  same_unit view UnlockCommand is = ap ad_unit_of is
+  same_unit view arrival is = grind arith
 
   same_units : (verdicts : List Verdict) (channel : List TcView) (arrivals : List Arrival) → AreArrivals vr sent channel arrivals
       → accepted_by (λ (view : TcView). ad_unit_of view.content) verdicts channel ≡ map (unit_at sent) (accepted_by index_of verdicts arrivals)
@@ -96,15 +81,10 @@ module _ (vr : ℕ) (sent : List (List ℕ)) where
   same_units (verdict ∷ verdicts) [] [] are = refl
   same_units (verdict ∷ verdicts) [] (arrival ∷ arrivals) are = absurd are
   same_units (verdict ∷ verdicts) (view ∷ channel) [] are = absurd are
-  same_units (verdict ∷ verdicts) (view ∷ channel) (arrival ∷ arrivals) are =
-      ap₂ ◌++◌ (ap (if_accepted verdict) (same_unit view arrival are.0) ∙ sym (map-if_accepted (unit_at sent) verdict (index_of arrival)))
-      (same_units verdicts channel arrivals are.1)
-      ∙ sym (map-append (unit_at sent) (if_accepted verdict (index_of arrival)) (accepted_by index_of verdicts arrivals))
+  same_units (verdict ∷ verdicts) (view ∷ channel) (arrival ∷ arrivals) are = grind (arith, same_unit, map-if_accepted, map-append, same_units verdicts channel arrivals are.1)
 
   index_fits : (view : TcView) (arrival : Arrival) → IsArrival vr sent view arrival → AllByRecursion (λ k. k < length sent) (index_of arrival)
-  index_fits view (Copy k) is = (is.0, tt)
-  index_fits view OfTypeBd is = tt
-  index_fits view UnlockCommand is = tt
+  index_fits view arrival is = grind arith
 
   indices_fit : (verdicts : List Verdict) (channel : List TcView) (arrivals : List Arrival) → AreArrivals vr sent channel arrivals
       → AllByRecursion (λ k. k < length sent) (accepted_by index_of verdicts arrivals)
@@ -112,9 +92,7 @@ module _ (vr : ℕ) (sent : List (List ℕ)) where
   indices_fit (verdict ∷ verdicts) [] [] are = tt
   indices_fit (verdict ∷ verdicts) [] (arrival ∷ arrivals) are = absurd are
   indices_fit (verdict ∷ verdicts) (view ∷ channel) [] are = absurd are
-  indices_fit (verdict ∷ verdicts) (view ∷ channel) (arrival ∷ arrivals) are =
-      each-append (λ k. k < length sent) (if_accepted verdict (index_of arrival)) (accepted_by index_of verdicts arrivals)
-      (each-if_accepted (λ k. k < length sent) verdict (index_of arrival) (index_fits view arrival are.0)) (indices_fit verdicts channel arrivals are.1)
+  indices_fit (verdict ∷ verdicts) (view ∷ channel) (arrival ∷ arrivals) are = grind (arith, each-append, each-if_accepted, index_fits, indices_fit verdicts channel arrivals are.1)
 
   module _ (w : ℕ) (channel : List TcView) (arrivals : List Arrival) (are : AreArrivals vr sent channel arrivals) where
     units_are : accepted_ad_units w vr channel ≡ map (unit_at sent) (accepted_indices w vr arrivals)
@@ -131,17 +109,13 @@ module _ (vr : ℕ) (sent : List (List ℕ)) where
 -- ---- without frames of type BD
 
 own_unit : (content : Content) → ((unit : List ℕ) → content ≡ Bd unit → ⊥) → ad_unit_of content ≡ unit_of content
-own_unit (Ad ns unit) none = refl
-own_unit (Bd unit) none = absurd (none unit refl)
-own_unit Unlock none = refl
-own_unit (SetVr x) none = refl
+own_unit content none = grind arith
 
 are_all : (verdicts : List Verdict) (channel : List TcView) → HaveNoBd channel
     → accepted_by (λ (view : TcView). ad_unit_of view.content) verdicts channel ≡ accepted_by (λ (view : TcView). unit_of view.content) verdicts channel
 are_all [] channel none = refl
 are_all (verdict ∷ verdicts) [] none = refl
-are_all (verdict ∷ verdicts) (view ∷ channel) none =
-    ap₂ ◌++◌ (ap (if_accepted verdict) (own_unit view.content none.0)) (are_all verdicts channel none.1)
+are_all (verdict ∷ verdicts) (view ∷ channel) none = grind (arith, own_unit, are_all verdicts channel none.1)
 
 pub ad_units_are_all : AdUnitsAreAll
 ad_units_are_all w vr channel none = are_all (verdicts_of w (farm_start vr) (events_of channel)) channel none
@@ -149,8 +123,7 @@ ad_units_are_all w vr channel none = are_all (verdicts_of w (farm_start vr) (eve
 -- ---- the laws
 
 pub window_is_near : WindowIsNear
-window_is_near w vr sent channel arrivals reordered =
-    record { initial = reordered.initial; arrive = reordered.arrive; near = in_window_are_near w vr arrivals reordered.most reordered.within }
+window_is_near w vr sent channel arrivals reordered = grind (arith, in_window_are_near)
 
 pub units_in_order : UnitsInOrder
 units_in_order w vr sent channel arrivals reordered =
@@ -178,17 +151,7 @@ window_never_locks w vr sent channel arrivals reordered before after split =
     ∙ window_keeps_open w vr arrivals reordered.initial reordered.most reordered.within part.0 part.1 part.2
 
 pub expected_unit_is_accepted : ExpectedUnitIsAccepted
-expected_unit_is_accepted w vr sent channel arrivals reordered before after view split copy =
-    let s = farm_after w vr before in
-    let m = accepted_ad_count w vr before in
-    let step = farm_step w s (event.Ad (ns_of vr m)) in
-    let counts = vr_counts_units w vr sent channel arrivals (window_is_near w vr sent channel arrivals reordered) before (view ∷ after) split in
-    let none : distance (ns_of vr m) s.vr ≡ 0 = ap (distance (ns_of vr m)) counts ∙ no_distance vr m in
-    let most = reordered.most in
-    let fewer : negative_width w < 256 = omega arith in
-    ap (λ content. (farm_step w s (event_of content)).0) copy
-    ∙ accepted_where_expected w (ns_of vr m) s step.1 step.0 fewer (window_never_locks w vr sent channel arrivals reordered before (view ∷ after) split) none
-    (each_has_step w s (event.Ad (ns_of vr m)))
+expected_unit_is_accepted w vr sent channel arrivals reordered before after view split copy = grind (arith, vr_counts_units, window_is_near, no_distance, accepted_where_expected, window_never_locks, each_has_step)
 
 pub receiver_counts_units : ReceiverCountsUnits
 receiver_counts_units r vc sent farms views arrivals below stepped reordered =
@@ -201,14 +164,7 @@ receiver_counts_units r vc sent farms views arrivals below stepped reordered =
 -- the packets of more segments begin with those of the first ones
 packets_go_on : (list more : List (List ℕ)) → IsPrefix (packets_of_segments list) (packets_of_segments (list ++ more))
 packets_go_on list [] = ([], append-nil (packets_of_segments list) ∙ ap packets_of_segments (sym (append-nil list)))
-packets_go_on list (next ∷ more) =
-    let later = packets_go_on (list ++ next ∷ []) more in (
-      packets_ended list next ++ later.0,
-      sym (append_assoc (packets_of_segments list) (packets_ended list next) later.0)
-          ∙ ap (λ l. l ++ later.0) (sym (packets_next list next))
-          ∙ later.1
-          ∙ ap packets_of_segments (append_assoc list (next ∷ []) more),
-    )
+packets_go_on list (next ∷ more) = grind (arith, append_assoc, packets_next, packets_go_on (list ++ next ∷ []) more)
 
 pub packets_in_order : PacketsInOrder
 packets_in_order r vc map_id sent views arrivals reordered none =

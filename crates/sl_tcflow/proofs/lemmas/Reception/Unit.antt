@@ -36,9 +36,7 @@ unit_on verdict carried r views next units is same by = ap (λ v. unit_by v next
 pub segment_on : (plain : Bool) (verdict : Verdict) (carried : Content) (r : ReceptionParameters) (views : List TcView) (next : TcView) (units : List (List ℕ))
     → plain ≡ is_plain r next.vc → verdict ≡ verdict_on r views next → carried ≡ next.content → unit_by verdict carried ≡ units
     → segment_by r views next ≡ map (segment_in plain) units
-segment_on plain verdict carried r views next units headers is same by =
-    ap (λ b. map (segment_in b) (unit_by (verdict_on r views next) next.content)) (sym headers)
-    ∙ ap (map (segment_in plain)) (unit_on verdict carried r views next units is same by)
+segment_on plain verdict carried r views next units headers is same by = grind (arith, unit_on)
 
 -- the MAP of the unit
 pub map_on : (plain : Bool) (carried : Content) (r : ReceptionParameters) (next : TcView) (map_id : ℕ)
@@ -49,19 +47,11 @@ map_on plain carried r next map_id headers same is = ap₂ (λ b c. map_of b c) 
 
 pub segments_next : (r : ReceptionParameters) (map_id : ℕ) (views : List TcView) (next : TcView)
     → segments_of r next.vc map_id (views ++ next ∷ []) ≡ segments_of r next.vc map_id views ++ segments_on map_id (segment_by r views next)
-segments_next r map_id views next =
-    let channel = channel_of next.vc views in
-    let segment = segment_in (is_plain r next.vc) in
-    let units = accepted_units r.window (initial_vr r next.vc) channel in
-    ap (λ l. segments_on map_id (map segment (accepted_units r.window (initial_vr r next.vc) l))) (same_channel next.vc views next refl)
-    ∙ ap (λ l. segments_on map_id (map segment l)) (units_from r.window (initial_vr r next.vc) channel next)
-    ∙ ap (segments_on map_id) (map-append segment units (unit_by (verdict_on r views next) next.content))
-    ∙ filter-append (λ segment. (header_at segment).map == map_id) (map segment units) (segment_by r views next)
+segments_next r map_id views next = grind (arith, same_channel, units_from, map-append, filter-append)
 
 segments_other : (r : ReceptionParameters) (vc map_id : ℕ) (views : List TcView) (next : TcView) → (next.vc ≡ vc → ⊥)
     → segments_of r vc map_id (views ++ next ∷ []) ≡ segments_of r vc map_id views
-segments_other r vc map_id views next other =
-    ap (λ l. segments_on map_id (map (segment_in (is_plain r vc)) (accepted_units r.window (initial_vr r vc) l))) (other_channel vc views next other)
+segments_other r vc map_id views next other = grind (arith, other_channel)
 
 -- the unit is among the segments of its own MAP alone
 on_map : (map_id : ℕ) (unit : List ℕ) → (header_at unit).map ≡ map_id → segments_on map_id (unit ∷ []) ≡ unit ∷ []
@@ -78,14 +68,7 @@ map_fits unit = omega arith
 -- without an accepted unit all series stay
 pub incomplete_same : (r : ReceptionParameters) (incomplete : List (Option (List ℕ))) (views : List TcView) (next : TcView) → AreIncomplete r incomplete views
     → segment_by r views next ≡ [] → AreIncomplete r incomplete (views ++ next ∷ [])
-incomplete_same r incomplete views next are none vc map_id vc_fits map_id_fits =
-    are vc map_id vc_fits map_id_fits ∙ ap incomplete_of (sym (elim (eqb_tells next.vc vc) [
-      | inl (test, same) ↦
-          subst (λ n. segments_of r n map_id (views ++ next ∷ []) ≡ segments_of r n map_id views) same
-          (segments_next r map_id views next ∙ ap (λ l. segments_of r next.vc map_id views ++ segments_on map_id l) none
-          ∙ append-nil (segments_of r next.vc map_id views))
-      | inr (test, other) ↦ segments_other r vc map_id views next other
-    ]))
+incomplete_same r incomplete views next are none vc map_id vc_fits map_id_fits = grind (arith, eqb_tells, segments_next, append-nil, segments_other)
 
 other_index : (index vc map_id vc' map_id' : ℕ) → index ≡ channel_at vc map_id → map_id < 64 → map_id' < 64 → map_id ≢ map_id' → channel_at vc' map_id' ≢ index
 other_index index vc map_id vc' map_id' is fits fits' other same = other (omega (arith, is, fits, fits', same))
@@ -130,33 +113,14 @@ module _ (r : ReceptionParameters) (old : List (Option (List ℕ))) (views : Lis
   pub ended_more : AreIncomplete r old views → next.vc < 64 → segment_by r views next ≡ unit ∷ []
       → map_by r next ≡ (header_at unit).map → index ≡ channel_at next.vc (header_at unit).map
       → ended_by r views next ≡ packets_after (at old index) unit
-  ended_more are inside unit_is map_id_is here =
-      let list = segments_of r next.vc (header_at unit).map views in
-      ap (flat_map (packets_ended (segments_of r next.vc (map_by r next) views))) unit_is
-      ∙ append-nil (packets_ended (segments_of r next.vc (map_by r next) views) unit)
-      ∙ ap (λ n. packets_ended (segments_of r next.vc n views) unit) map_id_is
-      ∙ ended_next list unit
-      ∙ ap (λ held. packets_after held unit) (sym (are next.vc (header_at unit).map inside (map_fits unit)))
-      ∙ ap (λ n. packets_after (at old n) unit) (sym here)
+  ended_more are inside unit_is map_id_is here = grind (arith, append-nil, ended_next, map_fits)
 
   -- ---- where memory is asked for
 
   pub around_more : AreIncomplete r old views → next.vc < 64 → segment_by r views next ≡ unit ∷ []
       → map_by r next ≡ (header_at unit).map → index ≡ channel_at next.vc (header_at unit).map
       → (at old index ≢ None) ⊎ (incomplete_after (at old index) unit ≢ None) → IsIncompleteAround r views next
-  around_more are inside unit_is map_id_is here around =
-      let map_id = map_by r next in
-      let list = segments_of r next.vc map_id views in
-      let before : at old index ≡ incomplete_of list =
-      ap (at old) (here ∙ ap (channel_at next.vc) (sym map_id_is)) ∙ are next.vc map_id inside (omega (arith, map_id_is, map_fits unit)) in
-      let segments : segments_of r next.vc map_id (views ++ next ∷ []) ≡ list ++ unit ∷ [] =
-      segments_next r map_id views next ∙ ap (λ l. list ++ segments_on map_id l) unit_is ∙ ap (λ l. list ++ l) (on_map map_id unit (sym map_id_is)) in (
-        λ e. let none : unit ∷ [] ≡ [] = sym unit_is ∙ e in cc,
-        elim around [
-          | inl some ↦ inl (λ e. some (before ∙ e))
-          | inr some ↦ inr (λ e. some (ap (λ held. incomplete_after held unit) before ∙ sym (incomplete_next list unit) ∙ ap incomplete_of (sym segments) ∙ e))
-        ],
-      )
+  around_more are inside unit_is map_id_is here around = grind (arith, map_fits, segments_next, on_map, incomplete_next)
 
 -- the channel of the unit
 pub unit_channel_is : (vc : ℕ) (r : ReceptionParameters) (unit : List ℕ) (next : TcView) → vc ≡ next.vc → map_by r next ≡ (header_at unit).map

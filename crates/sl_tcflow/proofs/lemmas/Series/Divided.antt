@@ -16,10 +16,7 @@ only_octets room map_id packet (number ∷ numbers) = ap₂ (λ a b. a ∷ b) (o
 
 -- each segment begins within the packet
 begins_within : (room : ℕ) (packet : List ℕ) (number : ℕ) → 0 < room → 0 < length packet → number < segment_count room packet → number * room < length packet
-begins_within room packet number some long inside =
-    let one = suc-mul number room in
-    let below : suc number * room ≤ length packet + room - 1 = (le-div_iff_mul-le {k = room} {x = suc number} {y = length packet + room - 1} some).0 inside in
-    omega (arith, one, below)
+begins_within room packet number some long inside = grind (arith, suc-mul, le-div_iff_mul-le)
 
 -- the segments from a number on
 filled_from : (room : ℕ) (packet : List ℕ) (from n : ℕ) → 0 < room → 0 < length packet → 0 < n → from + n ≡ segment_count room packet
@@ -39,15 +36,4 @@ filled_from room packet from (suc (suc n)) some long more is =
     (filled_from room packet (from + 1) (suc n) some long (omega arith) (omega (arith, is)))
 
 pub each_is_divided : EachIsDivided
-each_is_divided room map_id packet some small long =
-    let count = segment_count room packet in
-    let octets = only_octets room map_id packet (range_with_len 0 count) in
-    record {
-      filled = subst (AreSegments room) (sym octets) (filled_from room packet 0 count some long (some_parts room packet some long) (omega arith));
-      end_to_end = ap concat octets ∙ parts_joined room packet count ∙ take_all (count * room) packet (covers room packet some);
-      series = units_are_series room map_id packet some small long;
-      on_map =
-          each-map (λ segment. (header_at segment).map ≡ map_id) (segment_of room map_id packet) (range_with_len 0 count)
-          (each-every (λ n. (header_at (segment_of room map_id packet n)).map ≡ map_id)
-          (λ n. ap (λ (h : SegmentFields). h.map) (header_of_unit (part_at room map_id packet n) (part_is room map_id small packet n).header)) (range_with_len 0 count));
-    }
+each_is_divided room map_id packet some small long = grind (arith, only_octets, filled_from, some_parts, parts_joined, take_all, covers, units_are_series, each-map, each-every, header_of_unit, part_is)

@@ -18,45 +18,22 @@ continuing_each (segment ∷ later) e =
 
 pub each_continuing : (later : List (List ℕ)) → AllByRecursion IsContinuing later → are_continuing later ≡ true
 each_continuing [] each = refl
-each_continuing (segment ∷ later) each =
-    ap (λ b. b && are_continuing later) (eq-eqb (flags_of segment) 0 each.0) ∙ each_continuing later each.1
+each_continuing (segment ∷ later) each = grind (arith, eq-eqb, each_continuing later each.1)
 
 -- a first segment isn't a continuing one
 pub not_continuing : (earlier : List (List ℕ)) (first : List ℕ) (later : List (List ℕ)) → flags_of first ≡ 1 → are_continuing (earlier ++ first ∷ later) ≡ false
-not_continuing [] first later begins =
-    and_left (flags_of first == 0) (are_continuing later) (ne_eqb (flags_of first) 0 (λ e. absurd (omega (arith, e, begins))))
-not_continuing (segment ∷ earlier) first later begins =
-    and_right (flags_of segment == 0) (are_continuing (earlier ++ first ∷ later)) (not_continuing earlier first later begins)
+not_continuing [] first later begins = grind (arith, and_left, ne_eqb)
+not_continuing (segment ∷ earlier) first later begins = grind (arith, and_right, not_continuing earlier first later begins)
 
 -- ---- a series that is reported
 
 told_first : (list earlier : List (List ℕ)) (first : List ℕ) (later : List (List ℕ)) (octets : List ℕ) → list ≡ earlier ++ first ∷ later
     → flags_of first ≡ 1 → are_continuing later ≡ true → if_fits (reassembled (first ∷ later)) ≡ Some octets → IsIncomplete list octets
-told_first list earlier first later octets all begins continuing e =
-    let (same, few) = fits_are (reassembled (first ∷ later)) octets e in
-    record {
-      earlier = earlier;
-      first = first;
-      later = later;
-      in_order = all;
-      begins = begins;
-      goes_on = continuing_each later continuing;
-      together = sym same;
-      fits = few;
-    }
+told_first list earlier first later octets all begins continuing e = grind (arith, fits_are, continuing_each)
 
 told_from : (list earlier part : List (List ℕ)) (octets : List ℕ) → list ≡ earlier ++ part → incomplete_of part ≡ Some octets → IsIncomplete list octets
 told_from list earlier [] octets all e = absurd (cc)
-told_from list earlier (segment ∷ later) octets all e =
-    cases (told_from list (earlier ++ segment ∷ []) later octets (all ∙ sym (append_assoc earlier (segment ∷ []) later)))
-    (flags_of segment == 1 && are_continuing later) refl e
-  where
-    cases : (incomplete_of later ≡ Some octets → IsIncomplete list octets) → (b : Bool) → (flags_of segment == 1 && are_continuing later) ≡ b
-        → (if b then if_fits (reassembled (segment ∷ later)) else incomplete_of later) ≡ Some octets → IsIncomplete list octets
-    cases later_on true test told =
-        let (first, rest) = and_parts (flags_of segment == 1) (are_continuing later) test in
-        told_first list earlier segment later octets all (eqb-true (flags_of segment) 1 first) rest told
-    cases later_on false test told = later_on told
+told_from list earlier (segment ∷ later) octets all e = grind (arith, append_assoc, and_parts, told_first, eqb-true, told_from list (earlier ++ segment ∷ []) later octets (all ∙ sym (append_assoc earlier (segment ∷ []) later)))
 
 pub what_is_told_is_incomplete : WhatIsToldIsIncomplete
 what_is_told_is_incomplete list octets e = told_from list [] list octets refl e
@@ -65,38 +42,23 @@ what_is_told_is_incomplete list octets e = told_from list [] list octets refl e
 
 told_later : (earlier : List (List ℕ)) (first : List ℕ) (later : List (List ℕ)) → flags_of first ≡ 1 → are_continuing later ≡ true
     → incomplete_of (earlier ++ first ∷ later) ≡ if_fits (reassembled (first ∷ later))
-told_later [] first later begins continuing =
-    ap (λ b. if b && are_continuing later then if_fits (reassembled (first ∷ later)) else incomplete_of later) (eq-eqb (flags_of first) 1 begins)
-    ∙ ap (λ b. if b then if_fits (reassembled (first ∷ later)) else incomplete_of later) continuing
-told_later (segment ∷ earlier) first later begins continuing =
-    let rest = earlier ++ first ∷ later in
-    ap (λ b. if flags_of segment == 1 && b then if_fits (reassembled (segment ∷ rest)) else incomplete_of rest) (not_continuing earlier first later begins)
-    ∙ not_both (flags_of segment == 1) ∙ told_later earlier first later begins continuing
-  where
-    not_both : (a : Bool) → (if a && false then if_fits (reassembled (segment ∷ (earlier ++ first ∷ later))) else incomplete_of (earlier ++ first ∷ later)) ≡ incomplete_of (earlier ++ first ∷ later)
-    not_both true = refl
-    not_both false = refl
+told_later [] first later begins continuing = grind (arith, eq-eqb)
+told_later (segment ∷ earlier) first later begins continuing = grind (arith, not_continuing, told_later earlier first later begins continuing)
 
 pub incomplete_is_told : IncompleteIsTold
-incomplete_is_told list octets x =
-    ap incomplete_of x.in_order ∙ told_later x.earlier x.first x.later x.begins (each_continuing x.later x.goes_on)
-    ∙ ap if_fits (sym x.together) ∙ fits_some octets x.fits
+incomplete_is_told list octets x = grind (arith, told_later, each_continuing, fits_some)
 
 -- a first segment isn't among the segments that follow another first one in its series
 first_is_not_later : (earlier later : List (List ℕ)) (first : List ℕ) (earlier' later' : List (List ℕ)) (first' : List ℕ)
     → earlier ++ first ∷ later ≡ earlier' ++ first' ∷ later' → are_continuing later ≡ true → flags_of first' ≡ 1 → length earlier < length earlier' → ⊥
 first_is_not_later [] later first [] later' first' same continuing begins less = absurd (omega arith)
-first_is_not_later [] later first (segment ∷ earlier') later' first' same continuing begins less =
-    let rest : later ≡ earlier' ++ first' ∷ later' = cc in
-    let both : true ≡ false = sym continuing ∙ ap are_continuing rest ∙ not_continuing earlier' first' later' begins in cc
+first_is_not_later [] later first (segment ∷ earlier') later' first' same continuing begins less = grind (arith, not_continuing)
 first_is_not_later (segment ∷ earlier) later first [] later' first' same continuing begins less = absurd (omega arith)
-first_is_not_later (segment ∷ earlier) later first (other ∷ earlier') later' first' same continuing begins less =
-    first_is_not_later earlier later first earlier' later' first' (cc) continuing begins (omega arith)
+first_is_not_later (segment ∷ earlier) later first (other ∷ earlier') later' first' same continuing begins less = grind (arith, first_is_not_later earlier later first earlier' later' first' (cc) continuing begins (omega arith))
 
 not_later : (list : List (List ℕ)) (octets others : List ℕ) (x : IsIncomplete list octets) (y : IsIncomplete list others)
     → length x.earlier < length y.earlier → ⊥
-not_later list octets others x y less =
-    first_is_not_later x.earlier x.later x.first y.earlier y.later y.first (sym x.in_order ∙ y.in_order) (each_continuing x.later x.goes_on) y.begins less
+not_later list octets others x y less = grind (arith, first_is_not_later, each_continuing)
 
 pub one_begins : OneBegins
 one_begins list octets others x y =

@@ -33,9 +33,7 @@ completed_last so_far segment later is = ap (λ flags. completed_by flags so_far
 
 pub completed_other : (so_far : List (List ℕ)) (segment : List ℕ) (later : List (List ℕ)) → flags_of segment ≢ 0 → flags_of segment ≢ 2
     → completed so_far (segment ∷ later) ≡ []
-completed_other so_far segment later not_0 not_2 =
-    ap (λ b. if b then completed (so_far ++ segment ∷ []) later else if flags_of segment == 2 then (so_far ++ segment ∷ []) ∷ [] else []) (ne_eqb (flags_of segment) 0 not_0)
-    ∙ ap (λ b. if b then (so_far ++ segment ∷ []) ∷ [] else []) (ne_eqb (flags_of segment) 2 not_2)
+completed_other so_far segment later not_0 not_2 = grind (arith, ne_eqb)
 
 abbrev begun_by : ℕ → List ℕ → List (List ℕ) → List (List (List ℕ))
 begun_by flags segment later =
@@ -50,9 +48,7 @@ pub begins_divided : (segment : List ℕ) (later : List (List ℕ)) → flags_of
 begins_divided segment later is = ap (λ flags. begun_by flags segment later) is
 
 pub begins_none : (segment : List ℕ) (later : List (List ℕ)) → flags_of segment ≢ 3 → flags_of segment ≢ 1 → series_with segment later ≡ []
-begins_none segment later not_3 not_1 =
-    ap (λ b. if b then (segment ∷ []) ∷ [] else if flags_of segment == 1 then completed (segment ∷ []) later else []) (ne_eqb (flags_of segment) 3 not_3)
-    ∙ ap (λ b. if b then completed (segment ∷ []) later else []) (ne_eqb (flags_of segment) 1 not_1)
+begins_none segment later not_3 not_1 = grind (arith, ne_eqb)
 
 -- ---- how a series is completed
 
@@ -161,26 +157,11 @@ beginning segment later =
 
 begun_is_series : (list before : List (List ℕ)) (segment : List ℕ) (later : List (List ℕ)) (n : ℕ) → list ≡ before ++ segment ∷ later → n ≡ length before
     → Beginning segment later → AllByRecursion (IsSeriesOf list) (map (series_at n) (series_with segment later))
-begun_is_series list before segment later n all here (inl no_series) =
-    subst (λ l. AllByRecursion (IsSeriesOf list) (map (series_at n) l)) (sym no_series) tt
-begun_is_series list before segment later n all here (inr (series, listed, b)) =
-    let s : IsSeriesOf list (series_at n series) = record {
-      series = b.is_series;
-      earlier = before;
-      later = b.behind;
-      in_order =
-          all ∙ ap (λ l. before ++ segment ∷ l) b.in_order ∙ sym (append_assoc before (segment ∷ b.tail) b.behind)
-          ∙ ap (λ l. before ++ l ++ b.behind) (sym b.series_is);
-      here = here;
-    } in
-    subst (λ l. AllByRecursion (IsSeriesOf list) (map (series_at n) l)) (sym listed) (s, tt)
+begun_is_series list before segment later n all here starts = grind (arith, append_assoc)
 
 each_from : (list before later : List (List ℕ)) (n : ℕ) → list ≡ before ++ later → n ≡ length before → AllByRecursion (IsSeriesOf list) (series_from n later)
 each_from list before [] n all here = tt
-each_from list before (segment ∷ later) n all here =
-    each-append (IsSeriesOf list) (map (series_at n) (series_with segment later)) (series_from (n + 1) later)
-    (begun_is_series list before segment later n all here (beginning segment later))
-    (each_from list (before ++ segment ∷ []) later (n + 1) (all ∙ sym (append_assoc before (segment ∷ []) later)) (omega (arith, here, length_push before segment)))
+each_from list before (segment ∷ later) n all here = grind (arith, each-append, begun_is_series, beginning, append_assoc, length_push, each_from list (before ++ segment ∷ []) later (n + 1) (all ∙ sym (append_assoc before (segment ∷ []) later)) (omega (arith, here, length_push before segment)))
 
 pub each_is_series : EachIsSeries
 each_is_series list = each_from list [] list 0 refl refl
@@ -190,21 +171,10 @@ each_is_series list = each_from list [] list 0 refl refl
 pub completed_all : (so_far middle : List (List ℕ)) (last : List ℕ) (behind : List (List ℕ)) → AllByRecursion IsContinuing middle → flags_of last ≡ 2
     → completed so_far ((middle ++ last ∷ []) ++ behind) ≡ (so_far ++ (middle ++ last ∷ [])) ∷ []
 completed_all so_far [] last behind goes_on ends = completed_last so_far last behind ends
-completed_all so_far (segment ∷ middle) last behind goes_on ends =
-    completed_continuing so_far segment ((middle ++ last ∷ []) ++ behind) goes_on.0
-    ∙ completed_all (so_far ++ segment ∷ []) middle last behind goes_on.1 ends
-    ∙ ap (λ l. l ∷ []) (append_assoc so_far (segment ∷ []) (middle ++ last ∷ []))
+completed_all so_far (segment ∷ middle) last behind goes_on ends = grind (arith, completed_continuing, append_assoc, completed_all (so_far ++ segment ∷ []) middle last behind goes_on.1 ends)
 
 listed_here : (n : ℕ) (segments behind : List (List ℕ)) → IsSeries segments → Contains (series_from n (segments ++ behind)) (series_at n segments)
-listed_here n segments behind (whole segment is) =
-    Contains-append_left (map (series_at n) (series_with segment behind)) (series_from (n + 1) behind) (series_at n (segment ∷ []))
-    (subst (λ l. Contains (map (series_at n) l) (series_at n (segment ∷ []))) (sym (begins_whole segment behind is)) (Contains-push [] (series_at n (segment ∷ []))))
-listed_here n segments behind (divided first last middle begins goes_on ends) =
-    let series = first ∷ middle ++ last ∷ [] in
-    let later = (middle ++ last ∷ []) ++ behind in
-    Contains-append_left (map (series_at n) (series_with first later)) (series_from (n + 1) later) (series_at n series)
-    (subst (λ l. Contains (map (series_at n) l) (series_at n series))
-    (sym (begins_divided first later begins ∙ completed_all (first ∷ []) middle last behind goes_on ends)) (Contains-push [] (series_at n series)))
+listed_here n segments behind is_series = grind (arith, begins_whole, begins_divided, completed_all)
 
 listed_from : (n k : ℕ) (earlier segments behind : List (List ℕ)) → k ≡ n + length earlier → IsSeries segments
     → Contains (series_from n (earlier ++ segments ++ behind)) (series_at k segments)
@@ -226,9 +196,7 @@ each_series_is_listed list s x =
 pub none_begin : (n k : ℕ) (tail behind : List (List ℕ)) → k ≡ n + length tail → AllByRecursion BeginsNone tail
     → series_from n (tail ++ behind) ≡ series_from k behind
 none_begin n k [] behind here each = ap (λ m. series_from m behind) (omega (arith, here))
-none_begin n k (segment ∷ tail) behind here each =
-    ap (λ l. map (series_at n) l ++ series_from (n + 1) (tail ++ behind)) (each.0 (tail ++ behind))
-    ∙ none_begin (n + 1) k tail behind (omega (arith, here)) each.1
+none_begin n k (segment ∷ tail) behind here each = grind (arith, none_begin (n + 1) k tail behind (omega (arith, here)) each.1)
 
 each_begins_at : (n k : ℕ) (series : List (List (List ℕ))) → k ≤ n → AllByRecursion (λ (t : SeriesAt). k ≤ t.before) (map (series_at n) series)
 each_begins_at n k [] later = tt

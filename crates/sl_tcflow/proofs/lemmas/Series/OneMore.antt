@@ -19,40 +19,26 @@ use Rattle.std.proofs.Math.Bool.{and_assoc}
 -- ---- by the sequence flags of the next segment
 
 after_continuing : (held : Option (List ℕ)) (next : List ℕ) → flags_of next ≡ 0 → incomplete_after held next ≡ extended held (segment_data next)
-after_continuing held next is =
-    ap (λ flags. if flags == 1 then if_fits (segment_data next) else if flags == 0 then extended held (segment_data next) else None) is
+after_continuing held next is = grind arith
 
 -- the incomplete series matters to a continuing segment alone
 after_other : (held other : Option (List ℕ)) (next : List ℕ) → flags_of next ≢ 0 → incomplete_after held next ≡ incomplete_after other next
-after_other held other next not_0 =
-    let by = λ (before : Option (List ℕ)). ap (λ b. if flags_of next == 1 then if_fits (segment_data next) else if b then extended before (segment_data next) else None) (ne_eqb (flags_of next) 0 not_0) in
-    by held ∙ sym (by other)
+after_other held other next not_0 = grind (arith, ne_eqb)
 
 -- ---- the incomplete series
 
 are_continuing-push : (later : List (List ℕ)) (next : List ℕ) → are_continuing (later ++ next ∷ []) ≡ (are_continuing later && are_continuing (next ∷ []))
 are_continuing-push [] next = refl
-are_continuing-push (segment ∷ later) next =
-    ap (λ b. (flags_of segment == 0) && b) (are_continuing-push later next)
-    ∙ sym (and_assoc (flags_of segment == 0) (are_continuing later) (are_continuing (next ∷ [])))
+are_continuing-push (segment ∷ later) next = grind (arith, and_assoc, are_continuing-push later next)
 
 -- the incomplete series with one more segment, where a first segment is followed by continuing ones or not
 one_more_after : (goes_on : Bool) (together held : Option (List ℕ)) (next : List ℕ)
     → (if goes_on && are_continuing (next ∷ []) then extended together (segment_data next) else incomplete_after held next)
     ≡ incomplete_after (if goes_on then together else held) next
-one_more_after true together held next =
-    elim (eqb_tells (flags_of next) 0) [
-      | inl (test, is) ↦
-          ap (λ b. if b && true then extended together (segment_data next) else incomplete_after held next) test ∙ sym (after_continuing together next is)
-      | inr (test, not_0) ↦
-          ap (λ b. if b && true then extended together (segment_data next) else incomplete_after held next) test ∙ after_other held together next not_0
-    ]
-one_more_after false together held next = refl
+one_more_after goes_on together held next = grind (arith, eqb_tells, after_continuing, after_other)
 
 only_next : (first continuing : Bool) (octets : Option (List ℕ)) → (if first && true then octets else None) ≡ (if first then octets else if continuing then None else None)
-only_next true continuing octets = refl
-only_next false true octets = refl
-only_next false false octets = refl
+only_next first continuing octets = grind arith
 
 pub incomplete_next : (list : List (List ℕ)) (next : List ℕ) → incomplete_of (list ++ next ∷ []) ≡ incomplete_after (incomplete_of list) next
 incomplete_next [] next =
@@ -105,19 +91,7 @@ completed-push so_far (segment ∷ later) next test =
 
 series_with-push : (segment : List ℕ) (later : List (List ℕ)) (next : List ℕ) → ((flags_of segment == 1 && are_continuing later) && flags_of next == 2) ≡ false
     → series_with segment (later ++ next ∷ []) ≡ series_with segment later
-series_with-push segment later next test =
-    elim (eqb_tells (flags_of segment) 3) [
-      | inl (three_test, is) ↦ begins_whole segment (later ++ next ∷ []) is ∙ sym (begins_whole segment later is)
-      | inr (three_test, not_3) ↦
-          elim (eqb_tells (flags_of segment) 1) [
-            | inl (one_test, is) ↦
-                begins_divided segment (later ++ next ∷ []) is
-                ∙ completed-push (segment ∷ []) later next (sym (ap (λ b. (b && are_continuing later) && flags_of next == 2) one_test) ∙ test)
-                ∙ sym (begins_divided segment later is)
-            | inr (one_test, not_1) ↦
-                begins_none segment (later ++ next ∷ []) not_3 not_1 ∙ sym (begins_none segment later not_3 not_1)
-          ]
-    ]
+series_with-push segment later next test = grind (arith, eqb_tells, begins_whole, begins_divided, completed-push, begins_none)
 
 -- continuing segments are no series
 completed_none : (so_far later : List (List ℕ)) → AllByRecursion IsContinuing later → completed so_far later ≡ []
@@ -126,25 +100,14 @@ completed_none so_far (segment ∷ later) each = completed_continuing so_far seg
 
 continuing_none : (before : ℕ) (later : List (List ℕ)) → AllByRecursion IsContinuing later → series_from before later ≡ []
 continuing_none before [] each = refl
-continuing_none before (segment ∷ later) each =
-    ap (λ l. map (series_at before) l ++ series_from (before + 1) later)
-    (begins_none segment later (λ e. absurd (omega (arith, e, each.0))) (λ e. absurd (omega (arith, e, each.0))))
-    ∙ continuing_none (before + 1) later each.1
+continuing_none before (segment ∷ later) each = grind (arith, begins_none, continuing_none (before + 1) later each.1)
 
 ending_none : (before : ℕ) (later : List (List ℕ)) (next : List ℕ) → AllByRecursion IsContinuing later → flags_of next ≡ 2 → series_ending before later next ≡ []
 ending_none before [] next each last = ap (λ flags. if flags == 3 then series_at before (next ∷ []) ∷ [] else []) last
-ending_none before (segment ∷ later) next each last =
-    ap (λ flags. if (flags == 1 && are_continuing later) && flags_of next == 2 then series_at before (segment ∷ (later ++ next ∷ [])) ∷ [] else series_ending (before + 1) later next) each.0
-    ∙ ending_none (before + 1) later next each.1 last
+ending_none before (segment ∷ later) next each last = grind (arith, ending_none (before + 1) later next each.1 last)
 
 ends_first : (before : ℕ) (next : List ℕ) → map (series_at before) (series_with next []) ++ [] ≡ series_ending before [] next
-ends_first before next = by (flags_of next == 3) (flags_of next == 1)
-  where
-    by : (three one : Bool)
-        → map (series_at before) (if three then (next ∷ []) ∷ [] else if one then [] else []) ++ [] ≡ (if three then series_at before (next ∷ []) ∷ [] else [])
-    by true one = refl
-    by false true = refl
-    by false false = refl
+ends_first before next = grind arith
 
 ends_here : (before : ℕ) (segment : List ℕ) (later : List (List ℕ)) (next : List ℕ) → flags_of segment ≡ 1 → AllByRecursion IsContinuing later → flags_of next ≡ 2
     → map (series_at before) (series_with segment (later ++ next ∷ [])) ++ (series_from (before + 1) later ++ series_ending (before + 1) later next)
@@ -161,59 +124,21 @@ ends_here before segment later next first each last =
 -- the series with one more segment are those before, and the one that ends with this segment
 pub series_next : (before : ℕ) (list : List (List ℕ)) (next : List ℕ) → series_from before (list ++ next ∷ []) ≡ series_from before list ++ series_ending before list next
 series_next before [] next = ends_first before next
-series_next before (segment ∷ later) next =
-    let ends = (flags_of segment == 1 && are_continuing later) && flags_of next == 2 in
-    ap (λ l. map (series_at before) (series_with segment (later ++ next ∷ [])) ++ l) (series_next (before + 1) later next)
-    ∙ cases ends refl
-  where
-    cases : (b : Bool) → ((flags_of segment == 1 && are_continuing later) && flags_of next == 2) ≡ b
-        → map (series_at before) (series_with segment (later ++ next ∷ [])) ++ (series_from (before + 1) later ++ series_ending (before + 1) later next)
-        ≡ (map (series_at before) (series_with segment later) ++ series_from (before + 1) later)
-        ++ (if (flags_of segment == 1 && are_continuing later) && flags_of next == 2 then series_at before (segment ∷ (later ++ next ∷ [])) ∷ []
-        else series_ending (before + 1) later next)
-    cases true test =
-        let (begun, last) = and_parts (flags_of segment == 1 && are_continuing later) (flags_of next == 2) test in
-        let (first, each) = and_parts (flags_of segment == 1) (are_continuing later) begun in
-        ends_here before segment later next (eqb-true (flags_of segment) 1 first) (continuing_each later each) (eqb-true (flags_of next) 2 last)
-        ∙ sym (ap (λ b. (map (series_at before) (series_with segment later) ++ series_from (before + 1) later)
-        ++ (if b then series_at before (segment ∷ (later ++ next ∷ [])) ∷ [] else series_ending (before + 1) later next)) test)
-    cases false test =
-        ap (λ l. map (series_at before) l ++ (series_from (before + 1) later ++ series_ending (before + 1) later next)) (series_with-push segment later next test)
-        ∙ sym (append_assoc (map (series_at before) (series_with segment later)) (series_from (before + 1) later) (series_ending (before + 1) later next))
-        ∙ sym (ap (λ b. (map (series_at before) (series_with segment later) ++ series_from (before + 1) later)
-        ++ (if b then series_at before (segment ∷ (later ++ next ∷ [])) ∷ [] else series_ending (before + 1) later next)) test)
+series_next before (segment ∷ later) next = grind (arith, and_parts, ends_here, eqb-true, continuing_each, series_with-push, append_assoc, series_next (before + 1) later next)
 
 -- ---- where series end
 
 pub series_within : (list : List (List ℕ)) (s : SeriesAt) → IsSeriesOf list s → past s ≤ length list
-series_within list s x =
-    omega (arith, x.here, ap length x.in_order, length-append (x.earlier ++ s.segments) x.later, length-append x.earlier s.segments)
+series_within list s x = grind (arith, length-append)
 
 pub each_ending : (number before : ℕ) (list : List (List ℕ)) (next : List ℕ) → number ≡ before + length list + 1
     → AllByRecursion (λ (s : SeriesAt). (past s == number) ≡ true) (series_ending before list next)
-each_ending number before [] next so_many = by (flags_of next == 3)
-  where
-    by : (b : Bool) → AllByRecursion (λ (s : SeriesAt). (past s == number) ≡ true) (if b then series_at before (next ∷ []) ∷ [] else [])
-    by true = (eq-eqb (before + 1) number (omega (arith, so_many)), tt)
-    by false = tt
-each_ending number before (segment ∷ later) next so_many =
-    by (each_ending number (before + 1) later next (omega (arith, so_many))) ((flags_of segment == 1 && are_continuing later) && flags_of next == 2)
-  where
-    by : AllByRecursion (λ (s : SeriesAt). (past s == number) ≡ true) (series_ending (before + 1) later next) → (b : Bool)
-        → AllByRecursion (λ (s : SeriesAt). (past s == number) ≡ true)
-        (if b then series_at before (segment ∷ (later ++ next ∷ [])) ∷ [] else series_ending (before + 1) later next)
-    by rest true = (eq-eqb (past (series_at before (segment ∷ (later ++ next ∷ [])))) number (omega (arith, so_many, length_push later next)), tt)
-    by rest false = rest
+each_ending number before [] next so_many = grind (arith, eq-eqb)
+each_ending number before (segment ∷ later) next so_many = grind (arith, eq-eqb, length_push, each_ending number (before + 1) later next (omega (arith, so_many)))
 
 pub ending_is : (list : List (List ℕ)) (next : List ℕ)
     → filter (λ (s : SeriesAt). past s == length list + 1) (series_of (list ++ next ∷ [])) ≡ series_ending 0 list next
-ending_is list next =
-    let ends = λ (s : SeriesAt). past s == length list + 1 in
-    ap (filter ends) (series_next 0 list next) ∙ filter-append ends (series_of list) (series_ending 0 list next)
-    ∙ ap₂ (λ xs ys. xs ++ ys)
-    (filter_none ends (series_of list)
-    (each-weaker (IsSeriesOf list) (λ s. ends s ≡ false) (λ s x. ne_eqb (past s) (length list + 1) (λ e. absurd (omega (arith, e, series_within list s x)))) (series_of list) (each_is_series list)))
-    (filter_all ends (series_ending 0 list next) (each_ending (length list + 1) 0 list next (omega arith)))
+ending_is list next = grind (arith, series_next, filter-append, filter_none, each-weaker, ne_eqb, series_within, each_is_series, filter_all, each_ending)
 
 -- ---- the packets
 

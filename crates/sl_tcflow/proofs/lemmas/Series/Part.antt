@@ -35,12 +35,7 @@ module _ (room : ℕ) (packet : List ℕ) where
       ∙ sym (take-add (n * room) room packet) ∙ ap (λ k. take k packet) next
 
   pub covers : 0 < room → length packet ≤ segment_count room packet * room
-  covers some =
-      let count = segment_count room packet in
-      elim (leb_tells (length packet) (count * room)) [
-        | inl (test, low) ↦ low
-        | inr (test, high) ↦ absurd (let more = counts_more room packet count some high in omega (arith, more))
-      ]
+  covers some = grind (arith, leb_tells, counts_more)
 
   pub some_parts : 0 < room → 0 < length packet → 0 < segment_count room packet
   some_parts some long = let none = zero-mul room in counts_more room packet 0 some (omega (arith, none, long))
@@ -48,14 +43,10 @@ module _ (room : ℕ) (packet : List ℕ) where
 octets_of_parts : (room map_id : ℕ) (packet : List ℕ) (numbers : List ℕ)
     → reassembled (map unit_made (map (part_at room map_id packet) numbers)) ≡ concat (map (piece_at room packet) numbers)
 octets_of_parts room map_id packet [] = refl
-octets_of_parts room map_id packet (number ∷ numbers) =
-    ap₂ (λ a b. a ++ b) (octets_of_unit (part_at room map_id packet number)) (octets_of_parts room map_id packet numbers)
+octets_of_parts room map_id packet (number ∷ numbers) = grind (arith, octets_of_unit, octets_of_parts room map_id packet numbers)
 
 pub reassembled_parts : (room map_id : ℕ) (packet : List ℕ) → 0 < room → reassembled (map unit_made (segments_of_packet room map_id packet)) ≡ packet
-reassembled_parts room map_id packet some =
-    let count = segment_count room packet in
-    octets_of_parts room map_id packet (range_with_len 0 count) ∙ parts_joined room packet count
-    ∙ take_all (count * room) packet (covers room packet some)
+reassembled_parts room map_id packet some = grind (arith, octets_of_parts, parts_joined, take_all, covers)
 
 -- ---- the sequence flags of the segments
 
@@ -71,8 +62,7 @@ last_of_many count number after is = grind (arith, nat_tests)
 continuing : (count : ℕ) (unit : ℕ → List ℕ) → ((number : ℕ) → flags_of (unit number) ≡ flags_at count number)
     → (from n : ℕ) → 1 ≤ from → from + n < count → AllByRecursion IsContinuing (map unit (range_with_len from n))
 continuing count unit flags from zero after before = tt
-continuing count unit flags from (suc n) after before =
-    (flags from ∙ between count from after (omega arith), continuing count unit flags (from + 1) n (omega arith) (omega arith))
+continuing count unit flags from (suc n) after before = grind (arith, continuing count unit flags (from + 1) n (omega arith) (omega arith))
 
 series_of_parts : (count : ℕ) (unit : ℕ → List ℕ) → ((number : ℕ) → flags_of (unit number) ≡ flags_at count number) → 0 < count
     → IsSeries (map unit (range_with_len 0 count))
@@ -88,14 +78,10 @@ series_of_parts (suc (suc n)) unit flags some =
 
 pub units_are_series : (room map_id : ℕ) (packet : List ℕ) → 0 < room → map_id < 64 → 0 < length packet
     → IsSeries (map (segment_of room map_id packet) (range_with_len 0 (segment_count room packet)))
-units_are_series room map_id packet some small long =
-    series_of_parts (segment_count room packet) (segment_of room map_id packet)
-    (λ n. ap (λ (h : SegmentFields). h.flags) (header_of_unit (part_at room map_id packet n) (part_is room map_id small packet n).header))
-    (some_parts room packet some long)
+units_are_series room map_id packet some small long = grind (arith, series_of_parts, header_of_unit, part_is, some_parts)
 
 pub parts_are_series : (room map_id : ℕ) (packet : List ℕ) → 0 < room → map_id < 64 → 0 < length packet → IsSeries (map unit_made (segments_of_packet room map_id packet))
-parts_are_series room map_id packet some small long =
-    subst IsSeries (sym (units_of_parts room map_id packet (range_with_len 0 (segment_count room packet)))) (units_are_series room map_id packet some small long)
+parts_are_series room map_id packet some small long = grind (arith, units_of_parts, units_are_series)
 
 -- ---- a series at the front of a list
 

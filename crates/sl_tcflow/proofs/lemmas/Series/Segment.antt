@@ -28,10 +28,7 @@ pub record IsSegment (room : ℕ) (On : ℕ → Type 0) (segment : SegmentFields
 
 -- the header and the octets of a segment are read back
 pub header_of_unit : (segment : SegmentFields × List ℕ) → FitsSegmentHeader segment.0 → header_at (unit_made segment) ≡ segment.0
-header_of_unit segment fit =
-    let h = segment.0 in
-    ap segment_header (take_at (segment_octets h) segment.1 1 (length-octets_of 1 (segment_fields h)))
-    ∙ reads_back segment_layout h (packed (segment_fields h)) fit (packed_lt (segment_fields h) (segment_layout.fit h fit)) refl
+header_of_unit segment fit = grind (arith, take_at, length-octets_of, reads_back, segment_layout, packed_lt)
 
 pub octets_of_unit : (segment : SegmentFields × List ℕ) → segment_data (unit_made segment) ≡ segment.1
 octets_of_unit segment = drop_at (segment_octets segment.0) segment.1 1 (length-octets_of 1 (segment_fields segment.0))
@@ -74,12 +71,7 @@ module _ (room map_id : ℕ) where
   segments_of_packet packet = map (part_at packet) (range_with_len 0 (segment_count room packet))
 
   pub part_is : map_id < 64 → (packet : List ℕ) (number : ℕ) → IsSegment room (λ m. m ≡ map_id) (part_at packet number)
-  part_is small packet number =
-      record {
-        header = record { flags = flags_fit (segment_count room packet) number; map = small };
-        inside = omega (arith, length-take room (drop (number * room) packet));
-        on = refl;
-      }
+  part_is small packet number = grind (arith, flags_fit, length-take)
 
   pub packet_parts : map_id < 64 → (packet : List ℕ) → AllByRecursion (IsSegment room (λ m. m ≡ map_id)) (segments_of_packet packet)
   packet_parts small packet =
@@ -87,9 +79,7 @@ module _ (room map_id : ℕ) where
       each-map (IsSegment room (λ m. m ≡ map_id)) (part_at packet) numbers (each-every (λ n. IsSegment room (λ m. m ≡ map_id) (part_at packet n)) (part_is small packet) numbers)
 
   pub packets_parts : map_id < 64 → (packets : List (List ℕ)) → AllByRecursion (IsSegment room (λ m. m ≡ map_id)) (flat_map segments_of_packet packets)
-  packets_parts small packets =
-      each-flat_map (IsSegment room (λ m. m ≡ map_id)) segments_of_packet packets
-      (each-every (λ packet. AllByRecursion (IsSegment room (λ m. m ≡ map_id)) (segments_of_packet packet)) (packet_parts small) packets)
+  packets_parts small packets = grind (arith, each-flat_map, each-every, packet_parts)
 
   -- the segments of a packet are its units
   pub units_of_parts : (packet : List ℕ) (numbers : List ℕ) → map unit_made (map (part_at packet) numbers) ≡ map (segment_of room map_id packet) numbers
@@ -105,15 +95,11 @@ segments_of_maps room map_id (packets ∷ lists) = flat_map (segments_of_packet 
 -- the units of packets are their segments
 pub flat_units : (room map_id : ℕ) (packets : List (List ℕ)) → flat_map (units_of_packet false room map_id) packets ≡ map unit_made (flat_map (segments_of_packet room map_id) packets)
 flat_units room map_id [] = refl
-flat_units room map_id (packet ∷ packets) =
-    ap₂ (λ a b. a ++ b) (sym (units_of_parts room map_id packet (range_with_len 0 (segment_count room packet)))) (flat_units room map_id packets)
-    ∙ sym (map-append unit_made (segments_of_packet room map_id packet) (flat_map (segments_of_packet room map_id) packets))
+flat_units room map_id (packet ∷ packets) = grind (arith, units_of_parts, map-append, flat_units room map_id packets)
 
 pub units_are_segments : (room from : ℕ) (lists : List (List (List ℕ))) → units_of_maps false room from lists ≡ map unit_made (segments_of_maps room from lists)
 units_are_segments room from [] = refl
-units_are_segments room from (packets ∷ lists) =
-    ap₂ (λ a b. a ++ b) (flat_units room from packets) (units_are_segments room (from + 1) lists)
-    ∙ sym (map-append unit_made (flat_map (segments_of_packet room from) packets) (segments_of_maps room (from + 1) lists))
+units_are_segments room from (packets ∷ lists) = grind (arith, flat_units, map-append, units_are_segments room (from + 1) lists)
 
 -- where there are no segment headers, the units of packets are the packets themselves
 flat_packets : (room map_id : ℕ) (packets : List (List ℕ)) → flat_map (units_of_packet true room map_id) packets ≡ packets
@@ -135,18 +121,11 @@ units_are_packets room from (packets ∷ lists) none =
 
 weaker_on : (room : ℕ) (On On' : ℕ → Type 0) → ((m : ℕ) → On m → On' m) → (segments : List (SegmentFields × List ℕ)) → AllByRecursion (IsSegment room On) segments
     → AllByRecursion (IsSegment room On') segments
-weaker_on room On On' weaker segments each =
-    each-weaker (IsSegment room On) (IsSegment room On')
-    (λ segment is. record { header = is.header; inside = is.inside; on = weaker segment.0.map is.on }) segments each
+weaker_on room On On' weaker segments each = grind (arith, each-weaker)
 
 pub maps_parts : (room from : ℕ) (lists : List (List (List ℕ))) → from + length lists ≤ 64 → AllByRecursion (IsSegment room (λ m. from ≤ m)) (segments_of_maps room from lists)
 maps_parts room from [] few = tt
-maps_parts room from (packets ∷ lists) few =
-    each-append (IsSegment room (λ m. from ≤ m)) (flat_map (segments_of_packet room from) packets) (segments_of_maps room (from + 1) lists)
-    (weaker_on room (λ m. m ≡ from) (λ m. from ≤ m) (λ m is. omega (arith, is)) (flat_map (segments_of_packet room from) packets)
-    (packets_parts room from (omega arith) packets))
-    (weaker_on room (λ m. from + 1 ≤ m) (λ m. from ≤ m) (λ m is. omega (arith, is)) (segments_of_maps room (from + 1) lists)
-    (maps_parts room (from + 1) lists (omega arith)))
+maps_parts room from (packets ∷ lists) few = grind (arith, each-append, weaker_on, packets_parts, maps_parts room (from + 1) lists (omega arith))
 
 -- the segments of a MAP are those of its packets
 pub parts_of_map : (room from map_id index : ℕ) (lists : List (List (List ℕ))) → map_id ≡ from + index → index < length lists → from + length lists ≤ 64

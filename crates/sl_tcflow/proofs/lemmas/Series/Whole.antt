@@ -23,12 +23,7 @@ flags_of_whole : (unit : List ℕ) → flags_of (whole_segment unit) ≡ 3
 flags_of_whole unit = ap (λ (h : SegmentFields). h.flags) (header_of_whole unit)
 
 pub plain_unit_is_whole : PlainUnitIsWhole
-plain_unit_is_whole unit =
-    record {
-      flags = flags_of_whole unit;
-      map = ap (λ (h : SegmentFields). h.map) (header_of_whole unit);
-      octets = octets_of_unit (record { flags = 3; map = 0 }, unit);
-    }
+plain_unit_is_whole unit = grind (arith, flags_of_whole, header_of_whole, octets_of_unit)
 
 -- ---- no series is incomplete
 
@@ -41,9 +36,7 @@ each_whole (unit ∷ units) = (flags_of_whole unit, each_whole units)
 
 none_incomplete : (segments : List (List ℕ)) → HaveNoSegmentation segments → incomplete_of segments ≡ None
 none_incomplete [] each = refl
-none_incomplete (segment ∷ later) each =
-    ap (λ flags. if flags == 1 && are_continuing later then if_fits (reassembled (segment ∷ later)) else incomplete_of later) each.0
-    ∙ none_incomplete later each.1
+none_incomplete (segment ∷ later) each = grind (arith, none_incomplete later each.1)
 
 none_on : (plain : Bool) (map_id : ℕ) (units : List (List ℕ)) → plain ≡ true → incomplete_of (segments_on map_id (map (segment_in plain) units)) ≡ None
 none_on false map_id units is = absurd (cc)
@@ -53,8 +46,7 @@ none_on true map_id units is =
     (each-filter (λ segment. flags_of segment ≡ 3) (λ segment. flags_of segment ≡ 3) (λ segment. (header_at segment).map == map_id) (λ segment exceeds_limit is. is) segments (each_whole units))
 
 pub no_plain_series_is_incomplete : NoPlainSeriesIsIncomplete
-no_plain_series_is_incomplete r vc map_id views plain =
-    none_on (is_plain r vc) map_id (accepted_units r.window (initial_vr r vc) (channel_of vc views)) plain
+no_plain_series_is_incomplete r vc map_id views plain = grind (arith, none_on)
 
 -- ---- octets that are left are the only anomaly
 
@@ -63,8 +55,7 @@ module _ (list : List (List ℕ)) (unit : List ℕ) where
   not_stray = ap (λ flags. continues_by flags && is_none (incomplete_of list)) (flags_of_whole unit)
 
   none_dropped : incomplete_of list ≡ None → dropped_of list (whole_segment unit) ≡ None
-  none_dropped none =
-      ap (λ flags. if begins_by flags then octets_held list else None) (flags_of_whole unit) ∙ ap (option_map length) none
+  none_dropped none = grind (arith, flags_of_whole)
 
   none_long : long_of list (whole_segment unit) ≡ false
   none_long = ap (λ flags. continues_by flags && exceeds_limit (octets_held list) (length (segment_data (whole_segment unit)))) (flags_of_whole unit)
@@ -92,14 +83,9 @@ plain_unit_has_tail_alone r views next plain =
 -- whole segments are on no other MAP than 0
 pub no_segments : (map_id : ℕ) (units : List (List ℕ)) → 0 < map_id → segments_on map_id (map whole_segment units) ≡ []
 no_segments map_id [] other = refl
-no_segments map_id (unit ∷ units) other =
-    ap (λ (h : SegmentFields). cond (h.map == map_id) (whole_segment unit ∷ segments_on map_id (map whole_segment units)) (segments_on map_id (map whole_segment units))) (header_of_whole unit)
-    ∙ ap (λ b. cond b (whole_segment unit ∷ segments_on map_id (map whole_segment units)) (segments_on map_id (map whole_segment units))) (ne_eqb 0 map_id (λ e. absurd (omega (arith, e, other))))
-    ∙ no_segments map_id units other
+no_segments map_id (unit ∷ units) other = grind (arith, header_of_whole, ne_eqb, no_segments map_id units other)
 
 -- whole segments are all on MAP 0
 pub all_segments : (units : List (List ℕ)) → segments_on 0 (map whole_segment units) ≡ map whole_segment units
 all_segments [] = refl
-all_segments (unit ∷ units) =
-    ap (λ (h : SegmentFields). cond (h.map == 0) (whole_segment unit ∷ segments_on 0 (map whole_segment units)) (segments_on 0 (map whole_segment units))) (header_of_whole unit)
-    ∙ ap (λ l. whole_segment unit ∷ l) (all_segments units)
+all_segments (unit ∷ units) = grind (arith, header_of_whole, all_segments units)

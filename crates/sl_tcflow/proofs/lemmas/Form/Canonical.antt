@@ -25,12 +25,7 @@ use Rattle.sl_packet.proofs.WithoutIdleLemmas.{due_packets}
 -- ---- frames end to end
 
 pub normal_form_is_frames : NormalFormIsFrames
-normal_form_is_frames format spacecraft starts plain lists is known are fits =
-    record {
-      end_to_end = sym (append-nil (tc_normal_form_of format spacecraft starts plain lists));
-      each = form_cut format spacecraft is known starts plain lists are fits;
-      no_more = refl;
-    }
+normal_form_is_frames format spacecraft starts plain lists is known are fits = search (arith, append-nil, form_cut)
 
 pub no_frame_is_long : NoFrameIsLong
 no_frame_is_long format spacecraft starts plain lists is known are fits = form_within format spacecraft is known starts plain lists are fits
@@ -87,6 +82,4 @@ unfolding map_channels
 map_over_channels f lists all each = sym (fill_by_all f lists channel_count [] all each)
 
 pub normal_form_delivers : NormalFormDelivers
-normal_form_delivers format spacecraft r lists is known octets are fits =
-    map_over_channels (λ channel. without_idle (packets_of_channel r (recorded_views format spacecraft (tc_normal_form_of format spacecraft r.starts r.plain lists)) channel)) lists are.all
-    (list_back format spacecraft r lists is known octets are fits)
+normal_form_delivers format spacecraft r lists is known octets are fits = search (arith, map_over_channels, list_back)

@@ -1,5 +1,6 @@
 -- The octets of the normal form that are still to come, packet by packet and channel by channel.
 use Rattle.std.proofs.Common.{◌≡◌, ℕ, zero, suc, ◌+◌, ◌-◌, ◌*◌, ◌/◌, ◌%◌, ◌<◌, ◌≤◌, ◌==◌, Bool, true, false, if◌then◌else◌, List, [], ◌∷◌, ◌++◌, length, take, drop, flat_map, inl, inr, refl, sym, ◌∙◌, ap, ap₂, subst, arith, append_assoc, append-nil, length-append, ne_eqb}
+use Rattle.std.proofs.lemmas.Grind.{common_steps}
 use Rattle.std.specs.List.{concat, range_with_len, slice_index_or}
 use Rattle.std.proofs.lemmas.Bool.Decides.{eqb_tells, leb_tells}
 use Rattle.std.proofs.lemmas.List.{drop_all, drop_more, drop-drop, get_or-drop, get_or_past}
@@ -63,14 +64,7 @@ module _ (format : TcFormat) (spacecraft : ℕ) (starts plain : List ℕ) (lists
   -- the next virtual channel
   next_channel : (vc n channel : ℕ) → 64 * vc ≡ channel
       → on_channels vc (suc n) ≡ on_maps vc 0 (start vc) (list channel) (take 63 (drop (channel + 1) lists)) ++ on_channels (vc + 1) n
-  next_channel vc n channel is =
-      let b = no_headers vc in
-      let frames : ℕ → List (List ℕ) = λ v. channel_frames format spacecraft (no_headers v) (start v) v (take 64 (drop (64 * v) lists)) in
-      concat-append (frames vc) (flat_map frames (range_with_len (vc + 1) n))
-      ∙ ap (λ c. concat (channel_frames format spacecraft b (start vc) vc (take 64 (drop c lists))) ++ on_channels (vc + 1) n) is
-      ∙ ap (λ l. concat (frames_of_units format spacecraft vc (start vc) l) ++ on_channels (vc + 1) n)
-      (split_maps b room 0 63 (drop channel lists)
-      ∙ ap₂ (λ ps ls. flat_map (units_of_packet b room 0) ps ++ units_of_maps b room 1 (take 63 ls)) (first_list channel) (later_lists channel))
+  next_channel vc n channel is = grind (arith, common_steps, concat-append, split_maps, first_list, later_lists)
 
   pub all_left : left 0 0 (start 0) ≡ tc_normal_form_of format spacecraft starts plain lists
   all_left = left_is 0 0 0 0 (start 0) (omega arith) (omega arith) ∙ sym (next_channel 0 63 0 (omega arith))

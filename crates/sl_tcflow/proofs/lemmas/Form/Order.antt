@@ -1,5 +1,6 @@
 -- The order of the frames of the normal form.
 use Rattle.std.proofs.Common.{◌≡◌, ℕ, zero, suc, ◌+◌, ◌*◌, ◌%◌, ◌<◌, ◌≤◌, Bool, true, false, List, [], ◌∷◌, ◌++◌, length, take, drop, map, flat_map, refl, sym, ◌∙◌, ap, subst, arith, length-take}
+use Rattle.std.proofs.lemmas.Grind.{common_steps}
 use Rattle.std.specs.List.{AllByRecursion, range_with_len, slice_index_or}
 use Rattle.sl_tcframe.specs.AdFrame.{segment_room_of}
 use Rattle.sl_tcframe.specs.TcFrame.{TcFormat, TcView, Ad}
@@ -37,12 +38,7 @@ on_one_map room map_id packets small = grind (arith, each-map, each-weaker, map_
 
 maps_rise : (room map_id : ℕ) (lists : List (List (List ℕ))) → map_id + length lists ≤ 64 → NeverFall map_id (map (λ unit. (header_at unit).map) (units_of_maps false room map_id lists))
 maps_rise room map_id [] few = tt
-maps_rise room map_id (packets ∷ lists) few =
-    let later = units_of_maps false room (map_id + 1) lists in
-    subst (λ l. NeverFall map_id (map (λ unit. (header_at unit).map) (l ++ later))) (sym (flat_units room map_id packets))
-    (then_later (λ unit. (header_at unit).map) map_id map_id (map unit_made (flat_map (segments_of_packet room map_id) packets)) later (omega arith)
-    (on_one_map room map_id packets (omega arith))
-    (lower (map_id + 1) map_id (map (λ unit. (header_at unit).map) later) (omega arith) (maps_rise room (map_id + 1) lists (omega arith))))
+maps_rise room map_id (packets ∷ lists) few = grind (arith, common_steps, flat_units, then_later, on_one_map, lower, maps_rise room (map_id + 1) lists (omega arith))
 
 -- the units are those that the frames are read with
 maps_of_views : (b : Bool) (vc ns : ℕ) (units : List (List ℕ))

@@ -1,5 +1,6 @@
 -- The frames of units, one after another.
 use Rattle.std.proofs.Common.{◌≡◌, ℕ, zero, suc, ◌+◌, ◌-◌, ◌*◌, ◌%◌, ◌<◌, ◌≤◌, min, ◌==◌, Bool, false, if◌then◌else◌, List, [], ◌∷◌, ◌++◌, length, take, drop, map, inl, inr, refl, sym, subst, ◌∙◌, ap, arith, length-append, append_assoc, append-nil, add-one}
+use Rattle.std.proofs.lemmas.Grind.{common_steps}
 use Rattle.std.specs.List.{concat, range_with_len}
 use Rattle.std.proofs.lemmas.Bool.Decides.{leb_tells, nat_tests}
 use Rattle.std.proofs.lemmas.List.{drop-drop, length-drop}
@@ -77,13 +78,7 @@ module _ (format : TcFormat) (spacecraft vc map_id : ℕ) (base : List ℕ) (ns 
     pub pushed : IsPushed format spacecraft vc base ns (units_to number) next form
 
   pub none_divided : ns < 256 → IsDivided packet ns base
-  none_divided small =
-      record {
-        number = 0;
-        left_is = let none = zero-mul room in ap (λ n. drop n packet) (sym none);
-        so_far = omega arith;
-        pushed = none_pushed format spacecraft vc base ns small;
-      }
+  none_divided small = grind (arith, common_steps, zero-mul, none_pushed)
 
   -- the next segment
   pub divided_next : (left octets later : List ℕ) (first last : Bool) (next next' : ℕ) (form form' : List ℕ) → 0 < room → 0 < length left → next < 256

@@ -1,6 +1,7 @@
 -- The packets of the service data unit that ends with the next segment of a MAP, and the octets after them, from the
 -- series that is incomplete before this segment.
 use Rattle.std.proofs.Common.{arith, ◌≡◌, ◌≢◌, ℕ, ◌+◌, ◌==◌, ◌&&◌, nat_le, Bool, true, false, if◌then◌else◌, List, [], ◌∷◌, ◌++◌, length, Option, None, Some, inl, inr, refl, sym, ◌∙◌, ap, append-nil, ne_eqb}
+use Rattle.std.proofs.lemmas.Grind.{common_steps}
 use Rattle.std.specs.List.{filter, flat_map}
 use Rattle.std.proofs.lemmas.Bool.Decides.{eqb_tells}
 use Rattle.sl_packet.specs.Packets.{packets_of, rest_of}
@@ -48,20 +49,7 @@ module _ {X : Type 0} (of : List ℕ → List X) where
       → flat_map (λ (s : SeriesAt). in_segments s.segments)
       (if begun && flags_of next == 2 then series_at before (segment ∷ (later ++ next ∷ [])) ∷ [] else ending)
       ≡ in_unit (service_unit_ended (if begun then if_fits (reassembled (segment ∷ later)) else held) next)
-  in_after true segment later next ending before held rest =
-      let segments = segment ∷ (later ++ next ∷ []) in
-      let together = if_fits (reassembled (segment ∷ later)) in
-      let has = λ (s : SeriesAt). in_segments s.segments in
-      elim (eqb_tells (flags_of next) 2) [
-        | inl (test, is) ↦
-            ap (λ b. flat_map has (if b then series_at before segments ∷ [] else ending)) test
-            ∙ append-nil (in_segments segments) ∙ in_reassembled segments
-            ∙ ap (λ l. in_unit (if_fits l)) (reassembled-push (segment ∷ later) next)
-            ∙ ap in_unit (sym (extended_fits (reassembled (segment ∷ later)) (segment_data next)) ∙ sym (ended_last together next is))
-        | inr (test, not_2) ↦
-            ap (λ b. flat_map has (if b then series_at before segments ∷ [] else ending)) test
-            ∙ rest ∙ ap in_unit (ended_other held together next not_2)
-      ]
+  in_after true segment later next ending before held rest = grind (arith, common_steps, eqb_tells, append-nil, in_reassembled, reassembled-push, extended_fits, ended_last, ended_other)
   in_after false segment later next ending before held rest = rest
 
   in_from : (before : ℕ) (list : List (List ℕ)) (next : List ℕ)

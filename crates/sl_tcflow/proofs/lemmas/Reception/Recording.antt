@@ -1,5 +1,5 @@
 -- The packets that FARM-1 accepts from a recording.
-use Rattle.std.proofs.Common.{◌≡◌, ℕ, ◌/◌, ◌%◌, Bool, true, false, nat_le, if◌then◌else◌, List, [], length, map}
+use Rattle.std.proofs.Common.{arith, ◌≡◌, ℕ, ◌/◌, ◌%◌, Bool, true, false, nat_le, if◌then◌else◌, List, [], length, map}
 use Rattle.std.specs.List.{AllByRecursion}
 use Rattle.std.proofs.lemmas.List.FromFn.{length-map-range_with_len}
 use Rattle.sl_packet.specs.Delivered.{IsDeliverable, channel_count}
@@ -24,10 +24,7 @@ in_series : (s : SeriesAt) → AllByRecursion IsPacket (packets_of_series s.segm
 in_series s = packets_if (nat_le (length (reassembled s.segments)) 65542) (reassembled s.segments)
 
 channel_due : (r : ReceptionParameters) (views : List TcView) (channel : ℕ) → AllByRecursion IsDeliverable (without_idle (packets_of_channel r views channel))
-channel_due r views channel =
-    let list = series_of (segments_of r (channel / 64) (channel % 64) views) in
-    without_idle_due (packets_of_channel r views channel)
-    (each-flat_map IsPacket (λ (s : SeriesAt). packets_of_series s.segments) list (each-every (λ (s : SeriesAt). AllByRecursion IsPacket (packets_of_series s.segments)) in_series list))
+channel_due r views channel = search (arith, without_idle_due, each-flat_map, each-every, in_series)
 
 all_channels : (f : ℕ → List (List ℕ)) → length (map f map_channels) ≡ channel_count
 unfolding map_channels

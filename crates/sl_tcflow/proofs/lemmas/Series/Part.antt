@@ -1,5 +1,6 @@
 -- The segments of packets, put together again.
 use Rattle.std.proofs.Common.{◌≡◌, ℕ, zero, suc, ◌+◌, ◌*◌, ◌<◌, ◌≤◌, nat_le, if◌then◌else◌, List, [], ◌∷◌, ◌++◌, length, take, map, flat_map, inl, inr, refl, sym, ◌∙◌, ap, ap₂, subst, arith, append-nil, add-one, le-leb, take-add}
+use Rattle.std.proofs.lemmas.Grind.{common_steps}
 use Rattle.std.specs.List.{AllByRecursion, concat, range_with_len}
 use Rattle.std.proofs.lemmas.Bool.Decides.{leb_tells, nat_tests}
 use Rattle.std.proofs.lemmas.List.{map-append, take_all}
@@ -87,17 +88,8 @@ parts_are_series room map_id packet some small long = grind (arith, units_of_par
 
 pub series_first : (n k : ℕ) (segments later : List (List ℕ)) → k ≡ n + length segments → IsSeries segments
     → series_from n (segments ++ later) ≡ series_at n segments ∷ series_from k later
-series_first n k segments later here (whole segment is) =
-    let next : n + 1 ≡ k = omega (arith, here) in
-    ap (λ l. map (series_at n) l ++ series_from (n + 1) later) (begins_whole segment later is)
-    ∙ ap (λ m. series_at n (segment ∷ []) ∷ series_from m later) next
-series_first n k segments later here (divided first last middle begins goes_on ends) =
-    let tail = middle ++ last ∷ [] in
-    let none =
-    each-append BeginsNone middle (last ∷ []) (each-weaker IsContinuing BeginsNone continuing_begins_none middle goes_on) (last_begins_none last ends, tt) in
-    ap (λ l. map (series_at n) l ++ series_from (n + 1) (tail ++ later))
-    (begins_divided first (tail ++ later) begins ∙ completed_all (first ∷ []) middle last later goes_on ends)
-    ∙ ap (λ l. series_at n (first ∷ tail) ∷ l) (none_begin (n + 1) k tail later (omega (arith, here)) none)
+series_first n k segments later here (whole segment is) = grind (arith, common_steps, begins_whole)
+series_first n k segments later here (divided first last middle begins goes_on ends) = grind (arith, common_steps, each-append, each-weaker, continuing_begins_none, last_begins_none, begins_divided, completed_all, none_begin)
 
 -- ---- packets
 

@@ -1,5 +1,6 @@
 -- Segments of packets as units in frames, and these units on their MAPs.
 use Rattle.std.proofs.Common.{◌≡◌, ◌≢◌, ℕ, zero, suc, ◌+◌, ◌*◌, ◌<◌, ◌≤◌, ◌==◌, true, false, List, [], ◌∷◌, ◌++◌, length, drop, map, flat_map, refl, sym, ◌∙◌, ap, ap₂, arith, append-nil, eq-eqb, ne_eqb}
+use Rattle.std.proofs.lemmas.Grind.{common_steps}
 use Rattle.std.specs.List.{AllByRecursion, range_with_len, slice_index_or}
 use Rattle.std.proofs.lemmas.Bool.Decides.{nat_tests}
 use Rattle.std.proofs.lemmas.List.{drop_at, take_at, map-append, length-take}
@@ -74,9 +75,7 @@ module _ (room map_id : ℕ) where
   part_is small packet number = grind (arith, flags_fit, length-take)
 
   pub packet_parts : map_id < 64 → (packet : List ℕ) → AllByRecursion (IsSegment room (λ m. m ≡ map_id)) (segments_of_packet packet)
-  packet_parts small packet =
-      let numbers = range_with_len 0 (segment_count room packet) in
-      each-map (IsSegment room (λ m. m ≡ map_id)) (part_at packet) numbers (each-every (λ n. IsSegment room (λ m. m ≡ map_id) (part_at packet n)) (part_is small packet) numbers)
+  packet_parts small packet = grind (arith, common_steps, each-map, each-every, part_is)
 
   pub packets_parts : map_id < 64 → (packets : List (List ℕ)) → AllByRecursion (IsSegment room (λ m. m ≡ map_id)) (flat_map segments_of_packet packets)
   packets_parts small packets = grind (arith, each-flat_map, each-every, packet_parts)

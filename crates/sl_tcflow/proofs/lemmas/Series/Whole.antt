@@ -68,15 +68,7 @@ told_of_whole none told nothing true [] is = refl
 told_of_whole none told nothing true (unit ∷ units) is = nothing unit
 
 pub plain_unit_has_tail_alone : PlainUnitHasTailAlone
-plain_unit_has_tail_alone r views next plain =
-    let before = segments_of r next.vc (map_by r next) views in
-    let none : incomplete_of before ≡ None = no_plain_series_is_incomplete r next.vc (map_by r next) views plain in
-    let units = unit_by (verdict_on r views next) next.content in
-    record {
-      stray = told_of_whole false (stray_of before) (λ unit. not_stray before unit) (is_plain r next.vc) units plain;
-      dropped = told_of_whole None (dropped_of before) (λ unit. none_dropped before unit none) (is_plain r next.vc) units plain;
-      long = told_of_whole false (long_of before) (λ unit. none_long before unit) (is_plain r next.vc) units plain;
-    }
+plain_unit_has_tail_alone r views next plain = search (arith, no_plain_series_is_incomplete, told_of_whole, not_stray, none_dropped, none_long)
 
 -- ---- whole segments
 

@@ -157,7 +157,9 @@ def run(name: str, main: Callable[[List[str]], int], text: Optional[str]) -> NoR
         sys.stdout.flush()
     except (OSError, Stopped):
         status = 2
-        # what can't be written any more, or isn't wanted, isn't tried again as Python ends
+        # what can't be written any more, or isn't wanted, isn't tried again as Python ends, which nothing breaks off
+        for number in STOPS:
+            signal.signal(number, signal.SIG_IGN)
         os.dup2(os.open(os.devnull, os.O_WRONLY), 1)
     sys.exit(status)
 
@@ -211,7 +213,8 @@ def _streams(name: str) -> None:
 
 
 def _stop(*_: Any) -> NoReturn:
-    # a second signal mustn't break off what the first one ends, and what Python does at its own end
+    # a second signal mustn't break off what the first one ends. It isn't SIG_IGN yet: of a signal that has come already
+    # Python would say that it is ignored
     for number in STOPS:
-        signal.signal(number, signal.SIG_IGN)
+        signal.signal(number, lambda *_: None)
     raise Stopped(2)

@@ -110,9 +110,9 @@ def closings(frame: bytes, trailer: int) -> int:
 
 
 class Frames:
-    """What stretches of frames of one length show."""
+    """What stretches of frames of one length show; `headed` leaves out what packets and the ends of frames do."""
 
-    def __init__(self, stretches: Iterable[Sequence[bytes]], length: int) -> None:
+    def __init__(self, stretches: Iterable[Sequence[bytes]], length: int, headed: bool = False) -> None:
         stretches = list(stretches)
         self.length, self.number = length, sum(map(len, stretches))
         self.scids: Counter[int] = counter()
@@ -120,7 +120,7 @@ class Frames:
         self.right: Counter[int] = counter()
         self.fields: Counter[Channel] = counter()
         self.risen: Counter[int] = counter()
-        self.secondary = self.access = self.followed = 0
+        self.secondary, self.access, self.followed = 0, 0, FOLLOWED * headed
         self.steps: Counter[str] = counter()
         self.pairs: Counter[str] = counter()
         # By the octets after the data: packets that go on, or don't; frames whose end shows them, or doesn't (None).

@@ -28,10 +28,11 @@ def likeliest(recording: RecordingFile) -> Answer:
     answers = tm(recording, head)
     if not any(answer.sure and answer.checked for answer in answers):
         answers += tc(recording, head)
-    if not any(answer.sure or answer.what.startswith("TC") and answer.covered >= 0.95 and answer.weight >= 512
-               for answer in answers):
-        answers += shifted_tm(recording, head)
     packets = space_packets(recording, head)
+    if not (packets and packets.weight >= 2000) and not any(
+            answer.sure or answer.what.startswith("TC") and answer.covered >= 0.95 and answer.weight >= 512
+            for answer in answers):
+        answers += shifted_tm(recording, head)
     if packets:
         answers.append(packets)
     sure = [answer for answer in answers if answer.sure]

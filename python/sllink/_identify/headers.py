@@ -61,5 +61,5 @@ def spacecraft(head: bytes, frames: Frames) -> List[int]:
     block = head[:4 * ROWS * length]
     for phase, _ in phases(block, length, None, 4 * ROWS).most_common(4):
         found = [block[at:at + length] for at in range(phase, len(block) - length + 1, length)]
-        risen.update(Frames([found], length).risen)
+        risen.update(Frames([found], length, True).risen)
     return [key for key, number in risen.most_common(1) if number]

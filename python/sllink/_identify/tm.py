@@ -8,7 +8,7 @@ from .answer import (HEAD, WHOLE, Answer, RecordingFile, astray, field_line, fra
 from .headers import ROWS, phases, spacecraft
 from .tm_search import TmSearch
 
-TRIED = 24                                                # lengths that are tried
+FIRST, TRIED = 256, 24                                    # lengths that are looked at first; that are tried
 COMPLETED = 3                                             # lengths of which further places are read
 
 
@@ -16,11 +16,11 @@ def tm(recording: RecordingFile, head: bytes) -> List[Answer]:
     """What the recording is as TM frames, by each length that may fit: first those that error control speaks for, and
     then from the shortest on."""
     candidates: List[Tuple[bool, int, Frames]] = []
-    for stride, _, rows in strides(head):
+    for stride, _, rows in sorted(strides(head), key=lambda it: -it[1] / it[2])[:FIRST]:
         recording.look(min(rows, 64) * stride, 4 * min(rows, 64))
         frames = [head[at:at + stride] for at in range(0, min(rows, 64) * stride, stride)]
-        known = Frames([frames], stride)
-        first = Frames([frames[:12]], stride)
+        known = Frames([frames], stride, True)
+        first = Frames([frames[:12]], stride, True)
         if known.checked() >= 2 or any(it.share >= 0.5 and it.rising()[1] >= 0.3 for it in (known, first)):
             candidates.append((known.checked() < 2, stride, known if known.share >= 0.5 else first))
     answers: List[Answer] = []
@@ -53,7 +53,7 @@ def shifted_tm(recording: RecordingFile, head: bytes) -> List[Answer]:
         candidates: List[Tuple[int, int, Frames]] = []
         for _, stride, at in sorted(found, key=lambda it: (-it[0], it[1]))[:4 * TRIED]:
             stretch = [block[offset:offset + stride] for offset in range(at, len(block) - stride + 1, stride)][:ROWS]
-            candidates.append((stride, at, Frames([stretch], stride)))
+            candidates.append((stride, at, Frames([stretch], stride, True)))
         candidates = sorted(candidates, key=lambda candidate: candidate[2].evidence, reverse=True)[:TRIED]
         best: Dict[int, Answer] = {}
         for stride, at, frames in sorted(candidates, key=lambda candidate: candidate[:2]):

@@ -22,7 +22,8 @@ mkdir "$room/top" "$room/tmp" "$room/bin" "$room/log"
 ln -s "$root/examples" "$root/docs" "$root/tools" "$root/python" "$room/top"
 ln -s "$program" "$room/bin/sllink"
 for tool in "$root"/tools/*; do ln -s "$tool" "$room/bin"; done
-export SLLINK=$program TMPDIR=$room/tmp PATH=$room/bin:$PATH PYTHONDONTWRITEBYTECODE=1 PYTHONPATH=$root/python
+export SLLINK=$program TMPDIR=$room/tmp PATH=$room/bin:$PATH PYTHONDONTWRITEBYTECODE=1
+export PYTHONPATH=$root/python:$root/tests/lib
 cd "$room/top" || exit 1
 log=$room/log
 caches=$(find "$root/tools" "$root/python" -name __pycache__)
@@ -128,37 +129,59 @@ goes_away() {
   expect "$*: the reader goes away" "2 " "$status $(cat "$log/errors")"
 }
 
+# is_left COMMAND..: whoever reads its output goes away after a line
+is_left() {
+  # shellcheck disable=SC2016
+  run bash -c '"$@" | head -n 1; exit "${PIPESTATUS[0]}"' - "$@"
+  expect "$*: the reader goes away after a line" "2 1 " "$status $(wc -l < "$log/output") $(cat "$log/errors")"
+}
+
 # program_of NAME LINE..: a program that answers to --version as sllink does, and else runs these lines of a shell
 program_of() {
   printf '%s\n' '#!/bin/sh' '[ "$1" != --version ] || { echo "sllink 1.0.0"; exit; }' "${@:2}" > "$1"
   chmod +x "$1"
 }
 
+# declines LINE COMMAND..: the same, and nothing on the standard output
+declines() {
+  refuses "$@"
+  expect "${*:2}: output" "" "$(cat "$log/output")"
+}
+
 # refuses_options COMMAND..: a tool, with all its words but options: what it makes of wrong options, of a program that isn't
-# there or isn't sllink, of a standard output that is full, and its help. The first recording is also on the standard input,
-# as a path.
+# there, isn't sllink, or has a status or totals that aren't those of a run to the end, of a standard output that is full,
+# and its help. The first recording is also on the standard input, as a path.
 refuses_options() {
   local words=("$@") tool=("$1")
   [ "$1" != python3 ] || tool=("${@:1:3}")
   local called=${tool[*]}
-  refuses "$called: sllink: *--scid*" "${words[@]}" < /dev/null
-  refuses "$called: sllink: *--spare*" "${words[@]}" --scid 1 --spare < /dev/null
-  refuses "$called: sllink: *--scid*" "${words[@]}" --scid 1 --scid 1 < /dev/null
-  refuses "$called: sllink: *--tm-lenght*" "${words[@]}" --scid 1 --tm-lenght 32 < /dev/null
+  declines "$called: sllink: *--scid*" "${words[@]}" < /dev/null
+  declines "$called: sllink: *--spare*" "${words[@]}" --scid 1 --spare < /dev/null
+  declines "$called: sllink: *--scid*" "${words[@]}" --scid 1 --scid 1 < /dev/null
+  declines "$called: sllink: *--tm-lenght*" "${words[@]}" --scid 1 --tm-lenght 32 < /dev/null
   local option
   for option in --scid=0x2A7 --scid=1024 --scid=70000; do
-    refuses "$called: sllink: *; --scid takes a decimal number from 0 to 1023" "${words[@]}" $option < /dev/null
+    declines "$called: sllink: *; --scid takes a decimal number from 0 to 1023" "${words[@]}" $option < /dev/null
   done
-  for option in --tm-length=31 --tm-length=70000 --tc-length=15 --window=3 --vr=256 --vr-of=5:57,0:3 --vr-of=5=57 \
-    --plain=5-7 --limit=1G --limit=0; do
-    refuses "$called: sllink: *; ${option%%=*} takes *" "${words[@]}" --scid 1 $option < /dev/null
+  for option in "${wrong[@]}"; do
+    declines "$called: sllink: *; ${option%%=*} takes *" "${words[@]}" --scid 1 $option < /dev/null
   done
-  refuses "$called: *sllink: too long; *--limit" "${words[@]}" --scid 1 --limit 100 < <(echo $first)
-  SLLINK=$room/none refuses "$called: $room/none: *" "${words[@]}" --scid 1 < /dev/null
-  SLLINK=$room refuses "$called: $room: *" "${words[@]}" --scid 1 < /dev/null
-  refuses_programs "${words[@]}"
-  refuses "$called: *$called tm|tc *" "${tool[@]}" < /dev/null
-  refuses "$called: *$called tm|tc *" "${tool[@]}" tx $first $first --scid 1 < /dev/null
+  declines "$called: *sllink: too long; *--limit" "${words[@]}" --scid 1 --limit 100 < <(echo $first)
+  SLLINK=$room/none declines "$called: $room/none: *" "${words[@]}" --scid 1 < /dev/null
+  SLLINK=$room declines "$called: $room: *" "${words[@]}" --scid 1 < /dev/null
+  local other line
+  for other in false true yes echo cat; do
+    SLLINK=$(type -P $other) refuses "$called: */$other: isn't sllink, *" "${words[@]}" "${tm[@]}" < <(echo $first)
+  done
+  for line in 'exec yes' 'echo "sllink 1.0.0 of another kind"'; do
+    program_of other "$line"
+    sed -i 2d other
+    SLLINK=./other refuses "$called: ./other: isn't sllink, *" "${words[@]}" "${tm[@]}" < <(echo $first)
+  done
+  program_of other 'exit 1'
+  SLLINK=./other refuses "$called: *sllink: *" "${words[@]}" "${tm[@]}" < <(echo $first)
+  declines "$called: *$called tm|tc *" "${tool[@]}" < /dev/null
+  declines "$called: *$called tm|tc *" "${tool[@]}" tx $first $first --scid 1 < /dev/null
   run "${words[@]}" --help < /dev/null
   expect "$called --help" "0 1" "$status $(grep -c "^ *$called tm|tc " "$log/output")"
   begin
@@ -168,22 +191,22 @@ refuses_options() {
   goes_away "${words[@]}" --help < /dev/null
 }
 
-# refuses_programs COMMAND..: a tool, with all its words but options: what it makes of programs that aren't sllink, and of
-# one whose status or whose totals aren't those of a run to the end
-refuses_programs() {
-  local other called=$1
+# refuses_files COMMAND..: a tool, with @ in place of a recording: what it makes of one that isn't there, is a folder, a pipe
+# or a device, or has a name like an option
+refuses_files() {
+  local called=$1 name why
   [ "$1" != python3 ] || called=${*:1:3}
-  for other in false true yes echo cat; do
-    SLLINK=$(type -P $other) refuses "$called: */$other: isn't sllink, *" "$@" "${tm[@]}" < <(echo $first)
-  done
-  program_of other 'exec yes'
-  sed -i 2d other
-  SLLINK=./other refuses "$called: ./other: isn't sllink, *" "$@" "${tm[@]}" < <(echo $first)
-  program_of other 'echo "sllink 1.0.0 of another kind"'
-  sed -i 2d other
-  SLLINK=./other refuses "$called: ./other: isn't sllink, *" "$@" "${tm[@]}" < <(echo $first)
-  program_of other 'exit 1'
-  SLLINK=./other refuses "$called: *sllink: *" "$@" "${tm[@]}" < <(echo $first)
+  mkdir -p folder
+  [ -e fifo ] || mkfifo fifo
+  while IFS=: read -r name why; do
+    declines "$called: $name:$why" timeout 60 "${@/#@/$name}" "${tm[@]}" < /dev/null
+  done << 'END'
+missing.tm: there is no such file
+folder: is a folder
+fifo: is no file that can be read more than once
+/dev/null: is no file that can be read more than once
+-dash.tm: is no option; a recording of this name is ./-dash.tm
+END
 }
 
 # stops COMMAND..: a tool, with all its words but options, is stopped while sllink runs: it ends with status 2 and
@@ -232,9 +255,52 @@ frame() {
   printf '%020d' 0 | tr 0 "$2"
 }
 
+# make_pass WORD..: a recording of a pass
+make_pass() { python3 "$root/tests/lib/passes.py" "$@"; }
+
+# mistakes: two passes, pass.tm and pass.tc, and what is taken by mistake for a recording of the one or the other
+mistakes() {
+  make_pass tm > pass.tm
+  make_pass tc > pass.tc
+  make_pass tm --marked > asm.tm
+  make_pass tm --randomised > mixed.tm
+  make_pass tm --no-field > nofecf.tm
+  make_pass tm --secondary > secondary.tm
+  make_pass tm --scid 341 > other.tm
+  make_pass tm --length 100 --no-field > small.tm
+  perl -0777 -ne 'print $_ . "\0" x 160 for /(.{1115})/sg' pass.tm > parity.tm
+  perl -0777 -ne 'print substr($_, 0, 1113) for /(.{1115})/sg' pass.tm > bare.tm
+  perl -0777 -ne 'print "\xeb\x90$_\xc5\xc5\xc5\xc5\xc5\xc5\xc5\x79"' pass.tc > cltu.tc
+  (head -c 60000 pass.tm; tail -c +60068 pass.tm) > cut.tm
+  gzip -n < pass.tm > pass.tm.gz
+  printf '\xd4\xc3\xb2\xa1' | cat - pass.tm > pass.pcap
+  od -A n -v -t x1 pass.tm | tr -d ' \n' > hex.tm
+}
+
+# Those with options that are wrong for them, what their frames show against these, and what sllink-identify has for them.
+questions="\
+tm pass.tm --scid 679|--tm-fecf isn't given, and its frames have an error control field|sllink * --tm-fecf < pass.tm
+tm nofecf.tm --scid 679 --tm-fecf|--tm-fecf is given, and its frames have no error control field|sllink * 1115 < nofecf.tm
+tm pass.tm --scid 679 --tm-fecf --tm-length 1113|--tm-length is 1113, and its frames lie 1115 octets apart|sllink check *
+tm pass.tm --scid 679 --tm-length=223|--tm-length is 223, and its frames lie 1115 octets apart|sllink check *
+tm small.tm --scid 679 --tm-length 200|--tm-length is 200, and its frames lie 100 octets apart|sllink * 100 < small.tm
+tm other.tm --scid 679 --tm-fecf|--scid is 679, and most of its frames are of spacecraft 341|sllink check tm --scid 341 *
+tm mixed.tm --scid 679 --tm-fecf|its frames are randomised|perl *
+tm asm.tm --scid 679 --tm-fecf|there are sync markers (1ACFFC1D) between its frames|perl *
+tc pass.tc --scid 679|--tc-fecf isn't given, and its frames have an error control field|sllink check tc *--tc-fecf*
+tc pass.tc --scid 5 --tc-fecf|--scid is 5, and most of its frames are of spacecraft 679|sllink check tc --scid 679 *"
+
 first=examples/first-station.tm second=examples/second-station.tm third=examples/third-station.tm
 uplink=examples/uplink.tc
 tm=(--scid 1 --tm-length 32 --tm-fecf)
 short=(--scid 1 --tm-length 32)
 tc=(--scid 1 --tc-length 16)
+of_pass=(--scid 679 --tm-fecf)
+of_commands=(--scid 679 --tc-fecf)
 totals="frames 11 skipped 0 packets 6 idle 2 anomalies 0"
+# Values that no option takes.
+wrong=(--tm-length=31 --tm-length=70000 --tc-length=15 --window=3 --vr=256 --vr-of=5:57,0:3 --vr-of=5=57 --plain=5-7
+  --limit=1G --limit=0)
+# Names at which a shell, a terminal or a page could stumble.
+odd=('$(touch stumbled).tm' '`touch stumbled`' '; touch stumbled' '-rf' '--help' "a name & 'more' \"..\".tm" ' ' '*' '%s\n'
+  $'line\nfeed.tm' $'not utf-8 \xff\xfe.tm' $'a control \x01.tm' '<script>alert(1)<script>' '"><b>&amp;')

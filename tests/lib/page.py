@@ -31,10 +31,6 @@ class Page(HTMLParser):
             self.open.append(tag)
             if tag not in IN_LINE:
                 self.lines.append("")
-        self.look(tag, attributes)
-
-    def look(self, tag, attributes):
-        """What an element has to have, and what not."""
         if tag == "html":
             self.language = attributes.get("lang")
         if tag == "th" and attributes.get("scope") not in ("col", "row"):
@@ -51,10 +47,9 @@ class Page(HTMLParser):
                 self.complaints.append(f"the id {attributes['id']} twice")
             self.ids.add(attributes["id"])
 
-    def handle_startendtag(self, tag, attrs):
-        self.look(tag, dict(attrs))
-
     def handle_endtag(self, tag):
+        if tag in VOID:
+            return
         if not self.open or self.open[-1] != tag:
             self.complaints.append(f"</{tag}> in {' '.join(self.open[-3:])}")
         else:

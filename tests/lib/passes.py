@@ -16,6 +16,7 @@ segments.
     --scid N        the spacecraft (679)
     --length N      octets of a TM frame (1115)
     --no-field      frames have no error control field
+    --secondary     TM frames have the secondary header flag
     --randomised    each frame is randomised, as for the link
     --marked        each frame comes after a sync marker
 
@@ -38,11 +39,6 @@ def packet(rng, apid, count, octets, kind=0):
     return recordings.packet(apid, count, recordings.data(rng, octets, "noise"), kind)
 
 
-def closed(frame, words):
-    """A frame, and its frame error control field where it has one."""
-    return recordings.closed(frame, not words.no_field)
-
-
 @lru_cache
 def sequence(kind, octets=2048):
     """The first octets of the sequence that randomises frames."""
@@ -57,41 +53,30 @@ def mixed(octets, kind):
     return bytes(octet ^ other for octet, other in zip(octets, sequence(kind)))
 
 
-class Channel:
-    """A virtual channel of the downlink: the packets that wait, and its counts."""
+class Channel(recordings.Stream):
+    """A virtual channel of the downlink, and its counts."""
 
     def __init__(self, rng, vc, words):
-        self.rng, self.vc, self.words, self.about = rng, vc, words, words.octets
-        self.octets, self.starts, self.count = b"", [], 0
+        self.rng, self.vc, self.words, self.about, self.count = rng, vc, words, words.octets, 0
         self.counts = {100 * (vc + 1) + n: 0 for n in range(3)}
 
     def room(self, word):
         """The octets of a frame's data field."""
         return self.words.length - 6 - len(word) - (0 if self.words.no_field else 2)
 
-    def frame(self, mc, word):
-        """The next frame."""
-        room = self.room(word)
-        while len(self.octets) < room:
-            apid = self.rng.choice(list(self.counts))
-            self.starts.append(len(self.octets))
-            size = self.rng.randint(self.about // 2, self.about * 3 // 2)
-            self.octets += packet(self.rng, apid, self.counts[apid], max(size - 6, 1))
-            self.counts[apid] += 1
-        first = next((start for start in self.starts if start < room), 2047)
-        frame = self.header(mc, 0x1800 | first, word) + self.octets[:room] + word
-        self.octets, self.starts = self.octets[room:], [start - room for start in self.starts if start >= room]
-        return closed(frame, self.words)
+    def packet(self):
+        """The next packet."""
+        apid = self.rng.choice(list(self.counts))
+        self.counts[apid] += 1
+        size = self.rng.randint(self.about // 2, self.about * 3 // 2)
+        return packet(self.rng, apid, self.counts[apid] - 1, max(size - 6, 1))
 
-    def idle(self, mc, word):
-        """The next frame, with only idle data."""
-        return closed(self.header(mc, 0x1FFE, word) + b"\x55" * self.room(word) + word, self.words)
-
-    def header(self, mc, flags, word):
-        """The primary header."""
-        first = self.words.scid << 4 | self.vc << 1 | (len(word) > 0)
+    def frame(self, mc, word, is_idle):
+        """The next frame, of packets or of idle data alone."""
+        field, first = (b"\x55" * self.room(word), 2046) if is_idle else self.field(self.room(word))
         self.count += 1
-        return first.to_bytes(2, "big") + bytes([mc % 256, (self.count - 1) % 256]) + flags.to_bytes(2, "big")
+        return recordings.tm_frame(self.words.scid, self.vc, mc, self.count - 1, first | self.words.secondary << 15,
+                                   field, not self.words.no_field, word)
 
 
 def downlink(words):
@@ -104,19 +89,12 @@ def downlink(words):
         channel = rng.choices(channels, weights)[0]
         accepted += rng.random() < 0.02
         word = bytes([1, 0, 0x20 if 300 <= mc % 4000 < 420 else 0, accepted % 256]) if mc % 4 == 0 else b""
-        yield channel.idle(mc, word) if channel.vc == words.channels - 1 > 0 else channel.frame(mc, word)
-
-
-def tc_frame(words, vc, ns, data, bypass=False, command=False):
-    """A TC frame."""
-    first = bypass << 13 | command << 12 | words.scid
-    last = 5 + len(data) + (0 if words.no_field else 2) - 1
-    return closed(first.to_bytes(2, "big") + (vc << 10 | last).to_bytes(2, "big") + bytes([ns % 256]) + data, words)
+        yield channel.frame(mc, word, channel.vc == words.channels - 1 > 0)
 
 
 def uplink(words):
     """The frames of an uplink."""
-    rng, frame = random.Random(words.seed), partial(tc_frame, words)
+    rng, frame = random.Random(words.seed), partial(recordings.tc_frame, words.scid, fecf=not words.no_field)
     sent = [0] * words.channels
     counts = [0] * words.channels
     number = 0
@@ -128,9 +106,9 @@ def uplink(words):
         counts[vc] += 1
         if what < 0.04:                                   # outside, some that are refused, and the way out
             frames = [frame(vc, sent[vc] + 100 + n, b"\xc0" + octets) for n in range(rng.randint(1, 12))]
-            frames += [frame(vc, 0, data, True, True) for data in (b"\0", bytes([0x82, 0, sent[vc] % 256]))]
+            frames += [frame(vc, 0, data, kind=3) for data in (b"\0", bytes([0x82, 0, sent[vc] % 256]))]
         elif what < 0.1:
-            frames = [frame(vc, 0, b"\xc1" + octets, True)]
+            frames = [frame(vc, 0, b"\xc1" + octets, kind=2)]
         elif what < 0.2:                                  # in three segments
             third = len(octets) // 3
             parts = b"\x42" + octets[:third], b"\x02" + octets[third:2 * third], b"\x82" + octets[2 * third:]
@@ -180,7 +158,7 @@ def parsed(line=None):
     parser.add_argument("--from", dest="start", type=int, default=0)
     for name in "lose", "errors":
         parser.add_argument(f"--{name}", type=float, default=0)
-    for name in "no-field", "randomised", "marked":
+    for name in "no-field", "secondary", "randomised", "marked":
         parser.add_argument(f"--{name}", action="store_true")
     return parser.parse_args(line)
 

@@ -12,6 +12,13 @@ from collections import namedtuple
 Recording = namedtuple("Recording", "kind octets scid length fecf ocf plain starts frames shifts whole")
 
 
+def write(name, octets):
+    """Writes a file, and returns its name."""
+    with open(name, "wb") as file:
+        file.write(octets)
+    return name
+
+
 def packet(apid, count, data, kind=0):
     """A packet with these octets after its header."""
     return ((kind << 12 | apid).to_bytes(2, "big") + (3 << 14 | count % 16384).to_bytes(2, "big")
@@ -30,8 +37,24 @@ def data(random, length, style):
     return random.getrandbits(8 * length).to_bytes(length, "big")
 
 
-class Source:
-    """The packets of a virtual channel, without an end, taken by fields of frames."""
+class Stream:
+    """The packets of a virtual channel, without an end, taken by fields of frames. What has `packet` is the next one."""
+
+    octets, starts = b"", ()
+
+    def field(self, room):
+        """The next octets of the channel, and the pointer to the first packet that starts in them."""
+        starts = list(self.starts)
+        while len(self.octets) < room:
+            starts.append(len(self.octets))
+            self.octets += self.packet()
+        taken, self.octets = self.octets[:room], self.octets[room:]
+        self.starts = [start - room for start in starts if start >= room]
+        return taken, starts[0] if starts and starts[0] < room else 2047
+
+
+class Source(Stream):
+    """A random one."""
 
     def __init__(self, random, room):
         self.random = random
@@ -39,23 +62,15 @@ class Source:
         self.style = random.choice(("zeros", "fill", "ramp", "noise"))
         self.shortest = random.choice((1, 10, 50))
         self.longest = self.shortest + random.choice((0, 20, room, 3 * room))
-        self.octets, self.starts = b"", []
 
-    def field(self, room):
-        """The next octets of the channel, and the pointer to the first packet that starts in them."""
-        while len(self.octets) < room:
-            self.starts.append(len(self.octets))
-            if self.random.random() < 0.05:
-                self.octets += packet(2047, 0, bytes(self.random.randint(1, 40)))
-                continue
-            apid = self.random.choice(list(self.apids))
-            length = self.random.randint(self.shortest, self.longest)
-            self.octets += packet(apid, self.apids[apid], data(self.random, length, self.style))
-            self.apids[apid] += 1
-        first = self.starts[0] if self.starts and self.starts[0] < room else 2047
-        taken, self.octets = self.octets[:room], self.octets[room:]
-        self.starts = [start - room for start in self.starts if start >= room]
-        return taken, first
+    def packet(self):
+        """The next packet."""
+        if self.random.random() < 0.05:
+            return packet(2047, 0, bytes(self.random.randint(1, 40)))
+        apid = self.random.choice(list(self.apids))
+        self.apids[apid] += 1
+        length = self.random.randint(self.shortest, self.longest)
+        return packet(apid, self.apids[apid] - 1, data(self.random, length, self.style))
 
 
 def flipped(random, frame):
@@ -71,6 +86,19 @@ def closed(frame, fecf):
     return frame + crc_hqx(frame, 0xFFFF).to_bytes(2, "big") if fecf else frame
 
 
+def tm_frame(scid, vc, mc, vcc, first, field, fecf=False, word=b""):
+    """A TM frame with these counts and this pointer, and with an operational control field where there is one."""
+    header = (scid << 4 | vc << 1 | (word != b"")).to_bytes(2, "big") + bytes([mc % 256, vcc % 256])
+    return closed(header + (0x1800 | first).to_bytes(2, "big") + field + word, fecf)
+
+
+def tc_frame(scid, vc, ns, field, fecf=False, kind=0):
+    """A TC frame: its kind is 0 for type AD, 2 for BD, 3 for BC."""
+    last = 4 + len(field) + 2 * fecf
+    return closed((kind << 12 | scid).to_bytes(2, "big") + (vc << 10 | last).to_bytes(2, "big") + bytes([ns % 256]) + field,
+                  fecf)
+
+
 def tm_frames(random, frames, scid, length, fecf, ocf, vcs):
     """TM frames of one spacecraft, as they were sent. `ocf` is the share of the channels that have a control field."""
     word = {vc: random.random() < ocf for vc in (*vcs, 7)}
@@ -81,9 +109,8 @@ def tm_frames(random, frames, scid, length, fecf, ocf, vcs):
     for _ in range(frames):
         vc = 7 if random.random() < idle else random.choices(vcs, weights)[0]
         octets, first = (b"\x55" * room[7], 2046) if vc == 7 else sources[vc].field(room[vc])
-        header = (scid << 4 | vc << 1 | word[vc]).to_bytes(2, "big") + bytes([mc, vccs[vc]])
         control = random.choice((b"\x01\x00\x00", b"\x01\x04\x08")) + bytes([mc // 8]) if word[vc] else b""
-        yield closed(header + (0x1800 | first).to_bytes(2, "big") + octets + control, fecf)
+        yield tm_frame(scid, vc, mc, vccs[vc], first, octets, fecf, control)
         mc, vccs[vc] = (mc + 1) % 256, (vccs[vc] + 1) % 256
 
 
@@ -108,21 +135,17 @@ def tc_frames(random, frames, scid, longest, fecf, vcs, plain, starts):
     maps = {vc: random.sample(range(64), random.randint(1, 3)) for vc in vcs}
     expedited = random.choice((0, 0.1, 0.9))
 
-    def frame(kind, vc, number, field):
-        size = 4 + len(field) + 2 * fecf
-        return closed((kind << 12 | scid).to_bytes(2, "big") + (vc << 10 | size).to_bytes(2, "big")
-                      + bytes([number]) + field, fecf)
-
     for _ in range(frames):
         if not waiting:
             vc = random.choice(vcs)
             count += 1
             if random.random() < 0.05:
-                waiting = [frame(3, vc, 0, b"\0" if random.random() < 0.7 else bytes([0x82, 0, ns[vc]]))]
+                data_field = b"\0" if random.random() < 0.7 else bytes([0x82, 0, ns[vc]])
+                waiting = [tc_frame(scid, vc, 0, data_field, fecf, 3)]
             else:
                 kind = 2 if random.random() < expedited else 0
                 for field in tc_unit(random, count, longest, vc in plain, apids[vc], maps[vc]):
-                    waiting.append(frame(kind, vc, ns[vc] if kind == 0 else 0, field))
+                    waiting.append(tc_frame(scid, vc, ns[vc] if kind == 0 else 0, field, fecf, kind))
                     ns[vc] = (ns[vc] + (kind == 0)) % 256
                 if random.random() < 0.02:
                     waiting.append(waiting[-1])

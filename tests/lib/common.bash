@@ -222,28 +222,6 @@ stops() {
   expect "$1, stopped" "2 " "$? $(ls -A "$TMPDIR")"
 }
 
-# shown PAGE: the commands of the page that stand after a `$`, all in one shell, and what stands below each; the one that
-# differs first fails
-shown() {
-  awk -v script="$log/script" -v wanted="$log/wanted" '
-    /^    \$ / {
-      n++; on = 1; said = 0
-      print "mark " n > script; print substr($0, 7) > script; print "@" n > wanted
-      next
-    }
-    on && !said && /^    > / { print substr($0, 7) > script; next }
-    on && /^    / { said = 1; print substr($0, 5) > wanted; next }
-    { on = 0 }
-    END { print n + 0 }' "$1" > "$log/number"
-  tried=$((tried + $(cat "$log/number") - 1))
-  begin
-  # A mark leaves the status of the command before it as it is.
-  # shellcheck disable=SC2016
-  (echo 'mark() { local status=$?; echo "@$1"; return $status; }'; cat "$log/script") > "$log/marked"
-  bash "$log/marked" > "$log/found" 2>&1
-  expect "$1: what it shows" "$(cat "$log/wanted")" "$(cat "$log/found")"
-}
-
 # has PROGRAM WHAT: is it there? If not, what it would have tried is skipped.
 has() {
   command -v "$1" > /dev/null || { skip "$script: $2: $1 isn't there"; false; }

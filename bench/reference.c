@@ -3,15 +3,16 @@
  *     cc -O3 -march=x86-64-v2 -o reference bench/reference.c        (on other machines without -march)
  *     reference show|check|packets|normalise tm|tc --scid N [OPTION..] < RECORDING
  *
- * It goes once over the recording in one fixed buffer, and takes no memory for a packet. `normalise` keeps the packets
- * of a channel end to end in one vector. Three variables of the environment choose other ways to do the same:
+ * It goes once over the recording in one fixed buffer, and takes no memory for a packet. `normalise` joins the packets
+ * of a channel in one vector: TC packets end to end, TM packets as the frames that it will write. Three variables of
+ * the environment choose other ways to do the same:
  *
- *     REFERENCE_CRC    clmul, slices or table: error control by carry-less multiplication, by slices of sixteen octets,
- *                      or octet by octet
+ *     REFERENCE_CRC    clmul, slices or table: error control by sums of vectors and carry-less multiplication, by
+ *                      slices of sixteen octets, or octet by octet
  *     REFERENCE_HEX    vectors or table: hexadecimal digits by vector instructions, or two digits of an octet from a
  *                      table
- *     REFERENCE_STORE  joined, vectors or freed: the packets of `normalise` end to end, or each in a vector of its own
- *                      that is kept, or given back once it is written
+ *     REFERENCE_STORE  joined, vectors or freed: the packets of `normalise` joined, or each in a vector of its own that
+ *                      is kept, or given back once it is written
  *
  * Where nothing is said, the first way that the processor has is taken.
  *
@@ -24,6 +25,7 @@
 #include <stdio.h>
 #include <stdlib.h>
 #include <string.h>
+#include <sys/mman.h>
 #include <unistd.h>
 #if defined(__x86_64__)
 #include <immintrin.h>
@@ -36,9 +38,11 @@
 
 typedef uint8_t octet;
 
-enum { PAGE = 4096, CHUNK = 1 << 16, MAPPED = 1 << 18, LONGEST_FRAME = 2048, LONGEST_PACKET = 65542 };
+enum { PAGE = 4096, CHUNK = 1 << 16, MAPPED = 1 << 18, AT_ONCE = 1 << 17 };
+enum { LONGEST_FRAME = 2048, LONGEST_PACKET = 65542 };
 enum { LONGEST_LINE = 256 };                            /* without the octets of a packet */
-enum verb { SHOW, CHECK, PACKETS, NORMALISE, JOIN };    /* JOIN is `normalise` with packets end to end */
+enum { SLACK = 128 };               /* octets beside those that are meant, read or written where it saves a branch */
+enum verb { SHOW, CHECK, PACKETS, NORMALISE, JOIN };    /* JOIN is `normalise` with packets joined */
 enum kind { TM, TC };
 
 /* The managed parameters. */
@@ -66,8 +70,9 @@ NEVER _Noreturn void stop(int status, const char *why)
 /* ---- Output ---- */
 
 /* Less than a chunk waits when a line or a frame is added. The longest line is that of a packet of 65,542 octets. */
-static octet out[CHUNK + 2 * LONGEST_PACKET + LONGEST_LINE];
-static octet *end_of_output = out;
+static octet output[SLACK + CHUNK + 2 * LONGEST_PACKET + LONGEST_LINE + SLACK];
+static octet *const out = output + SLACK;
+static octet *end_of_output = output + SLACK;
 
 NEVER void write_out(void)
 {
@@ -138,7 +143,13 @@ ALWAYS octet *put_number(octet *at, unsigned n)
 
 ALWAYS octet *put_any(octet *at, uint64_t n)
 {
-    return LIKELY(n < 10000) ? put_number(at, (unsigned)n) : put_long(at, n);
+    if (LIKELY(n < 10000)) return put_number(at, (unsigned)n);
+    if (n >= 1000000) return put_long(at, n);
+    unsigned high = (unsigned)n / 10000, low = (unsigned)n - 10000 * high;
+    at = put_octet(at, high);
+    memcpy(at, pairs[low / 100], 2);
+    memcpy(at + 2, pairs[low % 100], 2);
+    return at + 4;
 }
 
 /* Offsets rise, so the digits before the last four stay for a while. */
@@ -179,37 +190,38 @@ static octet *hex_by_table(octet *at, const octet *from, size_t octets)
 #if defined(__x86_64__)
 static const char DIGITS[] = "0123456789abcdef";
 
-/* Sixteen octets at once. Where they aren't a multiple, the last sixteen overlap those before them. */
+/* Sixty-four octets at once, and as many behind them as there are up to a multiple. */
 __attribute__((target("ssse3"))) static octet *hex_by_sse(octet *at, const octet *from, size_t octets)
 {
-    if (octets < 16) return hex_by_table(at, from, octets);
     const __m128i digits = _mm_loadu_si128((const void *)DIGITS), low = _mm_set1_epi8(15);
-    for (size_t i = 0;;) {
-        __m128i it = _mm_loadu_si128((const void *)(from + i));
-        __m128i first = _mm_shuffle_epi8(digits, _mm_and_si128(_mm_srli_epi16(it, 4), low));
-        __m128i second = _mm_shuffle_epi8(digits, _mm_and_si128(it, low));
-        _mm_storeu_si128((void *)(at + 2 * i), _mm_unpacklo_epi8(first, second));
-        _mm_storeu_si128((void *)(at + 2 * i + 16), _mm_unpackhi_epi8(first, second));
-        if (i + 16 == octets) return at + 2 * octets;
-        i = i + 32 <= octets ? i + 16 : octets - 16;
+    for (size_t begin = 0; begin < octets; begin += 64) {
+#pragma GCC unroll 4
+        for (size_t i = begin; i < begin + 64; i += 16) {
+            __m128i it = _mm_loadu_si128((const void *)(from + i));
+            __m128i first = _mm_shuffle_epi8(digits, _mm_and_si128(_mm_srli_epi16(it, 4), low));
+            __m128i second = _mm_shuffle_epi8(digits, _mm_and_si128(it, low));
+            _mm_storeu_si128((void *)(at + 2 * i), _mm_unpacklo_epi8(first, second));
+            _mm_storeu_si128((void *)(at + 2 * i + 16), _mm_unpackhi_epi8(first, second));
+        }
     }
+    return at + 2 * octets;
 }
 
-/* Thirty-two octets at once. */
 __attribute__((target("avx2"))) static octet *hex_by_avx2(octet *at, const octet *from, size_t octets)
 {
-    if (octets < 32) return hex_by_sse(at, from, octets);
     const __m256i digits = _mm256_broadcastsi128_si256(_mm_loadu_si128((const void *)DIGITS));
     const __m256i low = _mm256_set1_epi8(15);
-    for (size_t i = 0;;) {
-        __m256i it = _mm256_permute4x64_epi64(_mm256_loadu_si256((const void *)(from + i)), 0xD8);
-        __m256i first = _mm256_shuffle_epi8(digits, _mm256_and_si256(_mm256_srli_epi16(it, 4), low));
-        __m256i second = _mm256_shuffle_epi8(digits, _mm256_and_si256(it, low));
-        _mm256_storeu_si256((void *)(at + 2 * i), _mm256_unpacklo_epi8(first, second));
-        _mm256_storeu_si256((void *)(at + 2 * i + 32), _mm256_unpackhi_epi8(first, second));
-        if (i + 32 == octets) return at + 2 * octets;
-        i = i + 64 <= octets ? i + 32 : octets - 32;
+    for (size_t begin = 0; begin < octets; begin += 64) {
+#pragma GCC unroll 2
+        for (size_t i = begin; i < begin + 64; i += 32) {
+            __m256i it = _mm256_permute4x64_epi64(_mm256_loadu_si256((const void *)(from + i)), 0xD8);
+            __m256i first = _mm256_shuffle_epi8(digits, _mm256_and_si256(_mm256_srli_epi16(it, 4), low));
+            __m256i second = _mm256_shuffle_epi8(digits, _mm256_and_si256(it, low));
+            _mm256_storeu_si256((void *)(at + 2 * i), _mm256_unpacklo_epi8(first, second));
+            _mm256_storeu_si256((void *)(at + 2 * i + 32), _mm256_unpackhi_epi8(first, second));
+        }
     }
+    return at + 2 * octets;
 }
 #endif
 
@@ -233,6 +245,36 @@ ALWAYS octet *put_word(octet *at, const octet *word)
     return at + 8;
 }
 
+/* Texts that few bits decide. */
+
+enum { OF_FLAGS = 34, OF_CONTROL = 42 };
+static struct { char text[48]; } packet_texts[16], control_texts[32];
+static struct { char text[32]; } segment_texts[256];
+static octet segment_widths[256];
+
+/* " type 0 secondary 0 flags 0 count " and " lockout 0 wait 0 retransmit 0 farmb 0 vr " by the bits of their numbers,
+ * and " segment whole map 0 octets " by the segment header. */
+static void make_texts(void)
+{
+    static const char *const flags[] = {" segment middle map ", " segment first map ", " segment last map ",
+                                        " segment whole map "};
+    for (int n = 0; n < 16; n++) {
+        char *text = packet_texts[n].text;
+        memcpy(text, " type 0 secondary 0 flags 0 count ", OF_FLAGS);
+        text[6] += n >> 3, text[18] += n >> 2 & 1, text[26] += n & 3;
+    }
+    for (int n = 0; n < 32; n++) {
+        char *text = control_texts[n].text;
+        memcpy(text, " lockout 0 wait 0 retransmit 0 farmb 0 vr ", OF_CONTROL);
+        text[9] += n >> 4, text[16] += n >> 3 & 1, text[29] += n >> 2 & 1, text[37] += n & 3;
+    }
+    for (unsigned n = 0; n < 256; n++) {
+        octet *text = (octet *)segment_texts[n].text;
+        octet *end = TEXT(put_octet(put(text, flags[n >> 6], strlen(flags[n >> 6])), n & 63), " octets ");
+        segment_widths[n] = (octet)(end - text);
+    }
+}
+
 /* ---- Error control: the remainder by x^16 + x^12 + x^5 + 1, preset to ones ---- */
 
 /* slices[k][n]: the remainder of the octet n before k more octets and the sixteen zeros. */
@@ -246,28 +288,40 @@ static uint16_t crc_octets(uint16_t crc, const octet *from, size_t octets)
 
 static uint16_t crc_by_table(const octet *from, size_t octets) { return crc_octets(0xFFFF, from, octets); }
 
-/* The sum of the words of sixteen octets, each at its place. */
-ALWAYS uint16_t words_of(const octet *at)
+ALWAYS uint64_t eight_at(const octet *at)
 {
-    uint16_t sum = 0;
-#pragma GCC unroll 16
-    for (int i = 0; i < 16; i++) sum ^= slices[15 - i][at[i]];
-    return sum;
+    uint64_t it;
+    memcpy(&it, at, 8);
+    return __BYTE_ORDER__ == __ORDER_BIG_ENDIAN__ ? __builtin_bswap64(it) : it;
 }
+
+/* Octets in front of a message are read with it, and made zeros, which change no remainder there. From n on MASK keeps
+ * the last n octets of 64, and PRESET inverts the first two of these. */
+static const octet MASK[128] = {[64 ... 127] = 0xFF}, PRESET[192] = {[64] = 0xFF, [65] = 0xFF};
 
 static uint16_t crc_by_slices(const octet *from, size_t octets)
 {
-    uint16_t crc = 0xFFFF;
-    for (; octets >= 16; from += 16, octets -= 16) {
-        uint16_t sum = slices[15][from[0] ^ crc >> 8] ^ slices[14][from[1] ^ (crc & 255)];
+    size_t front = ((octets - 1) & 15) + 1;
+    const octet *mask = MASK + 48 + front, *preset = PRESET + 48 + front, *end = from + octets;
+    from += front;
+    uint64_t first = (eight_at(from - 16) & eight_at(mask)) ^ eight_at(preset);
+    uint64_t second = (eight_at(from - 8) & eight_at(mask + 8)) ^ eight_at(preset + 8);
+    uint16_t it = (uint16_t)(0xFF00 * (front == 1));
+#pragma GCC unroll 8
+    for (int i = 0; i < 8; i++)
+        it ^= slices[15 - i][first >> 8 * i & 255] ^ slices[7 - i][second >> 8 * i & 255];
+    for (; from < end; from += 16) {
+        uint16_t sum = slices[15][from[0] ^ it >> 8] ^ slices[14][from[1] ^ (it & 255)];
 #pragma GCC unroll 14
         for (int i = 2; i < 16; i++) sum ^= slices[15 - i][from[i]];
-        crc = sum;
+        it = sum;
     }
-    return crc_octets(crc, from, octets);
+    return it;
 }
 
 #if defined(__x86_64__)
+#define FOLDING __attribute__((target("avx2,pclmul")))
+
 /* x to the power n, modulo the generator. */
 static uint64_t power(unsigned n)
 {
@@ -276,55 +330,113 @@ static uint64_t power(unsigned n)
     return it;
 }
 
-static const octet TO_THE_END[32] = {0x80, 0x80, 0x80, 0x80, 0x80, 0x80, 0x80, 0x80, 0x80, 0x80, 0x80, 0x80, 0x80, 0x80,
-                                     0x80, 0x80, 0, 1, 2, 3, 4, 5, 6, 7, 8, 9, 10, 11, 12, 13, 14, 15};
-static const octet PRESET[48] = {[16] = 0xFF, [17] = 0xFF};
-static __m128i over_one, over_four;                     /* by which a block passes over one block, and over four */
+/* x to the power 64, divided by the generator. */
+static uint64_t quotient(void)
+{
+    uint64_t it = 0;
+    uint32_t rest = 1;
+    for (int i = 0; i < 64; i++) {
+        rest <<= 1, it <<= 1;
+        if (rest & 0x10000) rest ^= 0x11021, it |= 1;
+    }
+    return it;
+}
 
-#define CLMUL __attribute__((target("pclmul,ssse3")))
+/* By which the two halves of a block pass over four blocks; by which they come to the end, from each of the last four
+ * blocks; x to the power 64 and its quotient; the generator. */
+static __m128i over_four, to_the_end[4], of_64, generator;
 
-CLMUL ALWAYS __m128i passed(__m128i it, __m128i over)
+static void make_factors(void)
+{
+    over_four = _mm_set_epi64x((long long)power(576), (long long)power(512));
+    for (unsigned i = 0; i < 4; i++)
+        to_the_end[i] = _mm_set_epi64x((long long)power(464 - 128 * i), (long long)power(400 - 128 * i));
+    of_64 = _mm_set_epi64x((long long)quotient(), (long long)power(64));
+    generator = _mm_set_epi64x(0, 0x11021);
+}
+
+/* Four blocks of sixteen octets, as polynomials. */
+struct four { __m128i blocks[4]; };
+
+FOLDING ALWAYS __m128i passed(__m128i it, __m128i over)
 {
     return _mm_xor_si128(_mm_clmulepi64_si128(it, over, 0x11), _mm_clmulepi64_si128(it, over, 0x00));
 }
 
-CLMUL ALWAYS __m128i block_at(const octet *at)
+FOLDING ALWAYS __m256i sum(__m256i a, __m256i b) { return _mm256_xor_si256(a, b); }
+FOLDING ALWAYS __m256i vector_at(const octet *at) { return _mm256_loadu_si256((const void *)at); }
+
+FOLDING ALWAYS struct four turned(__m256i first, __m256i second)
 {
-    const __m128i turned = _mm_set_epi8(0, 1, 2, 3, 4, 5, 6, 7, 8, 9, 10, 11, 12, 13, 14, 15);
-    return _mm_shuffle_epi8(_mm_loadu_si128((const void *)at), turned);
+    const __m128i order = _mm_set_epi8(0, 1, 2, 3, 4, 5, 6, 7, 8, 9, 10, 11, 12, 13, 14, 15);
+    first = _mm256_shuffle_epi8(first, _mm256_broadcastsi128_si256(order));
+    second = _mm256_shuffle_epi8(second, _mm256_broadcastsi128_si256(order));
+    return (struct four){{_mm256_castsi256_si128(first), _mm256_extracti128_si256(first, 1),
+                          _mm256_castsi256_si128(second), _mm256_extracti128_si256(second, 1)}};
 }
 
-/* The octets before the first whole block stand at the end of a block of zeros: zeros in front change no remainder. */
-CLMUL static uint16_t crc_by_clmul(const octet *from, size_t octets)
+FOLDING ALWAYS struct four folded(struct four it, struct four next)
 {
-    if (octets < 32) return crc_octets(0xFFFF, from, octets);
-    const __m128i turned = _mm_set_epi8(0, 1, 2, 3, 4, 5, 6, 7, 8, 9, 10, 11, 12, 13, 14, 15);
-    size_t front = octets & 15, blocks = octets >> 4;
-    const __m128i to_the_end = _mm_loadu_si128((const void *)(TO_THE_END + front));
-    __m128i it = _mm_shuffle_epi8(_mm_loadu_si128((const void *)from), to_the_end);
-    it = _mm_shuffle_epi8(_mm_xor_si128(it, _mm_loadu_si128((const void *)(PRESET + front))), turned);
-    __m128i second = _mm_shuffle_epi8(_mm_loadu_si128((const void *)(PRESET + front + 16)), turned);
-    from += front;
-    it = _mm_xor_si128(_mm_xor_si128(passed(it, over_one), second), block_at(from));
-    from += 16, blocks--;
-    if (blocks >= 7) {
-        for (; (blocks & 3) != 3; blocks--, from += 16) it = _mm_xor_si128(passed(it, over_one), block_at(from));
-        __m128i a = it, b = block_at(from), c = block_at(from + 16), d = block_at(from + 32);
-        for (blocks -= 3, from += 48; blocks; blocks -= 4, from += 64) {
-            a = _mm_xor_si128(passed(a, over_four), block_at(from));
-            b = _mm_xor_si128(passed(b, over_four), block_at(from + 16));
-            c = _mm_xor_si128(passed(c, over_four), block_at(from + 32));
-            d = _mm_xor_si128(passed(d, over_four), block_at(from + 48));
-        }
-        b = _mm_xor_si128(b, passed(a, over_one));
-        c = _mm_xor_si128(c, passed(b, over_one));
-        it = _mm_xor_si128(d, passed(c, over_one));
-    } else {
-        for (; blocks; blocks--, from += 16) it = _mm_xor_si128(passed(it, over_one), block_at(from));
+    for (int i = 0; i < 4; i++) next.blocks[i] = _mm_xor_si128(next.blocks[i], passed(it.blocks[i], over_four));
+    return next;
+}
+
+/* The remainder of four blocks and sixteen zeros: to 80 bits, to 64, and by the quotient of these (Barrett). */
+FOLDING ALWAYS uint16_t remainder_of(struct four it)
+{
+    __m128i rest = _mm_xor_si128(passed(it.blocks[0], to_the_end[0]), passed(it.blocks[1], to_the_end[1]));
+    for (int i = 2; i < 4; i++) rest = _mm_xor_si128(rest, passed(it.blocks[i], to_the_end[i]));
+    rest = _mm_xor_si128(rest, _mm_clmulepi64_si128(rest, of_64, 0x01));
+    __m128i times = _mm_clmulepi64_si128(rest, of_64, 0x10);
+    return (uint16_t)_mm_cvtsi128_si32(_mm_xor_si128(rest, _mm_clmulepi64_si128(times, generator, 0x01)));
+}
+
+/* The upper half of a vector, and the lower half of the next one. */
+#define BETWEEN(a, b) _mm256_permute2x128_si256(a, b, 0x21)
+
+/* Since x^16 = x^12 + x^5 + 1, and so for the squares, octets count as much as they do 64, 176 and 256 places later,
+ * all three added. So vectors are added to later ones until eight are left. s1 to s8: those before, the last first. */
+FOLDING ALWAYS uint16_t crc_of_long(__m256i first, __m256i second, __m256i carry, const octet *at, const octet *end)
+{
+    const __m256i zero = _mm256_setzero_si256();
+    __m256i s1 = second, s2 = first, s3 = zero, s4 = zero, s5 = zero, s6 = zero, s7 = zero, s8 = carry;
+#define STEP(at) do { \
+        __m256i one = sum(sum(vector_at(at), s8), sum(BETWEEN(s6, s5), s2)); \
+        __m256i two = sum(sum(vector_at((at) + 32), s7), sum(BETWEEN(s5, s4), s1)); \
+        s8 = s6, s7 = s5, s6 = s4, s5 = s3, s4 = s2, s3 = s1, s2 = one, s1 = two; \
+    } while (0)
+    for (; end - at >= 512; at += 256) {
+        STEP(at);
+        STEP(at + 64);
+        STEP(at + 128);
+        STEP(at + 192);
     }
-    octet last[16];
-    _mm_storeu_si128((void *)last, _mm_shuffle_epi8(it, turned));
-    return words_of(last);
+    for (; end - at > 256; at += 64) STEP(at);
+    /* The last eight, and at once the same with 32, 88 and 128 places. */
+#define BESIDE(a, b) _mm256_alignr_epi8(BETWEEN(a, b), a, 8)
+    __m256i t0 = sum(sum(vector_at(at), s8), sum(BETWEEN(s6, s5), s2));
+    __m256i t1 = sum(sum(sum(vector_at(at + 32), s7), sum(BETWEEN(s5, s4), s1)), t0);
+    __m256i t2 = sum(sum(sum(vector_at(at + 64), s6), BETWEEN(s4, s3)), sum(BESIDE(zero, t0), t1));
+    __m256i t3 = sum(sum(sum(vector_at(at + 96), s5), BETWEEN(s3, s2)), sum(BESIDE(t0, t1), t2));
+    __m256i t4 = sum(sum(sum(vector_at(at + 128), s4), BETWEEN(s2, s1)), sum(sum(BESIDE(t1, t2), t0), t3));
+    __m256i t5 = sum(sum(sum(vector_at(at + 160), s3), BETWEEN(s1, zero)), sum(BESIDE(t2, t3), t1));
+    __m256i t6 = sum(sum(vector_at(at + 192), s2), sum(BESIDE(t3, zero), t2));
+    __m256i t7 = sum(sum(vector_at(at + 224), s1), t3);
+    return remainder_of(folded(turned(t4, t5), turned(t6, t7)));
+}
+
+FOLDING static uint16_t crc_by_clmul(const octet *from, size_t octets)
+{
+    size_t front = ((octets - 1) & 63) + 1;
+    const octet *end = from + octets, *at = from + front, *mask = MASK + front, *preset = PRESET + front;
+    __m256i first = sum(_mm256_and_si256(vector_at(at - 64), vector_at(mask)), vector_at(preset));
+    __m256i second = sum(_mm256_and_si256(vector_at(at - 32), vector_at(mask + 32)), vector_at(preset + 32));
+    if (octets <= 64) return remainder_of(turned(first, second));
+    __m256i carry = vector_at(preset + 64);             /* not zeros where the first two octets lie apart */
+    if (octets > 256) return crc_of_long(first, second, carry, at, end);
+    struct four it = folded(turned(first, second), turned(sum(vector_at(at), carry), vector_at(at + 32)));
+    for (at += 64; at < end; at += 64) it = folded(it, turned(vector_at(at), vector_at(at + 32)));
+    return remainder_of(it);
 }
 #endif
 
@@ -342,10 +454,9 @@ static void choose_crc(const char *way)
             slices[k][n] = (uint16_t)(slices[k - 1][n] << 8 ^ slices[0][slices[k - 1][n] >> 8]);
     if (way && !strcmp(way, "table")) crc = crc_by_table;
 #if defined(__x86_64__)
-    if ((!way || !strcmp(way, "clmul")) && __builtin_cpu_supports("pclmul") && __builtin_cpu_supports("ssse3")) {
+    if ((!way || !strcmp(way, "clmul")) && __builtin_cpu_supports("pclmul") && __builtin_cpu_supports("avx2")) {
         crc = crc_by_clmul;
-        over_one = _mm_set_epi64x((long long)power(192), (long long)power(128));
-        over_four = _mm_set_epi64x((long long)power(576), (long long)power(512));
+        make_factors();
     }
 #endif
 }
@@ -362,10 +473,16 @@ ALWAYS void put_crc(octet *frame, size_t covered)
     frame[covered] = (octet)(field >> 8), frame[covered + 1] = (octet)field;
 }
 
+ALWAYS void put_four(octet *at, uint32_t n)
+{
+    if (__BYTE_ORDER__ == __ORDER_LITTLE_ENDIAN__) n = __builtin_bswap32(n);
+    memcpy(at, &n, 4);
+}
+
 /* ---- Input ---- */
 
 /* The system copies fastest to where a page begins, so what is read comes there. What waits lies right before it. */
-static octet buffer[PAGE + CHUNK] __attribute__((aligned(PAGE)));
+static octet buffer[PAGE + CHUNK + SLACK] __attribute__((aligned(PAGE)));
 static const octet *in = buffer + PAGE;                 /* where the octets that wait begin */
 static size_t held;                                     /* how many these are */
 static uint64_t octets_read;
@@ -389,82 +506,107 @@ ALWAYS bool is_idle(const octet *packet) { return (packet[0] & 7) == 7 && packet
 ALWAYS unsigned length_of(const octet *packet) { return (unsigned)(packet[4] << 8 | packet[5]) + 7; }
 ALWAYS bool is_foreign(octet first) { return first > 31; }
 
-/* Packets of a channel. Joined ones lie end to end; of the others each has a vector. What is incomplete lies behind the
- * joined ones. */
+/* What is kept of a channel: joined packets, of TM as frames, and behind them what is incomplete; or vectors. */
 struct list {
     octet *octets;
-    size_t size, more, room;                            /* of whole packets; of the incomplete one; in all */
+    size_t size, more, room, ready;     /* of the joined ones; of what is incomplete; in all; taken from the system */
     octet **vectors;
     size_t number, most;
 };
 
 /* What has outgrown a page gets room of its own from the system, which grows without a copy and takes memory only as
- * octets come. */
+ * octets come. Where it is long, pages are taken some at once, since each alone costs a fault. */
 NEVER void grow(struct list *it, size_t wanted)
 {
-    it->room = !it->room ? PAGE : it->room < MAPPED ? MAPPED : it->room * 2;
-    while (it->room < wanted) it->room *= 2;
-    it->octets = realloc(it->octets, it->room);
-    if (!it->octets) stop(3, "memory");
+    if (wanted > it->room) {
+        it->room = !it->room ? PAGE : it->room < MAPPED ? MAPPED : it->room * 2;
+        while (it->room < wanted) it->room *= 2;
+        octet *whole = realloc(it->octets ? it->octets - SLACK : NULL, SLACK + it->room);
+        if (!whole) stop(3, "memory");
+        it->octets = whole + SLACK;
+    }
+    it->ready = it->room;
+#ifdef MADV_POPULATE_WRITE
+    if (it->room <= MAPPED) return;
+    octet *at = it->octets + it->size + it->more;
+    at -= (uintptr_t)at % PAGE;
+    it->ready = (size_t)(at + AT_ONCE - it->octets);
+    if (it->ready < wanted) it->ready = wanted;
+    if (it->ready > it->room) it->ready = it->room;
+    madvise(at, (size_t)(it->octets + it->ready - at), MADV_POPULATE_WRITE);
+#endif
 }
 
-/* Adds octets to the incomplete packet. */
-ALWAYS void add(struct list *it, const octet *from, size_t octets)
+/* Room for octets more, and for those beside them. */
+ALWAYS octet *room_for(struct list *it, size_t octets)
 {
     size_t at = it->size + it->more;
-    if (UNLIKELY(at + octets >= it->room)) grow(it, at + octets + 1);
-    memcpy(it->octets + at, from, octets);
+    if (UNLIKELY(at + octets + SLACK > it->ready)) grow(it, at + octets + SLACK);
+    return it->octets + at;
+}
+
+/* Copies octets; a few of them, without a branch on how many. */
+ALWAYS void copy(octet *to, const octet *from, size_t octets)
+{
+    if (octets <= 64) memcpy(to, from, 64);
+    else memcpy(to, from, octets);
+}
+
+/* Adds octets to what is incomplete. */
+ALWAYS void add(struct list *it, const octet *from, size_t octets)
+{
+    copy(room_for(it, octets), from, octets);
     it->more += octets;
 }
 
-NEVER void add_vector(struct list *it, const octet *packet, size_t octets)
+ALWAYS octet *new_vector(size_t octets)
 {
-    if (it->number == it->most) {
+    octet *it = malloc(octets);
+    if (!it) stop(3, "memory");
+    return it;
+}
+
+ALWAYS void keep_vector(struct list *it, octet *vector)
+{
+    if (UNLIKELY(it->number == it->most)) {
         it->most = it->most ? 2 * it->most : 16;
         it->vectors = realloc(it->vectors, it->most * sizeof *it->vectors);
         if (!it->vectors) stop(3, "memory");
     }
-    octet *vector = malloc(octets);
-    if (!vector) stop(3, "memory");
-    memcpy(vector, packet, octets);
     it->vectors[it->number++] = vector;
 }
 
-/* Adds whole packets to the joined ones, where none is incomplete. */
-ALWAYS void join(struct list *it, const octet *from, size_t octets)
+NEVER void add_vector(struct list *it, const octet *packet, size_t octets)
 {
-    if (UNLIKELY(!octets)) return;
-    add(it, from, octets);
-    it->size += octets, it->more = 0;
+    keep_vector(it, memcpy(new_vector(octets), packet, octets));
 }
 
-/* The packets of a list, one after another: the next one from this place on, or none. */
-ALWAYS const octet *packet_at(const struct list *it, size_t place)
+/* The line of a packet up to its digits. */
+ALWAYS octet *put_packet(enum kind kind, unsigned vc, unsigned map, const octet *header, unsigned octets)
 {
-    if (store == JOINED) return place < it->size ? it->octets + place : NULL;
-    return place < it->number ? it->vectors[place] : NULL;
+    octet *at = put_octet(TEXT(next_place(), "vc "), vc);
+    if (kind == TC) at = put_octet(TEXT(at, " map "), map);
+    at = put_number(TEXT(at, " apid "), (header[0] & 7u) << 8 | header[1]);
+    at = put(at, packet_texts[(header[0] >> 3 & 3) << 2 | header[2] >> 6].text, 48) - 48 + OF_FLAGS;
+    at = put_any(at, (header[2] & 63u) << 8 | header[3]);
+    at = put_any(TEXT(at, " octets "), octets);
+    *at = ' ';
+    return at + 1;
 }
-
-ALWAYS size_t place_after(size_t place, unsigned octets) { return store == JOINED ? place + octets : place + 1; }
 
 NEVER void print_packet(enum kind kind, unsigned vc, unsigned map, const octet *packet, unsigned octets)
 {
-    octet *at = TEXT(next_place(), "vc ");
-    at = put_octet(at, vc);
-    if (kind == TC) at = put_octet(TEXT(at, " map "), map);
-    at = put_number(TEXT(at, " apid "), (packet[0] & 7u) << 8 | packet[1]);
-    at = TEXT(at, " type ");
-    *at++ = '0' + (packet[0] >> 4 & 1);
-    at = TEXT(at, " secondary ");
-    *at++ = '0' + (packet[0] >> 3 & 1);
-    at = TEXT(at, " flags ");
-    *at++ = '0' + (packet[2] >> 6);
-    at = put_any(TEXT(at, " count "), (packet[2] & 63u) << 8 | packet[3]);
-    at = put_any(TEXT(at, " octets "), octets);
-    *at++ = ' ';
-    at = put_hex(at, packet, octets);
-    *at++ = '\n';
-    end_of_output = at;
+    octet *at = put_hex(put_packet(kind, vc, map, packet, octets), packet, octets);
+    *at = '\n', end_of_output = at + 1;
+}
+
+/* The same of a packet in two parts, one elsewhere than the other. */
+NEVER void print_parts(unsigned vc, const octet *header, const octet *part, unsigned octets, const octet *rest,
+                       unsigned more)
+{
+    octet *at = put_hex(put_packet(TM, vc, 0, header, octets + more), part, octets);
+    at = put_hex(at, rest, more);
+    *at = '\n', end_of_output = at + 1;
 }
 
 /* ---- Lines ---- */
@@ -492,8 +634,16 @@ static struct channel {
     unsigned octets;                                    /* of the incomplete packet, 0 where there is none */
     unsigned length;                                    /* that it states, 0 where its header isn't whole */
     octet header[6];
+    octet *vector;                                      /* of the incomplete packet, where each has its own */
     struct list list;
+    /* Where packets are joined: octets that the last data field has room for yet, 0 where none is begun; and the end of
+     * the frames and these octets as they were before the incomplete packet. */
+    unsigned left, left_before;
+    size_t size_before;
 } channels[8];
+
+/* Of the normal form: octets of a data field, and octets after it. */
+static unsigned field_room, field_gap;
 
 static struct frame_place {
     uint64_t offset;
@@ -518,9 +668,55 @@ NEVER void gap_line(unsigned expected, unsigned found)
     totals.anomalies++;
 }
 
+/* The packet start that there isn't. */
+enum { NONE = 1 << 20 };
+
+ALWAYS void set_pointer(octet *frame, unsigned pointer)
+{
+    frame[4] = (octet)(0x18 | pointer >> 8), frame[5] = (octet)pointer;
+}
+
+ALWAYS void begin_field(struct channel *it)
+{
+    set_pointer(room_for(&it->list, 2 * LONGEST_FRAME), 2047);
+    it->list.size += 6, it->left = field_room;
+}
+
+/* A packet starts so many octets behind the last one of the data field, which may have an earlier start. */
+ALWAYS void point(struct channel *it, unsigned ahead)
+{
+    unsigned filled = field_room - it->left;
+    octet *frame = it->list.octets + it->list.size - filled - 6;
+    if (frame[4] == 0x1F && frame[5] == 0xFF) set_pointer(frame, filled + ahead);
+}
+
+/* Puts octets of packets into data fields, two at most. The first packet start in them is given, and the first one that
+ * isn't in the data field that has been begun. */
+ALWAYS void join(struct channel *it, const octet *from, unsigned octets, unsigned first, unsigned second)
+{
+    if (UNLIKELY(!octets)) return;
+    if (UNLIKELY(!it->left)) begin_field(it);
+    if (first < it->left && first < octets) point(it, first);
+    unsigned part = it->left;
+    if (LIKELY(octets > part)) {
+        memcpy(it->list.octets + it->list.size, from, part);
+        it->list.size += part + field_gap;
+        begin_field(it);
+        from += part, octets -= part;
+        if (second - part < octets) point(it, second - part);
+    }
+    memcpy(it->list.octets + it->list.size, from, octets);
+    it->list.size += octets, it->left -= octets;
+    if (UNLIKELY(!it->left)) it->list.size += field_gap;
+}
+
+ALWAYS void take_back(struct channel *it) { it->list.size = it->size_before, it->left = it->left_before; }
+
 ALWAYS void drop(enum verb verb, struct channel *it)
 {
     if (verb == CHECK) tm_line(" dropped vc ", 12, it->octets, true);
+    if (verb == NORMALISE) free(it->vector), it->vector = NULL;
+    if (verb == JOIN) take_back(it);
     it->octets = it->list.more = 0;
 }
 
@@ -539,8 +735,18 @@ ALWAYS void deliver(enum verb verb, struct channel *it, const octet *packet, uns
 /* Adds octets of the field to the incomplete packet. */
 ALWAYS void go_on(enum verb verb, struct channel *it, const octet *field, unsigned octets)
 {
-    if (verb != CHECK) add(&it->list, field, octets);
+    if (verb == NORMALISE && it->vector) memcpy(it->vector + it->octets, field, octets);
+    if (verb == PACKETS) add(&it->list, field, octets);
+    if (verb == JOIN) join(it, field, octets, it->octets ? NONE : 0, NONE);
     it->octets += octets;
+}
+
+/* Takes a vector for an incomplete packet whose header is known, and has the octets of the header so far. */
+ALWAYS void begin_vector(struct channel *it)
+{
+    if (is_idle(it->header)) return;
+    it->vector = new_vector(it->length);
+    memcpy(it->vector, it->header, 6);
 }
 
 /* The incomplete packet becomes whole with these octets. True where they are to be joined to it yet. */
@@ -549,12 +755,11 @@ ALWAYS bool end_incomplete(enum verb verb, struct channel *it, const octet *fiel
     bool idle = is_idle(it->header);
     if (idle) {
         totals.idle++;
+        if (verb == JOIN) take_back(it);
     } else {
         totals.packets++;
-        if (verb == JOIN) it->list.size += it->list.more;
-        if (verb == PACKETS || verb == NORMALISE) add(&it->list, field, octets);
-        if (verb == PACKETS) print_packet(TM, here.vc, 0, it->list.octets, it->length);
-        if (verb == NORMALISE) add_vector(&it->list, it->list.octets, it->length);
+        if (verb == PACKETS) print_parts(here.vc, it->header, it->list.octets, it->octets, field, octets);
+        if (verb == NORMALISE) go_on(verb, it, field, octets), keep_vector(&it->list, it->vector), it->vector = NULL;
     }
     it->octets = it->list.more = 0;
     return verb == JOIN && !idle;
@@ -570,6 +775,7 @@ ALWAYS void complete_header(struct channel *it, const octet *field, unsigned oct
 /* The packets that start in a field, from a first start on. Those to be joined lie from `joint` on. */
 ALWAYS void start(enum verb verb, struct channel *it, const octet *field, unsigned joint, unsigned at, unsigned octets)
 {
+    unsigned first = at - joint, second = NONE, border = joint + (it->left ? it->left : field_room);
     while (at < octets) {
         unsigned left = octets - at;
         const octet *packet = field + at;
@@ -577,6 +783,7 @@ ALWAYS void start(enum verb verb, struct channel *it, const octet *field, unsign
             if (verb == CHECK) tm_line(" foreign vc ", 12, 0, false);
             break;
         }
+        if (verb == JOIN && at >= border) second = second == NONE ? at - joint : second;
         if (LIKELY(left >= 6)) {
             unsigned length = length_of(packet);
             if (length <= left) {
@@ -586,27 +793,28 @@ ALWAYS void start(enum verb verb, struct channel *it, const octet *field, unsign
                     totals.packets++;
                 } else {
                     totals.idle++;
-                    join(&it->list, field + joint, at - joint);
+                    join(it, field + joint, at - joint, first, second);
                     joint = at + length;
+                    first = 0, second = NONE, border = joint + (it->left ? it->left : field_room);
                 }
                 at += length;
                 continue;
             }
             it->length = length;
             memcpy(it->header, packet, 6);
+            if (verb == NORMALISE) begin_vector(it);
         } else {
             it->length = 0;
             memcpy(it->header, packet, left);
         }
         if (verb == JOIN) {
-            add(&it->list, field + joint, octets - joint);
-            it->list.size += at - joint, it->list.more = it->octets = left;
-        } else {
-            go_on(verb, it, packet, left);
+            join(it, field + joint, at - joint, first, second);
+            it->size_before = it->list.size, it->left_before = it->left;
         }
+        go_on(verb, it, packet, left);
         return;
     }
-    if (verb == JOIN) join(&it->list, field + joint, at - joint);
+    if (verb == JOIN) join(it, field + joint, at - joint, first, second);
 }
 
 /* A packet frame: its field, and the pointer or 2047. */
@@ -614,12 +822,15 @@ ALWAYS void packet_frame(enum verb verb, struct channel *it, const octet *field,
 {
     unsigned joint = pointer;
     if (it->octets) {
-        if (UNLIKELY(!it->length)) complete_header(it, field, octets);
+        if (UNLIKELY(!it->length)) {
+            complete_header(it, field, octets);
+            if (verb == NORMALISE && it->length) begin_vector(it);
+        }
         if (it->length && it->length - it->octets <= octets) {
             unsigned end = it->length - it->octets;
             if (LIKELY(pointer == (end == octets ? 2047 : end))) {
                 if (end_incomplete(verb, it, field, end)) joint = 0;
-                if (UNLIKELY(pointer == 2047) && joint == 0) join(&it->list, field, end);
+                if (UNLIKELY(pointer == 2047) && joint == 0) join(it, field, end, NONE, NONE);
             } else {
                 drop(verb, it);
             }
@@ -673,15 +884,7 @@ ALWAYS void tm_show(const octet *frame, unsigned length, uint64_t offset, bool f
         } else {
             at = put_word(TEXT(at, " clcw "), word);
             at = put_octet(TEXT(at, " vc "), word[1] >> 2);
-            at = TEXT(at, " lockout ");
-            *at++ = '0' + (word[2] >> 5 & 1);
-            at = TEXT(at, " wait ");
-            *at++ = '0' + (word[2] >> 4 & 1);
-            at = TEXT(at, " retransmit ");
-            *at++ = '0' + (word[2] >> 3 & 1);
-            at = TEXT(at, " farmb ");
-            *at++ = '0' + (word[2] >> 1 & 3);
-            at = put_octet(TEXT(at, " vr "), word[3]);
+            at = put_octet(put(at, control_texts[word[2] >> 1 & 31].text, 48) - 48 + OF_CONTROL, word[3]);
         }
     }
     end_line(at);
@@ -717,6 +920,7 @@ ALWAYS void tm_take(enum verb verb, const octet *frame, unsigned length, uint64_
 ALWAYS void tm_frames(enum verb verb, bool fecf)
 {
     unsigned length = managed.tm_length;
+    field_gap = 2 * fecf, field_room = length - 6 - field_gap;
     uint64_t offset = 0;
     const octet *at = in;
     for (;;) {
@@ -740,20 +944,18 @@ ALWAYS void tm_frames(enum verb verb, bool fecf)
     }
 }
 
-/* The frames of the TM normal form, filled one octet after another. */
+/* The frame of the TM normal form that is written, and what the next one has. */
 static struct {
     octet *frame;
     unsigned at;                                        /* octets of the data field so far */
-    unsigned room, vc;
+    unsigned vc;
     octet mc, vcc;
 } form;
 
-ALWAYS void begin_frame(void)
+ALWAYS void number_frame(octet *frame)
 {
     unsigned word = managed.spacecraft << 4 | form.vc << 1;
-    octet *frame = form.frame = next_place();
     frame[0] = (octet)(word >> 8), frame[1] = (octet)word, frame[2] = form.mc++, frame[3] = form.vcc++;
-    frame[4] = 0x1F, frame[5] = 0xFF;
 }
 
 ALWAYS void end_frame(void)
@@ -766,59 +968,77 @@ ALWAYS void end_frame(void)
 static void add_packet(const octet *packet, unsigned octets)
 {
     for (bool is_start = true; octets; is_start = false) {
-        if (!form.at) begin_frame();
-        if (is_start && form.frame[4] == 0x1F && form.frame[5] == 0xFF)
-            form.frame[4] = 0x18 | (octet)(form.at >> 8), form.frame[5] = (octet)form.at;
-        unsigned part = form.room - form.at < octets ? form.room - form.at : octets;
+        if (!form.at) number_frame(form.frame = next_place()), set_pointer(form.frame, 2047);
+        if (is_start && form.frame[4] == 0x1F && form.frame[5] == 0xFF) set_pointer(form.frame, form.at);
+        unsigned part = field_room - form.at < octets ? field_room - form.at : octets;
         memcpy(form.frame + 6 + form.at, packet, part);
         packet += part, octets -= part, form.at += part;
-        if (form.at == form.room) end_frame();
+        if (form.at == field_room) end_frame();
     }
 }
 
-static void add_idle(unsigned octets)
+/* The idle packet that fills up a data field with room for this many octets more: its length, which may be greater. */
+static octet idle[LONGEST_FRAME + 8] = {0x07, 0xFF, 0xC0};
+
+static unsigned make_idle(unsigned left)
 {
-    static octet idle[LONGEST_FRAME + 8] = {0x07, 0xFF, 0xC0};
+    unsigned octets = left < 7 ? left + field_room : left;
     idle[4] = (octet)((octets - 7) >> 8), idle[5] = (octet)(octets - 7);
-    add_packet(idle, octets);
+    return octets;
 }
 
-/* Joined packets are the data fields, end to end. Which packets start in a frame is read once it has been copied. */
-static void add_joined(const struct list *it)
+/* Writes octets that lie elsewhere. */
+static void write_octets(const octet *from, size_t octets)
 {
-    for (size_t at = 0, next = 0; at < it->size; at += form.room) {
-        size_t part = it->size - at < form.room ? it->size - at : form.room, end = at + part;
-        begin_frame();
-        if (LIKELY(next < end)) form.frame[4] = 0x18 | (octet)((next - at) >> 8), form.frame[5] = (octet)(next - at);
-        memcpy(form.frame + 6, it->octets + at, part);
-        while (next < end) next += length_of(it->octets + next);
-        form.at = (unsigned)part;
-        if (LIKELY(part == form.room)) end_frame();
+    if (!octets) return;
+    if (octets < CHUNK) {
+        end_of_output = put(next_place(), (const char *)from, octets);
+        return;
     }
+    if (end_of_output != out) write_out();
+    while (octets) {
+        ssize_t written = write(1, from, octets);
+        if (written <= 0) stop(3, "write");
+        from += written, octets -= (size_t)written;
+    }
+}
+
+static void write_joined(struct channel *it)
+{
+    if (it->octets) take_back(it);
+    if (it->left) join(it, idle, make_idle(it->left), 0, NONE);
+    for (size_t at = 0; at < it->list.size; at += managed.tm_length) {
+        octet *frame = it->list.octets + at;
+        number_frame(frame);
+        if (managed.tm_fecf) put_crc(frame, managed.tm_length - 2);
+    }
+    write_octets(it->list.octets, it->list.size);
 }
 
 static void write_tm_form(void)
 {
-    form.room = managed.tm_length - 6 - 2 * managed.tm_fecf;
     for (form.vc = 0; form.vc < 8; form.vc++) {
         struct list *it = &channels[form.vc].list;
         form.vcc = 0;
-        if (store == JOINED) add_joined(it);
+        if (store == JOINED) {
+            write_joined(&channels[form.vc]);
+            continue;
+        }
         for (size_t i = 0; i < it->number; i++) {
             add_packet(it->vectors[i], length_of(it->vectors[i]));
             if (store == FREED) free(it->vectors[i]);
         }
-        if (form.at) {
-            unsigned least = form.room - form.at;
-            add_idle(least < 7 ? least + form.room : least);
-        }
+        if (form.at) add_packet(idle, make_idle(field_room - form.at));
     }
 }
 
 /* ---- TC ---- */
 
+enum { LOCKOUT = 0x20, RETRANSMIT = 0x08, COUNTER = 0x06, ONE = 0x02 };     /* in the third octet of a CLCW */
+
 static struct farm {
-    octet vr, counter, lockout, retransmit;
+    octet vr, flags;
+    bool has_come;                                      /* a frame that isn't skipped */
 } farms[64];
 
 static struct series {
@@ -861,24 +1081,24 @@ NEVER void tc_line(const char *word, unsigned map, uint64_t octets, bool has_oct
 ALWAYS enum verdict farm_step(struct farm *it, enum content content, unsigned number)
 {
     if (LIKELY(content == AD)) {
-        if (UNLIKELY(it->lockout)) return REFUSED;
+        if (UNLIKELY(it->flags & LOCKOUT)) return REFUSED;
         unsigned d = (number - it->vr) & 255;
         if (LIKELY(d == 0)) {
-            it->vr++, it->retransmit = 0;
+            it->vr++, it->flags &= (octet)~RETRANSMIT;
             return ACCEPT;
         }
         if (d < managed.half_window) {
-            it->retransmit = 1;
+            it->flags |= RETRANSMIT;
             return EARLY;
         }
         if (d >= 256 - managed.half_window) return LATE;
-        it->lockout = 1;
+        it->flags |= LOCKOUT;
         return OUTSIDE;
     }
-    it->counter = (it->counter + 1) & 3;
+    it->flags = (octet)((it->flags & ~COUNTER) | ((it->flags + ONE) & COUNTER));
     if (content == BD) return ACCEPT;
-    if (content == UNLOCK) it->retransmit = it->lockout = 0;
-    else if (!it->lockout) it->retransmit = 0, it->vr = (octet)number;
+    if (content == UNLOCK) it->flags &= COUNTER;
+    else if (!(it->flags & LOCKOUT)) it->flags &= (octet)~RETRANSMIT, it->vr = (octet)number;
     return COMMAND;
 }
 
@@ -894,15 +1114,16 @@ struct view {
 ALWAYS const char *tc_read(const octet *frame, unsigned length, bool fecf, struct view *view)
 {
     if (fecf && UNLIKELY(!is_right(frame, length))) return "fecf";
-    unsigned word = (unsigned)(frame[0] << 8 | frame[1]);
-    if (UNLIKELY(word >> 14)) return "version";
-    if (UNLIKELY((word & 1023) != managed.spacecraft)) return "spacecraft";
-    if (UNLIKELY(length > managed.tc_length)) return "long";
-    unsigned type = word >> 12 & 3;
-    if (UNLIKELY(type == 1)) return "kind";
     view->unit = frame + 5, view->octets = length - 5 - 2 * fecf, view->number = frame[4];
+    /* Of type AD: but for the spare bits, the spacecraft is all that there is. */
+    unsigned word = (unsigned)(frame[0] << 8 | frame[1]), type = word >> 12 & 3;
+    bool is_ad = (word & 0xF3FF) == managed.spacecraft;
+    if (UNLIKELY(!is_ad && word >> 14)) return "version";
+    if (UNLIKELY(!is_ad && (word & 1023) != managed.spacecraft)) return "spacecraft";
+    if (UNLIKELY(length > managed.tc_length)) return "long";
+    if (UNLIKELY(!is_ad && type == 1)) return "kind";
     if (UNLIKELY(!view->octets)) return "empty";
-    if (LIKELY(type == 0)) {
+    if (LIKELY(is_ad)) {
         view->content = AD;
     } else if (type == 2) {
         view->content = BD;
@@ -918,10 +1139,9 @@ ALWAYS const char *tc_read(const octet *frame, unsigned length, bool fecf, struc
 
 ALWAYS void tc_show(const octet *frame, unsigned length, uint64_t offset, bool fecf)
 {
-    static const char words[][8] = {"accept", "early", "late", "outside", "refused", "command"};
-    static const octet widths[] = {6, 5, 4, 7, 7, 7};
-    static const char flags[][8] = {"middle", "first", "last", "whole"};
-    static const octet flag_widths[] = {6, 5, 4, 5};
+    static const struct { char text[16]; } words[] = {{" accept clcw 01"}, {" early clcw 01"}, {" late clcw 01"},
+        {" outside clcw 01"}, {" refused clcw 01"}, {" command clcw 01"}};
+    static const octet widths[] = {15, 14, 13, 16, 16, 16};
     struct view view;
     const char *reason = tc_read(frame, length, fecf, &view);
     if (UNLIKELY(reason != NULL)) {
@@ -937,10 +1157,8 @@ ALWAYS void tc_show(const octet *frame, unsigned length, uint64_t offset, bool f
         else at = TEXT(at, " bd");
         if (LIKELY(!(managed.plain >> vc & 1))) {
             unsigned header = view.unit[0];
-            at = TEXT(at, " segment ");
-            memcpy(at, flags[header >> 6], 8);
-            at = put_octet(TEXT(at + flag_widths[header >> 6], " map "), header & 63);
-            at = put_number(TEXT(at, " octets "), view.octets - 1);
+            at = put(at, segment_texts[header].text, 32) - 32 + segment_widths[header];
+            at = put_number(at, view.octets - 1);
         } else {
             at = put_number(TEXT(at, " unit octets "), view.octets);
         }
@@ -949,13 +1167,19 @@ ALWAYS void tc_show(const octet *frame, unsigned length, uint64_t offset, bool f
     } else {
         at = put_octet(TEXT(at, " setvr "), view.number);
     }
-    *at++ = ' ';
-    memcpy(at, words[verdict], 8);
-    at = TEXT(at + widths[verdict], " clcw 01");
+    at = put(at, words[verdict].text, 16) - 16 + widths[verdict];
     memcpy(at, hex[vc << 2], 2);
-    memcpy(at + 2, hex[farm->lockout << 5 | farm->retransmit << 3 | farm->counter << 1], 2);
+    memcpy(at + 2, hex[farm->flags], 2);
     memcpy(at + 4, hex[farm->vr], 2);
     end_line(at + 6);
+}
+
+/* Joins packets that lie end to end, where nothing is incomplete. */
+ALWAYS void join_packets(struct list *it, const octet *from, size_t octets)
+{
+    if (UNLIKELY(!octets)) return;
+    copy(room_for(it, octets), from, octets);
+    it->size += octets;
 }
 
 ALWAYS void tc_deliver(enum verb verb, struct series *it, unsigned map, const octet *packet, unsigned octets)
@@ -982,12 +1206,12 @@ ALWAYS void front_packets(enum verb verb, struct series *it, unsigned map, const
             totals.packets++;
         } else {
             totals.idle++;
-            join(&it->list, joint, (size_t)(at - joint));
+            join_packets(&it->list, joint, (size_t)(at - joint));
             joint = at + length;
         }
         at += length, octets -= length;
     }
-    if (verb == JOIN) join(&it->list, joint, (size_t)(at - joint));
+    if (verb == JOIN) join_packets(&it->list, joint, (size_t)(at - joint));
     if (UNLIKELY(octets) && verb == CHECK) tc_line(" tail", map, octets, true);
 }
 
@@ -1095,6 +1319,7 @@ ALWAYS void tc_take(enum verb verb, const octet *frame, unsigned length, uint64_
     }
     unsigned vc = frame[2] >> 2;
     here.offset = offset, here.vc = vc;
+    farms[vc].has_come = true;
     enum verdict verdict = farm_step(&farms[vc], view.content, view.number);
     if (UNLIKELY(verdict != ACCEPT)) {
         if (verdict != COMMAND && verb == CHECK) verdict_line(verdict, view.number);
@@ -1158,46 +1383,57 @@ ALWAYS void tc_frames(enum verb verb, bool fecf)
     if (rest && verb <= CHECK) rest_line(offset, rest), totals.anomalies++;
     for (unsigned place = 0; verb == CHECK && place < 64 * 64; place++) {
         here.offset = octets_read, here.vc = place >> 6;
-        if (all_series[place].is_open) tc_line(" open", place & 63, all_series[place].octets, true);
+        if (!farms[here.vc].has_come) place |= 63;
+        else if (all_series[place].is_open) tc_line(" open", place & 63, all_series[place].octets, true);
     }
 }
 
-/* One frame of the TC normal form; the segment header is -1 where there is none. */
-ALWAYS void write_tc_frame(unsigned vc, octet ns, int header, const octet *from, unsigned octets)
+/* One frame of the TC normal form; the segment header is -1 where there is none. Joined packets have SLACK behind. */
+ALWAYS void write_tc_frame(bool is_joined, unsigned vc, octet ns, int header, const octet *from, unsigned octets)
 {
     unsigned covered = 5 + (header >= 0) + octets, length = covered + 2 * managed.tc_fecf;
     octet *frame = next_place(), *at = frame + 5;
-    frame[0] = (octet)(managed.spacecraft >> 8), frame[1] = (octet)managed.spacecraft;
-    frame[2] = (octet)(vc << 2 | (length - 1) >> 8), frame[3] = (octet)(length - 1), frame[4] = ns;
+    put_four(frame, managed.spacecraft << 16 | vc << 10 | (length - 1));
+    frame[4] = ns;
     if (header >= 0) *at++ = (octet)header;
-    memcpy(at, from, octets);
+    if (is_joined) copy(at, from, octets);
+    else memcpy(at, from, octets);
     if (managed.tc_fecf) put_crc(frame, covered);
     end_of_output = frame + length;
 }
 
-static void write_tc_form(void)
+/* The frames of a packet. Returns N(S) after them. */
+ALWAYS octet write_frames(bool is_joined, unsigned vc, unsigned map, octet ns, const octet *packet, unsigned octets)
 {
     unsigned room = managed.tc_length - 6 - 2 * managed.tc_fecf;
+    if (UNLIKELY(managed.plain >> vc & 1)) {
+        write_tc_frame(is_joined, vc, ns++, -1, packet, octets);
+    } else if (LIKELY(octets <= room)) {
+        write_tc_frame(is_joined, vc, ns++, (int)(0xC0 | map), packet, octets);
+    } else {
+        for (unsigned at = 0; at < octets; at += room) {
+            unsigned flags = at == 0 ? 1 : octets - at <= room ? 2 : 0;
+            unsigned part = octets - at < room ? octets - at : room;
+            write_tc_frame(is_joined, vc, ns++, (int)(flags << 6 | map), packet + at, part);
+        }
+    }
+    return ns;
+}
+
+static void write_tc_form(void)
+{
     for (unsigned vc = 0; vc < 64; vc++) {
         octet ns = managed.start[vc];
-        for (unsigned map = 0; map < 64; map++) {
+        for (unsigned map = 0; map < 64 && farms[vc].has_come; map++) {
             struct list *it = &all_series[64 * vc + map].list;
-            size_t place = 0;
-            for (const octet *packet; (packet = packet_at(it, place));) {
-                unsigned octets = length_of(packet);
-                if (managed.plain >> vc & 1) {
-                    write_tc_frame(vc, ns++, -1, packet, octets);
-                } else if (LIKELY(octets <= room)) {
-                    write_tc_frame(vc, ns++, (int)(0xC0 | map), packet, octets);
-                } else {
-                    for (unsigned at = 0; at < octets; at += room) {
-                        unsigned flags = at == 0 ? 1 : octets - at <= room ? 2 : 0;
-                        unsigned part = octets - at < room ? octets - at : room;
-                        write_tc_frame(vc, ns++, (int)(flags << 6 | map), packet + at, part);
-                    }
-                }
-                if (store == FREED) free(it->vectors[place]);
-                place = place_after(place, octets);
+            for (size_t at = 0; at < it->size;) {
+                unsigned octets = length_of(it->octets + at);
+                ns = write_frames(true, vc, map, ns, it->octets + at, octets);
+                at += octets;
+            }
+            for (size_t i = 0; i < it->number; i++) {
+                ns = write_frames(false, vc, map, ns, it->vectors[i], length_of(it->vectors[i]));
+                if (store == FREED) free(it->vectors[i]);
             }
         }
     }
@@ -1319,6 +1555,7 @@ int main(int count, char **words)
     int way = named(getenv("REFERENCE_STORE"), ways, 3);
     if (way > 0) store = way == 1 ? VECTORS : FREED;
     make_digits();
+    make_texts();
     choose_hex(getenv("REFERENCE_HEX"));
     choose_crc(getenv("REFERENCE_CRC"));
     run((enum verb)verb, (enum kind)kind);

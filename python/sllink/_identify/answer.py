@@ -10,7 +10,7 @@ from typing import List, Optional, Sequence, Tuple
 from .._signs import Frames, many
 
 WHOLE, HEAD = 4 << 20, 1 << 20                            # up to WHOLE a recording is read whole; else HEAD first
-READ, LOOKS = 8 << 20, 640_000                            # octets, and frames or the like, that are looked at
+READ, LOOKS = 8 << 20, 800_000                            # octets, and frames or the like, that are looked at
 LISTED = 20                                               # pieces that are listed, and places without frames
 NEAR = 8                                                  # frames at a cut that are looked at
 PIECES = 1 << 12                                          # pieces that are put together

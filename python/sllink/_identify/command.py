@@ -24,7 +24,7 @@ evidence is plain.
 Of a recording of more than 4 MiB the first MiB and 64 places after it are read, and the lines count the frames
 that are looked at. A shift is found there if the frames of two places lie differently.
 
-However a recording is made, at most 8 MiB of it are read, and there are at most 640000 looks at its frames,
+However a recording is made, at most 8 MiB of it are read, and there are at most 800000 looks at its frames,
 headers and code blocks. Where that isn't enough the tool can't say, and names the offset at which it stopped.
 
 Status: 0 the recording is identified, and the last line is a command line; 1 it isn't, with --options also

@@ -9,9 +9,8 @@
  *     library stack < JOBS       how much stack a call takes
  *     library time ROUNDS < JOBS how long a call takes, in microseconds
  *
- * A job is a line: VERB KIND SCID TM_LENGTH TC_LENGTH TM_FECF TC_FECF WINDOW VR PLAIN LIMIT
- * RECORDING OUTPUT, where VR and PLAIN are 64 octets in hexadecimal, and `same` as the verb has the
- * second recording as its output.
+ * A job is a line: VERB KIND MANAGED RECORDING OUTPUT, where MANAGED are the octets of an
+ * sllink_managed in hexadecimal, and `same` as the verb has the second recording as its output.
  *
  * Status: 0 where all is as it should be, 1 where something isn't, which is named.
  */
@@ -89,10 +88,7 @@ static uint16_t field_of(const uint8_t *octets, size_t length) {
 }
 
 static void error_control(void) {
-    uint8_t one = 0x31;
     CHECK(sllink_fecf((const uint8_t *)"123456789", 9) == 0x29B1);
-    CHECK(sllink_fecf(&one, 0) == 0xFFFF);
-    CHECK(sllink_fecf(&one, 1) == field_of(&one, 1));
     for (size_t length = 0; length < 70; length++) {
         uint8_t *octets = block_of(NULL, length);
         fill(octets, length);
@@ -257,30 +253,27 @@ static void farm(void) {
             CHECK(octets[0] == 1 && octets[1] == vc << 2 && (octets[2] & 0xD1) == 0);
         }
     }
-    static const sllink_farm none[] = {{0, 1, false, false, 0},
-                                       {9, 1, true, false, 0},
-                                       {10, 1, false, true, 4},
-                                       {254, 1, true, true, 255},
-                                       {255, 0, false, false, 255}};
+    static const struct {
+        sllink_farm farm;
+        int event;
+        uint8_t vc;
+        sllink_answer step, clcw;
+    } none[] = {{{0, 1, false, false, 0}, SLLINK_BD, 64, SLLINK_WINDOW, SLLINK_WINDOW},
+                {{9, 1, true, false, 0}, SLLINK_BD, 64, SLLINK_WINDOW, SLLINK_WINDOW},
+                {{10, 1, false, true, 4}, SLLINK_BD, 64, SLLINK_COUNTER, SLLINK_COUNTER},
+                {{254, 1, true, true, 255}, SLLINK_BD, 64, SLLINK_COUNTER, SLLINK_COUNTER},
+                {{255, 0, false, false, 255}, SLLINK_BD, 64, SLLINK_WINDOW, SLLINK_WINDOW},
+                {{10, 5, false, false, 0}, 4, 64, SLLINK_EVENT, SLLINK_VIRTUAL_CHANNEL},
+                {{10, 5, false, false, 0}, 4, 255, SLLINK_EVENT, SLLINK_VIRTUAL_CHANNEL}};
     for (size_t i = 0; i < sizeof none / sizeof *none; i++) {
-        sllink_farm f = none[i];
+        sllink_farm f = none[i].farm;
         sllink_verdict verdict = SLLINK_LATE;
         uint8_t octets[4] = {1, 2, 3, 4};
-        sllink_answer wanted = i < 2 || i == 4 ? SLLINK_WINDOW : SLLINK_COUNTER;
-        CHECK(sllink_farm_step(&f, SLLINK_BD, 0, &verdict) == wanted);
-        CHECK(sllink_farm_clcw(&f, 64, octets) == wanted);
-        CHECK(same_farm(&f, &none[i]) && verdict == SLLINK_LATE
+        CHECK(sllink_farm_step(&f, (sllink_event)none[i].event, 0, &verdict) == none[i].step);
+        CHECK(sllink_farm_clcw(&f, none[i].vc, octets) == none[i].clcw);
+        CHECK(same_farm(&f, &none[i].farm) && verdict == SLLINK_LATE
               && memcmp(octets, "\1\2\3\4", 4) == 0);
     }
-    sllink_farm f;
-    sllink_verdict verdict = SLLINK_LATE;
-    uint8_t octets[4] = {1, 2, 3, 4};
-    CHECK(sllink_farm_new(&f, 10, 5) == SLLINK_DONE);
-    sllink_farm before = f;
-    CHECK(sllink_farm_step(&f, (sllink_event)4, 0, &verdict) == SLLINK_EVENT);
-    CHECK(sllink_farm_clcw(&f, 64, octets) == SLLINK_VIRTUAL_CHANNEL);
-    CHECK(sllink_farm_clcw(&f, 255, octets) == SLLINK_VIRTUAL_CHANNEL);
-    CHECK(same_farm(&f, &before) && verdict == SLLINK_LATE && memcmp(octets, "\1\2\3\4", 4) == 0);
 }
 
 /* ---- recordings ---- */
@@ -357,15 +350,19 @@ static uint8_t *text_of(engine *call, const sllink_managed *managed, const uint8
     return text;
 }
 
-static sllink_managed usual(void) {
+static sllink_managed managed_of(int spacecraft, int tm, int tc, int window, uint64_t limit) {
     sllink_managed managed;
     memset(&managed, 0, sizeof managed);
-    managed.spacecraft = 1;
-    managed.tm_length = 32;
-    managed.tc_length = 1024;
-    managed.window = 10;
-    managed.limit = 1073741824;
+    managed.spacecraft = (uint16_t)spacecraft;
+    managed.tm_length = (uint16_t)tm;
+    managed.tc_length = (uint16_t)tc;
+    managed.window = (uint8_t)window;
+    managed.limit = limit;
     return managed;
+}
+
+static sllink_managed usual(void) {
+    return managed_of(1, 32, 1024, 10, 1073741824);
 }
 
 /* A TM frame with a packet of 26 octets. */
@@ -376,77 +373,48 @@ static void frame(uint8_t *octets, uint8_t count) {
     octets[2] = octets[3] = count;
 }
 
-static void refused(engine *call, const sllink_managed *managed, size_t length,
-                    sllink_answer wanted) {
-    uint8_t *recording = block_of(NULL, length), *text;
-    size_t size;
-    sllink_totals totals;
-    memset(recording, 0, length);
-    CHECK(called(call, managed, recording, length, 100, &text, &size, &totals) == wanted);
-    free(text);
-    free(recording);
-}
-
 static void recordings(void) {
+    /* what is refused, in its order, and the edges of what isn't, for nine octets */
+    static const struct {
+        int spacecraft, tm, tc, window;
+        uint64_t limit;
+        sllink_answer answer;
+    } tried[] = {
+        {1024, 31, 15, 0, 0, SLLINK_SPACECRAFT}, {65535, 32, 16, 2, 9, SLLINK_SPACECRAFT},
+        {1023, 31, 15, 0, 0, SLLINK_TM_LENGTH},  {0, 2049, 16, 2, 9, SLLINK_TM_LENGTH},
+        {0, 0, 16, 2, 9, SLLINK_TM_LENGTH},      {0, 65535, 16, 2, 9, SLLINK_TM_LENGTH},
+        {0, 32, 15, 0, 0, SLLINK_TC_LENGTH},     {0, 32, 1025, 2, 9, SLLINK_TC_LENGTH},
+        {0, 32, 16, 0, 0, SLLINK_WINDOW},        {0, 32, 16, 255, 9, SLLINK_WINDOW},
+        {0, 2048, 1024, 254, 0, SLLINK_LIMIT},   {0, 32, 16, 2, 8, SLLINK_TOO_LONG},
+        {0, 32, 16, 2, 1, SLLINK_TOO_LONG},      {0, 32, 16, 2, 9, SLLINK_DONE},
+        {1023, 2048, 1024, 254, UINT64_MAX, SLLINK_DONE},
+    };
     for (int i = 0; i < ENGINES; i++) {
         engine *call = engines[i].call;
-        bool is_tm = strcmp(engines[i].kind, "tm") == 0;
+        size_t size, least = strcmp(engines[i].kind, "tm") == 0 ? 32 : SIZE_MAX;
         sllink_managed managed = usual();
-        /* lengths */
+        sllink_totals totals;
         for (size_t length = 0; length < 200; length += length < 70 ? 1 : 29) {
-            uint8_t *recording = block_of(NULL, length);
-            size_t size;
+            uint8_t *recording = block_of(NULL, length), *text;
             for (size_t j = 0; j + 32 <= length; j += 32)
                 frame(recording + j, (uint8_t)(j / 32));
             memset(recording + length / 32 * 32, 0, length % 32);
-            free(text_of(call, &managed, recording, length, &size));
+            text = text_of(call, &managed, recording, length, &size);
+            CHECK(text != NULL && (length < least || size > 0));
             CHECK(length > 0 || size == (strcmp(engines[i].verb, "check") == 0 ? 48u : 0u));
+            free(text);
             free(recording);
         }
-        if (is_tm) {
-            uint8_t octets[64], *text;
-            size_t size;
-            frame(octets, 0);
-            frame(octets + 32, 1);
-            text = text_of(call, &managed, octets, 64, &size);
-            CHECK(text != NULL && size > 0);
-            free(text);
-        }
-        /* what is refused, in its order, and the edges of what isn't */
-        static const struct {
-            int spacecraft, tm, tc, window;
-            uint64_t limit;
-            sllink_answer answer;
-        } tried[] = {
-            {1024, 31, 15, 0, 0, SLLINK_SPACECRAFT}, {65535, 32, 16, 2, 9, SLLINK_SPACECRAFT},
-            {1023, 31, 15, 0, 0, SLLINK_TM_LENGTH},  {0, 2049, 16, 2, 9, SLLINK_TM_LENGTH},
-            {0, 0, 16, 2, 9, SLLINK_TM_LENGTH},      {0, 65535, 16, 2, 9, SLLINK_TM_LENGTH},
-            {0, 32, 15, 0, 0, SLLINK_TC_LENGTH},     {0, 32, 1025, 2, 9, SLLINK_TC_LENGTH},
-            {0, 32, 16, 0, 0, SLLINK_WINDOW},        {0, 32, 16, 255, 9, SLLINK_WINDOW},
-            {0, 2048, 1024, 254, 0, SLLINK_LIMIT},   {0, 32, 16, 2, 8, SLLINK_TOO_LONG},
-            {0, 32, 16, 2, 1, SLLINK_TOO_LONG},
-        };
         for (size_t j = 0; j < sizeof tried / sizeof *tried; j++) {
-            managed.spacecraft = (uint16_t)tried[j].spacecraft;
-            managed.tm_length = (uint16_t)tried[j].tm;
-            managed.tc_length = (uint16_t)tried[j].tc;
-            managed.window = (uint8_t)tried[j].window;
-            managed.limit = tried[j].limit;
-            refused(call, &managed, 9, tried[j].answer);
-        }
-        uint8_t zeros[9] = {0};
-        size_t size;
-        static const int edges[][4] = {{0, 32, 16, 2}, {1023, 2048, 1024, 254}};
-        for (int j = 0; j < 2; j++) {
-            managed = usual();
-            managed.spacecraft = (uint16_t)edges[j][0];
-            managed.tm_length = (uint16_t)edges[j][1];
-            managed.tc_length = (uint16_t)edges[j][2];
-            managed.window = (uint8_t)edges[j][3];
-            managed.limit = j ? UINT64_MAX : 9;
-            uint8_t *text = text_of(call, &managed, zeros, 9, &size);
-            CHECK(text != NULL);
+            uint8_t *zeros = block_of("\0\0\0\0\0\0\0\0", 9), *text;
+            managed = managed_of(tried[j].spacecraft, tried[j].tm, tried[j].tc, tried[j].window,
+                                 tried[j].limit);
+            CHECK(called(call, &managed, zeros, 9, 100, &text, &size, &totals) == tried[j].answer);
             free(text);
+            text = text_of(call, &managed, zeros, 9, &size);
+            CHECK((text != NULL) == (tried[j].answer == SLLINK_DONE));
+            free(text);
+            free(zeros);
         }
     }
 }
@@ -525,29 +493,12 @@ static uint8_t *octets_of(const char *path, size_t *length) {
 }
 
 static bool next_job(job *it) {
-    char vr[130], plain[130];
-    int scid, tm, tc, tm_fecf, tc_fecf, window;
-    unsigned long long limit;
-    int found =
-        scanf("%15s %3s %d %d %d %d %d %d %129s %129s %llu %511s %511s", it->verb, it->kind, &scid,
-              &tm, &tc, &tm_fecf, &tc_fecf, &window, vr, plain, &limit, it->path, it->output);
-    if (found != 13)
+    char managed[512];
+    if (scanf("%15s %3s %511s %511s %511s", it->verb, it->kind, managed, it->path, it->output) != 5)
         return false;
-    it->managed = usual();
-    it->managed.spacecraft = (uint16_t)scid;
-    it->managed.tm_length = (uint16_t)tm;
-    it->managed.tc_length = (uint16_t)tc;
-    it->managed.tm_fecf = tm_fecf;
-    it->managed.tc_fecf = tc_fecf;
-    it->managed.window = (uint8_t)window;
-    it->managed.limit = limit;
-    for (int i = 0; i < 64; i++) {
-        unsigned number;
-        if (sscanf(vr + 2 * i, "%2x", &number) == 1)
-            it->managed.vr[i] = (uint8_t)number;
-        if (sscanf(plain + 2 * i, "%2x", &number) == 1)
-            it->managed.plain[i] = number != 0;
-    }
+    CHECK(strlen(managed) == 2 * sizeof it->managed);
+    for (size_t i = 0; i < sizeof it->managed; i++)
+        CHECK(sscanf(managed + 2 * i, "%2hhx", (unsigned char *)&it->managed + i) == 1);
     it->recording = octets_of(it->path, &it->length);
     it->call = NULL;
     it->compare = NULL;
@@ -567,16 +518,25 @@ static void end_job(job *it) {
     free(it->other);
 }
 
+/* What the call of a job answers; its text, if it has one, in so many octets of room. */
+static sllink_answer answer_of(const job *it, uint8_t *text, size_t room, size_t *size,
+                               bool *same) {
+    sllink_totals totals;
+    if (it->compare != NULL)
+        return it->compare(&it->managed, it->recording, it->length, it->other, it->other_length,
+                           same);
+    return it->call(&it->managed, it->recording, it->length, text, room, size, &totals);
+}
+
 static void jobs(void) {
     for (job it; next_job(&it); end_job(&it)) {
+        size_t size = 0;
+        bool same = false;
         if (it.compare != NULL) {
-            bool same = false;
-            sllink_answer answer =
-                it.compare(&it.managed, it.recording, it.length, it.other, it.other_length, &same);
+            sllink_answer answer = answer_of(&it, NULL, 0, NULL, &same);
             printf("%s %s %d %s\n", it.path, it.output, (int)answer, same ? "same" : "other");
             continue;
         }
-        size_t size = 0;
         uint8_t *text = text_of(it.call, &it.managed, it.recording, it.length, &size);
         FILE *file = fopen(it.output, "wb");
         if (file == NULL || text == NULL || fwrite(text, 1, size, file) != size
@@ -598,8 +558,7 @@ static void memory(void) {
             refused_one = which;
             if (it.compare != NULL) {
                 bool same = which % 2;
-                answer = it.compare(&it.managed, it.recording, it.length, it.other, it.other_length,
-                                    &same);
+                answer = answer_of(&it, NULL, 0, NULL, &same);
                 if (answer != SLLINK_DONE)
                     CHECK(same == which % 2);
             } else {
@@ -639,26 +598,15 @@ static void *in_a_thread(void *number) {
     for (int round = 0; round < ROUNDS; round++)
         for (size_t i = 0; i < count; i++) {
             const job *it = &all[i];
-            sllink_totals totals;
-            size_t size = 0;
-            bool same = false;
-            if (it->compare != NULL) {
-                if (it->compare(&it->managed, it->recording, it->length, it->other,
-                                it->other_length, &same)
-                    != SLLINK_DONE)
-                    ++*failed;
-                continue;
-            }
             uint8_t *text = block_of(NULL, 1 << 16);
-            if (it->call(&it->managed, it->recording, it->length, text, 1 << 16, &size, &totals)
-                    != SLLINK_DONE
-                || size != it->other_length || memcmp(text, it->other, size) != 0)
-                ++*failed;
+            uint8_t number = (uint8_t)(round * (int)count + (int)i);
+            size_t size = 0;
+            bool same;
+            *failed += answer_of(it, text, 1 << 16, &size, &same) != SLLINK_DONE;
+            *failed += it->call != NULL
+                       && (size != it->other_length || memcmp(text, it->other, size) != 0);
+            *failed += sllink_farm_step(&f, SLLINK_AD, number, &verdict) != SLLINK_DONE;
             free(text);
-            if (sllink_farm_step(&f, SLLINK_AD, (uint8_t)(round * (int)count + (int)i), &verdict)
-                    != SLLINK_DONE
-                && ++*failed)
-                break;
         }
     return NULL;
 }
@@ -736,16 +684,9 @@ static void *nothing(void *with) {
 }
 
 static void *the_job(void *with) {
-    job *it = with;
-    sllink_totals totals;
     size_t size;
     bool same;
-    sllink_answer answer =
-        it->compare != NULL
-            ? it->compare(&it->managed, it->recording, it->length, it->other, it->other_length,
-                          &same)
-            : it->call(&it->managed, it->recording, it->length, lent, sizeof lent, &size, &totals);
-    return answer == SLLINK_DONE ? with : NULL;
+    return answer_of(with, lent, sizeof lent, &size, &same) == SLLINK_DONE ? with : NULL;
 }
 
 static void *other_calls(void *with) {
@@ -798,51 +739,50 @@ static void times(long rounds) {
     for (job it; next_job(&it); end_job(&it)) {
         size_t room = 4 * it.length + (1 << 20), size;
         uint8_t *output = block_of(NULL, room);
-        sllink_totals totals;
         bool same;
         memset(output, 0, room);
         double least = 1e300;
         for (long round = 0; round < rounds; round++) {
             double before = now();
-            sllink_answer answer = it.compare ? it.compare(&it.managed, it.recording, it.length,
-                                                           it.other, it.other_length, &same)
-                                              : it.call(&it.managed, it.recording, it.length,
-                                                        output, room, &size, &totals);
-            double after = now();
-            CHECK(answer == SLLINK_DONE);
-            if (after - before < least)
-                least = after - before;
+            CHECK(answer_of(&it, output, room, &size, &same) == SLLINK_DONE);
+            double taken = now() - before;
+            least = taken < least ? taken : least;
         }
         printf("%s %s %zu octets %.1f us\n", it.verb, it.kind, it.length, least);
         free(output);
     }
 }
 
+static void calls(void) {
+    error_control();
+    tm_header();
+    tc_header();
+    segment_header();
+    packet_header();
+    clcw();
+    farm();
+    recordings();
+    same_packets();
+}
+
 int main(int argc, char **argv) {
-    const char *mode = argc > 1 ? argv[1] : "";
-    if (strcmp(mode, "calls") == 0) {
-        error_control();
-        tm_header();
-        tc_header();
-        segment_header();
-        packet_header();
-        clcw();
-        farm();
-        recordings();
-        same_packets();
-    } else if (strcmp(mode, "jobs") == 0) {
-        jobs();
-    } else if (strcmp(mode, "memory") == 0) {
-        memory();
-    } else if (strcmp(mode, "threads") == 0) {
-        threads();
-    } else if (strcmp(mode, "stack") == 0) {
-        stack();
-    } else if (strcmp(mode, "time") == 0 && argc == 3) {
+    static const struct {
+        const char *name;
+        void (*runs)(void);
+    } modes[] = {{"calls", calls},
+                 {"jobs", jobs},
+                 {"memory", memory},
+                 {"threads", threads},
+                 {"stack", stack}};
+    for (size_t i = 0; argc == 2 && i < sizeof modes / sizeof *modes; i++)
+        if (strcmp(argv[1], modes[i].name) == 0) {
+            modes[i].runs();
+            return failures > 0;
+        }
+    if (argc == 3 && strcmp(argv[1], "time") == 0) {
         times(atol(argv[2]));
-    } else {
-        fprintf(stderr, "library: calls, jobs, memory, threads, stack, or time ROUNDS\n");
-        return 2;
+        return failures > 0;
     }
-    return failures > 0;
+    fprintf(stderr, "library: calls, jobs, memory, threads, stack, or time ROUNDS\n");
+    return 2;
 }

@@ -148,8 +148,8 @@ declines() {
   expect "${*:2}: output" "" "$(cat "$log/output")"
 }
 
-# refuses_options COMMAND..: a tool, with all its words but options: what it makes of wrong options, of a program that isn't
-# there, isn't sllink, or has a status or totals that aren't those of a run to the end, of a standard output that is full,
+# refuses_options COMMAND..: a tool, with all its words but options: what it makes of wrong options, of a program that
+# isn't there, isn't sllink, or has a status or totals that aren't those of a run to the end, of a full standard output,
 # and its help. The first recording is also on the standard input, as a path.
 refuses_options() {
   local words=("$@") tool=("$1")
@@ -191,8 +191,8 @@ refuses_options() {
   goes_away "${words[@]}" --help < /dev/null
 }
 
-# refuses_files COMMAND..: a tool, with @ in place of a recording: what it makes of one that isn't there, is a folder, a pipe
-# or a device, or has a name like an option
+# refuses_files COMMAND..: a tool, with @ in place of a recording: what it makes of one that isn't there, is a folder, a
+# pipe or a device, or has a name like an option
 refuses_files() {
   local called=$1 name why
   [ "$1" != python3 ] || called=${*:1:3}
@@ -255,14 +255,14 @@ mistakes() {
   od -A n -v -t x1 pass.tm | tr -d ' \n' > hex.tm
 }
 
-# Those with options that are wrong for them, what their frames show against these, and what sllink-identify has for them.
+# Those with options that are wrong for them, what their frames show against these, and what sllink-identify has for it.
 questions="\
 tm pass.tm --scid 679|--tm-fecf isn't given, and its frames have an error control field|sllink * --tm-fecf < pass.tm
-tm nofecf.tm --scid 679 --tm-fecf|--tm-fecf is given, and its frames have no error control field|sllink * 1115 < nofecf.tm
-tm pass.tm --scid 679 --tm-fecf --tm-length 1113|--tm-length is 1113, and its frames lie 1115 octets apart|sllink check *
+tm nofecf.tm --scid 679 --tm-fecf|--tm-fecf is given, and its frames have no error control field|sllink * 1115 < nof*
+tm pass.tm --scid 679 --tm-fecf --tm-length 1113|--tm-length is 1113, and its frames lie 1115 octets apart|sllink *
 tm pass.tm --scid 679 --tm-length=223|--tm-length is 223, and its frames lie 1115 octets apart|sllink check *
 tm small.tm --scid 679 --tm-length 200|--tm-length is 200, and its frames lie 100 octets apart|sllink * 100 < small.tm
-tm other.tm --scid 679 --tm-fecf|--scid is 679, and most of its frames are of spacecraft 341|sllink check tm --scid 341 *
+tm other.tm --scid 679 --tm-fecf|--scid is 679, and most of its frames are of spacecraft 341|sllink * --scid 341 *
 tm mixed.tm --scid 679 --tm-fecf|its frames are randomised|perl *
 tm asm.tm --scid 679 --tm-fecf|there are sync markers (1ACFFC1D) between its frames|perl *
 tc pass.tc --scid 679|--tc-fecf isn't given, and its frames have an error control field|sllink check tc *--tc-fecf*
@@ -280,5 +280,5 @@ totals="frames 11 skipped 0 packets 6 idle 2 anomalies 0"
 wrong=(--tm-length=31 --tm-length=70000 --tc-length=15 --window=3 --vr=256 --vr-of=5:57,0:3 --vr-of=5=57 --plain=5-7
   --limit=1G --limit=0)
 # Names at which a shell, a terminal or a page could stumble.
-odd=('$(touch stumbled).tm' '`touch stumbled`' '; touch stumbled' '-rf' '--help' "a name & 'more' \"..\".tm" ' ' '*' '%s\n'
-  $'line\nfeed.tm' $'not utf-8 \xff\xfe.tm' $'a control \x01.tm' '<script>alert(1)<script>' '"><b>&amp;')
+odd=('$(touch stumbled).tm' '`touch stumbled`' '; touch stumbled' '-rf' '--help' "a name & 'more' \"..\".tm" ' ' '*'
+  '%s\n' $'line\nfeed.tm' $'not utf-8 \xff\xfe.tm' $'a control \x01.tm' '<script>alert(1)<script>' '"><b>&amp;')

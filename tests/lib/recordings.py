@@ -38,7 +38,7 @@ def data(random, length, style):
 
 
 class Stream:
-    """The packets of a virtual channel, without an end, taken by fields of frames. What has `packet` is the next one."""
+    """The packets of a virtual channel, without an end, taken by fields of frames. `packet` has the next one."""
 
     octets, starts = b"", ()
 
@@ -95,8 +95,8 @@ def tm_frame(scid, vc, mc, vcc, first, field, fecf=False, word=b""):
 def tc_frame(scid, vc, ns, field, fecf=False, kind=0):
     """A TC frame: its kind is 0 for type AD, 2 for BD, 3 for BC."""
     last = 4 + len(field) + 2 * fecf
-    return closed((kind << 12 | scid).to_bytes(2, "big") + (vc << 10 | last).to_bytes(2, "big") + bytes([ns % 256]) + field,
-                  fecf)
+    header = (kind << 12 | scid).to_bytes(2, "big") + (vc << 10 | last).to_bytes(2, "big") + bytes([ns % 256])
+    return closed(header + field, fecf)
 
 
 def tm_frames(random, frames, scid, length, fecf, ocf, vcs):

@@ -121,7 +121,7 @@ class TcFrames:
         whose error control field is right or whose N(S) goes on, or that has whole packets."""
         for found in self.begins.finditer(self.block, at, end + 1) if self.begins else ():
             place = found.start()
-            self.recording.look(place)
+            self.recording.look(place, 2)
             frames = self.some(place)
             plain = not self.fecf and bool(frames)
             if plain and (len(frames) == 3 or place + sum(map(len, frames)) == len(self.block)) or any(

@@ -10,6 +10,7 @@ from ._compare.store import Packets, room
 from ._page import Table, facts, figure, folded, heading, listing, page, paragraph, verdict
 from ._picture import Picture
 from ._questions import questions
+from ._state import State
 from ._survey import MOST_LINES, MOST_LOCKOUTS, Reports, Survey
 from ._tally import MOST_APIDS, MOST_RUNS, Lacks, Tally
 from ._verdict import listed, lost_frames, missing_counts, number_of, said, said_of_two
@@ -29,17 +30,24 @@ FLAGS = {"lockout": "Lockout", "wait": "Wait", "retransmit": "Retransmit", "no R
 
 class Recording:
     """All that a page has of a recording, and the name that it goes by on the page. With `kept` its packets are kept
-    there; `span` are the octets of its picture, where it has fewer."""
+    there."""
 
-    def __init__(self, kind: str, path: str, options: Sequence[str], kept: Optional[Packets] = None,
-                 span: int = 0) -> None:
+    def __init__(self, kind: str, path: str, options: Sequence[str], kept: Optional[Packets] = None) -> None:
+        self.words, self.state = (kind, path, options), State(path)
         with about(path):
-            self.survey = Survey(kind, path, options, span)
             self.tally = Tally(kind, path, options, kept)
+
+    def surveyed(self, span: int = 0) -> "Recording":
+        """With what is counted of its frames; `span` are the octets of its picture, where it has fewer. It comes last, as
+        it may take as much memory as a comparison before it."""
+        kind, path, options = self.words
+        with about(path):
+            self.survey = Survey(kind, path, options, span, self.state)
         self.digest = digest_of(path)
         self.asked = questions(self.survey)
-        self.survey.state.require_unchanged()
+        self.state.require_unchanged()
         self.name = self.survey.name
+        return self
 
 
 def digest_of(path: str) -> str:
@@ -53,7 +61,7 @@ def digest_of(path: str) -> str:
 
 def report_of_one(kind: str, path: str, options: Sequence[str]) -> str:
     """The page of a recording."""
-    it = Recording(kind, path, options)
+    it = Recording(kind, path, options).surveyed()
     parts = ["<header>", heading(1, it.name), read_as(it), "</header>",
              verdict(said(it.survey, it.tally), it.asked, not it.survey.anomalies),
              facts(facts_of(it)), heading(2, "Picture"), pictured(it, "rest")]
@@ -65,9 +73,10 @@ def report_of_two(kind: str, paths: Sequence[str], options: Sequence[Sequence[st
     """The page of two recordings, each with its options."""
     with room("sllink-report") as folder:
         here, there = (Packets(os.path.join(folder, side)) for side in "ab")
-        span = max(map(os.path.getsize, paths))           # the pictures have one scale
-        one, other = (Recording(kind, *its, span) for its in zip(paths, options, (here, there)))
+        one, other = (Recording(kind, *its) for its in zip(paths, options, (here, there)))
         lacks = Lacks(here, there, folder)
+    for it in one, other:
+        it.surveyed(max(one.state.size, other.state.size))    # the pictures have one scale
     name_apart(one, other, paths)
     asked = [f"{it.name}: {question}" for it in (one, other) for question in it.asked]
     alike = options[0] == options[1]

@@ -153,8 +153,9 @@ class Reports:
 class Survey:
     """What `show` and `check` have for a recording, in a picture of its octets, or of more of them, `span`."""
 
-    def __init__(self, kind: str, recording: str, options: Sequence[str], span: int = 0) -> None:
-        self.state = State(recording)
+    def __init__(self, kind: str, recording: str, options: Sequence[str], span: int = 0,
+                 state: Optional[State] = None) -> None:
+        self.state = state or State(recording)
         self.kind, self.recording, self.options = kind, recording, list(options)
         self.name = shown(os.path.basename(recording))
         self.size = self.state.size

@@ -94,6 +94,7 @@ class Tally:
                     if number_kept == MOST_PACKETS:
                         kept.put_all(records)
                         number_kept = 0
+        self._next.clear()
         if kept is not None:
             kept.put_all(records)
             kept.files.flush()

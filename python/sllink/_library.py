@@ -81,33 +81,41 @@ def _require(answer: int) -> None:
 def octets_of(recording: Recording) -> bytes:
     """All octets of a recording, from where it stands on."""
     source: Any = recording
-    if hasattr(source, "read"):
-        return b"".join(memoryview(part).tobytes() for part in iter(lambda: next_of(source), b""))
-    require_open(source)
-    with open(source, "rb", closefd=not isinstance(source, int)) as file:
-        return file.read()
+    if not hasattr(source, "read"):
+        require_open(source)
+        with open(source, "rb", closefd=not isinstance(source, int)) as file:
+            return octets_of(file)
+    return b"".join(memoryview(part).tobytes() for part in iter(lambda: next_of(source), b""))
 
 
-def require_open(recording: Recording) -> None:
-    """OSError where a recording is a file descriptor that isn't open, as one below 0, which calls take for something
-    else."""
+def require_open(recording: Recording) -> Recording:
+    """The recording, or a file object for a descriptor that doesn't block: the program wouldn't wait for it. OSError: a
+    descriptor isn't open, as one below 0, which calls take for something else. TypeError: it is True or False."""
+    if isinstance(recording, bool):
+        raise TypeError(f"a recording is a path, a file descriptor or a file object, and not {recording}")
     if isinstance(recording, int):
-        os.fstat(recording)
+        os.fstat(recording if recording < 1 << 31 else -1)
+        if not os.get_blocking(recording):
+            return open(recording, "rb", buffering=0, closefd=False)
+    return recording
 
 
 def next_of(source: Any, *size: int) -> bytes:
     """What comes next of a file object, of at most a size where there is one; b"" at its end alone. One that doesn't
     block is waited for. BlockingIOError: it can't be, as it has no file descriptor."""
-    octets: Optional[bytes] = source.read1(*size) if size and hasattr(source, "read1") else None
-    while not octets:                                        # read1 may have b"" where nothing is there yet
-        octets = source.read(*size)
-        if octets is not None:
-            return octets or b""
-        try:
-            descriptor = source.fileno()
-        except (AttributeError, OSError):
-            raise BlockingIOError(errno.EAGAIN, "has nothing yet, and no descriptor to wait for") from None
-        waiting = select.poll()
-        waiting.register(descriptor, select.POLLIN)
-        waiting.poll()
+    try:
+        octets: Optional[bytes] = source.read1(*size) if size and hasattr(source, "read1") else None
+        while not octets:                                    # read1 may have b"" where nothing is there yet
+            octets = source.read(*size)
+            if octets is not None:
+                return octets or b""
+            try:
+                descriptor = source.fileno()
+            except (AttributeError, OSError):
+                raise BlockingIOError(errno.EAGAIN, "has nothing yet, and no descriptor to wait for") from None
+            waiting = select.poll()
+            waiting.register(descriptor, select.POLLIN)
+            waiting.poll()
+    except StopIteration as fault:                           # which iter() would take for the end
+        raise RuntimeError("read() raised StopIteration") from fault
     return octets

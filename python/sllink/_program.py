@@ -77,7 +77,7 @@ class Child:
         require_sllink(name)
         self._verb, self._said = verb, b""
         self._fault: Optional[BaseException] = None          # of reading the recording
-        require_open(recording)
+        recording = require_open(recording)
         source: Any = recording
         with contextlib.ExitStack() as opened:
             if hasattr(recording, "read"):

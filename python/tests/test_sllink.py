@@ -378,6 +378,28 @@ class Recordings(Way):
                 octets_of(number)
             self.assertEqual(raised.exception.errno, errno.EBADF)
 
+    def test_no_recording(self):
+        """A truth is no descriptor, nor is a number that none can be; a read() that stops isn't the end."""
+        class Stopping:
+            def read(self, _=-1):
+                raise StopIteration
+        for recording, fault in (True, TypeError), (2 ** 40, OSError), (Stopping(), RuntimeError):
+            with self.assertRaises(fault):
+                list(sllink.frames("tm", recording, STATION))
+            with self.assertRaises(fault):
+                octets_of(recording)
+
+    def test_a_descriptor_that_does_not_block(self):
+        """It is waited for."""
+        for read in self.check, lambda number: self.assertEqual(octets_of(number), self.octets):
+            reader, writer = os.pipe()
+            os.set_blocking(reader, False)
+            sending = threading.Timer(0.2, lambda end: (os.write(end, self.octets), os.close(end)), [writer])
+            sending.start()
+            read(reader)
+            sending.join()
+            os.close(reader)
+
     def test_a_file_that_does_not_block(self):
         """It is waited for, also where read() has None, and read1() nothing, while nothing is there."""
         for buffering in -1, 0:

@@ -37,7 +37,7 @@ class Options:
             except (TypeError, ValueError):
                 takes = TAKEN.get(f"--{it.name.replace('_', '-')}", "True or False").partition(", rising")[0]
                 takes = takes.replace("a decimal number", "an integer").replace("decimal number", "integer")
-                raise SllinkError(2, f"sllink: {it.name}={value!r}; {it.name} takes {takes}") from None
+                raise SllinkError(2, f"sllink: {it.name}={_shown(value)}; {it.name} takes {takes}") from None
 
     def words(self) -> List[str]:
         """The words of the command line that say the same."""
@@ -59,11 +59,21 @@ def _taken(name: str, value: Any) -> Any:
     if name == "vr_of":
         return {_integer(vc, CHANNELS): _integer(vr, NUMBERS["vr"]) for vc, vr in dict(value).items()}
     if name == "plain":
+        if isinstance(value, (bytes, bytearray, Mapping)):
+            raise TypeError
         return tuple(_integer(vc, CHANNELS) for vc in value)
     number = _integer(value, NUMBERS[name])
     if name == "window" and number % 2:
         raise ValueError
     return number
+
+
+def _shown(value: Any) -> str:
+    """A value as Python writes it, if it does."""
+    try:
+        return repr(value)
+    except ValueError:
+        return "an integer that is too long to be written"
 
 
 def _integer(value: Any, taken: Tuple[int, int]) -> int:

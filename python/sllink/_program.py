@@ -72,8 +72,12 @@ class Child:
     def __init__(self, verb: str, kind: str, recording: Recording, options: Words, program: Path = None) -> None:
         name = find_program(program)
         command = [name, verb, kind, *words_of(options)]
-        for word in filter(ASKS, command[1:]):
-            raise SllinkError(2, f"sllink: {word} is no option for a recording")
+        for word in command[1:]:
+            if not isinstance(word, str):
+                raise TypeError(f"{word!r} is no word of a command line")
+            if "\0" in word or ASKS(word):
+                raise SllinkError(2, f"sllink: {word!r} is no word for a recording" if "\0" in word else
+                                  f"sllink: {word} is no option for a recording")
         require_sllink(name)
         self._verb, self._said = verb, b""
         self._fault: Optional[BaseException] = None          # of reading the recording
@@ -158,6 +162,8 @@ class Child:
 def lines(verb: str, kind: str, recording: Recording, options: Words, *,
           program: Program = None) -> Generator[str, None, None]:
     """The lines of a listing, without their line feeds, as they come; of a library all at once."""
+    if verb == "normalise":
+        raise SllinkError(2, "sllink: a normal form has no lines")
     if isinstance(program, Library):
         yield from program.text(verb, kind, recording, options).decode("ascii").splitlines()
         return

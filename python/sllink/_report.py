@@ -10,11 +10,10 @@ from ._compare.store import Packets, room
 from ._page import Table, facts, figure, folded, heading, listing, page, paragraph, verdict
 from ._picture import Picture
 from ._questions import questions
-from ._state import State
 from ._survey import MOST_LINES, MOST_LOCKOUTS, Reports, Survey
 from ._tally import MOST_APIDS, MOST_RUNS, Lacks, Tally
 from ._verdict import listed, lost_frames, missing_counts, number_of, said, said_of_two
-from .tool import about, shown
+from .tool import State, about, shown
 
 JUMPS = "A jump is a packet sequence count that isn't the one that comes next, modulo 16384. Idle packets are left out."
 SEVERAL = (" Some APIDs come on more than one channel or MAP. Where their counts go on from one to another, there are "

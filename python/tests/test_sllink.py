@@ -255,6 +255,13 @@ class TheOptions(InAFolder):
         words = ["--scid", "1", "--tm-length=32", "--tm-fecf"]
         self.assertEqual(list(sllink.packets("tm", FIRST, words)), list(sllink.packets("tm", FIRST, STATION)))
 
+    def test_what_is_no_word(self):
+        for kind, words in (None, STATION), (b"tm", STATION), ("tm", ["--scid", 1]):
+            with self.assertRaisesRegex(TypeError, "is no word of a command line"):
+                whole(sllink.lines("show", kind, FIRST, words))
+        self.refused(2, "is no word for a recording", sllink.lines, "show", "tm\0", FIRST, STATION)
+        self.refused(2, "has no lines", sllink.lines, "normalise", "tm", FIRST, STATION)
+
     def test_text_is_no_sequence_of_words(self):
         for text in "--scid 1", b"--scid 1":
             with self.assertRaises(TypeError):
@@ -278,11 +285,12 @@ class TheOptions(InAFolder):
         for name, takes, *values in (
                 ("scid", "an integer from 0 to 1023", 99999, "1", "1_0", True), ("vr", "an integer from 0 to 255", 1.9),
                 ("window", "an even integer from 2 to 254", 9), ("tm_fecf", "True or False", "no"),
-                ("tc_fecf", "True or False", 1), ("plain", channels, 5, "5"),
+                ("tc_fecf", "True or False", 1), ("plain", channels, 5, "5", b"5", {5: 6}),
                 ("vr_of", f"{channels}, each with its V(R) from 0 to 255", {0.5: 1}, None)):
             for value in values:
                 text = self.refused(2, "", sllink.Options, **{"scid": 1, name: value})
                 self.assertEqual(text, f"sllink: {name}={value!r}; {name} takes {takes}")
+        self.refused(2, "^sllink: scid=an integer that .*; scid takes ", sllink.Options, 10**5000)
         self.assertEqual({*EDGES, "tm_fecf", "tc_fecf"}, {it.name for it in dataclasses.fields(sllink.Options)})
         for name, (taken, refused) in EDGES.items():
             for value in taken + refused:

@@ -57,17 +57,18 @@ def reason_of(error: BaseException) -> str:
 
 
 class State:
-    """The size of a recording, and when it changed, as they are before it is read, for what reads it more than once."""
+    """Which file a recording is, and when it changed, before it is read, for what reads it more than once."""
 
     def __init__(self, recording: str) -> None:
         require_file(recording)
-        self.recording, state = recording, os.stat(recording)
-        self.size, self._changed = state.st_size, state.st_mtime_ns
+        self.recording, self._file = recording, os.stat(recording)
+        self.size = self._file.st_size
 
     def require_unchanged(self) -> None:
-        """Refuses a recording that has another size now, or was written since."""
-        state = os.stat(self.recording)
-        if (state.st_size, state.st_mtime_ns) != (self.size, self._changed):
+        """Refuses a recording that is another file now, has another size, or was written since."""
+        now, before = os.stat(self.recording), self._file
+        if now.st_size != self.size or now.st_mtime_ns != before.st_mtime_ns or now.st_ctime_ns != before.st_ctime_ns \
+                or not os.path.samestat(now, before):
             raise Refused(f"{shown(self.recording)}: has changed while it was read")
 
 

@@ -9,6 +9,7 @@ from ._compare.difference import COUNTS, Difference, Key, Runs
 from ._compare.store import FIELDS, MOST_PACKETS, RECORD, Channel, Packets
 from ._program import packet_lines
 from ._records import Run
+from .tool import Refused, shown
 
 LINE_FEED = 10
 MOST_RUNS = 200                                           # that are kept of what one recording lacks
@@ -71,9 +72,12 @@ class Tally:
                 if line[-1] != LINE_FEED:
                     break                                 # it is cut off, and the status tells why
                 # vc V [map M] apid A type T secondary S flags F count C octets N DIGITS
-                head, tail = line.split(b" count ", 1)
-                digits, _, octets, packet = tail.split(b" ", 3)
-                number = int(digits)
+                try:
+                    head, tail = line.split(b" count ", 1)
+                    digits, _, octets, packet = tail.split(b" ", 3)
+                    number = int(digits)
+                except ValueError:
+                    raise Refused(f"{shown(recording)}: sllink: what it says of packets is no line of them") from None
                 it = known.get(head)
                 if it is None:
                     key = key_of(head)

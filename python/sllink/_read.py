@@ -106,6 +106,8 @@ def normal_form(kind: str, recording: Recording, output: Union[str, bytes, "os.P
                 options: Words, *, program: Program = None) -> None:
     """Writes the normal form of a recording into a file, which is made anew, or to a binary file object. Where the
     program refuses something or stops while it reads, nothing is written, and a file that is there stays as it is."""
+    if isinstance(output, int):
+        raise TypeError(f"the normal form goes to a path or a binary file object: {output!r}")
     with _form(kind, recording, options, program) as form:
         first = next(form, b"")
         with ExitStack() as opened:

@@ -598,6 +598,9 @@ class NormalForms(Way):
             sllink.normal_form("tm", FIRST, "/dev/full", STATION, program=self.by)
         with self.assertRaises(FileNotFoundError):
             sllink.normal_form("tm", FIRST, self.folder / "none" / "a", STATION, program=self.by)
+        for output in 1, True:
+            with self.assertRaisesRegex(TypeError, "goes to a path or a binary file object"):
+                sllink.normal_form("tm", FIRST, output, STATION, program=self.by)
 
     def same(self, *words, kind="tm"):
         return sllink.same_packets(kind, *words, program=self.by)

@@ -73,7 +73,7 @@ def written(verb, kind, recording, options):
 def checked(kind, recording, options, **way):
     """The anomalies of a recording, and its totals."""
     found = sllink.anomalies(kind, recording, options, **way)
-    return [*found, found.totals]
+    return list(found) + [found.totals]
 
 
 def normalised(kind, recording, options, **way):

@@ -75,9 +75,10 @@ class Child:
         for word in command[1:]:
             if not isinstance(word, str):
                 raise TypeError(f"{word!r} is no word of a command line")
-            if "\0" in word or ASKS(word):
-                raise SllinkError(2, f"sllink: {word!r} is no word for a recording" if "\0" in word else
-                                  f"sllink: {word} is no option for a recording")
+            if "\0" in word:
+                raise SllinkError(2, f"sllink: {word!r}: no word has an octet 0")
+            if ASKS(word):
+                raise SllinkError(2, f"sllink: {word} is no option for a recording")
         require_sllink(name)
         self._verb, self._said = verb, b""
         self._fault: Optional[BaseException] = None          # of reading the recording

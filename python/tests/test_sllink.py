@@ -259,7 +259,7 @@ class TheOptions(InAFolder):
         for kind, words in (None, STATION), (b"tm", STATION), ("tm", ["--scid", 1]):
             with self.assertRaisesRegex(TypeError, "is no word of a command line"):
                 whole(sllink.lines("show", kind, FIRST, words))
-        self.refused(2, "is no word for a recording", sllink.lines, "show", "tm\0", FIRST, STATION)
+        self.refused(2, "no word has an octet 0", sllink.lines, "show", "tm\0", FIRST, STATION)
         self.refused(2, "has no lines", sllink.lines, "normalise", "tm", FIRST, STATION)
 
     def test_text_is_no_sequence_of_words(self):

@@ -16,7 +16,7 @@ use Rattle.sl_c.specs.declared.answer.Answer.{Answer}
 use Rattle.sl_c.specs.declared.answer.Answer.TheVariants.{Done, Memory, TooLong}
 use Rattle.sl_c.specs.declared.link.ManagedFields.{ManagedFields}
 use Rattle.sl_c.specs.Link.{parameters_of, reading_of, reading_under}
-use Rattle.sl_c.specs.Recording.{ComparesPackets, GivesText, Lent, Outcome}
+use Rattle.sl_c.specs.Recording.{ComparesPackets, GivesText, Lent, LeavesText}
 
 -- the copied part, by how much of it there is
 pub front_is : (text output new : List ℕ) (fits : ℕ) → fits ≡ min (length text) (length output) → new ≡ take fits text ++ drop fits output
@@ -35,21 +35,21 @@ module _ (text : Parameters → List ℕ → List ℕ) (counts : Parameters → 
   pub refused_gives : (old : Lent) (answer : ℕ) (refusal : Answer) → reading_of m (length recording) ≡ Err refusal → Says answer refusal → GivesText text counts m recording old old answer
   refused_gives old answer refusal e says = record {
     refused = subst (λ (r : Result Parameters Answer). IfErr r (λ it. Says answer it × (old ≡ old))) (sym e) (says, refl);
-    read = subst (λ (r : Result Parameters Answer). IfOk r (λ p. (Says answer Memory × (old ≡ old)) ⊎ Outcome text counts recording old old answer p)) (sym e) tt;
+    read = subst (λ (r : Result Parameters Answer). IfOk r (λ p. (Says answer Memory × (old ≡ old)) ⊎ LeavesText text counts recording old old answer p)) (sym e) tt;
   }
 
   -- that memory was refused
   pub memory_gives : (old : Lent) (answer : ℕ) (p : Parameters) → reading_of m (length recording) ≡ Ok p → Says answer Memory → GivesText text counts m recording old old answer
   memory_gives old answer p e says = record {
     refused = subst (λ (r : Result Parameters Answer). IfErr r (λ it. Says answer it × (old ≡ old))) (sym e) tt;
-    read = subst (λ (r : Result Parameters Answer). IfOk r (λ q. (Says answer Memory × (old ≡ old)) ⊎ Outcome text counts recording old old answer q)) (sym e) (inl (says, refl));
+    read = subst (λ (r : Result Parameters Answer). IfOk r (λ q. (Says answer Memory × (old ≡ old)) ⊎ LeavesText text counts recording old old answer q)) (sym e) (inl (says, refl));
   }
 
   -- or the text
-  pub text_gives : (old new : Lent) (answer : ℕ) (p : Parameters) → reading_of m (length recording) ≡ Ok p → Outcome text counts recording old new answer p → GivesText text counts m recording old new answer
+  pub text_gives : (old new : Lent) (answer : ℕ) (p : Parameters) → reading_of m (length recording) ≡ Ok p → LeavesText text counts recording old new answer p → GivesText text counts m recording old new answer
   text_gives old new answer p e outcome = record {
     refused = subst (λ (r : Result Parameters Answer). IfErr r (λ it. Says answer it × (new ≡ old))) (sym e) tt;
-    read = subst (λ (r : Result Parameters Answer). IfOk r (λ q. (Says answer Memory × (new ≡ old)) ⊎ Outcome text counts recording old new answer q)) (sym e) (inr outcome);
+    read = subst (λ (r : Result Parameters Answer). IfOk r (λ q. (Says answer Memory × (new ≡ old)) ⊎ LeavesText text counts recording old new answer q)) (sym e) (inr outcome);
   }
 
 -- ---- what a call over two recordings answers

@@ -14,7 +14,7 @@ abbrev pub state_of : FarmFields → FarmState
 state_of f = record { vr = f.vr; lockout = f.lockout; retransmit = f.retransmit; farm_b = f.farm_b }
 
 -- what C keeps is a FARM-1: its window is even and not 0, and its FARM-B counter is 3 at most
-pub record IsFarm (f : FarmFields) : Type 0 where
+pub record IsKeptFarm (f : FarmFields) : Type 0 where
   pub window : IsWidth f.window
   pub counter : f.farm_b ≤ 3
 
@@ -25,8 +25,8 @@ pub record IsNoFarm (f : FarmFields) (answer : Answer) : Type 0 where
 
 -- the event with this number, none where there is no such event: a frame of type AD with its N(S),
 -- a frame of type BD, Unlock, or Set V(R) with its value
-abbrev pub event_of : ℕ → ℕ → Option FarmEvent
-event_of event number =
+abbrev pub numbered_event : ℕ → ℕ → Option FarmEvent
+numbered_event event number =
     if event == 0 then Some (Ad number)
     else if event == 1 then Some Bd
     else if event == 2 then Some Unlock

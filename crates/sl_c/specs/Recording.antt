@@ -39,7 +39,7 @@ pub record HasText (text : List ℕ) (counts : Counts) (old new : Lent) : Type 0
   pub totals : counts_of_totals new.totals ≡ counts
 
 -- the text is given under the parameters `p`, and the answer says whether there was room for all of it
-pub record Outcome (text : Parameters → List ℕ → List ℕ) (counts : Parameters → List ℕ → Counts) (recording : List ℕ) (old new : Lent) (answer : ℕ) (p : Parameters) : Type 0 where
+pub record LeavesText (text : Parameters → List ℕ → List ℕ) (counts : Parameters → List ℕ → Counts) (recording : List ℕ) (old new : Lent) (answer : ℕ) (p : Parameters) : Type 0 where
   pub written : HasText (text p recording) (counts p recording) old new
   pub fits : length (text p recording) ≤ length old.output → Says answer Done
   pub room : length old.output < length (text p recording) → Says answer Room
@@ -48,7 +48,7 @@ pub record Outcome (text : Parameters → List ℕ → List ℕ) (counts : Param
 -- then all is as it was; or the text and its outcome.
 pub record GivesText (text : Parameters → List ℕ → List ℕ) (counts : Parameters → List ℕ → Counts) (m : ManagedFields) (recording : List ℕ) (old new : Lent) (answer : ℕ) : Type 0 where
   pub refused : IfErr (reading_of m (length recording)) (λ refusal. Says answer refusal × (new ≡ old))
-  pub read : IfOk (reading_of m (length recording)) (λ p. (Says answer Memory × (new ≡ old)) ⊎ Outcome text counts recording old new answer p)
+  pub read : IfOk (reading_of m (length recording)) (λ p. (Says answer Memory × (new ≡ old)) ⊎ LeavesText text counts recording old new answer p)
 
 -- ---- whether two recordings deliver the same packets
 

@@ -1,6 +1,6 @@
 //! How a call ended.
 ghost use Rattle.std.specs.Prelude.{◌≡◌};
-ghost use Rattle.sl_c.specs.Answer.{number_of};
+ghost use Rattle.sl_c.specs.Answer.{answer_number};
 
 /// How a call ended, which C sees as a number: the first variant is 0, and each other one more than the one before it.
 #[derive(Clone, Copy)]
@@ -36,7 +36,7 @@ pub enum Answer {
 impl Answer {
     /// The number that C sees.
     pub fn number(self) -> u32
-        ensures { result ≡ number_of self }
+        ensures { result ≡ answer_number self }
     {
         self as u32
     }

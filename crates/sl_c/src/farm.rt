@@ -4,7 +4,7 @@ ghost use Rattle.sl_cop.specs.Farm.{IsWidth, farm_start, farm_step};
 ghost use Rattle.sl_cop.specs.FarmClcw.{clcw_of};
 ghost use Rattle.sl_fields.specs.Clcw.{clcw_octets};
 ghost use Rattle.sl_c.specs.Answer.{Says};
-ghost use Rattle.sl_c.specs.Farm.{IsFarm, IsNoFarm, event_of, number_of_verdict, state_of};
+ghost use Rattle.sl_c.specs.Farm.{IsKeptFarm, IsNoFarm, numbered_event, number_of_verdict, state_of};
 
 use crate::answer::Answer;
 use sl_cop::{Farm, FarmEvent, Verdict, Window};
@@ -53,7 +53,7 @@ pub extern "C" fn sllink_farm_step(
     verdict: &mut u32,
 ) -> u32
     // A step of FARM-1,
-    ensures stepped { IsFarm farm.old → IfSome (event_of event number) (λ event.
+    ensures stepped { IsKeptFarm farm.old → IfSome (numbered_event event number) (λ event.
         Says result Answer.Done × (farm.new.window ≡ farm.old.window)
         × (state_of farm.new ≡ (farm_step farm.old.window (state_of farm.old) event).1)
         × (verdict.new ≡ number_of_verdict
@@ -61,7 +61,7 @@ pub extern "C" fn sllink_farm_step(
     // or why there is none, and all is as it was.
     ensures window { (IsWidth farm.old.window → ⊥) → Says result Answer.Window }
     ensures counter { IsWidth farm.old.window → 3 < farm.old.farm_b → Says result Answer.Counter }
-    ensures event { IsFarm farm.old → IfNone (event_of event number) (Says result Answer.Event) }
+    ensures event { IsKeptFarm farm.old → IfNone (numbered_event event number) (Says result Answer.Event) }
     ensures kept { result ≢ 0 → (farm.new ≡ farm.old) × (verdict.new ≡ verdict.old) }
 {
     let mut stepped = match restored(farm) {
@@ -84,12 +84,12 @@ pub extern "C" fn sllink_farm_step(
 #[unsafe(no_mangle)]
 pub extern "C" fn sllink_farm_clcw(farm: &FarmFields, vc: u8, clcw: &mut [u8; 4]) -> u32
     // The word of the state,
-    ensures written { IsFarm farm.now → vc ≤ 63 → Says result Answer.Done
+    ensures written { IsKeptFarm farm.now → vc ≤ 63 → Says result Answer.Done
         × (clcw.new ≡ clcw_octets (clcw_of vc (state_of farm.now))) }
     // or why there is none, and nothing is written.
     ensures window { (IsWidth farm.now.window → ⊥) → Says result Answer.Window }
     ensures counter { IsWidth farm.now.window → 3 < farm.now.farm_b → Says result Answer.Counter }
-    ensures channel { IsFarm farm.now → 63 < vc → Says result Answer.VirtualChannel }
+    ensures channel { IsKeptFarm farm.now → 63 < vc → Says result Answer.VirtualChannel }
     ensures kept { result ≢ 0 → clcw.new ≡ clcw.old }
 {
     let restored = match restored(farm) {
@@ -127,7 +127,7 @@ fn fields(farm: &Farm) -> FarmFields
 
 // The FARM-1 that C keeps, or why it is none.
 fn restored(farm: &FarmFields) -> Result<Farm, Answer>
-    ensures { MatchResult result (λ restored. IsFarm farm.now
+    ensures { MatchResult result (λ restored. IsKeptFarm farm.now
         × (restored.window ≡ farm.now.window) × (restored.state ≡ state_of farm.now))
         (IsNoFarm farm.now) }
 {
@@ -143,7 +143,7 @@ fn restored(farm: &FarmFields) -> Result<Farm, Answer>
 
 // The event with this number, and with its N(S) or V(R).
 fn frame_event(event: u32, number: u8) -> Option<FarmEvent>
-    ensures { result ≡ event_of event number }
+    ensures { result ≡ numbered_event event number }
 {
     match event {
         0 => Some(FarmEvent::Ad(number)),

@@ -8,7 +8,7 @@ ghost use Rattle.sl_link.specs.Kind.Tm.{tm_packets};
 ghost use Rattle.sl_link.specs.Normalise.Tm.{tm_normal_form};
 ghost use Rattle.sl_link.specs.Kind.Tc.{tc_packets};
 ghost use Rattle.sl_link.specs.Normalise.Tc.{tc_normal_form};
-ghost use Rattle.sl_callers.specs.Forms.{IsWithin};
+ghost use Rattle.sl_callers.specs.Forms.{KeepsLimit};
 
 use sl_link::laws::{tc_normal_forms_tell_packets, tm_normal_forms_tell_packets};
 use sl_link::{Counted, LinkFault, Managed, normalise_tc, normalise_tm};
@@ -23,7 +23,7 @@ pub fn have_same_tm_packets(
 ) -> Result<bool, LinkFault>
     ensures same { IfOk result (λ same. IsTrue same
         ↔ (tm_packets managed.now one.now ≡ tm_packets managed.now other.now)) }
-    ensures within { IsWithin managed.now.max_octets (max (length one.now) (length other.now))
+    ensures within { KeepsLimit managed.now.max_octets (max (length one.now) (length other.now))
         result }
 {
     let form = tm_form(alloc, managed, one)?;
@@ -41,7 +41,7 @@ pub fn tell_tm_packets(
 ) -> Result<bool, LinkFault>
     ensures same { IfOk result (λ same. IsTrue same
         ↔ (tm_packets managed.now one.now ≡ tm_packets managed.now other.now)) }
-    ensures within { IsWithin managed.now.max_octets (max (length one.now) (length other.now))
+    ensures within { KeepsLimit managed.now.max_octets (max (length one.now) (length other.now))
         result }
 {
     let form = written_tm_form(alloc, managed, one)?;
@@ -55,7 +55,7 @@ pub fn tell_tm_packets(
 // The normal form of a TM recording. The contract says nothing of packets.
 fn written_tm_form(alloc: Global, managed: &Managed, recording: &[u8]) -> Result<Vec<u8>, LinkFault>
     ensures form { IfOk result (λ form. form.items ≡ tm_normal_form managed.now recording.now) }
-    ensures within { IsWithin managed.now.max_octets (length recording.now) result }
+    ensures within { KeepsLimit managed.now.max_octets (length recording.now) result }
 {
     tm_form(alloc, managed, recording)
 }
@@ -69,7 +69,7 @@ pub fn normalise_tm_twice(
     recording: &[u8],
 ) -> Result<Vec<u8>, LinkFault>
     ensures form { IfOk result (λ form. form.items ≡ tm_normal_form managed.now recording.now) }
-    ensures within { IsWithin managed.now.max_octets
+    ensures within { KeepsLimit managed.now.max_octets
         (max (length recording.now) (length (tm_normal_form managed.now recording.now))) result }
 {
     let form = tm_form(alloc, managed, recording)?;
@@ -81,7 +81,7 @@ fn tm_form(alloc: Global, managed: &Managed, recording: &[u8]) -> Result<Vec<u8>
     ensures form { IfOk result (λ form. form.items ≡ tm_normal_form managed.now recording.now) }
     ensures packets { IfOk result (λ form. tm_packets managed.now form.items
         ≡ tm_packets managed.now recording.now) }
-    ensures within { IsWithin managed.now.max_octets (length recording.now) result }
+    ensures within { KeepsLimit managed.now.max_octets (length recording.now) result }
 {
     let mut reader = Counted::new(recording);
     let mut writer = Counted::new(Vec::new(alloc));
@@ -103,7 +103,7 @@ pub fn have_same_tc_packets(
 ) -> Result<bool, LinkFault>
     ensures same { IfOk result (λ same. IsTrue same
         ↔ (tc_packets managed.now one.now ≡ tc_packets managed.now other.now)) }
-    ensures within { IsWithin managed.now.max_octets (max (length one.now) (length other.now))
+    ensures within { KeepsLimit managed.now.max_octets (max (length one.now) (length other.now))
         result }
 {
     let form = tc_form(alloc, managed, one)?;
@@ -121,7 +121,7 @@ pub fn tell_tc_packets(
 ) -> Result<bool, LinkFault>
     ensures same { IfOk result (λ same. IsTrue same
         ↔ (tc_packets managed.now one.now ≡ tc_packets managed.now other.now)) }
-    ensures within { IsWithin managed.now.max_octets (max (length one.now) (length other.now))
+    ensures within { KeepsLimit managed.now.max_octets (max (length one.now) (length other.now))
         result }
 {
     let form = written_tc_form(alloc, managed, one)?;
@@ -135,7 +135,7 @@ pub fn tell_tc_packets(
 // The normal form of a TC recording. The contract says nothing of packets.
 fn written_tc_form(alloc: Global, managed: &Managed, recording: &[u8]) -> Result<Vec<u8>, LinkFault>
     ensures form { IfOk result (λ form. form.items ≡ tc_normal_form managed.now recording.now) }
-    ensures within { IsWithin managed.now.max_octets (length recording.now) result }
+    ensures within { KeepsLimit managed.now.max_octets (length recording.now) result }
 {
     tc_form(alloc, managed, recording)
 }
@@ -149,7 +149,7 @@ pub fn normalise_tc_twice(
     recording: &[u8],
 ) -> Result<Vec<u8>, LinkFault>
     ensures form { IfOk result (λ form. form.items ≡ tc_normal_form managed.now recording.now) }
-    ensures within { IsWithin managed.now.max_octets
+    ensures within { KeepsLimit managed.now.max_octets
         (max (length recording.now) (length (tc_normal_form managed.now recording.now))) result }
 {
     let form = tc_form(alloc, managed, recording)?;
@@ -161,7 +161,7 @@ fn tc_form(alloc: Global, managed: &Managed, recording: &[u8]) -> Result<Vec<u8>
     ensures form { IfOk result (λ form. form.items ≡ tc_normal_form managed.now recording.now) }
     ensures packets { IfOk result (λ form. tc_packets managed.now form.items
         ≡ tc_packets managed.now recording.now) }
-    ensures within { IsWithin managed.now.max_octets (length recording.now) result }
+    ensures within { KeepsLimit managed.now.max_octets (length recording.now) result }
 {
     let mut reader = Counted::new(recording);
     let mut writer = Counted::new(Vec::new(alloc));

@@ -6,8 +6,8 @@ use Rattle.sl_cop.specs.declared.window.Window.TheInside as window
 use Rattle.sl_cop.specs.declared.farm.Farm.TheInside as farm
 
 -- the width of a window
-abbrev pub width_of : window.Inside → ℕ
-width_of w = w.width
+abbrev pub window_width : window.Inside → ℕ
+window_width w = w.width
 
 -- the invariant of a `Window`: the width is even, 2 to 254
 pub record IsWindow (w : window.Inside) : Type 0 where
@@ -20,8 +20,8 @@ window_of w = record { width = w }
 
 -- The width of the window and the state of a `Farm`. The field `window` is a number here, since a
 -- `Window` stands for its width.
-abbrev pub view_of : farm.Inside → FarmView
-view_of f =
+abbrev pub farm_view : farm.Inside → FarmView
+farm_view f =
     record {
       window = f.window;
       state = record { vr = f.vr; lockout = f.lockout; retransmit = f.retransmit; farm_b = f.farm_b };

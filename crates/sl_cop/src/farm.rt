@@ -31,9 +31,9 @@ impl Model for Farm {
 
     ghost Value = { FarmView };
 
-    ghost use Rattle.sl_cop.specs.FarmModel.{view_of, inside_of, IsFarm};
+    ghost use Rattle.sl_cop.specs.FarmModel.{farm_view, inside_of, IsFarm};
 
-    ghost view = { view_of };
+    ghost view = { farm_view };
 
     ghost invariant = { IsFarm };
 

@@ -16,9 +16,9 @@ impl Model for Window {
 
     ghost Value = { ℕ };
 
-    ghost use Rattle.sl_cop.specs.FarmModel.{width_of, window_of, IsWindow};
+    ghost use Rattle.sl_cop.specs.FarmModel.{window_width, window_of, IsWindow};
 
-    ghost view = { width_of };
+    ghost view = { window_width };
 
     ghost invariant = { IsWindow };
 

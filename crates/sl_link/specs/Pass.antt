@@ -97,7 +97,7 @@ pub record MayRefuseMemoryIn (frames_of : List ℕ → List (List ℕ)) (may_ref
 
 -- These frames are at the front of the octets so far, and this is true of them, as that a sink
 -- took them. What came after them waits in the framer, but for `left`, which it hasn't seen.
-pub record HasTaken {F : Type 0} (is_frame : Parameters → List ℕ → Type 0)
+pub record HasCutFrames {F : Type 0} (is_frame : Parameters → List ℕ → Type 0)
     (waits : F → Parameters → List ℕ → Type 0) (taken : List (List ℕ) → Type 0) (p : Parameters)
     (framer : F) (octets left : List ℕ) : Type 0 where
   pub frames : List (List ℕ)
@@ -108,8 +108,8 @@ pub record HasTaken {F : Type 0} (is_frame : Parameters → List ℕ → Type 0)
   pub done : taken frames
 
 -- the framer has seen all octets so far, and these frames are all of theirs
-pub record HasTakenAll {F : Type 0} (is_frame : Parameters → List ℕ → Type 0)
+pub record HasCutAll {F : Type 0} (is_frame : Parameters → List ℕ → Type 0)
     (waits : F → Parameters → List ℕ → Type 0) (frames_of : Parameters → List ℕ → List (List ℕ))
     (taken : List (List ℕ) → Type 0) (p : Parameters) (framer : F) (octets : List ℕ) : Type 0 where
-  pub cut : HasTaken is_frame waits taken p framer octets []
+  pub cut : HasCutFrames is_frame waits taken p framer octets []
   pub all : frames_of p octets ≡ cut.frames

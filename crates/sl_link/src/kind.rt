@@ -1,6 +1,6 @@
 //! Delivery of the packets of frames of either kind, TM or TC, and what is found of the frames.
 ghost use Rattle.std.specs.Prelude.{◌≡◌, ◌++◌, ◌∷◌, [], ℕ, List, OnOk, IfOk, IfErr};
-ghost use Rattle.sl_link.specs.Kind.Tc.{ns_of};
+ghost use Rattle.sl_link.specs.Kind.Tc.{content_ns};
 ghost use Rattle.sl_link.specs.Kind.Tm.{is_opaque};
 ghost use Rattle.sl_tcframe.specs.TcContent.{content};
 ghost use Rattle.sl_tmframe.specs.TmField.{data_field};
@@ -226,7 +226,7 @@ impl Delivery for Receiver {
         let found = TcFound {
             vc: view.vc(),
             map: step.map(),
-            ns: ns_of(view.content()),
+            ns: content_ns(view.content()),
             verdict: step.verdict(),
             stray: step.stray(),
             dropped: step.dropped(),
@@ -255,8 +255,8 @@ fn is_opaque(field: TmField) -> bool
 }
 
 // N(S), in a frame of type AD.
-fn ns_of(unit: TcContent) -> Option<u8>
-    ensures { result ≡ ns_of (content unit.entry) }
+fn content_ns(unit: TcContent) -> Option<u8>
+    ensures { result ≡ content_ns (content unit.entry) }
 {
     match unit {
         TcContent::Ad { ns, .. } => Some(ns),

@@ -2,7 +2,7 @@
 ghost use Rattle.std.specs.Prelude.{◌≡◌, ◌≢◌, [], ℕ, List, IfOk, IfErr, OnOk};
 ghost use Rattle.sl_tcframe.specs.TcDelimited.{tc_frames_of};
 ghost use Rattle.sl_tmframe.specs.TmDelimited.{tm_frames_of};
-ghost use Rattle.sl_link.specs.Kind.Delivery.{AreDelivered, AreStored, MayRefuseMemory, counts_in, packets_of};
+ghost use Rattle.sl_link.specs.Kind.Delivery.{AreDelivered, AreStored, MayRefuseMemory, counts_in, recorded_packets};
 ghost use Rattle.sl_link.specs.Kind.Tc.{MayRefuseMemoryTc, tc_counts, tc_packets};
 ghost use Rattle.sl_link.specs.Kind.Tm.{MayRefuseMemoryTm, tm_counts, tm_packets};
 ghost use Rattle.sl_link.specs.Link.Managed.{tc_format};
@@ -138,7 +138,7 @@ trait Formed: Delivery {
         ensures written { OnOk result (WritesText W.contents writer.old writer.new
             (form_of managed.now (listed (Self.kind managed.now) delivered.now.lists))) }
         // The normal form delivers these packets again.
-        ensures delivers { packets_of (Self.kind managed.now)
+        ensures delivers { recorded_packets (Self.kind managed.now)
             (form_of managed.now (listed (Self.kind managed.now) delivered.now.lists))
             ≡ listed (Self.kind managed.now) delivered.now.lists }
         // Nothing is written where memory was refused, and it is refused only where there are packets.
@@ -204,7 +204,7 @@ fn normalise<D: Formed, F: Framer, R: Read, W: Write>(
         (listing_counts (counts_in (D.kind managed.now)) (D.kind managed.now).frames_of)
         managed.now.max_octets) }
     ensures packets { OnOk result (KeepsPackets R.remaining W.contents reader.old reader.new
-        writer.old writer.new (packets_of (D.kind managed.now))) }
+        writer.old writer.new (recorded_packets (D.kind managed.now))) }
     ensures fault { IfErr result (Stops R.remaining W.contents reader.old reader.new
         writer.old writer.new (form_text (D.kind managed.now) (D.form_of managed.now))
         managed.now.max_octets chunk_size) }

@@ -1,6 +1,6 @@
 //! A recording that is read once, chunk by chunk, and handed over frame by frame.
 ghost use Rattle.std.specs.Prelude.{◌^◌, ◌<◌, [], ℕ, List, length, IfOk, IfErr, OnOk};
-ghost use Rattle.sl_link.specs.Pass.{HasTaken, HasTakenAll, PassesOver, StopsPassing};
+ghost use Rattle.sl_link.specs.Pass.{HasCutFrames, HasCutAll, PassesOver, StopsPassing};
 
 mod frame_sink;
 mod framer;
@@ -57,17 +57,17 @@ pub fn deliver_chunk<F: Framer, S: FrameSink>(
     sink: &mut S,
     chunk: &[u8],
 ) -> Result<(), LinkFault>
-    requires ready { (start : S) × (octets : List ℕ) × HasTaken F.is_frame F.waits
+    requires ready { (start : S) × (octets : List ℕ) × HasCutFrames F.is_frame F.waits
         (S.took managed.now start sink.old) managed.now framer.old octets chunk.now
         × ((frame : List ℕ) → F.is_frame managed.now frame → S.is_frame managed.now frame)
         × (length octets < 2 ^ 64) }
-    ensures taken { OnOk result ((start : S) (octets : List ℕ) → HasTaken F.is_frame F.waits
-        (S.took managed.now start sink.old) managed.now framer.old octets chunk.now → HasTakenAll
+    ensures taken { OnOk result ((start : S) (octets : List ℕ) → HasCutFrames F.is_frame F.waits
+        (S.took managed.now start sink.old) managed.now framer.old octets chunk.now → HasCutAll
         F.is_frame F.waits F.frames_of (S.took managed.now start sink.new) managed.now framer.new
         octets) }
-    ensures fault { IfErr result (λ fault. (start : S) (octets : List ℕ) → HasTaken F.is_frame
+    ensures fault { IfErr result (λ fault. (start : S) (octets : List ℕ) → HasCutFrames F.is_frame
         F.waits (S.took managed.now start sink.old) managed.now framer.old octets chunk.now
-        → (left : List ℕ) × HasTaken F.is_frame F.waits (λ frames. S.stopped managed.now start
+        → (left : List ℕ) × HasCutFrames F.is_frame F.waits (λ frames. S.stopped managed.now start
         sink.new frames fault) managed.now framer.new octets left) }
 {
     let mut left = chunk;

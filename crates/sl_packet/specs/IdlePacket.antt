@@ -3,7 +3,7 @@
 -- project's choice (mission profile).
 use Rattle.std.specs.Prelude.{◌≡◌, ℕ, ◌-◌, ◌≤◌, true, List, [], ◌∷◌, ◌++◌, length, replicate}
 use Rattle.sl_fields.specs.Field.{octets_of}
-use Rattle.sl_packet.specs.Packet.{IsPacket, is_idle_packet}
+use Rattle.sl_packet.specs.Packet.{IsPacket, is_idle_packet, longest_packet}
 
 -- The fields of the idle packet's header, with their widths: version 0, telemetry, no secondary
 -- header, the APID of idle packets, unsegmented, sequence count 0, and the length of a packet of
@@ -25,4 +25,4 @@ pub record IsIdlePacketOf (len : ℕ) (packet : List ℕ) : Type 0 where
 
 -- For each length from 7 to 65,542, `idle_packet` is an idle packet of this length.
 abbrev pub IdlePacketsAreIdle : Type 0
-IdlePacketsAreIdle = (len : ℕ) → 7 ≤ len → len ≤ 65542 → IsIdlePacketOf len (idle_packet len)
+IdlePacketsAreIdle = (len : ℕ) → 7 ≤ len → len ≤ longest_packet → IsIdlePacketOf len (idle_packet len)

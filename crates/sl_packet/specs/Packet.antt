@@ -18,6 +18,10 @@ apid_of octets = field 2 5 11 (take 2 octets)
 abbrev pub stated_packet_len : List ℕ → ℕ
 stated_packet_len octets = 7 + (packet_header (take 6 octets)).length
 
+-- the octets of the longest packet: the six of its header, and the 65,536 that its length can state
+abbrev pub longest_packet : ℕ
+longest_packet = 65542
+
 -- A space packet has version 0 and as many octets as its header states.
 pub record IsPacket (packet : List ℕ) : Type 0 where
   pub version : version_of packet ≡ 0

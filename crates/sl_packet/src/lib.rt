@@ -25,5 +25,5 @@ pub use idle::{is_idle, push_idle};
 pub use packet::{first_packet, need};
 pub use packets::Packets;
 pub use partial::Need;
-pub use reassembly::{add_part, give_back};
+pub use reassembly::{LONGEST_PACKET, add_part, give_back};
 pub use sink::{HandedOver, PacketSink, SinkFault, hand_over};

@@ -1,12 +1,13 @@
 //! Packets and service data units that come in parts, and the memory that they take.
 ghost use Rattle.std.specs.Prelude.{◌≡◌, ◌+◌, ◌≤◌, ◌<◌, ◌++◌, [], length, OnOk, OnErr};
 ghost use Rattle.std.specs.Vec.{vec_capacity, vec_len};
+ghost use Rattle.sl_packet.specs.Packet.{longest_packet};
 
 use std::alloc::AllocError;
 
 /// The length of the longest packet in octets: 6 of its header and 65,536 of its data. Service data
 /// units that are put together have the same bound, by this project's choice.
-const MOST_OCTETS: usize = 65542;
+pub const LONGEST_PACKET: usize = 65542;
 
 /// Adds a part of a packet or of a service data unit to the octets so far. The caller sees to it
 /// that the octets so far and the part are 65,542 octets together at most, the length of the
@@ -33,18 +34,18 @@ pub fn add_part(octets: &mut Vec<u8>, part: &[u8]) -> Result<(), AllocError>
 }
 
 // Makes room for `more` octets where there is none. The octets stay, and the capacity becomes no
-// greater than 65,542.
+// greater than that of the longest packet.
 #[cold]
 fn grow(octets: &mut Vec<u8>, more: usize) -> Result<(), AllocError>
     requires full { vec_capacity octets.old < vec_len octets.old + more }
-    requires fits { vec_len octets.old + more ≤ 65542 }
+    requires fits { vec_len octets.old + more ≤ longest_packet }
     ensures same { octets.new.items ≡ octets.old.items }
     ensures room { OnOk result (vec_len octets.old + more ≤ vec_capacity octets.new) }
-    ensures bounded { vec_capacity octets.new ≤ 65542 }
+    ensures bounded { vec_capacity octets.new ≤ longest_packet }
     ensures capacity { vec_capacity octets.old ≤ vec_capacity octets.new }
 {
     let wanted = octets.len() + more;
-    let doubled = (2 * octets.capacity()).min(MOST_OCTETS);
+    let doubled = (2 * octets.capacity()).min(LONGEST_PACKET);
     octets.reserve_exact(doubled.max(wanted) - octets.len())
 }
 

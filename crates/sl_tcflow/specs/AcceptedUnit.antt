@@ -18,8 +18,8 @@ abbrev pub views_of : TcFormat → ℕ → List (List ℕ) → List TcView
 views_of format spacecraft frames = filter_map (λ frame. result_ok (tc_frame format spacecraft frame)) frames
 
 -- the frames of a virtual channel, in order
-abbrev pub channel_of : ℕ → List TcView → List TcView
-channel_of vc views = filter (λ view. view.vc == vc) views
+abbrev pub views_on : ℕ → List TcView → List TcView
+views_on vc views = filter (λ view. view.vc == vc) views
 
 -- the event of FARM-1 that stands for the arrival of a frame with this content
 abbrev pub event_of : Content → FarmEvent

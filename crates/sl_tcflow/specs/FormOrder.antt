@@ -7,7 +7,7 @@ use Rattle.sl_fields.specs.NeverFall.{NeverFall}
 use Rattle.sl_tcframe.specs.AdFrame.{plain_room_of, segment_room_of}
 use Rattle.sl_tcframe.specs.TcFrame.{TcFormat, TcView, Ad}
 use Rattle.sl_tcframe.specs.VcSet.{has_vc}
-use Rattle.sl_tcflow.specs.AcceptedUnit.{channel_of, unit_of}
+use Rattle.sl_tcflow.specs.AcceptedUnit.{views_on, unit_of}
 use Rattle.sl_tcflow.specs.Canonical.{CanBeWritten}
 use Rattle.sl_tcflow.specs.Receiving.{map_of}
 use Rattle.sl_tcflow.specs.Recording.{recorded_views}
@@ -49,7 +49,7 @@ abbrev pub MapsNeverFall : Type 0
 MapsNeverFall =
     (format : TcFormat) (spacecraft : ℕ) (starts plain : List ℕ) (lists : List (List (List ℕ))) → CanBeWritten format spacecraft plain lists
     → (vc : ℕ) → vc < 64
-    → NeverFall 0 (map (λ (view : TcView). map_of (has_vc plain vc) view.content) (channel_of vc (form_views format spacecraft starts plain lists)))
+    → NeverFall 0 (map (λ (view : TcView). map_of (has_vc plain vc) view.content) (views_on vc (form_views format spacecraft starts plain lists)))
 
 -- Each frame of a virtual channel is of type AD. Its N(S) is the channel's initial V(R) plus the
 -- number of the channel's frames before it, modulo 256.
@@ -57,7 +57,7 @@ abbrev pub NsCounts : Type 0
 NsCounts =
     (format : TcFormat) (spacecraft : ℕ) (starts plain : List ℕ) (lists : List (List (List ℕ))) → CanBeWritten format spacecraft plain lists
     → (vc : ℕ) → vc < 64 → (before later : List TcView) (view : TcView)
-    → channel_of vc (form_views format spacecraft starts plain lists) ≡ before ++ view ∷ later
+    → views_on vc (form_views format spacecraft starts plain lists) ≡ before ++ view ∷ later
     → (unit : List ℕ) × (view.content ≡ Ad ((slice_index_or starts vc 0 + length before) % 256) unit)
 
 -- The frames of a virtual channel and a MAP carry the packets that the normal form was made from:
@@ -68,4 +68,4 @@ EachPacketIsOneSeries =
     (format : TcFormat) (spacecraft : ℕ) (starts plain : List ℕ) (lists : List (List (List ℕ))) → CanBeWritten format spacecraft plain lists
     → (vc map_id : ℕ) → vc < 64 → map_id < 64
     → CarryPackets (room_in (has_vc plain vc) format) map_id (slice_index_or lists (64 * vc + map_id) [])
-    (segments_in (has_vc plain vc) map_id (channel_of vc (form_views format spacecraft starts plain lists)))
+    (segments_in (has_vc plain vc) map_id (views_on vc (form_views format spacecraft starts plain lists)))

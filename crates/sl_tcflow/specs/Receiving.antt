@@ -6,7 +6,7 @@ use Rattle.sl_cop.specs.declared.verdict.Verdict.{Verdict}
 use Rattle.sl_cop.specs.Farm.{FarmView, farm_start, farm_step}
 use Rattle.sl_packet.specs.Packets.{without_idle}
 use Rattle.sl_tcframe.specs.TcFrame.{TcView, Content, Ad, Bd, Unlock, SetVr}
-use Rattle.sl_tcflow.specs.AcceptedUnit.{channel_of, event_of, farm_after, unit_by}
+use Rattle.sl_tcflow.specs.AcceptedUnit.{views_on, event_of, farm_after, unit_by}
 use Rattle.sl_tcflow.specs.Incomplete.{incomplete_of}
 use Rattle.sl_tcflow.specs.Reception.{packets_ended, segments_of}
 use Rattle.sl_tcflow.specs.ReceptionParameters.{ReceptionParameters, is_plain, initial_vr}
@@ -37,10 +37,10 @@ pub record ReceiverState : Type 0 where
 abbrev pub farm_at_start : ReceptionParameters → ℕ → FarmView
 farm_at_start r vc = record { window = r.window; state = farm_start (initial_vr r vc) }
 
--- FARM-1 of a virtual channel after these frames. `channel_of` picks the frames of this virtual
+-- FARM-1 of a virtual channel after these frames. `views_on` picks the frames of this virtual
 -- channel, and is no number of a channel.
 abbrev pub farm_of : ReceptionParameters → ℕ → List TcView → FarmView
-farm_of r vc views = record { window = r.window; state = farm_after r.window (initial_vr r vc) (channel_of vc views) }
+farm_of r vc views = record { window = r.window; state = farm_after r.window (initial_vr r vc) (views_on vc views) }
 
 -- `farms` has FARM-1 of each of the 64 virtual channels, as it is after these frames. By `count`
 -- there are 64, so `slice_index_or` never falls back on its last argument.

@@ -5,7 +5,7 @@ use Rattle.std.specs.Prelude.{◌≡◌, ℕ, ◌+◌, ◌==◌, nat_le, if◌th
 use Rattle.std.specs.List.{filter}
 use Rattle.sl_packet.specs.Packets.{packets_of}
 use Rattle.sl_tcframe.specs.TcFrame.{TcView}
-use Rattle.sl_tcflow.specs.AcceptedUnit.{channel_of, accepted_units}
+use Rattle.sl_tcflow.specs.AcceptedUnit.{views_on, accepted_units}
 use Rattle.sl_tcflow.specs.ReceptionParameters.{ReceptionParameters, is_plain, initial_vr}
 use Rattle.sl_tcflow.specs.Series.{SeriesAt, past, reassembled, segment_in, segments_on, series_of}
 
@@ -28,7 +28,7 @@ packets_ended list next =
 -- the segments of a virtual channel and a MAP, from the accepted units of these frames
 abbrev pub segments_of : ReceptionParameters → ℕ → ℕ → List TcView → List (List ℕ)
 segments_of r vc map_id views =
-    segments_on map_id (map (segment_in (is_plain r vc)) (accepted_units r.window (initial_vr r vc) (channel_of vc views)))
+    segments_on map_id (map (segment_in (is_plain r vc)) (accepted_units r.window (initial_vr r vc) (views_on vc views)))
 
 -- ---- laws
 

@@ -14,7 +14,7 @@ use Rattle.sl_cop.specs.FarmClcw.{clcw_of}
 use Rattle.sl_cop.specs.Reordered.{Arrival, Copy, OfTypeBd, UnlockCommand, AreInWindow, AreNear, AtEachMoment, ns_of}
 use Rattle.sl_packet.specs.Packets.{without_idle}
 use Rattle.sl_tcframe.specs.TcFrame.{TcFormat, TcView, Ad, Bd, Unlock}
-use Rattle.sl_tcflow.specs.AcceptedUnit.{accepted_ad_units, accepted_units, channel_of, event_of, farm_after}
+use Rattle.sl_tcflow.specs.AcceptedUnit.{accepted_ad_units, accepted_units, views_on, event_of, farm_after}
 use Rattle.sl_tcflow.specs.Receiving.{HaveStepped, channel_at, farm_at_start}
 use Rattle.sl_tcflow.specs.Reception.{packets_of_segments, segments_of}
 use Rattle.sl_tcflow.specs.ReceptionParameters.{ReceptionParameters, is_plain, initial_vr}
@@ -51,7 +51,7 @@ expected_ns w vr channel = ns_of vr (accepted_ad_count w vr channel)
 
 -- what is read of the frames of a recording on a virtual channel; skipped frames are on none
 abbrev pub recorded_channel : TcFormat → ℕ → ℕ → List ℕ → List TcView
-recorded_channel format spacecraft vc recording = channel_of vc (recorded_views format spacecraft recording)
+recorded_channel format spacecraft vc recording = views_on vc (recorded_views format spacecraft recording)
 
 -- the packets that a recording delivers on a virtual channel and MAP, idle packets left out
 abbrev pub recorded_packets : TcFormat → ℕ → ReceptionParameters → ℕ → ℕ → List ℕ → List (List ℕ)
@@ -107,8 +107,8 @@ AdUnitsAreAll = (w vr : ℕ) (channel : List TcView) → HaveNoBd channel → ac
 -- BD.
 abbrev pub PacketsInOrder : Type 0
 PacketsInOrder =
-    (r : ReceptionParameters) (vc map_id : ℕ) (sent : List (List ℕ)) (views : List TcView) (arrivals : List Arrival) → AreReordered r.window (initial_vr r vc) sent (channel_of vc views) arrivals
-    → HaveNoBd (channel_of vc views)
+    (r : ReceptionParameters) (vc map_id : ℕ) (sent : List (List ℕ)) (views : List TcView) (arrivals : List Arrival) → AreReordered r.window (initial_vr r vc) sent (views_on vc views) arrivals
+    → HaveNoBd (views_on vc views)
     → IsPrefix (packets_of_segments (segments_of r vc map_id views)) (packets_of_segments (segments_sent r vc map_id sent))
 
 -- The packets that a recording delivers on a virtual channel and MAP are a prefix of the packets of
@@ -140,5 +140,5 @@ ExpectedUnitIsAccepted =
 abbrev pub ReceiverCountsUnits : Type 0
 ReceiverCountsUnits =
     (r : ReceptionParameters) (vc : ℕ) (sent : List (List ℕ)) (farms : List FarmView) (views : List TcView) (arrivals : List Arrival) → vc < 64
-    → HaveStepped r farms views → AreReordered r.window (initial_vr r vc) sent (channel_of vc views) arrivals
-    → (clcw_of vc (slice_index_or farms vc (farm_at_start r vc)).state).report ≡ expected_ns r.window (initial_vr r vc) (channel_of vc views)
+    → HaveStepped r farms views → AreReordered r.window (initial_vr r vc) sent (views_on vc views) arrivals
+    → (clcw_of vc (slice_index_or farms vc (farm_at_start r vc)).state).report ≡ expected_ns r.window (initial_vr r vc) (views_on vc views)

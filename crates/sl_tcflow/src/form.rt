@@ -61,9 +61,9 @@ impl<'d> Model for TcForm<'d> {
 
     ghost Value = { List ℕ };
 
-    ghost use Rattle.sl_tcflow.specs.TcFormModel.{octets_left, IsTcForm};
+    ghost use Rattle.sl_tcflow.specs.TcFormModel.{octets_to_come, IsTcForm};
 
-    ghost view = { octets_left };
+    ghost view = { octets_to_come };
 
     ghost invariant = { IsTcForm };
 }

@@ -10,13 +10,9 @@ ghost use Rattle.sl_tcflow.specs.StepReport.{counts_of};
 use crate::hand_over::hand;
 use crate::report::{EMPTY_STEP, TcStep};
 use crate::segment::{CONTINUING, FIRST, LAST, Segment};
-use sl_packet::{FlowFault, PacketSink, add_part, give_back};
+use sl_packet::{FlowFault, LONGEST_PACKET, PacketSink, add_part, give_back};
 use std::alloc::Global;
 use std::marker::Model;
-
-/// The greatest number of octets of a service data unit, that of the longest packet. This bound is
-/// this project's choice.
-const MOST_OCTETS: usize = 65542;
 
 /// The memory of an ended series is kept for the next series where its capacity is at most this
 /// number of octets.
@@ -154,7 +150,7 @@ impl Incomplete {
                 ..EMPTY_STEP
             });
         }
-        if self.octets.len() + octets.len() > MOST_OCTETS {
+        if self.octets.len() + octets.len() > LONGEST_PACKET {
             self.give_up();
             return Ok(TcStep {
                 long: true,

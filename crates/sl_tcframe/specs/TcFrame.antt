@@ -179,10 +179,14 @@ tc_frame format spacecraft frame =
 
 -- ---- ranges
 
--- a unit has 1 to 1019 octets
+-- the octets of the longest unit: those of the longest frame without its header
+abbrev pub longest_unit : ℕ
+longest_unit = 1019
+
+-- a unit has at least one octet, and at most as many as the longest one
 abbrev pub IsContent : Content → Type 0
-IsContent (Ad ns unit) = (0 < length unit) × (length unit ≤ 1019)
-IsContent (Bd unit) = (0 < length unit) × (length unit ≤ 1019)
+IsContent (Ad ns unit) = (0 < length unit) × (length unit ≤ longest_unit)
+IsContent (Bd unit) = (0 < length unit) × (length unit ≤ longest_unit)
 IsContent Unlock = ⊤
 IsContent (SetVr vr) = ⊤
 

@@ -45,13 +45,13 @@ at_start format = record { format = format; rest = [] }
 
 -- the octets that were taken after the last frame, from the flag `is_lent` and the octets `taken`:
 -- none where `taken` is the last frame itself
-abbrev pub rest_of : Bool → List ℕ → List ℕ
-rest_of true taken = []
-rest_of false taken = taken
+abbrev pub waiting_octets : Bool → List ℕ → List ℕ
+waiting_octets true taken = []
+waiting_octets false taken = taken
 
 -- what a `TcFramer` of the code stands for
 abbrev pub framing_of : Inside → TcFraming
-framing_of f = record { format = f.shape; rest = rest_of f.is_lent f.taken.items }
+framing_of f = record { format = f.shape; rest = waiting_octets f.is_lent f.taken.items }
 
 -- The octets that a framer took after the last frame: no frame is whole at their front. Where the
 -- first four state a length below the least, there are only these four.

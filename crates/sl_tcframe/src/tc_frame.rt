@@ -1,7 +1,7 @@
 //! The TC transfer frame, as it is read.
 ghost use Rattle.std.specs.Prelude.{◌≡◌, ◌-◌, ◌<◌, ◌≤◌, true, length, drop, option_map, IfSome};
 ghost use Rattle.sl_tcframe.specs.TcFrame.{tc_header_of, command_of, content_of, early_reason};
-ghost use Rattle.sl_tcframe.specs.TcFrame.{is_cut, tc_parts_of, IsContent};
+ghost use Rattle.sl_tcframe.specs.TcFrame.{is_cut, longest_unit, tc_parts_of, IsContent};
 ghost use Rattle.sl_tcframe.specs.TcContent.{content};
 
 use crate::tc_shape::TcShape;
@@ -173,7 +173,7 @@ fn early_skip_of(
 // of type BC has no control command in it.
 #[inline(always)]
 fn content_under<'a>(header: &TcHeader, field: &'a [u8]) -> Option<TcContent<'a>>
-    requires { length field.now ≤ 1019 }
+    requires { length field.now ≤ longest_unit }
     // The content is the one that `content_of` gives, and a unit has 1 to 1019 octets.
     ensures value { option_map content result ≡ content_of header.now field.now }
     ensures inside { IfSome result (λ c. IsContent (content c)) }

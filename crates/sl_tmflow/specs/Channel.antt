@@ -11,8 +11,8 @@ abbrev pub views_of : TmFormat → ℕ → List (List ℕ) → List TmView
 views_of format spacecraft frames = filter_map (λ frame. result_ok (tm_frame format spacecraft frame)) frames
 
 -- the frames of a virtual channel
-abbrev pub channel_of : ℕ → List TmView → List TmView
-channel_of vc views = filter (λ view. view.vc == vc) views
+abbrev pub views_on : ℕ → List TmView → List TmView
+views_on vc views = filter (λ view. view.vc == vc) views
 
 -- whether a virtual channel frame count follows another one: it is one more, modulo 256
 abbrev pub follows : ℕ → ℕ → Bool

@@ -89,8 +89,8 @@ foreign_in Idle = false
 foreign_in Opaque = false
 
 -- the state after the next frame
-abbrev pub state_after : ChannelState → TmView → ChannelState
-state_after state next =
+abbrev pub channel_after : ChannelState → TmView → ChannelState
+channel_after state next =
     record {
       count = Some next.vc_count;
       held = held_after next.field (kept_octets (step_in state next) state.held next);

@@ -3,7 +3,7 @@ use Rattle.std.specs.Prelude.{◌≡◌, ◌≢◌, ◌⊎◌, ℕ, ◌<◌, ◌
 use Rattle.std.specs.List.{AllByRecursion, slice_index_or}
 use Rattle.sl_packet.specs.Packets.{without_idle}
 use Rattle.sl_tmframe.specs.TmFrame.{TmView}
-use Rattle.sl_tmflow.specs.Channel.{channel_of, last_count}
+use Rattle.sl_tmflow.specs.Channel.{views_on, last_count}
 use Rattle.sl_tmflow.specs.ChannelState.{ChannelState, KeptChannel, new_channel}
 use Rattle.sl_tmflow.specs.Delivery.{packets_ending}
 use Rattle.sl_tmflow.specs.Incomplete.{incomplete_of}
@@ -28,7 +28,7 @@ pub record HasSeen (state : ChannelState) (channel : List TmView) : Type 0 where
 -- Other lists of frames may lead to the same state.
 pub record HasProcessed (state : ExtractorState) (views : List TmView) : Type 0 where
   pub working : state.has_failed ≡ false
-  pub each : (vc : ℕ) → vc < 8 → HasSeen (slice_index_or state.channels vc new_channel).state (channel_of vc views)
+  pub each : (vc : ℕ) → vc < 8 → HasSeen (slice_index_or state.channels vc new_channel).state (views_on vc views)
 
 -- some frames were processed, and no fault came
 abbrev pub IsWorking : ExtractorState → Type 0
@@ -49,11 +49,11 @@ IsFailed state = state.has_failed ≡ true
 
 -- the packets that end in the next frame after these frames, idle ones included
 abbrev pub ended_by : List TmView → TmView → List (List ℕ)
-ended_by views next = packets_ending (channel_of next.vc views) next
+ended_by views next = packets_ending (views_on next.vc views) next
 
 -- a packet is incomplete on the next frame's virtual channel, before that frame or after it
 abbrev pub IsIncompleteAround : List TmView → TmView → Type 0
-IsIncompleteAround views next = (incomplete_of (channel_of next.vc views) ≢ []) ⊎ (incomplete_of (channel_of next.vc (views ++ next ∷ [])) ≢ [])
+IsIncompleteAround views next = (incomplete_of (views_on next.vc views) ≢ []) ⊎ (incomplete_of (views_on next.vc (views ++ next ∷ [])) ≢ [])
 
 -- the packets that an extractor hands over for a virtual channel: it has processed the first list
 -- of frames and is given the frames of the second list one after another, and each call answers Ok

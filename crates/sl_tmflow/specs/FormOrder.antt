@@ -7,7 +7,7 @@ use Rattle.sl_fields.specs.NeverFall.{NeverFall}
 use Rattle.sl_tmframe.specs.PacketFrame.{field_room_of}
 use Rattle.sl_tmframe.specs.TmFrame.{TmFormat, TmView, Packets}
 use Rattle.sl_tmflow.specs.Canonical.{AreDeliverable, IsFormat}
-use Rattle.sl_tmflow.specs.Channel.{channel_of, packet_data}
+use Rattle.sl_tmflow.specs.Channel.{views_on, packet_data}
 use Rattle.sl_tmflow.specs.NormalForm.{normal_form, with_filling}
 use Rattle.sl_tmflow.specs.Recording.{recorded_views}
 
@@ -48,7 +48,7 @@ McCounts =
 abbrev pub VcCounts : Type 0
 VcCounts =
     (format : TmFormat) (spacecraft : ℕ) (lists : List (List (List ℕ))) → IsFormat format → spacecraft ≤ 1023 → AreDeliverable lists
-    → (vc : ℕ) (before later : List TmView) (view : TmView) → channel_of vc (form_views format spacecraft lists) ≡ before ++ view ∷ later
+    → (vc : ℕ) (before later : List TmView) (view : TmView) → views_on vc (form_views format spacecraft lists) ≡ before ++ view ∷ later
     → view.vc_count ≡ length before % 256
 
 -- The data fields of a virtual channel, end to end, are the channel's packets, end to end, filled
@@ -57,5 +57,5 @@ abbrev pub PacketsLieEndToEnd : Type 0
 PacketsLieEndToEnd =
     (format : TmFormat) (spacecraft : ℕ) (lists : List (List (List ℕ))) → IsFormat format → spacecraft ≤ 1023 → AreDeliverable lists
     → (vc : ℕ) → vc < 8
-    → concat (map packet_data (channel_of vc (form_views format spacecraft lists)))
+    → concat (map packet_data (views_on vc (form_views format spacecraft lists)))
     ≡ concat (with_filling (field_room_of format) (slice_index_or lists vc []))

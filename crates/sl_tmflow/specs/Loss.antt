@@ -5,7 +5,7 @@ use Rattle.std.specs.List.{filter, list_all, list_any, range_with_len, slice_ind
 use Rattle.sl_packet.specs.Packets.{without_idle}
 use Rattle.sl_tmframe.specs.TmFrame.{TmFormat, TmView}
 use Rattle.sl_tmflow.specs.Among.{IsAmong}
-use Rattle.sl_tmflow.specs.Channel.{AreConsecutive, channel_of}
+use Rattle.sl_tmflow.specs.Channel.{AreConsecutive, views_on}
 use Rattle.sl_tmflow.specs.Delivery.{Delivery, IsDelivery, deliveries_of, packets_delivered}
 use Rattle.sl_tmflow.specs.Extraction.{handed_over}
 use Rattle.sl_tmflow.specs.Recording.{recorded_views, tm_lists}
@@ -125,21 +125,21 @@ PacketsAreSublist =
 -- idle packets left out, where each call answers Ok.
 abbrev pub HandedOverAreKept : Type 0
 HandedOverAreKept =
-    (vc : ℕ) (channel : List TmView) (numbers : List ℕ) (views : List TmView) → AreKept channel numbers (channel_of vc views)
+    (vc : ℕ) (channel : List TmView) (numbers : List ℕ) (views : List TmView) → AreKept channel numbers (views_on vc views)
     → handed_over vc [] views ≡ without_idle (kept_packets numbers channel)
 
 -- The packets that an extractor hands over from the kept frames are a sublist of those of the whole
 -- channel.
 abbrev pub HandedOverAreSublist : Type 0
 HandedOverAreSublist =
-    (vc : ℕ) (channel : List TmView) (numbers : List ℕ) (views : List TmView) → AreKept channel numbers (channel_of vc views)
+    (vc : ℕ) (channel : List TmView) (numbers : List ℕ) (views : List TmView) → AreKept channel numbers (views_on vc views)
     → IsSublist (handed_over vc [] views) (without_idle (packets_delivered (deliveries_of channel)))
 
 -- ---- recordings
 
 -- the frames of a recording on a virtual channel; a skipped frame is on no virtual channel
 abbrev pub recorded_channel : TmFormat → ℕ → ℕ → List ℕ → List TmView
-recorded_channel format spacecraft vc recording = channel_of vc (recorded_views format spacecraft recording)
+recorded_channel format spacecraft vc recording = views_on vc (recorded_views format spacecraft recording)
 
 -- the packets that a recording delivers on a virtual channel, idle packets left out
 abbrev pub recorded_packets : TmFormat → ℕ → ℕ → List ℕ → List (List ℕ)

@@ -5,7 +5,7 @@ use Rattle.std.specs.List.{range_with_len}
 use Rattle.sl_packet.specs.Packets.{without_idle}
 use Rattle.sl_tmframe.specs.TmDelimited.{tm_frames_of}
 use Rattle.sl_tmframe.specs.TmFrame.{TmFormat, TmView}
-use Rattle.sl_tmflow.specs.Channel.{views_of, channel_of}
+use Rattle.sl_tmflow.specs.Channel.{views_of, views_on}
 use Rattle.sl_tmflow.specs.Delivery.{deliveries_of, packets_delivered}
 
 -- the views of the frames of a recording that aren't skipped, in order
@@ -18,7 +18,7 @@ virtual_channels = range_with_len 0 8
 
 -- the packets that a virtual channel delivers, idle ones included
 abbrev pub packets_of_channel : List TmView → ℕ → List (List ℕ)
-packets_of_channel views vc = packets_delivered (deliveries_of (channel_of vc views))
+packets_of_channel views vc = packets_delivered (deliveries_of (views_on vc views))
 
 -- the packets that a recording delivers on each virtual channel, idle packets left out: eight lists
 abbrev pub tm_lists : TmFormat → ℕ → List ℕ → List (List (List ℕ))

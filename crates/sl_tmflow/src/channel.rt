@@ -8,7 +8,7 @@ ghost use Rattle.sl_tmframe.specs.TmFrame.{IsInField, Packets};
 ghost use Rattle.sl_tmflow.specs.Anomaly.{gap_after};
 ghost use Rattle.sl_tmflow.specs.ChannelState.{foreign_in, held_after, incomplete_in, is_after};
 ghost use Rattle.sl_tmflow.specs.ChannelState.{kept_octets, kept_of, lost_by, lost_of, new_channel};
-ghost use Rattle.sl_tmflow.specs.ChannelState.{packets_after, state_after, step_in};
+ghost use Rattle.sl_tmflow.specs.ChannelState.{packets_after, channel_after, step_in};
 ghost use Rattle.sl_tmflow.specs.Delivery.{ended, field_step};
 ghost use Rattle.sl_tmflow.specs.PacketStart.{whole_packets};
 ghost use Rattle.sl_tmflow.specs.StepReport.{counts_of};
@@ -64,7 +64,7 @@ impl Channel {
         sink: &mut S,
     ) -> Result<TmStep, FlowFault>
         // The state after the frame, and the packets that end in it.
-        ensures state { OnOk result (self.new.state ≡ state_after self.old.state frame.now) }
+        ensures state { OnOk result (self.new.state ≡ channel_after self.old.state frame.now) }
         ensures hands_over { HandsOver S.taking S.failing S.failures counts_of
             sink.old frame.now.vc (packets_after self.old.state frame.now) result sink.new }
 
@@ -77,7 +77,7 @@ impl Channel {
 
         // Memory is refused only where a packet is incomplete, before the frame or after it.
         ensures memory { IfErr result (λ flow. flow ≡ FlowFault.Memory
-            → (self.old.state.held ≢ []) ⊎ ((state_after self.old.state frame.now).held ≢ [])) }
+            → (self.old.state.held ≢ []) ⊎ ((channel_after self.old.state frame.now).held ≢ [])) }
     {
         let gap = self.gap_at(frame.vc_count());
         // The packet that was incomplete before the frame comes first, then those that start in it.

@@ -4,7 +4,7 @@ ghost use Rattle.sl_packet.specs.Packets.{only_idle, without_idle};
 ghost use Rattle.sl_packet.specs.Sink.{TakesAll};
 ghost use Rattle.std.specs.List.{concat};
 ghost use Rattle.sl_tmflow.specs.Anomaly.{dropped_of, foreign_of, gap_of};
-ghost use Rattle.sl_tmflow.specs.Channel.{channel_of};
+ghost use Rattle.sl_tmflow.specs.Channel.{views_on};
 ghost use Rattle.sl_tmflow.specs.Incomplete.{incomplete_of};
 ghost use Rattle.sl_tmflow.specs.Extraction.{ForProcessed, HasProcessed, IsFailed, HasNoMemory};
 ghost use Rattle.sl_tmflow.specs.Extraction.{IsIncompleteAround, ended_by};
@@ -86,9 +86,9 @@ impl Extractor {
         // The anomalies: a count that doesn't follow the last one, an incomplete packet that the
         // frame breaks off, and octets of another packet version at a packet start.
         ensures gap { IfOk result (λ step. ForProcessed self.old (λ views.
-            step.gap ≡ gap_of (channel_of frame.now.vc views) frame.now)) }
+            step.gap ≡ gap_of (views_on frame.now.vc views) frame.now)) }
         ensures dropped { IfOk result (λ step. ForProcessed self.old (λ views.
-            step.dropped ≡ dropped_of (channel_of frame.now.vc views) frame.now)) }
+            step.dropped ≡ dropped_of (views_on frame.now.vc views) frame.now)) }
         ensures foreign { IfOk result (λ step. step.foreign ≡ foreign_of frame.now.field) }
 
         // After a fault each call answers `Failed`, and leaves the extractor and the sink as they
@@ -130,7 +130,7 @@ impl Extractor {
     pub fn held(&self, vc: u8) -> u32
         requires { vc ≤ 7 }
         ensures value { ForProcessed self.now (λ views.
-            result ≡ length (concat (incomplete_of (channel_of vc views)))) }
+            result ≡ length (concat (incomplete_of (views_on vc views)))) }
         ensures most { result ≤ 65541 }
         ensures failed { IsFailed self.now → result ≡ 0 }
     {

@@ -196,9 +196,13 @@ tm_frame format spacecraft frame = read_as (skip_reason format spacecraft frame)
 
 -- ---- ranges
 
--- a data field of packets has at most 2042 octets, and the first packet start lies in it
+-- the octets of the longest data field: those of the longest frame without its header
+abbrev pub longest_field : ℕ
+longest_field = 2042
+
+-- a data field of packets is no longer than that, and the first packet start lies in it
 abbrev pub IsInField : DataField → Type 0
-IsInField (Packets first octets) = IfSome first (λ start. start < length octets) × (length octets ≤ 2042)
+IsInField (Packets first octets) = IfSome first (λ start. start < length octets) × (length octets ≤ longest_field)
 IsInField Idle = ⊤
 IsInField Opaque = ⊤
 

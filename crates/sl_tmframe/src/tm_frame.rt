@@ -1,7 +1,7 @@
 //! The TM transfer frame, as it is read.
 ghost use Rattle.std.specs.Prelude.{◌≡◌, ◌-◌, ◌<◌, ◌≤◌, length, take, drop, if◌then◌else◌, Some};
 ghost use Rattle.std.specs.Prelude.{None};
-ghost use Rattle.sl_tmframe.specs.TmFrame.{tm_header_of, class_of, skip_reason, IsInField};
+ghost use Rattle.sl_tmframe.specs.TmFrame.{tm_header_of, class_of, longest_field, skip_reason, IsInField};
 ghost use Rattle.sl_tmframe.specs.TmField.{data_field};
 
 use crate::tm_shape::TmShape;
@@ -180,7 +180,7 @@ fn split_control<'a>(header: &TmHeader, behind: &'a [u8]) -> (&'a [u8], Option<[
 // The content of a data field, in a frame with this header.
 #[inline(always)]
 fn data_field_of<'a>(header: &TmHeader, field: &'a [u8]) -> TmField<'a>
-    requires { length field.now ≤ 2042 }
+    requires { length field.now ≤ longest_field }
     ensures class { data_field result ≡ class_of header.now field.now }
     ensures inside { IsInField (data_field result) }
 {

@@ -38,16 +38,16 @@ count_of [] = 0
 count_of (items ∷ lists) = length items + count_of lists
 
 -- the packets that frames deliver on each channel, idle packets left out
-abbrev pub lists_in : Kind → List (List ℕ) → List (List (List ℕ))
-lists_in k frames = map (λ channel. without_idle (k.packets frames channel)) k.channels
+abbrev pub delivered_packets : Kind → List (List ℕ) → List (List (List ℕ))
+delivered_packets k frames = map (λ channel. without_idle (k.packets frames channel)) k.channels
 
 -- the packets that a recording delivers on each channel, idle packets left out
-abbrev pub packets_of : Kind → List ℕ → List (List (List ℕ))
-packets_of k recording = lists_in k (k.frames_of recording)
+abbrev pub recorded_packets : Kind → List ℕ → List (List (List ℕ))
+recorded_packets k recording = delivered_packets k (k.frames_of recording)
 
 -- the number of packets that frames deliver, idle packets left out
 abbrev pub number_of_packets : Kind → List (List ℕ) → ℕ
-number_of_packets k frames = count_of (lists_in k frames)
+number_of_packets k frames = count_of (delivered_packets k frames)
 
 -- the number of idle packets that frames deliver
 abbrev pub number_of_idle : Kind → List (List ℕ) → ℕ

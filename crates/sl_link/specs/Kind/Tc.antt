@@ -36,11 +36,11 @@ unit_channel_of r (Ok view) = unit_channel r view
 unit_channel_of r (Err reason) = 0
 
 -- N(S), in a frame of type AD
-abbrev pub ns_of : Content → Option ℕ
-ns_of (Ad ns unit) = Some ns
-ns_of (Bd unit) = None
-ns_of Unlock = None
-ns_of (SetVr vr) = None
+abbrev pub content_ns : Content → Option ℕ
+content_ns (Ad ns unit) = Some ns
+content_ns (Bd unit) = None
+content_ns Unlock = None
+content_ns (SetVr vr) = None
 
 -- what is found of a frame that is read: its virtual channel and MAP; N(S), in a frame of type AD;
 -- the verdict of FARM-1; whether a segment is out of sequence; how many octets the series has that is
@@ -62,7 +62,7 @@ found_after r views (Ok view) =
     Ok (record {
       vc = view.vc;
       map = map_by r view;
-      ns = ns_of view.content;
+      ns = content_ns view.content;
       verdict = verdict_on r views view;
       stray = stray_by r views view;
       dropped = dropped_by r views view;
@@ -117,8 +117,8 @@ MayRefuseMemoryTc p = MayRefuseMemory (tc_kind p) (IsIncompleteAtLastTc p)
 -- ---- a receiver. Contracts of private functions alone cite this.
 
 -- the octets of the series that are incomplete after frames
-abbrev pub held_after : Parameters → List (List ℕ) → ℕ
-held_after p frames =
+abbrev pub octets_held_after : Parameters → List (List ℕ) → ℕ
+octets_held_after p frames =
     count_of (map (held_in (reception_of p) (views_of (tc_format p) p.spacecraft frames)) map_channels)
 
 -- A receiver has processed these frames. The packets that they deliver and the octets that it holds
@@ -126,4 +126,4 @@ held_after p frames =
 pub record HasProcessedTc (p : Parameters) (state : ReceiverState) (frames : List (List ℕ)) : Type 0 where
   pub processed : HasProcessed (reception_of p) state (views_of (tc_format p) p.spacecraft frames)
   pub within : IsWithin (tc_kind p) frames
-  pub held : number_of_packets (tc_kind p) frames + number_of_idle (tc_kind p) frames + held_after p frames ≤ length (concat frames)
+  pub held : number_of_packets (tc_kind p) frames + number_of_idle (tc_kind p) frames + octets_held_after p frames ≤ length (concat frames)

@@ -4,7 +4,7 @@ use Rattle.sl_tmframe.specs.declared.tm_frame.TmSkip.{TmSkip}
 use Rattle.sl_tmframe.specs.TmDelimited.{tm_frames_of}
 use Rattle.sl_tmframe.specs.TmFrame.{TmView, DataField, Packets, Idle, Opaque, tm_frame}
 use Rattle.sl_tmflow.specs.Anomaly.{dropped_of, foreign_of, gap_of}
-use Rattle.sl_tmflow.specs.Channel.{channel_of, views_of}
+use Rattle.sl_tmflow.specs.Channel.{views_on, views_of}
 use Rattle.sl_tmflow.specs.Extraction.{ExtractorState, HasProcessed, IsIncompleteAround, ended_by}
 use Rattle.sl_tmflow.specs.Recording.{packets_of_channel, tm_lists, virtual_channels}
 use Rattle.sl_link.specs.Kind.Delivery.{IsWithin, Kind, MayRefuseMemory, counts_in}
@@ -55,8 +55,8 @@ found_after views (Ok view) =
     Ok (record {
       vc = view.vc;
       vc_count = view.vc_count;
-      gap = gap_of (channel_of view.vc views) view;
-      dropped = dropped_of (channel_of view.vc views) view;
+      gap = gap_of (views_on view.vc views) view;
+      dropped = dropped_of (views_on view.vc views) view;
       opaque = is_opaque view.field;
       foreign = foreign_of view.field;
     })

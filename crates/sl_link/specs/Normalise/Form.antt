@@ -6,7 +6,7 @@ use Rattle.sl_link.specs.declared.link.counted.Counted.{Counted}
 use Rattle.sl_link.specs.declared.link.fault.LinkFault.{LinkFault}
 use Rattle.sl_link.specs.declared.link.fault.LinkFault.TheVariants.{Memory}
 use Rattle.sl_link.specs.Io.Streams.{ReadsAll}
-use Rattle.sl_link.specs.Kind.Delivery.{AreDelivered, AreStored, Kind, counts_in, packets_of}
+use Rattle.sl_link.specs.Kind.Delivery.{AreDelivered, AreStored, Kind, counts_in, recorded_packets}
 use Rattle.sl_link.specs.Link.Totals.{Counts}
 use Rattle.sl_link.specs.Tally.{listing_counts}
 
@@ -14,7 +14,7 @@ use Rattle.sl_link.specs.Tally.{listing_counts}
 
 -- the normal form of a recording's packets
 abbrev pub form_text : Kind → (List (List (List ℕ)) → List ℕ) → List ℕ → List ℕ
-form_text k form_of recording = form_of (packets_of k recording)
+form_text k form_of recording = form_of (recorded_packets k recording)
 
 -- the lists of the channels, of all that are stored
 abbrev pub listed : Kind → List (List (List ℕ)) → List (List (List ℕ))
@@ -41,7 +41,7 @@ IsRefused at_memory fault = (fault ≡ Memory) × at_memory
 
 module _ {F : Type 0} (left : F → List ℕ → Type 0) where
   -- the next piece went from the front of what was left to the end of a text
-  pub record AddsPiece (old : F) (text : List ℕ) (new : F) (text' : List ℕ) : Type 0 where
+  pub record MovesPiece (old : F) (text : List ℕ) (new : F) (text' : List ℕ) : Type 0 where
     pub piece : List ℕ
     pub added : text' ≡ text ++ piece
     pub remainder : (octets : List ℕ) → left old octets → (more : List ℕ) × ((octets ≡ piece ++ more) × left new more)

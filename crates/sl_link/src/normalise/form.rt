@@ -21,7 +21,7 @@ const FORM_SIZE: usize = 0x40000;
 pub trait Form {
     ghost use Rattle.std.specs.Prelude.{◌≡◌, ◌+◌, ◌≤◌, ◌<◌, ℕ, List, IfErr, IfOk, OnOk, OnErr, IsTrue, IsFalse, vec_len};
     ghost use Rattle.std.specs.Vec.{vec_capacity};
-    ghost use Rattle.sl_link.specs.Normalise.Form.{AddsPiece, IsAllMade, IsFewer, KeepsLeft, piece_size};
+    ghost use Rattle.sl_link.specs.Normalise.Form.{MovesPiece, IsAllMade, IsFewer, KeepsLeft, piece_size};
     ghost use Rattle.sl_link.specs.declared.link.fault.LinkFault.{LinkFault};
 
     /// These octets are still to come.
@@ -40,7 +40,7 @@ pub trait Form {
     /// a form of packets: to one that isn't ready, or whose text has no room for a piece.
     fn next(&mut self, text: &mut Vec<u8>) -> Result<bool, LinkFault>
         ensures piece { OnOk result
-            (AddsPiece left self.old text.old.items self.new text.new.items) }
+            (MovesPiece left self.old text.old.items self.new text.new.items) }
         ensures fewer { IfOk result (λ more. IsTrue more
             → IsFewer left most self.old self.new) }
         ensures all { IfOk result (λ more. IsFalse more → IsAllMade left self.old) }

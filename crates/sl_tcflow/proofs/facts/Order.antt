@@ -2,7 +2,7 @@
 -- the first with two MAPs and V(R) 255, the second without segment headers.
 use Rattle.std.proofs.Common.{◌≡◌, ℕ, true, false, List, [], ◌∷◌, ◌++◌, map, replicate, take, drop, refl}
 use Rattle.sl_tcframe.specs.TcFrame.{TcFormat, TcView, Ad}
-use Rattle.sl_tcflow.specs.AcceptedUnit.{channel_of}
+use Rattle.sl_tcflow.specs.AcceptedUnit.{views_on}
 use Rattle.sl_tcflow.specs.FormOrder.{form_views, segments_in}
 use Rattle.sl_tcflow.specs.Receiving.{map_of}
 use Rattle.sl_tcflow.specs.Series.{whole_segment}
@@ -31,12 +31,12 @@ pub record FormIsInOrder : Type 0 where
   pub frames : views
       ≡ record { vc = 0; content = Ad 255 first_segment } ∷ record { vc = 0; content = Ad 0 last_segment }
       ∷ record { vc = 0; content = Ad 1 (0xC1 ∷ short) } ∷ record { vc = 1; content = Ad 0 short } ∷ []
-  pub maps : map (λ (view : TcView). map_of false view.content) (channel_of 0 views) ≡ 0 ∷ 0 ∷ 1 ∷ []
-  pub map_without : map (λ (view : TcView). map_of true view.content) (channel_of 1 views) ≡ 0 ∷ []
-  pub one_series : segments_in false 0 (channel_of 0 views) ≡ first_segment ∷ last_segment ∷ []
-  pub one_segment : segments_in false 1 (channel_of 0 views) ≡ (0xC1 ∷ short) ∷ []
-  pub whole_packet : segments_in true 0 (channel_of 1 views) ≡ whole_segment short ∷ []
-  pub none_on_map_1 : segments_in true 1 (channel_of 1 views) ≡ []
+  pub maps : map (λ (view : TcView). map_of false view.content) (views_on 0 views) ≡ 0 ∷ 0 ∷ 1 ∷ []
+  pub map_without : map (λ (view : TcView). map_of true view.content) (views_on 1 views) ≡ 0 ∷ []
+  pub one_series : segments_in false 0 (views_on 0 views) ≡ first_segment ∷ last_segment ∷ []
+  pub one_segment : segments_in false 1 (views_on 0 views) ≡ (0xC1 ∷ short) ∷ []
+  pub whole_packet : segments_in true 0 (views_on 1 views) ≡ whole_segment short ∷ []
+  pub none_on_map_1 : segments_in true 1 (views_on 1 views) ≡ []
 
 pub form_is_in_order : FormIsInOrder
 form_is_in_order = assumption

@@ -5,7 +5,7 @@ use Rattle.std.specs.List.{slice_set}
 use Rattle.sl_tcframe.specs.AdFrame.{plain_room_of}
 use Rattle.sl_tcframe.specs.TcDelimited.{tc_frames_of}
 use Rattle.sl_tcframe.specs.TcFrame.{TcFormat, TcView}
-use Rattle.sl_tcflow.specs.AcceptedUnit.{accepted_units, channel_of, views_of}
+use Rattle.sl_tcflow.specs.AcceptedUnit.{accepted_units, views_on, views_of}
 use Rattle.sl_tcflow.specs.Anomaly.{stray_of, tail_of}
 use Rattle.sl_tcflow.specs.Incomplete.{incomplete_of}
 use Rattle.sl_tcflow.specs.Reception.{packets_of_segments, segments_of}
@@ -97,7 +97,7 @@ from_starts = record { window = 10; starts = starts; plain = [] }
 pub record HaveStarts : Type 0 where
   pub of_5 : initial_vr from_starts 5 ≡ 255
   pub of_others : initial_vr from_starts 4 ≡ 0
-  pub accepts : accepted_units 10 (initial_vr from_starts 5) (channel_of 5 (read from_255)) ≡ (0xC0 ∷ first) ∷ []
+  pub accepts : accepted_units 10 (initial_vr from_starts 5) (views_on 5 (read from_255)) ≡ (0xC0 ∷ first) ∷ []
   pub delivers : packets from_starts 5 0 from_255 ≡ first ∷ []
   pub not_from_0 : packets (without []) 5 0 from_255 ≡ []
   pub normal : tc_normal_form_of (format 24) 1 starts [] (on_5 ((first ∷ []) ∷ [])) ≡ from_255

@@ -4,7 +4,7 @@ use Rattle.std.proofs.Common.{◌≡◌, ℕ, false, List, [], ◌∷◌, ◌++�
 use Rattle.sl_packet.specs.Packets.{without_idle}
 use Rattle.sl_tcframe.specs.TcDelimited.{tc_frames_of}
 use Rattle.sl_tcframe.specs.TcFrame.{TcFormat, TcView, Ad, Bd, Unlock, SetVr}
-use Rattle.sl_tcflow.specs.AcceptedUnit.{views_of, channel_of, accepted_units}
+use Rattle.sl_tcflow.specs.AcceptedUnit.{views_of, views_on, accepted_units}
 use Rattle.sl_tcflow.specs.Incomplete.{incomplete_of}
 use Rattle.sl_tcflow.specs.Reception.{packets_of_segments, packets_ended, segments_of}
 use Rattle.sl_tcflow.specs.ReceptionParameters.{ReceptionParameters}
@@ -21,7 +21,7 @@ read max recording = views_of (format max) 1 (tc_frames_of (format max) recordin
 
 -- the units that are accepted on a virtual channel, with a window of width 10
 abbrev accepted : ℕ → ℕ → List ℕ → List (List ℕ)
-accepted vr vc recording = accepted_units 10 vr (channel_of vc (read 16 recording))
+accepted vr vc recording = accepted_units 10 vr (views_on vc (read 16 recording))
 
 -- the parameters of reception with this width and this initial V(R)
 abbrev from_vr : ℕ → ReceptionParameters

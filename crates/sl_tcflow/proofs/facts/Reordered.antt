@@ -10,7 +10,7 @@ use Rattle.sl_cop.specs.Reordered.{Arrival, Copy, OfTypeBd, UnlockCommand, AreIn
 use Rattle.sl_cop.proofs.ReorderedFacts.{far, far_are_near, of_each}
 use Rattle.sl_tcframe.specs.TcDelimited.{tc_frames_of}
 use Rattle.sl_tcframe.specs.TcFrame.{TcFormat, TcView, Ad, Bd, Unlock}
-use Rattle.sl_tcflow.specs.AcceptedUnit.{accepted_ad_units, accepted_units, channel_of, events_of, farm_after, views_of}
+use Rattle.sl_tcflow.specs.AcceptedUnit.{accepted_ad_units, accepted_units, views_on, events_of, farm_after, views_of}
 use Rattle.sl_tcflow.specs.Reception.{packets_of_segments, segments_of}
 use Rattle.sl_tcflow.specs.ReceptionParameters.{ReceptionParameters}
 use Rattle.sl_tcflow.specs.ReorderedUnits.{AreReordered, AreReorderedInWindow, HaveNoBd, recorded_packets}
@@ -49,7 +49,7 @@ sent = unit 0xAA ∷ unit 0xBB ∷ unit 0xCC ∷ []
 abbrev arrivals : List Arrival
 arrivals = Copy 1 ∷ Copy 0 ∷ Copy 0 ∷ Copy 2 ∷ Copy 1 ∷ []
 
-pub recording_in_window : AreReorderedInWindow 10 0 sent (channel_of 0 views) arrivals
+pub recording_in_window : AreReorderedInWindow 10 0 sent (views_on 0 views) arrivals
 recording_in_window =
     record {
       initial = omega arith;
@@ -61,16 +61,16 @@ recording_in_window =
 ad_isnt_bd : (ns : ℕ) (unit other : List ℕ) → Ad ns unit ≢ Bd other
 ad_isnt_bd ns unit other e = cc
 
-pub recording_has_no_bd : HaveNoBd (channel_of 0 views)
+pub recording_has_no_bd : HaveNoBd (views_on 0 views)
 recording_has_no_bd =
     (ad_isnt_bd 1 (unit 0xBB), (ad_isnt_bd 0 (unit 0xAA), (ad_isnt_bd 0 (unit 0xAA), (ad_isnt_bd 2 (unit 0xCC), (ad_isnt_bd 1 (unit 0xBB), tt)))))
 
 pub record IsReordered : Type 0 where
-  pub verdicts : verdicts_of 10 (farm_start 0) (events_of (channel_of 0 views)) ≡ Early ∷ Accept ∷ Late ∷ Early ∷ Accept ∷ []
-  pub units : accepted_ad_units 10 0 (channel_of 0 views) ≡ unit 0xAA ∷ unit 0xBB ∷ []
-  pub all_units : accepted_units 10 0 (channel_of 0 views) ≡ unit 0xAA ∷ unit 0xBB ∷ []
-  pub vr : (farm_after 10 0 (channel_of 0 views)).vr ≡ 2
-  pub report : (clcw_of 0 (farm_after 10 0 (channel_of 0 views))).report ≡ 2
+  pub verdicts : verdicts_of 10 (farm_start 0) (events_of (views_on 0 views)) ≡ Early ∷ Accept ∷ Late ∷ Early ∷ Accept ∷ []
+  pub units : accepted_ad_units 10 0 (views_on 0 views) ≡ unit 0xAA ∷ unit 0xBB ∷ []
+  pub all_units : accepted_units 10 0 (views_on 0 views) ≡ unit 0xAA ∷ unit 0xBB ∷ []
+  pub vr : (farm_after 10 0 (views_on 0 views)).vr ≡ 2
+  pub report : (clcw_of 0 (farm_after 10 0 (views_on 0 views))).report ≡ 2
   pub packets : packets_of_segments (segments_of from_0 0 0 views) ≡ packet 0xAA ∷ packet 0xBB ∷ []
   pub packets_sent : packets_of_segments (segments_on 0 sent) ≡ packet 0xAA ∷ packet 0xBB ∷ packet 0xCC ∷ []
   pub recorded : recorded_packets format 1 from_0 0 0 recording ≡ packet 0xAA ∷ packet 0xBB ∷ []
@@ -187,7 +187,7 @@ abbrev between : List TcView
 between =
     record { vc = 0; content = Ad 0 header_unit } ∷ record { vc = 0; content = Bd (last_unit 0xBB) } ∷ record { vc = 0; content = Ad 1 (last_unit 0xAA) } ∷ []
 
-pub between_in_window : AreReorderedInWindow 10 0 divided (channel_of 0 between) (Copy 0 ∷ OfTypeBd ∷ Copy 1 ∷ [])
+pub between_in_window : AreReorderedInWindow 10 0 divided (views_on 0 between) (Copy 0 ∷ OfTypeBd ∷ Copy 1 ∷ [])
 between_in_window =
     record {
       initial = omega arith;
@@ -202,7 +202,7 @@ not_as_sent (more, same) = let octet : 0xBB ≡ 0xAA = ap (λ l. get_or (get_or 
 -- The units of type AD are accepted as they were sent. A packet is delivered that none of them make, and the packet
 -- that they make isn't.
 pub record BdMatters : Type 0 where
-  pub units : accepted_ad_units 10 0 (channel_of 0 between) ≡ divided
+  pub units : accepted_ad_units 10 0 (views_on 0 between) ≡ divided
   pub packets : packets_of_segments (segments_of from_0 0 0 between) ≡ packet 0xBB ∷ []
   pub packets_sent : packets_of_segments (segments_on 0 divided) ≡ packet 0xAA ∷ []
   pub no_prefix : IsPrefix (packets_of_segments (segments_of from_0 0 0 between)) (packets_of_segments (segments_on 0 divided)) → ⊥

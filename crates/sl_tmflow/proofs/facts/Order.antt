@@ -4,7 +4,7 @@ use Rattle.std.proofs.Common.{◌≡◌, ℕ, false, List, [], ◌∷◌, ◌++�
 use Rattle.std.specs.List.{concat}
 use Rattle.sl_packet.specs.IdlePacket.{idle_packet}
 use Rattle.sl_tmframe.specs.TmFrame.{TmFormat, TmView, Packets}
-use Rattle.sl_tmflow.specs.Channel.{channel_of, packet_data}
+use Rattle.sl_tmflow.specs.Channel.{views_on, packet_data}
 use Rattle.sl_tmflow.specs.FormOrder.{form_views}
 
 abbrev format : TmFormat
@@ -33,7 +33,7 @@ pub record FormIsInOrder : Type 0 where
   pub counts : map (λ (view : TmView). view.vc_count) views ≡ 0 ∷ 1 ∷ 0 ∷ []
   pub fields : map (λ (view : TmView). view.field) views
       ≡ Packets (Some 0) (take 26 long) ∷ Packets (Some 4) (drop 26 long ++ idle_22) ∷ Packets (Some 0) (short ++ idle_19) ∷ []
-  pub end_to_end : concat (map packet_data (channel_of 0 views)) ≡ long ++ idle_22
+  pub end_to_end : concat (map packet_data (views_on 0 views)) ≡ long ++ idle_22
 
 pub form_is_in_order : FormIsInOrder
 unfolding idle_packet

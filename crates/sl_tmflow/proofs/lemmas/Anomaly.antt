@@ -11,8 +11,8 @@ use Rattle.sl_packet.proofs.PacketLemmas.{packet_least, version_of-append}
 use Rattle.sl_packet.proofs.PacketsLemmas.{each_has_packets}
 use Rattle.sl_tmframe.specs.TmFrame.{DataField, Packets, Idle, Opaque, TmView}
 use Rattle.sl_tmflow.specs.Anomaly.{EachForeignStartIsTold, EachGapIsTold, EachToldIsAForeignStart, EachToldIsAGap, foreign_of, gap_after, gap_of, broken_off, dropped_of}
-use Rattle.sl_tmflow.specs.Channel.{is_consecutive, channel_of}
-use Rattle.sl_tmflow.specs.ChannelState.{foreign_in, ChannelState, held_step, lost_of, lost_by, state_after}
+use Rattle.sl_tmflow.specs.Channel.{is_consecutive, views_on}
+use Rattle.sl_tmflow.specs.ChannelState.{foreign_in, ChannelState, held_step, lost_of, lost_by, channel_after}
 use Rattle.sl_tmflow.specs.PacketStart.{packet_offsets, starts_from}
 use Rattle.sl_tmflow.proofs.lemmas.Delivery.Channel.{last_count-push, same_seen, seen_more}
 use Rattle.sl_tmflow.proofs.lemmas.Places.{some_passes, has_last}
@@ -125,9 +125,9 @@ some_held : (held : List ℕ) → held ≢ [] → held_as held ≢ []
 some_held held some none = some (none_held held none)
 
 -- a packet is incomplete before or after the next frame, where the channel's state holds octets
-pub incomplete_around : (state : ChannelState) (views : List TmView) (next : TmView) → HasSeen state (channel_of next.vc views)
-    → (state.held ≢ []) ⊎ ((state_after state next).held ≢ []) → IsIncompleteAround views next
+pub incomplete_around : (state : ChannelState) (views : List TmView) (next : TmView) → HasSeen state (views_on next.vc views)
+    → (state.held ≢ []) ⊎ ((channel_after state next).held ≢ []) → IsIncompleteAround views next
 incomplete_around state views next s (inl before) = inl (λ none. some_held state.held before (s.held ∙ none))
 incomplete_around state views next s (inr after) =
-    let seen = seen_more state (channel_of next.vc views) next s in
-    inr (λ none. some_held (state_after state next).held after (seen.held ∙ ap incomplete_of (sym (same_seen next.vc views next refl)) ∙ none))
+    let seen = seen_more state (views_on next.vc views) next s in
+    inr (λ none. some_held (channel_after state next).held after (seen.held ∙ ap incomplete_of (sym (same_seen next.vc views next refl)) ∙ none))

@@ -17,7 +17,7 @@ use Rattle.sl_packet.proofs.WithoutIdleLemmas.{without_idle-append}
 use Rattle.sl_link.specs.declared.tally.FrameReport.{FrameReport}
 use Rattle.sl_link.specs.Link.Totals.{Counts}
 use Rattle.sl_link.specs.Tally.{counts_more, counts_so_far, skipped_in, no_counts}
-use Rattle.sl_link.specs.Kind.Delivery.{AreDelivered, AreStored, Delivers, HasDelivered, IsReport, IsWithin, Kind, count_of, number_of_idle, lists_in, number_of_packets, with_frame, with_packets}
+use Rattle.sl_link.specs.Kind.Delivery.{AreDelivered, AreStored, Delivers, HasDelivered, IsReport, IsWithin, Kind, count_of, number_of_idle, delivered_packets, number_of_packets, with_frame, with_packets}
 use Rattle.sl_link.proofs.lemmas.Kind.Channels.{items_change, map_range, no_items, none_of}
 
 -- ---- frames that are counted one after another
@@ -122,7 +122,7 @@ module _ (k : Kind) (laws : AreDelivered k) where
 
   module _ (frames : List (List ℕ)) (lists : List (List (List ℕ))) (stored : AreStored k frames lists) where
     -- the lists of the channels are those of the frames,
-    pub all_stored : take k.channel_limit lists ≡ lists_in k frames
+    pub all_stored : take k.channel_limit lists ≡ delivered_packets k frames
     all_stored = rw (laws.all, ← pick_l-range_with_len [] lists 0 k.channel_limit (omega (arith, stored.size, laws.few)))
         (map_range _ (λ channel. without_idle (k.packets frames channel)) 0 k.channel_limit (λ channel below. stored.each channel (omega (arith, below))))
 
@@ -136,7 +136,7 @@ module _ (k : Kind) (laws : AreDelivered k) where
 
 -- what is stored is the same exactly where the packets are: past the last channel there are none
 pub same_stored : (k : Kind) → AreDelivered k → (frames others : List (List ℕ)) (lists stored : List (List (List ℕ))) → AreStored k frames lists → AreStored k others stored
-    → {P : Type 0} → (P ↔ (lists ≡ stored)) → P ↔ (lists_in k frames ≡ lists_in k others)
+    → {P : Type 0} → (P ↔ (lists ≡ stored)) → P ↔ (delivered_packets k frames ≡ delivered_packets k others)
 same_stored k laws frames others lists stored one other reported =
     let mine = all_stored k laws frames lists one in
     let its = all_stored k laws others stored other in (

@@ -15,7 +15,7 @@ use Rattle.sl_tcflow.specs.Receiving.{ReceiverState, HasProcessed, unit_channel,
 use Rattle.sl_tcflow.specs.ReceptionParameters.{ReceptionParameters, is_plain}
 use Rattle.sl_tcflow.specs.Recording.{map_channels, packets_of_channel}
 use Rattle.sl_tcflow.proofs.lemmas.Reception.Channel.{held_other, held_own, packets_other, packets_own, small_map, unit_len}
-use Rattle.sl_link.specs.Kind.Tc.{HasProcessedTc, IsIncompleteAtLastTc, as_read, unit_channel_of, ended_in, held_after, is_incomplete_around, tc_kind}
+use Rattle.sl_link.specs.Kind.Tc.{HasProcessedTc, IsIncompleteAtLastTc, as_read, unit_channel_of, ended_in, octets_held_after, is_incomplete_around, tc_kind}
 use Rattle.sl_link.specs.Kind.Delivery.{AreDelivered, count_of, number_of_idle, number_of_packets, with_frame}
 use Rattle.sl_link.specs.Link.Managed.{Parameters, reception_of, tc_format}
 use Rattle.sl_link.proofs.lemmas.Kind.Delivery.{idle_more, no_idle, no_packets, none_within, octets_more, packets_more, views_next}
@@ -86,7 +86,7 @@ held_next p views (Ok view) range =
 pub none_processed : (p : Parameters) (state : ReceiverState) → HasProcessed (reception_of p) state [] → HasProcessedTc p state []
 none_processed p state processed =
     let laws = tc_delivered p in
-    let held : held_after p [] ≡ 0 = no_items (held_in (reception_of p) []) map_channels (λ channel. refl) in
+    let held : octets_held_after p [] ≡ 0 = no_items (held_in (reception_of p) []) map_channels (λ channel. refl) in
     search (arith, none_within (tc_kind p) laws, no_packets (tc_kind p) laws, no_idle (tc_kind p) laws, held)
 
 -- a frame has five octets
@@ -104,7 +104,7 @@ one_processed {p} {before} frame had is processed =
     let held_is = ap (λ views. count_of (map (held_in (reception_of p) views) map_channels)) next in
     let few = held_next p seen read (small_channel p frame) in
     let split = split_count (ended_in (reception_of p) seen read) in
-    let held : number_of_packets (tc_kind p) (before ++ frame ∷ []) + number_of_idle (tc_kind p) (before ++ frame ∷ []) + held_after p (before ++ frame ∷ []) ≤ length (concat (before ++ frame ∷ [])) =
+    let held : number_of_packets (tc_kind p) (before ++ frame ∷ []) + number_of_idle (tc_kind p) (before ++ frame ∷ []) + octets_held_after p (before ++ frame ∷ []) ≤ length (concat (before ++ frame ∷ [])) =
     omega (arith, within, few, held_is, unit_within p frame, split, packets_more (tc_kind p) laws before frame, idle_more (tc_kind p) laws before frame, octets_more before frame) in
     record { processed = rw (next, is) processed; within = record { delivered = laws; within = omega (arith, held) }; held = held }
 

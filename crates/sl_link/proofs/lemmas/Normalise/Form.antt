@@ -9,7 +9,7 @@ use Rattle.sl_link.specs.declared.link.counted.Counted.{Counted}
 use Rattle.sl_link.specs.declared.link.fault.LinkFault.{LinkFault}
 use Rattle.sl_link.specs.Link.Counted.{stream_of}
 use Rattle.sl_link.specs.Io.Streams.{AddsText, StopsWriting, WritesText}
-use Rattle.sl_link.specs.Normalise.Form.{AddsPiece, IsAllMade, KeepsLeft}
+use Rattle.sl_link.specs.Normalise.Form.{MovesPiece, IsAllMade, KeepsLeft}
 use Rattle.sl_link.specs.Link.Managed.{Parameters, tm_format, tc_format}
 use Rattle.sl_link.specs.Kind.Tc.{tc_packets}
 use Rattle.sl_link.specs.Normalise.Tc.{tc_form_of}
@@ -31,7 +31,7 @@ waits_more {contents} {writer} e = record { written = []; parts = sym e; writes 
 
 module _ {F W : Type 0} {left : F → List ℕ → Type 0} {contents : W → Option (List ℕ)} where
   -- after the first piece
-  pub first_piece : {writer : Counted W} {form form' : F} {text text' octets : List ℕ} → text ≡ [] → AddsPiece left form text form' text' → left form octets
+  pub first_piece : {writer : Counted W} {form form' : F} {text text' octets : List ℕ} → text ≡ [] → MovesPiece left form text form' text' → left form octets
       → IsWritingForm left contents writer writer form' text' octets
   first_piece {writer} {text'} {octets} none a l =
       let next = a.remainder octets l in
@@ -48,7 +48,7 @@ module _ {F W : Type 0} {left : F → List ℕ → Type 0} {contents : W → Opt
         record { made = w.made; more = w.more; parts = w.parts; left_is = w.left_is; adds = rw append-nil at (AddsText-trans contents old new new' [] text text' w.made [] w.adds a) }
 
     -- after one piece more
-    pub next_piece : {form' : F} {text' : List ℕ} → AddsPiece left form text form' text' → IsWritingForm left contents old new form' text' octets
+    pub next_piece : {form' : F} {text' : List ℕ} → MovesPiece left form text form' text' → IsWritingForm left contents old new form' text' octets
     next_piece {text'} a =
         let next = a.remainder w.more w.left_is in
         let adds = AddsText-trans contents old new new [] text text' w.made a.piece w.adds (waits_more a.added) in

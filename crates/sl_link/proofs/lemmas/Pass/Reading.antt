@@ -4,7 +4,7 @@ use Rattle.std.specs.List.{concat, AllByRecursion}
 use Rattle.std.proofs.KnownBytes.{Consumes-nil, Consumes-trans}
 use Rattle.sl_fields.proofs.ListLemmas.{concat-push, each-append}
 use Rattle.sl_link.specs.Link.Managed.{Parameters}
-use Rattle.sl_link.specs.Pass.{CutsFrame, HasTaken, HasTakenAll, MayRefuseMemoryIn, StopsPassing}
+use Rattle.sl_link.specs.Pass.{CutsFrame, HasCutFrames, HasCutAll, MayRefuseMemoryIn, StopsPassing}
 use Rattle.sl_link.specs.declared.link.counted.Counted.{Counted}
 use Rattle.sl_link.specs.declared.link.fault.LinkFault.{LinkFault}
 use Rattle.sl_link.specs.declared.link.fault.LinkFault.TheVariants.{Memory}
@@ -20,13 +20,13 @@ fronts is_frame frames_of front [] more a = refl
 fronts is_frame frames_of front (frame ∷ frames) more a = rw (append_assoc, front frame (concat frames ++ more) a.0, fronts is_frame frames_of front frames more a.1) refl
 
 module _ {F : Type 0} {is_frame : Parameters → List ℕ → Type 0} {waits : F → Parameters → List ℕ → Type 0} {taken : List (List ℕ) → Type 0} {p : Parameters} {framer : F} {octets left : List ℕ}
-    (h : HasTaken is_frame waits taken p framer octets left) where
+    (h : HasCutFrames is_frame waits taken p framer octets left) where
   pub fits_next : (left' frame : List ℕ) → CutsFrame (is_frame p) h.rest left left' frame → length octets < 2 ^ 64 → length (concat h.frames) + length frame < 2 ^ 64
   fits_next left' frame g small = omega (arith, small, simp length-append at (ap length h.parts), simp length-append at (ap length g.parts))
 
   -- with one frame more, of which this is true
   pub taken_next : {left' frame : List ℕ} {taken' : List (List ℕ) → Type 0} {framer' : F} → CutsFrame (is_frame p) h.rest left left' frame → waits framer' p [] → taken' (h.frames ++ frame ∷ [])
-      → HasTaken is_frame waits taken' p framer' octets left'
+      → HasCutFrames is_frame waits taken' p framer' octets left'
   taken_next {left'} {frame} g w t = record {
     frames = h.frames ++ frame ∷ [];
     rest = [];
@@ -37,7 +37,7 @@ module _ {F : Type 0} {is_frame : Parameters → List ℕ → Type 0} {waits : F
   }
 
   -- with none more, and this is true of those before
-  abbrev pub taken_so_far : {taken' : List (List ℕ) → Type 0} {framer' : F} → waits framer' p (h.rest ++ left) → taken' h.frames → HasTaken is_frame waits taken' p framer' octets []
+  abbrev pub taken_so_far : {taken' : List (List ℕ) → Type 0} {framer' : F} → waits framer' p (h.rest ++ left) → taken' h.frames → HasCutFrames is_frame waits taken' p framer' octets []
   taken_so_far w t = record { frames = h.frames; rest = h.rest ++ left; waiting = w; parts = h.parts ∙ ap (λ l. concat h.frames ++ l) (sym (append-nil (h.rest ++ left))); whole = h.whole; done = t }
 
   module _ {frames_of : Parameters → List ℕ → List (List ℕ)} (front : (p : Parameters) (frame more : List ℕ) → is_frame p frame → frames_of p (frame ++ more) ≡ frame ∷ frames_of p more) where
@@ -45,20 +45,20 @@ module _ {F : Type 0} {is_frame : Parameters → List ℕ → Type 0} {waits : F
     taken_first = ap (frames_of p) h.parts ∙ fronts (is_frame p) (frames_of p) (front p) h.frames (h.rest ++ left) h.whole
 
     pub taken_all : {taken' : List (List ℕ) → Type 0} {framer' : F} → frames_of p (h.rest ++ left) ≡ [] → waits framer' p (h.rest ++ left) → taken' h.frames
-        → HasTakenAll is_frame waits frames_of taken' p framer' octets
+        → HasCutAll is_frame waits frames_of taken' p framer' octets
     taken_all none w t = record { cut = taken_so_far w t; all = taken_first ∙ ap (λ fs. h.frames ++ fs) none ∙ append-nil h.frames }
 
 -- ---- a recording in memory, which is one chunk
 
 module _ {F : Type 0} {is_frame : Parameters → List ℕ → Type 0} {waits : F → Parameters → List ℕ → Type 0} {p : Parameters} {framer : F} where
   -- nothing of it was taken
-  pub taken_none : {taken : List (List ℕ) → Type 0} (octets : List ℕ) → waits framer p [] → taken [] → HasTaken is_frame waits taken p framer octets octets
+  pub taken_none : {taken : List (List ℕ) → Type 0} (octets : List ℕ) → waits framer p [] → taken [] → HasCutFrames is_frame waits taken p framer octets octets
   taken_none octets w t = record { frames = []; rest = []; waiting = w; parts = refl; whole = tt; done = t }
 
   -- memory was refused at one of its frames
   pub refused_in : {frames_of : Parameters → List ℕ → List (List ℕ)} {may : List (List ℕ) → Type 0} {octets left : List ℕ} {fault : LinkFault} (its : List ℕ → List (List ℕ)) → frames_of p ≡ its
       → ((p : Parameters) (frame more : List ℕ) → is_frame p frame → frames_of p (frame ++ more) ≡ frame ∷ frames_of p more)
-      → HasTaken is_frame waits (λ frames. (fault ≡ Memory) × may frames) p framer octets left → (fault ≡ Memory) × MayRefuseMemoryIn its may octets
+      → HasCutFrames is_frame waits (λ frames. (fault ≡ Memory) × may frames) p framer octets left → (fault ≡ Memory) × MayRefuseMemoryIn its may octets
   refused_in {frames_of} {may} {octets} {left} its same front h = (
     h.done.0,
     record {
@@ -84,9 +84,9 @@ pub passing_none : {R : Type 0} {remaining : R → Option (List ℕ)} {reader : 
 passing_none {remaining} {reader} all = record { octets = []; read = Consumes-nil (remaining (stream_of reader)); size = refl; allowed = omega arith; no_fault = refl; all = all }
 
 module _ {R F : Type 0} {remaining : R → Option (List ℕ)} {is_frame : Parameters → List ℕ → Type 0} {waits : F → Parameters → List ℕ → Type 0} {frames_of : Parameters → List ℕ → List (List ℕ)}
-    {taken : List (List ℕ) → Type 0} {p : Parameters} {framer : F} {reader mid : Counted R} {limit n : ℕ} (s : IsPassing remaining reader mid limit n (HasTakenAll is_frame waits frames_of taken p framer)) where
+    {taken : List (List ℕ) → Type 0} {p : Parameters} {framer : F} {reader mid : Counted R} {limit n : ℕ} (s : IsPassing remaining reader mid limit n (HasCutAll is_frame waits frames_of taken p framer)) where
   -- a chunk more
-  abbrev pub more_came : (chunk : List ℕ) → HasTaken is_frame waits taken p framer (s.octets ++ chunk) chunk
+  abbrev pub more_came : (chunk : List ℕ) → HasCutFrames is_frame waits taken p framer (s.octets ++ chunk) chunk
   more_came chunk =
       let h = s.all.cut in
       record { frames = h.frames; rest = h.rest; waiting = h.waiting; parts = ap (λ l. l ++ chunk) h.parts ∙ simp (append_assoc, append-nil); whole = h.whole; done = h.done }
@@ -126,7 +126,7 @@ module _ {R F : Type 0} {remaining : R → Option (List ℕ)} {is_frame : Parame
     }
 
     -- the sink stopped at a frame of a chunk, or after it
-    pub stops_in_chunk : {most room k : ℕ} {buffer left : List ℕ} {framer' : F} {taken' : List (List ℕ) → Type 0} → limit ≡ most → ReadsSome remaining mid reader' buffer (limit - n) k → HasTaken is_frame waits (λ frames. stopped frames fault) p framer' (s.octets ++ take k buffer) left
+    pub stops_in_chunk : {most room k : ℕ} {buffer left : List ℕ} {framer' : F} {taken' : List (List ℕ) → Type 0} → limit ≡ most → ReadsSome remaining mid reader' buffer (limit - n) k → HasCutFrames is_frame waits (λ frames. stopped frames fault) p framer' (s.octets ++ take k buffer) left
         → StopsPassing remaining reader reader' (frames_of p) taken' stopped most room fault
     stops_in_chunk {most} {room} {k} {buffer} {left} same came h = record {
       octets = s.octets ++ take k buffer;

@@ -2,7 +2,7 @@
 use Rattle.std.specs.Prelude.{ℕ, nat_lt, List, [], ◌∷◌, ◌++◌, length, map, codes, decimal, Option, None, Some, Result, Ok, Err}
 use Rattle.sl_tmframe.specs.declared.tm_frame.TmSkip.{TmSkip}
 use Rattle.sl_tmframe.specs.TmDelimited.{tm_frames_of}
-use Rattle.sl_tmflow.specs.Channel.{channel_of, views_of}
+use Rattle.sl_tmflow.specs.Channel.{views_on, views_of}
 use Rattle.sl_tmflow.specs.Incomplete.{incomplete_of}
 use Rattle.sl_link.specs.Verbs.Check.Lines.{anomalies_by, check_listing, event_anomaly, event_line}
 use Rattle.sl_link.specs.Kind.Tm.{TmFinding, tm_found, tm_kind}
@@ -43,7 +43,7 @@ tm_anomalies_after p = anomalies_by tm_lines (tm_found p)
 abbrev pub tm_open : Parameters → ℕ → List (List ℕ) → ℕ → List (List ℕ)
 tm_open p offset frames vc =
     map (λ octets. event_line offset vc None (codes " open") (Some (length octets)))
-    (incomplete_of (channel_of vc (views_of (tm_format p) p.spacecraft frames)))
+    (incomplete_of (views_on vc (views_of (tm_format p) p.spacecraft frames)))
 
 -- the listing
 abbrev pub check_tm_listing : Parameters → Listing

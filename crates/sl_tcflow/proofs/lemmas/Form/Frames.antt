@@ -15,7 +15,7 @@ use Rattle.sl_tcframe.specs.AdFrame.{FitAdFrame, plain_room_of, segment_room_of,
 use Rattle.sl_tcframe.specs.TcFrame.{TcFormat, TcView, Ad, is_cut, tc_frame}
 use Rattle.sl_tcframe.specs.VcSet.{has_vc}
 use Rattle.sl_tcframe.proofs.AdFrameLemmas.{ad_frame_back, ad_frame_cut, length-ad_frame, within}
-use Rattle.sl_tcflow.specs.AcceptedUnit.{views_of, channel_of, events_of, unit_of, unit_by, accepted_units}
+use Rattle.sl_tcflow.specs.AcceptedUnit.{views_of, views_on, events_of, unit_of, unit_by, accepted_units}
 use Rattle.sl_tcflow.specs.Canonical.{AreDeliverable, IsFormat}
 use Rattle.sl_tcflow.specs.FitsTc.{FitsOn, FitsTc}
 use Rattle.sl_tcflow.specs.TcNormalForm.{units_of_maps, frames_of_units, channel_frames, tc_frames_form}
@@ -138,7 +138,7 @@ module _ (format : TcFormat) (spacecraft : ℕ) (is : IsFormat format) (known : 
     views_by from (suc n) below = grind (arith, filter_map-append, views_back, each_unit, views_by (from + 1) n (omega arith))
 
     -- the frames of a virtual channel are read as those of its units
-    pub channel_back : (vc : ℕ) → vc < 64 → channel_of vc (views_of format spacecraft (tc_frames_form format spacecraft starts plain lists)) ≡ views_from vc (start vc) (units_on vc)
+    pub channel_back : (vc : ℕ) → vc < 64 → views_on vc (views_of format spacecraft (tc_frames_form format spacecraft starts plain lists)) ≡ views_from vc (start vc) (units_on vc)
     channel_back vc below =
-        ap (channel_of vc) (views_by 0 64 (omega arith))
+        ap (views_on vc) (views_by 0 64 (omega arith))
         ∙ own_part (λ (view : TcView). view.vc) (λ i. views_from i (start i) (units_on i)) (λ i. on_channel i (start i) (units_on i)) vc 0 64 (omega arith) below

@@ -6,7 +6,7 @@ use Rattle.sl_tcframe.specs.AdFrame.{segment_room_of}
 use Rattle.sl_tcframe.specs.TcFrame.{TcFormat, TcView, Ad}
 use Rattle.sl_tcframe.specs.VcSet.{has_vc}
 use Rattle.sl_tcframe.proofs.AdFrameLemmas.{ad_frame_back}
-use Rattle.sl_tcflow.specs.AcceptedUnit.{channel_of}
+use Rattle.sl_tcflow.specs.AcceptedUnit.{views_on}
 use Rattle.sl_tcflow.specs.Canonical.{CanBeWritten, IsNotSkipped, NoFrameIsSkipped}
 use Rattle.sl_tcflow.specs.FormOrder.{form_views, ChannelsNeverFall, MapsNeverFall, NsCounts}
 use Rattle.sl_tcflow.specs.Receiving.{map_of}
@@ -87,9 +87,9 @@ channels_never_fall format spacecraft starts plain lists can =
 
 module _ (format : TcFormat) (spacecraft : ℕ) (starts plain : List ℕ) (lists : List (List (List ℕ))) (can : CanBeWritten format spacecraft plain lists) (vc : ℕ) (inside : vc < 64) where
   -- the frames of a virtual channel, as they are read
-  pub own_views : channel_of vc (form_views format spacecraft starts plain lists) ≡ views_from vc (slice_index_or starts vc 0) (units format spacecraft starts plain lists can vc)
+  pub own_views : views_on vc (form_views format spacecraft starts plain lists) ≡ views_from vc (slice_index_or starts vc 0) (units format spacecraft starts plain lists can vc)
   own_views =
-      ap (channel_of vc) (views_are format spacecraft starts plain lists can.is_format can.spacecraft_fits can.deliverable can.fit)
+      ap (views_on vc) (views_are format spacecraft starts plain lists can.is_format can.spacecraft_fits can.deliverable can.fit)
       ∙ channel_back format spacecraft can.is_format can.spacecraft_fits starts plain lists can.deliverable can.fit vc inside
 
 pub maps_never_fall : MapsNeverFall

@@ -9,16 +9,16 @@ use Rattle.sl_cop.specs.Farm.{FarmView, farm_start, farm_step}
 use Rattle.sl_cop.proofs.ReorderedLemmas.{state_more}
 use Rattle.sl_tcframe.specs.TcFrame.{TcView}
 use Rattle.sl_tcframe.specs.VcSet.{has_vc}
-use Rattle.sl_tcflow.specs.AcceptedUnit.{channel_of, event_of, farm_after}
+use Rattle.sl_tcflow.specs.AcceptedUnit.{views_on, event_of, farm_after}
 use Rattle.sl_tcflow.specs.Receiving.{AreIncomplete, ForIncomplete, ForProcessed, HasProcessed, HaveStepped, IncompleteSeries, ReceiverState, channel_at, farm_at_start, farm_of, verdict_on}
 use Rattle.sl_tcflow.specs.ReceptionParameters.{ReceptionParameters, is_plain, initial_vr}
 
 -- ---- one of the channels
 
-pub same_channel : (vc : ℕ) (views : List TcView) (next : TcView) → next.vc ≡ vc → channel_of vc (views ++ next ∷ []) ≡ channel_of vc views ++ next ∷ []
+pub same_channel : (vc : ℕ) (views : List TcView) (next : TcView) → next.vc ≡ vc → views_on vc (views ++ next ∷ []) ≡ views_on vc views ++ next ∷ []
 same_channel vc views next same = grind (arith, filter-append, eqb_tells)
 
-pub other_channel : (vc : ℕ) (views : List TcView) (next : TcView) → (next.vc ≡ vc → ⊥) → channel_of vc (views ++ next ∷ []) ≡ channel_of vc views
+pub other_channel : (vc : ℕ) (views : List TcView) (next : TcView) → (next.vc ≡ vc → ⊥) → views_on vc (views ++ next ∷ []) ≡ views_on vc views
 other_channel vc views next other = grind (arith, filter-append, eqb_tells, append-nil)
 
 -- ---- FARM-1 of a channel

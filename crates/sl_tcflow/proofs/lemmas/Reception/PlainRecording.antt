@@ -18,7 +18,7 @@ use Rattle.sl_tcframe.specs.TcFrame.{TcFormat, TcView, Content, Ad, Bd, Unlock, 
 use Rattle.sl_tcframe.specs.declared.tc_frame.TcSkip.{TcSkip}
 use Rattle.sl_tcframe.specs.declared.tc_frame.TcSkip.TheVariants.{Long}
 use Rattle.sl_tcframe.proofs.ReadLemmas.{is_read}
-use Rattle.sl_tcflow.specs.AcceptedUnit.{accepted_units, channel_of, events_of, unit_of, views_of}
+use Rattle.sl_tcflow.specs.AcceptedUnit.{accepted_units, views_on, events_of, unit_of, views_of}
 use Rattle.sl_tcflow.specs.Canonical.{RecordedListsFit}
 use Rattle.sl_tcflow.specs.Reception.{packets_of_series, packets_of_segments, segments_of}
 use Rattle.sl_tcflow.specs.ReceptionParameters.{ReceptionParameters, is_plain, initial_vr}
@@ -71,10 +71,10 @@ accepted_within most (verdict ∷ verdicts) (view ∷ channel) each = grind (ari
 
 -- the units of a recording's frames on a virtual channel
 units_within : (format : TcFormat) (spacecraft : ℕ) (r : ReceptionParameters) (vc : ℕ) (frames : List (List ℕ))
-    → AreWithin (plain_room_of format) (accepted_units r.window (initial_vr r vc) (channel_of vc (views_of format spacecraft frames)))
+    → AreWithin (plain_room_of format) (accepted_units r.window (initial_vr r vc) (views_on vc (views_of format spacecraft frames)))
 units_within format spacecraft r vc frames =
     let views = views_of format spacecraft frames in
-    let channel = channel_of vc views in
+    let channel = views_on vc views in
     accepted_within (plain_room_of format) (verdicts_of r.window (farm_start (initial_vr r vc)) (events_of channel)) channel
     (each-filter (IsViewWithin (plain_room_of format)) (IsViewWithin (plain_room_of format)) (λ view. view.vc == vc) (λ view exceeds_limit is. is) views (each_view format spacecraft frames))
 
@@ -127,7 +127,7 @@ pub recorded_lists_fit : RecordedListsFit
 recorded_lists_fit format spacecraft r recording vc vc_fits plain =
     let frames = tc_frames_of format recording in
     let views : List TcView = recorded_views format spacecraft recording in
-    let units = accepted_units r.window (initial_vr r vc) (channel_of vc views) in
+    let units = accepted_units r.window (initial_vr r vc) (views_on vc views) in
     let same : 64 * vc + 0 ≡ 64 * vc = omega arith in
     record {
       short = subst (λ n. AreWithin (plain_room_of format) (slice_index_or (tc_lists format spacecraft r recording) n [])) same

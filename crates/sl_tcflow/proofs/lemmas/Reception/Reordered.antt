@@ -18,7 +18,7 @@ use Rattle.sl_packet.specs.Delivered.{channel_count}
 use Rattle.sl_packet.specs.Packet.{is_idle_packet}
 use Rattle.sl_packet.specs.Packets.{without_idle}
 use Rattle.sl_tcframe.specs.TcFrame.{TcFormat, TcView, Content, Ad, Bd, Unlock, SetVr}
-use Rattle.sl_tcflow.specs.AcceptedUnit.{accepted_ad_units, ad_unit_of, channel_of, event_of, events_of, farm_after, unit_of}
+use Rattle.sl_tcflow.specs.AcceptedUnit.{accepted_ad_units, ad_unit_of, views_on, event_of, events_of, farm_after, unit_of}
 use Rattle.sl_tcflow.specs.Receiving.{channel_at}
 use Rattle.sl_tcflow.specs.Reception.{packets_ended, packets_of_segments, segments_of}
 use Rattle.sl_tcflow.specs.ReceptionParameters.{ReceptionParameters, is_plain, initial_vr}
@@ -155,7 +155,7 @@ expected_unit_is_accepted w vr sent channel arrivals reordered before after view
 
 pub receiver_counts_units : ReceiverCountsUnits
 receiver_counts_units r vc sent farms views arrivals below stepped reordered =
-    let channel = channel_of vc views in
+    let channel = views_on vc views in
     let counts = vr_counts_units r.window (initial_vr r vc) sent channel arrivals reordered channel [] (sym (append-nil channel)) in
     ap (λ (f : FarmView). f.state.vr) (stepped.each vc below) ∙ counts
 
@@ -168,7 +168,7 @@ packets_go_on list (next ∷ more) = grind (arith, append_assoc, packets_next, p
 
 pub packets_in_order : PacketsInOrder
 packets_in_order r vc map_id sent views arrivals reordered none =
-    let channel = channel_of vc views in
+    let channel = views_on vc views in
     let units = accepted_ad_units r.window (initial_vr r vc) channel in
     let front = units_in_order r.window (initial_vr r vc) sent channel arrivals reordered in
     let segment = segment_in (is_plain r vc) in

@@ -8,7 +8,7 @@ use Rattle.sl_cop.specs.declared.verdict.Verdict.{Verdict}
 use Rattle.sl_cop.specs.Farm.{farm_start, farm_step}
 use Rattle.sl_cop.proofs.ReorderedLemmas.{accepted_more}
 use Rattle.sl_tcframe.specs.TcFrame.{TcView, Content}
-use Rattle.sl_tcflow.specs.AcceptedUnit.{channel_of, event_of, farm_after, unit_of, unit_by, accepted_units}
+use Rattle.sl_tcflow.specs.AcceptedUnit.{views_on, event_of, farm_after, unit_of, unit_by, accepted_units}
 use Rattle.sl_tcflow.specs.Incomplete.{incomplete_of}
 use Rattle.sl_tcflow.specs.NextSegment.{incomplete_after, packets_after}
 use Rattle.sl_tcflow.specs.Placed.{at, IsPlaced}

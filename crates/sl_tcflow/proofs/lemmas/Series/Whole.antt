@@ -4,7 +4,7 @@ use Rattle.std.proofs.Common.{◌≡◌, ℕ, ◌<◌, ◌==◌, ◌&&◌, Bool,
 use Rattle.std.specs.List.{AllByRecursion}
 use Rattle.std.specs.Prelude.{is_none, option_map}
 use Rattle.sl_fields.specs.SegmentHeader.{SegmentFields}
-use Rattle.sl_tcflow.specs.AcceptedUnit.{accepted_units, channel_of, unit_by}
+use Rattle.sl_tcflow.specs.AcceptedUnit.{accepted_units, views_on, unit_by}
 use Rattle.sl_tcflow.specs.Anomaly.{dropped_of, long_of, octets_held, of_segment, stray_of, NoPlainSeriesIsIncomplete, PlainUnitHasTailAlone}
 use Rattle.sl_tcflow.specs.Incomplete.{are_continuing, if_fits, incomplete_of, exceeds_limit}
 use Rattle.sl_tcflow.specs.Receiving.{map_by, verdict_on}

@@ -11,8 +11,8 @@ use Rattle.sl_packet.specs.declared.flow_fault.FlowFault.{FlowFault}
 use Rattle.sl_packet.specs.declared.sink.SinkFault.{SinkFault}
 use Rattle.sl_packet.proofs.StoppingLemmas.{hands_same}
 use Rattle.sl_tmframe.specs.TmFrame.{TmView, DataField, Packets}
-use Rattle.sl_tmflow.specs.Channel.{channel_of, last_count}
-use Rattle.sl_tmflow.specs.ChannelState.{ChannelState, KeptChannel, new_channel, held_step, kept_of, kept_octets, incomplete_in, held_after, state_after, packets_after}
+use Rattle.sl_tmflow.specs.Channel.{views_on, last_count}
+use Rattle.sl_tmflow.specs.ChannelState.{ChannelState, KeptChannel, new_channel, held_step, kept_of, kept_octets, incomplete_in, held_after, channel_after, packets_after}
 use Rattle.sl_tmflow.specs.Delivery.{Continuation, Ends, Breaks, ended, front_step, outcome_of, outcome_of_front, packets_ending, step_of}
 use Rattle.sl_tmflow.specs.Incomplete.{frame_incomplete, incomplete_octets}
 use Rattle.sl_tmflow.specs.Extraction.{ExtractorState, HasSeen, HasProcessed, ended_by, held_as}
@@ -76,39 +76,39 @@ held_by_frame count held next =
 
 -- ---- one more frame
 
-seen_first : (state : ChannelState) (next : TmView) → HasSeen state [] → HasSeen (state_after state next) (next ∷ [])
+seen_first : (state : ChannelState) (next : TmView) → HasSeen state [] → HasSeen (channel_after state next) (next ∷ [])
 seen_first state next s = grind (arith, held_by_frame, incomplete_first)
 
 seen_next : (state : ChannelState) (before : List TmView) (last next : TmView) → HasSeen state (before ++ last ∷ [])
-    → HasSeen (state_after state next) ((before ++ last ∷ []) ++ next ∷ [])
+    → HasSeen (channel_after state next) ((before ++ last ∷ []) ++ next ∷ [])
 seen_next state before last next s = grind (arith, last_count-push, held_by_frame, incomplete_next, goes_on)
 
-pub seen_more : (state : ChannelState) (channel : List TmView) (next : TmView) → HasSeen state channel → HasSeen (state_after state next) (channel ++ next ∷ [])
+pub seen_more : (state : ChannelState) (channel : List TmView) (next : TmView) → HasSeen state channel → HasSeen (channel_after state next) (channel ++ next ∷ [])
 seen_more state [] next s = seen_first state next s
 seen_more state (view ∷ later) next s =
     let w = has_last view later in
-    subst (λ l. HasSeen (state_after state next) (l ++ next ∷ [])) (sym w.2) (seen_next state w.0 w.1 next (subst (HasSeen state) w.2 s))
+    subst (λ l. HasSeen (channel_after state next) (l ++ next ∷ [])) (sym w.2) (seen_next state w.0 w.1 next (subst (HasSeen state) w.2 s))
 
 -- ---- one of the channels
 
-pub same_seen : (vc : ℕ) (views : List TmView) (next : TmView) → next.vc ≡ vc → channel_of vc (views ++ next ∷ []) ≡ channel_of vc views ++ next ∷ []
+pub same_seen : (vc : ℕ) (views : List TmView) (next : TmView) → next.vc ≡ vc → views_on vc (views ++ next ∷ []) ≡ views_on vc views ++ next ∷ []
 same_seen vc views next same = grind (arith, filter-append, eqb_tells)
 
-pub other_seen : (vc : ℕ) (views : List TmView) (next : TmView) → (next.vc ≡ vc → ⊥) → channel_of vc (views ++ next ∷ []) ≡ channel_of vc views
+pub other_seen : (vc : ℕ) (views : List TmView) (next : TmView) → (next.vc ≡ vc → ⊥) → views_on vc (views ++ next ∷ []) ≡ views_on vc views
 other_seen vc views next other = grind (arith, filter-append, eqb_tells, append-nil)
 
 -- the state of each channel, where one of them has one more frame
 pub each_seen : (states : List KeptChannel) (after : KeptChannel) (views : List TmView) (next : TmView) → next.vc < length states
-    → after.state ≡ state_after (slice_index_or states next.vc new_channel).state next
-    → (vc : ℕ) → HasSeen (slice_index_or states vc new_channel).state (channel_of vc views)
-    → HasSeen (slice_index_or (set states next.vc after) vc new_channel).state (channel_of vc (views ++ next ∷ []))
+    → after.state ≡ channel_after (slice_index_or states next.vc new_channel).state next
+    → (vc : ℕ) → HasSeen (slice_index_or states vc new_channel).state (views_on vc views)
+    → HasSeen (slice_index_or (set states next.vc after) vc new_channel).state (views_on vc (views ++ next ∷ []))
 each_seen states after views next inside is vc s =
     elim (eqb_tells next.vc vc) [
       | inl (test, same) ↦
-          subst (λ c. HasSeen (slice_index_or (set states next.vc after) c new_channel).state (channel_of c (views ++ next ∷ []))) same
+          subst (λ c. HasSeen (slice_index_or (set states next.vc after) c new_channel).state (views_on c (views ++ next ∷ []))) same
           (rw (get_or-set_same states next.vc after new_channel inside, is, same_seen next.vc views next refl)
-          (seen_more (slice_index_or states next.vc new_channel).state (channel_of next.vc views) next
-          (subst (λ c. HasSeen (slice_index_or states c new_channel).state (channel_of c views)) (sym same) s)))
+          (seen_more (slice_index_or states next.vc new_channel).state (views_on next.vc views) next
+          (subst (λ c. HasSeen (slice_index_or states c new_channel).state (views_on c views)) (sym same) s)))
       | inr (test, other) ↦
           rw (get_or-set_other states next.vc vc after new_channel (λ e. other (sym e)), other_seen vc views next other) s
     ]
@@ -117,7 +117,7 @@ each_seen states after views next inside is vc s =
 
 -- the state of the channel of a number
 pub seen_at : (old : ExtractorState) (views : List TmView) (states : List KeptChannel) (at vc : ℕ) (d : KeptChannel) → HasProcessed old views → states ≡ old.channels
-    → length states ≡ 8 → vc ≤ 7 → at ≡ vc → HasSeen (slice_index_or states at d).state (channel_of vc views)
+    → length states ≡ 8 → vc ≤ 7 → at ≡ vc → HasSeen (slice_index_or states at d).state (views_on vc views)
 seen_at old views states at vc d p are eight fits same = grind (arith, get_or_default)
 
 module _ (old : ExtractorState) (views : List TmView) (next : TmView) (states : List KeptChannel) (at : ℕ) (d : KeptChannel) where
@@ -133,17 +133,17 @@ module _ (old : ExtractorState) (views : List TmView) (next : TmView) (states : 
   handed_now are eight fits same handed p = hands_same refl (sym (ended_now p are eight fits same)) handed
 
   pub processed_more : (after : KeptChannel) → HasProcessed old views → states ≡ old.channels → length states ≡ 8 → next.vc ≤ 7 → at ≡ next.vc
-      → after.state ≡ state_after (slice_index_or states at d).state next
+      → after.state ≡ channel_after (slice_index_or states at d).state next
       → HasProcessed (record { channels = set states at after; has_failed = false }) (views ++ next ∷ [])
   processed_more after p are eight fits same by =
       let inside : next.vc < length states = omega arith in
-      let now : after.state ≡ state_after (slice_index_or states next.vc new_channel).state next =
-      by ∙ ap (λ i. state_after (slice_index_or states i d).state next) same
-      ∙ ap (λ (s : KeptChannel). state_after s.state next) (get_or_default states next.vc d new_channel inside) in
+      let now : after.state ≡ channel_after (slice_index_or states next.vc new_channel).state next =
+      by ∙ ap (λ i. channel_after (slice_index_or states i d).state next) same
+      ∙ ap (λ (s : KeptChannel). channel_after s.state next) (get_or_default states next.vc d new_channel inside) in
       record {
         working = refl;
         each = λ vc below.
-            let seen : HasSeen (slice_index_or states vc new_channel).state (channel_of vc views) =
-            subst (λ l. HasSeen (slice_index_or l vc new_channel).state (channel_of vc views)) (sym are) (p.each vc below) in
+            let seen : HasSeen (slice_index_or states vc new_channel).state (views_on vc views) =
+            subst (λ l. HasSeen (slice_index_or l vc new_channel).state (views_on vc views)) (sym are) (p.each vc below) in
             rw (same) (each_seen states after views next inside now vc seen);
       }

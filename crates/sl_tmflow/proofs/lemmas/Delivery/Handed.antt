@@ -4,7 +4,7 @@ use Rattle.std.proofs.lemmas.Bool.Decides.{eqb_tells}
 use Rattle.sl_packet.specs.Packet.{is_idle_packet}
 use Rattle.sl_packet.specs.Packets.{without_idle}
 use Rattle.sl_tmframe.specs.TmFrame.{TmView}
-use Rattle.sl_tmflow.specs.Channel.{channel_of}
+use Rattle.sl_tmflow.specs.Channel.{views_on}
 use Rattle.sl_tmflow.specs.Delivery.{deliveries_of, packets_delivered, packets_ending}
 use Rattle.sl_tmflow.specs.Extraction.{DeliveredAreHandedOver, ended_by, handed_over}
 use Rattle.sl_tmflow.specs.Loss.{HandedOverAreKept, HandedOverAreSublist}
@@ -22,11 +22,11 @@ handed_step : (vc : ℕ) (views : List TmView) (next : TmView)
 handed_step vc views next =
     elim (eqb_tells next.vc vc) [
       | inl (test, same) ↦
-          let more : packets_of_channel (views ++ next ∷ []) vc ≡ packets_of_channel views vc ++ packets_ending (channel_of vc views) next =
-          ap (λ c. packets_delivered (deliveries_of c)) (same_seen vc views next same) ∙ delivered_push (channel_of vc views) next in
+          let more : packets_of_channel (views ++ next ∷ []) vc ≡ packets_of_channel views vc ++ packets_ending (views_on vc views) next =
+          ap (λ c. packets_delivered (deliveries_of c)) (same_seen vc views next same) ∙ delivered_push (views_on vc views) next in
           rw (test)
-          (ap without_idle more ∙ without_idle-append (packets_of_channel views vc) (packets_ending (channel_of vc views) next)
-          ∙ ap (λ n. without_idle (packets_of_channel views vc) ++ without_idle (packets_ending (channel_of n views) next)) (sym same))
+          (ap without_idle more ∙ without_idle-append (packets_of_channel views vc) (packets_ending (views_on vc views) next)
+          ∙ ap (λ n. without_idle (packets_of_channel views vc) ++ without_idle (packets_ending (views_on n views) next)) (sym same))
       | inr (test, other) ↦
           rw (test)
           (ap (λ c. without_idle (packets_delivered (deliveries_of c))) (other_seen vc views next other) ∙ sym (append-nil (without_idle (packets_of_channel views vc))))
@@ -47,11 +47,11 @@ delivered_are_handed_over vc views = handed_after vc [] views
 
 pub handed_over_are_kept : HandedOverAreKept
 handed_over_are_kept vc channel numbers views left =
-    delivered_are_handed_over vc views ∙ ap without_idle (packets_are_kept channel numbers (channel_of vc views) left)
+    delivered_are_handed_over vc views ∙ ap without_idle (packets_are_kept channel numbers (views_on vc views) left)
 
 pub handed_over_are_sublist : HandedOverAreSublist
 handed_over_are_sublist vc channel numbers views left =
     let whole : List (List ℕ) = packets_delivered (deliveries_of channel) in
     subst (λ l. IsSublist l (without_idle whole)) (sym (delivered_are_handed_over vc views))
     (sublist_filter (λ packet. not (is_idle_packet packet)) (packets_of_channel views vc) whole
-    (packets_are_sublist channel numbers (channel_of vc views) left))
+    (packets_are_sublist channel numbers (views_on vc views) left))

@@ -7,7 +7,7 @@ use Rattle.sl_packet.specs.Packets.{without_idle}
 use Rattle.sl_packet.proofs.WithoutIdleLemmas.{without_idle_due}
 use Rattle.sl_tmframe.specs.TmFrame.{TmView}
 use Rattle.sl_tmflow.specs.Canonical.{RecordedListsAreDeliverable}
-use Rattle.sl_tmflow.specs.Channel.{channel_of}
+use Rattle.sl_tmflow.specs.Channel.{views_on}
 use Rattle.sl_tmflow.specs.Delivery.{Delivery, IsDelivery, deliveries_of, packets_delivered}
 use Rattle.sl_tmflow.specs.Recording.{packets_of_channel, recorded_views}
 use Rattle.sl_tmflow.proofs.lemmas.Delivery.Listed.{each_is_delivery}
@@ -19,7 +19,7 @@ are_packets channel (d ∷ deliveries) each = (each.0.delivered.is_packet, are_p
 each_due : (views : List TmView) (from n : ℕ) → AllByRecursion (AllByRecursion IsDeliverable) (map (λ vc. without_idle (packets_of_channel views vc)) (range_with_len from n))
 each_due views from zero = tt
 each_due views from (suc n) =
-    let channel = channel_of from views in (
+    let channel = views_on from views in (
       without_idle_due (packets_of_channel views from) (are_packets channel (deliveries_of channel) (each_is_delivery channel)),
       each_due views (from + 1) n,
     )

@@ -15,7 +15,7 @@ use Rattle.sl_tmframe.specs.TmFrame.{TmFormat, TmView}
 use Rattle.sl_tmframe.proofs.DelimitedLemmas.{only_frames}
 use Rattle.sl_tmframe.proofs.PacketFrameLemmas.{length-packet_frame, packet_frame_back}
 use Rattle.sl_tmflow.specs.Canonical.{AreDeliverable, IsFormat, IsNotSkipped, NoFrameIsSkipped, NormalFormIsFrames, NormalFormDelivers}
-use Rattle.sl_tmflow.specs.Channel.{views_of, channel_of}
+use Rattle.sl_tmflow.specs.Channel.{views_of, views_on}
 use Rattle.sl_tmflow.specs.Delivery.{deliveries_of, packets_delivered}
 use Rattle.sl_tmflow.specs.NormalForm.{with_filling, data_field_of, first_of, IsLeastStart, channel_frame, channel_frames, frames_from_channel, normal_form}
 use Rattle.sl_tmflow.specs.PacketStart.{packet_offsets}
@@ -98,7 +98,7 @@ module _ (format : TmFormat) (spacecraft vc mc : ℕ) (packets : List (List ℕ)
 
 -- ---- the frames of all virtual channels
 
-of_none : (vc : ℕ) (views : List TmView) → AllByRecursion (λ view. view.vc ≡ vc → ⊥) views → channel_of vc views ≡ []
+of_none : (vc : ℕ) (views : List TmView) → AllByRecursion (λ view. view.vc ≡ vc → ⊥) views → views_on vc views ≡ []
 of_none vc views others = grind (arith, filter_none, each-weaker, ne_eqb)
 
 module _ (format : TmFormat) (spacecraft : ℕ) (is : IsFormat format) (fits : spacecraft ≤ 1023) where
@@ -137,16 +137,16 @@ module _ (format : TmFormat) (spacecraft : ℕ) (is : IsFormat format) (fits : s
 
   -- the frames of the first virtual channel, and those of another one
   pub first_channel : (packets : List (List ℕ)) (lists : List (List (List ℕ))) (vc mc : ℕ) → vc + 1 + length lists ≤ 8 → AllByRecursion IsDeliverable packets
-      → AllByRecursion (AllByRecursion IsDeliverable) lists → channel_of vc (form_views vc mc (packets ∷ lists)) ≡ channel_views format vc mc packets
+      → AllByRecursion (AllByRecursion IsDeliverable) lists → views_on vc (form_views vc mc (packets ∷ lists)) ≡ channel_views format vc mc packets
   first_channel packets lists vc mc inside own each = grind (arith, form_parts, filter-append, channel_of_own, of_none, each-weaker, form_above, append-nil, filter_all, eq-eqb)
 
   pub other_channel : (packets : List (List ℕ)) (lists : List (List (List ℕ))) (vc mc v : ℕ) → vc ≤ 7 → AllByRecursion IsDeliverable packets → vc ≢ v
-      → channel_of v (form_views vc mc (packets ∷ lists)) ≡ channel_of v (form_views (vc + 1) (next vc mc packets) lists)
+      → views_on v (form_views vc mc (packets ∷ lists)) ≡ views_on v (form_views (vc + 1) (next vc mc packets) lists)
   other_channel packets lists vc mc v inside own other = grind (arith, form_parts, filter-append, of_none, each-weaker, channel_of_own)
 
   -- the frames of a virtual channel are those that its packets are divided into
   pub own_channel : (lists : List (List (List ℕ))) (vc mc v index : ℕ) → vc + length lists ≤ 8 → AllByRecursion (AllByRecursion IsDeliverable) lists → v ≡ vc + index → index < length lists
-      → (before : ℕ) × (channel_of v (form_views vc mc lists) ≡ channel_views format v before (slice_index_or lists index []))
+      → (before : ℕ) × (views_on v (form_views vc mc lists) ≡ channel_views format v before (slice_index_or lists index []))
   own_channel [] vc mc v index inside each at below = absurd (omega arith)
   own_channel (packets ∷ lists) vc mc v zero inside each at below =
       let same : v ≡ vc = omega (arith, at) in

@@ -14,7 +14,7 @@ use Rattle.sl_packet.specs.Delivered.{IsDeliverable}
 use Rattle.sl_tmframe.specs.PacketFrame.{field_room_of}
 use Rattle.sl_tmframe.specs.TmFrame.{TmFormat, TmView}
 use Rattle.sl_tmflow.specs.Canonical.{IsFormat}
-use Rattle.sl_tmflow.specs.Channel.{channel_of, packet_data}
+use Rattle.sl_tmflow.specs.Channel.{views_on, packet_data}
 use Rattle.sl_tmflow.specs.FormOrder.{CarriesPackets, ChannelsNeverFall, EachCarriesPackets, McCounts, PacketsLieEndToEnd, VcCounts}
 use Rattle.sl_tmflow.specs.NormalForm.{channel_frames, data_field_of, first_of, with_filling}
 use Rattle.sl_tmflow.specs.PacketStart.{packet_offsets}
@@ -134,7 +134,7 @@ module _ (format : TmFormat) (spacecraft : ℕ) (is : IsFormat format) (fits : s
   all_master (packets ∷ lists) vc mc inside each = grind (arith, as_many, form_parts, count_more, own_master, all_master lists (vc + 1) (next format spacecraft is fits vc mc packets) (omega (arith, inside)) each.1)
 
   all_count : (lists : List (List (List ℕ))) (vc mc v : ℕ) → vc + length lists ≤ 8 → AllByRecursion (AllByRecursion IsDeliverable) lists
-      → Count (λ (view : TmView). view.vc_count) 0 (channel_of v (views_by vc mc lists))
+      → Count (λ (view : TmView). view.vc_count) 0 (views_on v (views_by vc mc lists))
   all_count [] vc mc v inside each = tt
   all_count (packets ∷ lists) vc mc v inside each = grind (arith, eqb_tells, first_channel, own_count, other_channel, all_count lists (vc + 1) (next format spacecraft is fits vc mc packets) v (omega (arith, inside)) each.1)
 
@@ -160,14 +160,14 @@ mc_counts format spacecraft lists is fits due before later view at =
 pub vc_counts : VcCounts
 vc_counts format spacecraft lists is fits due vc before later view at =
     let index : 0 + length before ≡ length before = omega arith in
-    count_at (λ (view : TmView). view.vc_count) 0 (channel_of vc (form_views format spacecraft is fits 0 0 lists)) before later view
+    count_at (λ (view : TmView). view.vc_count) 0 (views_on vc (form_views format spacecraft is fits 0 0 lists)) before later view
     (all_count format spacecraft is fits lists 0 0 vc (let eight = due.eight in omega arith) due.each)
-    (ap (channel_of vc) (sym (views_are format spacecraft lists is fits due)) ∙ at)
+    (ap (views_on vc) (sym (views_are format spacecraft lists is fits due)) ∙ at)
     ∙ ap (λ n. n % 256) index
 
 pub packets_lie_end_to_end : PacketsLieEndToEnd
 packets_lie_end_to_end format spacecraft lists is fits due vc below =
     let eight = due.eight in
     let (before, own) = own_channel format spacecraft is fits lists 0 0 vc vc (omega arith) due.each (omega arith) (omega arith) in
-    ap (λ views. concat (map packet_data (channel_of vc views))) (views_are format spacecraft lists is fits due) ∙ ap (λ l. concat (map packet_data l)) own
+    ap (λ views. concat (map packet_data (views_on vc views))) (views_are format spacecraft lists is fits due) ∙ ap (λ l. concat (map packet_data l)) own
     ∙ own_data format vc before (slice_index_or lists vc []) is (omega arith) (each-at (AllByRecursion IsDeliverable) lists vc [] tt due.each)

@@ -7,7 +7,7 @@ use Rattle.std.proofs.lemmas.Bool.{lt-ltb}
 use Rattle.std.proofs.lemmas.List.{length-map}
 use Rattle.sl_tmframe.specs.declared.tm_frame.TmSkip.{TmSkip}
 use Rattle.sl_tmframe.specs.TmFrame.{TmView}
-use Rattle.sl_tmflow.specs.Channel.{channel_of, views_of}
+use Rattle.sl_tmflow.specs.Channel.{views_on, views_of}
 use Rattle.sl_tmflow.specs.Incomplete.{IsShort, incomplete_of}
 use Rattle.sl_tmflow.proofs.lemmas.Delivery.Channel.{other_seen}
 use Rattle.sl_tmflow.proofs.lemmas.Incomplete.List.{one_is_incomplete, incomplete_is_short}
@@ -44,17 +44,17 @@ one_line offset vc (x ∷ y ∷ ys) few short = absurd (omega arith)
 
 -- the line of a virtual channel, by the octets that are held
 pub open_is : (p : Parameters) (offset vc : ℕ) (frames : List (List ℕ)) {octets : ℕ}
-    → octets ≡ length (concat (incomplete_of (channel_of vc (views_of (tm_format p) p.spacecraft frames))))
+    → octets ≡ length (concat (incomplete_of (views_on vc (views_of (tm_format p) p.spacecraft frames))))
     → event_anomaly offset vc None (codes " open") (nat_lt 0 octets) (Some octets) ≡ tm_open p offset frames vc
 open_is p offset vc frames held = grind (arith, incomplete_is_short, one_is_incomplete, one_line)
 
 -- a frame of another virtual channel leaves it
-channel_other : (vc : ℕ) (views : List TmView) (r : Result TmView TmSkip) → vc_of r ≢ vc → channel_of vc (with_frame views r) ≡ channel_of vc views
+channel_other : (vc : ℕ) (views : List TmView) (r : Result TmView TmSkip) → vc_of r ≢ vc → views_on vc (with_frame views r) ≡ views_on vc views
 channel_other vc views r other = grind (arith, other_seen)
 
 pub few_open : (p : Parameters) (offset : ℕ) (frames : List (List ℕ)) → length (flat_map (tm_open p offset frames) (tm_kind p).channels) ≤ length frames
 few_open p offset frames =
     few.few_open (tm_kind p) (tm_delivered p) (tm_open p offset) (λ vc. refl)
-    (λ before vc. let channel = channel_of vc (views_of (tm_format p) p.spacecraft before) in simp length-map (one_is_incomplete channel))
+    (λ before vc. let channel = views_on vc (views_of (tm_format p) p.spacecraft before) in simp length-map (one_is_incomplete channel))
     (λ before frame vc other. rw (views_next (as_read p) before frame, channel_other vc (views_of (tm_format p) p.spacecraft before) (as_read p frame) other) refl)
     frames

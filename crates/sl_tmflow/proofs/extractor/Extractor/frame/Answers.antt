@@ -1,7 +1,7 @@
 use Rattle.std.proofs.Common.{refl, sym, ◌∙◌, ap, arith}
 use Rattle.sl_packet.proofs.StoppingLemmas.{counts_stopped}
 use Rattle.std.specs.List.{slice_index_or}
-use Rattle.sl_tmflow.specs.Channel.{channel_of}
+use Rattle.sl_tmflow.specs.Channel.{views_on}
 use Rattle.sl_tmflow.proofs.lemmas.Anomaly.{foreign_is, dropped_seen, gap_seen, incomplete_around}
 use Rattle.sl_tmflow.proofs.lemmas.Delivery.Channel.{handed_now, processed_more, seen_at}
 use Rattle.sl_tmflow.proofs.extractor.Extractor.frame.Goals as goal
@@ -31,12 +31,12 @@ returns-clause-idle g c =
 
 pub returns-clause-gap : goal.returns-clause-gap
 returns-clause-gap g c =
-    λ views p. c.in-Ok.ensures.gap ∙ sym (gap_seen (slice_index_or c.self.inside.channels c.from.result c.index-self-from.result).state (channel_of c.args.frame.now.vc views) c.args.frame.now
+    λ views p. c.in-Ok.ensures.gap ∙ sym (gap_seen (slice_index_or c.self.inside.channels c.from.result c.index-self-from.result).state (views_on c.args.frame.now.vc views) c.args.frame.now
     (seen_at c.args.self.now views c.self.inside.channels c.from.result c.args.frame.now.vc c.index-self-from.result p (ap (λ s. s.channels) c.self.view_is) (omega arith) (omega arith) (omega arith)))
 
 pub returns-clause-dropped : goal.returns-clause-dropped
 returns-clause-dropped g c =
-    λ views p. c.in-Ok.ensures.dropped ∙ sym (dropped_seen (slice_index_or c.self.inside.channels c.from.result c.index-self-from.result).state (channel_of c.args.frame.now.vc views) c.args.frame.now
+    λ views p. c.in-Ok.ensures.dropped ∙ sym (dropped_seen (slice_index_or c.self.inside.channels c.from.result c.index-self-from.result).state (views_on c.args.frame.now.vc views) c.args.frame.now
     (seen_at c.args.self.now views c.self.inside.channels c.from.result c.args.frame.now.vc c.index-self-from.result p (ap (λ s. s.channels) c.self.view_is) (omega arith) (omega arith) (omega arith)))
 
 pub returns-clause-foreign : goal.returns-clause-foreign

@@ -20,8 +20,8 @@ const ON_1: [u8; 32] = [
     0x07, 0xFF, 0xC0, 0x00, 0x00, 0x09, 0, 0, 0, 0, 0, 0, 0, 0, 0, 0,
 ];
 
-// Frames of type AD, each with a packet: N(S) 1 and MAP 5 on virtual channel 0, N(S) 7 on virtual channel 2, without a
-// segment header, and N(S) 3 there.
+// Frames of type AD, each with a packet: N(S) 1 and MAP 5 on virtual channel 0, N(S) 7 on virtual
+// channel 2, without a segment header, and N(S) 3 there.
 const ON_MAP_5: [u8; 13] = [
     0x00, 0x01, 0x00, 0x0C, 0x01, 0xC5, //
     0x10, 0x02, 0xC0, 0x01, 0x00, 0x00, 0xEE,
@@ -77,7 +77,7 @@ fn frames_one_after_another_deliver_their_packets(rt: HostRuntime) {
     passes(&rt, &TM_FRAME, are_delivered(rt.alloc()));
 }
 
-// Whether frames of two virtual channels deliver the packets that FARM-1 lets through, each on its own MAP.
+// Whether frames of two virtual channels deliver what FARM-1 lets through, each packet on its MAP.
 fn are_received(alloc: Global) -> Result<bool, Stop> {
     let window = window(10).ok_or(Stop::Absent)?;
     let starts = with(&all(0), 2, 7);

@@ -1,5 +1,5 @@
-//! The edges of the window, and runs with their words. The values follow from the table of FARM-1 and from
-//! the bits of the word.
+//! The edges of the window, and runs with their words. The values follow from the table of FARM-1
+//! and from the bits of the word.
 ghost use Rattle.std.specs.Prelude.{◌≤◌};
 
 mod starts;
@@ -9,15 +9,15 @@ use crate::support::rows::{Stop, holds, passes};
 use sl_cop::{Farm, FarmEvent, Verdict};
 use std::process::Abort;
 
-// A width; the last number in the positive part of the window, counted from V(R), and the first one in its negative
-// part.
+// The width of the window; counted from V(R), the last number in its positive part and the first
+// one in its negative part.
 const EDGES: [(u8, u8, u8); 3] = [(2, 0, 255), (10, 4, 251), (254, 126, 129)];
 
 // An event, the verdict on it, and the word of a virtual channel after it.
 type Answer = (FarmEvent, Verdict, [u8; 4]);
 
-// Answers of a FARM-1 with a window of 10 and V(R) 0 at the start, with the words of virtual channel 0; and the word of
-// virtual channel 63 after them.
+// Answers of a FARM-1 with a window of 10 and V(R) 0 at the start, with the words of virtual
+// channel 0; and the word of virtual channel 63 after them.
 const ANSWERS: [([Answer; 4], [u8; 4]); 4] = [
     (
         [
@@ -86,8 +86,8 @@ fn widths_of_windows(rt: HostRuntime) {
     }
 }
 
-// What becomes of a frame that is this far ahead of V(R): the positive part goes up to `last_early`, and the
-// negative part begins at `first_late`.
+// What becomes of a frame this far ahead of V(R): the positive part ends with `last_early`, and the
+// negative part begins with `first_late`.
 fn expected(ahead: u8, last_early: u8, first_late: u8) -> Verdict {
     if ahead == 0 {
         Verdict::Accept
@@ -100,7 +100,7 @@ fn expected(ahead: u8, last_early: u8, first_late: u8) -> Verdict {
     }
 }
 
-// Whether a frame that is this far ahead of this V(R) has its verdict, and V(R) is what it should be after it.
+// Whether a frame this far ahead of this V(R) has its verdict, and leaves V(R) as it should be.
 fn is_edge(
     (width, last_early, first_late): (u8, u8, u8),
     before: u8,
@@ -141,7 +141,7 @@ fn answers(farm: &mut Farm, vc: u8, answer: &Answer) -> bool
     farm.step(*event) == *verdict && word(farm, vc) == *wanted
 }
 
-// Whether it does so to all of them, one after another, and this is the word of virtual channel 63 then.
+// Whether it answers so to all of them in turn, and virtual channel 63 then has this word.
 fn are_answers(rt: &impl Abort, vc: u8, rows: &[Answer], last: [u8; 4]) -> Result<bool, Stop>
     requires { vc ≤ 63 }
 {
@@ -181,7 +181,7 @@ fn is_stored(farm: &mut Farm, event: FarmEvent, state: State) -> bool {
     stored(farm) == state && restored(farm, state) == Some(*farm)
 }
 
-// Whether that is so of all events, the window is what it was, and there is no state beyond the bits.
+// Whether that holds for all events, the window stays the same, and no state goes beyond the bits.
 fn are_stored(rt: &impl Abort) -> Result<bool, Stop> {
     let mut farm = farm(10, 7)?;
     for (event, state) in &STATES {

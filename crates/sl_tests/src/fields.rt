@@ -1,5 +1,5 @@
-//! Headers of known octets: their fields follow from the tables of bits. Error control fields are known
-//! from outside.
+//! Headers of known octets: their fields follow from the tables of bits. Error control fields are
+//! known from outside.
 mod clcw;
 mod ends;
 mod error_control;

@@ -1,6 +1,6 @@
-//! Tests of the public calls of the libraries below `sl_link`, a module each, and of the callers in `sl_callers`: what is
-//! expected is known from outside. They stand in a crate of their own, since a crate with tests is proved once more with
-//! them.
+//! Tests of the public calls of the libraries below `sl_link`, a module each, and of the callers in
+//! `sl_callers`, against answers known from outside. They stand in a crate of their own, since a
+//! crate with tests is proved a second time with them.
 #![tactic(auto)]
 
 #[cfg(test)]

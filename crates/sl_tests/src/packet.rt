@@ -213,7 +213,7 @@ fn add(octets: &mut Vec<u8>, part: &[u8]) -> Result<(), Stop> {
     Ok(add_part(octets, part)?)
 }
 
-// Whether parts of a longest packet are joined in as much memory as these want, and the memory is given back.
+// Whether parts of a longest packet are joined in just the memory they need, which is given back.
 fn is_memory_enough(alloc: Global) -> Result<bool, Stop> {
     let longest = longest(alloc)?;
     let mut octets = Vec::new(alloc);

@@ -1,5 +1,5 @@
-//! What the tests share. A public call stands in a function without a contract, here or in a test's own module, so that
-//! the proof of a test doesn't carry all that the call ensures.
+//! What the tests share. A public call stands in a function without a contract, here or in a test's
+//! own module, so that the proof of a test doesn't carry all that the call ensures.
 pub mod cop;
 pub mod packets;
 pub mod recordings;

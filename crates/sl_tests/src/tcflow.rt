@@ -1,5 +1,5 @@
-//! Frames of known octets through a receiver, and the normal forms of packets. The expected values follow from the
-//! standard's bits.
+//! Frames of known octets through a receiver, and the normal forms of packets. The expected values
+//! follow from the standard's bits.
 mod anomaly;
 mod fault;
 mod form;
@@ -9,8 +9,8 @@ mod receiver;
 mod reframe;
 mod starts;
 
-// A continuing segment on MAP 1 without a first one; a first segment on MAP 1, and one on MAP 2; the last one on
-// MAP 1; another first one on MAP 2, and the last one.
+// A continuing segment on MAP 1 without a first one; a first segment on MAP 1, and one on MAP 2;
+// the last one on MAP 1; another first one on MAP 2, and the last one there.
 const STRAY_ON_1: &[u8] = &[0x00, 0x01, 0x00, 0x06, 0x00, 0x01, 0xFF];
 
 const FIRST_ON_1: &[u8] = &[

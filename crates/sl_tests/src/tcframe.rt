@@ -1,5 +1,5 @@
-//! Frames of known octets, as they are read and written. What is expected follows from the standard's table of
-//! bits, and from its division for the error control fields.
+//! Frames of known octets, as they are read and written. What is expected follows from the
+//! standard's table of bits, and from its division for the error control fields.
 mod added;
 mod content;
 mod framer;
@@ -14,7 +14,7 @@ use sl_tcframe::{TcContent, TcFrame, TcShape, TcSkip};
 // Greatest lengths that no format has.
 const NO_LENGTHS: [u16; 4] = [0, 15, 1025, 65535];
 
-// Greatest length, error control, least length, and room of formats, with segment headers and without.
+// Greatest length, error control, least length, and room with segment headers and without.
 const FORMATS: [(u16, bool, u16, (u16, u16)); 4] = [
     (16, false, 5, (10, 11)),
     (16, true, 7, (8, 9)),
@@ -144,7 +144,7 @@ fn is_refused(max: u16, fecf: bool) -> bool {
     TcShape::new(max, fecf).err() == Some(ShapeFault::TcLength)
 }
 
-// Whether a format has this greatest length, error control, least length, and room, with segment headers and without.
+// Whether a format has these lengths, and this room with segment headers and without.
 fn is_format(
     max: u16,
     fecf: bool,

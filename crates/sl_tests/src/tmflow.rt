@@ -1,5 +1,4 @@
-//! Frames of known octets, and the packets that end in them. The expected packets follow from the standard's
-//! bits.
+//! Frames of known octets, and the packets that end in them, which follow from the standard's bits.
 mod fault;
 mod form;
 
@@ -35,7 +34,7 @@ const IDLE: [u8; 32] = [
     0x55, 0x55, 0x55, 0x55, 0x55, 0x55, 0x55, 0x55, 0x55, 0x55,
 ];
 
-// Counts 2, first header pointer 7: the other octets of that packet, `TELEMETRY` and an idle packet.
+// Counts 2, first header pointer 7: the rest of that packet, `TELEMETRY` and an idle packet.
 const ENDED: [u8; 32] = [
     0x00, 0x10, 0x02, 0x02, 0x18, 0x07, //
     0x00, 0x00, 0x03, 0x01, 0x02, 0x03, 0x04, //
@@ -43,8 +42,8 @@ const ENDED: [u8; 32] = [
     0x07, 0xFF, 0xC0, 0x00, 0x00, 0x02, 0x00, 0x00, 0x00,
 ];
 
-// Counts 255, first header pointer 10: ten octets of a packet that no frame began, a packet of ten octets, and
-// octets of version 1.
+// Counts 255, first header pointer 10: ten octets of a packet that no frame began, a packet of ten
+// octets, and octets of version 1.
 const FOREIGN: [u8; 32] = [
     0x00, 0x10, 0xFF, 0xFF, 0x18, 0x0A, //
     0x44, 0x44, 0x44, 0x44, 0x44, 0x44, 0x44, 0x44, 0x44, 0x44, //
@@ -104,8 +103,9 @@ static BROUGHT: [(&str, &[Frame], &[&[u8]], &[u8]); 3] = [
     ),
 ];
 
-// A frame; the count expected where there is a gap, the octets that are dropped, and whether a start is of another
-// version; the packets and the idle ones that end in the frame; and the octets that are held after it.
+// A frame; the count expected where there is a gap, the octets that are dropped, and whether a
+// start is of another version; the packets and the idle ones that end in the frame; and the octets
+// that are held after it.
 type Row<'a> = (&'a [u8; 32], (Option<u8>, u32, bool), (u32, u32), u32);
 
 // One frame after another.

@@ -1,5 +1,5 @@
-//! Frames of known octets, as they are read and written. The headers follow from the table of bits; the error
-//! control fields are known from outside.
+//! Frames of known octets, as they are read and written. The headers follow from the table of bits;
+//! the error control fields are known from outside.
 mod field;
 mod framer;
 
@@ -76,7 +76,8 @@ const FIELD_OF_24: [u8; 24] = [
     0x01, 0x02,
 ];
 
-// Length and error control of a format, a frame, what is read of it, where the first packet starts, and the data field.
+// A format's length and error control, a frame, what is read of it, where its first packet starts,
+// and its data field.
 static WITH_CONTROL_FIELDS: [((u16, bool), &[u8], View, (Option<u16>, &[u8])); 3] = [
     (
         (34, true),
@@ -112,7 +113,7 @@ const WITHOUT_PACKETS: [([u8; 6], bool); 6] = [
     ([0x00, 0x10, 0x00, 0x00, 0x1F, 0xFD], false),
 ];
 
-// Headers and error control fields of frames, and why these are skipped: with error control, and without.
+// Headers and error control fields of frames, and why these are skipped, with error control or not.
 static SKIPPED: [([u8; 6], [u8; 2], Option<TmSkip>, Option<TmSkip>); 6] = [
     // Nothing is wrong,
     (
@@ -157,8 +158,8 @@ static SKIPPED: [([u8; 6], [u8; 2], Option<TmSkip>, Option<TmSkip>); 6] = [
     ),
 ];
 
-// Headers and error control fields of frames with `TM_FIELD`; and the virtual channel, the two counts and the place of
-// the first packet that make them.
+// Headers and error control fields of frames with `TM_FIELD`, and what makes them: the virtual
+// channel, the two counts, and the place of the first packet.
 static ADDED: [([u8; 6], [u8; 2], Numbers); 3] = [
     (
         [0x00, 0x10, 0x00, 0x00, 0x18, 0x00],
@@ -245,8 +246,8 @@ fn frames_of_packets_are_read(rt: HostRuntime) {
     }
 }
 
-// With an error control field; with an operational control field before it; and the same octets of a format without
-// error control.
+// With an error control field; with an operational control field before it; and the same octets of
+// a format without error control.
 #[test]
 fn control_fields_are_no_part_of_the_data_field(rt: HostRuntime) {
     for (format, octets, seen, packets) in &WITH_CONTROL_FIELDS {

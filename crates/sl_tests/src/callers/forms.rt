@@ -8,7 +8,7 @@ use sl_callers::forms::{
 use sl_link::{LinkFault, Managed};
 use std::alloc::Global;
 
-// A TM frame with the packet of `TM_FRAME`, other counts and other idle fill, and one with another packet.
+// A TM frame with the packet of `TM_FRAME` but other counts and idle fill; one with another packet.
 const TM_FILLED: [u8; 32] = [
     0x00, 0x10, 0x4D, 0xC8, 0x18, 0x00, 0x00, 0x01, 0xC0, 0x00, 0x00, 0x03, 0xAA, 0xBB, 0xCC, 0xDD,
     0x07, 0xFF, 0x00, 0x07, 0x00, 0x09, 0x55, 0x55, 0x55, 0x55, 0x55, 0x55, 0x55, 0x55, 0x55, 0x55,
@@ -19,7 +19,7 @@ const TM_OTHER: [u8; 32] = [
     0x07, 0xFF, 0xC0, 0x00, 0x00, 0x09, 0x00, 0x00, 0x00, 0x00, 0x00, 0x00, 0x00, 0x00, 0x00, 0x00,
 ];
 
-// A frame of type BD with the unit of `TC_FRAME`, and one of type AD with its packet on another MAP.
+// A frame of type BD with the unit of `TC_FRAME`, and one of type AD with its packet on MAP 1.
 const TC_BYPASSING: [u8; 16] = [
     0x20, 0x01, 0x00, 0x0F, 0x00, 0xC0, 0x10, 0x01, 0xC0, 0x00, 0x00, 0x03, 0xAA, 0xBB, 0xCC, 0xDD,
 ];
@@ -33,8 +33,8 @@ fn link() -> Result<Managed, Stop> {
     Managed::new(1, 32, false, 16, false, 10, 0, 100).or(Err(Stop::Absent))
 }
 
-// What the six say, without their contracts: whether the packets of another recording are the same ones, and whether a
-// recording that is normalised twice becomes these octets.
+// The six callers, without their contracts: whether another recording has the same packets, and
+// whether a recording that is normalised twice becomes these octets.
 fn is_same_tm(alloc: Global, other: &[u8]) -> Result<bool, Stop> {
     let link = link()?;
     Ok(have_same_tm_packets(alloc, &link, &TM_FRAME, other)?)

@@ -8,8 +8,8 @@ use sl_cop::Starts;
 // V(R) 9 for all virtual channels but the least, which has 0, and the greatest, which has 255.
 const LEAST_AND_GREATEST: &[(u8, u8)] = &[(63, 255), (0, 0)];
 
-// The V(R) of all virtual channels but some, and that of these; a text; and the V(R) of those that have another one
-// then.
+// The V(R) of all virtual channels but some, and that of these; a text; and which channels have
+// another V(R) after it.
 static TEXTS: [(u8, &[(u8, u8)], &str, &[(u8, u8)]); 10] = [
     (9, &[], "5:255", &[(5, 255)]),
     (9, &[], "0:0", &[(0, 0)]),
@@ -130,7 +130,7 @@ fn have(starts: &Starts, vr: u8, pairs: &[(u8, u8)]) -> bool {
     true
 }
 
-// Whether the V(R) of one virtual channel is changed alone, is changed back, and what it was made of is as it was.
+// Whether the V(R) of one virtual channel alone is changed, in a copy, and can be changed back.
 fn is_changed(vc: u8) -> bool
     requires { vc ≤ 63 }
 {

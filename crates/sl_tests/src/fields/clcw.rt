@@ -4,8 +4,8 @@ ghost use Rattle.std.specs.Prelude.{◌≤◌};
 use crate::support::rows::holds;
 use sl_fields::Clcw;
 
-// Control word type, version, status and COP; virtual channel and spare bits; the flags with the FARM-B counter between
-// them; and the report value.
+// Control word type, version, status and COP; virtual channel and spare bits; the flags with the
+// FARM-B counter between them; and the report value.
 type Fields = (
     (u8, u8, u8, u8),
     (u8, u8),
@@ -13,7 +13,7 @@ type Fields = (
     u8,
 );
 
-// No RF available, No bit lock, Lockout, Wait and Retransmit, the FARM-B counter, and the spare bit after it.
+// No RF available, No bit lock, Lockout, Wait, Retransmit; FARM-B counter; the spare bit after it.
 const NO_FLAGS: (bool, bool, bool, bool, bool, u8, bool) = (
     false, false, false, false, false, 0, false,
 );
@@ -110,7 +110,7 @@ fn is_made(clcw: &Clcw, octets: &[u8; 4], fields: &Fields) -> bool {
     }
 }
 
-// Whether the CLCW of these octets has these fields, is written as it was read, and is the one that is made of them.
+// Whether the CLCW of these octets has these fields, is made of them, and is written as read.
 fn is_known(octets: &[u8; 4], wanted: &Fields) -> bool {
     let clcw = Clcw::read(octets);
     fields(&clcw) == *wanted && clcw.write() == *octets && is_made(&clcw, octets, wanted)

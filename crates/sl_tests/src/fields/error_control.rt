@@ -94,8 +94,8 @@ fn error_control_fields_of_known_octets(rt: HostRuntime) {
     }
 }
 
-// The preset is added to the first two octets of a message, so an octet alone has its word where its complement is
-// taken, and `FF` is left of the preset.
+// The preset is added to the first two octets of a message. So the complement of an octet, alone in
+// a message, gives the octet's word, but for the `FF` that is left of the preset.
 fn word_of(octet: u8) -> u16 {
     of(&[octet ^ 0xFF]) ^ 0xFF00
 }
@@ -111,7 +111,7 @@ fn one_octet_gives_its_word(rt: HostRuntime) {
     }
 }
 
-// Three slices of sixteen octets that begin with `FFFF` cancel the preset, and one octet is added to them at a place.
+// Three slices of sixteen octets, with `FFFF` against the preset, and with an octet at one place.
 fn slices_with(octet: u8, place: usize) -> [u8; 48] {
     let mut slices = [0; 48];
     slices[0] = 0xFF;
@@ -122,7 +122,7 @@ fn slices_with(octet: u8, place: usize) -> [u8; 48] {
     slices
 }
 
-// So that octet gives its word, moved on by the octets that come after it.
+// So the octet gives its word, moved on by the octets that come after it.
 #[test]
 fn one_octet_at_each_place_of_three_slices_gives_its_word(rt: HostRuntime) {
     for octet in 0..=255u8 {

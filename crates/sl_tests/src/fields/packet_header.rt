@@ -57,7 +57,7 @@ fn new(fields: &Fields) -> Option<PacketHeader> {
     PacketHeader::new(version, kind, secondary, apid, flags, count, length)
 }
 
-// Whether the header of these octets has these fields, is written as it was read, and is the one that is made of them.
+// Whether the header of these octets has these fields, is made of them, and is written as read.
 fn is_known(octets: &[u8; 6], wanted: &Fields) -> bool {
     let header = PacketHeader::read(octets);
     fields(&header) == *wanted && header.write() == *octets && new(wanted) == Some(header)

@@ -33,7 +33,7 @@ fn new((flags, map): (u8, u8)) -> Option<SegmentHeader> {
     SegmentHeader::new(flags, map)
 }
 
-// Whether the header of an octet is written as it was read, and is the one that is made of these fields.
+// Whether the header of an octet is made of these fields, and is written as it was read.
 fn is_made(octet: u8, fields: (u8, u8)) -> bool {
     let header = SegmentHeader::read(&[octet]);
     header.write() == [octet] && new(fields) == Some(header)

@@ -4,7 +4,7 @@ ghost use Rattle.std.specs.Prelude.{◌≤◌};
 use crate::support::rows::holds;
 use sl_fields::TcHeader;
 
-// Version, bypass and control command flag, and spare bits; spacecraft and virtual channel; stated length and N(S).
+// Version, bypass and control command flags, spare bits; spacecraft, virtual channel; length, N(S).
 type Fields = ((u8, bool, bool, u8), (u16, u8), (u16, u8));
 
 const KNOWN: [([u8; 5], Fields); 6] = [
@@ -61,7 +61,7 @@ fn new(fields: &Fields) -> Option<TcHeader> {
     TcHeader::new(version, bypass, command, spare, spacecraft, vc, length, ns)
 }
 
-// Whether the header of these octets has these fields, is written as it was read, and is the one that is made of them.
+// Whether the header of these octets has these fields, is made of them, and is written as read.
 fn is_known(octets: &[u8; 5], wanted: &Fields) -> bool {
     let header = TcHeader::read(octets);
     fields(&header) == *wanted && header.write() == *octets && new(wanted) == Some(header)

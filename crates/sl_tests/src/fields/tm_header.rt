@@ -4,8 +4,8 @@ ghost use Rattle.std.specs.Prelude.{◌≤◌};
 use crate::support::rows::holds;
 use sl_fields::TmHeader;
 
-// Version, spacecraft, virtual channel and operational control field flag; the two counts; and the status of the data
-// field.
+// Version, spacecraft, virtual channel and operational control field flag; the two counts; and the
+// status of the data field.
 type Fields = ((u8, u16, u8, bool), (u8, u8), (bool, bool, bool, u8, u16));
 
 const KNOWN: [([u8; 6], Fields); 5] = [
@@ -90,7 +90,7 @@ fn is_made(header: &TmHeader, octets: &[u8; 6], fields: &Fields) -> bool {
     }
 }
 
-// Whether the header of these octets has these fields, is written as it was read, and is the one that is made of them.
+// Whether the header of these octets has these fields, is made of them, and is written as read.
 fn is_known(octets: &[u8; 6], wanted: &Fields) -> bool {
     let header = TmHeader::read(octets);
     fields(&header) == *wanted && header.write() == *octets && is_made(&header, octets, wanted)

@@ -16,7 +16,8 @@ pub const LONGER: [u8; 23] = [
     0x11,
 ];
 
-/// A TM frame of spacecraft 1, virtual channel 0 and counts 0: a packet at the front, and an idle packet to the end.
+/// A TM frame of spacecraft 1, virtual channel 0 and counts 0: a packet at the front, and an idle
+/// packet to the end.
 pub const TM_FRAME: [u8; 32] = [
     0x00, 0x10, 0x00, 0x00, 0x18, 0x00, //
     0x00, 0x01, 0xC0, 0x00, 0x00, 0x03, 0xAA, 0xBB, 0xCC, 0xDD, //
@@ -29,7 +30,8 @@ pub const TM_FIELD: [u8; 26] = [
     0x07, 0xFF, 0xC0, 0x00, 0x00, 0x09, 0, 0, 0, 0, 0, 0, 0, 0, 0, 0,
 ];
 
-/// A TC frame of spacecraft 1, virtual channel 0, type AD and N(S) 0: an unsegmented unit on MAP 0 that is one packet.
+/// A TC frame of spacecraft 1, virtual channel 0, type AD and N(S) 0: an unsegmented unit on MAP 0
+/// that is one packet.
 pub const TC_FRAME: [u8; 16] = [
     0x00, 0x01, 0x00, 0x0F, 0x00, 0xC0, //
     0x10, 0x01, 0xC0, 0x00, 0x00, 0x03, 0xAA, 0xBB, 0xCC, 0xDD,

@@ -51,7 +51,7 @@ pub fn set_of(channels: &[u8]) -> VcSet {
     set
 }
 
-/// A receiver with a window of 10, the same V(R) on all virtual channels, and segment headers on each.
+/// A receiver with a window of 10, this V(R) and segment headers on each virtual channel.
 pub fn receiver(alloc: Global, vr: u8) -> Result<Receiver, Stop> {
     receiver_with(alloc, &cop::all(vr), no_channels())
 }
@@ -93,13 +93,13 @@ pub fn counts(step: &TcStep) -> (Verdict, u32, u32) {
     (step.verdict(), step.packets(), step.idle())
 }
 
-/// The anomalies of a unit: whether it is out of sequence, how many octets of an incomplete series are dropped,
-/// whether its series is too long, and how many octets are left after its packets.
+/// The anomalies of a unit: whether it is out of sequence, how many octets of an incomplete series
+/// are dropped, whether its series is too long, and how many octets are left after its packets.
 pub fn anomalies(step: &TcStep) -> (bool, Option<u32>, bool, u32) {
     (step.stray(), step.dropped(), step.long(), step.tail())
 }
 
-/// The verdict on a frame of spacecraft 1, and the packets and the idle ones that end with its unit.
+/// The verdict on a frame of spacecraft 1, and the packets and idle ones that end with its unit.
 pub fn received<S: PacketSink>(
     receiver: &mut Receiver,
     octets: &[u8],
@@ -134,8 +134,8 @@ pub fn held(receiver: &Receiver, vc: u8, map: u8) -> (u32, bool)
     (receiver.held(vc, map), receiver.is_open(vc, map))
 }
 
-/// The normal form of packets on their channels, of spacecraft 1, with these V(R), and without segment headers on these
-/// virtual channels.
+/// The normal form of packets on their channels, of spacecraft 1, with these V(R), and without
+/// segment headers on these virtual channels.
 pub fn form_of(
     alloc: Global,
     shape: &TcShape,

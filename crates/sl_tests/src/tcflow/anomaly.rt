@@ -28,7 +28,7 @@ const LAST_BYPASSING: [u8; 7] = [0x20, 0x01, 0x00, 0x06, 0x00, 0x80, 0x33];
 // A first segment without octets on virtual channel 63 and MAP 63, in a frame of type BD.
 const FIRST_ON_LAST: [u8; 6] = [0x20, 0x01, 0xFC, 0x05, 0x00, 0x7F];
 
-// A frame; the anomalies of its unit; and a virtual channel, a MAP, and what is held there after it.
+// A frame, the anomalies of its unit, and a virtual channel, a MAP and what is held there after it.
 type Frame<'a> = (
     &'a [u8],
     (bool, Option<u32>, bool, u32),
@@ -144,7 +144,7 @@ fn no_series_is_open_from_a_channel_on(rt: HostRuntime) {
     }
 }
 
-// Whether a series of as many octets as one may have is too long with a last segment of one octet more.
+// Whether a last segment of one octet makes a series of the greatest length too long.
 fn is_too_long(alloc: Global) -> Result<bool, Stop> {
     let most = longest(alloc)?;
     let mut receiver = receiver(alloc, 0)?;

@@ -8,7 +8,7 @@ use sl_packet::Delivered;
 use sl_tcflow::{PIECE_ROOM, TcForm, fits_tc};
 use std::alloc::{AllocError, Global};
 
-// Packets on the first two MAPs of virtual channel 0, and on the first and the last virtual channel after it.
+// Packets on the first two MAPs of virtual channel 0, and on those of other virtual channels.
 const PACKETS: [(u16, &[u8]); 6] = [
     (0, &LEAST),
     (1, &COMMAND),
@@ -21,7 +21,7 @@ const PACKETS: [(u16, &[u8]); 6] = [
 // Octets of the frames of each, of 16 octets at most.
 const LENS: [usize; 6] = [13, 16, 13, 16, 13, 16];
 
-// The form in frames of at most 16 octets, with segment headers on each virtual channel, and the same V(R).
+// The form in frames of at most 16 octets, with segment headers and the same V(R) everywhere.
 fn pieces_of<'d>(fecf: bool, vr: u8, delivered: &'d Delivered) -> Result<TcForm<'d>, Stop> {
     let shape = shape(16, fecf)?;
     let plain = no_channels();
@@ -44,7 +44,7 @@ fn add_next(
     Ok(is_there && piece.len() == len)
 }
 
-// Adds all pieces: whether they have these numbers of octets, and there are no more, however often one asks.
+// Adds all pieces: whether they have these lengths, and no more come, however often one asks.
 fn add_pieces(
     alloc: Global,
     pieces: &mut TcForm,
@@ -81,7 +81,7 @@ fn is_longest_piece(alloc: Global, len: usize) -> Result<bool, Stop> {
     Ok(add_pieces(alloc, &mut pieces, &[len], &mut form)?)
 }
 
-// A packet of 65,542 octets in frames that have room for 8 octets each: the longest piece that there is.
+// A packet of 65,542 octets in frames with room for 8 octets each: the longest piece that there is.
 #[test]
 fn the_longest_piece_has_room(rt: HostRuntime) {
     passes(&rt, &131_086, is_longest_piece(rt.alloc(), 131_086));

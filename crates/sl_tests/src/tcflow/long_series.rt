@@ -10,12 +10,13 @@ use sl_tcframe::push_tc;
 use std::alloc::Global;
 use std::process::Abort;
 
-// A segment that comes later: the number of its frame, its flags and octets; the packets that end with it, and what is
-// held then.
+// A segment that comes later: its frame's number, its flags and octets, the packets that end with
+// it, and what is held after it.
 type Later<'a> = (usize, u8, &'a [u8], u32, (u32, bool));
 
-// The octets of a series in segments of ten, and the flags of its last segment: the packets that end with this segment,
-// and what is held then. Segments that come later. Whether the longest packet is delivered; if not, nothing is.
+// The octets of a series in segments of ten; the flags of its last segment, the packets that end
+// with it, and what is held after it; segments that come later; and whether the longest packet is
+// delivered or nothing is.
 type Series<'a> = (
     &'a str,
     usize,
@@ -53,8 +54,8 @@ static SERIES: [Series; 4] = [
     ),
 ];
 
-// Of 6,556 segments the last but one gives the series up, and the last one ends none. Its ten octets alone would be a
-// packet and three more.
+// The last but one of 6,556 segments gives the series up, and the last one ends none. Its ten
+// octets alone would be a packet and three more octets.
 const ZEROS_LEN: usize = 65540;
 
 const ZEROS: Series = (
@@ -81,8 +82,8 @@ fn segment(alloc: Global, ns: u8, flags: u8, octets: &[u8]) -> Result<Vec<u8>, S
     Ok(frame)
 }
 
-// A segment with these flags in the frame of this number: the verdict on that frame, and the packets and the idle
-// ones that end with the segment.
+// A segment with these flags in the frame of this number: the verdict on that frame, and the
+// packets and the idle ones that end with the segment.
 fn segment_received(
     alloc: Global,
     receiver: &mut Receiver,
@@ -93,7 +94,7 @@ fn segment_received(
     received(receiver, &frame, delivered)
 }
 
-// Segments of ten octets each, the last one of as many as are left and with these flags: what is told of that one.
+// Segments of ten octets, the last one shorter perhaps, with these flags: the answer to that one.
 pub fn segments_received(
     alloc: Global,
     receiver: &mut Receiver,
@@ -126,7 +127,7 @@ fn is_later(
     Ok(found == (Verdict::Accept, *packets, 0) && held(receiver, 0, 0) == *wanted)
 }
 
-// Whether the longest packet, which is at the front of octets, is delivered and nothing else, or nothing is.
+// Whether the longest packet, at the front of octets, is delivered and no other, or none is.
 fn delivers(delivered: &Delivered, octets: &[u8], is_so: bool) -> bool {
     match octets.get(..65542) {
         Some(longest) if is_so => has(delivered, 0, &[longest]),

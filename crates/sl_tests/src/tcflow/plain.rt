@@ -51,7 +51,7 @@ const WITH_TAIL: [u8; 20] = [
     0x00,
 ];
 
-// A frame; the verdict on it, and the packets and the idle ones that end with its unit; and the anomalies of that.
+// A frame; the verdict on it, the packets and idle ones that end with its unit, and its anomalies.
 type Frame<'a> = (
     &'a [u8],
     (Verdict, u32, u32),
@@ -108,7 +108,7 @@ static FORMS: [(&[(u16, &[u8])], &[u8]); 2] = [
     (&[(320, &COMMAND)], &WHOLE),
 ];
 
-// Greatest frame length and error control, virtual channels without segment headers, packets, and whether these fit.
+// Greatest frame length, error control, channels without segment headers, packets, if these fit.
 static FITS: [((u16, bool), &[u8], &[(u16, &[u8])], bool); 13] = [
     ((16, false), &[5], &[(320, &OF_11), (384, &OF_12)], true),
     ((16, false), &[5], &[(320, &OF_12)], false),
@@ -163,7 +163,7 @@ fn units_without_segment_headers(rt: HostRuntime) {
     }
 }
 
-// Whether packets fit frames of at most this length, without segment headers on these virtual channels, or don't.
+// Whether packets fit as they should, with these virtual channels without segment headers.
 fn fit(
     alloc: Global,
     (max, fecf): (u16, bool),

@@ -61,7 +61,7 @@ type Frame<'a> = (&'a [u8], (Verdict, u32, u32));
 // The CLCW of a virtual channel.
 type Word = (u8, [u8; 4]);
 
-// The V(R) with which each virtual channel begins; frames, one after another; and what there is then.
+// The V(R) with which each virtual channel begins, frames in order, and what there is after them.
 type Case<'a> = (&'a str, u8, &'a [Frame<'a>], &'a [Packets<'a>], &'a [Word]);
 
 static CASES: [Case; 8] = [
@@ -208,7 +208,7 @@ fn frames_step_farms(rt: HostRuntime) {
     }
 }
 
-// A frame on virtual channel 0, whether the channel has no segment headers, and the MAP of the frame's unit.
+// A frame on virtual channel 0, whether this is without segment headers, and the MAP of the unit.
 type Mapped<'a> = (&'a [u8], bool, u8);
 
 static MAPS: [Mapped; 5] = [

@@ -53,8 +53,8 @@ const DIVIDED_PROTECTED: [u8; 47] = [
     0xF0, 0xA4,
 ];
 
-// Virtual channel 0: `LEAST` on MAP 0, and `LEAST` and `COMMAND` on MAP 1; virtual channel 1: `LEAST` on MAP 0; virtual
-// channel 63: `LEAST` on MAP 63. From N(S) 254 on.
+// Virtual channel 0: `LEAST` on MAP 0, and `LEAST` and `COMMAND` on MAP 1; virtual channel 1:
+// `LEAST` on MAP 0; virtual channel 63: `LEAST` on MAP 63. From N(S) 254 on.
 const ON_THREE_CHANNELS: [u8; 68] = [
     0x00, 0x01, 0x00, 0x0C, 0xFE, 0xC0, //
     0x10, 0x02, 0xC0, 0x01, 0x00, 0x00, 0xEE, //
@@ -68,7 +68,7 @@ const ON_THREE_CHANNELS: [u8; 68] = [
     0x10, 0x02, 0xC0, 0x01, 0x00, 0x00, 0xEE,
 ];
 
-// Greatest frame length and error control, initial V(R), packets on their channels, and their frames.
+// Greatest frame length and error control, initial V(R), packets by channel, and their frames.
 type Row<'a> = ((u16, bool), u8, &'a [(u16, &'a [u8])], &'a [u8]);
 
 static FORMS: [Row; 8] = [
@@ -114,8 +114,8 @@ fn normal_forms_of_known_packets(rt: HostRuntime) {
     }
 }
 
-// Whether a frame has the header that is wanted of this number, and carries a segment: the first one has flags 1, and
-// all others but the last have flags 0.
+// Whether a frame has the header wanted of this number and carries a segment: flags are 1 for the
+// first one, and 0 for all others but the last.
 fn carries(frame: &[u8; 16], number: usize, segment: &[u8]) -> bool {
     let flags = if number == 0 { 0x40 } else { 0x00 };
     let header = [0x00, 0x01, 0x00, 0x0F, (number % 256) as u8, flags];
@@ -160,8 +160,8 @@ fn longest_is_received(rt: &impl Abort, alloc: Global) -> Result<bool, Stop> {
     Ok(is_whole && is_ended && is_received(alloc, &form, &longest)?)
 }
 
-// A longest packet has 6,555 segments, the first of flags 1, the last of flags 2, and all others of flags 0, and is
-// received from them.
+// A longest packet is received from 6,555 segments: the first has flags 1, the last flags 2, and
+// all others flags 0.
 #[test]
 fn a_longest_packet_goes_through_its_frames(rt: HostRuntime) {
     passes(&rt, &"all frames", longest_is_received(&rt, rt.alloc()));

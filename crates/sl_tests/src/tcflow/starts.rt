@@ -12,7 +12,8 @@ use sl_tcflow::Receiver;
 use std::alloc::Global;
 use std::process::Abort;
 
-// The frames of `LEAST` on virtual channels 0, 5 and 6 with N(S) 0, 255 and 1, each with the channel of its packet.
+// The frames of `LEAST` on virtual channels 0, 5 and 6 with N(S) 0, 255 and 1, each with the
+// channel of its packet.
 const FRAMES: [(u16, [u8; 13]); 3] = [
     (
         0,

@@ -30,8 +30,7 @@ static ADDED: [(bool, Segment, &[u8]); 4] = [
 
 const PROTECTED: [u8; 9] = [0x00, 0x01, 0x00, 0x08, 0x00, 0xC0, 0xAA, 0x33, 0x59];
 
-// Greatest length, error control, and how many octets come after a segment header: at most as many as there is room
-// for.
+// Greatest length, error control, and numbers of octets that fit after a segment header.
 const LENS: [(u16, bool, [usize; 4]); 4] = [
     (16, false, [0, 1, 8, 10]),
     (16, true, [0, 1, 8, 8]),
@@ -45,7 +44,8 @@ const PLAIN: [u8; 15] = [
     0x10, 0x01, 0xC0, 0x00, 0x00, 0x03, 0xAA, 0xBB, 0xCC, 0xDD,
 ];
 
-// Greatest length, error control, what is there before, virtual channel and octets of frames without segment header.
+// Greatest length, error control, what is there before, virtual channel and octets of frames
+// without segment headers.
 static ADDED_PLAIN: [(u16, bool, &[u8], u8, &[u8], &[u8]); 2] = [
     (1024, false, &[0xEE], 5, &COMMAND, &PLAIN),
     (16, true, &[], 0, &[0xC0, 0xAA], &PROTECTED),

@@ -17,7 +17,7 @@ const RECORDING: [u8; 30] = [
 // Sizes of chunks.
 const SIZES: [usize; 8] = [1, 3, 4, 5, 7, 16, 23, 30];
 
-// Chunks one after another, what is left of each, what is held then, and whether no frame begins with that.
+// Chunks in order, what is left of each, what is held after it, and whether no frame begins so.
 static STUCK: [(&[u8], &[u8], &[u8], bool); 3] = [
     (&[0x00, 0x01], &[], &[0x00, 0x01], false),
     (
@@ -29,7 +29,7 @@ static STUCK: [(&[u8], &[u8], &[u8], bool); 3] = [
     (&TC_FRAME, &TC_FRAME, &[0x00, 0x01, 0x00, 0x02], true),
 ];
 
-// Error control, the first octets of a frame, and whether the length that these state is below the least.
+// Error control, the first octets of a frame, and whether the length in them is below the least.
 const LEAST: [(bool, [u8; 4], bool); 4] = [
     (false, [0x00, 0x01, 0x00, 3], true),
     (false, [0x00, 0x01, 0x00, 4], false),
@@ -110,7 +110,7 @@ fn add_next_from(
     Ok(())
 }
 
-// Adds the frames that a chunk completes, whichever call lends them: how many octets of it are left.
+// Adds the frames that a chunk completes, by either call: how many octets of it are left.
 fn lend(
     framer: &mut TcFramer,
     chunk: &[u8],

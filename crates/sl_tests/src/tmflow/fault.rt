@@ -17,7 +17,7 @@ const BOTH: [u8; 33] = [
 
 const FRAMES: [Frame; 2] = [(&BEGUN, (1, 0)), (&IDLE, (0, 0))];
 
-// How many packets a sink keeps; frames that go well, and one with a packet more; and what is kept then.
+// How many packets a sink keeps, frames that go well, one with a packet more, and what is kept.
 static REFUSED: [(u32, &[Frame], &[u8; 32], &[u8]); 3] = [
     (0, &[], &BEGUN, &[]),
     (1, &FRAMES, &ENDED, &OF_23),

@@ -11,8 +11,8 @@ use sl_tmflow::{Extractor, TmForm};
 use std::alloc::{AllocError, Global};
 use std::process::Abort;
 
-// The last two of the 2,522 frames of a packet of 65,542 octets: its last 22, and an idle packet that begins
-// after them. Counts 2,520 and 2,521 modulo 256.
+// The last two of the 2,522 frames of a packet of 65,542 octets: its last 22, and an idle packet
+// that begins after them. Counts 2,520 and 2,521 modulo 256.
 const LAST_OF_LONGEST: [u8; 64] = [
     0x00, 0x10, 0xD8, 0xD8, 0x18, 0x16, //
     0x33, 0x33, 0x33, 0x33, 0x33, 0x33, 0x33, 0x33, 0x33, 0x33, 0x33, 0x33, 0x33, 0x33, 0x33, 0x33,
@@ -90,8 +90,8 @@ fn the_pieces_of_a_form_follow_one_another(rt: HostRuntime) {
     passes(&rt, &PIECES, is_in_pieces(rt.alloc()));
 }
 
-// What is wanted of the frame of this number: its pointer, the packets and the idle ones that end in it, and the octets
-// that are held after it.
+// What is wanted of the frame of this number: its pointer, the packets and the idle ones that end
+// in it, and the octets that are held after it.
 fn wanted(number: u32) -> ([u8; 2], (u32, u32), u32)
     requires { number ≤ 2521 }
 {
@@ -144,7 +144,7 @@ fn longest_is_extracted(rt: &impl Abort, alloc: Global) -> Result<bool, Stop> {
     Ok(is_form_of_longest(&form) && is_extracted(rt, alloc, frames, &longest))
 }
 
-// A longest packet passes the greatest count nine times, and no packet starts in most of its frames.
+// A longest packet passes the greatest count nine times; in most of its frames no packet starts.
 #[test]
 fn a_longest_packet_goes_through_its_frames(rt: HostRuntime) {
     passes(&rt, &"all frames", longest_is_extracted(&rt, rt.alloc()));

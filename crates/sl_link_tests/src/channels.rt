@@ -1,4 +1,4 @@
-//! Virtual channels without segment headers, and such as begin with a V(R) of their own, by the command line.
+//! Virtual channels without segment headers, and ones with a V(R) of their own, by command line.
 use super::support::recordings::{
     BEGUN_FROM_255, CONTINUED_FROM_255, DIVIDED_FROM_255, ENDED_FROM_255, WHOLE,
 };
@@ -10,7 +10,7 @@ const LINK: &str = "tc --scid 1 --tm-length 32 --tc-length 24";
 
 const UP_TO_16: &str = "tc --scid 1 --tc-length 16";
 
-// A packet of ten octets in a frame on virtual channel 5 without a segment header, of type AD and of type BD.
+// A packet of ten octets on virtual channel 5, without a segment header, by type AD and type BD.
 const PLAIN: &str = "0001140e001001c0000003aabbccdd";
 
 const PLAIN_BD: &str = "2001140e001001c0000003aabbccdd";
@@ -172,7 +172,7 @@ const FORMS: [Form; 9] = [
         &["0001140b011002c0020000ef"],
     ),
     (LINK, "", &DIVIDED_FROM_255, &[]),
-    // A recording whose virtual channels begin with other V(R), by either way to say so, is its own normal form.
+    // A recording whose virtual channels begin with other V(R), by either option, is its own form.
     (
         UP_TO_16,
         "--vr-of 5:255",

@@ -5,8 +5,8 @@ use super::support::run::{Outcome, lists, normalises};
 use std::alloc::{AllocError, Global};
 use std::process::Abort;
 
-// Options come in any order, before the kind or after it, with their number as a word of its own or not; what the first
-// word is doesn't matter.
+// Options come in any order, before the kind or after it, their number joined to them or not. The
+// first word may be any.
 const LINES: [(&str, &str); 4] = [
     ("sllink show tm --scid 1 --tm-length 32", TM_TEN_SHOWN),
     (
@@ -323,8 +323,8 @@ const ALL_OPTIONS: &str =
     "--scid 1 --tm-length 34 --tc-length 24 --tm-fecf --tc-fecf --window 20 --vr 3 \
     --vr-of 5:255 --plain 7 --limit 69";
 
-// A packet of ten octets on virtual channel 5, which begins with a V(R) of 255, and on virtual channel 7, without a
-// segment header; a frame that a sliding window of 20 finds early, and one of 25 octets.
+// A packet of ten octets on virtual channel 5, where V(R) begins with 255, and on virtual channel
+// 7, without a segment header; a frame that is early in a window of 20; and one of 25 octets.
 const UPLINK: [&str; 4] = [
     "00011411ffc01001c0000003aabbccdd03f2",
     "00011c10031001c0000003aabbccdd3d47",
@@ -332,7 +332,7 @@ const UPLINK: [&str; 4] = [
     "0001001800c0000000000000000000000000000000000061e4",
 ];
 
-// Each option but the limit makes a difference in TM or in TC. The limit is the length of the TC recording.
+// Each option changes an answer, TM or TC, but for the limit: it is the TC recording's length.
 const WITH_ALL: [(&str, &[&str], u8, &str); 6] = [
     (
         "show tm",
@@ -372,7 +372,7 @@ const WITH_ALL: [(&str, &[&str], u8, &str); 6] = [
     ),
 ];
 
-// And their normal forms: of the frames that aren't skipped, as it happens.
+// And their normal forms, which are some of the frames that aren't skipped, as it happens.
 const FORMS_WITH_ALL: [(&str, &[&str], usize, usize); 2] = [
     ("normalise tm", &WITH_FECF, 3, 6),
     ("normalise tc", &UPLINK, 0, 2),

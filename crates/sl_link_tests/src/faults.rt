@@ -55,8 +55,8 @@ impl Run {
         Ok(answer.output)
     }
 
-    // Whether the fault is the read after this number of reads, and the beginning of the text is written, none of a
-    // normal form.
+    // Whether the fault is the read after this number of reads, and what was written is the
+    // beginning of the text, or nothing of a normal form.
     fn fails_at_read(&self, alloc: Global, reads: u64, whole: &[u8]) -> bool {
         let reader = FailsAfter::new(InPieces(self.recording.as_slice(), 1), reads);
         let ending = self.link.end(alloc, self.verb, reader, Vec::new(alloc));
@@ -65,8 +65,7 @@ impl Run {
             && (self.verb != Verb::Normalise || ending.writer.is_empty())
     }
 
-    // Whether the fault is the write after this number of writes, and all that was taken before is the beginning of the
-    // text.
+    // Whether the fault is the write after this number of writes, which took the text's beginning.
     fn fails_at_write(&self, alloc: Global, writes: usize, whole: &[u8]) -> bool {
         let writer = FailsAfter::new(InPieces(Vec::new(alloc), 1), writes as u64);
         let ending = self
@@ -154,8 +153,8 @@ fn is_interrupted(alloc: Global, engine: &Engine) -> Result<bool, Stop> {
     Ok(run.fails_when_interrupted(alloc))
 }
 
-// Whether a recording of one octet more than the limit is too long, however many octets come at a time, and so is an
-// input without end.
+// Whether an input without end is too long, and a recording of one octet more than the limit,
+// however many octets come at a time.
 fn is_limited(alloc: Global, engine: &Engine) -> Result<bool, Stop> {
     let run = Run::new(alloc, engine, 1)?;
     let mut is_so = run.is_too_long(alloc, std::io::repeat(0));

@@ -1,4 +1,4 @@
-//! Recordings that come in pieces, are cut short, damaged or long, through every engine of their kind.
+//! Recordings in pieces, cut short, damaged or long, through every engine of their kind.
 use super::normalise;
 use super::support::engines::{ALL, Answer, Kind, Link, VERBS, Verb};
 use super::support::recordings::{
@@ -12,8 +12,8 @@ use sl_link::LinkFault;
 use std::alloc::{AllocError, Global};
 use std::process::Abort;
 
-// A recording: kind of frames, their length or greatest length, whether there is error control, and the N(S) that is
-// expected first.
+// A recording: kind of frames, their (greatest) length, whether there is error control, the initial
+// V(R), and parts.
 type Recorded<'a> = (Kind, u16, bool, u8, &'a [&'a str]);
 
 // Beside those of normal forms.
@@ -39,8 +39,8 @@ const OF_LONGEST: &str = "frames 2522 skipped 0 packets 1 idle 1 anomalies 0\n";
 
 const OF_WAITING: &str = "frames 258 skipped 0 packets 3 idle 1 anomalies 0\n";
 
-const OF_TOO_LONG: &str =
-    "104864 long vc 0 map 0\n104880 stray vc 0 map 0\nframes 6556 skipped 0 packets 0 idle 0 anomalies 2\n";
+const OF_TOO_LONG: &str = "104864 long vc 0 map 0\n104880 stray vc 0 map 0\n\
+    frames 6556 skipped 0 packets 0 idle 0 anomalies 2\n";
 
 const OF_NO_OCTETS: &str =
     "6000 open vc 0 map 0 octets 0\nframes 1000 skipped 0 packets 0 idle 0 anomalies 1\n";
@@ -89,8 +89,8 @@ fn is_normalised(
     Ok(is_whole && normal.counts() == counts && again.output == normal.output)
 }
 
-// What holds of every recording: each engine passes over all of it, they count the same, and the lines are as many as
-// are counted; and the normal form is as it should be.
+// What holds of every recording: each engine passes over all of it, all count the same, each line
+// is counted, and the normal form is as it should be.
 fn is_passed(alloc: Global, link: &Link, recording: &[u8]) -> Result<bool, LinkFault> {
     let (counts, lines) = checked(alloc, link, recording)?;
     let [all, frames, skipped, rest, packets, idle, anomalies] = counts;

@@ -1,5 +1,6 @@
-//! Tests of the public calls of `sl_link`, a module for each topic: what is expected is known from outside. They stand in
-//! a crate of their own, since a crate with tests is proved once more with them.
+//! Tests of the public calls of `sl_link`, a module for each topic, against answers known from
+//! outside. They stand in a crate of their own, since a crate with tests is proved a second time
+//! with them.
 #![tactic(auto)]
 
 #[cfg(test)]

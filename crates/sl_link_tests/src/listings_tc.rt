@@ -60,7 +60,8 @@ const CHECKED: [(&[&str], u8, &str); 11] = [
     (
         &SKIPPED,
         1,
-        "0 skip spacecraft\n7 skip version\n14 skip long\n31 skip kind\n38 skip empty\n43 skip command\n\
+        "0 skip spacecraft\n7 skip version\n14 skip long\n\
+        31 skip kind\n38 skip empty\n43 skip command\n\
         frames 6 skipped 6 packets 0 idle 0 anomalies 6\n",
     ),
     // A series without octets is incomplete, and dropped; and octets are left after a packet.
@@ -85,7 +86,8 @@ const CHECKED: [(&[&str], u8, &str); 11] = [
             "00010002000000",
         ],
         1,
-        "45 rest 7\n52 open vc 0 map 2 octets 0\n52 open vc 0 map 3 octets 1\n52 open vc 5 map 0 octets 20\n\
+        "45 rest 7\n52 open vc 0 map 2 octets 0\n\
+        52 open vc 0 map 3 octets 1\n52 open vc 5 map 0 octets 20\n\
         frames 4 skipped 0 packets 0 idle 0 anomalies 4\n",
     ),
 ];
@@ -139,8 +141,8 @@ const LISTINGS: [(&str, &[&str], u8, &str); 7] = [
 
 const OF_ALL_SERIES: &str = "frames 4096 skipped 0 packets 0 idle 0 anomalies 4096";
 
-const OF_TOO_LONG: &str =
-    "104864 long vc 0 map 0\n104880 stray vc 0 map 0\nframes 6556 skipped 0 packets 0 idle 0 anomalies 2\n";
+const OF_TOO_LONG: &str = "104864 long vc 0 map 0\n104880 stray vc 0 map 0\n\
+    frames 6556 skipped 0 packets 0 idle 0 anomalies 2\n";
 
 #[test]
 fn listings_of_tc_recordings(rt: HostRuntime) {
@@ -171,7 +173,7 @@ fn is_open(alloc: Global, line: Option<&str>, vc: u8, map: u8) -> Result<bool, S
     Ok(line == Some(wanted.as_str()))
 }
 
-// There is a line for each MAP of each virtual channel. Whether there is one of the totals after them.
+// Whether there is a line for each MAP of each virtual channel, and then that of the totals.
 fn are_open(rt: &impl Abort, alloc: Global, listing: &str) -> bool {
     let mut lines = listing.lines();
     for vc in 0..64u8 {

@@ -21,7 +21,8 @@ const CHECKED: [(&[&str], &str); 16] = [
     (&FULL, "frames 1 skipped 0 packets 1 idle 0 anomalies 0\n"),
     (
         &WITH_GAP,
-        "32 gap vc 0 expected 1 found 2\n32 dropped vc 0 octets 3\nframes 2 skipped 0 packets 2 idle 1 anomalies 2\n",
+        "32 gap vc 0 expected 1 found 2\n32 dropped vc 0 octets 3\n\
+        frames 2 skipped 0 packets 2 idle 1 anomalies 2\n",
     ),
     (
         &AROUND_IDLE,
@@ -33,7 +34,8 @@ const CHECKED: [(&[&str], &str); 16] = [
     ),
     (
         &[FIRST, LONG, BEGUN, FIRST, LONG, BEGUN],
-        "32 gap vc 0 expected 1 found 0\n32 dropped vc 0 octets 3\n64 open vc 0 octets 3\nframes 2 skipped 0 packets 2 idle 0 anomalies 3\n",
+        "32 gap vc 0 expected 1 found 0\n32 dropped vc 0 octets 3\n64 open vc 0 octets 3\n\
+        frames 2 skipped 0 packets 2 idle 0 anomalies 3\n",
     ),
     (
         &[FIRST, TEN_FILLED, "0010000018000001"],
@@ -49,7 +51,8 @@ const CHECKED: [(&[&str], &str); 16] = [
             "001002021807",
             ENDED,
         ],
-        "32 dropped vc 0 octets 3\n32 opaque vc 0\nframes 3 skipped 0 packets 2 idle 1 anomalies 2\n",
+        "32 dropped vc 0 octets 3\n32 opaque vc 0\n\
+        frames 3 skipped 0 packets 2 idle 1 anomalies 2\n",
     ),
     (
         &FOREIGN,
@@ -65,7 +68,8 @@ const CHECKED: [(&[&str], &str); 16] = [
             "001001011807",
             ENDED,
         ],
-        "32 gap vc 0 expected 1 found 0\n32 dropped vc 0 octets 3\nframes 3 skipped 0 packets 2 idle 1 anomalies 2\n",
+        "32 gap vc 0 expected 1 found 0\n32 dropped vc 0 octets 3\n\
+        frames 3 skipped 0 packets 2 idle 1 anomalies 2\n",
     ),
     (
         &THROUGH,
@@ -91,16 +95,21 @@ const LISTED: [(&[&str], &str); 4] = [
     (&[FIRST, TEN_FILLED], TM_TEN_LISTED),
     (
         &AROUND_IDLE,
-        "vc 0 apid 2 type 0 secondary 0 flags 3 count 5 octets 23 0002c00500101111111111111111111111111111111111\nvc 0 apid 3 type 0 secondary 0 flags 3 count 0 octets 10 0003c000000301020304\nvc 0 apid 1 type 0 secondary 0 flags 3 count 0 octets 10 0001c0000003aabbccdd\n",
+        "vc 0 apid 2 type 0 secondary 0 flags 3 count 5 octets 23 \
+        0002c00500101111111111111111111111111111111111\n\
+        vc 0 apid 3 type 0 secondary 0 flags 3 count 0 octets 10 0003c000000301020304\n\
+        vc 0 apid 1 type 0 secondary 0 flags 3 count 0 octets 10 0001c0000003aabbccdd\n",
     ),
     // Without the frame in the middle, the packet that runs through it is gone and no other.
     (
         &WITH_GAP,
-        "vc 0 apid 2 type 0 secondary 0 flags 3 count 5 octets 23 0002c00500101111111111111111111111111111111111\nvc 0 apid 1 type 0 secondary 0 flags 3 count 0 octets 10 0001c0000003aabbccdd\n",
+        "vc 0 apid 2 type 0 secondary 0 flags 3 count 5 octets 23 \
+        0002c00500101111111111111111111111111111111111\n\
+        vc 0 apid 1 type 0 secondary 0 flags 3 count 0 octets 10 0001c0000003aabbccdd\n",
     ),
 ];
 
-// Whether an engine writes this listing, goes over all octets, and counts no anomalies but in a check.
+// Whether an engine writes this listing, reads all octets, and counts anomalies only in a check.
 fn is_listed(alloc: Global, verb: Verb, parts: &[&str], listing: &str) -> Result<bool, Stop> {
     let link = Link::new(Kind::Tm, 32, false, 0, 1000)?;
     let recording = octets(alloc, parts)?;

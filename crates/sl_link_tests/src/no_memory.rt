@@ -1,5 +1,5 @@
-//! Recordings for which no memory is wanted: packets that lie whole in their frame or unit are listed from there, and
-//! the normal form of no packets is empty.
+//! Recordings that need no memory: packets that lie whole in their frame or unit are listed from
+//! there, and the normal form of no packets is empty.
 use super::support::engines::{Kind, Link, Verb};
 use super::support::recordings::{TC_FRAME, TM_FRAME};
 use super::support::rows::{Stop, passes};

@@ -60,8 +60,8 @@ pub(super) const CASES: [(&[&str], &[&str]); 23] = [
     (&[FIRST, LONG, "07ffc0"], &ALONE),
     // A packet that ends with its data field.
     (&FULL, &FULL),
-    // A packet that runs through two frames, and a gap, a wrong pointer, an idle frame and an opaque one
-    // within it.
+    // A packet that runs through two frames, and a gap, a wrong pointer, an idle frame and an
+    // opaque one within it.
     (&THROUGH, &THROUGH),
     (&WITH_GAP, &BOTH),
     (&[FIRST, LONG, BEGUN, "001001011811", ENDED], &ALONE),
@@ -78,8 +78,8 @@ pub(super) const CASES: [(&[&str], &[&str]); 23] = [
         ],
         &BOTH,
     ),
-    // A packet that ends with a later data field, in which no packet starts; the same where the pointer says
-    // that one starts at 0; and one that would end within a data field in which no packet starts.
+    // A packet that ends with a later data field, in which no packet starts; the same where the
+    // pointer says that one starts at 0; and one that would end within such a field.
     (
         &[FIRST, LONG, BEGUN, "001001011fff", "000016", DATA],
         &[FIRST, LONG, BEGUN, "001001011fff", "000016", DATA],
@@ -153,8 +153,8 @@ pub(super) const CASES: [(&[&str], &[&str]); 23] = [
     ),
 ];
 
-// Recordings with error control and the same normal form: a frame whose error control field is wrong isn't read, and
-// frames are written with theirs.
+// Recordings with error control and one normal form: a frame with a wrong error control field isn't
+// read, and the form's frames have theirs.
 const WITH_FECF: [&[&str]; 3] = [
     &ONE_WITH_FECF,
     &[FIRST, TEN_FILLED, "5e0d", FIRST, TEN_FILLED, "5e0c"],

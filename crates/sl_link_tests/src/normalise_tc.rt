@@ -62,7 +62,7 @@ const CASES: [(&str, &[&str], &[&str]); 14] = [
     ),
 ];
 
-// Greatest frame length and error control, a limit, octets at a time, a recording, the totals and its normal form.
+// Greatest frame length, error control, limit; octets at a time, recording, totals, normal form.
 type Counted<'a> = (
     (u16, bool, u64),
     usize,
@@ -79,7 +79,7 @@ const COUNTED: [Counted; 3] = [
         [34, 2, 1, 7, 1, 1, 0],
         &[WITHOUT_IDLE],
     ),
-    // A frame whose error control field is wrong, or that has none, isn't read, and frames are written with theirs.
+    // A frame with a wrong error control field or none isn't read; the form's frames have theirs.
     (
         (18, true, 1000),
         ALL,
@@ -90,7 +90,7 @@ const COUNTED: [Counted; 3] = [
     ((18, true, 1000), ALL, &[WHOLE], [16, 1, 1, 0, 0, 0, 0], &[]),
 ];
 
-// The last frame of a packet of 65,542 octets, and one with an octet more, with which the series is given up.
+// The last frame of a packet of 65,542 octets; one with an octet more, which gives the series up.
 const LAST_OF_LONGEST: [u8; 8] = [0x00, 0x01, 0x00, 0x07, 0x9A, 0x80, 0x33, 0x33];
 
 const LAST_OF_LONGER: [u8; 9] = [0x00, 0x01, 0x00, 0x08, 0x9A, 0x80, 0x33, 0x33, 0x33];

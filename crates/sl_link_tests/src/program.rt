@@ -229,7 +229,7 @@ fn faults_of_writing_are_named(rt: HostRuntime) {
     }
 }
 
-// Whether a device that is full after two octets has these, and the program says that writing failed.
+// Whether a device that is full after two octets has these, and the program says `write`.
 fn has_beginning(alloc: Global) -> Result<bool, Stop> {
     let streams = (&TM_FRAME[..], FullAfter::new(alloc, 2));
     let (is_so, faults, writer) = ends(alloc, NORMALISE, streams, (3, "sllink: write\n"))?;

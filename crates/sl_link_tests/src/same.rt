@@ -1,4 +1,4 @@
-//! Whether two recordings deliver the same packets: recordings that do and that don't, and faults of either one.
+//! Whether two recordings deliver the same packets: ones that do, ones that don't, and faults.
 use super::support::recordings::{
     AROUND_IDLE, DAMAGED, DIVIDED, FIRST, LOCKED_OUT, SECOND, TEN_FILLED, THROUGH, WHOLE, WHOLE_BD,
     WITH_GAP, ZEROS, octets,
@@ -122,7 +122,7 @@ fn tc_recordings_are_compared(rt: HostRuntime) -> Result<(), Fail> {
     Ok(())
 }
 
-// The fault is that of the recording that has it, and after a fault of the first one the other isn't read.
+// The answer is the fault of either recording; after a fault of the first the other isn't read.
 #[test]
 fn either_recording_may_fail(rt: HostRuntime) -> Result<(), Fail> {
     let alloc = rt.alloc();

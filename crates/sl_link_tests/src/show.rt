@@ -13,7 +13,8 @@ const LISTINGS: [([u8; 6], [u8; 4], &str); 8] = [
     (
         [0x00, 0x11, 0, 0, 0x18, 0],
         [1, 0, 0x28, 5],
-        "0 frame vc 0 mc 0 vcc 0 first 0 clcw 01002805 vc 0 lockout 1 wait 0 retransmit 1 farmb 0 vr 5\n",
+        "0 frame vc 0 mc 0 vcc 0 first 0 \
+        clcw 01002805 vc 0 lockout 1 wait 0 retransmit 1 farmb 0 vr 5\n",
     ),
     (
         [0x00, 0x11, 0, 0, 0x18, 0],
@@ -39,8 +40,7 @@ const LISTINGS: [([u8; 6], [u8; 4], &str); 8] = [
     ([0x40, 0x10, 0, 0, 0x18, 0], [0; 4], "0 skip version\n"),
 ];
 
-// A frame whose error control field is wrong, and one with an operational control field whose error control
-// field is right.
+// Frames with a wrong error control field, and with an operational control field and a right one.
 const WITH_FECF: [u8; 68] = [
     0x00, 0x10, 0x00, 0x00, 0x18, 0x00, 0x00, 0x01, 0xC0, 0x00, 0x00, 0x03, 0xAA, 0xBB, 0xCC, 0xDD,
     0x07, 0xFF, 0xC0, 0x00, 0x00, 0x09, 0x00, 0x00, 0x00, 0x00, 0x00, 0x00, 0x00, 0x00, 0x00, 0x00,
@@ -50,8 +50,8 @@ const WITH_FECF: [u8; 68] = [
     0x79, 0x7B,
 ];
 
-const WITH_FECF_SHOWN: &[u8] =
-    b"0 skip fecf\n34 frame vc 0 mc 0 vcc 0 first 0 clcw 01002805 vc 0 lockout 1 wait 0 retransmit 1 farmb 0 vr 5\n";
+const WITH_FECF_SHOWN: &[u8] = b"0 skip fecf\n34 frame vc 0 mc 0 vcc 0 first 0 \
+    clcw 01002805 vc 0 lockout 1 wait 0 retransmit 1 farmb 0 vr 5\n";
 
 // A frame, one of another version, and a remainder.
 const COUNTED: [u8; 72] = [

@@ -55,7 +55,8 @@ const LISTINGS: [(&str, &[&str], &str); 16] = [
     (
         SHOW,
         &SKIPPED,
-        "0 skip spacecraft\n7 skip version\n14 skip long\n31 skip kind\n38 skip empty\n43 skip command\n",
+        "0 skip spacecraft\n7 skip version\n14 skip long\n\
+        31 skip kind\n38 skip empty\n43 skip command\n",
     ),
     (
         WITH_FECF,
@@ -115,12 +116,14 @@ const LIMITED: [(&[&str], &str, u8); 6] = [
 // A frame of another spacecraft, one that is accepted, and a bad length.
 const COUNTED: [&str; 3] = ["0002000600c000", WHOLE, BAD_LENGTH];
 
-const COUNTED_SHOWN: &[u8] =
-    b"0 skip spacecraft\n7 frame vc 0 ad 0 segment whole map 0 octets 10 accept clcw 01000001\n23 rest 7\n";
+const COUNTED_SHOWN: &[u8] = b"0 skip spacecraft\n\
+    7 frame vc 0 ad 0 segment whole map 0 octets 10 accept clcw 01000001\n\
+    23 rest 7\n";
 
 // The last lines of a long recording.
 const LAST_OF_MANY: &str =
-    "\n139993 frame vc 0 ad 31 segment whole map 0 octets 1 accept clcw 01000020\n140000 rest 300005\n";
+    "\n139993 frame vc 0 ad 31 segment whole map 0 octets 1 accept clcw 01000020\n\
+    140000 rest 300005\n";
 
 #[test]
 fn tc_frames_are_listed(rt: HostRuntime) {
@@ -166,7 +169,7 @@ fn is_long_listed(alloc: Global) -> Result<bool, Stop> {
     Ok(answer.counts() == counts && answer.text().ends_with(LAST_OF_MANY))
 }
 
-// Some frames lie across the end of the engine's buffer, and the remainder is longer than the buffer.
+// Frames lie across the end of the engine's buffer, and the remainder is longer than the buffer.
 #[test]
 fn a_recording_longer_than_the_buffer_is_listed(rt: HostRuntime) {
     passes(&rt, &LAST_OF_MANY, is_long_listed(rt.alloc()));

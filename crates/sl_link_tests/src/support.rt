@@ -1,5 +1,6 @@
-//! What the tests share: recordings, streams, and runs of the engines and of the program. A run stands in a function
-//! without a contract, so that the proof of a test doesn't carry all that the run ensures.
+//! What the tests share: recordings, streams, and runs of the engines and of the program. A run
+//! stands in a function without a contract, so that the proof of a test doesn't carry all that the
+//! run ensures.
 pub(super) mod engines;
 pub(super) mod recordings;
 pub(super) mod rows;

@@ -51,7 +51,8 @@ impl Answer {
         text(self.output.as_slice())
     }
 
-    /// All seven totals: octets, frames, skipped frames, octets of the remainder, packets, idle packets and anomalies.
+    /// All totals: octets, frames, skipped frames, octets of the remainder, packets, idle packets
+    /// and anomalies.
     pub fn counts(&self) -> [u64; 7] {
         let totals = &self.totals;
         [
@@ -71,8 +72,7 @@ impl Answer {
     }
 }
 
-/// How an engine ended: what it counted or which fault it met, how many faults the reader and the writer had, and the
-/// writer.
+/// How an engine ended: totals or fault, numbers of faults of reader and writer, and the writer.
 #[derive(Drop)]
 pub struct Ending<W> {
     pub outcome: Result<Totals, LinkFault>,
@@ -91,8 +91,7 @@ impl<W> Ending<W> {
 }
 
 impl Link {
-    /// With frames of this length, or at most this length, with error control or without. FARM-1 expects this N(S)
-    /// first.
+    /// With frames of (at most) this length, with error control or not, and with this initial V(R).
     pub fn new(kind: Kind, length: u16, fecf: bool, vr: u8, max_octets: u64) -> Result<Link, Stop> {
         let managed = match kind {
             Kind::Tm => Managed::new(1, length, fecf, 16, false, 10, vr, max_octets),

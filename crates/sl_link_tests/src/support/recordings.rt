@@ -43,7 +43,7 @@ pub const FULL: [&str; 3] = [
 /// The packet of ten octets, and a packet start of another version.
 pub const FOREIGN: [&str; 3] = [FIRST, TEN, "20202020202020202020202020202020"];
 
-/// The first octets of a packet, and a data field with its other octets, a packet and an idle packet.
+/// The first octets of a packet; a data field of its other octets, a packet and an idle packet.
 pub const BEGUN: &str = "0003c0";
 
 pub const ENDED: &str = "000003010203040001c0000003aabbccdd07ffc0000002000000";
@@ -84,7 +84,7 @@ pub const SECOND: &str = "0001000f01c01001c0000003aabbccdd";
 
 pub const THIRD: &str = "0001000f02c01001c0000003aabbccdd";
 
-/// A packet of twenty-three octets in three frames of virtual channel 5, N(S) from 0 on and from 255 on.
+/// A packet of 23 octets in three frames of virtual channel 5, N(S) from 0 on and from 255 on.
 pub const DIVIDED: [&str; 3] = [FIRST_OF_3, MIDDLE_OF_3, LAST_OF_3];
 
 pub const FIRST_OF_3: &str = "0001140f00401002c005001011111111";
@@ -129,7 +129,7 @@ pub const SKIPPED: [&str; 6] = [
     "300100050001",
 ];
 
-/// On MAP 1 a segment out of sequence, and then a packet in two; on MAP 2 a series that a whole unit drops.
+/// On MAP 1 a segment out of sequence, then a packet in two; on MAP 2 a series that a unit drops.
 pub const MIXED: [&str; 6] = [
     "000100060001ff",
     "0001000a01411001c00000",
@@ -150,7 +150,7 @@ pub const UNLOCK_DAMAGED: &str = "3001000700000e5e";
 /// Octets that state the length of a frame as 3, and two more.
 pub const BAD_LENGTH: &str = "00010002000000";
 
-/// A TM frame with a packet of ten octets and an idle packet, and a TC frame with a packet of ten octets.
+/// A TM frame of a packet of ten octets and an idle one, and a TC frame of a packet of ten octets.
 pub const TM_FRAME: [u8; 32] = [
     0x00, 0x10, 0x00, 0x00, 0x18, 0x00, 0x00, 0x01, 0xC0, 0x00, 0x00, 0x03, 0xAA, 0xBB, 0xCC, 0xDD,
     0x07, 0xFF, 0xC0, 0x00, 0x00, 0x09, 0x00, 0x00, 0x00, 0x00, 0x00, 0x00, 0x00, 0x00, 0x00, 0x00,
@@ -187,8 +187,8 @@ pub fn filled(
     frames.resize(len, octet)
 }
 
-/// The frames of a packet of 65,542 octets up to the one in which it ends: one in which it begins, and 2,519 in which
-/// none does.
+/// The frames of a packet of 65,542 octets up to the one in which it ends: first the one in which
+/// it begins, then 2,519 in which no packet starts.
 pub fn front_of_longest(alloc: Global) -> Result<Vec<u8>, AllocError> {
     let mut frames = Vec::from_slice(alloc, &[0x00, 0x10, 0x00, 0x00, 0x18, 0x00])?;
     filled(&mut frames, &[0x00, 0x03, 0xC0, 0x00, 0xFF, 0xFF], 0x33, 20)?;
@@ -221,8 +221,8 @@ pub fn longest(alloc: Global) -> Result<Vec<u8>, AllocError> {
     Ok(frames)
 }
 
-/// A series of 65,560 octets: the segment that makes it longer than 65,542 octets gives it up, so the last one is out
-/// of sequence.
+/// A series of 65,560 octets. The segment that passes 65,542 octets gives it up, so the last one is
+/// out of sequence.
 pub fn too_long(alloc: Global) -> Result<Vec<u8>, AllocError> {
     let mut recording = Vec::new(alloc);
     for number in 0..6556u16 {

@@ -90,8 +90,7 @@ pub fn ended<R: Read + Drop, W: Write + Drop, E: Write>(
     Ok((status, faults, writer.into_inner()))
 }
 
-/// Whether a run with these streams ends with this status and says this; how many faults the writer had, and the
-/// writer.
+/// Whether a run ends with this status and says this; the writer's number of faults; the writer.
 pub fn ends<R: Read + Drop, W: Write + Drop>(
     alloc: Global,
     line: &str,
@@ -110,8 +109,8 @@ pub fn refuses(alloc: Global, line: &str, said: &str) -> Result<bool, AllocError
     Ok(is_so && faults == 0)
 }
 
-/// Whether a run over a recording ends with this status, says nothing and writes this, where its streams give and take
-/// at most this number of octets at a time.
+/// Whether a run over a recording ends with this status, says nothing and writes this, where its
+/// streams give and take at most this number of octets at a time.
 pub fn writes(
     alloc: Global,
     line: &str,
@@ -123,8 +122,8 @@ pub fn writes(
     Ok(outcome.says(status, "") && outcome.output.as_slice() == output)
 }
 
-/// Whether a run over a recording ends with this status, says nothing and writes this text, all at once and octet by
-/// octet.
+/// Whether a run over a recording ends with this status, says nothing and writes this text, all at
+/// once and octet by octet.
 pub fn lists(
     alloc: Global,
     line: &str,
@@ -138,7 +137,8 @@ pub fn lists(
     Ok(is_whole && writes(alloc, line, &recording, 1, wanted)?)
 }
 
-/// Whether a run over a recording writes this normal form, which is its own, all at once and octet by octet.
+/// Whether a run over a recording writes this normal form, all at once and octet by octet; the form
+/// is its own.
 pub fn normalises(alloc: Global, line: &str, parts: &[&str], form: &[&str]) -> Result<bool, Stop> {
     let recording = octets(alloc, parts)?;
     let form = octets(alloc, form)?;

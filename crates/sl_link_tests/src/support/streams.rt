@@ -74,7 +74,7 @@ impl Write for Unflushed {
     }
 }
 
-/// Is interrupted at its first read, or its first write; then there is nothing to be read, and all octets are taken.
+/// Is interrupted at its first read or write; then nothing is left to read, and all is taken.
 #[derive(Drop)]
 pub struct Interrupted {
     was_interrupted: bool,

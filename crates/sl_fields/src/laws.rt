@@ -32,8 +32,8 @@ pub fn words_are_remainders()
 
 /// Zeros may stand in the place of a run of octets of a message if the run, as it was, is then
 /// added, without carries, to the octets 4, 11 and 16 places later, or 8, 22 and 32, or 16, 44 and
-/// 64, or another power of two times 4, 11 and 16, where all three lie within the message. The frame
-/// error control field is the same, whatever stands before the run and behind it.
+/// 64, or another power of two times 4, 11 and 16, where all three lie within the message. The
+/// frame error control field is the same, whatever stands before the run and behind it.
 pub fn runs_may_move()
     ensures { RunsMayMove }
 {}

@@ -6,8 +6,8 @@
 //!
 //! A frame is read, or is skipped for a reason, whatever its octets are. What a frame of type AD or
 //! BD carries is called its unit: the whole data field. Reading a frame copies nothing: the unit is
-//! borrowed from the frame's octets. A frame that [`push_tc`] or [`push_tc_plain`] adds is read back
-//! as it was given ([`laws`]).
+//! borrowed from the frame's octets. A frame that [`push_tc`] or [`push_tc_plain`] adds is read
+//! back as it was given ([`laws`]).
 //!
 //! Management says for each virtual channel whether its frames of types AD and BD have segment
 //! headers. A [`VcSet`] holds the virtual channels whose frames have none. The word `plain` in a

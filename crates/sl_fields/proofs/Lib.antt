@@ -1,28 +1,56 @@
+-- the layout of a CLCW
 pub mod ClcwLemmas
+-- numbers of one octet, read from decimal text
 pub mod DecimalLemmas
+-- known error control fields
 pub mod FecfFacts
+-- a message whose slices are added to later ones
 pub mod FecfFolds
+-- four slices to two, and two to one
 pub mod FecfHalves
+-- octets that end with their error control field
 pub mod FecfLemmas
+-- what octets in a message add to its remainder
 pub mod FecfParts
+-- why runs of octets may move
 pub mod FecfRecurrence
+-- what slices of sixteen octets add to a remainder
 pub mod FecfSlices
+-- sums of registers and of messages, without carries
 pub mod FecfSums
+-- the table of words, and the register after an octet
 pub mod FecfWordLemmas
+-- the register of the long division
 pub mod Division
+-- flags as fields of one bit
 pub mod Flags
+-- known headers
 pub mod HeaderFacts
+-- headers as fields of given widths
 pub mod HeaderLayout
+-- texts that a separator joins, and how they are split
 pub mod JoinedLemmas
+-- a property of each element, filters, one more element
 pub mod ListLemmas
+-- numbers that never fall, and some that do
 pub mod NeverFallFacts
+-- numbers that never fall
 pub mod NeverFallLemmas
+-- octets and their number in base 256
 pub mod Octets
+-- the layout of a packet's header
 pub mod PacketHeaderLemmas
+-- fields packed into a number, and taken out again
 pub mod Packing
+-- the long division finds the only remainder
 pub mod RemainderLemmas
+-- the layout of a segment header
 pub mod SegmentHeaderLemmas
+-- the layout of a TC header
 pub mod TcHeaderLemmas
+-- tests, and the properties that they decide
 pub mod Tells
+-- the layout of a TM header
 pub mod TmHeaderLemmas
+-- numbers added without carries, in any order
 pub mod Xor

@@ -1,3 +1,6 @@
+-- lines of anomalies
 pub mod Check
+-- a listing, frame by frame, and how it stops
 pub mod Lister
+-- lines of packets
 pub mod Packets

@@ -72,7 +72,7 @@ const LONG: [(&str, u8); 4] = [
     ("sllink -V", 0),
 ];
 
-// The version is written whatever comes after it, also in the same word.
+// The version is written whatever comes after the option, even in the same word.
 const VERSION_LINES: [&str; 6] = [
     "sllink --version",
     "sllink -V",
@@ -82,7 +82,7 @@ const VERSION_LINES: [&str; 6] = [
     "sllink -V=1",
 ];
 
-// What help says at the end, whichever it is.
+// What each help says at the end.
 const END: [&str; 6] = [
     " read from the standard input: transfer frames ",
     " to the standard output, faults to the standard error.\n",
@@ -160,7 +160,7 @@ const HELP: [(&str, &[&str]); 26] = [
     ("sllink normalise -h", &VALUES),
 ];
 
-// The verbs in their order, each with what is said of it.
+// The verbs in their order, each with what help says of it.
 const VERBS: [(&str, &str); 4] = [
     ("show", "List the frames of a recording\n"),
     ("check", "List the anomalies of a recording\n"),
@@ -263,7 +263,7 @@ fn help_says_what_a_run_takes_and_gives(rt: HostRuntime) {
     }
 }
 
-// What comes after a verb and what is said of it, with blanks alone between them.
+// What comes after a verb and its sentence, if only blanks are between these two.
 fn after<'a>(said: &'a str, verb: &str, about: &str) -> Option<&'a str> {
     let (_, behind) = said.split_once(verb)?;
     let (between, after) = behind.split_once(about)?;
@@ -389,7 +389,7 @@ fn lists_with_all(
     lists(alloc, line.as_str(), parts, status, listing)
 }
 
-// The form is that of these parts, from one to another.
+// Whether the form is the parts from the one number up to the other.
 fn normalises_with_all(
     alloc: Global,
     verb: &str,

@@ -108,7 +108,7 @@ impl Run {
     }
 }
 
-// The fault comes at whichever read it is.
+// Each read may be the one that fails.
 fn reads_fail(rt: &impl Abort, alloc: Global, engine: &Engine) -> Result<bool, Stop> {
     let run = Run::new(alloc, engine, 0)?;
     let whole = run.whole(alloc)?;
@@ -118,7 +118,7 @@ fn reads_fail(rt: &impl Abort, alloc: Global, engine: &Engine) -> Result<bool, S
     Ok(!whole.is_empty())
 }
 
-// So does it at whichever write it is, and where there is no room for one octet, or for three.
+// So may each write; and the room may end before the first octet, or before the third.
 fn writes_fail(rt: &impl Abort, alloc: Global, engine: &Engine) -> Result<bool, Stop> {
     let run = Run::new(alloc, engine, 0)?;
     let whole = run.whole(alloc)?;

@@ -230,7 +230,7 @@ fn long(alloc: Global, anomalies: &str) -> Result<Vec<u8>, Stop> {
     }
 }
 
-// Whether a recording passes, also in pieces, and these are its anomalies.
+// Whether a recording passes, whole and in pieces, and these are its anomalies.
 fn is_long(alloc: Global, kind: Kind, length: u16, anomalies: &str) -> Result<bool, Stop> {
     let recording = long(alloc, anomalies)?;
     let link = Link::new(kind, length, false, 0, 1_000_000)?;

@@ -14,7 +14,7 @@ const CHECK: &str = "sllink check tm --scid 1 --tm-length 32";
 // What is listed of the packet before its data, whose octets are all `33`.
 const START: &str = "vc 0 apid 3 type 0 secondary 0 flags 3 count 0 octets 65542 0003c000ffff";
 
-// What is checked of the whole, and of it without the two frames at the end.
+// What `check` writes of the whole, and of the whole without its last two frames.
 const WHOLE: &[u8] = b"frames 2522 skipped 0 packets 1 idle 1 anomalies 0\n";
 
 const FRONT: &[u8] =

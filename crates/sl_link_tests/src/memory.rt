@@ -1,5 +1,5 @@
-//! Memory that is refused: whichever growth it is, what was written is the beginning of the text,
-//! none of a normal form. `rt try --test --fail-alloc N` refuses the Nth.
+//! Memory that is refused: at any growth, what was written is the beginning of the text, and
+//! nothing of a normal form. `rt try --test --fail-alloc N` refuses the Nth.
 use super::support::engines::{Ending, Kind, Link, Verb};
 use super::support::recordings::TC_FRAME;
 use super::support::rows::{Stop, passes};
@@ -63,7 +63,7 @@ const CASES: [Case; 8] = [
     (Kind::Tc, 16, &TC, Verb::Normalise, &TC_FRAME),
 ];
 
-// Whether an engine writes all, or memory was refused: then it writes the beginning, none of a
+// Whether an engine writes all; or memory was refused, and it wrote the beginning, and nothing of a
 // normal form. No other fault comes, and `show` takes no memory.
 fn is_so(verb: Verb, ending: &Ending<Page>, whole: &[u8]) -> bool {
     let octets = ending.writer.octets();

@@ -73,7 +73,7 @@ fn flush<W: Write>(writer: &mut Counted<W>) -> IoResult<()> {
     writer.flush()
 }
 
-// Whether a write takes this number of octets, and this number of faults is counted then.
+// Whether a write takes this number of octets, and this number of faults is counted after it.
 fn takes<W: Write>(writer: &mut Counted<W>, octets: &[u8], taken: usize, faults: u64) -> bool {
     let is_taken = match write(writer, octets) {
         Ok(found) => found == taken,
@@ -130,7 +130,7 @@ fn faults_of_streams_are_counted(rt: HostRuntime) {
     holds(&rt, &"full writes", are_full_writes_counted());
 }
 
-// Whether two of three octets are read, and the reader has the third one then.
+// Whether two of three octets are read, and the reader then has the third one.
 fn are_reads_passed_on() -> bool {
     let mut reader = counted([1, 2, 3].as_slice());
     let mut buffer = [0; 2];

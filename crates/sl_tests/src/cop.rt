@@ -133,7 +133,7 @@ fn word(farm: &Farm, vc: u8) -> [u8; 4]
     farm.clcw(vc).write()
 }
 
-// Whether a FARM-1 answers so to an event.
+// Whether a FARM-1 answers an event with this verdict and this word.
 fn answers(farm: &mut Farm, vc: u8, answer: &Answer) -> bool
     requires { vc ≤ 63 }
 {
@@ -141,7 +141,7 @@ fn answers(farm: &mut Farm, vc: u8, answer: &Answer) -> bool
     farm.step(*event) == *verdict && word(farm, vc) == *wanted
 }
 
-// Whether it answers so to all of them in turn, and virtual channel 63 then has this word.
+// Whether it answers all events of these rows so, and virtual channel 63 then has this word.
 fn are_answers(rt: &impl Abort, vc: u8, rows: &[Answer], last: [u8; 4]) -> Result<bool, Stop>
     requires { vc ≤ 63 }
 {

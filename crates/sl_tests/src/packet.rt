@@ -55,7 +55,7 @@ static FIRST: [(&[u8], Option<&[u8]>); 6] = [
     (&[], None),
 ];
 
-// Octets, and what is wanted for a packet.
+// Octets, and what they need for a packet.
 static NEEDS: [(&[u8], Need); 10] = [
     (&[], Need::Header(6)),
     (&[0x00], Need::Header(5)),
@@ -69,7 +69,7 @@ static NEEDS: [(&[u8], Need); 10] = [
     (&[0x00, 0x01, 0xC0, 0x00, 0xFF, 0xFF], Need::Octets(65536)),
 ];
 
-// Octets, their packets end to end, and what is left after each packet and then.
+// Octets, their packets end to end with what is left after each, and what is left in the end.
 static SERIES: [(&[u8], &[(&[u8], &[u8])], &[u8]); 2] = [
     (&BEHIND, &[(&IDLE, &AFTER_IDLE), (&LEAST, &REST)], &REST),
     // There are none of another version.
@@ -132,7 +132,7 @@ fn the_apid_alone_makes_a_packet_idle(rt: HostRuntime) {
     }
 }
 
-// Whether this is the next packet, or none, and this is left then.
+// Whether this is the next packet, or there is none, and these octets are left.
 fn is_next(packets: &mut Packets, packet: Option<&[u8]>, rest: &[u8]) -> bool {
     packets.next() == packet && packets.rest() == rest
 }

@@ -119,7 +119,7 @@ static ANOMALIES: [Row; 6] = [
     (&TM_FRAME, (None, 0, false), (1, 1), 0),
 ];
 
-// Whether as many packets, and idle ones, end in each of these frames.
+// Whether each of these frames ends its number of packets, and of idle ones.
 fn end<S: PacketSink>(
     extractor: &mut Extractor,
     sink: &mut S,
@@ -149,7 +149,7 @@ fn packets_of_frames_and_their_normal_form(rt: HostRuntime) {
     }
 }
 
-// Whether this is told of a frame.
+// Whether the report on a frame is that of its row.
 fn is_told(extractor: &mut Extractor, sink: &mut Delivered, row: &Row) -> Result<bool, Stop> {
     let (frame, anomalies, counts, octets) = row;
     let step = step_of(extractor, frame, sink)?;

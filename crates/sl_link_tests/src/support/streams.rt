@@ -27,7 +27,7 @@ impl Write for Unwritable {
     }
 }
 
-/// Takes one octet at a time, this number in all, and then none.
+/// Takes one octet at a time, this number in total, and then none.
 #[derive(Drop)]
 pub struct FullAfter {
     pub taken: Vec<u8>,

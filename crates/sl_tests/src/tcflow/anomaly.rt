@@ -38,7 +38,7 @@ type Frame<'a> = (
 // The frame of that segment after the most octets that a series may have.
 const TOO_LONG: Frame = (&LAST_BYPASSING, (false, None, true, 0), (0, 0, (0, false)));
 
-// Frames one after another, and the packets of a channel then.
+// Frames in order, and the packets of a channel after them.
 static SERIES: [(&str, &[Frame], (u16, &[&[u8]])); 5] = [
     (
         "no frame, and a first segment without octets",
@@ -78,7 +78,7 @@ static SERIES: [(&str, &[Frame], (u16, &[&[u8]])); 5] = [
     ),
 ];
 
-// Whether that is so of a frame.
+// Whether the report on a frame is that of its row, and this is held after it.
 fn is_told(receiver: &mut Receiver, delivered: &mut Delivered, row: &Frame) -> Result<bool, Stop> {
     let (frame, told, (vc, map, octets)) = row;
     if *vc > 63 || *map > 63 {
@@ -111,7 +111,7 @@ fn anomalies_are_reported(rt: HostRuntime) {
     }
 }
 
-// Frames one after another, and the channel from which on no series is incomplete then.
+// Frames in order, and the channel from which on no series is incomplete after them.
 static OPEN: [(&[&[u8]], u16); 8] = [
     (&[], 0),
     (&[&EMPTY_FIRST], 1),
@@ -126,7 +126,7 @@ static OPEN: [(&[&[u8]], u16); 8] = [
     (&[FIRST_OF_3, MIDDLE_OF_3, LAST_OF_3], 0),
 ];
 
-// Whether that is so of frames.
+// Whether no series is incomplete from this channel on.
 fn is_none_open_from(alloc: Global, frames: &[&[u8]], channel: u16) -> Result<bool, Stop> {
     let mut receiver = receiver(alloc, 0)?;
     let mut delivered = none(alloc);

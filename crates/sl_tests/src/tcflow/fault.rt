@@ -11,7 +11,7 @@ use std::process::Abort;
 // The faults at a frame, which is tried again.
 static FAULTS: [FlowFault; 2] = [FlowFault::Sink(SinkFault::Refused), FlowFault::Failed];
 
-// Whether the frame fails so, and its packet is offered only once.
+// Whether the frame fails with this fault, and its packet is offered only once.
 fn fails(receiver: &mut Receiver, sink: &mut Keeps, wanted: FlowFault) -> Result<bool, Stop> {
     let fault = take(receiver, &TC_FRAME, sink)?.err();
     Ok(fault == Some(wanted) && sink.refused == 1)

@@ -115,7 +115,7 @@ pub fn segments_received(
     Ok(last)
 }
 
-// Whether that is so of a later segment.
+// Whether a later segment is accepted, and ends and leaves what its row says.
 fn is_later(
     alloc: Global,
     receiver: &mut Receiver,
@@ -135,7 +135,7 @@ fn delivers(delivered: &Delivered, octets: &[u8], is_so: bool) -> bool {
     }
 }
 
-// Whether that is so of a series of these octets.
+// Whether a series of these octets ends as its row says.
 fn is_as_wanted(
     rt: &impl Abort,
     alloc: Global,

@@ -58,7 +58,7 @@ type Frame<'a> = (
     (bool, Option<u32>, bool, u32),
 );
 
-// Virtual channels without segment headers, frames, one after another, and all packets then.
+// Virtual channels without segment headers, frames in order, all packets, and a CLCW.
 type Case<'a> = (
     &'a str,
     &'a [u8],
@@ -128,7 +128,7 @@ static FITS: [((u16, bool), &[u8], &[(u16, &[u8])], bool); 13] = [
     ((17, true), &[5], &[(320, &COMMAND)], true),
 ];
 
-// Whether that is so of a frame.
+// Whether the report on a frame is that of its row.
 fn is_told(receiver: &mut Receiver, delivered: &mut Delivered, row: &Frame) -> Result<bool, Stop> {
     let (frame, wanted, found) = row;
     let step = step_of(receiver, frame, delivered)?;
@@ -145,7 +145,7 @@ fn holds_nothing(receiver: &Receiver, word: &[u8; 4]) -> bool {
     clcw(receiver, 5) == *word
 }
 
-// Whether that is so of each frame of a case, and there is what there should be then.
+// Whether each report is right, and so are the packets and the CLCW after the last frame.
 fn is_so(rt: &impl Abort, alloc: Global, case: &Case) -> Result<bool, Stop> {
     let (_, plain, frames, packets, word) = case;
     let mut receiver = receiver_with(alloc, &all(0), set_of(plain))?;

@@ -163,7 +163,7 @@ fn report(receiver: &Receiver, words: &[Word]) -> bool {
     true
 }
 
-// Whether each frame of a case brings what it should, and there is what there should be then.
+// Whether each frame of a case brings what it should, and packets and CLCWs after them are right.
 fn is_so(rt: &impl Abort, alloc: Global, case: &Case) -> Result<bool, Stop> {
     let (_, vr, frames, packets, words) = case;
     let mut receiver = receiver(alloc, *vr)?;

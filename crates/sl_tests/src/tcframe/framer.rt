@@ -47,7 +47,7 @@ fn framer(fecf: bool) -> Result<TcFramer, Stop> {
     Ok(TcFramer::new(&shape(16, fecf)?))
 }
 
-// Whether a framer lends this of a chunk, and leaves this of it.
+// Whether a framer lends this from a chunk, and leaves this of it.
 fn lends(framer: &mut TcFramer, chunk: &[u8], wanted: Option<&[u8]>, left: &[u8]) -> bool {
     let mut piece = chunk;
     framer.next(&mut piece) == wanted && piece == left
@@ -58,7 +58,7 @@ fn is_held(framer: &TcFramer, octets: &[u8], stuck: bool) -> bool {
     framer.rest() == octets && framer.stuck() == stuck
 }
 
-// Whether a framer holds nothing to begin with, and then what the rows say.
+// Whether a framer holds nothing at first, and later what the rows say.
 fn is_stuck(rt: &impl Abort) -> Result<bool, Stop> {
     let mut framer = framer(false)?;
     let is_empty = is_held(&framer, &[], false);

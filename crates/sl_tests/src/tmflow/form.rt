@@ -90,8 +90,8 @@ fn the_pieces_of_a_form_follow_one_another(rt: HostRuntime) {
     passes(&rt, &PIECES, is_in_pieces(rt.alloc()));
 }
 
-// What is wanted of the frame of this number: its pointer, the packets and the idle ones that end
-// in it, and the octets that are held after it.
+// What the frame of this number should have: its pointer, the packets and idle ones that end in it,
+// and the octets that are held after it.
 fn wanted(number: u32) -> ([u8; 2], (u32, u32), u32)
     requires { number ≤ 2521 }
 {
@@ -104,7 +104,7 @@ fn wanted(number: u32) -> ([u8; 2], (u32, u32), u32)
     }
 }
 
-// Whether that is so of a frame.
+// Whether a frame has what it should.
 fn is_as_wanted(
     extractor: &mut Extractor,
     sink: &mut Delivered,
@@ -119,7 +119,7 @@ fn is_as_wanted(
     Ok(&frame[4..6] == pointer.as_slice() && ended == counts && held(extractor, 0) == octets)
 }
 
-// Whether a packet is extracted from its frames, and each of the frames is as it is wanted.
+// Whether a packet is extracted from its frames, and each frame has what it should.
 fn is_extracted(rt: &impl Abort, alloc: Global, frames: &[[u8; 32]], packet: &[u8]) -> bool {
     let mut extractor = extractor(alloc);
     let mut extracted = none(alloc);

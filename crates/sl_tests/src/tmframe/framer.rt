@@ -22,7 +22,7 @@ fn framer(len: u16) -> Result<TmFramer, Stop> {
     Ok(TmFramer::new(&shape(len, false)?))
 }
 
-// Whether a framer lends this of a chunk, leaves this of it, and holds these octets then.
+// Whether a framer lends this from a chunk, leaves this of it, and then holds these octets.
 fn lends(
     framer: &mut TmFramer,
     chunk: &[u8],
@@ -34,7 +34,7 @@ fn lends(
     framer.next(&mut piece) == wanted && piece == left && framer.rest() == held
 }
 
-// Twenty octets, and twenty more: twelve of these are of the frame.
+// Twenty octets, and twenty more, twelve of which complete the frame.
 fn is_in_two_chunks() -> Result<bool, Stop> {
     let mut framer = framer(32)?;
     let (one, other) = (&RECORDING[..20], &RECORDING[20..40]);

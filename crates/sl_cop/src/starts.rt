@@ -67,7 +67,7 @@ impl Starts {
     /// The text is one or more items `v:x`, joined by single commas, as `0:0,63:255`: a virtual
     /// channel `v`, 0 to 63, and its initial V(R) `x`, 0 to 255, both in decimal without leading
     /// zeros. The virtual channels rise strictly. This form is this project's choice. `None` for
-    /// any other text, also for the empty text.
+    /// any other text, the empty text included.
     pub fn read(&self, text: &str) -> Option<Starts>
         // A text that is read has this form. The answer has the values of its items, and the same
         // values as before elsewhere.

@@ -64,7 +64,7 @@ impl VcSet {
 
     /// Reads the set that the text lists: one or more virtual channels, 0 to 63, which rise
     /// strictly, in decimal without leading zeros and joined by single commas, as `0,5,63`. This
-    /// form is this project's choice. `None` for any other text, also for the empty text.
+    /// form is this project's choice. `None` for any other text, the empty text included.
     pub fn read(text: &str) -> Option<VcSet>
         // The text lists the set that is read, and each set that the text lists is read.
         ensures listed { IfSome result (λ vcs. Lists 0 text.now vcs) }

@@ -287,31 +287,27 @@ impl Channel {
             Ok(handed) => handed,
             Err(flow) => return Err(flow),
         };
-        let begun = incomplete(remainder);
+        let (begun, foreign) = read_remainder(remainder);
         self.held.clear();
         if !begun.is_empty() && add_part(&mut self.held, begun).is_err() {
             return Err(FlowFault::Memory);
         }
         Ok(TmStep {
-            foreign: is_foreign(remainder),
+            foreign,
             ..step
         })
     }
 }
 
-// Whether there is a first octet, and the packet version in it is another one than 0.
-fn is_foreign(octets: &[u8]) -> bool
-    ensures { result ≡ is_foreign octets.now }
-{
-    matches!(need(octets), Need::Foreign)
-}
-
 // The octets, where they are the front of a packet that isn't there whole, and otherwise no octets.
-fn incomplete(octets: &[u8]) -> &[u8]
-    ensures { result.now ≡ incomplete_in (front octets.now) octets.now }
+// Then whether there is a first octet, and the packet version in it is another one than 0.
+fn read_remainder(octets: &[u8]) -> (&[u8], bool)
+    ensures begun { result.0.now ≡ incomplete_in (front octets.now) octets.now }
+    ensures foreign { result.1 ≡ is_foreign octets.now }
 {
     match need(octets) {
-        Need::Header(_) | Need::Octets(_) => octets,
-        Need::Foreign | Need::Whole(_) => &[],
+        Need::Header(_) | Need::Octets(_) => (octets, false),
+        Need::Foreign => (&[], true),
+        Need::Whole(_) => (&[], false),
     }
 }

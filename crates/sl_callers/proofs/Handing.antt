@@ -18,7 +18,7 @@ use Rattle.sl_tcflow.specs.Receiving as tc
 use Rattle.sl_tcflow.specs.ReceptionParameters.{ReceptionParameters, is_plain}
 use Rattle.sl_tcflow.proofs.lemmas.Reception.Channel.{small_map}
 use Rattle.sl_tmframe.specs.TmFrame.{TmView}
-use Rattle.sl_tmflow.specs.Extraction as tm
+use Rattle.sl_tmflow.specs.Extractor as tm
 
 abbrev list_of : List (List (List ℕ)) → ℕ → List (List ℕ)
 list_of lists channel = slice_index_or lists channel []

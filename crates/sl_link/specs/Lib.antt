@@ -34,9 +34,9 @@ pub use Rattle.sl_tmframe.specs.TmField
 pub use Rattle.sl_tmframe.specs.TmDelimited
 pub use Rattle.sl_tmframe.specs.TmFrame
 pub use Rattle.sl_tmflow.specs.Anomaly
-pub use Rattle.sl_tmflow.specs.Channel
+pub use Rattle.sl_tmflow.specs.VirtualChannel
 pub use Rattle.sl_tmflow.specs.Delivery
-pub use Rattle.sl_tmflow.specs.Extraction
+pub use Rattle.sl_tmflow.specs.Extractor
 pub use Rattle.sl_tmflow.specs.Incomplete
 pub use Rattle.sl_tmflow.specs.NormalForm
 pub use Rattle.sl_tmflow.specs.PacketStart

@@ -8,7 +8,7 @@ use Rattle.sl_packet.specs.Front.{is_foreign}
 use Rattle.sl_packet.specs.Packet.{version_of}
 use Rattle.sl_tmframe.specs.TmFrame.{TmView, DataField, Packets}
 use Rattle.sl_tmflow.specs.Among.{IsAmong}
-use Rattle.sl_tmflow.specs.Channel.{data_of, follows, is_consecutive, last_count, packet_data}
+use Rattle.sl_tmflow.specs.VirtualChannel.{data_of, follows, is_consecutive, last_count, packet_data}
 use Rattle.sl_tmflow.specs.Delivery.{Delivery, IsDelivery, Outcome, Completes, StillIncomplete, Undelivered, outcome_of}
 use Rattle.sl_tmflow.specs.Incomplete.{IsIncompleteAt, IsShort}
 use Rattle.sl_tmflow.specs.PacketStart.{IsStart, starts_of}

@@ -1,49 +1,101 @@
--- A virtual channel of a recording, CCSDS 132.0-B: its frames in order, and how one frame follows
--- another.
-use Rattle.std.specs.Prelude.{◌≡◌, ⊤, ℕ, ◌+◌, ◌%◌, ◌==◌, Bool, true, List, [], ◌∷◌, ◌++◌, map, Option, None, Some}
-use Rattle.std.specs.Result.{result_ok}
-use Rattle.std.specs.List.{filter, filter_map, concat}
-use Rattle.sl_tmframe.specs.TmFrame.{TmFormat, TmView, DataField, Packets, Idle, Opaque, tm_frame}
+-- The state that an extractor keeps of a virtual channel of CCSDS 132.0-B, and the state after the
+-- next frame. The steps from one state to the next are the code's, not the standard's, and only
+-- contracts of private functions cite them.
+use Rattle.std.specs.Prelude.{ℕ, Bool, false, List, [], ◌∷◌, ◌++◌, drop, Option, None, Some}
+use Rattle.sl_packet.specs.Front.{Front, OtherVersion, Incomplete, WholePacket, front, is_foreign}
+use Rattle.sl_packet.specs.Packets.{rest_of}
+use Rattle.sl_tmframe.specs.TmFrame.{TmView, DataField, Packets, Idle, Opaque}
+use Rattle.sl_tmflow.specs.VirtualChannel.{follows, packet_data}
+use Rattle.sl_tmflow.specs.Delivery.{Continuation, Ends, Continues, Breaks, ended, step_after}
+use Rattle.sl_tmflow.specs.PacketStart.{whole_packets}
 
--- What `tm_frame` reads of each frame, its view, in order. Frames for which `tm_frame` answers an
--- error are left out.
-abbrev pub views_of : TmFormat → ℕ → List (List ℕ) → List TmView
-views_of format spacecraft frames = filter_map (λ frame. result_ok (tm_frame format spacecraft frame)) frames
+-- the virtual channel frame count of the channel's last frame, and the octets so far of the packet
+-- that is incomplete after it, if one is
+pub record ChannelState : Type 0 where
+  pub count : Option ℕ
+  pub held : List ℕ
 
--- the frames of a virtual channel
-abbrev pub views_on : ℕ → List TmView → List TmView
-views_on vc views = filter (λ view. view.vc == vc) views
+-- the state before the first frame
+abbrev pub no_frame : ChannelState
+no_frame = record { count = None; held = [] }
 
--- whether a virtual channel frame count follows another one: it is one more, modulo 256
-abbrev pub follows : ℕ → ℕ → Bool
-follows count next = next == (count + 1) % 256
+-- a state, and the number of octets that there is memory for
+pub record KeptChannel : Type 0 where
+  pub state : ChannelState
+  pub capacity : ℕ
 
--- the virtual channel frame count of the last of these frames
-abbrev pub last_count : List TmView → Option ℕ
-last_count [] = None
-last_count (view ∷ []) = Some view.vc_count
-last_count (view ∷ next ∷ later) = last_count (next ∷ later)
+-- a virtual channel before its first frame, without memory
+abbrev pub new_channel : KeptChannel
+new_channel = record { state = no_frame; capacity = 0 }
 
--- whether the next frame's count follows this frame's
-abbrev pub is_consecutive : TmView → TmView → Bool
-is_consecutive view next = follows view.vc_count next.vc_count
+-- what the next frame does to the packet whose octets are held, after a frame with this count;
+-- `Breaks` where no octets are held
+abbrev pub held_step : Option ℕ → List ℕ → TmView → Continuation
+held_step None held next = Breaks
+held_step (Some count) [] next = Breaks
+held_step (Some count) (octet ∷ octets) next = step_after count (octet ∷ octets) next
 
--- the counts of these frames are consecutive: each frame follows the one before it, and the first
--- one follows the frame `view`
-abbrev pub AreConsecutive : TmView → List TmView → Type 0
-AreConsecutive view [] = ⊤
-AreConsecutive view (next ∷ later) = (is_consecutive view next ≡ true) × AreConsecutive next later
+-- what the next frame does to the packet whose octets are held, in this state
+abbrev pub step_in : ChannelState → TmView → Continuation
+step_in state next = held_step state.count state.held next
 
--- the octets of packets in a data field: the whole field where it is of packets, and none otherwise
-abbrev pub data_of : DataField → List ℕ
-data_of (Packets first octets) = octets
-data_of Idle = []
-data_of Opaque = []
+-- whether a virtual channel frame count follows the last one
+abbrev pub is_after : Option ℕ → ℕ → Bool
+is_after None count = false
+is_after (Some last) count = follows last count
 
--- the octets of packets in a frame
-abbrev pub packet_data : TmView → List ℕ
-packet_data view = data_of view.field
+-- the octets that are held after a step, where `octets` are all octets of the packet so far, those
+-- of the frame included
+abbrev pub kept_of : Continuation → List ℕ → List ℕ
+kept_of (Ends packet) octets = []
+kept_of Continues octets = octets
+kept_of Breaks octets = []
 
--- octets, and then the octets of packets in these frames, end to end
-abbrev pub reassembly : List ℕ → List TmView → List ℕ
-reassembly octets views = octets ++ concat (map packet_data views)
+-- the octets that are held after the next frame, apart from the packets that start in the frame
+abbrev pub kept_octets : Continuation → List ℕ → TmView → List ℕ
+kept_octets step held next = kept_of step (held ++ packet_data next)
+
+-- the octets so far of the packet that a step breaks off, and none where it breaks off none
+abbrev pub lost_of : Continuation → List ℕ → List ℕ
+lost_of (Ends packet) octets = []
+lost_of Continues octets = []
+lost_of Breaks octets = octets
+
+-- the held octets that the next frame breaks off
+abbrev pub lost_by : ChannelState → TmView → List ℕ
+lost_by state next = lost_of (step_in state next) state.held
+
+-- the octets, where their front is incomplete, and no octets otherwise
+abbrev pub incomplete_in : Front → List ℕ → List ℕ
+incomplete_in OtherVersion octets = []
+incomplete_in Incomplete octets = octets
+incomplete_in (WholePacket len) octets = []
+
+-- the octets that are held at the end of a data field: those of the packet that is incomplete
+-- there, or `held` where no packet starts in the field
+abbrev pub held_after : DataField → List ℕ → List ℕ
+held_after (Packets None octets) held = held
+held_after (Packets (Some pointer) octets) held =
+    incomplete_in (front (rest_of (drop pointer octets))) (rest_of (drop pointer octets))
+held_after Idle held = held
+held_after Opaque held = held
+
+-- whether the octets after the packets that lie whole in a data field begin with another packet
+-- version than 0
+abbrev pub foreign_in : DataField → Bool
+foreign_in (Packets None octets) = false
+foreign_in (Packets (Some pointer) octets) = is_foreign (rest_of (drop pointer octets))
+foreign_in Idle = false
+foreign_in Opaque = false
+
+-- the state after the next frame
+abbrev pub channel_after : ChannelState → TmView → ChannelState
+channel_after state next =
+    record {
+      count = Some next.vc_count;
+      held = held_after next.field (kept_octets (step_in state next) state.held next);
+    }
+
+-- the packets that end in the next frame
+abbrev pub packets_after : ChannelState → TmView → List (List ℕ)
+packets_after state next = ended (step_in state next) ++ whole_packets next.field

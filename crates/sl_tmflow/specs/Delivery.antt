@@ -10,7 +10,7 @@ use Rattle.sl_packet.specs.Packet.{IsPacket}
 use Rattle.sl_packet.specs.Front.{Front, OtherVersion, Incomplete, WholePacket, front}
 use Rattle.sl_tmflow.specs.Among.{IsAmong}
 use Rattle.sl_tmframe.specs.TmFrame.{TmView, DataField, Packets, Idle, Opaque}
-use Rattle.sl_tmflow.specs.Channel.{follows, AreConsecutive, packet_data, reassembly}
+use Rattle.sl_tmflow.specs.VirtualChannel.{follows, AreConsecutive, packet_data, reassembly}
 use Rattle.sl_tmflow.specs.PacketStart.{IsStart, starts_of}
 
 -- ---- the relation

@@ -2,8 +2,8 @@
 -- memory for. An `Extractor` stands for its eight channels, and for whether a fault came.
 use Rattle.std.specs.Prelude.{◌≤◌, length}
 use Rattle.std.specs.Vec.{vec_capacity}
-use Rattle.sl_tmflow.specs.ChannelState.{KeptChannel}
-use Rattle.sl_tmflow.specs.Extraction.{ExtractorState}
+use Rattle.sl_tmflow.specs.Channel.{KeptChannel}
+use Rattle.sl_tmflow.specs.Extractor.{ExtractorState}
 use Rattle.sl_tmflow.specs.declared.channel.Channel.TheInside as channel
 use Rattle.sl_tmflow.specs.declared.extractor.Extractor.TheInside as extractor
 

@@ -7,7 +7,7 @@ use Rattle.sl_fields.specs.NeverFall.{NeverFall}
 use Rattle.sl_tmframe.specs.PacketFrame.{field_room_of}
 use Rattle.sl_tmframe.specs.TmFrame.{TmFormat, TmView, Packets}
 use Rattle.sl_tmflow.specs.Canonical.{AreDeliverable, IsFormat}
-use Rattle.sl_tmflow.specs.Channel.{views_on, packet_data}
+use Rattle.sl_tmflow.specs.VirtualChannel.{views_on, packet_data}
 use Rattle.sl_tmflow.specs.NormalForm.{normal_form, with_filling}
 use Rattle.sl_tmflow.specs.Recording.{recorded_views}
 

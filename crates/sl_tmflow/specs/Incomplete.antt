@@ -7,7 +7,7 @@ use mathlib.Core.List.{IsPrefix}
 use Rattle.sl_packet.specs.Packet.{version_of, IsPacket}
 use Rattle.sl_tmframe.specs.TmFrame.{TmView, Packets, Opaque}
 use Rattle.sl_tmflow.specs.Among.{IsAmong}
-use Rattle.sl_tmflow.specs.Channel.{AreConsecutive, packet_data, reassembly}
+use Rattle.sl_tmflow.specs.VirtualChannel.{AreConsecutive, packet_data, reassembly}
 use Rattle.sl_tmflow.specs.Delivery.{Outcome, Completes, StillIncomplete, Undelivered, outcome_of}
 use Rattle.sl_tmflow.specs.PacketStart.{IsStart, starts_of}
 

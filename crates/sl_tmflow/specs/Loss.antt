@@ -5,9 +5,9 @@ use Rattle.std.specs.List.{filter, list_all, list_any, range_with_len, slice_ind
 use Rattle.sl_packet.specs.Packets.{without_idle}
 use Rattle.sl_tmframe.specs.TmFrame.{TmFormat, TmView}
 use Rattle.sl_tmflow.specs.Among.{IsAmong}
-use Rattle.sl_tmflow.specs.Channel.{AreConsecutive, views_on}
+use Rattle.sl_tmflow.specs.VirtualChannel.{AreConsecutive, views_on}
 use Rattle.sl_tmflow.specs.Delivery.{Delivery, IsDelivery, deliveries_of, packets_delivered}
-use Rattle.sl_tmflow.specs.Extraction.{handed_over}
+use Rattle.sl_tmflow.specs.Extractor.{handed_over}
 use Rattle.sl_tmflow.specs.Recording.{recorded_views, tm_lists}
 use Rattle.sl_tmflow.specs.Sublist.{IsSublist}
 

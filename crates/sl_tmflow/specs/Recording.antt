@@ -5,7 +5,7 @@ use Rattle.std.specs.List.{range_with_len}
 use Rattle.sl_packet.specs.Packets.{without_idle}
 use Rattle.sl_tmframe.specs.TmDelimited.{tm_frames_of}
 use Rattle.sl_tmframe.specs.TmFrame.{TmFormat, TmView}
-use Rattle.sl_tmflow.specs.Channel.{views_of, views_on}
+use Rattle.sl_tmflow.specs.VirtualChannel.{views_of, views_on}
 use Rattle.sl_tmflow.specs.Delivery.{deliveries_of, packets_delivered}
 
 -- the views of the frames of a recording that aren't skipped, in order

@@ -6,9 +6,9 @@ ghost use Rattle.sl_packet.specs.Stopping.{HandsOver};
 ghost use Rattle.sl_tmframe.specs.TmField.{data_field};
 ghost use Rattle.sl_tmframe.specs.TmFrame.{IsInField, Packets};
 ghost use Rattle.sl_tmflow.specs.Anomaly.{gap_after};
-ghost use Rattle.sl_tmflow.specs.ChannelState.{foreign_in, held_after, incomplete_in, is_after};
-ghost use Rattle.sl_tmflow.specs.ChannelState.{kept_octets, kept_of, lost_by, lost_of, new_channel};
-ghost use Rattle.sl_tmflow.specs.ChannelState.{packets_after, channel_after, step_in};
+ghost use Rattle.sl_tmflow.specs.Channel.{foreign_in, held_after, incomplete_in, is_after};
+ghost use Rattle.sl_tmflow.specs.Channel.{kept_octets, kept_of, lost_by, lost_of, new_channel};
+ghost use Rattle.sl_tmflow.specs.Channel.{packets_after, channel_after, step_in};
 ghost use Rattle.sl_tmflow.specs.Delivery.{ended, field_step};
 ghost use Rattle.sl_tmflow.specs.PacketStart.{whole_packets};
 ghost use Rattle.sl_tmflow.specs.StepReport.{counts_of};
@@ -33,7 +33,7 @@ pub struct Channel {
 }
 
 impl Model for Channel {
-    ghost use Rattle.sl_tmflow.specs.ChannelState.{KeptChannel};
+    ghost use Rattle.sl_tmflow.specs.Channel.{KeptChannel};
 
     ghost Value = { KeptChannel };
 

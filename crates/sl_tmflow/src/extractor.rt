@@ -4,10 +4,10 @@ ghost use Rattle.sl_packet.specs.Packets.{only_idle, without_idle};
 ghost use Rattle.sl_packet.specs.Sink.{TakesAll};
 ghost use Rattle.std.specs.List.{concat};
 ghost use Rattle.sl_tmflow.specs.Anomaly.{dropped_of, foreign_of, gap_of};
-ghost use Rattle.sl_tmflow.specs.Channel.{views_on};
+ghost use Rattle.sl_tmflow.specs.VirtualChannel.{views_on};
 ghost use Rattle.sl_tmflow.specs.Incomplete.{incomplete_of};
-ghost use Rattle.sl_tmflow.specs.Extraction.{ForProcessed, HasProcessed, IsFailed, HasNoMemory};
-ghost use Rattle.sl_tmflow.specs.Extraction.{IsIncompleteAround, ended_by};
+ghost use Rattle.sl_tmflow.specs.Extractor.{ForProcessed, HasProcessed, IsFailed, HasNoMemory};
+ghost use Rattle.sl_tmflow.specs.Extractor.{IsIncompleteAround, ended_by};
 ghost use Rattle.sl_packet.specs.Stopping.{CountsFault, IsStopped};
 
 use crate::channel::Channel;
@@ -29,7 +29,7 @@ pub struct Extractor {
 }
 
 impl Model for Extractor {
-    ghost use Rattle.sl_tmflow.specs.Extraction.{ExtractorState};
+    ghost use Rattle.sl_tmflow.specs.Extractor.{ExtractorState};
 
     ghost Value = { ExtractorState };
 

@@ -6,11 +6,11 @@ ghost use Rattle.std.specs.Vec.{vec_len, vec_capacity};
 ghost use Rattle.sl_packet.specs.Delivered.{HasNone, IsDeliverable, list_at};
 ghost use Rattle.sl_tmframe.specs.PacketFrame.{field_room_of};
 ghost use Rattle.sl_tmflow.specs.Canonical.{AreDeliverable, IsFormat};
-ghost use Rattle.sl_tmflow.specs.FormLeft.{IsLeft, AddsPiece, IsAllMade, KeepsLeft, IsOfPackets};
-ghost use Rattle.sl_tmflow.specs.FormLeft.{IsReserved, LacksRoom, HasMore, HasFewer, HasNoMore};
-ghost use Rattle.sl_tmflow.specs.FormLeft.{form_of, piece_room, octets_room, heading_after};
-ghost use Rattle.sl_tmflow.specs.FormLeft.{frames_of, frames_len, fields_in, beyond_fields};
-ghost use Rattle.sl_tmflow.specs.FormLeft.{filled_up, passed};
+ghost use Rattle.sl_tmflow.specs.Form.{IsLeft, AddsPiece, IsAllMade, KeepsLeft, IsOfPackets};
+ghost use Rattle.sl_tmflow.specs.Form.{IsReserved, LacksRoom, HasMore, HasFewer, HasNoMore};
+ghost use Rattle.sl_tmflow.specs.Form.{form_of, piece_room, octets_room, heading_after};
+ghost use Rattle.sl_tmflow.specs.Form.{frames_of, frames_len, fields_in, beyond_fields};
+ghost use Rattle.sl_tmflow.specs.Form.{filled_up, passed};
 ghost use Rattle.sl_tmflow.specs.NormalForm.{fill_of, filling};
 ghost use Rattle.sl_tmflow.specs.Recording.{tm_lists};
 
@@ -80,11 +80,11 @@ impl Heading {
 }
 
 impl<'d> Model for TmForm<'d> {
-    ghost use Rattle.sl_tmflow.specs.FormLeft.{FormState};
+    ghost use Rattle.sl_tmflow.specs.Form.{FormState};
 
     ghost Value = { FormState };
 
-    ghost use Rattle.sl_tmflow.specs.TmFormModel.{form_state, IsTmForm};
+    ghost use Rattle.sl_tmflow.specs.FormModel.{form_state, IsTmForm};
 
     ghost view = { form_state };
 

@@ -12,7 +12,7 @@ ghost use Rattle.sl_tmflow.specs.Canonical.{NormalFormDelivers, RecordedListsAre
 ghost use Rattle.sl_tmflow.specs.Delivery.{EachIsDelivery, EachIsListed, DeliveriesAreInOrder};
 ghost use Rattle.sl_tmflow.specs.Delivery.{PacketsEndOnce, EndsAreInOrder, EachEndsByTheNextStart};
 ghost use Rattle.sl_tmflow.specs.Delivery.{NoneOverlap};
-ghost use Rattle.sl_tmflow.specs.Extraction.{DeliveredAreHandedOver};
+ghost use Rattle.sl_tmflow.specs.Extractor.{DeliveredAreHandedOver};
 ghost use Rattle.sl_tmflow.specs.FormOrder.{ChannelsNeverFall, EachCarriesPackets, McCounts};
 ghost use Rattle.sl_tmflow.specs.FormOrder.{PacketsLieEndToEnd, VcCounts};
 ghost use Rattle.sl_tmflow.specs.Incomplete.{EachListedIsIncomplete, EachIncompleteIsListed};

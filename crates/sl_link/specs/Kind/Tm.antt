@@ -4,8 +4,8 @@ use Rattle.sl_tmframe.specs.declared.tm_frame.TmSkip.{TmSkip}
 use Rattle.sl_tmframe.specs.TmDelimited.{tm_frames_of}
 use Rattle.sl_tmframe.specs.TmFrame.{TmView, DataField, Packets, Idle, Opaque, tm_frame}
 use Rattle.sl_tmflow.specs.Anomaly.{dropped_of, foreign_of, gap_of}
-use Rattle.sl_tmflow.specs.Channel.{views_on, views_of}
-use Rattle.sl_tmflow.specs.Extraction.{ExtractorState, HasProcessed, IsIncompleteAround, ended_by}
+use Rattle.sl_tmflow.specs.VirtualChannel.{views_on, views_of}
+use Rattle.sl_tmflow.specs.Extractor.{ExtractorState, HasProcessed, IsIncompleteAround, ended_by}
 use Rattle.sl_tmflow.specs.Recording.{packets_of_channel, tm_lists, virtual_channels}
 use Rattle.sl_link.specs.Kind.Delivery.{IsWithin, Kind, MayRefuseMemory, counts_in}
 use Rattle.sl_link.specs.Link.Managed.{Parameters, tm_format}

@@ -2,7 +2,7 @@
 -- the definitions.
 use Rattle.std.proofs.Common.{◌≡◌, ℕ, zero, suc, ◌+◌, ◌%◌, ◌<◌, true, false, List, [], ◌∷◌, ◌++◌, length, take, drop, map, refl, ◌∙◌, arith, eq-eqb}
 use Rattle.sl_tmframe.specs.TmFrame.{TmFormat, TmView, Opaque}
-use Rattle.sl_tmflow.specs.Channel.{AreConsecutive, follows}
+use Rattle.sl_tmflow.specs.VirtualChannel.{AreConsecutive, follows}
 use Rattle.sl_tmflow.specs.Delivery.{deliveries_of, packets_delivered}
 use Rattle.sl_tmflow.specs.Loss.{AreKept, HasNoGap, HasNumber, HaveNumbers, IsRecordingOfKept, IsSameDelivery, keeps_run, recorded_channel}
 use Rattle.sl_tmflow.specs.Recording.{tm_lists}

@@ -2,7 +2,7 @@
 use Rattle.std.proofs.Common.{◌≡◌, ℕ, ◌+◌, ◌%◌, true, false, List, [], ◌∷◌, ◌++◌, map, inl, inr, refl, sym, subst, arith, eq-eqb, append_assoc, append-nil, length-append}
 use Rattle.sl_tmframe.specs.TmFrame.{TmView, Idle, Opaque}
 use Rattle.sl_tmflow.specs.Among.{IsAmong}
-use Rattle.sl_tmflow.specs.Channel.{AreConsecutive, reassembly}
+use Rattle.sl_tmflow.specs.VirtualChannel.{AreConsecutive, reassembly}
 use Rattle.sl_tmflow.specs.Delivery.{deliveries_of, packets_delivered}
 use Rattle.sl_tmflow.specs.Loss.{AreKept, FewAreLost, HasNoGap, HaveNumbers, keeps_run}
 use Rattle.sl_tmflow.proofs.lemmas.Delivery.Listed.{delivery_with}

@@ -4,7 +4,7 @@ use Rattle.std.proofs.Common.{◌≡◌, ℕ, false, List, [], ◌∷◌, ◌++�
 use Rattle.std.specs.List.{concat}
 use Rattle.sl_packet.specs.IdlePacket.{idle_packet}
 use Rattle.sl_tmframe.specs.TmFrame.{TmFormat, TmView, Packets}
-use Rattle.sl_tmflow.specs.Channel.{views_on, packet_data}
+use Rattle.sl_tmflow.specs.VirtualChannel.{views_on, packet_data}
 use Rattle.sl_tmflow.specs.FormOrder.{form_views}
 
 abbrev format : TmFormat

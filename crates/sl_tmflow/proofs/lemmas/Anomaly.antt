@@ -11,8 +11,8 @@ use Rattle.sl_packet.proofs.PacketLemmas.{packet_least, version_of-append}
 use Rattle.sl_packet.proofs.PacketsLemmas.{each_has_packets}
 use Rattle.sl_tmframe.specs.TmFrame.{DataField, Packets, Idle, Opaque, TmView}
 use Rattle.sl_tmflow.specs.Anomaly.{EachForeignStartIsTold, EachGapIsTold, EachToldIsAForeignStart, EachToldIsAGap, foreign_of, gap_after, gap_of, broken_off, dropped_of}
-use Rattle.sl_tmflow.specs.Channel.{is_consecutive, views_on}
-use Rattle.sl_tmflow.specs.ChannelState.{foreign_in, ChannelState, held_step, lost_of, lost_by, channel_after}
+use Rattle.sl_tmflow.specs.VirtualChannel.{is_consecutive, views_on}
+use Rattle.sl_tmflow.specs.Channel.{foreign_in, ChannelState, held_step, lost_of, lost_by, channel_after}
 use Rattle.sl_tmflow.specs.PacketStart.{packet_offsets, starts_from}
 use Rattle.sl_tmflow.proofs.lemmas.Delivery.Channel.{last_count-push, same_seen, seen_more}
 use Rattle.sl_tmflow.proofs.lemmas.Places.{some_passes, has_last}
@@ -20,7 +20,7 @@ use Rattle.sl_tmflow.proofs.lemmas.Delivery.Start.{each_is_start, is_among}
 use Rattle.sl_packet.proofs.FrontLemmas.{foreign_true, not_foreign}
 use Rattle.std.proofs.Math.Bool.{or-false}
 use Rattle.sl_tmflow.specs.Delivery.{Continuation}
-use Rattle.sl_tmflow.specs.Extraction.{HasSeen, IsIncompleteAround, held_as}
+use Rattle.sl_tmflow.specs.Extractor.{HasSeen, IsIncompleteAround, held_as}
 use Rattle.sl_tmflow.specs.Incomplete.{incomplete_of}
 use Rattle.sl_tmflow.proofs.lemmas.Incomplete.BrokenOff.{broken_next, lost, lost_in}
 

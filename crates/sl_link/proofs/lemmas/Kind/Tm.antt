@@ -6,8 +6,8 @@ use Rattle.sl_fields.specs.Field.{number_of}
 use Rattle.sl_packet.proofs.CountLemmas.{split_count}
 use Rattle.sl_tmframe.specs.declared.tm_frame.TmSkip.{TmSkip}
 use Rattle.sl_tmframe.specs.TmFrame.{TmFormat, TmView, read_as, skip_reason, view_of, tm_frame}
-use Rattle.sl_tmflow.specs.Channel.{views_of}
-use Rattle.sl_tmflow.specs.Extraction.{ExtractorState, HasProcessed}
+use Rattle.sl_tmflow.specs.VirtualChannel.{views_of}
+use Rattle.sl_tmflow.specs.Extractor.{ExtractorState, HasProcessed}
 use Rattle.sl_tmflow.specs.Recording.{packets_of_channel}
 use Rattle.sl_tmflow.proofs.lemmas.Delivery.Channel.{other_seen, same_seen}
 use Rattle.sl_tmflow.proofs.lemmas.Delivery.Push.{delivered_push, ended_few}

@@ -2,7 +2,7 @@
 use Rattle.std.specs.Prelude.{ℕ, nat_lt, List, [], ◌∷◌, ◌++◌, length, map, codes, decimal, Option, None, Some, Result, Ok, Err}
 use Rattle.sl_tmframe.specs.declared.tm_frame.TmSkip.{TmSkip}
 use Rattle.sl_tmframe.specs.TmDelimited.{tm_frames_of}
-use Rattle.sl_tmflow.specs.Channel.{views_on, views_of}
+use Rattle.sl_tmflow.specs.VirtualChannel.{views_on, views_of}
 use Rattle.sl_tmflow.specs.Incomplete.{incomplete_of}
 use Rattle.sl_link.specs.Verbs.Check.Lines.{anomalies_by, check_listing, event_anomaly, event_line}
 use Rattle.sl_link.specs.Kind.Tm.{TmFinding, tm_found, tm_kind}

@@ -6,8 +6,8 @@ use Rattle.sl_packet.specs.Packets.{without_idle}
 use Rattle.sl_tmframe.specs.declared.tm_frame.TmSkip.{TmSkip}
 use Rattle.sl_tmframe.specs.TmDelimited.{tm_frames_of}
 use Rattle.sl_tmframe.specs.TmFrame.{TmView}
-use Rattle.sl_tmflow.specs.Channel.{views_of}
-use Rattle.sl_tmflow.specs.Extraction.{ended_by}
+use Rattle.sl_tmflow.specs.VirtualChannel.{views_of}
+use Rattle.sl_tmflow.specs.Extractor.{ended_by}
 use Rattle.sl_link.specs.Kind.Tm.{as_read, tm_kind}
 use Rattle.sl_link.specs.Link.Managed.{Parameters, tm_format}
 use Rattle.sl_link.specs.Verbs.Packets.Line.{packet_line, packets_listing}

@@ -4,7 +4,7 @@ use crate::normalise::form::Form;
 use sl_tmflow::TmForm;
 
 impl<'d> Form for TmForm<'d> {
-    ghost use Rattle.sl_tmflow.specs.FormLeft.{HasPackets, IsReserved, IsLeft, packets_left};
+    ghost use Rattle.sl_tmflow.specs.Form.{HasPackets, IsReserved, IsLeft, packets_left};
 
     ghost left = { λ form octets. IsLeft form.progress octets };
 

@@ -2,7 +2,7 @@ use Rattle.std.proofs.Common.{◌<◌, ◌-◌, ◌/◌, ◌%◌, ◌++◌, ◌�
 use Rattle.std.proofs.lemmas.List.{take-append-drop, take_rest}
 use Rattle.std.proofs.lemmas.Result.{err_from_is_err_and}
 use Rattle.sl_tmframe.specs.PacketFrame.{field_room_of}
-use Rattle.sl_tmflow.specs.FormLeft.{field_frames, frames_len, frames_of}
+use Rattle.sl_tmflow.specs.Form.{field_frames, frames_len, frames_of}
 use Rattle.sl_tmflow.proofs.lemmas.Form.Frames.{FillsUp, none_filled, few_beyond, fields_of_both, frames_len_of_first, frames_len_of_both, beyond_both, frames_of_both}
 use Rattle.sl_tmflow.proofs.form.add.Goals.{After-split_at, Then-packet-wanted}
 use Rattle.sl_tmflow.proofs.form.add.Goals as goal

@@ -3,7 +3,7 @@ use Rattle.std.proofs.lemmas.List.{take-append-drop}
 use Rattle.std.proofs.lemmas.Result.{err_from_is_err_and}
 use Rattle.std.proofs.Math.Nat.{suc-mul}
 use Rattle.sl_tmframe.specs.PacketFrame.{field_room_of}
-use Rattle.sl_tmflow.specs.FormLeft.{fields_in}
+use Rattle.sl_tmflow.specs.Form.{fields_in}
 use Rattle.sl_tmflow.proofs.lemmas.Form.Frames.{pushes_next, all_pushed, one_more_field}
 use Rattle.sl_tmflow.proofs.form.push_fields.Goals.{After-split_at}
 use Rattle.sl_tmflow.proofs.form.push_fields.Goals as goal

@@ -1,7 +1,7 @@
 use Rattle.std.proofs.Common.{◌+◌, ◌<◌, ◌≤◌, ◌++◌, IfSome, length, vec_len}
 use Rattle.std.specs.Vec.{vec_capacity}
 use Rattle.sl_tmframe.specs.PacketFrame.{field_room_of}
-use Rattle.sl_tmflow.specs.FormLeft.{frames_len, frames_of}
+use Rattle.sl_tmflow.specs.Form.{frames_len, frames_of}
 use Rattle.sl_tmflow.proofs.lemmas.Form.Frames.{IsPushing}
 use Rattle.sl_tmflow.proofs.form.push_fields.Given as goal
 

@@ -11,11 +11,11 @@ use Rattle.sl_packet.specs.declared.flow_fault.FlowFault.{FlowFault}
 use Rattle.sl_packet.specs.declared.sink.SinkFault.{SinkFault}
 use Rattle.sl_packet.proofs.StoppingLemmas.{hands_same}
 use Rattle.sl_tmframe.specs.TmFrame.{TmView, DataField, Packets}
-use Rattle.sl_tmflow.specs.Channel.{views_on, last_count}
-use Rattle.sl_tmflow.specs.ChannelState.{ChannelState, KeptChannel, new_channel, held_step, kept_of, kept_octets, incomplete_in, held_after, channel_after, packets_after}
+use Rattle.sl_tmflow.specs.VirtualChannel.{views_on, last_count}
+use Rattle.sl_tmflow.specs.Channel.{ChannelState, KeptChannel, new_channel, held_step, kept_of, kept_octets, incomplete_in, held_after, channel_after, packets_after}
 use Rattle.sl_tmflow.specs.Delivery.{Continuation, Ends, Breaks, ended, front_step, outcome_of, outcome_of_front, packets_ending, step_of}
 use Rattle.sl_tmflow.specs.Incomplete.{frame_incomplete, incomplete_octets}
-use Rattle.sl_tmflow.specs.Extraction.{ExtractorState, HasSeen, HasProcessed, ended_by, held_as}
+use Rattle.sl_tmflow.specs.Extractor.{ExtractorState, HasSeen, HasProcessed, ended_by, held_as}
 use Rattle.sl_tmflow.specs.PacketStart.{whole_packets}
 use Rattle.sl_tmflow.specs.StepReport.{StepReport, counts_of}
 use Rattle.sl_tmflow.proofs.lemmas.Places.{has_last}

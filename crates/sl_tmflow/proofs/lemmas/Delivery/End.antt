@@ -10,7 +10,7 @@ use Rattle.sl_packet.specs.Packets.{packets_of, rest_of}
 use Rattle.sl_packet.proofs.PacketLemmas.{one_packet}
 use Rattle.sl_packet.proofs.PacketsLemmas.{rest_of-concat, rest_of-none}
 use Rattle.sl_tmframe.specs.TmFrame.{TmView, DataField, Packets}
-use Rattle.sl_tmflow.specs.Channel.{data_of, packet_data, reassembly}
+use Rattle.sl_tmflow.specs.VirtualChannel.{data_of, packet_data, reassembly}
 use Rattle.sl_tmflow.specs.PacketStart.{IsStart}
 use Rattle.sl_tmflow.specs.Delivery.{IsDeliveredBy, Delivery, IsDelivery, EndsAreInOrder, EachEndsByTheNextStart, start_offset, NoneOverlap}
 use Rattle.sl_tmflow.specs.Incomplete.{HasNoStart}

@@ -4,9 +4,9 @@ use Rattle.std.proofs.lemmas.Bool.Decides.{eqb_tells}
 use Rattle.sl_packet.specs.Packet.{is_idle_packet}
 use Rattle.sl_packet.specs.Packets.{without_idle}
 use Rattle.sl_tmframe.specs.TmFrame.{TmView}
-use Rattle.sl_tmflow.specs.Channel.{views_on}
+use Rattle.sl_tmflow.specs.VirtualChannel.{views_on}
 use Rattle.sl_tmflow.specs.Delivery.{deliveries_of, packets_delivered, packets_ending}
-use Rattle.sl_tmflow.specs.Extraction.{DeliveredAreHandedOver, ended_by, handed_over}
+use Rattle.sl_tmflow.specs.Extractor.{DeliveredAreHandedOver, ended_by, handed_over}
 use Rattle.sl_tmflow.specs.Loss.{HandedOverAreKept, HandedOverAreSublist}
 use Rattle.sl_tmflow.specs.Recording.{packets_of_channel}
 use Rattle.sl_tmflow.specs.Sublist.{IsSublist}

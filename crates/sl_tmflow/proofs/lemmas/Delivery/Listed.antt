@@ -3,7 +3,7 @@
 use Rattle.std.proofs.Common.{◌≡◌, ℕ, ◌+◌, ◌<◌, ◌≤◌, List, [], ◌∷◌, ◌++◌, length, drop, Option, inl, refl, sym, ◌∙◌, ap, subst, arith, append_assoc}
 use Rattle.std.specs.List.{AllByRecursion, flat_map}
 use Rattle.sl_tmframe.specs.TmFrame.{TmView, DataField, Packets}
-use Rattle.sl_tmflow.specs.Channel.{data_of, packet_data}
+use Rattle.sl_tmflow.specs.VirtualChannel.{data_of, packet_data}
 use Rattle.sl_tmflow.specs.Among.{IsAmong}
 use Rattle.sl_tmflow.specs.PacketStart.{IsStart, starts_of}
 use Rattle.sl_tmflow.specs.Delivery.{Delivery, IsDeliveredBy, IsDelivery, Outcome, Completes, outcome_of, delivery_of, frame_deliveries, deliveries_from, deliveries_of, EachIsDelivery, EachIsListed, StartsBefore, AreInOrder, DeliveriesAreInOrder}

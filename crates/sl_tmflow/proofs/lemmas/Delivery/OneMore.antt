@@ -10,7 +10,7 @@ use Rattle.sl_packet.specs.Front.{Front, WholePacket, front}
 use Rattle.sl_packet.specs.Packets.{whole_at, packets_of, rest_of}
 use Rattle.sl_packet.proofs.FrontLemmas.{packet_is_whole}
 use Rattle.sl_tmframe.specs.TmFrame.{TmView, DataField, Packets, Idle, Opaque}
-use Rattle.sl_tmflow.specs.Channel.{packet_data}
+use Rattle.sl_tmflow.specs.VirtualChannel.{packet_data}
 use Rattle.sl_tmflow.specs.PacketStart.{starts_from, starts_of, whole_packets}
 use Rattle.sl_tmflow.specs.Delivery.{Delivery, Outcome, Completes, StillIncomplete, Undelivered, Continuation, Ends, Continues, Breaks, ended, step_of, after_step, outcome_after, outcome_of_front, outcome_of, delivery_of, frame_deliveries, deliveries_from, ending_in, packets_delivered, packets_ending}
 use Rattle.sl_tmflow.specs.Incomplete.{incomplete_octets, frame_incomplete, incomplete_of}

@@ -7,7 +7,7 @@ use Rattle.sl_packet.specs.Packet.{IsPacket}
 use Rattle.sl_packet.specs.Front.{Front, OtherVersion, Incomplete, WholePacket, front}
 use Rattle.sl_packet.proofs.FrontLemmas.{whole_is_a_packet, packet_is_whole}
 use Rattle.sl_tmframe.specs.TmFrame.{TmView, DataField, Packets, Idle, Opaque}
-use Rattle.sl_tmflow.specs.Channel.{is_consecutive, packet_data, data_of, reassembly}
+use Rattle.sl_tmflow.specs.VirtualChannel.{is_consecutive, packet_data, data_of, reassembly}
 use Rattle.sl_tmflow.specs.Delivery.{agreeing_pointer, IsDeliveredBy, Outcome, Completes, Continuation, Ends, Continues, step_of, after_step, outcome_after, outcome_of_front, outcome_of}
 use Rattle.sl_tmflow.specs.Incomplete.{HasNoStart}
 use Rattle.sl_fields.proofs.ListLemmas.{each-among, each-append}

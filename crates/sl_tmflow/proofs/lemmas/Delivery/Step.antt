@@ -9,7 +9,7 @@ use Rattle.sl_packet.specs.Front.{Front, OtherVersion, Incomplete, WholePacket, 
 use Rattle.sl_packet.proofs.PacketLemmas.{one_packet}
 use Rattle.sl_packet.proofs.FrontLemmas.{whole_is_a_packet, packet_is_whole, foreign_is_no_packet, incomplete_may_become_whole}
 use Rattle.sl_tmframe.specs.TmFrame.{TmView, DataField, Packets, Idle, Opaque}
-use Rattle.sl_tmflow.specs.Channel.{is_consecutive, data_of}
+use Rattle.sl_tmflow.specs.VirtualChannel.{is_consecutive, data_of}
 use Rattle.sl_tmflow.specs.Delivery.{agreeing_pointer, Ends, Continues, Breaks, front_step, field_step, step_of}
 
 -- ---- octets that begin a packet

@@ -13,7 +13,7 @@ use Rattle.sl_packet.proofs.PacketLemmas.{packet_least}
 use Rattle.sl_packet.proofs.PacketsLemmas.{packets_of-packet, rest_of-packet, packets_of-none, rest_of-none}
 use Rattle.sl_tmframe.specs.PacketFrame.{packet_view}
 use Rattle.sl_tmframe.specs.TmFrame.{TmView, Packets}
-use Rattle.sl_tmflow.specs.Channel.{follows, packet_data}
+use Rattle.sl_tmflow.specs.VirtualChannel.{follows, packet_data}
 use Rattle.sl_tmflow.specs.Delivery.{agreeing_pointer, after_step, outcome_after, outcome_of_front, outcome_of, frame_deliveries, deliveries_from, deliveries_of, packets_delivered}
 use Rattle.sl_tmflow.specs.NormalForm.{data_field_of, first_of}
 use Rattle.sl_tmflow.specs.PacketStart.{packet_offsets}

@@ -12,7 +12,7 @@ use Rattle.sl_fields.specs.Field.{octets_of}
 use Rattle.sl_tmframe.proofs.PacketFrameLemmas.{with_fecf_whole}
 use Rattle.sl_tmframe.specs.PacketFrame.{field_room_of, frame_fields}
 use Rattle.sl_tmframe.specs.TmFrame.{TmFormat}
-use Rattle.sl_tmflow.specs.FormLeft.{field_frames, frames_len, frames_of, fields_in, beyond_fields, filled_up, headed_frame, heading_after}
+use Rattle.sl_tmflow.specs.Form.{field_frames, frames_len, frames_of, fields_in, beyond_fields, filled_up, headed_frame, heading_after}
 use Rattle.sl_tmflow.specs.declared.form.Heading.{Heading}
 use Rattle.sl_tmflow.specs.NormalForm.{filling}
 use Rattle.sl_tmflow.proofs.lemmas.Form.Fill.{fill_inside, fill_is_least, filling_is}

@@ -13,7 +13,7 @@ use Rattle.std.proofs.Math.Seq.{drop-append_seam, drop-cons}
 use Rattle.sl_packet.specs.IdlePacket.{idle_packet}
 use Rattle.sl_tmframe.specs.PacketFrame.{field_room_of}
 use Rattle.sl_tmframe.specs.TmFrame.{TmFormat}
-use Rattle.sl_tmflow.specs.FormLeft.{FormProgress, IsPending, IsLeft, IsAllMade, AddsPiece, start_in, fields_in, beyond_fields, channel_packets, filled_packets, passed, HasMore, HasPackets, packets_left}
+use Rattle.sl_tmflow.specs.Form.{FormProgress, IsPending, IsLeft, IsAllMade, AddsPiece, start_in, fields_in, beyond_fields, channel_packets, filled_packets, passed, HasMore, HasPackets, packets_left}
 use Rattle.sl_tmflow.specs.NormalForm.{with_filling, filling, fill_of, channel_frame, channel_frames, frames_from_channel}
 use Rattle.sl_packet.specs.Packet.{IsPacket}
 use Rattle.sl_tmflow.proofs.lemmas.Incomplete.List.{stated_packet_len-most}

@@ -14,7 +14,7 @@ use Rattle.sl_packet.specs.Delivered.{IsDeliverable}
 use Rattle.sl_tmframe.specs.PacketFrame.{field_room_of}
 use Rattle.sl_tmframe.specs.TmFrame.{TmFormat, TmView}
 use Rattle.sl_tmflow.specs.Canonical.{IsFormat}
-use Rattle.sl_tmflow.specs.Channel.{views_on, packet_data}
+use Rattle.sl_tmflow.specs.VirtualChannel.{views_on, packet_data}
 use Rattle.sl_tmflow.specs.FormOrder.{CarriesPackets, ChannelsNeverFall, EachCarriesPackets, McCounts, PacketsLieEndToEnd, VcCounts}
 use Rattle.sl_tmflow.specs.NormalForm.{channel_frames, data_field_of, first_of, with_filling}
 use Rattle.sl_tmflow.specs.PacketStart.{packet_offsets}

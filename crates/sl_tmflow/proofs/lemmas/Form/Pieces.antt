@@ -8,7 +8,7 @@ use Rattle.std.proofs.Math.Nat.{add-mul, suc-mul, zero-mul, one-mul, zero-div}
 use Rattle.std.proofs.Math.Seq.{drop-append_seam}
 use Rattle.sl_tmframe.specs.PacketFrame.{field_room_of, packet_frame}
 use Rattle.sl_tmframe.specs.TmFrame.{TmFormat}
-use Rattle.sl_tmflow.specs.FormLeft.{IsPending, start_in, field_frames, FormProgress, beyond_fields, fields_in, frames_of}
+use Rattle.sl_tmflow.specs.Form.{IsPending, start_in, field_frames, FormProgress, beyond_fields, fields_in, frames_of}
 use Rattle.sl_tmflow.specs.declared.form.Heading.{Heading}
 use Rattle.sl_tmflow.specs.NormalForm.{first_of, data_field_of, channel_frame, channel_frames, filling}
 use Rattle.sl_tmflow.specs.PacketStart.{packet_offsets}

@@ -5,7 +5,7 @@ use Rattle.std.proofs.lemmas.List.{map-append}
 use Rattle.std.proofs.lemmas.List.Folds.{concat-append}
 use Rattle.sl_packet.specs.Front.{Front, OtherVersion, Incomplete, WholePacket, front}
 use Rattle.sl_tmframe.specs.TmFrame.{TmView, Opaque}
-use Rattle.sl_tmflow.specs.Channel.{is_consecutive, AreConsecutive, packet_data, reassembly}
+use Rattle.sl_tmflow.specs.VirtualChannel.{is_consecutive, AreConsecutive, packet_data, reassembly}
 use Rattle.sl_tmflow.specs.Delivery.{Outcome, StillIncomplete, Continuation, Ends, Continues, Breaks, step_of, after_step, outcome_after, outcome_of_front, outcome_of}
 use Rattle.sl_tmflow.specs.Incomplete.{HasNoStart}
 use Rattle.sl_fields.proofs.ListLemmas.{each-append}

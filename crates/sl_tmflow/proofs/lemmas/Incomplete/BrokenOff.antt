@@ -6,7 +6,7 @@ use Rattle.std.proofs.lemmas.Grind.{flat_map-append}
 use Rattle.sl_tmframe.specs.TmFrame.{TmView, Packets}
 use Rattle.sl_tmflow.specs.Among.{IsAmong}
 use Rattle.sl_tmflow.specs.Anomaly.{IsBrokenOff, broken_octets, frame_broken, broken_off, EachListedIsBrokenOff, EachBrokenOffIsListed, OneIsBrokenOff, BrokenOffIsShort, BrokenOffIsTold, WhatIsToldIsBrokenOff}
-use Rattle.sl_tmflow.specs.Channel.{packet_data}
+use Rattle.sl_tmflow.specs.VirtualChannel.{packet_data}
 use Rattle.sl_tmflow.specs.Delivery.{Delivery, IsDelivery, Outcome, Completes, StillIncomplete, Undelivered, Continuation, Ends, Continues, Breaks, step_of, after_step, outcome_of}
 use Rattle.sl_tmflow.specs.Incomplete.{IsIncompleteAt, IsShort, incomplete_octets, frame_incomplete, incomplete_of}
 use Rattle.sl_tmflow.specs.PacketStart.{IsStart, starts_of}

@@ -13,7 +13,7 @@ use Rattle.sl_packet.proofs.FrontLemmas.{foreign_tests, not_foreign, packet_is_w
 use Rattle.sl_packet.proofs.PacketLemmas.{version_of-append}
 use Rattle.sl_tmframe.specs.TmFrame.{TmView, DataField, Packets}
 use Rattle.sl_tmflow.specs.Among.{IsAmong}
-use Rattle.sl_tmflow.specs.Channel.{packet_data, data_of, reassembly}
+use Rattle.sl_tmflow.specs.VirtualChannel.{packet_data, data_of, reassembly}
 use Rattle.sl_tmflow.specs.PacketStart.{IsStart, starts_of}
 use Rattle.sl_tmflow.specs.Delivery.{Outcome, StillIncomplete, outcome_of_front, outcome_of}
 use Rattle.sl_tmflow.specs.Incomplete.{HasNoStart, IsIncomplete, IsIncompleteAt, incomplete_octets, incomplete_of, EachListedIsIncomplete, EachIncompleteIsListed, OneIsIncomplete, IsShort, IncompleteIsShort, IncompleteIsCounted, WhatIsCountedIsIncomplete}

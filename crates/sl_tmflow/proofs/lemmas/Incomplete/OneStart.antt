@@ -5,7 +5,7 @@ use Rattle.std.proofs.lemmas.Bool.{cases_lt}
 use Rattle.std.proofs.lemmas.List.{length_push}
 use Rattle.sl_packet.specs.Front.{front}
 use Rattle.sl_tmframe.specs.TmFrame.{TmView}
-use Rattle.sl_tmflow.specs.Channel.{packet_data}
+use Rattle.sl_tmflow.specs.VirtualChannel.{packet_data}
 use Rattle.sl_tmflow.specs.Incomplete.{HasNoStart, IsIncomplete, OneStartIsIncomplete}
 use Rattle.sl_tmflow.specs.PacketStart.{IsStart}
 use Rattle.sl_tmflow.proofs.lemmas.Incomplete.List.{incomplete_start_outcome}

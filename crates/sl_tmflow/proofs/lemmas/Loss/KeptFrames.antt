@@ -4,7 +4,7 @@ use Rattle.std.proofs.Common.{◌≡◌, ℕ, ◌+◌, ◌%◌, ◌<◌, ◌≤�
 use Rattle.std.proofs.lemmas.Bool.{eqb-true}
 use Rattle.std.proofs.lemmas.List.{length_push}
 use Rattle.sl_tmframe.specs.TmFrame.{TmView}
-use Rattle.sl_tmflow.specs.Channel.{AreConsecutive, is_consecutive}
+use Rattle.sl_tmflow.specs.VirtualChannel.{AreConsecutive, is_consecutive}
 use Rattle.sl_tmflow.specs.Loss.{FewAreLost, HasNoGap, HasNumber, HaveNumbers, RiseFrom}
 use Rattle.sl_tmflow.proofs.lemmas.Places.{same_place, some_element}
 use Rattle.sl_tmflow.proofs.lemmas.Delivery.End.{longer_begins}

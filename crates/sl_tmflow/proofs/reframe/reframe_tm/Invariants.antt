@@ -1,5 +1,5 @@
 use Rattle.std.proofs.Common.{◌≡◌, ℕ, List, ◌++◌, take}
-use Rattle.sl_tmflow.specs.FormLeft.{IsLeft, packets_left}
+use Rattle.sl_tmflow.specs.Form.{IsLeft, packets_left}
 use Rattle.sl_tmflow.specs.NormalForm.{normal_form}
 use Rattle.sl_tmflow.proofs.reframe.reframe_tm.Given as goal
 

@@ -1,7 +1,7 @@
 use Rattle.std.proofs.Common.{rules, ◌≡◌, ◌≢◌, ◌∙◌, arith, Ok, Err, ap, refl, sym}
 use Rattle.std.specs.Prelude.{is_err}
 use Rattle.sl_packet.specs.declared.flow_fault.FlowFault.TheVariants.{Failed}
-use Rattle.sl_tmflow.specs.Channel.{views_of}
+use Rattle.sl_tmflow.specs.VirtualChannel.{views_of}
 use Rattle.sl_link.specs.Kind.Tm.{as_read, ended_in, found_after, vc_of}
 use Rattle.sl_link.specs.Link.Managed.{tm_format}
 use Rattle.sl_link.proofs.lemmas.Kind.Delivery.{delivers_as}

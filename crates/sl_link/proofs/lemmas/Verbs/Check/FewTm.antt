@@ -7,7 +7,7 @@ use Rattle.std.proofs.lemmas.Bool.{lt-ltb}
 use Rattle.std.proofs.lemmas.List.{length-map}
 use Rattle.sl_tmframe.specs.declared.tm_frame.TmSkip.{TmSkip}
 use Rattle.sl_tmframe.specs.TmFrame.{TmView}
-use Rattle.sl_tmflow.specs.Channel.{views_on, views_of}
+use Rattle.sl_tmflow.specs.VirtualChannel.{views_on, views_of}
 use Rattle.sl_tmflow.specs.Incomplete.{IsShort, incomplete_of}
 use Rattle.sl_tmflow.proofs.lemmas.Delivery.Channel.{other_seen}
 use Rattle.sl_tmflow.proofs.lemmas.Incomplete.List.{one_is_incomplete, incomplete_is_short}

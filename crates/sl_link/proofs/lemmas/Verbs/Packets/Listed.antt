@@ -12,7 +12,7 @@ use Rattle.sl_tmframe.specs.declared.tm_frame.TmSkip.{TmSkip}
 use Rattle.sl_tmframe.specs.TmFrame.{TmView}
 use Rattle.sl_tcframe.specs.declared.tc_frame.TcSkip.{TcSkip}
 use Rattle.sl_tcframe.specs.TcFrame.{TcView}
-use Rattle.sl_tmflow.specs.Channel.{views_of}
+use Rattle.sl_tmflow.specs.VirtualChannel.{views_of}
 use Rattle.sl_tcflow.specs.AcceptedUnit as accepted
 use Rattle.sl_tcflow.specs.ReceptionParameters.{ReceptionParameters}
 use Rattle.sl_tcflow.proofs.lemmas.Reception.Channel.{small_map}

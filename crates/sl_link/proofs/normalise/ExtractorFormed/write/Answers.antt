@@ -1,7 +1,7 @@
 use Rattle.std.proofs.Common.{◌≡◌, ◌∙◌, List, [], ℕ, ap, subst, take}
 use Rattle.std.proofs.lemmas.Result.{MatchResult-weaker, on_ok_weaker}
 use Rattle.std.specs.List.{slice_index_or}
-use Rattle.sl_tmflow.specs.FormLeft.{HasPackets}
+use Rattle.sl_tmflow.specs.Form.{HasPackets}
 use Rattle.sl_link.specs.Io.Streams.{StopsWriting, WritesText}
 use Rattle.sl_link.specs.Link.ManagedModel.{parameters_of}
 use Rattle.sl_link.proofs.lemmas.Io.Streams.{memory_weaker}

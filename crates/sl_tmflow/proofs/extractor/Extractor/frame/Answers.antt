@@ -1,7 +1,7 @@
 use Rattle.std.proofs.Common.{refl, sym, ◌∙◌, ap, arith}
 use Rattle.sl_packet.proofs.StoppingLemmas.{counts_stopped}
 use Rattle.std.specs.List.{slice_index_or}
-use Rattle.sl_tmflow.specs.Channel.{views_on}
+use Rattle.sl_tmflow.specs.VirtualChannel.{views_on}
 use Rattle.sl_tmflow.proofs.lemmas.Anomaly.{foreign_is, dropped_seen, gap_seen, incomplete_around}
 use Rattle.sl_tmflow.proofs.lemmas.Delivery.Channel.{handed_now, processed_more, seen_at}
 use Rattle.sl_tmflow.proofs.extractor.Extractor.frame.Goals as goal

@@ -1,6 +1,6 @@
 use Rattle.std.proofs.Common.{◌∙◌, ap, arith}
 use Rattle.std.specs.List.{slice_index_or}
-use Rattle.sl_tmflow.specs.Channel.{views_on}
+use Rattle.sl_tmflow.specs.VirtualChannel.{views_on}
 use Rattle.sl_tmflow.proofs.lemmas.Delivery.Channel.{seen_at}
 use Rattle.sl_tmflow.proofs.lemmas.Anomaly.{held_seen}
 use Rattle.sl_tmflow.proofs.extractor.Extractor.held.Goals as goal

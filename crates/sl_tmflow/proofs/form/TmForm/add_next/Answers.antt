@@ -6,8 +6,8 @@ use Rattle.std.specs.List.{slice_index_or}
 use Rattle.std.specs.Vec.{vec_items}
 use Rattle.sl_packet.specs.Delivered.{IsDeliverable, list_at}
 use Rattle.sl_tmframe.specs.PacketFrame.{field_room_of}
-use Rattle.sl_tmflow.specs.FormLeft.{FormState, HasMore, channel_packets, packets_left}
-use Rattle.sl_tmflow.specs.TmFormModel.{form_progress}
+use Rattle.sl_tmflow.specs.Form.{FormState, HasMore, channel_packets, packets_left}
+use Rattle.sl_tmflow.specs.FormModel.{form_progress}
 use Rattle.sl_tmflow.proofs.lemmas.Form.Canonical.{short_room, wide_room}
 use Rattle.sl_tmflow.proofs.lemmas.Form.Frames.{short_filling, small_piece}
 use Rattle.sl_tmflow.proofs.lemmas.Form.Left.{IsAtChannel, adds_filling, adds_packet, channel_is, fewer_after, fewer_filled, longest_packet, octets_left, passed_is}

@@ -5,8 +5,8 @@ use Rattle.std.specs.List.{slice_index_or}
 use Rattle.std.specs.Vec.{vec_items}
 use Rattle.sl_packet.specs.Delivered.{list_at}
 use Rattle.sl_tmframe.specs.PacketFrame.{field_room_of}
-use Rattle.sl_tmflow.specs.FormLeft.{channel_packets}
-use Rattle.sl_tmflow.specs.TmFormModel.{form_progress}
+use Rattle.sl_tmflow.specs.Form.{channel_packets}
+use Rattle.sl_tmflow.specs.FormModel.{form_progress}
 use Rattle.sl_tmflow.proofs.lemmas.Form.Left.{channel_is, left_next_channel, no_more_after, none_left_after}
 use Rattle.sl_tmflow.proofs.form.TmForm.go_on.Goals as goal
 

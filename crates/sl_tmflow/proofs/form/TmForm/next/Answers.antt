@@ -1,6 +1,6 @@
 use Rattle.std.proofs.Common.{◌++◌, ◌∙◌, [], arith, ap, subst, refl, sym, append-nil}
 use Rattle.std.proofs.lemmas.Result.{err_from_is_err_and}
-use Rattle.sl_tmflow.specs.FormLeft.{HasPackets, IsLeft, packets_left}
+use Rattle.sl_tmflow.specs.Form.{HasPackets, IsLeft, packets_left}
 use Rattle.sl_tmflow.proofs.lemmas.Form.Left.{some_packets}
 use Rattle.sl_tmflow.proofs.form.TmForm.next.Goals as goal
 

@@ -1,5 +1,5 @@
 use Rattle.std.proofs.Common.{subst}
-use Rattle.sl_tmflow.specs.Channel.{views_of}
+use Rattle.sl_tmflow.specs.VirtualChannel.{views_of}
 use Rattle.sl_link.specs.Link.Managed.{tm_format}
 use Rattle.sl_link.specs.Verbs.Check.Checking.{AddsAnomalies}
 use Rattle.sl_link.proofs.lemmas.Verbs.Check.FewTm.{open_is}

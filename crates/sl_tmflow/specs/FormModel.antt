@@ -4,7 +4,7 @@ use Rattle.std.specs.Prelude.{◌<◌, ◌≤◌, length}
 use Rattle.std.specs.Vec.{vec_capacity}
 use Rattle.sl_tmframe.specs.PacketFrame.{field_room_of}
 use Rattle.sl_tmflow.specs.Canonical.{IsFormat}
-use Rattle.sl_tmflow.specs.FormLeft.{FormProgress, FormState}
+use Rattle.sl_tmflow.specs.Form.{FormProgress, FormState}
 use Rattle.sl_tmflow.specs.declared.form.TmForm.TheInside.{Inside}
 
 -- the progress, by the fields of a `TmForm`

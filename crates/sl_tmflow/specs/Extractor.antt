@@ -3,8 +3,8 @@ use Rattle.std.specs.Prelude.{◌≡◌, ◌≢◌, ◌⊎◌, ℕ, ◌<◌, ◌
 use Rattle.std.specs.List.{AllByRecursion, slice_index_or}
 use Rattle.sl_packet.specs.Packets.{without_idle}
 use Rattle.sl_tmframe.specs.TmFrame.{TmView}
-use Rattle.sl_tmflow.specs.Channel.{views_on, last_count}
-use Rattle.sl_tmflow.specs.ChannelState.{ChannelState, KeptChannel, new_channel}
+use Rattle.sl_tmflow.specs.VirtualChannel.{views_on, last_count}
+use Rattle.sl_tmflow.specs.Channel.{ChannelState, KeptChannel, new_channel}
 use Rattle.sl_tmflow.specs.Delivery.{packets_ending}
 use Rattle.sl_tmflow.specs.Incomplete.{incomplete_of}
 use Rattle.sl_tmflow.specs.Recording.{packets_of_channel}

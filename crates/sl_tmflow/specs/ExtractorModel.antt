@@ -4,6 +4,7 @@ use Rattle.std.specs.Prelude.{◌≤◌, length}
 use Rattle.std.specs.Vec.{vec_capacity}
 use Rattle.sl_tmflow.specs.Channel.{KeptChannel}
 use Rattle.sl_tmflow.specs.Extractor.{ExtractorState}
+use Rattle.sl_tmflow.specs.Incomplete.{longest_incomplete}
 use Rattle.sl_tmflow.specs.declared.channel.Channel.TheInside as channel
 use Rattle.sl_tmflow.specs.declared.extractor.Extractor.TheInside as extractor
 
@@ -14,7 +15,7 @@ kept_channel c = record { state = record { count = c.count; held = c.held.items 
 -- no whole packet is held between frames: the octets are fewer than the 65,542 of the longest
 -- packet
 abbrev pub HoldsNoPacket : channel.Inside → Type 0
-HoldsNoPacket c = length c.held.items ≤ 65541
+HoldsNoPacket c = length c.held.items ≤ longest_incomplete
 
 -- what an `Extractor` stands for
 abbrev pub extractor_state : extractor.Inside → ExtractorState

@@ -94,9 +94,13 @@ OneStartIsIncomplete =
 abbrev pub OneIsIncomplete : Type 0
 OneIsIncomplete = (channel : List TmView) → length (incomplete_of channel) ≤ 1
 
+-- the octets of the longest incomplete packet: one less than the longest packet has
+abbrev pub longest_incomplete : ℕ
+longest_incomplete = 65541
+
 -- as many octets as an incomplete packet may have: 1 to 65,541
 abbrev pub IsShort : List ℕ → Type 0
-IsShort octets = (1 ≤ length octets) × (length octets ≤ 65541)
+IsShort octets = (1 ≤ length octets) × (length octets ≤ longest_incomplete)
 
 -- A listed packet has 1 to 65,541 octets so far.
 abbrev pub IncompleteIsShort : Type 0

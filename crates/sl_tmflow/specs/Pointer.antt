@@ -2,6 +2,7 @@
 -- private functions cite this file.
 use Rattle.std.specs.Prelude.{◌≡◌, ℕ, ◌+◌, ◌≤◌, List, ◌++◌, length, take, Option}
 use Rattle.sl_packet.specs.Front.{Incomplete, front}
+use Rattle.sl_packet.specs.Packet.{longest_packet}
 use Rattle.sl_tmframe.specs.TmFrame.{Packets}
 use Rattle.sl_tmflow.specs.declared.pointer.Progress.{Progress}
 use Rattle.sl_tmflow.specs.declared.pointer.Progress.TheVariants as code
@@ -22,4 +23,4 @@ pub record IsEnough (held field part : List ℕ) : Type 0 where
   -- the octets are the whole field where the packet stays incomplete
   pub all : front (held ++ part) ≡ Incomplete → part ≡ field
   -- with these octets the packet is no longer than the longest packet
-  pub fits : length held + length part ≤ 65542
+  pub fits : length held + length part ≤ longest_packet

@@ -4,12 +4,13 @@ ghost use Rattle.sl_packet.specs.Front.{front, is_foreign};
 ghost use Rattle.sl_packet.specs.Packets.{packets_of, rest_of};
 ghost use Rattle.sl_packet.specs.Stopping.{HandsOver};
 ghost use Rattle.sl_tmframe.specs.TmField.{data_field};
-ghost use Rattle.sl_tmframe.specs.TmFrame.{IsInField, Packets};
+ghost use Rattle.sl_tmframe.specs.TmFrame.{IsInField, Packets, longest_field};
 ghost use Rattle.sl_tmflow.specs.Anomaly.{gap_after};
 ghost use Rattle.sl_tmflow.specs.Channel.{foreign_in, held_after, incomplete_in, is_after};
 ghost use Rattle.sl_tmflow.specs.Channel.{kept_octets, kept_of, lost_by, lost_of, new_channel};
 ghost use Rattle.sl_tmflow.specs.Channel.{packets_after, channel_after, step_in};
 ghost use Rattle.sl_tmflow.specs.Delivery.{ended, field_step};
+ghost use Rattle.sl_tmflow.specs.Incomplete.{longest_incomplete};
 ghost use Rattle.sl_tmflow.specs.PacketStart.{whole_packets};
 ghost use Rattle.sl_tmflow.specs.StepReport.{counts_of};
 
@@ -102,7 +103,7 @@ impl Channel {
     /// The number of octets so far of the incomplete packet, and 0 where no packet is incomplete.
     pub fn held(&self) -> u32
         ensures value { result ≡ length self.now.state.held }
-        ensures most { result ≤ 65541 }
+        ensures most { result ≤ longest_incomplete }
     {
         self.held.len() as u32
     }
@@ -189,7 +190,7 @@ impl Channel {
         sink: &mut S,
     ) -> Result<TmStep, FlowFault>
         requires vc { vc ≤ 7 }
-        requires short { length field.now.octets.now ≤ 2042 }
+        requires short { length field.now.octets.now ≤ longest_field }
         // A packet that goes on is kept, with all octets of the field.
         ensures count { self.new.state.count ≡ self.old.state.count }
         ensures held { OnOk result (self.new.state.held ≡ kept_of
@@ -247,7 +248,7 @@ impl Channel {
         // version after these packets are reported.
         ensures hands_over { HandsOver S.taking S.failing S.failures counts_of
             sink.old vc (whole_packets (data_field field.now)) result sink.new }
-        ensures few { IfOk result (λ step. step.packets + step.idle ≤ 2042) }
+        ensures few { IfOk result (λ step. step.packets + step.idle ≤ longest_field) }
         ensures foreign { IfOk result (λ step. step.foreign ≡ foreign_in (data_field field.now)) }
     {
         match *field {
@@ -267,7 +268,7 @@ impl Channel {
         sink: &mut S,
     ) -> Result<TmStep, FlowFault>
         requires vc { vc ≤ 7 }
-        requires short { length octets.now ≤ 2042 }
+        requires short { length octets.now ≤ longest_field }
         // A packet that is incomplete at the end of the octets is kept, and memory is refused only
         // where there is such a packet.
         ensures count { self.new.state.count ≡ self.old.state.count }
@@ -280,7 +281,7 @@ impl Channel {
         // these packets are reported.
         ensures hands_over { HandsOver S.taking S.failing S.failures counts_of
             sink.old vc (packets_of octets.now) result sink.new }
-        ensures few { IfOk result (λ step. step.packets + step.idle ≤ 2042) }
+        ensures few { IfOk result (λ step. step.packets + step.idle ≤ longest_field) }
         ensures foreign { IfOk result (λ step. step.foreign ≡ is_foreign (rest_of octets.now)) }
     {
         let (step, remainder) = match hand(sink, vc, octets) {

@@ -5,6 +5,7 @@ ghost use Rattle.std.specs.List.{AllByRecursion, concat, slice_index_or};
 ghost use Rattle.std.specs.Vec.{vec_len, vec_capacity};
 ghost use Rattle.sl_packet.specs.Delivered.{HasNone, IsDeliverable, list_at};
 ghost use Rattle.sl_tmframe.specs.PacketFrame.{field_room_of};
+ghost use Rattle.sl_tmframe.specs.TmFrame.{longest_field};
 ghost use Rattle.sl_tmflow.specs.Canonical.{AreDeliverable, IsFormat};
 ghost use Rattle.sl_tmflow.specs.Form.{IsLeft, AddsPiece, IsAllMade, KeepsLeft, IsOfPackets};
 ghost use Rattle.sl_tmflow.specs.Form.{IsReserved, LacksRoom, HasMore, HasFewer, HasNoMore};
@@ -367,7 +368,7 @@ fn fill(
 // is the length of a data field.
 fn fill_up(octets: &mut Vec<u8>, room: usize) -> Result<(), AllocError>
     requires least { 24 ≤ room }
-    requires most { room ≤ 2042 }
+    requires most { room ≤ longest_field }
     // Where memory is refused, nothing is added, and there was no room for 2048 octets more. No
     // idle packet that is needed here is longer. No memory is given back.
     ensures octets { OnOk result (octets.new.items ≡ octets.old.items
@@ -387,7 +388,7 @@ fn fill_up(octets: &mut Vec<u8>, room: usize) -> Result<(), AllocError>
 // where none is needed.
 fn fill_len(room: usize, len: usize) -> usize
     requires least { 24 ≤ room }
-    requires most { room ≤ 2042 }
+    requires most { room ≤ longest_field }
     ensures value { result ≡ fill_of room len }
     ensures most { result ≤ 2048 }
 {

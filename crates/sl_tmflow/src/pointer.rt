@@ -2,8 +2,9 @@
 //! agrees with that packet.
 ghost use Rattle.std.specs.Prelude.{◌≡◌, ◌≤◌, ◌<◌, ◌+◌, ◌^◌, ◌++◌, ℕ, length, take, IfOk, OnErr};
 ghost use Rattle.sl_packet.specs.Front.{front};
-ghost use Rattle.sl_tmframe.specs.TmFrame.{Packets};
+ghost use Rattle.sl_tmframe.specs.TmFrame.{Packets, longest_field};
 ghost use Rattle.sl_tmflow.specs.Delivery.{agreeing_pointer, field_step, front_step};
+ghost use Rattle.sl_tmflow.specs.Incomplete.{longest_incomplete};
 ghost use Rattle.sl_tmflow.specs.Pointer.{IsEnough, progress_step};
 
 use crate::packet_octets::PacketOctets;
@@ -27,8 +28,8 @@ pub(crate) enum Progress {
 /// refused, no octets are added.
 #[inline(always)]
 pub(crate) fn add_field(held: &mut Vec<u8>, field: &PacketOctets) -> Result<Progress, AllocError>
-    requires held { length held.old.items ≤ 65541 }
-    requires short { length field.now.octets.now ≤ 2042 }
+    requires held { length held.old.items ≤ longest_incomplete }
+    requires short { length field.now.octets.now ≤ longest_field }
     // The answer is what the whole field does to the packet. A packet that ends is held whole.
     ensures step { IfOk result (λ progress. progress_step progress held.new.items
         ≡ field_step held.old.items (Packets field.now.first field.now.octets.now)) }
@@ -40,7 +41,7 @@ pub(crate) fn add_field(held: &mut Vec<u8>, field: &PacketOctets) -> Result<Prog
     ensures all { IfOk result (λ progress.
         progress ≡ Progress.Continues → held.new.items ≡ held.old.items ++ field.now.octets.now) }
     ensures most { IfOk result (λ progress.
-        progress ≡ Progress.Continues → length held.new.items ≤ 65541) }
+        progress ≡ Progress.Continues → length held.new.items ≤ longest_incomplete) }
     ensures before { IfOk result (λ _.
         take (length held.old.items) held.new.items ≡ held.old.items) }
     ensures unchanged { OnErr result (held.new.items ≡ held.old.items) }
@@ -55,8 +56,8 @@ pub(crate) fn add_field(held: &mut Vec<u8>, field: &PacketOctets) -> Result<Prog
 // The first octets of a data field, as many as the incomplete packet needs. These are all octets of
 // the field where the packet needs more, or where its length isn't known yet.
 fn wanted<'a>(held: &[u8], field: &'a [u8]) -> &'a [u8]
-    requires held { length held.now ≤ 65541 }
-    requires short { length field.now ≤ 2042 }
+    requires held { length held.now ≤ longest_incomplete }
+    requires short { length field.now ≤ longest_field }
     ensures { IsEnough held.now field.now result.now }
 {
     // For the proof alone, at no cost: the law that ties the `Need` of octets to their front.
@@ -76,7 +77,7 @@ fn progress_in(octets: &[u8], before: usize, field: &PacketOctets) -> Progress
     ensures step { progress_step result octets.now
         ≡ front_step field.now.first before field.now.octets.now octets.now (front octets.now) }
     ensures inside { (len : ℕ) → result ≡ Progress.Ends len → len ≤ length octets.now }
-    ensures short { result ≡ Progress.Continues → length octets.now ≤ 65541 }
+    ensures short { result ≡ Progress.Continues → length octets.now ≤ longest_incomplete }
 {
     let pointer = field.first;
     let field = field.octets;

@@ -15,7 +15,7 @@ use Rattle.sl_tmframe.specs.PacketFrame.{field_room_of}
 use Rattle.sl_tmframe.specs.TmFrame.{TmFormat}
 use Rattle.sl_tmflow.specs.Form.{FormProgress, IsPending, IsLeft, IsAllMade, AddsPiece, start_in, fields_in, beyond_fields, channel_packets, filled_packets, passed, HasMore, HasPackets, packets_left}
 use Rattle.sl_tmflow.specs.NormalForm.{with_filling, filling, fill_of, channel_frame, channel_frames, frames_from_channel}
-use Rattle.sl_packet.specs.Packet.{IsPacket}
+use Rattle.sl_packet.specs.Packet.{IsPacket, longest_packet}
 use Rattle.sl_tmflow.proofs.lemmas.Incomplete.List.{stated_packet_len-most}
 use Rattle.sl_tmflow.proofs.lemmas.Form.Fill.{no_filling, none_left, fill_is_least, filled_whole}
 use Rattle.sl_tmflow.proofs.lemmas.Form.Pieces.{fields_are, two_ranges, count_later, starts_here, starts_no_later, pending_next, found_here, no_frames, after_packet, filling_of, next_channel, piece_of}
@@ -289,8 +289,8 @@ pub record IsAtChannel (s : FormProgress) (packets : List (List ℕ)) (many : �
   pub short : field_room_of s.format ≤ 2042
 
 -- no packet has more than 65,542 octets
-pub longest_packet : (packet : List ℕ) → IsPacket packet → length packet ≤ 65542
-longest_packet packet is = let len = is.len in let most = stated_packet_len-most packet in omega (arith, len, most)
+pub packet_most : (packet : List ℕ) → IsPacket packet → length packet ≤ longest_packet
+packet_most packet is = let len = is.len in let most = stated_packet_len-most packet in omega (arith, len, most)
 
 -- ---- there is a last piece
 

@@ -10,7 +10,7 @@ use Rattle.sl_tmflow.specs.Form.{FormState, HasMore, channel_packets, packets_le
 use Rattle.sl_tmflow.specs.FormModel.{form_progress}
 use Rattle.sl_tmflow.proofs.lemmas.Form.Canonical.{short_room, wide_room}
 use Rattle.sl_tmflow.proofs.lemmas.Form.Frames.{short_filling, small_piece}
-use Rattle.sl_tmflow.proofs.lemmas.Form.Left.{IsAtChannel, adds_filling, adds_packet, channel_is, fewer_after, fewer_filled, longest_packet, octets_left, passed_is}
+use Rattle.sl_tmflow.proofs.lemmas.Form.Left.{IsAtChannel, adds_filling, adds_packet, channel_is, fewer_after, fewer_filled, octets_left, packet_most, passed_is}
 use Rattle.sl_tmflow.proofs.lemmas.Form.Pieces.{filling_of}
 use Rattle.sl_tmflow.proofs.form.TmForm.add_next.Goals.{After-as_slice-packet, After-list-packets}
 use Rattle.sl_tmflow.proofs.form.TmForm.add_next.Goals as goal
@@ -44,7 +44,7 @@ returns-in_err-frames-clause-full c =
     let at = at_channel (goal.at.returns-in_err-frames-clause-full c).After-list-packets in
     let packet = taken_packet (goal.at.returns-in_err-frames-clause-full c).After-as_slice-packet in
     let due = All-from_recursion IsDeliverable (list_at c.self.inside.delivered.now c.from.result) c.list-packets.ensures.deliverable i.taken [] (omega (arith, ap length at.are, at.long, c.if-taken-packets.true)) in
-    let fits = small_piece i.format i.octets c.as_slice-packet.result.now at.wide at.short c.self.invariant.few (longest_packet c.as_slice-packet.result.now (subst IsDeliverable packet due).0) in
+    let fits = small_piece i.format i.octets c.as_slice-packet.result.now at.wide at.short c.self.invariant.few (packet_most c.as_slice-packet.result.now (subst IsDeliverable packet due).0) in
     let out = err_from_is_err_and c.from_residual.result c.from_residual.ensures.1 in
     rw (out.1, ← c.self.view_is) (λ ready. let full = c.in_err-frames.ensures.full ready in omega (arith, full, fits))
 

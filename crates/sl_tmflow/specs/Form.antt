@@ -193,8 +193,8 @@ filled_up format octets = octets ++ concat (filling (field_room_of format) (leng
 
 -- the progress after `frames` frames more, with this number of taken packets; if there are frames,
 -- the next packet starts after the octets that are kept
-abbrev pub passed : FormProgress → ℕ → ℕ → FormProgress
-passed s frames taken =
+abbrev pub progress_after : FormProgress → ℕ → ℕ → FormProgress
+progress_after s frames taken =
     record {
       format = s.format;
       spacecraft = s.spacecraft;

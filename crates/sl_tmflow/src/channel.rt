@@ -59,7 +59,7 @@ impl Channel {
     /// Takes the next frame: hands the sink the packets that end in the frame, and answers the
     /// report on the frame. After a fault no clause says what the state is, and the extractor
     /// doesn't read it any more.
-    pub fn take<S: PacketSink>(
+    pub fn take_frame<S: PacketSink>(
         &mut self,
         frame: &TmFrame,
         sink: &mut S,
@@ -82,7 +82,7 @@ impl Channel {
     {
         let gap = self.gap_at(frame.vc_count());
         // The packet that was incomplete before the frame comes first, then those that start in it.
-        let ended = match self.go_on(frame, sink) {
+        let ended = match self.continue_packet(frame, sink) {
             Ok(step) => step,
             Err(flow) => return Err(flow),
         };
@@ -123,7 +123,11 @@ impl Channel {
 
     // Goes on with the incomplete packet, if there is one: the packet ends in the frame, goes on
     // past the frame or is broken off. The report is on this packet alone.
-    fn go_on<S: PacketSink>(&mut self, frame: &TmFrame, sink: &mut S) -> Result<TmStep, FlowFault>
+    fn continue_packet<S: PacketSink>(
+        &mut self,
+        frame: &TmFrame,
+        sink: &mut S,
+    ) -> Result<TmStep, FlowFault>
         // A packet that goes on is kept, with the frame's octets.
         ensures count { self.new.state.count ≡ self.old.state.count }
         ensures held { OnOk result (self.new.state.held

@@ -116,7 +116,7 @@ impl Extractor {
         }
         // The flag is set before the step, and stays set if the step ends with a fault.
         self.has_failed = true;
-        let step = match self.channels[usize::from(frame.vc())].take(frame, sink) {
+        let step = match self.channels[usize::from(frame.vc())].take_frame(frame, sink) {
             Ok(step) => step,
             Err(fault) => return Err(fault),
         };

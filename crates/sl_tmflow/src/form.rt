@@ -11,7 +11,7 @@ ghost use Rattle.sl_tmflow.specs.Form.{IsLeft, AddsPiece, IsAllMade, KeepsLeft, 
 ghost use Rattle.sl_tmflow.specs.Form.{IsReserved, LacksRoom, HasMore, HasFewer, HasNoMore};
 ghost use Rattle.sl_tmflow.specs.Form.{form_of, piece_room, octets_room, heading_after};
 ghost use Rattle.sl_tmflow.specs.Form.{frames_of, frames_len, fields_in, beyond_fields};
-ghost use Rattle.sl_tmflow.specs.Form.{filled_up, passed};
+ghost use Rattle.sl_tmflow.specs.Form.{filled_up, progress_after};
 ghost use Rattle.sl_tmflow.specs.NormalForm.{fill_of, filling};
 ghost use Rattle.sl_tmflow.specs.Recording.{tm_lists};
 
@@ -187,7 +187,7 @@ impl<'d> TmForm<'d> {
         ensures keeps { self.old.octets_room ≤ self.new.octets_room }
         ensures capacity { vec_capacity form.old ≤ vec_capacity form.new }
     {
-        if !self.go_on() {
+        if !self.find_channel() {
             return Ok(false);
         }
         self.reserve(form)?;
@@ -195,9 +195,9 @@ impl<'d> TmForm<'d> {
         Ok(true)
     }
 
-    // Goes past virtual channels whose packets are all in frames, and answers whether a virtual
-    // channel is left that has more: packets, or octets that are to be filled up.
-    fn go_on(&mut self) -> bool
+    // Finds the first virtual channel, from this one on, that has more: packets, or octets that are
+    // to be filled up. Answers whether there is one.
+    fn find_channel(&mut self) -> bool
         // Where no virtual channel is left, the whole form was made. The octets that were still to
         // come still are.
         ensures more { IsTrue result → HasMore self.new.progress }
@@ -243,19 +243,19 @@ impl<'d> TmForm<'d> {
         let octets = &mut self.octets;
         if taken < packets.len() {
             let packet = packets[taken].as_slice();
-            let frames = add(form, octets, &shape, heading, start, packet)?;
-            self.pass(frames, taken + 1);
+            let frames = add_packet(form, octets, &shape, heading, start, packet)?;
+            self.note_piece(frames, taken + 1);
             return Ok(());
         }
-        let frames = fill(form, octets, &shape, heading, start)?;
-        self.pass(frames, packets.len() + 1);
+        let frames = add_filling(form, octets, &shape, heading, start)?;
+        self.note_piece(frames, packets.len() + 1);
         Ok(())
     }
 
     // Notes that this number of frames was added, and that this number of packets of the virtual
     // channel is taken. Where frames were added, the next packet starts after the kept octets.
-    fn pass(&mut self, frames: usize, taken: usize)
-        ensures progress { self.new.progress ≡ passed self.old.progress frames taken }
+    fn note_piece(&mut self, frames: usize, taken: usize)
+        ensures progress { self.new.progress ≡ progress_after self.old.progress frames taken }
         ensures keeps { self.new.octets_room ≡ self.old.octets_room }
     {
         self.heading = self.heading.after(frames);
@@ -269,7 +269,7 @@ impl<'d> TmForm<'d> {
 // Adds the frames that the kept octets and then a packet fill. Keeps the octets beyond these
 // frames, and answers the number of frames. The first packet of the first frame starts at `start`,
 // and no packet starts in the other frames.
-fn add(
+fn add_packet(
     form: &mut Vec<u8>,
     octets: &mut Vec<u8>,
     shape: &TmShape,
@@ -325,7 +325,7 @@ fn add(
 // Fills the kept octets up by an idle packet, and adds the frames that they fill then. Keeps no
 // octets, and answers the number of frames. The first packet of the first frame starts at `start`,
 // and no packet starts in the other frames.
-fn fill(
+fn add_filling(
     form: &mut Vec<u8>,
     octets: &mut Vec<u8>,
     shape: &TmShape,

@@ -13,7 +13,7 @@ use Rattle.std.proofs.Math.Seq.{drop-append_seam, drop-cons}
 use Rattle.sl_packet.specs.IdlePacket.{idle_packet}
 use Rattle.sl_tmframe.specs.PacketFrame.{field_room_of}
 use Rattle.sl_tmframe.specs.TmFrame.{TmFormat}
-use Rattle.sl_tmflow.specs.Form.{FormProgress, IsPending, IsLeft, IsAllMade, AddsPiece, start_in, fields_in, beyond_fields, channel_packets, filled_packets, passed, HasMore, HasPackets, packets_left}
+use Rattle.sl_tmflow.specs.Form.{FormProgress, IsPending, IsLeft, IsAllMade, AddsPiece, start_in, fields_in, beyond_fields, channel_packets, filled_packets, progress_after, HasMore, HasPackets, packets_left}
 use Rattle.sl_tmflow.specs.NormalForm.{with_filling, filling, fill_of, channel_frame, channel_frames, frames_from_channel}
 use Rattle.sl_packet.specs.Packet.{IsPacket, longest_packet}
 use Rattle.sl_tmflow.proofs.lemmas.Incomplete.List.{stated_packet_len-most}
@@ -215,9 +215,9 @@ adds_filling s s' taken before after wide short few some beyond last next added 
 abbrev pub keeping : FormProgress → List ℕ → FormProgress
 keeping s octets = record s { octets = octets }
 
-pub passed_is : (s : FormProgress) (octets packet : List ℕ) (frames taken : ℕ) → octets ≡ beyond_fields s.format (s.octets ++ packet) → frames ≡ fields_in s.format (s.octets ++ packet)
-    → passed (keeping s octets) frames taken ≡ after_packet s packet taken
-passed_is s octets packet frames taken is many = rw (is, many) refl
+pub progress_after_is : (s : FormProgress) (octets packet : List ℕ) (frames taken : ℕ) → octets ≡ beyond_fields s.format (s.octets ++ packet) → frames ≡ fields_in s.format (s.octets ++ packet)
+    → progress_after (keeping s octets) frames taken ≡ after_packet s packet taken
+progress_after_is s octets packet frames taken is many = rw (is, many) refl
 
 -- ---- the next channel
 

@@ -15,7 +15,7 @@ returns-in-Err-clause-stopped g c =
 
 pub returns-clause-processed : goal.returns-clause-processed
 returns-clause-processed g c =
-    λ views p. processed_more c.args.self.now views c.args.frame.now c.self.inside.channels c.from.result c.index-self-from.result c.take.new.self p (ap (λ s. s.channels) c.self.view_is) (omega arith) (omega arith) (omega arith) c.in-Ok.ensures.state
+    λ views p. processed_more c.args.self.now views c.args.frame.now c.self.inside.channels c.from.result c.index-self-from.result c.take_frame.new.self p (ap (λ s. s.channels) c.self.view_is) (omega arith) (omega arith) (omega arith) c.in-Ok.ensures.state
 
 pub returns-clause-accepted : goal.returns-clause-accepted
 returns-clause-accepted g c =
@@ -50,4 +50,4 @@ returns-in-Err-clause-memory g c =
 
 pub returns-in-Err-clause-counted : goal.returns-in-Err-clause-counted
 returns-in-Err-clause-counted g c =
-    counts_stopped g.S.PacketSink.taking g.S.PacketSink.failing g.S.PacketSink.failures c.args.sink.now _ _ c.in-Err.fault c.take.new.sink c.in-Err.ensures.hands_over.stopped
+    counts_stopped g.S.PacketSink.taking g.S.PacketSink.failing g.S.PacketSink.failures c.args.sink.now _ _ c.in-Err.fault c.take_frame.new.sink c.in-Err.ensures.hands_over.stopped

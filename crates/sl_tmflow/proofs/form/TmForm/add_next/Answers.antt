@@ -10,7 +10,7 @@ use Rattle.sl_tmflow.specs.Form.{FormState, HasMore, channel_packets, packets_le
 use Rattle.sl_tmflow.specs.FormModel.{form_progress}
 use Rattle.sl_tmflow.proofs.lemmas.Form.Canonical.{short_room, wide_room}
 use Rattle.sl_tmflow.proofs.lemmas.Form.Frames.{short_filling, small_piece}
-use Rattle.sl_tmflow.proofs.lemmas.Form.Left.{IsAtChannel, adds_filling, adds_packet, channel_is, fewer_after, fewer_filled, octets_left, packet_most, passed_is}
+use Rattle.sl_tmflow.proofs.lemmas.Form.Left.{IsAtChannel, adds_filling, adds_packet, channel_is, fewer_after, fewer_filled, octets_left, packet_most, progress_after_is}
 use Rattle.sl_tmflow.proofs.lemmas.Form.Pieces.{filling_of}
 use Rattle.sl_tmflow.proofs.form.TmForm.add_next.Goals.{After-as_slice-packet, After-list-packets}
 use Rattle.sl_tmflow.proofs.form.TmForm.add_next.Goals as goal
@@ -53,15 +53,15 @@ returns-then-taken-packets-clause-piece c =
     let i = form_progress c.self.inside in
     let at = at_channel (goal.at.returns-then-taken-packets-clause-piece c).After-list-packets in
     let packet = sym (ap (λ ps. slice_index_or ps i.taken []) at.are) ∙ taken_packet (goal.at.returns-then-taken-packets-clause-piece c).After-as_slice-packet in
-    let next = c.pass.ensures.progress ∙ passed_is i c.add.new.octets.items c.as_slice-packet.result.now c.in_ok-frames.frames (i.taken + 1) c.in_ok-frames.ensures.beyond c.in_ok-frames.ensures.count in
+    let next = c.note_piece.ensures.progress ∙ progress_after_is i c.add_packet.new.octets.items c.as_slice-packet.result.now c.in_ok-frames.frames (i.taken + 1) c.in_ok-frames.ensures.beyond c.in_ok-frames.ensures.count in
     rw (← c.self.view_is)
-    (adds_packet i c.pass.new.self.progress c.as_slice-packet.result.now c.args.form.now.items c.add.new.form.items (omega (arith, at.wide)) c.self.invariant.few (omega (arith, at.long, c.if-taken-packets.true)) packet next c.in_ok-frames.ensures.frames)
+    (adds_packet i c.note_piece.new.self.progress c.as_slice-packet.result.now c.args.form.now.items c.add_packet.new.form.items (omega (arith, at.wide)) c.self.invariant.few (omega (arith, at.long, c.if-taken-packets.true)) packet next c.in_ok-frames.ensures.frames)
 
 pub returns-then-taken-packets-clause-fewer : goal.returns-then-taken-packets-clause-fewer
 returns-then-taken-packets-clause-fewer c =
     let i = form_progress c.self.inside in
     let at = at_channel (goal.at.returns-then-taken-packets-clause-fewer c).After-list-packets in
-    let next = c.pass.ensures.progress ∙ passed_is i c.add.new.octets.items c.as_slice-packet.result.now c.in_ok-frames.frames (i.taken + 1) c.in_ok-frames.ensures.beyond c.in_ok-frames.ensures.count in
+    let next = c.note_piece.ensures.progress ∙ progress_after_is i c.add_packet.new.octets.items c.as_slice-packet.result.now c.in_ok-frames.frames (i.taken + 1) c.in_ok-frames.ensures.beyond c.in_ok-frames.ensures.count in
     rw (← c.self.view_is)
     (λ left l. subst (λ p. packets_left p < packets_left i) (sym next) (fewer_after i c.as_slice-packet.result.now at.inside (omega (arith, at.long, c.if-taken-packets.true))))
 
@@ -79,9 +79,9 @@ returns-clause-piece c =
     let at = at_channel (goal.at.returns-clause-piece c).After-list-packets in
     let beyond : length (channel_packets i) ≤ i.taken = omega (arith, c.if-taken-packets.false, at.long) in
     let taken = length c.list-packets.result.now + 1 in
-    let next = c.pass-2.ensures.progress ∙ passed_is i c.fill.new.octets.items (filling_of i) c.in_ok-frames-2.frames taken c.in_ok-frames-2.ensures.beyond c.in_ok-frames-2.ensures.count in
+    let next = c.note_piece-2.ensures.progress ∙ progress_after_is i c.add_filling.new.octets.items (filling_of i) c.in_ok-frames-2.frames taken c.in_ok-frames-2.ensures.beyond c.in_ok-frames-2.ensures.count in
     rw (← c.self.view_is)
-    (adds_filling i c.pass-2.new.self.progress taken c.args.form.now.items c.fill.new.form.items (omega (arith, at.wide)) (omega (arith, at.short)) c.self.invariant.few (octets_left i at.more beyond) beyond (omega (arith, at.long)) next
+    (adds_filling i c.note_piece-2.new.self.progress taken c.args.form.now.items c.add_filling.new.form.items (omega (arith, at.wide)) (omega (arith, at.short)) c.self.invariant.few (octets_left i at.more beyond) beyond (omega (arith, at.long)) next
     c.in_ok-frames-2.ensures.frames)
 
 pub returns-clause-fewer : goal.returns-clause-fewer
@@ -90,7 +90,7 @@ returns-clause-fewer c =
     let at = at_channel (goal.at.returns-clause-fewer c).After-list-packets in
     let beyond : length (channel_packets i) ≤ i.taken = omega (arith, c.if-taken-packets.false, at.long) in
     let taken = length c.list-packets.result.now + 1 in
-    let next = c.pass-2.ensures.progress ∙ passed_is i c.fill.new.octets.items (filling_of i) c.in_ok-frames-2.frames taken c.in_ok-frames-2.ensures.beyond c.in_ok-frames-2.ensures.count in
+    let next = c.note_piece-2.ensures.progress ∙ progress_after_is i c.add_filling.new.octets.items (filling_of i) c.in_ok-frames-2.frames taken c.in_ok-frames-2.ensures.beyond c.in_ok-frames-2.ensures.count in
     rw (← c.self.view_is)
     (λ left l. subst (λ p. packets_left p < packets_left i) (sym next)
     (fewer_filled i left (filling_of i) taken (omega (arith, at.wide)) (omega (arith, at.short)) c.self.invariant.few (octets_left i at.more beyond) beyond at.inside (omega (arith, at.long)) l))

@@ -1,7 +1,7 @@
 use Rattle.std.proofs.Common.{◌≤◌, ◌∙◌, arith, sym}
 use Rattle.sl_tmframe.specs.PacketFrame.{field_room_of}
 use Rattle.sl_tmflow.proofs.lemmas.Form.Frames.{none_beyond_filling}
-use Rattle.sl_tmflow.proofs.form.fill.Goals as goal
+use Rattle.sl_tmflow.proofs.form.add_filling.Goals as goal
 
 pub returns-clause-beyond : goal.returns-clause-beyond
 returns-clause-beyond c =

@@ -4,8 +4,8 @@ use Rattle.std.proofs.lemmas.Result.{err_from_is_err_and}
 use Rattle.sl_tmframe.specs.PacketFrame.{field_room_of}
 use Rattle.sl_tmflow.specs.Form.{field_frames, frames_len, frames_of}
 use Rattle.sl_tmflow.proofs.lemmas.Form.Frames.{FillsUp, none_filled, few_beyond, fields_of_both, frames_len_of_first, frames_len_of_both, beyond_both, frames_of_both}
-use Rattle.sl_tmflow.proofs.form.add.Goals.{After-split_at, Then-packet-wanted}
-use Rattle.sl_tmflow.proofs.form.add.Goals as goal
+use Rattle.sl_tmflow.proofs.form.add_packet.Goals.{After-split_at, Then-packet-wanted}
+use Rattle.sl_tmflow.proofs.form.add_packet.Goals as goal
 
 -- the octets and the packet don't fill a data field
 few : (c : Then-packet-wanted) → length (c.args.octets.now.items ++ c.args.packet.now) < field_room_of c.args.shape.now

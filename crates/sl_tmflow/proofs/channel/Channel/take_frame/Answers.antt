@@ -2,7 +2,7 @@ use Rattle.std.proofs.Common.{◌+◌, ◌∙◌, ap, ap₂}
 use Rattle.sl_packet.proofs.StoppingLemmas.{hands_both, hands_first, hands_same, hands_second}
 use Rattle.sl_tmflow.specs.PacketStart.{whole_packets}
 use Rattle.sl_tmflow.specs.StepReport.{StepReport}
-use Rattle.sl_tmflow.proofs.channel.Channel.take.Goals as goal
+use Rattle.sl_tmflow.proofs.channel.Channel.take_frame.Goals as goal
 
 pub returns-in-Err-clause-hands_over : goal.returns-in-Err-clause-hands_over
 returns-in-Err-clause-hands_over g c = hands_first _ c.in-Err.ensures.hands_over

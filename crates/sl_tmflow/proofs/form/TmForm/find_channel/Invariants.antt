@@ -2,7 +2,7 @@ use Rattle.std.proofs.Common.{ℕ, List, ◌≡◌, ◌-◌, ◌≤◌}
 use Rattle.std.specs.Vec.{vec_capacity}
 use Rattle.sl_tmflow.specs.Form.{IsLeft, KeepsLeft, packets_left}
 use Rattle.sl_tmflow.specs.FormModel.{form_progress, IsTmForm}
-use Rattle.sl_tmflow.proofs.form.TmForm.go_on.Given as goal
+use Rattle.sl_tmflow.proofs.form.TmForm.find_channel.Given as goal
 
 abbrev pub invariant-loop-self : goal.invariant-loop-self
 invariant-loop-self l =

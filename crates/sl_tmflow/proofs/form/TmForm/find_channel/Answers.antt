@@ -8,7 +8,7 @@ use Rattle.sl_tmframe.specs.PacketFrame.{field_room_of}
 use Rattle.sl_tmflow.specs.Form.{channel_packets}
 use Rattle.sl_tmflow.specs.FormModel.{form_progress}
 use Rattle.sl_tmflow.proofs.lemmas.Form.Left.{channel_is, left_next_channel, no_more_after, none_left_after}
-use Rattle.sl_tmflow.proofs.form.TmForm.go_on.Goals as goal
+use Rattle.sl_tmflow.proofs.form.TmForm.find_channel.Goals as goal
 
 pub loop-self-preserved : goal.loop-self-preserved
 loop-self-preserved c =

@@ -82,6 +82,8 @@ impl Channel {
     {
         let gap = self.gap_at(frame.vc_count());
         // The packet that was incomplete before the frame comes first, then those that start in it.
+        // `match` and not `?`, here and below: `?` converts the fault, and each clause on faults
+        // would then have to be proved by hand.
         let ended = match self.continue_packet(frame, sink) {
             Ok(step) => step,
             Err(flow) => return Err(flow),

@@ -116,6 +116,8 @@ impl Extractor {
         }
         // The flag is set before the step, and stays set if the step ends with a fault.
         self.has_failed = true;
+        // `match` and not `?`: `?` converts the fault, and each clause on faults would then have to
+        // be proved by hand.
         let step = match self.channels[usize::from(frame.vc())].take_frame(frame, sink) {
             Ok(step) => step,
             Err(fault) => return Err(fault),

@@ -13,7 +13,8 @@ kept_lists d = lists_in d.lists
 
 -- what a store stands for
 abbrev pub packet_lists_of : Inside → PacketLists
-packet_lists_of d = record { lists = with_empty_lists (kept_lists d); failures = d.failures; capacity = vec_capacity d.lists }
+packet_lists_of d =
+    record { lists = with_empty_lists (kept_lists d); failures = d.failures; capacity = vec_capacity d.lists }
 
 -- what holds of each store: no list is beyond channel 4095, and each packet may be delivered
 pub record IsDelivered (d : Inside) : Type 0 where

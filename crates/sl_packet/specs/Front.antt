@@ -38,7 +38,9 @@ first_packet_of octets = packet_at (front octets) octets
 
 -- Octets with a whole front begin with a packet.
 abbrev pub WholeIsAPacket : Type 0
-WholeIsAPacket = (octets : List ℕ) (len : ℕ) → front octets ≡ WholePacket len → IsPacket (take len octets) × (len ≤ length octets)
+WholeIsAPacket =
+    (octets : List ℕ) (len : ℕ) → front octets ≡ WholePacket len
+    → IsPacket (take len octets) × (len ≤ length octets)
 
 -- Octets that begin with a packet have a whole front.
 abbrev pub APacketIsWhole : Type 0
@@ -46,7 +48,9 @@ APacketIsWhole = (packet more : List ℕ) → IsPacket packet → front (packet 
 
 -- Octets with a foreign front begin with no packet, whatever follows.
 abbrev pub ForeignIsNoPacket : Type 0
-ForeignIsNoPacket = (octets more packet rest : List ℕ) → front octets ≡ OtherVersion → octets ++ more ≡ packet ++ rest → IsPacket packet → ⊥
+ForeignIsNoPacket =
+    (octets more packet rest : List ℕ) → front octets ≡ OtherVersion → octets ++ more ≡ packet ++ rest
+    → IsPacket packet → ⊥
 
 -- Octets with an incomplete front become a packet with some further octets.
 abbrev pub IncompleteMayBecomeWhole : Type 0

@@ -48,4 +48,5 @@ OnePacketIsPrefix =
 abbrev pub HeaderFieldsStandFirst : Type 0
 HeaderFieldsStandFirst =
     (octets : List ℕ) → IsOctets octets → 6 ≤ length octets
-    → (version_of octets ≡ (packet_header (take 6 octets)).version) × (apid_of octets ≡ (packet_header (take 6 octets)).apid)
+    → (version_of octets ≡ (packet_header (take 6 octets)).version)
+    × (apid_of octets ≡ (packet_header (take 6 octets)).apid)

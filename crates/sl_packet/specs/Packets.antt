@@ -40,7 +40,8 @@ abbrev pub packets_from : ℕ → List ℕ → List (List ℕ)
 packets_from skip [] = []
 packets_from (suc skip) (octet ∷ octets) = packets_from skip octets
 packets_from zero (octet ∷ octets) =
-    whole_at (front (octet ∷ octets)) (octet ∷ octets) ++ packets_from (octets_passed (front (octet ∷ octets)) (octet ∷ octets)) octets
+    whole_at (front (octet ∷ octets)) (octet ∷ octets)
+    ++ packets_from (octets_passed (front (octet ∷ octets)) (octet ∷ octets)) octets
 
 -- the packets at the front of octets
 abbrev pub packets_of : List ℕ → List (List ℕ)

@@ -32,4 +32,5 @@ HeaderHasSixOctets = (octets : List ℕ) (k : ℕ) → need_of octets ≡ Header
 
 -- Where the need is `Octets n`, the octets and any `n` further ones are a packet.
 abbrev pub OctetsMakeAPacket : Type 0
-OctetsMakeAPacket = (octets more : List ℕ) (n : ℕ) → need_of octets ≡ Octets n → length more ≡ n → IsPacket (octets ++ more)
+OctetsMakeAPacket =
+    (octets more : List ℕ) (n : ℕ) → need_of octets ≡ Octets n → length more ≡ n → IsPacket (octets ++ more)

@@ -10,10 +10,12 @@ module _ {S : Type 0} (taking : S → ℕ → List ℕ → S → Type 0) where
   -- the sink accepted the packets on a channel, one after another
   abbrev pub TakesAll : S → ℕ → List (List ℕ) → S → Type 0
   TakesAll old channel [] new = new ≡ old
-  TakesAll old channel (packet ∷ packets) new = (mid : S) × taking old channel packet mid × TakesAll mid channel packets new
+  TakesAll old channel (packet ∷ packets) new =
+      (mid : S) × taking old channel packet mid × TakesAll mid channel packets new
 
   -- the sink accepted the first packets of the list and refused the next one with this fault
-  pub record StopsTaking (failing : S → ℕ → List ℕ → SinkFault → S → Type 0) (old : S) (channel : ℕ) (packets : List (List ℕ)) (fault : SinkFault) (new : S) : Type 0 where
+  pub record StopsTaking (failing : S → ℕ → List ℕ → SinkFault → S → Type 0) (old : S) (channel : ℕ)
+      (packets : List (List ℕ)) (fault : SinkFault) (new : S) : Type 0 where
     pub accepted : List (List ℕ)
     pub refused : List ℕ
     pub later : List (List ℕ)

@@ -30,14 +30,16 @@ module _ {S : Type 0} (taking : S → ℕ → List ℕ → S → Type 0) where
     -- `Failed` hands over nothing.
     abbrev pub IsStopped : S → ℕ → List (List ℕ) → FlowFault → S → Type 0
     IsStopped old channel packets Memory new = TakesSome old channel packets new × (failures new ≡ failures old)
-    IsStopped old channel packets (Sink fault) new = StopsTaking taking failing old channel packets fault new × (failures new ≡ one_more (failures old))
+    IsStopped old channel packets (Sink fault) new =
+        StopsTaking taking failing old channel packets fault new × (failures new ≡ one_more (failures old))
     IsStopped old channel packets Failed new = ⊥
 
     -- What a step hands over of the packets that end in the step (`ended`, with the idle ones). On
     -- Ok the step has handed over those that aren't idle, in order, and has counted both kinds
     -- (`counts`). At a fault `IsStopped` says how far the step came. Only contracts of private
     -- functions cite this record.
-    pub record HandsOver {X : Type 0} (counts : X → ℕ × ℕ) (old : S) (channel : ℕ) (ended : List (List ℕ)) (result : Result X FlowFault) (new : S) : Type 0 where
+    pub record HandsOver {X : Type 0} (counts : X → ℕ × ℕ) (old : S) (channel : ℕ) (ended : List (List ℕ))
+        (result : Result X FlowFault) (new : S) : Type 0 where
       pub accepted : OnOk result (TakesAll taking old channel (without_idle ended) new)
       pub kept : OnOk result (failures new ≡ failures old)
       pub packets : IfOk result (λ step. (counts step).0 ≡ length (without_idle ended))

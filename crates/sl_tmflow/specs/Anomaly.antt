@@ -44,7 +44,8 @@ pub record IsBrokenOff (channel : List TmView) (next : TmView) (octets : List �
   pub before : IsIncompleteAt channel frame start octets
   pub not_incomplete : (later : List ℕ) → IsIncompleteAt (channel ++ next ∷ []) frame start later → ⊥
   pub not_delivered :
-      (d : Delivery) → IsDelivery (channel ++ next ∷ []) d → d.frame ≡ frame → d.start ≡ start → d.ending ≡ length channel → ⊥
+      (d : Delivery) → IsDelivery (channel ++ next ∷ []) d → d.frame ≡ frame → d.start ≡ start
+      → d.ending ≡ length channel → ⊥
 
 -- the octets so far of the packet of a packet start, if the next frame breaks this packet off: by
 -- the outcome of the packet start without the next frame, and with it
@@ -59,7 +60,8 @@ broken_octets Undelivered after = []
 -- frames `later` come between these two
 abbrev pub frame_broken : TmView → List TmView → TmView → List (List ℕ)
 frame_broken view later next =
-    flat_map (λ start. broken_octets (outcome_of view (drop start (packet_data view)) later) (outcome_of view (drop start (packet_data view)) (later ++ next ∷ [])))
+    flat_map (λ start. broken_octets (outcome_of view (drop start (packet_data view)) later)
+    (outcome_of view (drop start (packet_data view)) (later ++ next ∷ [])))
     (starts_of view.field)
 
 -- the packets of a channel that the next frame breaks off, each by its octets so far, in order of
@@ -91,19 +93,26 @@ foreign_of field = list_any (λ start. is_foreign (drop start (data_of field))) 
 
 -- A gap before the next frame is reported, with the count that was expected.
 abbrev pub EachGapIsTold : Type 0
-EachGapIsTold = (channel : List TmView) (next : TmView) (expected : ℕ) → IsGap channel next expected → gap_of channel next ≡ Some expected
+EachGapIsTold =
+    (channel : List TmView) (next : TmView) (expected : ℕ) → IsGap channel next expected
+    → gap_of channel next ≡ Some expected
 
 -- A count is reported only at a gap.
 abbrev pub EachToldIsAGap : Type 0
-EachToldIsAGap = (channel : List TmView) (next : TmView) (expected : ℕ) → gap_of channel next ≡ Some expected → IsGap channel next expected
+EachToldIsAGap =
+    (channel : List TmView) (next : TmView) (expected : ℕ) → gap_of channel next ≡ Some expected
+    → IsGap channel next expected
 
 -- Each listed packet is broken off.
 abbrev pub EachListedIsBrokenOff : Type 0
-EachListedIsBrokenOff = (channel : List TmView) (next : TmView) → AllByRecursion (IsBrokenOff channel next) (broken_off channel next)
+EachListedIsBrokenOff =
+    (channel : List TmView) (next : TmView) → AllByRecursion (IsBrokenOff channel next) (broken_off channel next)
 
 -- Each packet that is broken off is listed.
 abbrev pub EachBrokenOffIsListed : Type 0
-EachBrokenOffIsListed = (channel : List TmView) (next : TmView) (octets : List ℕ) → IsBrokenOff channel next octets → IsAmong octets (broken_off channel next)
+EachBrokenOffIsListed =
+    (channel : List TmView) (next : TmView) (octets : List ℕ) → IsBrokenOff channel next octets
+    → IsAmong octets (broken_off channel next)
 
 -- At most one packet is broken off by a frame.
 abbrev pub OneIsBrokenOff : Type 0
@@ -116,12 +125,14 @@ BrokenOffIsShort = (channel : List TmView) (next : TmView) → AllByRecursion Is
 -- The octets that are reported as dropped are as many as the broken-off packet has.
 abbrev pub BrokenOffIsTold : Type 0
 BrokenOffIsTold =
-    (channel : List TmView) (next : TmView) (octets : List ℕ) → IsBrokenOff channel next octets → dropped_of channel next ≡ length octets
+    (channel : List TmView) (next : TmView) (octets : List ℕ) → IsBrokenOff channel next octets
+    → dropped_of channel next ≡ length octets
 
 -- Where octets are reported as dropped, there is a broken-off packet.
 abbrev pub WhatIsToldIsBrokenOff : Type 0
 WhatIsToldIsBrokenOff =
-    (channel : List TmView) (next : TmView) → 0 < dropped_of channel next → (octets : List ℕ) × IsBrokenOff channel next octets
+    (channel : List TmView) (next : TmView) → 0 < dropped_of channel next
+    → (octets : List ℕ) × IsBrokenOff channel next octets
 
 -- Octets of another version at a packet start of a data field are reported.
 abbrev pub EachForeignStartIsTold : Type 0

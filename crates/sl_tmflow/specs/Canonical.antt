@@ -25,22 +25,27 @@ IsNotSkipped format spacecraft frame = (view : TmView) × (tm_frame format space
 
 -- A recording delivers lists of packets that aren't idle, one for each virtual channel.
 abbrev pub RecordedListsAreDeliverable : Type 0
-RecordedListsAreDeliverable = (format : TmFormat) (spacecraft : ℕ) (recording : List ℕ) → AreDeliverable (tm_lists format spacecraft recording)
+RecordedListsAreDeliverable =
+    (format : TmFormat) (spacecraft : ℕ) (recording : List ℕ) → AreDeliverable (tm_lists format spacecraft recording)
 
 -- The normal form is delimited into the frames that it was made of, and no octet remains.
 abbrev pub NormalFormIsFrames : Type 0
 NormalFormIsFrames =
-    (format : TmFormat) (spacecraft : ℕ) (lists : List (List (List ℕ))) → IsFormat format → spacecraft ≤ 1023 → AreDeliverable lists
-    → IsTmDelimited format.len (normal_form format spacecraft lists) (frames_from_channel format spacecraft 0 0 lists) []
+    (format : TmFormat) (spacecraft : ℕ) (lists : List (List (List ℕ)))
+    → IsFormat format → spacecraft ≤ 1023 → AreDeliverable lists
+    → IsTmDelimited format.len (normal_form format spacecraft lists)
+    (frames_from_channel format spacecraft 0 0 lists) []
 
 -- No frame of the normal form is skipped.
 abbrev pub NoFrameIsSkipped : Type 0
 NoFrameIsSkipped =
-    (format : TmFormat) (spacecraft : ℕ) (lists : List (List (List ℕ))) → IsFormat format → spacecraft ≤ 1023 → AreDeliverable lists
+    (format : TmFormat) (spacecraft : ℕ) (lists : List (List (List ℕ)))
+    → IsFormat format → spacecraft ≤ 1023 → AreDeliverable lists
     → AllByRecursion (IsNotSkipped format spacecraft) (frames_from_channel format spacecraft 0 0 lists)
 
 -- Read as a recording, the normal form delivers exactly the packets that it was made from.
 abbrev pub NormalFormDelivers : Type 0
 NormalFormDelivers =
-    (format : TmFormat) (spacecraft : ℕ) (lists : List (List (List ℕ))) → IsFormat format → spacecraft ≤ 1023 → AreDeliverable lists
+    (format : TmFormat) (spacecraft : ℕ) (lists : List (List (List ℕ)))
+    → IsFormat format → spacecraft ≤ 1023 → AreDeliverable lists
     → tm_lists format spacecraft (normal_form format spacecraft lists) ≡ lists

@@ -28,7 +28,9 @@ pub record IsDeliveredBy (view : TmView) (octets : List ℕ) (run : List TmView)
   pub is_packet : IsPacket packet
   -- the packet ends in the last frame of the run, and not earlier
   pub ends : IsPrefix packet (reassembly octets run)
-  pub not_earlier : (earlier : List TmView) (last : TmView) → run ≡ earlier ++ last ∷ [] → IsPrefix packet (reassembly octets earlier) → ⊥
+  pub not_earlier :
+      (earlier : List TmView) (last : TmView) → run ≡ earlier ++ last ∷ []
+      → IsPrefix packet (reassembly octets earlier) → ⊥
   -- the virtual channel frame counts are consecutive
   pub consecutive : AreConsecutive view run
   -- no frame of the run is opaque
@@ -102,7 +104,8 @@ front_step first before field all (WholePacket len) =
 
 -- what the data field of the next frame does to an incomplete packet with these octets so far
 abbrev pub field_step : List ℕ → DataField → Continuation
-field_step octets (Packets first field) = front_step first (length octets) field (octets ++ field) (front (octets ++ field))
+field_step octets (Packets first field) =
+    front_step first (length octets) field (octets ++ field) (front (octets ++ field))
 field_step octets Idle = Continues
 field_step octets Opaque = Breaks
 
@@ -126,7 +129,8 @@ after_step Breaks passed later = Undelivered
 abbrev pub outcome_after : ℕ → TmView → List ℕ → List TmView → Outcome
 outcome_after passed view octets [] = StillIncomplete octets
 outcome_after passed view octets (next ∷ later) =
-    after_step (step_of view octets next) (passed + 1) (outcome_after (passed + 1) next (octets ++ packet_data next) later)
+    after_step (step_of view octets next) (passed + 1)
+    (outcome_after (passed + 1) next (octets ++ packet_data next) later)
 
 -- the outcome of a packet start with these octets and these later frames, by the front of the
 -- octets
@@ -157,7 +161,8 @@ delivery_of frame start Undelivered = []
 -- the deliveries of the packet starts of a frame
 abbrev pub frame_deliveries : ℕ → TmView → List TmView → List Delivery
 frame_deliveries frame view later =
-    flat_map (λ start. delivery_of frame start (outcome_of view (drop start (packet_data view)) later)) (starts_of view.field)
+    flat_map (λ start. delivery_of frame start (outcome_of view (drop start (packet_data view)) later))
+    (starts_of view.field)
 
 -- the deliveries of a channel whose first frame has the number `frame`
 abbrev pub deliveries_from : ℕ → List TmView → List Delivery
@@ -212,17 +217,20 @@ DeliveriesAreInOrder = (channel : List TmView) → AreInOrder (deliveries_of cha
 abbrev pub PacketsEndOnce : Type 0
 PacketsEndOnce =
     (channel : List TmView) (next : TmView)
-    → packets_delivered (deliveries_of (channel ++ next ∷ [])) ≡ packets_delivered (deliveries_of channel) ++ packets_ending channel next
+    → packets_delivered (deliveries_of (channel ++ next ∷ []))
+    ≡ packets_delivered (deliveries_of channel) ++ packets_ending channel next
 
 -- Packets in the order of their starts are in the order of their ends.
 abbrev pub EndsAreInOrder : Type 0
 EndsAreInOrder =
-    (channel : List TmView) (d e : Delivery) → IsDelivery channel d → IsDelivery channel e → StartsBefore d e → d.ending ≤ e.ending
+    (channel : List TmView) (d e : Delivery) → IsDelivery channel d → IsDelivery channel e → StartsBefore d e
+    → d.ending ≤ e.ending
 
 -- A packet has ended by the frame in which the next one starts.
 abbrev pub EachEndsByTheNextStart : Type 0
 EachEndsByTheNextStart =
-    (channel : List TmView) (d e : Delivery) → IsDelivery channel d → IsDelivery channel e → StartsBefore d e → d.ending ≤ e.frame
+    (channel : List TmView) (d e : Delivery) → IsDelivery channel d → IsDelivery channel e → StartsBefore d e
+    → d.ending ≤ e.frame
 
 -- the offset at which a delivery's packet starts, in the octets of packets of all the channel's
 -- frames, end to end

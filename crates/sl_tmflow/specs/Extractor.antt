@@ -53,7 +53,9 @@ ended_by views next = packets_ending (views_on next.vc views) next
 
 -- a packet is incomplete on the next frame's virtual channel, before that frame or after it
 abbrev pub IsIncompleteAround : List TmView → TmView → Type 0
-IsIncompleteAround views next = (incomplete_of (views_on next.vc views) ≢ []) ⊎ (incomplete_of (views_on next.vc (views ++ next ∷ [])) ≢ [])
+IsIncompleteAround views next =
+    (incomplete_of (views_on next.vc views) ≢ [])
+    ⊎ (incomplete_of (views_on next.vc (views ++ next ∷ [])) ≢ [])
 
 -- the packets that an extractor hands over for a virtual channel: it has processed the first list
 -- of frames and is given the frames of the second list one after another, and each call answers Ok
@@ -65,4 +67,5 @@ handed_over vc views (next ∷ later) =
 -- The packets that are handed over from the first frame on are those of the virtual channel, idle
 -- packets left out.
 abbrev pub DeliveredAreHandedOver : Type 0
-DeliveredAreHandedOver = (vc : ℕ) (views : List TmView) → handed_over vc [] views ≡ without_idle (packets_of_channel views vc)
+DeliveredAreHandedOver =
+    (vc : ℕ) (views : List TmView) → handed_over vc [] views ≡ without_idle (packets_of_channel views vc)

@@ -60,16 +60,21 @@ start_in room number offset packets = find (lies_in room number) (packet_offsets
 
 -- Of a channel with these packets, `count` data fields were made. The packets `later` are still to
 -- be taken, and `octets` are the octets of the taken packets that don't fill a data field yet.
-pub record IsPending (room : ℕ) (packets : List (List ℕ)) (count start : ℕ) (octets : List ℕ) (later : List (List ℕ)) : Type 0 where
+pub record IsPending (room : ℕ) (packets : List (List ℕ)) (count start : ℕ) (octets : List ℕ)
+    (later : List (List ℕ)) : Type 0 where
   pub made : List ℕ
   pub parts : concat packets ≡ made ++ (octets ++ concat later)
   pub size : length made ≡ count * room
   pub within : start ≤ length octets
   -- in each data field after the next one, the first packet start is one of the packets `later`, if
   -- a packet starts there
-  pub after : (number : ℕ) → count < number → start_in room number 0 packets ≡ start_in room number (count * room + length octets) later
+  pub after :
+      (number : ℕ) → count < number
+      → start_in room number 0 packets ≡ start_in room number (count * room + length octets) later
   -- if there is a packet to be taken, `start` is the first packet start of the next data field
-  pub first : (packet : List ℕ) (more : List (List ℕ)) → later ≡ packet ∷ more → start_in room count 0 packets ≡ Some (count * room + start)
+  pub first :
+      (packet : List ℕ) (more : List (List ℕ)) → later ≡ packet ∷ more
+      → start_in room count 0 packets ≡ Some (count * room + start)
 
 -- The octets `left` of the normal form are still to come: the frames of this virtual channel that
 -- weren't made yet, and the frames of all later virtual channels.
@@ -83,9 +88,13 @@ pub record IsLeft (s : FormProgress) (left : List ℕ) : Type 0 where
   pub all : count + many ≡ length (concat (filled_packets s)) / field_room_of s.format
   pub master_is : s.master ≡ (before + count) % 256
   pub counter_is : s.counter ≡ count % 256
-  pub pending : IsPending (field_room_of s.format) (filled_packets s) count s.start s.octets (drop s.taken (filled_packets s))
-  pub left_is : left ≡ concat (map (channel_frame s.format s.spacecraft s.vc before (filled_packets s)) (range_with_len count many))
-      ++ concat (frames_from_channel s.format s.spacecraft (s.vc + 1) (before + (count + many)) (drop (s.vc + 1) (take 8 s.lists)))
+  pub pending :
+      IsPending (field_room_of s.format) (filled_packets s) count s.start s.octets (drop s.taken (filled_packets s))
+  pub left_is :
+      left
+      ≡ concat (map (channel_frame s.format s.spacecraft s.vc before (filled_packets s)) (range_with_len count many))
+      ++ concat (frames_from_channel s.format s.spacecraft (s.vc + 1) (before + (count + many))
+      (drop (s.vc + 1) (take 8 s.lists)))
 
 -- ---- a piece
 
@@ -152,7 +161,13 @@ HasNoMore old new = (octets : List ℕ) → IsLeft old octets → packets_left n
 
 -- the heading `frames` frames later
 abbrev pub heading_after : Heading → ℕ → Heading
-heading_after h frames = record { spacecraft = h.spacecraft; vc = h.vc; master = (h.master + frames) % 256; counter = (h.counter + frames) % 256 }
+heading_after h frames =
+    record {
+      spacecraft = h.spacecraft;
+      vc = h.vc;
+      master = (h.master + frames) % 256;
+      counter = (h.counter + frames) % 256;
+    }
 
 -- the frame of packets with this heading, this first packet start and this data field
 abbrev pub headed_frame : TmFormat → Heading → Option ℕ → List ℕ → List ℕ

@@ -27,19 +27,22 @@ pub record CarriesPackets (view : TmView) : Type 0 where
 -- Each frame is a frame of packets, and has no operational control field.
 abbrev pub EachCarriesPackets : Type 0
 EachCarriesPackets =
-    (format : TmFormat) (spacecraft : ℕ) (lists : List (List (List ℕ))) → IsFormat format → spacecraft ≤ 1023 → AreDeliverable lists
+    (format : TmFormat) (spacecraft : ℕ) (lists : List (List (List ℕ)))
+    → IsFormat format → spacecraft ≤ 1023 → AreDeliverable lists
     → AllByRecursion CarriesPackets (form_views format spacecraft lists)
 
 -- From frame to frame the virtual channel identifier never falls.
 abbrev pub ChannelsNeverFall : Type 0
 ChannelsNeverFall =
-    (format : TmFormat) (spacecraft : ℕ) (lists : List (List (List ℕ))) → IsFormat format → spacecraft ≤ 1023 → AreDeliverable lists
+    (format : TmFormat) (spacecraft : ℕ) (lists : List (List (List ℕ)))
+    → IsFormat format → spacecraft ≤ 1023 → AreDeliverable lists
     → NeverFall 0 (map (λ (view : TmView). view.vc) (form_views format spacecraft lists))
 
 -- The master channel frame count of each frame is the number of frames before it, modulo 256.
 abbrev pub McCounts : Type 0
 McCounts =
-    (format : TmFormat) (spacecraft : ℕ) (lists : List (List (List ℕ))) → IsFormat format → spacecraft ≤ 1023 → AreDeliverable lists
+    (format : TmFormat) (spacecraft : ℕ) (lists : List (List (List ℕ)))
+    → IsFormat format → spacecraft ≤ 1023 → AreDeliverable lists
     → (before later : List TmView) (view : TmView) → form_views format spacecraft lists ≡ before ++ view ∷ later
     → view.mc_count ≡ length before % 256
 
@@ -47,15 +50,18 @@ McCounts =
 -- modulo 256.
 abbrev pub VcCounts : Type 0
 VcCounts =
-    (format : TmFormat) (spacecraft : ℕ) (lists : List (List (List ℕ))) → IsFormat format → spacecraft ≤ 1023 → AreDeliverable lists
-    → (vc : ℕ) (before later : List TmView) (view : TmView) → views_on vc (form_views format spacecraft lists) ≡ before ++ view ∷ later
+    (format : TmFormat) (spacecraft : ℕ) (lists : List (List (List ℕ)))
+    → IsFormat format → spacecraft ≤ 1023 → AreDeliverable lists
+    → (vc : ℕ) (before later : List TmView) (view : TmView)
+    → views_on vc (form_views format spacecraft lists) ≡ before ++ view ∷ later
     → view.vc_count ≡ length before % 256
 
 -- The data fields of a virtual channel, end to end, are the channel's packets, end to end, filled
 -- up by an idle packet where one is needed.
 abbrev pub PacketsLieEndToEnd : Type 0
 PacketsLieEndToEnd =
-    (format : TmFormat) (spacecraft : ℕ) (lists : List (List (List ℕ))) → IsFormat format → spacecraft ≤ 1023 → AreDeliverable lists
+    (format : TmFormat) (spacecraft : ℕ) (lists : List (List (List ℕ)))
+    → IsFormat format → spacecraft ≤ 1023 → AreDeliverable lists
     → (vc : ℕ) → vc < 8
     → concat (map packet_data (views_on vc (form_views format spacecraft lists)))
     ≡ concat (with_filling (field_room_of format) (slice_index_or lists vc []))

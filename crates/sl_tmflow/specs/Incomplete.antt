@@ -79,7 +79,8 @@ EachListedIsIncomplete = (channel : List TmView) → AllByRecursion (IsIncomplet
 
 -- Each incomplete packet is listed.
 abbrev pub EachIncompleteIsListed : Type 0
-EachIncompleteIsListed = (channel : List TmView) (octets : List ℕ) → IsIncomplete channel octets → IsAmong octets (incomplete_of channel)
+EachIncompleteIsListed =
+    (channel : List TmView) (octets : List ℕ) → IsIncomplete channel octets → IsAmong octets (incomplete_of channel)
 
 -- At most one packet start of a channel has a packet that is incomplete after the channel's last
 -- frame. Any two packet starts with incomplete packets are the same one: in the same frame, at the
@@ -109,9 +110,11 @@ IncompleteIsShort = (channel : List TmView) → AllByRecursion IsShort (incomple
 -- The octets in the list are as many as the incomplete packet has so far.
 abbrev pub IncompleteIsCounted : Type 0
 IncompleteIsCounted =
-    (channel : List TmView) (octets : List ℕ) → IsIncomplete channel octets → length (concat (incomplete_of channel)) ≡ length octets
+    (channel : List TmView) (octets : List ℕ) → IsIncomplete channel octets
+    → length (concat (incomplete_of channel)) ≡ length octets
 
 -- Where the list has octets, there is an incomplete packet.
 abbrev pub WhatIsCountedIsIncomplete : Type 0
 WhatIsCountedIsIncomplete =
-    (channel : List TmView) → 0 < length (concat (incomplete_of channel)) → (octets : List ℕ) × IsIncomplete channel octets
+    (channel : List TmView) → 0 < length (concat (incomplete_of channel))
+    → (octets : List ℕ) × IsIncomplete channel octets

@@ -72,7 +72,8 @@ RunIsKept numbers whole = (number : ℕ) → whole.frame ≤ number → number �
 -- the test whether each frame of a delivery of the whole channel was kept
 abbrev pub keeps_run : List ℕ → Delivery → Bool
 keeps_run numbers whole =
-    list_all (λ number. list_any (λ kept. kept == number) numbers) (range_with_len whole.frame (whole.ending + 1 - whole.frame))
+    list_all (λ number. list_any (λ kept. kept == number) numbers)
+    (range_with_len whole.frame (whole.ending + 1 - whole.frame))
 
 -- the packets of the whole channel whose frames were all kept, in their order
 abbrev pub kept_packets : List ℕ → List TmView → List (List ℕ)
@@ -96,13 +97,15 @@ EachIsLeft =
 -- A delivery from the kept frames has all its frames kept in the whole channel.
 abbrev pub RunsAreKept : Type 0
 RunsAreKept =
-    (numbers : List ℕ) (d whole : Delivery) → FewAreLost numbers → IsSameDelivery numbers d whole → RunIsKept numbers whole
+    (numbers : List ℕ) (d whole : Delivery) → FewAreLost numbers → IsSameDelivery numbers d whole
+    → RunIsKept numbers whole
 
 -- Each delivery of the whole channel whose frames were all kept is one from the kept frames.
 abbrev pub KeptRunsAreLeft : Type 0
 KeptRunsAreLeft =
     (channel : List TmView) (numbers : List ℕ) (kept : List TmView) (whole : Delivery) → AreKept channel numbers kept
-    → IsDelivery channel whole → RunIsKept numbers whole → (d : Delivery) × IsDelivery kept d × IsSameDelivery numbers d whole
+    → IsDelivery channel whole → RunIsKept numbers whole
+    → (d : Delivery) × IsDelivery kept d × IsSameDelivery numbers d whole
 
 -- `keeps_run` decides whether all frames of a delivery were kept.
 abbrev pub TestTellsRun : Type 0
@@ -125,14 +128,16 @@ PacketsAreSublist =
 -- idle packets left out, where each call answers Ok.
 abbrev pub HandedOverAreKept : Type 0
 HandedOverAreKept =
-    (vc : ℕ) (channel : List TmView) (numbers : List ℕ) (views : List TmView) → AreKept channel numbers (views_on vc views)
+    (vc : ℕ) (channel : List TmView) (numbers : List ℕ) (views : List TmView)
+    → AreKept channel numbers (views_on vc views)
     → handed_over vc [] views ≡ without_idle (kept_packets numbers channel)
 
 -- The packets that an extractor hands over from the kept frames are a sublist of those of the whole
 -- channel.
 abbrev pub HandedOverAreSublist : Type 0
 HandedOverAreSublist =
-    (vc : ℕ) (channel : List TmView) (numbers : List ℕ) (views : List TmView) → AreKept channel numbers (views_on vc views)
+    (vc : ℕ) (channel : List TmView) (numbers : List ℕ) (views : List TmView)
+    → AreKept channel numbers (views_on vc views)
     → IsSublist (handed_over vc [] views) (without_idle (packets_delivered (deliveries_of channel)))
 
 -- ---- recordings
@@ -149,18 +154,23 @@ recorded_packets format spacecraft vc recording = slice_index_or (tm_lists forma
 -- these numbers on that channel. Nothing is said of the other virtual channels.
 pub record IsRecordingOfKept (format : TmFormat) (spacecraft vc : ℕ) (numbers whole recording : List ℕ) : Type 0 where
   pub channel : vc < 8
-  pub kept : AreKept (recorded_channel format spacecraft vc whole) numbers (recorded_channel format spacecraft vc recording)
+  pub kept :
+      AreKept (recorded_channel format spacecraft vc whole) numbers
+      (recorded_channel format spacecraft vc recording)
 
 -- A recording of the kept frames delivers on the virtual channel the packets whose frames were all
 -- kept, idle packets left out.
 abbrev pub RecordedAreKept : Type 0
 RecordedAreKept =
-    (format : TmFormat) (spacecraft vc : ℕ) (numbers whole recording : List ℕ) → IsRecordingOfKept format spacecraft vc numbers whole recording
-    → recorded_packets format spacecraft vc recording ≡ without_idle (kept_packets numbers (recorded_channel format spacecraft vc whole))
+    (format : TmFormat) (spacecraft vc : ℕ) (numbers whole recording : List ℕ)
+    → IsRecordingOfKept format spacecraft vc numbers whole recording
+    → recorded_packets format spacecraft vc recording
+    ≡ without_idle (kept_packets numbers (recorded_channel format spacecraft vc whole))
 
 -- A recording of the kept frames delivers on the virtual channel a sublist of what the whole
 -- recording delivers there.
 abbrev pub RecordedAreSublist : Type 0
 RecordedAreSublist =
-    (format : TmFormat) (spacecraft vc : ℕ) (numbers whole recording : List ℕ) → IsRecordingOfKept format spacecraft vc numbers whole recording
+    (format : TmFormat) (spacecraft vc : ℕ) (numbers whole recording : List ℕ)
+    → IsRecordingOfKept format spacecraft vc numbers whole recording
     → IsSublist (recorded_packets format spacecraft vc recording) (recorded_packets format spacecraft vc whole)

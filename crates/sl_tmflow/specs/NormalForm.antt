@@ -54,7 +54,8 @@ channel_frame format spacecraft vc mc packets number =
 -- the frames of a virtual channel with these packets, which fill whole data fields
 abbrev pub frames_of_packets : TmFormat → ℕ → ℕ → ℕ → List (List ℕ) → List (List ℕ)
 frames_of_packets format spacecraft vc mc packets =
-    map (channel_frame format spacecraft vc mc packets) (range_with_len 0 (length (concat packets) / field_room_of format))
+    map (channel_frame format spacecraft vc mc packets)
+    (range_with_len 0 (length (concat packets) / field_room_of format))
 
 -- the frames of a virtual channel with these packets, and with an idle packet where one is needed
 abbrev pub channel_frames : TmFormat → ℕ → ℕ → ℕ → List (List ℕ) → List (List ℕ)

@@ -29,7 +29,8 @@ packet_offsets offset (packet ∷ packets) rest = offset ∷ packet_offsets (off
 -- the packet starts of a data field with this first header pointer, in order
 abbrev pub starts_from : Option ℕ → List ℕ → List ℕ
 starts_from None field = []
-starts_from (Some pointer) field = packet_offsets pointer (packets_of (drop pointer field)) (rest_of (drop pointer field))
+starts_from (Some pointer) field =
+    packet_offsets pointer (packets_of (drop pointer field)) (rest_of (drop pointer field))
 
 -- the packet starts of a frame's data field
 abbrev pub starts_of : DataField → List ℕ
@@ -56,4 +57,6 @@ EachIsStart = (first : Option ℕ) (field : List ℕ) → AllByRecursion (IsStar
 
 -- Each packet start is listed.
 abbrev pub EachStartIsListed : Type 0
-EachStartIsListed = (field : List ℕ) (first : Option ℕ) (start : ℕ) → IsStart field first start → IsAmong start (starts_from first field)
+EachStartIsListed =
+    (field : List ℕ) (first : Option ℕ) (start : ℕ) → IsStart field first start
+    → IsAmong start (starts_from first field)

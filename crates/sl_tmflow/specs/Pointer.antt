@@ -19,7 +19,10 @@ progress_step code.Breaks octets = Breaks
 -- far are `held`.
 pub record IsEnough (held field part : List ℕ) : Type 0 where
   -- whatever the pointer, these octets do to the packet what the whole field does
-  pub step : (first : Option ℕ) → front_step first (length held) field (held ++ part) (front (held ++ part)) ≡ field_step held (Packets first field)
+  pub step :
+      (first : Option ℕ)
+      → front_step first (length held) field (held ++ part) (front (held ++ part))
+      ≡ field_step held (Packets first field)
   -- the octets are the whole field where the packet stays incomplete
   pub all : front (held ++ part) ≡ Incomplete → part ≡ field
   -- with these octets the packet is no longer than the longest packet

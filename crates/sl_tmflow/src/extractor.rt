@@ -55,9 +55,10 @@ impl Extractor {
     /// report on the frame. The packets are handed over in the order of their starts, without idle
     /// packets. Their channel is the frame's virtual channel, 0 to 7.
     ///
-    /// - `Memory`: this call was refused memory. Memory is refused only where a packet is incomplete
-    ///   on the frame's virtual channel, before the frame or after it. The sink has accepted the
-    ///   packets up to a point in their order, perhaps none, perhaps all of them, and refused none.
+    /// - `Memory`: this call was refused memory. Memory is refused only where a packet is
+    ///   incomplete on the frame's virtual channel, before the frame or after it. The sink has
+    ///   accepted the packets up to a point in their order, perhaps none, perhaps all of them, and
+    ///   refused none.
     /// - `Sink`: the sink refused a packet. It has accepted the packets before this one, and none
     ///   after it. Its count of refused packets has risen by one, unless it was 2^64 - 1.
     /// - `Failed`: an earlier call answered `Memory` or `Sink`. After that every call answers
@@ -106,8 +107,8 @@ impl Extractor {
             (without_idle (ended_by views frame.now)) flow sink.new)) }
         ensures counted { IfErr result (λ flow. CountsFault S.failures sink.old flow sink.new) }
 
-        // Memory is refused only where a packet is incomplete on the frame's virtual channel, before
-        // the frame or after it.
+        // Memory is refused only where a packet is incomplete on the frame's virtual channel,
+        // before the frame or after it.
         ensures memory { IfErr result (λ flow. flow ≡ FlowFault.Memory →
             ForProcessed self.old (λ views. IsIncompleteAround views frame.now)) }
     {

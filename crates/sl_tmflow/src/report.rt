@@ -52,9 +52,10 @@ impl TmStep {
         self.idle
     }
 
-    /// The virtual channel frame count that was expected, 0 to 255, where the frame has another one.
-    /// The expected count is that of the last frame on the same virtual channel plus 1, modulo 256.
-    /// `None` where the frame has the expected count, and for the first frame of a virtual channel.
+    /// The virtual channel frame count that was expected, 0 to 255, where the frame has another
+    /// one. The expected count is that of the last frame on the same virtual channel plus 1, modulo
+    /// 256. `None` where the frame has the expected count, and for the first frame of a virtual
+    /// channel.
     ///
     /// A gap doesn't say how many frames are missing: none is where a frame comes twice. Where 256
     /// frames in a row are missing, or a multiple of 256, the count is the expected one.

@@ -59,11 +59,14 @@ packet_view vc mc vcc first field =
 -- A frame of packets has the length of its format.
 abbrev pub PacketFramesAreWhole : Type 0
 PacketFramesAreWhole =
-    (format : TmFormat) (spacecraft vc mc vcc : ℕ) (first : Option ℕ) (field : List ℕ) → FitFrame format spacecraft vc mc vcc first field
+    (format : TmFormat) (spacecraft vc mc vcc : ℕ) (first : Option ℕ) (field : List ℕ)
+    → FitFrame format spacecraft vc mc vcc first field
     → length (packet_frame format spacecraft vc mc vcc first field) ≡ format.len
 
 -- A frame of packets is read back as it was made.
 abbrev pub PacketFramesAreReadBack : Type 0
 PacketFramesAreReadBack =
-    (format : TmFormat) (spacecraft vc mc vcc : ℕ) (first : Option ℕ) (field : List ℕ) → FitFrame format spacecraft vc mc vcc first field
-    → tm_frame format spacecraft (packet_frame format spacecraft vc mc vcc first field) ≡ Ok (packet_view vc mc vcc first field)
+    (format : TmFormat) (spacecraft vc mc vcc : ℕ) (first : Option ℕ) (field : List ℕ)
+    → FitFrame format spacecraft vc mc vcc first field
+    → tm_frame format spacecraft (packet_frame format spacecraft vc mc vcc first field)
+    ≡ Ok (packet_view vc mc vcc first field)

@@ -33,10 +33,13 @@ tm_remainder_of len recording = drop (length recording / len * len) recording
 
 -- Every recording is delimited into the frames and the remainder that these functions compute.
 abbrev pub EachIsTmDelimited : Type 0
-EachIsTmDelimited = (len : ℕ) (recording : List ℕ) → 0 < len → IsTmDelimited len recording (tm_frames_of len recording) (tm_remainder_of len recording)
+EachIsTmDelimited =
+    (len : ℕ) (recording : List ℕ) → 0 < len
+    → IsTmDelimited len recording (tm_frames_of len recording) (tm_remainder_of len recording)
 
 -- No recording is delimited into other frames, or into another remainder.
 abbrev pub IsTmDelimitedOnce : Type 0
 IsTmDelimitedOnce =
-    (len : ℕ) (recording : List ℕ) (frames : List (List ℕ)) (remainder : List ℕ) → 0 < len → IsTmDelimited len recording frames remainder
+    (len : ℕ) (recording : List ℕ) (frames : List (List ℕ)) (remainder : List ℕ) → 0 < len
+    → IsTmDelimited len recording frames remainder
     → (tm_frames_of len recording ≡ frames) × (tm_remainder_of len recording ≡ remainder)

@@ -65,7 +65,8 @@ tm_parts_of format frame =
 -- isn't 0. `Spacecraft`: the spacecraft identifier is another than the one that frames are read
 -- for.
 abbrev pub HasReason : TmFormat → ℕ → TmParts → TmSkip → Type 0
-HasReason format spacecraft p Fecf = (format.fecf ≡ true) × (number_of p.fecf ≢ fecf_of (p.header ++ p.field ++ p.control))
+HasReason format spacecraft p Fecf =
+    (format.fecf ≡ true) × (number_of p.fecf ≢ fecf_of (p.header ++ p.field ++ p.control))
 HasReason format spacecraft p Version = (tm_header p.header).version ≢ 0
 HasReason format spacecraft p Spacecraft = (tm_header p.header).spacecraft ≢ spacecraft
 
@@ -142,7 +143,8 @@ AreReadAs format spacecraft p (Err reason) =
 -- The frame has these parts, and is read with this result. The law `tm_frames_are_read` says that
 -- the parts are those of `tm_parts_of`, that the result is that of `tm_frame`, and that there are
 -- no others.
-pub record IsReadAs (format : TmFormat) (spacecraft : ℕ) (frame : List ℕ) (p : TmParts) (read : Result TmView TmSkip) : Type 0 where
+pub record IsReadAs (format : TmFormat) (spacecraft : ℕ) (frame : List ℕ) (p : TmParts)
+    (read : Result TmView TmSkip) : Type 0 where
   pub parts : ArePartsOf format frame p
   pub reading : AreReadAs format spacecraft p read
 
@@ -215,11 +217,14 @@ pub record IsInRange (view : TmView) : Type 0 where
 
 -- Octets of the format's length, if this is 12 or more, have the parts that `tm_parts_of` computes.
 abbrev pub EachHasParts : Type 0
-EachHasParts = (format : TmFormat) (frame : List ℕ) → 12 ≤ format.len → length frame ≡ format.len → ArePartsOf format frame (tm_parts_of format frame)
+EachHasParts =
+    (format : TmFormat) (frame : List ℕ) → 12 ≤ format.len → length frame ≡ format.len
+    → ArePartsOf format frame (tm_parts_of format frame)
 
 -- Octets have no other parts than those that `tm_parts_of` computes.
 abbrev pub HasPartsOnce : Type 0
-HasPartsOnce = (format : TmFormat) (frame : List ℕ) (p : TmParts) → ArePartsOf format frame p → tm_parts_of format frame ≡ p
+HasPartsOnce =
+    (format : TmFormat) (frame : List ℕ) (p : TmParts) → ArePartsOf format frame p → tm_parts_of format frame ≡ p
 
 -- Octets of the format's length, if this is 12 or more, are read or skipped as `tm_frame` computes.
 abbrev pub EachIsRead : Type 0

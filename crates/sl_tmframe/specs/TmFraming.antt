@@ -69,8 +69,10 @@ Answers old chunk (Some frame) left = YieldsFrame old chunk frame.now left
 -- are yielded, and this is the state at the end.
 pub data YieldsFrames : TmFraming → List (List ℕ) → List (List ℕ) → TmFraming → Type 0 where
   ended : (f : TmFraming) → YieldsFrames f [] [] f
-  yielded : (f new : TmFraming) (chunk frame left : List ℕ) (chunks frames : List (List ℕ)) → YieldsFrame f chunk frame left
-      → YieldsFrames (after_call f chunk (Some frame)) (left ∷ chunks) frames new → YieldsFrames f (chunk ∷ chunks) (frame ∷ frames) new
+  yielded : (f new : TmFraming) (chunk frame left : List ℕ) (chunks frames : List (List ℕ))
+      → YieldsFrame f chunk frame left
+      → YieldsFrames (after_call f chunk (Some frame)) (left ∷ chunks) frames new
+      → YieldsFrames f (chunk ∷ chunks) (frame ∷ frames) new
   used_up : (f new : TmFraming) (chunk left : List ℕ) (chunks frames : List (List ℕ)) → UsesUpChunk f chunk left
       → YieldsFrames (after_call f chunk None) chunks frames new → YieldsFrames f (chunk ∷ chunks) frames new
 
@@ -80,7 +82,8 @@ pub data YieldsFrames : TmFraming → List (List ℕ) → List (List ℕ) → Tm
 -- octets that are left are its remainder.
 abbrev pub ChunksAreDelimited : Type 0
 ChunksAreDelimited =
-    (len : ℕ) (chunks frames : List (List ℕ)) (new : TmFraming) → 0 < len → YieldsFrames (at_start len) chunks frames new
+    (len : ℕ) (chunks frames : List (List ℕ)) (new : TmFraming) → 0 < len
+    → YieldsFrames (at_start len) chunks frames new
     → IsTmDelimited len (concat chunks) frames new.rest
 
 -- To octets that are too few for a frame, some octets can be added at the end so that all of them
@@ -93,4 +96,5 @@ ShortBecomesFrame =
 -- Every list of chunks can be given to a framer: it yields frames, and ends in a state.
 abbrev pub AnyChunksAreTaken : Type 0
 AnyChunksAreTaken =
-    (len : ℕ) (chunks : List (List ℕ)) → 0 < len → (frames : List (List ℕ)) × (new : TmFraming) × YieldsFrames (at_start len) chunks frames new
+    (len : ℕ) (chunks : List (List ℕ)) → 0 < len
+    → (frames : List (List ℕ)) × (new : TmFraming) × YieldsFrames (at_start len) chunks frames new

@@ -58,8 +58,8 @@ filled_packets s = with_filling (field_room_of s.format) (channel_packets s)
 abbrev pub start_in : ℕ → ℕ → ℕ → List (List ℕ) → Option ℕ
 start_in room number offset packets = find (lies_in room number) (packet_offsets offset packets [])
 
--- Of a channel with these packets, `count` data fields were made. The packets `later` are still to
--- be taken, and `octets` are the octets of the taken packets that don't fill a data field yet.
+-- `count` data fields of a channel with these packets were made. The packets `later` are still to be
+-- taken, and `octets` are the octets of the taken packets that don't fill a data field yet.
 pub record IsPending (room : ℕ) (packets : List (List ℕ)) (count start : ℕ) (octets : List ℕ)
     (later : List (List ℕ)) : Type 0 where
   pub made : List ℕ

@@ -44,8 +44,8 @@ pub record IsIncomplete (channel : List TmView) (octets : List ℕ) : Type 0 whe
   pub no_start : AllByRecursion HasNoStart run
 
 -- The packet that starts in the frame with this number, counted from 0 in the channel, at this
--- offset in the frame's data field, is incomplete after the channel's last frame. To
--- `IsIncomplete` this record adds these two numbers alone.
+-- offset in the frame's data field, is incomplete after the channel's last frame. This record adds
+-- only these two numbers to `IsIncomplete`.
 pub record IsIncompleteAt (channel : List TmView) (frame start : ℕ) (octets : List ℕ) : Type 0 where
   pub incomplete : IsIncomplete channel octets
   pub in_frame : frame ≡ length incomplete.before

@@ -5,7 +5,7 @@ use Rattle.std.proofs.lemmas.Bool.{or_right}
 use Rattle.sl_tmflow.specs.Among.{IsAmong}
 
 module _ {X : Type 0} where
-  -- what is so of each element is so of one that is among them
+  -- a property of each element is one of an element that is among them
   pub each_among : (P : X → Type 0) (x : X) (xs : List X) → AllByRecursion P xs → IsAmong x xs → P x
   each_among P x [] each there = absurd there
   each_among P x (y ∷ ys) each (inl here) = subst P (sym here) each.0
@@ -25,14 +25,14 @@ module _ {X : Type 0} where
   among-flat_map x f y (other ∷ ys) (inl here) there = among-left x (f other) (flat_map f ys) (subst (λ z. IsAmong x (f z)) here there)
   among-flat_map x f y (other ∷ ys) (inr among) there = among-right x (f other) (flat_map f ys) (among-flat_map x f y ys among there)
 
--- a list of octets that is the only one in a list of lists has all of its octets
+-- if a list of lists has only one list, all octets are in it
 pub count_of_one : (octets : List ℕ) (all : List (List ℕ)) → length all ≤ 1 → IsAmong octets all → length (concat all) ≡ length octets
 count_of_one octets [] few there = absurd there
 count_of_one octets (one ∷ []) few (inl here) = ap length (append-nil one) ∙ ap length (sym here)
 count_of_one octets (one ∷ []) few (inr there) = absurd there
 count_of_one octets (one ∷ two ∷ more) few there = absurd (omega arith)
 
--- lists that have one element at most, one for each of these, have no more elements than these
+-- lists of one element at most, one list for each of these, have no more elements in all than there are of these
 pub few_each : (f : List ℕ → List (List ℕ)) → ((octets : List ℕ) → length (f octets) ≤ 1) → (all : List (List ℕ)) → length (flat_map f all) ≤ length all
 few_each f one [] = omega arith
 few_each f one (octets ∷ all) = omega (arith, one octets, few_each f one all, length-append (f octets) (flat_map f all))

@@ -115,7 +115,7 @@ each_seen states after views next inside is vc s =
 
 -- ---- all channels
 
--- the state of the channel of a number
+-- the state of the channel with this number
 pub seen_at : (old : ExtractorState) (views : List TmView) (states : List KeptChannel) (at vc : ℕ) (d : KeptChannel) → HasProcessed old views → states ≡ old.channels
     → length states ≡ 8 → vc ≤ 7 → at ≡ vc → HasSeen (slice_index_or states at d).state (views_on vc views)
 seen_at old views states at vc d p are eight fits same = grind (arith, get_or_default)

@@ -106,7 +106,7 @@ frame_in_order frame view later = search (arith, in_order_starts, field_starts_r
 pub each_of_frame : (frame : ℕ) (view : TmView) (later : List TmView) → AllByRecursion (λ d. d.frame ≡ frame) (frame_deliveries frame view later)
 each_of_frame frame view later = grind (arith, each-flat_map, each-every, each-weaker, is_from)
 
--- the deliveries of the frame of a number and of later frames have this number or a greater one
+-- the deliveries from the frame with this number on have this number or a greater one
 pub each_from_frame : (frame : ℕ) (channel : List TmView) → AllByRecursion (λ d. frame ≤ d.frame) (deliveries_from frame channel)
 each_from_frame frame [] = tt
 each_from_frame frame (view ∷ later) = grind (arith, each-append, each-weaker, each_of_frame, each_from_frame (frame + 1) later)

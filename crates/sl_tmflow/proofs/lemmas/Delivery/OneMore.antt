@@ -74,7 +74,7 @@ frame_incomplete-push view later next =
 pub incomplete_first : (next : TmView) → incomplete_of (next ∷ []) ≡ frame_incomplete next []
 incomplete_first next = append-nil (frame_incomplete next [])
 
--- what comes of the incomplete packets of each frame comes of those of the channel
+-- what holds for the incomplete packets of each frame holds for those of the channel
 module _ (go_on : TmView → List ℕ → List (List ℕ)) (number : ℕ) (of : ℕ → List TmView → List (List ℕ)) (end : List (List ℕ)) (stop : of number [] ≡ end)
     (step : (frame : ℕ) (view : TmView) (later : List TmView) → frame + (length later + 1) ≡ number
     → of frame (view ∷ later) ≡ flat_map (go_on (last_of view later)) (frame_incomplete view later) ++ of (frame + 1) later) where
@@ -92,7 +92,7 @@ incomplete_next before last next =
 
 -- ---- the packets that end
 
--- the packets of the deliveries that end in the frame of a number
+-- the packets of the deliveries that end in the frame with this number
 abbrev pub packets_at : ℕ → List Delivery → List (List ℕ)
 packets_at number deliveries = packets_delivered (ending_in number deliveries)
 

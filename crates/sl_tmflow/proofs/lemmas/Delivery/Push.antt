@@ -155,7 +155,7 @@ whole_few Opaque = omega arith
 step_few : (s : Continuation) → length (ended s) ≤ 1
 step_few s = grind arith
 
--- no more packets end in a frame than it has octets of packets, and one
+-- at most one packet more ends in a frame than the frame has octets of packets
 pub ended_few : (channel : List TmView) (next : TmView) → length (packets_ending channel next) ≤ length (packet_data next) + 1
 ended_few [] next = omega (arith, ap length (ending_first next), whole_few next.field)
 ended_few (view ∷ later) next =

@@ -149,8 +149,8 @@ none_in_rest octets len whole =
 
 -- ---- what is found at the packet starts of all frames
 
--- `at` is what is found at a packet start of the frame of a number before later frames, and `all` what is found in the
--- frames from a number on
+-- `at` is what is found at a packet start of the frame with this number, given the later frames, and `all` is what is
+-- found in the frames from this number on
 module _ {X : Type 0} (at : ℕ → TmView → List TmView → ℕ → List X) (all : ℕ → List TmView → List X) (none : (number : ℕ) → all number [] ≡ [])
     (more : (number : ℕ) (view : TmView) (later : List TmView) → all number (view ∷ later) ≡ flat_map (at number view later) (starts_of view.field) ++ all (number + 1) later) where
   found_in_frame : (P : X → Type 0) (number : ℕ) (view : TmView) (later : List TmView)
@@ -162,7 +162,7 @@ module _ {X : Type 0} (at : ℕ → TmView → List TmView → ℕ → List X) (
   found_in_frame P number view later found Idle is = tt
   found_in_frame P number view later found Opaque is = tt
 
-  -- what is so of all that is found at each packet start is so of all that is found
+  -- a property of what is found at each packet start is one of all that is found
   pub each_found : (P : X → Type 0) (channel before later : List TmView) (number : ℕ)
       → ((before : List TmView) (view : TmView) (later : List TmView) (number : ℕ) (first : Option ℕ) (octets : List ℕ) (start : ℕ) → channel ≡ before ++ view ∷ later
       → number ≡ length before → view.field ≡ Packets first octets → IsStart octets first start → AllByRecursion P (at number view later start))

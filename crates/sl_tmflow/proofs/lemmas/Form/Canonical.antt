@@ -33,7 +33,7 @@ wide_room format is = let least = is.least in let last = fecf_len_le format.fecf
 pub short_room : (format : TmFormat) → IsFormat format → field_room_of format ≤ 2042
 short_room format is = let most = is.most in omega arith
 
--- a format's frames of packets, for a spacecraft, are such
+-- each frame of packets of this format and spacecraft has the property
 abbrev EachFrameIs : TmFormat → ℕ → (List ℕ → Type 0) → Type 0
 EachFrameIs format spacecraft P =
     (vc mc vcc : ℕ) (first : Option ℕ) (field : List ℕ) → FitFrame format spacecraft vc mc vcc first field → P (packet_frame format spacecraft vc mc vcc first field)
@@ -55,7 +55,7 @@ module _ (format : TmFormat) (spacecraft vc mc : ℕ) (packets : List (List ℕ)
       → FitFrame format spacecraft vc ((mc + number) % 256) (number % 256) (first_of room number (packet_offsets 0 packets [])) (data_field_of room number (concat packets))
   frame_fits number below = grind (arith, wide_room, mod_below, each_pointer_is_least, field_filled)
 
-  -- what is so of each frame that fits is so of all
+  -- a property of each frame that fits is one of these frames
   frames_each : (P : List ℕ → Type 0) → EachFrameIs format spacecraft P → (many number : ℕ) → number + many ≤ count → AllByRecursion P (frames number many)
   frames_each P each zero number inside = tt
   frames_each P each (suc many) number inside = grind (arith, frame_fits, frames_each P each many (number + 1) (omega (arith, inside)))

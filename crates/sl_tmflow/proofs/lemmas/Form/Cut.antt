@@ -14,7 +14,7 @@ abbrev pub pointer_at : ℕ → ℕ → Option ℕ
 pointer_at room start = if nat_lt start room then Some start else None
 
 module _ (room : ℕ) (packets : List (List ℕ)) where
-  -- From the data field of a number on there are `count` data fields. They have the octets of a packet that started
+  -- There are `count` data fields from the one with this number on. They have the octets of a packet that started
   -- earlier, if one did, and then packets.
   pub record IsCut (number : ℕ) (before : List ℕ) (todo : List (List ℕ)) (count : ℕ) : Type 0 where
     pub found : (n : ℕ) → number ≤ n → found_in room n 0 packets ≡ found_in room n (number * room + length before) todo
@@ -45,8 +45,8 @@ module _ (room : ℕ) (packets : List (List ℕ)) where
       → IsCut (number + 1) (drop room before) todo count
   past_covered number before todo count covered s = grind (arith, next_field, length-drop, past_field, drop-append-le, suc-mul)
 
-  -- In the data field of a number, `gap` octets are left, from the front of these packets on, and `count` data fields
-  -- come later.
+  -- In the data field with this number, `gap` octets are left, from the front of these packets on, and `count` data
+  -- fields come later.
   pub record IsInside (number gap : ℕ) (todo : List (List ℕ)) (count : ℕ) : Type 0 where
     pub start : ℕ
     pub place : start + gap ≡ room

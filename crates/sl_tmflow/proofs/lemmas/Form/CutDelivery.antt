@@ -55,7 +55,7 @@ no_octets (packet ∷ packets) each none = absurd (let least = packet_least pack
 -- ---- data field by data field
 
 module _ (room vc mc : ℕ) (packets : List (List ℕ)) where
-  -- the view of the frame of a number, from 0
+  -- the view of the frame with this number, counted from 0
   abbrev pub view_at : ℕ → TmView
   view_at number = packet_view vc ((mc + number) % 256) (number % 256) (first_of room number (packet_offsets 0 packets [])) (data_field_of room number (concat packets))
 
@@ -106,7 +106,7 @@ module _ (room vc mc : ℕ) (packets : List (List ℕ)) where
             (omega (arith, length-append so_far all, length-append so_far more, ap length all_is, full, longer));
       }
 
-  -- a packet is delivered where these octets of it came and the others come in the data fields from a number on
+  -- a packet is delivered of which these octets came, and the others come in the data fields from this number on
   pub put_together : (count number passed : ℕ) (view : TmView) (so_far more : List ℕ) (todo : List (List ℕ)) → 0 < room → follows view.vc_count (number % 256) ≡ true
       → IsPacket (so_far ++ more) → 0 < length more → IsCut room packets number more todo count
       → completed (outcome_after passed view so_far (views_from number count)) ≡ (so_far ++ more) ∷ []
@@ -176,7 +176,7 @@ module _ (room vc mc : ℕ) (packets : List (List ℕ)) where
             ∙ ap₂ (λ l ls. l ∷ ls) split (each more todo cut)
       ]
 
-  -- the frames from a number on deliver the packets that begin in them
+  -- the frames from this number on deliver the packets that begin in them
   delivered_later : (count number frame : ℕ) (before : List ℕ) (todo : List (List ℕ)) → 0 < room → IsCut room packets number before todo count
       → packets_delivered (deliveries_from frame (views_from number count)) ≡ todo
   delivered_later zero number frame before todo some s =

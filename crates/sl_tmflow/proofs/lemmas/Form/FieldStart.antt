@@ -10,7 +10,7 @@ use Rattle.sl_tmflow.specs.NormalForm.{lies_in, first_of, LiesIn, IsLeastStart, 
 use Rattle.sl_tmflow.specs.PacketStart.{packet_offsets}
 use Rattle.sl_tmflow.specs.Among.{IsAmong}
 
--- the first packet start that lies in the data field of a number
+-- the first packet start that lies in the data field with this number
 abbrev pub found_in : ℕ → ℕ → ℕ → List (List ℕ) → Option ℕ
 found_in room number offset packets = find (lies_in room number) (packet_offsets offset packets [])
 
@@ -64,7 +64,7 @@ one_more : (room number offset : ℕ) (offsets : List ℕ) (first : Option ℕ) 
     → IsLeastStart room number offsets first → IsLeastStart room number (offset ∷ offsets) first
 one_more room number offset offsets first outside least = search arith
 
--- an offset in front, of packets that lie end to end
+-- one more packet in front of packets that lie end to end
 with_first : (room number offset : ℕ) (packet : List ℕ) (packets : List (List ℕ)) → 0 < room → (b : Bool) → lies_in room number offset ≡ b
     → IsLeastStart room number (packet_offsets (offset + length packet) packets []) (first_of room number (packet_offsets (offset + length packet) packets []))
     → IsLeastStart room number (packet_offsets offset (packet ∷ packets) []) (first_of room number (packet_offsets offset (packet ∷ packets) []))

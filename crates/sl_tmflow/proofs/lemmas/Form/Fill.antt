@@ -101,7 +101,7 @@ fill_is_least room len some =
 
 -- ---- packets, filled up
 
--- no octets need no filling
+-- where there are no octets, there is no filling
 no_fill : (room : ℕ) → fill_of room 0 ≡ 0
 no_fill room =
     let all : room - 0 ≡ room = omega arith in

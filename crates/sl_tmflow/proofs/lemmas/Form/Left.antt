@@ -153,13 +153,13 @@ octets_of_all : (s : FormProgress) (left : List ℕ) (later : List (List ℕ)) �
     → length (concat (filled_packets s)) ≡ l.count * field_room_of s.format + length s.octets + length (concat later)
 octets_of_all s left later is l = grind (arith, length-append)
 
--- where the packets are taken, the filling is next, and the packets fill what was made and is kept
+-- once the packets are taken, the filling is next, and the packets are what was made and what is kept
 at_end : (s : FormProgress) (left : List ℕ) → s.taken ≡ length (channel_packets s) → (l : IsLeft s left)
     → (drop s.taken (filled_packets s) ≡ filling (field_room_of s.format) (length (concat (channel_packets s))))
     × (length (concat (channel_packets s)) ≡ l.count * field_room_of s.format + length s.octets)
 at_end s left last l = grind (arith, drop-append_seam, concat-append, length-append, octets_of_all)
 
--- where octets are left and no packets, the filling isn't taken yet
+-- where octets are left but no packets, the filling isn't taken yet
 last_taken : (s : FormProgress) (left : List ℕ) → 7 ≤ field_room_of s.format → field_room_of s.format ≤ 65536 → length s.octets < field_room_of s.format → 0 < length s.octets
     → length (channel_packets s) ≤ s.taken → IsLeft s left → s.taken ≡ length (channel_packets s)
 last_taken s left wide short few some beyond l = grind (arith, common_steps, leb_tells, drop_all, few_filled, octets_of_all, mod-eq_of_lt, mul-add-mod_self_right, filled_whole)
@@ -167,7 +167,7 @@ last_taken s left wide short few some beyond l = grind (arith, common_steps, leb
 one_packet : (room len : ℕ) → (fill_of room len == 0) ≡ false → filling room len ≡ concat (filling room len) ∷ []
 one_packet room len test = rw (test) (ap (λ q. q ∷ []) (sym (append-nil (idle_packet (fill_of room len)))))
 
--- where octets are left and no packets, the filling is next, and is the last packet
+-- where octets are left but no packets, the filling is next, and is the last packet
 pub filling_here : (s : FormProgress) (left : List ℕ) → 7 ≤ field_room_of s.format → field_room_of s.format ≤ 65536 → length s.octets < field_room_of s.format → 0 < length s.octets
     → length (channel_packets s) ≤ s.taken → IsLeft s left → drop s.taken (filled_packets s) ≡ filling_of s ∷ []
 filling_here s left wide short few some beyond l =
@@ -221,7 +221,7 @@ progress_after_is s octets packet frames taken is many = rw (is, many) refl
 
 -- ---- the next channel
 
--- no frame is left where no packet and no octets are
+-- where no packet and no octets are left, no frame is
 none_many : (s : FormProgress) (left : List ℕ) → 0 < field_room_of s.format → length (channel_packets s) ≤ s.taken → s.octets ≡ [] → (l : IsLeft s left) → l.many ≡ 0
 none_many s left roomy beyond nothing l =
     let room = field_room_of s.format in
@@ -275,7 +275,7 @@ some_packets s left m l =
       ),
     )
 
--- octets are left where more is left and no packet
+-- where more is left, but no packet, octets are left
 pub octets_left : (s : FormProgress) → HasMore s → length (channel_packets s) ≤ s.taken → 0 < length s.octets
 octets_left s m beyond = grind (arith, channel_is, eqb_tells, nil_from_length)
 

@@ -55,7 +55,7 @@ module _ {X : Type 0} (f : X → ℕ) where
 
 -- ---- data fields end to end
 
--- the data fields from a number on are the octets from there on
+-- the data fields from this number on are the octets from there on
 fields_joined : (room : ℕ) (octets : List ℕ) (from n : ℕ) → length octets ≡ (from + n) * room
     → concat (map (λ number. data_field_of room number octets) (range_with_len from n)) ≡ drop (from * room) octets
 fields_joined room octets from zero size =

@@ -13,11 +13,11 @@ use Rattle.sl_tmflow.proofs.lemmas.Delivery.Step.{incomplete_before}
 
 -- ---- octets that begin with something
 
--- octets with a whole packet stay so with more octets
+-- octets that begin with a whole packet still do with more octets after them
 whole_stays : (octets more : List ℕ) (len : ℕ) → front octets ≡ WholePacket len → front (octets ++ more) ≡ WholePacket len
 whole_stays octets more len e = grind (arith, common_steps, whole_is_a_packet, append_assoc, take-append-drop, packet_is_whole, length-take-le)
 
--- of octets where a packet ends, only the packet's own matter
+-- where a packet is whole, the octets after it don't matter
 packet_same : (first : Option ℕ) (before : ℕ) (field a b : List ℕ) (len : ℕ) → take len a ≡ take len b
     → front_step first before field a (WholePacket len) ≡ front_step first before field b (WholePacket len)
 packet_same first before field a b len same = grind arith
@@ -29,7 +29,7 @@ told first before field octets more begun = grind (arith, common_steps, whole_is
 
 -- ---- octets of a data field
 
--- the first octets are enough where the packet isn't incomplete any more with them
+-- the first octets are enough if with them the packet is no longer incomplete
 pub some_is_enough : (held field : List ℕ) (n : ℕ) → (front (held ++ take n field) ≡ Incomplete → ⊥) → length held + length (take n field) ≤ 65542
     → IsEnough held field (take n field)
 some_is_enough held field n begun fits = record {
@@ -49,10 +49,10 @@ pub none_is_wanted : ForeignIsForeign → WholeIsWhole → (held : List ℕ) →
     → front held ≡ Incomplete → ⊥
 none_is_wanted foreign whole held needs_none incomplete = grind arith
 
--- a packet isn't incomplete any more with the octets that it needs
+-- with the octets that it needs, a packet is no longer incomplete
 pub wanted_complete : OctetsMakeAPacket → (held more : List ℕ) (n : ℕ) → need_of held ≡ Octets n → length more ≡ n → front (held ++ more) ≡ Incomplete → ⊥
 wanted_complete law held more n wants long incomplete = grind (arith, common_steps, append-nil, packet_is_whole)
 
--- a packet with the octets that it needs is no longer than the longest packet
+-- with the octets that it needs, a packet is no longer than the longest packet
 pub wanted_fits : OctetsMakeAPacket → (held : List ℕ) (n : ℕ) → need_of held ≡ Octets n → length held + n ≤ 65542
 wanted_fits law held n wants = grind (arith, length-replicate, stated_packet_len-most, length-append)

@@ -29,7 +29,7 @@ count_later : (view : TmView) (between : List TmView) (next : TmView) (later : L
 count_later view [] next later each = count_after view next each.0
 count_later view (second ∷ between) next later each = grind (arith, count_after, count_later second between next later each.1)
 
--- of frames less than 257 apart, only neighbours are consecutive
+-- among frames less than 257 apart, only neighbours are consecutive
 none_between : (view : TmView) (between : List TmView) (next : TmView) (later : List TmView) → AreConsecutive view (between ++ next ∷ later)
     → is_consecutive view next ≡ true → length between < 256 → length between ≡ 0
 none_between view between next later each test few = grind (arith, count_after, count_later)
@@ -53,7 +53,7 @@ at_least low (next ∷ numbers) (other ∷ before) number after rise same = grin
 
 -- ---- frames with numbers
 
--- in two lists whose elements go together, an element of the second one, and the one of the first that goes with it
+-- two lists whose elements pair up: an element of the second one, and its partner in the first one
 pub record GoesWith {X Y : Type 0} (together : List X → List Y → Type 0) (with_it : X → Y → Type 0) (xs : List X) (before : List Y) (y : Y) (later : List Y) : Type 0 where
   pub earlier : List X
   pub this : X

@@ -12,7 +12,7 @@ use Rattle.sl_tmflow.proofs.lemmas.Places.{same_place}
 use Rattle.sl_tmflow.proofs.lemmas.Delivery.End.{longer_begins}
 use Rattle.sl_tmflow.proofs.lemmas.Loss.KeptFrames.{at_least, frame_at, kept_at, near_from, no_gap_at, run_is_kept, run_of_whole}
 
--- a number among those from another one on is among all numbers
+-- a number in the tail of a list has a place in the whole list
 number_later : (numbers earlier : List ℕ) (number : ℕ) (more : List ℕ) (place last : ℕ) → numbers ≡ earlier ++ number ∷ more
     → HasNumber (number ∷ more) place last → HasNumber numbers (length earlier + place) last
 number_later numbers earlier number more place last same at =

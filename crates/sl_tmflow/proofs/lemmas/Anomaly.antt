@@ -30,7 +30,7 @@ pub each_gap_is_told : EachGapIsTold
 each_gap_is_told channel next expected gap = grind (arith, last_count-push)
 
 told_gap : (b : Bool) (n expected : ℕ) → (if b then None else Some n) ≡ Some expected → (b ≡ false) × (expected ≡ n)
-told_gap b n expected e = grind arith
+told_gap b n expected found = grind arith
 
 pub each_told_is_a_gap : EachToldIsAGap
 each_told_is_a_gap [] next expected e = absurd (cc)
@@ -43,8 +43,8 @@ each_told_is_a_gap (view ∷ later) next expected e =
 -- ---- elements that pass a test
 
 any_found : {X : Type 0} (P : X → Type 0) (p : X → Bool) (xs : List X) → AllByRecursion P xs → list_any p xs ≡ true → (x : X) × P x × (p x ≡ true)
-any_found P p [] each e = absurd (cc)
-any_found P p (x ∷ xs) each e = grind (arith, any_found P p xs each.1)
+any_found P p [] each test = absurd (cc)
+any_found P p (x ∷ xs) each test = grind (arith, any_found P p xs each.1)
 
 -- ---- octets of another version
 
@@ -64,7 +64,7 @@ each_told_is_a_foreign_start field e = grind (arith, any_found, each_is_start, f
 
 -- a packet has version 0
 packet_not_foreign : (packet more : List ℕ) → IsPacket packet → is_foreign (packet ++ more) ≡ false
-packet_not_foreign packet more p = grind (arith, packet_least, not_foreign, version_of-append)
+packet_not_foreign packet more is_packet = grind (arith, packet_least, not_foreign, version_of-append)
 
 foreign_offsets : (octets : List ℕ) (offset : ℕ) (packets : List (List ℕ)) (rest : List ℕ) → AllByRecursion IsPacket packets → drop offset octets ≡ concat packets ++ rest
     → list_any (λ start. is_foreign (drop start octets)) (packet_offsets offset packets rest) ≡ is_foreign rest
@@ -90,7 +90,7 @@ foreign_is Opaque = refl
 -- ---- from the state of the channel
 
 pub gap_seen : (state : ChannelState) (channel : List TmView) (next : TmView) → HasSeen state channel → gap_of channel next ≡ gap_after state.count next.vc_count
-gap_seen state channel next s = ap (λ c. gap_after c next.vc_count) (sym s.count)
+gap_seen state channel next seen = ap (λ c. gap_after c next.vc_count) (sym seen.count)
 
 -- ---- the octets that are held
 
@@ -98,10 +98,10 @@ held_octets : (held : List ℕ) → concat (held_as held) ≡ held
 held_octets held = grind (arith, append-nil)
 
 pub held_seen : (state : ChannelState) (channel : List TmView) → HasSeen state channel → length state.held ≡ length (concat (incomplete_of channel))
-held_seen state channel s = ap length (sym (held_octets state.held) ∙ ap concat s.held)
+held_seen state channel seen = ap length (sym (held_octets state.held) ∙ ap concat seen.held)
 
 none_held : (held : List ℕ) → held_as held ≡ [] → held ≡ []
-none_held held e = grind arith
+none_held held none = grind arith
 
 -- ---- the packet that the next frame breaks off
 
@@ -110,14 +110,14 @@ lost_held last next held = grind (arith, append-nil)
 
 dropped_after : (state : ChannelState) (before : List TmView) (last next : TmView) → HasSeen state (before ++ last ∷ [])
     → concat (broken_off (before ++ last ∷ []) next) ≡ lost_by state next
-dropped_after state before last next s = grind (arith, broken_next, lost_held, last_count-push)
+dropped_after state before last next seen = grind (arith, broken_next, lost_held, last_count-push)
 
 pub dropped_seen : (state : ChannelState) (channel : List TmView) (next : TmView) → HasSeen state channel → dropped_of channel next ≡ length (lost_by state next)
-dropped_seen state [] next s =
-    ap length (sym (ap (λ c. lost_of (held_step c state.held next) state.held) s.count ∙ none_held state.held s.held))
-dropped_seen state (view ∷ later) next s =
+dropped_seen state [] next seen =
+    ap length (sym (ap (λ c. lost_of (held_step c state.held next) state.held) seen.count ∙ none_held state.held seen.held))
+dropped_seen state (view ∷ later) next seen =
     let (before, last, same) = has_last view later in
-    ap (λ l. dropped_of l next) same ∙ ap length (dropped_after state before last next (subst (HasSeen state) same s))
+    ap (λ l. dropped_of l next) same ∙ ap length (dropped_after state before last next (subst (HasSeen state) same seen))
 
 -- ---- where a packet is incomplete
 
@@ -127,7 +127,7 @@ some_held held some none = some (none_held held none)
 -- a packet is incomplete before or after the next frame, where the channel's state holds octets
 pub incomplete_around : (state : ChannelState) (views : List TmView) (next : TmView) → HasSeen state (views_on next.vc views)
     → (state.held ≢ []) ⊎ ((channel_after state next).held ≢ []) → IsIncompleteAround views next
-incomplete_around state views next s (inl before) = inl (λ none. some_held state.held before (s.held ∙ none))
-incomplete_around state views next s (inr after) =
-    let seen = seen_more state (views_on next.vc views) next s in
+incomplete_around state views next has_seen (inl before) = inl (λ none. some_held state.held before (has_seen.held ∙ none))
+incomplete_around state views next has_seen (inr after) =
+    let seen = seen_more state (views_on next.vc views) next has_seen in
     inr (λ none. some_held (channel_after state next).held after (seen.held ∙ ap incomplete_of (sym (same_seen next.vc views next refl)) ∙ none))

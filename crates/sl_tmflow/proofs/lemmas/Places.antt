@@ -44,9 +44,9 @@ some_of_each P (one ∷ more) each some = (one, each.0)
 
 -- where an element of the list passes a test, some element passes it
 pub some_passes : {X : Type 0} (p : X → Bool) (x : X) (xs : List X) → IsAmong x xs → p x ≡ true → list_any p xs ≡ true
-some_passes p x [] there e = absurd there
-some_passes p x (y ∷ ys) (inl here) e = ap (λ b. b || list_any p ys) (ap p (sym here) ∙ e)
-some_passes p x (y ∷ ys) (inr there) e = or_right (p y) (list_any p ys) (some_passes p x ys there e)
+some_passes p x [] there test = absurd there
+some_passes p x (y ∷ ys) (inl here) test = ap (λ b. b || list_any p ys) (ap p (sym here) ∙ test)
+some_passes p x (y ∷ ys) (inr there) test = or_right (p y) (list_any p ys) (some_passes p x ys there test)
 
 -- a list with an element isn't empty
 pub some_element : {X : Type 0} (earlier : List X) (x : X) (later : List X) → [] ≡ earlier ++ x ∷ later → ⊥

@@ -34,13 +34,13 @@ last_count-push (view ∷ next ∷ before) last = last_count-push (next ∷ befo
 
 one_more_after : (state : ChannelState) (before : List TmView) (last next : TmView) → HasSeen state (before ++ last ∷ [])
     → packets_ending (before ++ last ∷ []) next ≡ packets_after state next
-one_more_after state before last next s = grind (arith, ending_next, last_count-push, append-nil)
+one_more_after state before last next seen = grind (arith, ending_next, last_count-push, append-nil)
 
 pub one_more : (state : ChannelState) (channel : List TmView) (next : TmView) → HasSeen state channel → packets_ending channel next ≡ packets_after state next
-one_more state [] next s = ending_first next ∙ ap (λ c. ended (held_step c state.held next) ++ whole_packets next.field) (sym s.count)
-one_more state (view ∷ later) next s =
+one_more state [] next seen = ending_first next ∙ ap (λ c. ended (held_step c state.held next) ++ whole_packets next.field) (sym seen.count)
+one_more state (view ∷ later) next seen =
     let w = has_last view later in
-    ap (λ l. packets_ending l next) w.2 ∙ one_more_after state w.0 w.1 next (subst (HasSeen state) w.2 s)
+    ap (λ l. packets_ending l next) w.2 ∙ one_more_after state w.0 w.1 next (subst (HasSeen state) w.2 seen)
 
 -- ---- the octets that are held
 
@@ -77,17 +77,17 @@ held_by_frame count held next =
 -- ---- one more frame
 
 seen_first : (state : ChannelState) (next : TmView) → HasSeen state [] → HasSeen (channel_after state next) (next ∷ [])
-seen_first state next s = grind (arith, held_by_frame, incomplete_first)
+seen_first state next seen = grind (arith, held_by_frame, incomplete_first)
 
 seen_next : (state : ChannelState) (before : List TmView) (last next : TmView) → HasSeen state (before ++ last ∷ [])
     → HasSeen (channel_after state next) ((before ++ last ∷ []) ++ next ∷ [])
-seen_next state before last next s = grind (arith, last_count-push, held_by_frame, incomplete_next, goes_on)
+seen_next state before last next seen = grind (arith, last_count-push, held_by_frame, incomplete_next, goes_on)
 
 pub seen_more : (state : ChannelState) (channel : List TmView) (next : TmView) → HasSeen state channel → HasSeen (channel_after state next) (channel ++ next ∷ [])
-seen_more state [] next s = seen_first state next s
-seen_more state (view ∷ later) next s =
+seen_more state [] next seen = seen_first state next seen
+seen_more state (view ∷ later) next seen =
     let w = has_last view later in
-    subst (λ l. HasSeen (channel_after state next) (l ++ next ∷ [])) (sym w.2) (seen_next state w.0 w.1 next (subst (HasSeen state) w.2 s))
+    subst (λ l. HasSeen (channel_after state next) (l ++ next ∷ [])) (sym w.2) (seen_next state w.0 w.1 next (subst (HasSeen state) w.2 seen))
 
 -- ---- one of the channels
 
@@ -102,15 +102,15 @@ pub each_seen : (states : List KeptChannel) (after : KeptChannel) (views : List 
     → after.state ≡ channel_after (slice_index_or states next.vc new_channel).state next
     → (vc : ℕ) → HasSeen (slice_index_or states vc new_channel).state (views_on vc views)
     → HasSeen (slice_index_or (set states next.vc after) vc new_channel).state (views_on vc (views ++ next ∷ []))
-each_seen states after views next inside is vc s =
+each_seen states after views next inside is vc seen =
     elim (eqb_tells next.vc vc) [
       | inl (test, same) ↦
           subst (λ c. HasSeen (slice_index_or (set states next.vc after) c new_channel).state (views_on c (views ++ next ∷ []))) same
           (rw (get_or-set_same states next.vc after new_channel inside, is, same_seen next.vc views next refl)
           (seen_more (slice_index_or states next.vc new_channel).state (views_on next.vc views) next
-          (subst (λ c. HasSeen (slice_index_or states c new_channel).state (views_on c views)) (sym same) s)))
+          (subst (λ c. HasSeen (slice_index_or states c new_channel).state (views_on c views)) (sym same) seen)))
       | inr (test, other) ↦
-          rw (get_or-set_other states next.vc vc after new_channel (λ e. other (sym e)), other_seen vc views next other) s
+          rw (get_or-set_other states next.vc vc after new_channel (λ e. other (sym e)), other_seen vc views next other) seen
     ]
 
 -- ---- all channels
@@ -118,24 +118,24 @@ each_seen states after views next inside is vc s =
 -- the state of the channel with this number
 pub seen_at : (old : ExtractorState) (views : List TmView) (states : List KeptChannel) (at vc : ℕ) (d : KeptChannel) → HasProcessed old views → states ≡ old.channels
     → length states ≡ 8 → vc ≤ 7 → at ≡ vc → HasSeen (slice_index_or states at d).state (views_on vc views)
-seen_at old views states at vc d p are eight fits same = grind (arith, get_or_default)
+seen_at old views states at vc d processed are eight fits same = grind (arith, get_or_default)
 
 module _ (old : ExtractorState) (views : List TmView) (next : TmView) (states : List KeptChannel) (at : ℕ) (d : KeptChannel) where
   pub ended_now : HasProcessed old views → states ≡ old.channels → length states ≡ 8 → next.vc ≤ 7 → at ≡ next.vc
       → ended_by views next ≡ packets_after (slice_index_or states at d).state next
-  ended_now p are eight fits same = grind (arith, common_steps, one_more, seen_at)
+  ended_now processed are eight fits same = grind (arith, common_steps, one_more, seen_at)
 
   -- a step that hands over the packets of the state hands over those that end in the frame
   pub handed_now : {S : Type 0} {taking : S → ℕ → List ℕ → S → Type 0} {failing : S → ℕ → List ℕ → SinkFault → S → Type 0} {failures : S → ℕ}
       {sink sink' : S} {channel : ℕ} {result : Result StepReport FlowFault} → states ≡ old.channels → length states ≡ 8 → next.vc ≤ 7 → at ≡ next.vc
       → HandsOver taking failing failures counts_of sink channel (packets_after (slice_index_or states at d).state next) result sink'
       → HasProcessed old views → HandsOver taking failing failures counts_of sink channel (ended_by views next) result sink'
-  handed_now are eight fits same handed p = hands_same refl (sym (ended_now p are eight fits same)) handed
+  handed_now are eight fits same handed processed = hands_same refl (sym (ended_now processed are eight fits same)) handed
 
   pub processed_more : (after : KeptChannel) → HasProcessed old views → states ≡ old.channels → length states ≡ 8 → next.vc ≤ 7 → at ≡ next.vc
       → after.state ≡ channel_after (slice_index_or states at d).state next
       → HasProcessed (record { channels = set states at after; has_failed = false }) (views ++ next ∷ [])
-  processed_more after p are eight fits same by =
+  processed_more after processed are eight fits same by =
       let inside : next.vc < length states = omega arith in
       let now : after.state ≡ channel_after (slice_index_or states next.vc new_channel).state next =
       by ∙ ap (λ i. channel_after (slice_index_or states i d).state next) same
@@ -144,6 +144,6 @@ module _ (old : ExtractorState) (views : List TmView) (next : TmView) (states : 
         working = refl;
         each = λ vc below.
             let seen : HasSeen (slice_index_or states vc new_channel).state (views_on vc views) =
-            subst (λ l. HasSeen (slice_index_or l vc new_channel).state (views_on vc views)) (sym are) (p.each vc below) in
+            subst (λ l. HasSeen (slice_index_or l vc new_channel).state (views_on vc views)) (sym are) (processed.each vc below) in
             rw (same) (each_seen states after views next inside now vc seen);
       }

@@ -36,9 +36,9 @@ longer_begins xs zs ys ws same fewer =
 -- ---- in one frame
 
 -- the octets that packets leave are the same from a packet start on as from the pointer on
-rest_from_start : (octets : List ℕ) (first : Option ℕ) (start : ℕ) (s : IsStart octets first start)
-    → rest_of (drop s.pointer octets) ≡ rest_of (drop start octets)
-rest_from_start octets first start s = ap rest_of s.end_to_end ∙ rest_of-concat s.before (drop start octets) s.packets
+rest_from_start : (octets : List ℕ) (first : Option ℕ) (start : ℕ) (is_start : IsStart octets first start)
+    → rest_of (drop is_start.pointer octets) ≡ rest_of (drop start octets)
+rest_from_start octets first start is_start = ap rest_of is_start.end_to_end ∙ rest_of-concat is_start.before (drop start octets) is_start.packets
 
 rest_within : (octets : List ℕ) → length (rest_of octets) ≤ length octets
 rest_within octets = omega (arith, length-drop (length (concat (packets_of octets))) octets)
@@ -46,29 +46,29 @@ rest_within octets = omega (arith, length-drop (length (concat (packets_of octet
 -- a packet is whole where another packet starts later in the field
 pub not_last_is_whole : (octets : List ℕ) (first : Option ℕ) (start later : ℕ)
     → IsStart octets first start → IsStart octets first later → start < later → front (drop start octets) ≡ Incomplete → ⊥
-not_last_is_whole octets first start later s t less incomplete =
+not_last_is_whole octets first start later is_start is_later less incomplete =
     let none = λ (len : ℕ) (whole : front (drop start octets) ≡ WholePacket len). let both : Incomplete ≡ WholePacket len = sym incomplete ∙ whole in absurd (cc) in
-    let pointers : s.pointer ≡ t.pointer = same_Some s.pointer t.pointer (sym s.pointed ∙ t.pointed) in
+    let pointers : is_start.pointer ≡ is_later.pointer = same_Some is_start.pointer is_later.pointer (sym is_start.pointed ∙ is_later.pointed) in
     let all : drop start octets ≡ rest_of (drop later octets) =
-    sym (rest_of-none (drop start octets) none) ∙ sym (rest_from_start octets first start s)
-    ∙ ap (λ p. rest_of (drop p octets)) pointers ∙ rest_from_start octets first later t in
-    let inside = t.inside in
+    sym (rest_of-none (drop start octets) none) ∙ sym (rest_from_start octets first start is_start)
+    ∙ ap (λ p. rest_of (drop p octets)) pointers ∙ rest_from_start octets first later is_later in
+    let inside = is_later.inside in
     omega (arith, ap length all, rest_within (drop later octets), length-drop start octets, length-drop later octets)
 
 -- a packet with another start later in its data field is delivered in its own frame
 ends_in_its_frame : (view : TmView) (octets : List ℕ) (first : Option ℕ) (start later : ℕ) (run : List TmView) (packet : List ℕ) → IsStart octets first start
     → IsStart octets first later → start < later → IsDeliveredBy view (drop start octets) run packet → length run ≡ 0
-ends_in_its_frame view octets first start later [] packet s t less d = refl
-ends_in_its_frame view octets first start later (next ∷ run) packet s t less d =
-    absurd (not_last_is_whole octets first start later s t less (incomplete_before_more view (drop start octets) next run packet d))
+ends_in_its_frame view octets first start later [] packet is_start is_later less delivered = refl
+ends_in_its_frame view octets first start later (next ∷ run) packet is_start is_later less delivered =
+    absurd (not_last_is_whole octets first start later is_start is_later less (incomplete_before_more view (drop start octets) next run packet delivered))
 
 -- ---- in later frames
 
 -- no packet starts in a frame before the last one of a run
 no_start_before_last : (view : TmView) (octets : List ℕ) (earlier : List TmView) (next second : TmView) (run : List TmView) (packet : List ℕ)
     → IsDeliveredBy view octets (earlier ++ next ∷ second ∷ run) packet → HasNoStart next
-no_start_before_last view octets [] next second run packet d = (delivered_goes_on view octets next second run packet d).no_start
-no_start_before_last view octets (v ∷ earlier) next second run packet d = grind (arith, delivered_tail, no_start_before_last v (octets ++ packet_data v) earlier next second run packet (delivered_tail view octets v (earlier ++ next ∷ second ∷ run) packet d))
+no_start_before_last view octets [] next second run packet delivered = (delivered_goes_on view octets next second run packet delivered).no_start
+no_start_before_last view octets (v ∷ earlier) next second run packet delivered = grind (arith, delivered_tail, no_start_before_last v (octets ++ packet_data v) earlier next second run packet (delivered_tail view octets v (earlier ++ next ∷ second ∷ run) packet delivered))
 
 -- ---- of two deliveries
 
@@ -91,16 +91,16 @@ in_one_frame channel d e is_d is_e same less =
 -- a frame within the run of a delivery and before its last one
 within_run : (view : TmView) (octets : List ℕ) (run after : List TmView) (packet : List ℕ) (earlier : List TmView) (next : TmView) (later : List TmView)
     → IsDeliveredBy view octets run packet → run ++ after ≡ earlier ++ next ∷ later → length earlier + 1 < length run → HasNoStart next
-within_run view octets run after packet earlier next later d same before =
+within_run view octets run after packet earlier next later delivered same before =
     let (more, is, rest) = longer_begins (earlier ++ next ∷ []) later run after
     (same ∙ sym (append_assoc earlier (next ∷ []) later)) (omega (arith, length_push earlier next)) in
     let run_is : run ≡ earlier ++ next ∷ more = is ∙ append_assoc earlier (next ∷ []) more in
     cases more (omega (arith, ap length is, length_push earlier next, length-append (earlier ++ next ∷ []) more))
-    (subst (λ r. IsDeliveredBy view octets r packet) run_is d)
+    (subst (λ r. IsDeliveredBy view octets r packet) run_is delivered)
   where
     cases : (more : List TmView) → 0 < length more → IsDeliveredBy view octets (earlier ++ next ∷ more) packet → HasNoStart next
-    cases [] some d = absurd (omega arith)
-    cases (second ∷ more) some d = no_start_before_last view octets earlier next second more packet d
+    cases [] some delivered = absurd (omega arith)
+    cases (second ∷ more) some delivered = no_start_before_last view octets earlier next second more packet delivered
 
 -- the frames between the starts of two packets
 frames_between : (channel : List TmView) (d e : Delivery) (is_d : IsDelivery channel d) (is_e : IsDelivery channel e) → d.frame < e.frame
@@ -140,11 +140,11 @@ ends_are_in_order channel d e is_d is_e before = omega (arith, each_ends_by_the_
 ends_by_offset : (before others : List (List ℕ)) (packet more rest : List ℕ) → AllByRecursion IsPacket before → AllByRecursion IsPacket others → IsPacket packet
     → concat before ++ (packet ++ more) ≡ concat others ++ rest → length (concat before) < length (concat others)
     → length (concat before) + length packet ≤ length (concat others)
-ends_by_offset before [] packet more rest done each p same less = absurd (omega arith)
-ends_by_offset [] (other ∷ others) packet more rest done each p same less =
-    let is : packet ≡ other = one_packet packet other more (concat others ++ rest) p each.0 (same ∙ append_assoc other (concat others) rest) in
+ends_by_offset before [] packet more rest done each is_packet same less = absurd (omega arith)
+ends_by_offset [] (other ∷ others) packet more rest done each is_packet same less =
+    let is : packet ≡ other = one_packet packet other more (concat others ++ rest) is_packet each.0 (same ∙ append_assoc other (concat others) rest) in
     omega (arith, ap length is, length-append other (concat others))
-ends_by_offset (first ∷ before) (other ∷ others) packet more rest done each p same less =
+ends_by_offset (first ∷ before) (other ∷ others) packet more rest done each is_packet same less =
     let left = concat before ++ (packet ++ more) in
     let right = concat others ++ rest in
     let split : first ++ left ≡ other ++ right = sym (append_assoc first (concat before) (packet ++ more)) ∙ same ∙ append_assoc other (concat others) rest in
@@ -153,17 +153,17 @@ ends_by_offset (first ∷ before) (other ∷ others) packet more rest done each 
     let long : length first ≡ length other = ap length is in
     let first_long = length-append first (concat before) in
     let other_long = length-append other (concat others) in
-    let later = ends_by_offset before others packet more rest done.1 each.1 p next (omega arith) in
+    let later = ends_by_offset before others packet more rest done.1 each.1 is_packet next (omega arith) in
     omega arith
 
 ends_by_start : (octets : List ℕ) (first : Option ℕ) (start later : ℕ) (packet more : List ℕ) → IsStart octets first start → IsStart octets first later → start < later
     → IsPacket packet → packet ++ more ≡ drop start octets → start + length packet ≤ later
-ends_by_start octets first start later packet more s t less p begins = grind (arith, same_Some, ends_by_offset)
+ends_by_start octets first start later packet more is_start is_later less is_packet begins = grind (arith, same_Some, ends_by_offset)
 
 -- the octets of a packet that is delivered in its own frame
-begins_in_frame : (view : TmView) (octets : List ℕ) (run : List TmView) (packet : List ℕ) (d : IsDeliveredBy view octets run packet) → length run ≡ 0
-    → packet ++ d.ends.0 ≡ octets
-begins_in_frame view octets run packet d none = grind (arith, nil_from_length, append-nil)
+begins_in_frame : (view : TmView) (octets : List ℕ) (run : List TmView) (packet : List ℕ) (delivered : IsDeliveredBy view octets run packet) → length run ≡ 0
+    → packet ++ delivered.ends.0 ≡ octets
+begins_in_frame view octets run packet delivered none = grind (arith, nil_from_length, append-nil)
 
 apart_in_one_frame : (channel : List TmView) (d e : Delivery) → IsDelivery channel d → IsDelivery channel e → d.frame ≡ e.frame → d.start < e.start
     → start_offset channel d + length d.packet ≤ start_offset channel e
@@ -179,18 +179,18 @@ offset_is : (channel : List TmView) (d : Delivery) (is_d : IsDelivery channel d)
 offset_is channel d is_d = grind (arith, common_steps, from_frame, take_at)
 
 agreeing_some : (ends : Bool) (place pointer : ℕ) → (if ends then Some place else None) ≡ Some pointer → place ≡ pointer
-agreeing_some ends place pointer e = grind (arith, same_Some)
+agreeing_some ends place pointer found = grind (arith, same_Some)
 
 -- a packet ends before the pointer of a frame after its start, or at it
 ends_by_pointer : (view : TmView) (octets : List ℕ) (run after : List TmView) (packet : List ℕ) (earlier : List TmView) (next : TmView) (later : List TmView)
     (pointer : ℕ) (field : List ℕ) → IsDeliveredBy view octets run packet → run ++ after ≡ earlier ++ next ∷ later
     → next.field ≡ Packets (Some pointer) field → length packet ≤ length (reassembly octets earlier) + pointer
-ends_by_pointer view octets run after packet earlier next later pointer field d same is =
+ends_by_pointer view octets run after packet earlier next later pointer field delivered same is =
     elim (cases_lt (length earlier) (length run)) [
       | inl inside ↦
           let (more, longer, rest) = longer_begins (earlier ++ next ∷ []) later run after
           (same ∙ sym (append_assoc earlier (next ∷ []) later)) (omega (arith, length_push earlier next)) in
-          let agreed = d.agreed earlier next more (Some pointer) field (longer ∙ append_assoc earlier (next ∷ []) more) is in
+          let agreed = delivered.agreed earlier next more (Some pointer) field (longer ∙ append_assoc earlier (next ∷ []) more) is in
           let before = length (reassembly octets earlier) in
           let place = agreeing_some (nat_lt (length packet) (before + length field)) (length packet - before) pointer (sym agreed) in
           omega (arith, place)
@@ -198,7 +198,7 @@ ends_by_pointer view octets run after packet earlier next later pointer field d 
           let (more, longer, rest) = longer_begins run after earlier (next ∷ later) (sym same) beyond in
           let all : length (reassembly octets earlier) ≡ length (reassembly octets run) + length (concat (map packet_data more)) =
           ap (λ l. length (reassembly octets l)) longer ∙ ap length (reassembly-append octets run more) ∙ length-append (reassembly octets run) (concat (map packet_data more)) in
-          omega (arith, all, ap length d.ends.1, length-append packet d.ends.0)
+          omega (arith, all, ap length delivered.ends.1, length-append packet delivered.ends.0)
     ]
 
 apart_in_later_frame : (channel : List TmView) (d e : Delivery) → IsDelivery channel d → IsDelivery channel e → d.frame < e.frame

@@ -33,8 +33,8 @@ from_frame channel d is_d = is_d.in_order ∙ append_assoc is_d.before (is_d.vie
 pub start_delivery : (channel before : List TmView) (view : TmView) (later : List TmView) (frame : ℕ) (first : Option ℕ) (octets : List ℕ) (start : ℕ)
     → channel ≡ before ++ view ∷ later → frame ≡ length before → view.field ≡ Packets first octets → IsStart octets first start
     → (outcome : Outcome) → outcome_of view (drop start (packet_data view)) later ≡ outcome → AllByRecursion (IsDelivery channel) (delivery_of frame start outcome)
-start_delivery channel before view later frame first octets start all here is s (Completes packet passed) e =
-    let w = outcome_delivered view (drop start (packet_data view)) later packet passed e in (
+start_delivery channel before view later frame first octets start all here is is_start (Completes packet passed) is_outcome =
+    let w = outcome_delivered view (drop start (packet_data view)) later packet passed is_outcome in (
       record {
         before = before;
         view = view;
@@ -46,12 +46,12 @@ start_delivery channel before view later frame first octets start all here is s 
         first = first;
         octets = octets;
         field = is;
-        start = s;
+        start = is_start;
         delivered = subst (λ field. IsDeliveredBy view (drop start (data_of field)) w.run packet) is w.delivered;
       },
       tt,
     )
-start_delivery channel before view later frame first octets start all here is s outcome e = tt
+start_delivery channel before view later frame first octets start all here is is_start outcome is_outcome = tt
 
 pub each_is_delivery : EachIsDelivery
 each_is_delivery channel =

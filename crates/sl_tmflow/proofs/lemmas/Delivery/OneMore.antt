@@ -106,7 +106,7 @@ pub at_last : (frame start : ℕ) (view : TmView) (octets : List ℕ) (f : Front
 at_last frame start view octets f = grind (arith, eq-eqb)
 
 packet_first : (packet more : List ℕ) → IsPacket packet → whole_at (front (packet ++ more)) (packet ++ more) ≡ packet ∷ []
-packet_first packet more p = grind (arith, packet_is_whole, take_at)
+packet_first packet more is_packet = grind (arith, packet_is_whole, take_at)
 
 none_at_rest : (rest : List ℕ) → ((len : ℕ) → front rest ≡ WholePacket len → ⊥) → at_rest (λ l. whole_at (front l) l) rest ≡ []
 none_at_rest rest none = grind arith
@@ -146,8 +146,8 @@ ending_with_next number frame start last next passed outcome here earlier = grin
 
 ends_before : (view : TmView) (octets : List ℕ) (later : List TmView) (packet : List ℕ) (n : ℕ)
     → outcome_of view octets later ≡ Completes packet n → n + 1 ≤ length later + 1
-ends_before view octets later packet n e =
-    let w = outcome_delivered view octets later packet n e in omega (arith, w.passed_is, ap length w.in_order, length-append w.run w.after)
+ends_before view octets later packet n completes =
+    let w = outcome_delivered view octets later packet n completes in omega (arith, w.passed_is, ap length w.in_order, length-append w.run w.after)
 
 pub frame_ending-push : (number frame : ℕ) (view : TmView) (later : List TmView) (next : TmView) → frame + (length later + 1) ≡ number
     → packets_at number (frame_deliveries frame view (later ++ next ∷ [])) ≡ flat_map (ended_in (last_of view later) next) (frame_incomplete view later)

@@ -19,7 +19,7 @@ use Rattle.sl_tmflow.proofs.lemmas.Incomplete.After.{IsIncompleteAfter, reassemb
 
 -- octets that begin a packet that isn't there whole are fewer than the packet has
 shorter_than_packet : (octets more packet rest : List ℕ) → IsPacket packet → octets ++ more ≡ packet ++ rest → front octets ≡ Incomplete → length octets < length packet
-shorter_than_packet octets more packet rest p same incomplete = grind (arith, cases_lt, incomplete_is_no_packet, prefix_of_first)
+shorter_than_packet octets more packet rest is_packet same incomplete = grind (arith, cases_lt, incomplete_is_no_packet, prefix_of_first)
 
 same_packets : (a b : Option ℕ) (xs ys : List ℕ) → Packets a xs ≡ Packets b ys → (a ≡ b) × (xs ≡ ys)
 same_packets a b xs ys same = (cc, cc)
@@ -73,16 +73,16 @@ pub record IsDeliveredWithin (view : TmView) (octets : List ℕ) (later : List T
 -- a step to a delivery: the packet ends here, or it goes on and ends later
 pub delivered_step : (s : Continuation) (passed : ℕ) (rest : Outcome) (packet : List ℕ) (n : ℕ) → after_step s passed rest ≡ Completes packet n
     → ((s ≡ Ends packet) × (passed ≡ n)) ⊎ ((s ≡ Continues) × (rest ≡ Completes packet n))
-delivered_step s passed rest packet n e = grind arith
+delivered_step s passed rest packet n completes = grind arith
 
 pub delivered_after : (first : TmView) (start : List ℕ) (run : List TmView) (passed : ℕ) (view : TmView) (octets : List ℕ) (later : List TmView) (packet : List ℕ) (n : ℕ)
     → IsIncompleteAfter first start run view octets → passed ≡ length run → outcome_after passed view octets later ≡ Completes packet n
     → IsDeliveredWithin first start (run ++ later) packet n
-delivered_after first start run passed view octets [] packet n held counted e = absurd (cc)
-delivered_after first start run passed view octets (next ∷ later) packet n held counted e =
+delivered_after first start run passed view octets [] packet n held counted completes = absurd (cc)
+delivered_after first start run passed view octets (next ∷ later) packet n held counted completes =
     let rest = outcome_after (passed + 1) next (octets ++ packet_data next) later in
     let one_more : passed + 1 ≡ length (run ++ next ∷ []) = omega (arith, length_push run next) in
-    elim (delivered_step (step_of view octets next) (passed + 1) rest packet n e) [
+    elim (delivered_step (step_of view octets next) (passed + 1) rest packet n completes) [
       | inl here ↦
           let (consecutive, ending) = step_ends view octets next packet here.0 in
           record {
@@ -115,7 +115,7 @@ same_outcome p q m n same = (cc, cc)
 
 pub outcome_delivered : (view : TmView) (octets : List ℕ) (later : List TmView) (packet : List ℕ) (n : ℕ) → outcome_of view octets later ≡ Completes packet n
     → IsDeliveredWithin view octets later packet n
-outcome_delivered view octets later packet n e = cases (front octets) refl e
+outcome_delivered view octets later packet n completes = cases (front octets) refl completes
   where
     cases : (f : Front) → front octets ≡ f → outcome_of_front f view octets later ≡ Completes packet n → IsDeliveredWithin view octets later packet n
     cases OtherVersion is outcome = absurd (cc)
@@ -129,29 +129,29 @@ outcome_delivered view octets later packet n e = cases (front octets) refl e
 -- the delivery seen from the next frame
 pub delivered_tail : (view : TmView) (octets : List ℕ) (next : TmView) (run : List TmView) (packet : List ℕ) → IsDeliveredBy view octets (next ∷ run) packet
     → IsDeliveredBy next (octets ++ packet_data next) run packet
-delivered_tail view octets next run packet d =
+delivered_tail view octets next run packet delivered =
     record {
-      is_packet = d.is_packet;
-      ends = (d.ends.0, d.ends.1 ∙ reassembly-cons octets next run);
+      is_packet = delivered.is_packet;
+      ends = (delivered.ends.0, delivered.ends.1 ∙ reassembly-cons octets next run);
       not_earlier = λ earlier last same prefix.
-          d.not_earlier (next ∷ earlier) last (ap (λ l. next ∷ l) same) (prefix.0, prefix.1 ∙ sym (reassembly-cons octets next earlier));
-      consecutive = d.consecutive.1;
-      none_opaque = d.none_opaque.1;
+          delivered.not_earlier (next ∷ earlier) last (ap (λ l. next ∷ l) same) (prefix.0, prefix.1 ∙ sym (reassembly-cons octets next earlier));
+      consecutive = delivered.consecutive.1;
+      none_opaque = delivered.none_opaque.1;
       agreed = λ earlier view' later first field same is.
-          d.agreed (next ∷ earlier) view' later first field (ap (λ l. next ∷ l) same) is
+          delivered.agreed (next ∷ earlier) view' later first field (ap (λ l. next ∷ l) same) is
           ∙ ap (λ l. agreeing_pointer (length packet) (length l) field) (reassembly-cons octets next earlier);
     }
 
 -- where a packet takes another frame, it is longer than the octets before
 pub longer_than_before : (view : TmView) (octets : List ℕ) (next : TmView) (run : List TmView) (packet : List ℕ) → IsDeliveredBy view octets (next ∷ run) packet
     → length octets < length packet
-longer_than_before view octets next run packet d =
+longer_than_before view octets next run packet delivered =
     elim (cases_lt (length octets) (length packet)) [
       | inl short ↦ short
       | inr long ↦
           let (earlier, last, same) = has_last next run in
-          let (more, split) = prefix_of_first octets (concat (map packet_data (next ∷ run))) packet d.ends.0 (sym d.ends.1) long in
-          absurd (d.not_earlier earlier last same (
+          let (more, split) = prefix_of_first octets (concat (map packet_data (next ∷ run))) packet delivered.ends.0 (sym delivered.ends.1) long in
+          absurd (delivered.not_earlier earlier last same (
             more ++ concat (map packet_data earlier),
             sym (append_assoc packet more (concat (map packet_data earlier))) ∙ ap (λ l. l ++ concat (map packet_data earlier)) split,
           ))
@@ -160,19 +160,19 @@ longer_than_before view octets next run packet d =
 -- where a packet takes another frame, it isn't whole before
 pub incomplete_before_more : (view : TmView) (octets : List ℕ) (next : TmView) (run : List TmView) (packet : List ℕ) → IsDeliveredBy view octets (next ∷ run) packet
     → front octets ≡ Incomplete
-incomplete_before_more view octets next run packet d = grind (arith, incomplete_before_end, longer_than_before)
+incomplete_before_more view octets next run packet delivered = grind (arith, incomplete_before_end, longer_than_before)
 
 agreed_first : (view : TmView) (octets : List ℕ) (next : TmView) (run : List TmView) (packet : List ℕ) (first : Option ℕ) (field : List ℕ)
     → IsDeliveredBy view octets (next ∷ run) packet → next.field ≡ Packets first field → first ≡ agreeing_pointer (length packet) (length octets) field
-agreed_first view octets next run packet first field d is =
-    d.agreed [] next run first field refl is ∙ ap (λ l. agreeing_pointer (length packet) (length l) field) (append-nil octets)
+agreed_first view octets next run packet first field delivered is =
+    delivered.agreed [] next run first field refl is ∙ ap (λ l. agreeing_pointer (length packet) (length l) field) (append-nil octets)
 
 -- the last frame of a run ends the packet
 delivered_ends : (view : TmView) (octets : List ℕ) (next : TmView) (packet : List ℕ) → IsDeliveredBy view octets (next ∷ []) packet → EndsIn octets next.field packet
-delivered_ends view octets next packet d = cases next.field refl
+delivered_ends view octets next packet delivered = cases next.field refl
   where
     no_more : packet_data next ≡ [] → ⊥
-    no_more none = d.not_earlier [] next refl (d.ends.0, d.ends.1 ∙ ap (λ l. octets ++ (l ++ [])) none)
+    no_more none = delivered.not_earlier [] next refl (delivered.ends.0, delivered.ends.1 ∙ ap (λ l. octets ++ (l ++ [])) none)
 
     cases : (f : DataField) → next.field ≡ f → EndsIn octets f packet
     cases (Packets first field) is =
@@ -180,46 +180,46 @@ delivered_ends view octets next packet d = cases next.field refl
           first = first;
           carried = field;
           is_packets = refl;
-          is_packet = d.is_packet;
-          ends = (d.ends.0, d.ends.1 ∙ ap (λ l. octets ++ l) (append-nil (packet_data next)) ∙ ap (λ f. octets ++ data_of f) is);
-          agrees = agreed_first view octets next [] packet first field d is;
+          is_packet = delivered.is_packet;
+          ends = (delivered.ends.0, delivered.ends.1 ∙ ap (λ l. octets ++ l) (append-nil (packet_data next)) ∙ ap (λ f. octets ++ data_of f) is);
+          agrees = agreed_first view octets next [] packet first field delivered is;
         }
     cases Idle is = absurd (no_more (ap data_of is))
-    cases Opaque is = absurd (d.none_opaque.0 is)
+    cases Opaque is = absurd (delivered.none_opaque.0 is)
 
 -- each other frame of a run continues the packet
 pub delivered_goes_on : (view : TmView) (octets : List ℕ) (next second : TmView) (run : List TmView) (packet : List ℕ) → IsDeliveredBy view octets (next ∷ second ∷ run) packet
     → GoesOnPast octets next.field
-delivered_goes_on view octets next second run packet d =
-    let rest = delivered_tail view octets next (second ∷ run) packet d in
+delivered_goes_on view octets next second run packet delivered =
+    let rest = delivered_tail view octets next (second ∷ run) packet delivered in
     let longer : length (octets ++ packet_data next) < length packet = longer_than_before next (octets ++ packet_data next) second run packet rest in
     record {
-      is_read = d.none_opaque.0;
+      is_read = delivered.none_opaque.0;
       no_start = λ first field is.
           let carried : length (packet_data next) ≡ length field = ap (λ f. length (data_of f)) is in
           let covered : length octets + length field ≤ length packet = omega (arith, length-append octets (packet_data next)) in
-          agreed_first view octets next (second ∷ run) packet first field d is ∙ agreeing_none (length packet) (length octets) field covered;
+          agreed_first view octets next (second ∷ run) packet first field delivered is ∙ agreeing_none (length packet) (length octets) field covered;
       incomplete = incomplete_before_more next (octets ++ packet_data next) second run packet rest;
     }
 
 pub delivered_outcome_after : (passed : ℕ) (view : TmView) (octets : List ℕ) (next : TmView) (run after : List TmView) (packet : List ℕ)
     → IsDeliveredBy view octets (next ∷ run) packet → outcome_after passed view octets (next ∷ run ++ after) ≡ Completes packet (passed + length (next ∷ run))
-delivered_outcome_after passed view octets next [] after packet d =
+delivered_outcome_after passed view octets next [] after packet delivered =
     ap (λ s. after_step s (passed + 1) (outcome_after (passed + 1) next (octets ++ packet_data next) after))
-    (ends_step view octets next packet d.consecutive.0 (delivered_ends view octets next packet d))
-delivered_outcome_after passed view octets next (second ∷ run) after packet d =
+    (ends_step view octets next packet delivered.consecutive.0 (delivered_ends view octets next packet delivered))
+delivered_outcome_after passed view octets next (second ∷ run) after packet delivered =
     let counted : passed + 1 + length (second ∷ run) ≡ passed + length (next ∷ second ∷ run) = omega arith in
     ap (λ s. after_step s (passed + 1) (outcome_after (passed + 1) next (octets ++ packet_data next) (second ∷ run ++ after)))
-    (continues_step view octets next d.consecutive.0 (delivered_goes_on view octets next second run packet d))
-    ∙ delivered_outcome_after (passed + 1) next (octets ++ packet_data next) second run after packet (delivered_tail view octets next (second ∷ run) packet d)
+    (continues_step view octets next delivered.consecutive.0 (delivered_goes_on view octets next second run packet delivered))
+    ∙ delivered_outcome_after (passed + 1) next (octets ++ packet_data next) second run after packet (delivered_tail view octets next (second ∷ run) packet delivered)
     ∙ ap (Completes packet) counted
 
 pub delivered_outcome : (view : TmView) (octets : List ℕ) (run after : List TmView) (packet : List ℕ) → IsDeliveredBy view octets run packet
     → outcome_of view octets (run ++ after) ≡ Completes packet (length run)
-delivered_outcome view octets [] after packet d =
-    let all : octets ≡ packet ++ d.ends.0 = sym (d.ends.1 ∙ append-nil octets) in
-    ap (λ f. outcome_of_front f view octets after) (ap front all ∙ packet_is_whole packet d.ends.0 d.is_packet)
-    ∙ ap (λ l. Completes (take (length packet) l) 0) all ∙ ap (λ l. Completes l 0) (take_at packet d.ends.0 (length packet) refl)
-delivered_outcome view octets (next ∷ run) after packet d =
-    ap (λ f. outcome_of_front f view octets (next ∷ run ++ after)) (incomplete_before_more view octets next run packet d)
-    ∙ delivered_outcome_after 0 view octets next run after packet d ∙ ap (Completes packet) (let e : 0 + length (next ∷ run) ≡ length (next ∷ run) = omega arith in e)
+delivered_outcome view octets [] after packet delivered =
+    let all : octets ≡ packet ++ delivered.ends.0 = sym (delivered.ends.1 ∙ append-nil octets) in
+    ap (λ f. outcome_of_front f view octets after) (ap front all ∙ packet_is_whole packet delivered.ends.0 delivered.is_packet)
+    ∙ ap (λ l. Completes (take (length packet) l) 0) all ∙ ap (λ l. Completes l 0) (take_at packet delivered.ends.0 (length packet) refl)
+delivered_outcome view octets (next ∷ run) after packet delivered =
+    ap (λ f. outcome_of_front f view octets (next ∷ run ++ after)) (incomplete_before_more view octets next run packet delivered)
+    ∙ delivered_outcome_after 0 view octets next run after packet delivered ∙ ap (Completes packet) (let e : 0 + length (next ∷ run) ≡ length (next ∷ run) = omega arith in e)

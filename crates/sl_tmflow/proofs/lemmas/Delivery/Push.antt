@@ -36,7 +36,7 @@ delivered-append xs ys = map-append (λ d. d.packet) xs ys
 
 at_packet : (view : TmView) (later : List TmView) (packet more : List ℕ) → IsPacket packet
     → completed (outcome_of view (packet ++ more) later) ≡ packet ∷ []
-at_packet view later packet more p = grind (arith, packet_is_whole, take_at)
+at_packet view later packet more is_packet = grind (arith, packet_is_whole, take_at)
 
 -- the packets of a frame's starts: those that lie whole in the data field, and that of the octets after them
 pub from_pointer : (frame : ℕ) (view : TmView) (later : List TmView) (pointer : ℕ) (octets : List ℕ)

@@ -80,7 +80,7 @@ among_offsets offset start [] (packet ∷ packets) rest here some = inl (omega a
 among_offsets offset start (packet ∷ before) packets rest here some = grind (arith, length-append, among_offsets (offset + length packet) start before packets rest (omega (arith, length-append packet (concat before))) some)
 
 pub is_among : (field : List ℕ) (first : Option ℕ) (start : ℕ) → IsStart field first start → IsAmong start (starts_from first field)
-is_among field first start s = grind (arith, packets_of-concat, rest_of-concat, each_has_packets, length-drop, among_offsets)
+is_among field first start is_start = grind (arith, packets_of-concat, rest_of-concat, each_has_packets, length-drop, among_offsets)
 
 -- ---- packet starts rise
 
@@ -178,15 +178,15 @@ module _ {X : Type 0} (at : ℕ → TmView → List TmView → ℕ → List X) (
   pub found_among : (x : X) (before : List TmView) (view : TmView) (later : List TmView) (number frame start : ℕ) (first : Option ℕ) (octets : List ℕ)
       → frame ≡ number + length before → view.field ≡ Packets first octets → IsStart octets first start → IsAmong x (at frame view later start)
       → IsAmong x (all number (before ++ view ∷ later))
-  found_among x [] view later number frame start first octets counted is s there =
+  found_among x [] view later number frame start first octets counted is is_start there =
       let same : frame ≡ number = omega arith in
       subst (IsAmong x) (sym (more number view later))
       (among-left x (flat_map (at number view later) (starts_of view.field)) (all (number + 1) later)
-      (among-flat_map x (at number view later) start (starts_of view.field) (rw is (is_among octets first start s)) (subst (λ n. IsAmong x (at n view later start)) same there)))
-  found_among x (other ∷ before) view later number frame start first octets counted is s there =
+      (among-flat_map x (at number view later) start (starts_of view.field) (rw is (is_among octets first start is_start)) (subst (λ n. IsAmong x (at n view later start)) same there)))
+  found_among x (other ∷ before) view later number frame start first octets counted is is_start there =
       subst (IsAmong x) (sym (more number other (before ++ view ∷ later)))
       (among-right x (flat_map (at number other (before ++ view ∷ later)) (starts_of other.field)) (all (number + 1) (before ++ view ∷ later))
-      (found_among x before view later (number + 1) frame start first octets (omega arith) is s there))
+      (found_among x before view later (number + 1) frame start first octets (omega arith) is is_start there))
 
 -- ---- frames in which no packet starts
 

@@ -23,7 +23,7 @@ prefix_of_first octets more packet rest same inside =
 
 -- a packet isn't whole before its end
 pub incomplete_before_end : (octets more packet rest : List ℕ) → IsPacket packet → octets ++ more ≡ packet ++ rest → length octets < length packet → front octets ≡ Incomplete
-incomplete_before_end octets more packet rest p same short = grind (arith, common_steps, foreign_is_no_packet, whole_is_a_packet, append_assoc, take-append-drop, length-take-le)
+incomplete_before_end octets more packet rest is_packet same short = grind (arith, common_steps, foreign_is_no_packet, whole_is_a_packet, append_assoc, take-append-drop, length-take-le)
 
 -- where no packet is whole, none was whole before
 pub incomplete_before : (octets more : List ℕ) → front (octets ++ more) ≡ Incomplete → front octets ≡ Incomplete
@@ -31,7 +31,7 @@ incomplete_before octets more incomplete = grind (arith, common_steps, incomplet
 
 -- where no packet is whole, none lies at the front
 pub incomplete_is_no_packet : (octets packet : List ℕ) → IsPacket packet → front octets ≡ Incomplete → IsPrefix packet octets → ⊥
-incomplete_is_no_packet octets packet p incomplete prefix = grind (arith, packet_is_whole)
+incomplete_is_no_packet octets packet is_packet incomplete prefix = grind (arith, packet_is_whole)
 
 -- ---- pointers
 
@@ -57,18 +57,18 @@ pub record GoesOnPast (octets : List ℕ) (field : DataField) : Type 0 where
   pub incomplete : front (octets ++ data_of field) ≡ Incomplete
 
 ends_test : (b : Bool) (whole packet : List ℕ) → (if b then Ends whole else Breaks) ≡ Ends packet → (b ≡ true) × (whole ≡ packet)
-ends_test b whole packet e = grind arith
+ends_test b whole packet ends = grind arith
 
 no_end : (first : Option ℕ) (packet : List ℕ) → (if is_some first then Breaks else Continues) ≡ Ends packet → ⊥
-no_end first packet e = grind arith
+no_end first packet ends = grind arith
 
 front_ends : (first : Option ℕ) (before : ℕ) (field all : List ℕ) (f : Front) (packet : List ℕ) → front_step first before field all f ≡ Ends packet
     → (len : ℕ) × (f ≡ WholePacket len) × (first ≡ agreeing_pointer len before field) × (take len all ≡ packet)
-front_ends first before field all f packet e = grind (arith, no_end, ends_test, eqb-true)
+front_ends first before field all f packet ends = grind (arith, no_end, ends_test, eqb-true)
 
 pub field_ends : (octets : List ℕ) (field : DataField) (packet : List ℕ) → field_step octets field ≡ Ends packet → EndsIn octets field packet
-field_ends octets (Packets first carried) packet e =
-    let (len, is_whole, agrees, packet_is) = front_ends first (length octets) carried (octets ++ carried) (front (octets ++ carried)) packet e in
+field_ends octets (Packets first carried) packet is_end =
+    let (len, is_whole, agrees, packet_is) = front_ends first (length octets) carried (octets ++ carried) (front (octets ++ carried)) packet is_end in
     let whole = whole_is_a_packet (octets ++ carried) len is_whole in
     let len_is : len ≡ length packet = sym (length-take-le len (octets ++ carried) whole.1) ∙ ap length packet_is in
     record {
@@ -79,23 +79,23 @@ field_ends octets (Packets first carried) packet e =
       ends = (drop len (octets ++ carried), ap (λ l. l ++ drop len (octets ++ carried)) (sym packet_is) ∙ take-append-drop len (octets ++ carried));
       agrees = agrees ∙ ap (λ n. agreeing_pointer n (length octets) carried) len_is;
     }
-field_ends octets Idle packet e = absurd (cc)
-field_ends octets Opaque packet e = absurd (cc)
+field_ends octets Idle packet is_end = absurd (cc)
+field_ends octets Opaque packet is_end = absurd (cc)
 
 pub ends_field : (octets : List ℕ) (field : DataField) (packet : List ℕ) → EndsIn octets field packet → field_step octets field ≡ Ends packet
 ends_field octets field packet ending = grind (arith, packet_is_whole, take_at, eq-eqb)
 
 no_pointer : (first : Option ℕ) → (if is_some first then Breaks else Continues) ≡ Continues → first ≡ None
-no_pointer first e = grind arith
+no_pointer first continues = grind arith
 
 front_continues : (first : Option ℕ) (before : ℕ) (field all : List ℕ) (f : Front) → front_step first before field all f ≡ Continues
     → (f ≡ Incomplete) × (first ≡ None)
-front_continues first before field all f e = grind (arith, no_pointer)
+front_continues first before field all f continues = grind (arith, no_pointer)
 
 -- the next frame is consecutive where its step isn't a break
 pub step_ends : (view : TmView) (octets : List ℕ) (next : TmView) (packet : List ℕ) → step_of view octets next ≡ Ends packet
     → (is_consecutive view next ≡ true) × EndsIn octets next.field packet
-step_ends view octets next packet e = grind (arith, common_steps, field_ends)
+step_ends view octets next packet ends = grind (arith, common_steps, field_ends)
 
 pub ends_step : (view : TmView) (octets : List ℕ) (next : TmView) (packet : List ℕ) → is_consecutive view next ≡ true → EndsIn octets next.field packet
     → step_of view octets next ≡ Ends packet
@@ -103,7 +103,7 @@ ends_step view octets next packet consecutive ending = grind (arith, common_step
 
 pub step_continues : (view : TmView) (octets : List ℕ) (next : TmView) → front octets ≡ Incomplete → step_of view octets next ≡ Continues
     → (is_consecutive view next ≡ true) × GoesOnPast octets next.field
-step_continues view octets next incomplete e = grind (arith, front_continues, append-nil)
+step_continues view octets next incomplete continues = grind (arith, front_continues, append-nil)
 
 pub continues_step : (view : TmView) (octets : List ℕ) (next : TmView) → is_consecutive view next ≡ true → GoesOnPast octets next.field
     → step_of view octets next ≡ Continues

@@ -27,11 +27,11 @@ module _ (room : ℕ) (packets : List (List ℕ)) where
 
   pub pointer_is : (number : ℕ) (before : List ℕ) (todo : List (List ℕ)) (count : ℕ) → 0 < room → IsCut number before todo (suc count)
       → first_of room number (packet_offsets 0 packets []) ≡ pointer_at room (length before)
-  pointer_is number before todo count some s = grind (arith, first_is, suc-mul)
+  pointer_is number before todo count some cut = grind (arith, first_is, suc-mul)
 
   pub field_is : (number : ℕ) (before : List ℕ) (todo : List (List ℕ)) (count : ℕ) → IsCut number before todo count
       → data_field_of room number (concat packets) ≡ take room (before ++ concat todo)
-  field_is number before todo count s = ap (take room) s.octets
+  field_is number before todo count cut = ap (take room) cut.octets
 
   -- the place of the next data field
   next_field : (number : ℕ) → number * room + room ≡ (number + 1) * room
@@ -43,7 +43,7 @@ module _ (room : ℕ) (packets : List (List ℕ)) where
   -- past a data field that an earlier packet covers to its end
   pub past_covered : (number : ℕ) (before : List ℕ) (todo : List (List ℕ)) (count : ℕ) → room ≤ length before → IsCut number before todo (suc count)
       → IsCut (number + 1) (drop room before) todo count
-  past_covered number before todo count covered s = grind (arith, next_field, length-drop, past_field, drop-append-le, suc-mul)
+  past_covered number before todo count covered cut = grind (arith, next_field, length-drop, past_field, drop-append-le, suc-mul)
 
   -- In the data field with this number, `gap` octets are left, from the front of these packets on, and `count` data
   -- fields come later.
@@ -58,40 +58,40 @@ module _ (room : ℕ) (packets : List (List ℕ)) where
   -- to the first packet start of a data field
   pub at_first_start : (number : ℕ) (before : List ℕ) (todo : List (List ℕ)) (count : ℕ) → length before ≤ room → IsCut number before todo (suc count)
       → IsInside number (room - length before) todo count
-  at_first_start number before todo count inside s =
+  at_first_start number before todo count inside cut =
       let whole : length before + (room - length before) ≡ room = omega (arith, inside) in
       record {
         start = length before;
         place = whole;
-        found = λ n after. s.found n (omega (arith, after));
-        octets = past_field number ∙ ap (drop room) s.octets ∙ ap (λ n. drop n (before ++ concat todo)) (sym whole) ∙ drop-append-add before (concat todo) (room - length before);
-        size = omega (arith, s.size, inside, suc-mul count room);
-        each = s.each;
+        found = λ n after. cut.found n (omega (arith, after));
+        octets = past_field number ∙ ap (drop room) cut.octets ∙ ap (λ n. drop n (before ++ concat todo)) (sym whole) ∙ drop-append-add before (concat todo) (room - length before);
+        size = omega (arith, cut.size, inside, suc-mul count room);
+        each = cut.each;
       }
 
   -- past a packet that lies whole in the data field
   pub past_whole : (number gap : ℕ) (packet : List ℕ) (todo : List (List ℕ)) (count : ℕ) → 0 < gap → length packet ≤ gap → IsInside number gap (packet ∷ todo) count
       → IsInside number (gap - length packet) todo count
-  past_whole number gap packet todo count some whole s =
-      let place = s.place in
+  past_whole number gap packet todo count some whole is_inside =
+      let place = is_inside.place in
       let parts : length packet + (gap - length packet) ≡ gap = omega (arith, whole) in
-      let next : number * room + s.start + length packet ≡ number * room + (s.start + length packet) = omega arith in
+      let next : number * room + is_inside.start + length packet ≡ number * room + (is_inside.start + length packet) = omega arith in
       record {
-        start = s.start + length packet;
+        start = is_inside.start + length packet;
         place = omega (arith, place, parts);
         found = λ n after.
-            s.found n after ∙ skip_packet room n (number * room + s.start) packet todo (lies_elsewhere room number n s.start (omega (arith, place, some)) (omega (arith, after)))
+            is_inside.found n after ∙ skip_packet room n (number * room + is_inside.start) packet todo (lies_elsewhere room number n is_inside.start (omega (arith, place, some)) (omega (arith, after)))
             ∙ ap (λ k. found_in room n k todo) next;
-        octets = s.octets ∙ ap (λ n. drop n (packet ++ concat todo)) (sym parts) ∙ drop-append-add packet (concat todo) (gap - length packet);
-        size = omega (arith, s.size, length-append packet (concat todo), parts);
-        each = s.each.1;
+        octets = is_inside.octets ∙ ap (λ n. drop n (packet ++ concat todo)) (sym parts) ∙ drop-append-add packet (concat todo) (gap - length packet);
+        size = omega (arith, is_inside.size, length-append packet (concat todo), parts);
+        each = is_inside.each.1;
       }
 
   -- to the next data field, where the packets fill this one
   pub past_filled : (number : ℕ) (todo : List (List ℕ)) (count : ℕ) → IsInside number 0 todo count → IsCut (number + 1) [] todo count
-  past_filled number todo count s = grind (arith, next_field)
+  past_filled number todo count is_inside = grind (arith, next_field)
 
   -- to the next data field, where a packet goes on in it
   pub past_begun : (number gap : ℕ) (packet : List ℕ) (todo : List (List ℕ)) (count : ℕ) → 0 < gap → gap ≤ length packet → IsInside number gap (packet ∷ todo) count
       → IsCut (number + 1) (drop gap packet) todo count
-  past_begun number gap packet todo count some more s = grind (arith, next_field, length-drop, skip_packet, lies_elsewhere, drop-append-le, length-append)
+  past_begun number gap packet todo count some more is_inside = grind (arith, next_field, length-drop, skip_packet, lies_elsewhere, drop-append-le, length-append)

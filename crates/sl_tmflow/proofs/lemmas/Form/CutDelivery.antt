@@ -41,7 +41,7 @@ abbrev pub delivered_in : TmView → List TmView → List ℕ → List (List ℕ
 delivered_in view later octets = packets_of octets ++ at_rest (λ l. completed (outcome_of view l later)) (rest_of octets)
 
 in_packet : (view : TmView) (later : List TmView) (packet octets : List ℕ) → IsPacket packet → delivered_in view later (packet ++ octets) ≡ packet ∷ delivered_in view later octets
-in_packet view later packet octets p = grind (arith, packets_of-packet, rest_of-packet)
+in_packet view later packet octets is_packet = grind (arith, packets_of-packet, rest_of-packet)
 
 in_begun : (view : TmView) (later : List TmView) (octets : List ℕ) → 0 < length octets → front octets ≡ Incomplete
     → delivered_in view later octets ≡ completed (outcome_of_front Incomplete view octets later)
@@ -65,34 +65,34 @@ module _ (room vc mc : ℕ) (packets : List (List ℕ)) where
   -- a frame in which a packet ends
   ends_here : (number : ℕ) (so_far more : List ℕ) (todo : List (List ℕ)) (count : ℕ) → 0 < room → IsPacket (so_far ++ more) → length more ≤ room
       → IsCut room packets number more todo (suc count) → EndsIn so_far (view_at number).field (so_far ++ more)
-  ends_here number so_far more todo count some p ends s =
+  ends_here number so_far more todo count some packet_is ends cut =
       let whole : length more + (room - length more) ≡ room = omega (arith, ends) in
       let all = data_field_of room number (concat packets) in
       let rest = take (room - length more) (concat todo) in
-      let all_is : all ≡ more ++ rest = field_is room packets number more todo (suc count) s ∙ ap (λ n. take n (more ++ concat todo)) (sym whole) ∙ take-append-add more (concat todo) (room - length more) in
-      let long : length rest ≡ room - length more = length-take-le (room - length more) (concat todo) (omega (arith, s.size, suc-mul count room, ends)) in
+      let all_is : all ≡ more ++ rest = field_is room packets number more todo (suc count) cut ∙ ap (λ n. take n (more ++ concat todo)) (sym whole) ∙ take-append-add more (concat todo) (room - length more) in
+      let long : length rest ≡ room - length more = length-take-le (room - length more) (concat todo) (omega (arith, cut.size, suc-mul count room, ends)) in
       let full : length all ≡ room = omega (arith, ap length all_is, length-append more rest, long, ends) in
       record {
         first = first_of room number (packet_offsets 0 packets []);
         carried = all;
         is_packets = refl;
-        is_packet = p;
+        is_packet = packet_is;
         ends = (rest, append_assoc so_far more rest ∙ ap (λ l. so_far ++ l) (sym all_is));
         agrees =
-            pointer_is room packets number more todo count some s
+            pointer_is room packets number more todo count some cut
             ∙ pointer_agrees room (length (so_far ++ more)) (length so_far) (length more) all full (length-append so_far more) ends;
       }
 
   -- a frame that a packet covers
   field_covered : (number : ℕ) (more : List ℕ) (todo : List (List ℕ)) (count : ℕ) → room ≤ length more → IsCut room packets number more todo count
       → data_field_of room number (concat packets) ≡ take room more
-  field_covered number more todo count covered s = field_is room packets number more todo count s ∙ take-append-le room more (concat todo) covered
+  field_covered number more todo count covered cut = field_is room packets number more todo count cut ∙ take-append-le room more (concat todo) covered
 
   goes_on_here : (number : ℕ) (so_far more : List ℕ) (todo : List (List ℕ)) (count : ℕ) → 0 < room → IsPacket (so_far ++ more) → room < length more
       → IsCut room packets number more todo (suc count) → GoesOnPast so_far (view_at number).field
-  goes_on_here number so_far more todo count some p longer s =
+  goes_on_here number so_far more todo count some is_packet longer cut =
       let all = data_field_of room number (concat packets) in
-      let all_is : all ≡ take room more = field_covered number more todo (suc count) (omega (arith, longer)) s in
+      let all_is : all ≡ take room more = field_covered number more todo (suc count) (omega (arith, longer)) cut in
       let full : length (take room more) ≡ room = length-take-le room more (omega (arith, longer)) in
       let none : pointer_at room (length more) ≡ None = ap (λ b. if b then Some (length more) else None) (le-ltb (length more) room (omega (arith, longer))) in
       let parts : (so_far ++ all) ++ drop room more ≡ (so_far ++ more) ++ [] =
@@ -100,9 +100,9 @@ module _ (room vc mc : ℕ) (packets : List (List ℕ)) where
       ∙ sym (append-nil (so_far ++ more)) in
       record {
         is_read = λ same. cc;
-        no_start = λ first carried same. let p : first ≡ first_of room number (packet_offsets 0 packets []) = cc in p ∙ pointer_is room packets number more todo count some s ∙ none;
+        no_start = λ first carried same. let is_packet : first ≡ first_of room number (packet_offsets 0 packets []) = cc in is_packet ∙ pointer_is room packets number more todo count some cut ∙ none;
         incomplete =
-            incomplete_before_end (so_far ++ all) (drop room more) (so_far ++ more) [] p parts
+            incomplete_before_end (so_far ++ all) (drop room more) (so_far ++ more) [] is_packet parts
             (omega (arith, length-append so_far all, length-append so_far more, ap length all_is, full, longer));
       }
 
@@ -110,26 +110,26 @@ module _ (room vc mc : ℕ) (packets : List (List ℕ)) where
   pub put_together : (count number passed : ℕ) (view : TmView) (so_far more : List ℕ) (todo : List (List ℕ)) → 0 < room → follows view.vc_count (number % 256) ≡ true
       → IsPacket (so_far ++ more) → 0 < length more → IsCut room packets number more todo count
       → completed (outcome_after passed view so_far (views_from number count)) ≡ (so_far ++ more) ∷ []
-  put_together zero number passed view so_far more todo some next p there s = absurd (let size = s.size in let none = zero-mul room in omega arith)
-  put_together (suc count) number passed view so_far more todo some next p there s =
+  put_together zero number passed view so_far more todo some next is_packet there cut = absurd (let size = cut.size in let none = zero-mul room in omega arith)
+  put_together (suc count) number passed view so_far more todo some next is_packet there cut =
       let here = view_at number in
       let later = outcome_after (passed + 1) here (so_far ++ packet_data here) (views_from (number + 1) count) in
       elim (leb_tells (suc room) (length more)) [
         | inl (test, longer) ↦
             let long : room < length more = omega (arith, longer) in
             let covered : room ≤ length more = omega (arith, longer) in
-            let all_is = field_covered number more todo (suc count) covered s in
+            let all_is = field_covered number more todo (suc count) covered cut in
             let parts : (so_far ++ take room more) ++ drop room more ≡ so_far ++ more =
             append_assoc so_far (take room more) (drop room more) ∙ ap (λ l. so_far ++ l) (take-append-drop room more) in
             let rest : 0 < length (drop room more) = omega (arith, length-drop room more, long) in
-            ap (λ c. completed (after_step c (passed + 1) later)) (continues_step view so_far here next (goes_on_here number so_far more todo count some p long s))
+            ap (λ c. completed (after_step c (passed + 1) later)) (continues_step view so_far here next (goes_on_here number so_far more todo count some is_packet long cut))
             ∙ ap (λ l. completed (outcome_after (passed + 1) here (so_far ++ l) (views_from (number + 1) count))) all_is
             ∙ put_together count (number + 1) (passed + 1) here (so_far ++ take room more) (drop room more) todo some (next_count number)
-            (subst IsPacket (sym parts) p) rest (past_covered room packets number more todo count covered s)
+            (subst IsPacket (sym parts) is_packet) rest (past_covered room packets number more todo count covered cut)
             ∙ ap (λ l. l ∷ []) parts
         | inr (test, short) ↦
             ap (λ c. completed (after_step c (passed + 1) later))
-            (ends_step view so_far here (so_far ++ more) next (ends_here number so_far more todo count some p (omega (arith, short)) s))
+            (ends_step view so_far here (so_far ++ more) next (ends_here number so_far more todo count some is_packet (omega (arith, short)) cut))
       ]
 
   -- the packets that begin in later data fields are delivered in order
@@ -140,12 +140,12 @@ module _ (room vc mc : ℕ) (packets : List (List ℕ)) where
   delivered_inside : (todo : List (List ℕ)) (number gap count : ℕ) (later : List (List ℕ)) → 0 < room → IsInside room packets number gap todo count
       → AreDeliveredLater (number + 1) count later
       → delivered_in (view_at number) (views_from (number + 1) count) (take gap (concat todo)) ++ later ≡ todo
-  delivered_inside [] number gap count later some s each =
-      let none : gap ≡ 0 = let size = s.size in omega arith in
-      let filled = past_filled room packets number [] count (subst (λ g. IsInside room packets number g [] count) none s) in
+  delivered_inside [] number gap count later some is_inside each =
+      let none : gap ≡ 0 = let size = is_inside.size in omega arith in
+      let filled = past_filled room packets number [] count (subst (λ g. IsInside room packets number g [] count) none is_inside) in
       ap (λ l. delivered_in (view_at number) (views_from (number + 1) count) l ++ later) (take-nil gap) ∙ each [] [] filled
-  delivered_inside (packet ∷ todo) number zero count later some s each = each [] (packet ∷ todo) (past_filled room packets number (packet ∷ todo) count s)
-  delivered_inside (packet ∷ todo) number (suc gap) count later some s each =
+  delivered_inside (packet ∷ todo) number zero count later some is_inside each = each [] (packet ∷ todo) (past_filled room packets number (packet ∷ todo) count is_inside)
+  delivered_inside (packet ∷ todo) number (suc gap) count later some is_inside each =
       let all = suc gap in
       let here = view_at number in
       let next = views_from (number + 1) count in
@@ -156,18 +156,18 @@ module _ (room vc mc : ℕ) (packets : List (List ℕ)) where
             let first : take all (packet ++ concat todo) ≡ packet ++ take left (concat todo) =
             ap (λ n. take n (packet ++ concat todo)) (sym parts) ∙ take-append-add packet (concat todo) left in
             ap (λ l. delivered_in here next l ++ later) first
-            ∙ ap (λ l. l ++ later) (in_packet here next packet (take left (concat todo)) s.each.0)
-            ∙ ap (λ l. packet ∷ l) (delivered_inside todo number left count later some (past_whole room packets number all packet todo count (omega arith) whole s) each)
+            ∙ ap (λ l. l ++ later) (in_packet here next packet (take left (concat todo)) is_inside.each.0)
+            ∙ ap (λ l. packet ∷ l) (delivered_inside todo number left count later some (past_whole room packets number all packet todo count (omega arith) whole is_inside) each)
         | inr (test, longer) ↦
             let inside : all ≤ length packet = omega (arith, longer) in
             let octets = take all packet in
             let more = drop all packet in
-            let cut = past_begun room packets number all packet todo count (omega arith) inside s in
+            let cut = past_begun room packets number all packet todo count (omega arith) inside is_inside in
             let split : octets ++ more ≡ packet = take-append-drop all packet in
             let long : length octets ≡ all = length-take-le all packet inside in
-            let p : IsPacket (octets ++ more) = subst IsPacket (sym split) s.each.0 in
+            let p : IsPacket (octets ++ more) = subst IsPacket (sym split) is_inside.each.0 in
             let incomplete : front octets ≡ Incomplete =
-            incomplete_before_end octets more packet [] s.each.0 (split ∙ sym (append-nil packet)) (omega (arith, long, longer)) in
+            incomplete_before_end octets more packet [] is_inside.each.0 (split ∙ sym (append-nil packet)) (omega (arith, long, longer)) in
             let rest : 0 < length more = omega (arith, length-drop all packet, longer) in
             ap (λ l. delivered_in here next l ++ later) (take-append-le all packet (concat todo) inside)
             ∙ ap (λ l. l ++ later)
@@ -179,14 +179,14 @@ module _ (room vc mc : ℕ) (packets : List (List ℕ)) where
   -- the frames from this number on deliver the packets that begin in them
   delivered_later : (count number frame : ℕ) (before : List ℕ) (todo : List (List ℕ)) → 0 < room → IsCut room packets number before todo count
       → packets_delivered (deliveries_from frame (views_from number count)) ≡ todo
-  delivered_later zero number frame before todo some s =
-      let size = s.size in let none = zero-mul room in sym (no_octets todo s.each (omega arith))
-  delivered_later (suc count) number frame before todo some s =
+  delivered_later zero number frame before todo some cut =
+      let size = cut.size in let none = zero-mul room in sym (no_octets todo cut.each (omega arith))
+  delivered_later (suc count) number frame before todo some cut =
       let here = view_at number in
       let next = views_from (number + 1) count in
       let later : List (List ℕ) = packets_delivered (deliveries_from (frame + 1) next) in
       let octets = data_field_of room number (concat packets) in
-      let pointer = pointer_is room packets number before todo count some s in
+      let pointer = pointer_is room packets number before todo count some cut in
       map-append (λ d. d.packet) (frame_deliveries frame here next) (deliveries_from (frame + 1) next)
       ∙ elim (leb_tells (suc (length before)) room) [
         | inl (test, inside) ↦
@@ -195,16 +195,16 @@ module _ (room vc mc : ℕ) (packets : List (List ℕ)) where
             let is : here.field ≡ Packets (Some start) octets = ap (λ f. Packets f octets) (pointer ∙ ap (λ b. if b then Some start else None) test) in
             let whole : start + (room - start) ≡ room = omega (arith, within) in
             let octets_are : drop start octets ≡ take (room - start) (concat todo) =
-            ap (drop start) (field_is room packets number before todo (suc count) s ∙ ap (λ n. take n (before ++ concat todo)) (sym whole) ∙ take-append-add before (concat todo) (room - start))
+            ap (drop start) (field_is room packets number before todo (suc count) cut ∙ ap (λ n. take n (before ++ concat todo)) (sym whole) ∙ take-append-add before (concat todo) (room - start))
             ∙ drop-append_seam before (take (room - start) (concat todo)) in
             ap (λ l. l ++ later) (ap (λ f. packets_delivered (field_deliveries frame here next f)) is ∙ from_pointer frame here next start octets ∙ ap (delivered_in here next) octets_are)
-            ∙ delivered_inside todo number (room - start) count later some (at_first_start room packets number before todo count within s)
+            ∙ delivered_inside todo number (room - start) count later some (at_first_start room packets number before todo count within cut)
             (λ before' todo' s'. delivered_later count (number + 1) (frame + 1) before' todo' some s')
         | inr (test, beyond) ↦
             let covered : room ≤ length before = omega (arith, beyond) in
             let is : here.field ≡ Packets None octets = ap (λ f. Packets f octets) (pointer ∙ ap (λ b. if b then Some (length before) else None) test) in
             ap (λ l. l ++ later) (ap (λ f. packets_delivered (field_deliveries frame here next f)) is)
-            ∙ delivered_later count (number + 1) (frame + 1) (drop room before) todo some (past_covered room packets number before todo count covered s)
+            ∙ delivered_later count (number + 1) (frame + 1) (drop room before) todo some (past_covered room packets number before todo count covered cut)
       ]
 
   -- all packets are delivered

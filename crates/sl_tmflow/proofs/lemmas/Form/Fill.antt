@@ -31,9 +31,9 @@ at_least_two room k some more = grind (arith, add-mul, one-mul)
 
 -- the octets after whole rooms, in a multiple of the room, are whole rooms
 whole_rooms : (room q k s : ℕ) → q * room + s ≡ k * room → 0 < s → (d : ℕ) × (s ≡ d * room)
-whole_rooms room zero k s e some = (k, omega (arith, e, zero-mul room))
-whole_rooms room (suc q) zero s e some = let z = zero-mul room in absurd (omega arith)
-whole_rooms room (suc q) (suc k) s e some = grind (arith, suc-mul, whole_rooms room q k s (omega arith) some)
+whole_rooms room zero k s rooms some = (k, omega (arith, rooms, zero-mul room))
+whole_rooms room (suc q) zero s rooms some = let z = zero-mul room in absurd (omega arith)
+whole_rooms room (suc q) (suc k) s rooms some = grind (arith, suc-mul, whole_rooms room q k s (omega arith) some)
 
 pub none_left : (room count : ℕ) → count * room % room ≡ 0
 none_left room count =
@@ -45,14 +45,14 @@ at_least_one room count some = grind (arith, suc-mul)
 
 -- a multiple of the room after the octets of a part of a room has at least the rest of this room
 past_one_room : (room left gap other d : ℕ) → 0 < left → gap + left ≡ room → left + other ≡ d * room → gap ≤ other
-past_one_room room left gap other d some whole e = grind (arith, zero-mul, at_least_one)
+past_one_room room left gap other d some whole rooms = grind (arith, zero-mul, at_least_one)
 
 past_two_rooms : (room left gap other d : ℕ) → 0 < left → 0 < gap → gap < 7 → gap + left ≡ room → (other ≡ 0) ⊎ (7 ≤ other) → left + other ≡ d * room → gap + room ≤ other
-past_two_rooms room left gap other d some there narrow whole (inl none) e =
-    let o = past_one_room room left gap other d some whole e in absurd (omega arith)
-past_two_rooms room left gap other zero some there narrow whole (inr wide) e = let z = zero-mul room in absurd (omega arith)
-past_two_rooms room left gap other (suc zero) some there narrow whole (inr wide) e = let o = one-mul room in absurd (omega arith)
-past_two_rooms room left gap other (suc (suc d)) some there narrow whole (inr wide) e =
+past_two_rooms room left gap other d some there narrow whole (inl none) rooms =
+    let o = past_one_room room left gap other d some whole rooms in absurd (omega arith)
+past_two_rooms room left gap other zero some there narrow whole (inr wide) rooms = let z = zero-mul room in absurd (omega arith)
+past_two_rooms room left gap other (suc zero) some there narrow whole (inr wide) rooms = let o = one-mul room in absurd (omega arith)
+past_two_rooms room left gap other (suc (suc d)) some there narrow whole (inr wide) rooms =
     let o = at_least_two room (suc (suc d)) (omega arith) (λ h. absurd (omega arith)) in omega arith
 
 -- the least filling, where the last room is partly filled

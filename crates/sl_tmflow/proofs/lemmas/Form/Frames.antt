@@ -48,12 +48,12 @@ pub pushes_next : (format : TmFormat) (heading : Heading) (end : List ℕ) (size
     → form' ≡ form ++ headed_frame format heading first field → len ≡ length form → len' ≡ length form'
     → IsPushing format heading end size first left form len
     → IsPushing format (heading_after heading 1) end size None later form' len'
-pushes_next format heading end size first left field later form form' len len' roomy long divided whole added is is' p = grind (arith, one_more_field, suc-mul, append_assoc, next_field, length-append, common_steps, with_fecf_whole, length-octets_of)
+pushes_next format heading end size first left field later form form' len len' roomy long divided whole added is is' pushing = grind (arith, one_more_field, suc-mul, append_assoc, next_field, length-append, common_steps, with_fecf_whole, length-octets_of)
 
 -- all frames are pushed where no data field is left
 pub all_pushed : (format : TmFormat) (heading : Heading) (end : List ℕ) (size : ℕ) (first : Option ℕ) (left form : List ℕ) (len : ℕ) → length left < field_room_of format
     → IsPushing format heading end size first left form len → (form ≡ end) × (len ≡ size)
-all_pushed format heading end size first left form len few p = grind (arith, none_filled, zero-mul, append-nil)
+all_pushed format heading end size first left form len few pushing = grind (arith, none_filled, zero-mul, append-nil)
 
 -- ---- octets and a packet after them
 

@@ -25,47 +25,47 @@ use Rattle.sl_tmflow.proofs.lemmas.Form.Pieces.{fields_are, two_ranges, count_la
 pub left_next : (s : FormProgress) (left packet : List ℕ) (later : List (List ℕ)) (taken : ℕ) → 0 < field_room_of s.format → length s.octets < field_room_of s.format
     → drop s.taken (filled_packets s) ≡ packet ∷ later → drop taken (filled_packets s) ≡ later → taken ≤ length (channel_packets s) + 1 → IsLeft s left
     → (more : List ℕ) × ((left ≡ piece_of s packet ++ more) × IsLeft (after_packet s packet taken) more)
-left_next s left packet later taken roomy few here there most l =
+left_next s left packet later taken roomy few here there most is_left =
     let room = field_room_of s.format in
     let filled = filled_packets s in
     let all = s.octets ++ packet in
     let many = fields_in s.format all in
-    let p : IsPending room filled l.count s.start s.octets (packet ∷ later) = subst (IsPending room filled l.count s.start s.octets) here l.pending in
+    let p : IsPending room filled is_left.count s.start s.octets (packet ∷ later) = subst (IsPending room filled is_left.count s.start s.octets) here is_left.pending in
     let fields = div-add-mod' (length all) room in
     let inside : concat filled ≡ p.made ++ (all ++ concat later) = p.parts ∙ ap (λ o. p.made ++ o) (sym (append_assoc s.octets packet (concat later))) in
-    let sum = add-mul l.count many room in
-    let long : (l.count + many) * room ≤ length (concat filled) =
+    let sum = add-mul is_left.count many room in
+    let long : (is_left.count + many) * room ≤ length (concat filled) =
     omega (arith, sum, p.size, fields, ap length inside, length-append p.made (all ++ concat later), length-append all (concat later)) in
-    let enough : l.count + many ≤ length (concat filled) / room = (le-div_iff_mul-le roomy).1 long in
-    let rest = l.many - many in
-    let split : l.many ≡ many + rest = omega (arith, enough, l.all) in
-    let frame = channel_frame s.format s.spacecraft s.vc l.before filled in
-    let others = λ (n : ℕ). concat (frames_from_channel s.format s.spacecraft (s.vc + 1) (l.before + n) (drop (s.vc + 1) (take 8 s.lists))) in
-    let piece : piece_of s packet ≡ concat (map frame (range_with_len l.count many)) =
-    fields_are s.format s.spacecraft s.vc l.before filled many l.count (Some s.start) s.master s.counter p.made all (concat later) inside p.size (omega (arith, fields)) l.master_is l.counter_is
-    (λ some. starts_here room filled l.count s.start s.octets packet later few p) (starts_no_later room filled l.count s.start s.octets packet later few p) in
-    let made = map frame (range_with_len l.count many) in
-    let unmade = map frame (range_with_len (l.count + many) rest) in
-    let total : l.count + (many + rest) ≡ l.count + many + rest = omega arith in
-    let master : l.before + l.count + many ≡ l.before + (l.count + many) = omega arith in (
-      concat unmade ++ others (l.count + many + rest),
+    let enough : is_left.count + many ≤ length (concat filled) / room = (le-div_iff_mul-le roomy).1 long in
+    let rest = is_left.many - many in
+    let split : is_left.many ≡ many + rest = omega (arith, enough, is_left.all) in
+    let frame = channel_frame s.format s.spacecraft s.vc is_left.before filled in
+    let others = λ (n : ℕ). concat (frames_from_channel s.format s.spacecraft (s.vc + 1) (is_left.before + n) (drop (s.vc + 1) (take 8 s.lists))) in
+    let piece : piece_of s packet ≡ concat (map frame (range_with_len is_left.count many)) =
+    fields_are s.format s.spacecraft s.vc is_left.before filled many is_left.count (Some s.start) s.master s.counter p.made all (concat later) inside p.size (omega (arith, fields)) is_left.master_is is_left.counter_is
+    (λ some. starts_here room filled is_left.count s.start s.octets packet later few p) (starts_no_later room filled is_left.count s.start s.octets packet later few p) in
+    let made = map frame (range_with_len is_left.count many) in
+    let unmade = map frame (range_with_len (is_left.count + many) rest) in
+    let total : is_left.count + (many + rest) ≡ is_left.count + many + rest = omega arith in
+    let master : is_left.before + is_left.count + many ≡ is_left.before + (is_left.count + many) = omega arith in (
+      concat unmade ++ others (is_left.count + many + rest),
       (
-        l.left_is ∙ ap (λ n. concat (map frame (range_with_len l.count n)) ++ others (l.count + n)) split
-            ∙ ap (λ n. concat (map frame (range_with_len l.count (many + rest))) ++ others n) total
-            ∙ ap (λ fs. concat fs ++ others (l.count + many + rest)) (two_ranges frame many l.count rest)
-            ∙ ap (λ fs. fs ++ others (l.count + many + rest)) (concat-append made unmade)
-            ∙ append_assoc (concat made) (concat unmade) (others (l.count + many + rest))
-            ∙ ap (λ o. o ++ (concat unmade ++ others (l.count + many + rest))) (sym piece),
+        is_left.left_is ∙ ap (λ n. concat (map frame (range_with_len is_left.count n)) ++ others (is_left.count + n)) split
+            ∙ ap (λ n. concat (map frame (range_with_len is_left.count (many + rest))) ++ others n) total
+            ∙ ap (λ fs. concat fs ++ others (is_left.count + many + rest)) (two_ranges frame many is_left.count rest)
+            ∙ ap (λ fs. fs ++ others (is_left.count + many + rest)) (concat-append made unmade)
+            ∙ append_assoc (concat made) (concat unmade) (others (is_left.count + many + rest))
+            ∙ ap (λ o. o ++ (concat unmade ++ others (is_left.count + many + rest))) (sym piece),
         record {
-          before = l.before;
-          count = l.count + many;
+          before = is_left.before;
+          count = is_left.count + many;
           many = rest;
           most = most;
-          all = omega (arith, split, l.all);
-          master_is = count_later s.master (l.before + l.count) many l.master_is ∙ ap (λ n. n % 256) master;
-          counter_is = count_later s.counter l.count many l.counter_is;
-          pending = subst (IsPending room filled (l.count + many) (if many == 0 then s.start else length (beyond_fields s.format all)) (beyond_fields s.format all)) (sym there)
-              (pending_next room filled l.count s.start s.octets packet later few p);
+          all = omega (arith, split, is_left.all);
+          master_is = count_later s.master (is_left.before + is_left.count) many is_left.master_is ∙ ap (λ n. n % 256) master;
+          counter_is = count_later s.counter is_left.count many is_left.counter_is;
+          pending = subst (IsPending room filled (is_left.count + many) (if many == 0 then s.start else length (beyond_fields s.format all)) (beyond_fields s.format all)) (sym there)
+              (pending_next room filled is_left.count s.start s.octets packet later few p);
           left_is = refl;
         },
       ),
@@ -149,20 +149,20 @@ pub packet_here : (s : FormProgress) → s.taken < length (channel_packets s)
 packet_here s inside = grind (arith, drop-append-le, drop-cons, add-one)
 
 -- how many octets the filled-up packets of the channel have, where these packets are still to be taken
-octets_of_all : (s : FormProgress) (left : List ℕ) (later : List (List ℕ)) → drop s.taken (filled_packets s) ≡ later → (l : IsLeft s left)
-    → length (concat (filled_packets s)) ≡ l.count * field_room_of s.format + length s.octets + length (concat later)
-octets_of_all s left later is l = grind (arith, length-append)
+octets_of_all : (s : FormProgress) (left : List ℕ) (later : List (List ℕ)) → drop s.taken (filled_packets s) ≡ later → (is_left : IsLeft s left)
+    → length (concat (filled_packets s)) ≡ is_left.count * field_room_of s.format + length s.octets + length (concat later)
+octets_of_all s left later is is_left = grind (arith, length-append)
 
 -- once the packets are taken, the filling is next, and the packets are what was made and what is kept
-at_end : (s : FormProgress) (left : List ℕ) → s.taken ≡ length (channel_packets s) → (l : IsLeft s left)
+at_end : (s : FormProgress) (left : List ℕ) → s.taken ≡ length (channel_packets s) → (is_left : IsLeft s left)
     → (drop s.taken (filled_packets s) ≡ filling (field_room_of s.format) (length (concat (channel_packets s))))
-    × (length (concat (channel_packets s)) ≡ l.count * field_room_of s.format + length s.octets)
-at_end s left last l = grind (arith, drop-append_seam, concat-append, length-append, octets_of_all)
+    × (length (concat (channel_packets s)) ≡ is_left.count * field_room_of s.format + length s.octets)
+at_end s left last is_left = grind (arith, drop-append_seam, concat-append, length-append, octets_of_all)
 
 -- where octets are left but no packets, the filling isn't taken yet
 last_taken : (s : FormProgress) (left : List ℕ) → 7 ≤ field_room_of s.format → field_room_of s.format ≤ 65536 → length s.octets < field_room_of s.format → 0 < length s.octets
     → length (channel_packets s) ≤ s.taken → IsLeft s left → s.taken ≡ length (channel_packets s)
-last_taken s left wide short few some beyond l = grind (arith, common_steps, leb_tells, drop_all, few_filled, octets_of_all, mod-eq_of_lt, mul-add-mod_self_right, filled_whole)
+last_taken s left wide short few some beyond is_left = grind (arith, common_steps, leb_tells, drop_all, few_filled, octets_of_all, mod-eq_of_lt, mul-add-mod_self_right, filled_whole)
 
 one_packet : (room len : ℕ) → (fill_of room len == 0) ≡ false → filling room len ≡ concat (filling room len) ∷ []
 one_packet room len test = rw (test) (ap (λ q. q ∷ []) (sym (append-nil (idle_packet (fill_of room len)))))
@@ -170,10 +170,10 @@ one_packet room len test = rw (test) (ap (λ q. q ∷ []) (sym (append-nil (idle
 -- where octets are left but no packets, the filling is next, and is the last packet
 pub filling_here : (s : FormProgress) (left : List ℕ) → 7 ≤ field_room_of s.format → field_room_of s.format ≤ 65536 → length s.octets < field_room_of s.format → 0 < length s.octets
     → length (channel_packets s) ≤ s.taken → IsLeft s left → drop s.taken (filled_packets s) ≡ filling_of s ∷ []
-filling_here s left wide short few some beyond l =
+filling_here s left wide short few some beyond is_left =
     let room = field_room_of s.format in
-    let (next, len) = at_end s left (last_taken s left wide short few some beyond l) l in
-    let same = same_filling room (length (concat (channel_packets s))) (length s.octets) (ap (λ n. n % room) len ∙ mul-add-mod_self_right l.count room (length s.octets)) in
+    let (next, len) = at_end s left (last_taken s left wide short few some beyond is_left) is_left in
+    let same = same_filling room (length (concat (channel_packets s))) (length s.octets) (ap (λ n. n % room) len ∙ mul-add-mod_self_right is_left.count room (length s.octets)) in
     elim (eqb_tells (fill_of room (length s.octets)) 0) [
       | inl (test, none) ↦
           let sum : length s.octets + fill_of room (length s.octets) ≡ length s.octets = omega (arith, none) in
@@ -222,34 +222,34 @@ progress_after_is s octets packet frames taken is many = rw (is, many) refl
 -- ---- the next channel
 
 -- where no packet and no octets are left, no frame is
-none_many : (s : FormProgress) (left : List ℕ) → 0 < field_room_of s.format → length (channel_packets s) ≤ s.taken → s.octets ≡ [] → (l : IsLeft s left) → l.many ≡ 0
-none_many s left roomy beyond nothing l =
+none_many : (s : FormProgress) (left : List ℕ) → 0 < field_room_of s.format → length (channel_packets s) ≤ s.taken → s.octets ≡ [] → (is_left : IsLeft s left) → is_left.many ≡ 0
+none_many s left roomy beyond nothing is_left =
     let room = field_room_of s.format in
     let no_octets = ap length nothing in
     elim (leb_tells s.taken (length (channel_packets s))) [
       | inl (test, inside) ↦
-          let (next, len) = at_end s left (omega (arith, inside, beyond)) l in
-          let rooms : length (concat (channel_packets s)) ≡ l.count * room = omega (arith, len, no_octets) in
-          let same = same_filling room (length (concat (channel_packets s))) 0 (ap (λ n. n % room) rooms ∙ none_left room l.count ∙ sym (zero-mod room)) ∙ no_filling room in
-          counted (octets_of_all s left [] (next ∙ same) l)
-      | inr (test, over) ↦ counted (octets_of_all s left [] (drop_all s.taken (filled_packets s) (omega (arith, few_filled s, over))) l)
+          let (next, len) = at_end s left (omega (arith, inside, beyond)) is_left in
+          let rooms : length (concat (channel_packets s)) ≡ is_left.count * room = omega (arith, len, no_octets) in
+          let same = same_filling room (length (concat (channel_packets s))) 0 (ap (λ n. n % room) rooms ∙ none_left room is_left.count ∙ sym (zero-mod room)) ∙ no_filling room in
+          counted (octets_of_all s left [] (next ∙ same) is_left)
+      | inr (test, over) ↦ counted (octets_of_all s left [] (drop_all s.taken (filled_packets s) (omega (arith, few_filled s, over))) is_left)
     ]
   where
-    counted : length (concat (filled_packets s)) ≡ l.count * field_room_of s.format + length s.octets + 0 → l.many ≡ 0
+    counted : length (concat (filled_packets s)) ≡ is_left.count * field_room_of s.format + length s.octets + 0 → is_left.many ≡ 0
     counted size =
-        let rooms : length (concat (filled_packets s)) ≡ l.count * field_room_of s.format + 0 = omega (arith, size, ap length nothing) in
-        let frames = ap (λ k. k / field_room_of s.format) rooms ∙ div-mul-add l.count (field_room_of s.format) 0 roomy in omega (arith, l.all, frames)
+        let rooms : length (concat (filled_packets s)) ≡ is_left.count * field_room_of s.format + 0 = omega (arith, size, ap length nothing) in
+        let frames = ap (λ k. k / field_room_of s.format) rooms ∙ div-mul-add is_left.count (field_room_of s.format) 0 roomy in omega (arith, is_left.all, frames)
 
 pub left_next_channel : (s : FormProgress) (left : List ℕ) → 0 < field_room_of s.format → length (channel_packets s) ≤ s.taken → s.octets ≡ [] → IsLeft s left → IsLeft (next_channel s) left
-left_next_channel s left roomy beyond nothing l =
-    let none = none_many s left roomy beyond nothing l in
-    let within = l.pending.within in
+left_next_channel s left roomy beyond nothing is_left =
+    let none = none_many s left roomy beyond nothing is_left in
+    let within = is_left.pending.within in
     let start : s.start ≡ 0 = omega (arith, within, ap length nothing) in
-    let count : l.count + 0 ≡ l.count = omega arith in
-    let others = λ (n : ℕ). concat (frames_from_channel s.format s.spacecraft (s.vc + 1) (l.before + n) (drop (s.vc + 1) (take 8 s.lists))) in
-    let frame = channel_frame s.format s.spacecraft s.vc l.before (filled_packets s) in
-    let is : left ≡ others l.count = l.left_is ∙ ap (λ n. concat (map frame (range_with_len l.count n)) ++ others (l.count + n)) none ∙ ap others count in
-    subst (IsLeft (next_channel s)) (sym is) (left_at_front (next_channel s) (l.before + l.count) roomy refl refl nothing start l.master_is)
+    let count : is_left.count + 0 ≡ is_left.count = omega arith in
+    let others = λ (n : ℕ). concat (frames_from_channel s.format s.spacecraft (s.vc + 1) (is_left.before + n) (drop (s.vc + 1) (take 8 s.lists))) in
+    let frame = channel_frame s.format s.spacecraft s.vc is_left.before (filled_packets s) in
+    let is : left ≡ others is_left.count = is_left.left_is ∙ ap (λ n. concat (map frame (range_with_len is_left.count n)) ++ others (is_left.count + n)) none ∙ ap others count in
+    subst (IsLeft (next_channel s)) (sym is) (left_at_front (next_channel s) (is_left.before + is_left.count) roomy refl refl nothing start is_left.master_is)
 
 -- no octets are left after the last channel
 pub none_left_after : (s : FormProgress) → 8 ≤ s.vc → IsAllMade s
@@ -257,17 +257,17 @@ none_left_after s beyond left l = search (arith, length-take, get_or_past, no_fi
 
 -- there are packets where more is left
 pub some_packets : (s : FormProgress) (left : List ℕ) → HasMore s → IsLeft s left → HasPackets s.lists
-some_packets s left m l =
-    let inside = m.inside in
+some_packets s left has_more is_left =
+    let inside = has_more.inside in
     let is = channel_is s (omega (arith, inside)) in (
       s.vc,
       (
         omega (arith, inside),
-        λ none. elim m.more [
+        λ none. elim has_more.more [
           | inl taken ↦ absurd (omega (arith, taken, ap length none))
           | inr some ↦
               let no_packets : filled_packets s ≡ [] = ap (with_filling (field_room_of s.format)) (is ∙ none) ∙ no_filling (field_room_of s.format) in
-              let p = l.pending in
+              let p = is_left.pending in
               let later = concat (drop s.taken (filled_packets s)) in
               let size = ap length p.parts in
               some (nil_from_length s.octets (omega (arith, size, ap (λ ps. length (concat ps)) no_packets, length-append p.made (s.octets ++ later), length-append s.octets later)))
@@ -277,7 +277,7 @@ some_packets s left m l =
 
 -- where more is left, but no packet, octets are left
 pub octets_left : (s : FormProgress) → HasMore s → length (channel_packets s) ≤ s.taken → 0 < length s.octets
-octets_left s m beyond = grind (arith, channel_is, eqb_tells, nil_from_length)
+octets_left s has_more beyond = grind (arith, channel_is, eqb_tells, nil_from_length)
 
 -- the progress is at a virtual channel that has more: its packets, and their number
 pub record IsAtChannel (s : FormProgress) (packets : List (List ℕ)) (many : ℕ) : Type 0 where
@@ -300,8 +300,8 @@ fewer_after s packet inside some = grind (arith, drop-cons)
 -- fewer pieces are left after the packet that fills up
 pub fewer_filled : (s : FormProgress) (left packet : List ℕ) (taken : ℕ) → 7 ≤ field_room_of s.format → field_room_of s.format ≤ 65536 → length s.octets < field_room_of s.format → 0 < length s.octets
     → length (channel_packets s) ≤ s.taken → s.vc < length (take 8 s.lists) → taken ≡ length (channel_packets s) + 1 → IsLeft s left → packets_left (after_packet s packet taken) < packets_left s
-fewer_filled s left packet taken wide short few some beyond inside is l =
-    let last = last_taken s left wide short few some beyond l in
+fewer_filled s left packet taken wide short few some beyond inside is is_left =
+    let last = last_taken s left wide short few some beyond is_left in
     let next : s.taken + 1 ≡ taken = omega (arith, last, is) in
     subst (λ n. packets_left (after_packet s packet n) < packets_left s) next (fewer_after s packet inside (omega (arith, last)))
 

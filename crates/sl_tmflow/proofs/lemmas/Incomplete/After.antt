@@ -85,19 +85,19 @@ is_incomplete_one_more view octets run last so_far next held test past =
 -- ---- the outcome of an incomplete packet
 
 incomplete_step : (s : Continuation) (passed : ℕ) (rest : Outcome) (so_far : List ℕ) → after_step s passed rest ≡ StillIncomplete so_far → (s ≡ Continues) × (rest ≡ StillIncomplete so_far)
-incomplete_step (Ends packet) passed rest so_far e = absurd (cc)
-incomplete_step Continues passed rest so_far e = (refl, e)
-incomplete_step Breaks passed rest so_far e = absurd (cc)
+incomplete_step (Ends packet) passed rest so_far still = absurd (cc)
+incomplete_step Continues passed rest so_far still = (refl, still)
+incomplete_step Breaks passed rest so_far still = absurd (cc)
 
 -- where the outcome is that the packet is still incomplete, the packet is incomplete after all later frames
 pub outcome_to_incomplete : (passed : ℕ) (first : TmView) (start : List ℕ) (run : List TmView) (view : TmView) (octets : List ℕ) (later : List TmView) (so_far : List ℕ)
     → IsIncompleteAfter first start run view octets → outcome_after passed view octets later ≡ StillIncomplete so_far
     → IsIncompleteAfter first start (run ++ later) (last_of view later) so_far
-outcome_to_incomplete passed first start run view octets [] so_far held e =
+outcome_to_incomplete passed first start run view octets [] so_far held still =
     let same : octets ≡ so_far = cc in
     rw (append-nil run) (rw (← same) held)
-outcome_to_incomplete passed first start run view octets (next ∷ later) so_far held e =
-    let (goes_on, rest) = incomplete_step (step_of view octets next) (passed + 1) (outcome_after (passed + 1) next (octets ++ packet_data next) later) so_far e in
+outcome_to_incomplete passed first start run view octets (next ∷ later) so_far held still =
+    let (goes_on, rest) = incomplete_step (step_of view octets next) (passed + 1) (outcome_after (passed + 1) next (octets ++ packet_data next) later) so_far still in
     let (consecutive, past) = step_continues view octets next held.incomplete goes_on in
     let now = is_incomplete_one_more first start run view octets next held consecutive past in
     rw (← append_assoc run (next ∷ []) later)
@@ -127,16 +127,16 @@ incomplete_to_outcome passed view octets (next ∷ later) last so_far held =
 
 front_incomplete : (f : Front) (view : TmView) (octets : List ℕ) (later : List TmView) (so_far : List ℕ) → outcome_of_front f view octets later ≡ StillIncomplete so_far
     → (f ≡ Incomplete) × (outcome_after 0 view octets later ≡ StillIncomplete so_far)
-front_incomplete OtherVersion view octets later so_far e = absurd (cc)
-front_incomplete Incomplete view octets later so_far e = (refl, e)
-front_incomplete (WholePacket len) view octets later so_far e = absurd (cc)
+front_incomplete OtherVersion view octets later so_far still = absurd (cc)
+front_incomplete Incomplete view octets later so_far still = (refl, still)
+front_incomplete (WholePacket len) view octets later so_far still = absurd (cc)
 
 -- the outcome of a packet start is that its packet is incomplete, exactly where it is incomplete after all later
 -- frames
 pub outcome_incomplete : (view : TmView) (octets : List ℕ) (later : List TmView) (so_far : List ℕ) → outcome_of view octets later ≡ StillIncomplete so_far
     → IsIncompleteAfter view octets later (last_of view later) so_far
-outcome_incomplete view octets later so_far e =
-    let (incomplete, held) = front_incomplete (front octets) view octets later so_far e in
+outcome_incomplete view octets later so_far still =
+    let (incomplete, held) = front_incomplete (front octets) view octets later so_far still in
     outcome_to_incomplete 0 view octets [] view octets later so_far (is_incomplete_at_start view octets incomplete) held
 
 pub incomplete_outcome : (view : TmView) (octets : List ℕ) (later : List TmView) (last : TmView) (so_far : List ℕ) → IsIncompleteAfter view octets later last so_far

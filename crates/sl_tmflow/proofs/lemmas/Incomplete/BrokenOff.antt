@@ -53,12 +53,12 @@ start_broken : (channel before : List TmView) (view : TmView) (later : List TmVi
     → channel ≡ before ++ view ∷ later → view.field ≡ Packets first field → IsStart field first start
     → (outcome next_outcome : Outcome) → start_outcome view start later ≡ outcome → start_outcome view start (later ++ next ∷ []) ≡ next_outcome
     → AllByRecursion (IsBrokenOff channel next) (broken_octets outcome next_outcome)
-start_broken channel before view later next first field start all is s (StillIncomplete octets) Undelivered e after =
+start_broken channel before view later next first field start all is is_start (StillIncomplete octets) Undelivered is_outcome after =
     let more = one_frame_more channel before view later next all in (
       record {
         frame = length before;
         start = start;
-        before = incomplete_at_start channel before view later first field start octets all is s e;
+        before = incomplete_at_start channel before view later first field start octets all is is_start is_outcome;
         not_incomplete = λ longer x.
             let both : StillIncomplete longer ≡ Undelivered = sym (incomplete_there (channel ++ next ∷ []) before view (later ++ next ∷ []) start longer more x) ∙ after in cc;
         not_delivered = λ d x frame at ending.
@@ -67,7 +67,7 @@ start_broken channel before view later next first field start all is s (StillInc
       },
       tt,
     )
-start_broken channel before view later next first field start all is s outcome next_outcome e after = tt
+start_broken channel before view later next first field start all is is_start outcome next_outcome is_outcome after = tt
 
 pub each_listed_is_broken_off : EachListedIsBrokenOff
 each_listed_is_broken_off channel next =
@@ -103,19 +103,19 @@ ends_next view start later next octets packet passed before after =
 
 outcome_listed : (channel : List TmView) (next : TmView) (octets : List ℕ) (broken : IsBrokenOff channel next octets) (outcome : Outcome)
     → start_outcome broken.before.incomplete.view broken.before.incomplete.offset (broken.before.incomplete.run ++ next ∷ []) ≡ outcome → IsAmong octets (broken_octets (StillIncomplete octets) outcome)
-outcome_listed channel next octets broken (Completes packet passed) e =
+outcome_listed channel next octets broken (Completes packet passed) is_outcome =
     let i = broken.before.incomplete in
     let more = one_frame_more channel i.before i.view i.run next i.in_order in
-    let number : length i.run + 1 ≡ passed = ends_next i.view i.offset i.run next octets packet passed (incomplete_start_outcome channel octets i) e in
+    let number : length i.run + 1 ≡ passed = ends_next i.view i.offset i.run next octets packet passed (incomplete_start_outcome channel octets i) is_outcome in
     let all : length channel ≡ length i.before + (length i.run + 1) = omega (arith, ap length i.in_order, length-append i.before (i.view ∷ i.run)) in
-    let there = start_delivery (channel ++ next ∷ []) i.before i.view (i.run ++ next ∷ []) (length i.before) i.first i.field i.offset more refl i.carries i.start (Completes packet passed) e in
+    let there = start_delivery (channel ++ next ∷ []) i.before i.view (i.run ++ next ∷ []) (length i.before) i.first i.field i.offset more refl i.carries i.start (Completes packet passed) is_outcome in
     absurd (broken.not_delivered (delivery_with (length i.before) i.offset (length i.before + passed) packet) there.0 (sym broken.before.in_frame) (sym broken.before.at) (omega arith))
-outcome_listed channel next octets broken (StillIncomplete so_far) e =
+outcome_listed channel next octets broken (StillIncomplete so_far) is_outcome =
     let i = broken.before.incomplete in
     let more = one_frame_more channel i.before i.view i.run next i.in_order in
-    let there = incomplete_at_start (channel ++ next ∷ []) i.before i.view (i.run ++ next ∷ []) i.first i.field i.offset so_far more i.carries i.start e in
+    let there = incomplete_at_start (channel ++ next ∷ []) i.before i.view (i.run ++ next ∷ []) i.first i.field i.offset so_far more i.carries i.start is_outcome in
     absurd (broken.not_incomplete so_far record { incomplete = there.incomplete; in_frame = broken.before.in_frame ∙ there.in_frame; at = broken.before.at ∙ there.at })
-outcome_listed channel next octets broken Undelivered e = inl refl
+outcome_listed channel next octets broken Undelivered is_outcome = inl refl
 
 pub each_broken_off_is_listed : EachBrokenOffIsListed
 each_broken_off_is_listed channel next octets broken =

@@ -15,7 +15,7 @@ use Rattle.sl_tmflow.proofs.lemmas.Delivery.Step.{incomplete_before}
 
 -- octets that begin with a whole packet still do with more octets after them
 whole_stays : (octets more : List ℕ) (len : ℕ) → front octets ≡ WholePacket len → front (octets ++ more) ≡ WholePacket len
-whole_stays octets more len e = grind (arith, common_steps, whole_is_a_packet, append_assoc, take-append-drop, packet_is_whole, length-take-le)
+whole_stays octets more len whole = grind (arith, common_steps, whole_is_a_packet, append_assoc, take-append-drop, packet_is_whole, length-take-le)
 
 -- where a packet is whole, the octets after it don't matter
 packet_same : (first : Option ℕ) (before : ℕ) (field a b : List ℕ) (len : ℕ) → take len a ≡ take len b

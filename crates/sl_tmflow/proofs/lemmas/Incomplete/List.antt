@@ -34,7 +34,7 @@ incomplete_at number view later start = incomplete_octets (outcome_of view (drop
 
 -- a whole packet is not incomplete
 none_at_packet : (view : TmView) (later : List TmView) (packet more : List ℕ) → IsPacket packet → incomplete_octets (outcome_of view (packet ++ more) later) ≡ []
-none_at_packet view later packet more p = ap (λ f. incomplete_octets (outcome_of_front f view (packet ++ more) later)) (packet_is_whole packet more p)
+none_at_packet view later packet more is_packet = ap (λ f. incomplete_octets (outcome_of_front f view (packet ++ more) later)) (packet_is_whole packet more is_packet)
 
 none_of_each : (packets : List (List ℕ)) → flat_map {A = List ℕ} (λ packet. []) packets ≡ []
 none_of_each [] = refl
@@ -55,8 +55,8 @@ abbrev pub OneAtMost : List TmView → List (List ℕ) → Type 0
 OneAtMost later held = (held ≡ []) ⊎ ((octets : List ℕ) × (held ≡ octets ∷ []) × AllByRecursion HasNoStart later)
 
 one_of_outcome : (view : TmView) (octets : List ℕ) (later : List TmView) (outcome : Outcome) → outcome_of view octets later ≡ outcome → OneAtMost later (incomplete_octets outcome)
-one_of_outcome view octets later (StillIncomplete so_far) e = inr (so_far, refl, (outcome_incomplete view octets later so_far e).no_start)
-one_of_outcome view octets later outcome e = inl refl
+one_of_outcome view octets later (StillIncomplete so_far) is_outcome = inr (so_far, refl, (outcome_incomplete view octets later so_far is_outcome).no_start)
+one_of_outcome view octets later outcome is_outcome = inl refl
 
 one_of_rest : (view : TmView) (later : List TmView) (rest : List ℕ) → OneAtMost later (at_rest (λ l. incomplete_octets (outcome_of view l later)) rest)
 one_of_rest view later [] = inl refl
@@ -94,12 +94,12 @@ begins : (octets : List ℕ) → version_of octets ≡ 0 → ((packet : List ℕ
 begins octets version none = cases (front octets) refl
   where
     cases : (f : Front) → front octets ≡ f → f ≡ Incomplete
-    cases OtherVersion e =
-        let foreign = foreign_tests (is_foreign octets) (nat_lt (length octets) (stated_packet_len octets)) (stated_packet_len octets) e in
+    cases OtherVersion is =
+        let foreign = foreign_tests (is_foreign octets) (nat_lt (length octets) (stated_packet_len octets)) (stated_packet_len octets) is in
         absurd (both_ways (is_foreign octets) (not_foreign (length octets) (version_of octets) version) foreign)
-    cases Incomplete e = refl
-    cases (WholePacket len) e =
-        absurd (none (take len octets) (whole_is_a_packet octets len e).0 (drop len octets, take-append-drop len octets))
+    cases Incomplete is = refl
+    cases (WholePacket len) is =
+        absurd (none (take len octets) (whole_is_a_packet octets len is).0 (drop len octets, take-append-drop len octets))
 
 -- ---- each listed packet is incomplete
 
@@ -107,10 +107,10 @@ begins octets version none = cases (front octets) refl
 pub incomplete_at_start : (channel before : List TmView) (view : TmView) (later : List TmView) (first : Option ℕ) (field : List ℕ) (offset : ℕ) (so_far : List ℕ)
     → channel ≡ before ++ view ∷ later → view.field ≡ Packets first field → IsStart field first offset
     → outcome_of view (drop offset (packet_data view)) later ≡ StillIncomplete so_far → IsIncompleteAt channel (length before) offset so_far
-incomplete_at_start channel before view later first field offset so_far all is s e =
-    let w = outcome_incomplete view (drop offset (packet_data view)) later so_far e in
+incomplete_at_start channel before view later first field offset so_far all is is_start still =
+    let w = outcome_incomplete view (drop offset (packet_data view)) later so_far still in
     let came : so_far ≡ reassembly (drop offset field) later = w.came ∙ ap (λ f. reassembly (drop offset (data_of f)) later) is in
-    let inside = s.inside in
+    let inside = is_start.inside in
     let some : 1 ≤ length so_far = omega (arith, ap length came, length-append (drop offset field) (concat (map packet_data later)), length-drop offset field) in
     record {
       incomplete = record {
@@ -122,7 +122,7 @@ incomplete_at_start channel before view later first field offset so_far all is s
         field = field;
         carries = is;
         offset = offset;
-        start = s;
+        start = is_start;
         came = came;
         version = begun_version so_far w.incomplete some;
         no_packet = λ packet p prefix. incomplete_is_no_packet so_far packet p w.incomplete prefix;
@@ -137,9 +137,9 @@ incomplete_at_start channel before view later first field offset so_far all is s
 start_incomplete : (channel before : List TmView) (view : TmView) (later : List TmView) (first : Option ℕ) (field : List ℕ) (offset : ℕ)
     → channel ≡ before ++ view ∷ later → view.field ≡ Packets first field → IsStart field first offset
     → (outcome : Outcome) → outcome_of view (drop offset (packet_data view)) later ≡ outcome → AllByRecursion (IsIncomplete channel) (incomplete_octets outcome)
-start_incomplete channel before view later first field offset all is s (StillIncomplete so_far) e =
-    ((incomplete_at_start channel before view later first field offset so_far all is s e).incomplete, tt)
-start_incomplete channel before view later first field offset all is s outcome e = tt
+start_incomplete channel before view later first field offset all is is_start (StillIncomplete so_far) is_outcome =
+    ((incomplete_at_start channel before view later first field offset so_far all is is_start is_outcome).incomplete, tt)
+start_incomplete channel before view later first field offset all is is_start outcome is_outcome = tt
 
 pub each_listed_is_incomplete : EachListedIsIncomplete
 each_listed_is_incomplete channel =
@@ -170,7 +170,7 @@ each_incomplete_is_listed channel octets is_incomplete =
 
 -- an incomplete packet has fewer octets than its header states
 pub fewer_than_stated : (octets : List ℕ) → front octets ≡ Incomplete → length octets < stated_packet_len octets
-fewer_than_stated octets e = grind (arith, ltb-true)
+fewer_than_stated octets incomplete = grind (arith, ltb-true)
 
 -- a header states 65,542 octets at most
 pub stated_packet_len-most : (octets : List ℕ) → stated_packet_len octets ≤ 65542

@@ -39,10 +39,10 @@ same_frame channel octets others one other =
 -- no packet starts after an incomplete packet in the same frame
 none_later_in_frame : (channel : List TmView) (octets : List ℕ) (one : IsIncomplete channel octets) (later : ℕ)
     → IsStart one.field one.first later → one.offset < later → ⊥
-none_later_in_frame channel octets one later s less =
+none_later_in_frame channel octets one later is_start less =
     let w = outcome_incomplete one.view (drop one.offset (packet_data one.view)) one.run octets (incomplete_start_outcome channel octets one) in
     let begun = incomplete_before (drop one.offset one.field) (concat (map packet_data one.run)) (ap front (sym one.came) ∙ w.incomplete) in
-    not_last_is_whole one.field one.first one.offset later one.start s less begun
+    not_last_is_whole one.field one.first one.offset later one.start is_start less begun
 
 -- where two incomplete packets start in one frame, neither start is before the other
 not_before : (channel : List TmView) (octets others : List ℕ) (one : IsIncomplete channel octets) (other : IsIncomplete channel others)
@@ -68,10 +68,10 @@ same_octets : (channel : List TmView) (octets others : List ℕ) (one : IsIncomp
 same_octets channel octets others one other view run offset = grind (arith, at_start)
 
 pub one_start_is_incomplete : OneStartIsIncomplete
-one_start_is_incomplete channel frame start octets other_frame other_start others x y =
-    let i = x.incomplete in
-    let j = y.incomplete in
-    let frames = same_frame channel octets others i j in
-    let there = same_place i.before j.before i.view j.view i.run j.run (sym i.in_order ∙ j.in_order) frames in
-    let starts = same_start channel octets others i j there.0 in
-    (x.in_frame ∙ frames ∙ sym y.in_frame, x.at ∙ starts ∙ sym y.at, same_octets channel octets others i j there.0 there.1 starts)
+one_start_is_incomplete channel frame start octets other_frame other_start others one_at other_at =
+    let one = one_at.incomplete in
+    let other = other_at.incomplete in
+    let frames = same_frame channel octets others one other in
+    let there = same_place one.before other.before one.view other.view one.run other.run (sym one.in_order ∙ other.in_order) frames in
+    let starts = same_start channel octets others one other there.0 in
+    (one_at.in_frame ∙ frames ∙ sym other_at.in_frame, one_at.at ∙ starts ∙ sym other_at.at, same_octets channel octets others one other there.0 there.1 starts)

@@ -299,10 +299,7 @@ impl Channel {
         if !begun.is_empty() && add_part(&mut self.held, begun).is_err() {
             return Err(FlowFault::Memory);
         }
-        Ok(TmStep {
-            foreign,
-            ..step
-        })
+        Ok(TmStep { foreign, ..step })
     }
 }
 

@@ -19,10 +19,9 @@ use Rattle.sl_tmflow.proofs.lemmas.Places.{some_passes, has_last}
 use Rattle.sl_tmflow.proofs.lemmas.Delivery.Start.{each_is_start, is_among}
 use Rattle.sl_packet.proofs.FrontLemmas.{foreign_true, not_foreign}
 use Rattle.std.proofs.Math.Bool.{or-false}
-use Rattle.sl_tmflow.specs.Delivery.{Continuation}
 use Rattle.sl_tmflow.specs.Extractor.{HasSeen, IsIncompleteAround, held_as}
 use Rattle.sl_tmflow.specs.Incomplete.{incomplete_of}
-use Rattle.sl_tmflow.proofs.lemmas.Incomplete.BrokenOff.{broken_next, lost, lost_in}
+use Rattle.sl_tmflow.proofs.lemmas.Incomplete.BrokenOff.{broken_next, lost_in}
 
 -- ---- gaps
 

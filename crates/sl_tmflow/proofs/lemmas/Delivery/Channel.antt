@@ -1,7 +1,7 @@
 -- The state of a channel is the one that its frames lead to, frame by frame.
-use Rattle.std.proofs.Common.{◌≡◌, ℕ, ◌<◌, ◌≤◌, Bool, false, if◌then◌else◌, List, [], ◌∷◌, ◌++◌, length, set, Option, Some, Result, inl, inr, refl, sym, ◌∙◌, ap, subst, arith, append-nil}
+use Rattle.std.proofs.Common.{◌≡◌, ℕ, ◌<◌, ◌≤◌, false, List, [], ◌∷◌, ◌++◌, length, set, Option, Some, Result, inl, inr, refl, sym, ◌∙◌, ap, subst, arith, append-nil}
 use Rattle.std.proofs.lemmas.Grind.{common_steps}
-use Rattle.std.specs.List.{flat_map, slice_index_or}
+use Rattle.std.specs.List.{slice_index_or}
 use Rattle.std.proofs.lemmas.Bool.Decides.{eqb_tells}
 use Rattle.std.proofs.lemmas.List.{get_or_default, get_or-set_same, get_or-set_other}
 use Rattle.std.proofs.lemmas.List.Elements.{filter-append}
@@ -13,7 +13,7 @@ use Rattle.sl_packet.proofs.StoppingLemmas.{hands_same}
 use Rattle.sl_tmframe.specs.TmFrame.{TmView, DataField, Packets}
 use Rattle.sl_tmflow.specs.VirtualChannel.{views_on, last_count}
 use Rattle.sl_tmflow.specs.Channel.{ChannelState, KeptChannel, new_channel, held_step, kept_of, kept_octets, incomplete_in, held_after, channel_after, packets_after}
-use Rattle.sl_tmflow.specs.Delivery.{Continuation, Ends, Breaks, ended, front_step, outcome_of, outcome_of_front, packets_ending, step_of}
+use Rattle.sl_tmflow.specs.Delivery.{Continuation, ended, front_step, outcome_of, outcome_of_front, packets_ending}
 use Rattle.sl_tmflow.specs.Incomplete.{frame_incomplete, incomplete_octets}
 use Rattle.sl_tmflow.specs.Extractor.{ExtractorState, HasSeen, HasProcessed, ended_by, held_as}
 use Rattle.sl_tmflow.specs.PacketStart.{whole_packets}
@@ -21,7 +21,7 @@ use Rattle.sl_tmflow.specs.StepReport.{StepReport, counts_of}
 use Rattle.sl_tmflow.proofs.lemmas.Places.{has_last}
 use Rattle.sl_tmflow.proofs.lemmas.Delivery.Start.{at_rest}
 use Rattle.sl_tmflow.proofs.lemmas.Incomplete.List.{field_incomplete, incomplete_from_pointer}
-use Rattle.sl_tmflow.proofs.lemmas.Delivery.OneMore.{carried, carried_into, incomplete_first, incomplete_next, ending_first, ending_next}
+use Rattle.sl_tmflow.proofs.lemmas.Delivery.OneMore.{carried, incomplete_first, incomplete_next, ending_first, ending_next}
 
 -- ---- the last frame of a channel
 

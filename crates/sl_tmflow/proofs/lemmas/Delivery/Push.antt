@@ -10,7 +10,7 @@ use Rattle.sl_packet.proofs.FrontLemmas.{packet_is_whole}
 use Rattle.sl_tmframe.specs.TmFrame.{TmView, DataField, Packets, Idle, Opaque}
 use Rattle.sl_tmflow.specs.VirtualChannel.{data_of, packet_data}
 use Rattle.sl_tmflow.specs.PacketStart.{starts_from, starts_of, whole_packets}
-use Rattle.sl_tmflow.specs.Delivery.{Delivery, Outcome, Completes, StillIncomplete, Undelivered, Continuation, ended, step_of, after_step, outcome_of_front, outcome_of, delivery_of, frame_deliveries, deliveries_from, packets_delivered, packets_ending, PacketsEndOnce}
+use Rattle.sl_tmflow.specs.Delivery.{Delivery, Outcome, Completes, StillIncomplete, Undelivered, Continuation, ended, step_of, outcome_of_front, outcome_of, delivery_of, frame_deliveries, deliveries_from, packets_delivered, packets_ending, PacketsEndOnce}
 use Rattle.sl_tmflow.specs.Incomplete.{HasNoStart, incomplete_octets, frame_incomplete, incomplete_of}
 use Rattle.sl_tmflow.proofs.lemmas.Delivery.Start.{flat_map-pieces, at_rest, at_starts, no_starts}
 use Rattle.sl_packet.proofs.CountLemmas.{split_count, packets_within}

@@ -1,5 +1,5 @@
 -- The normal form of packets, read as a recording.
-use Rattle.std.proofs.Common.{◌≡◌, ◌≢◌, ℕ, zero, suc, ◌+◌, ◌*◌, ◌/◌, ◌%◌, ◌<◌, ◌≤◌, List, [], ◌∷◌, ◌++◌, length, drop, map, Option, IfSome, refl, sym, ◌∙◌, ap, subst, arith, length-drop, length-take-le, append-nil, eq-eqb, ne_eqb, mul-le-mul_right, add-mul, one-mul}
+use Rattle.std.proofs.Common.{◌≡◌, ◌≢◌, ℕ, zero, suc, ◌+◌, ◌*◌, ◌/◌, ◌%◌, ◌<◌, ◌≤◌, List, [], ◌∷◌, ◌++◌, length, map, Option, refl, sym, ◌∙◌, ap, subst, arith, length-drop, length-take-le, append-nil, eq-eqb, ne_eqb, mul-le-mul_right, add-mul, one-mul}
 use Rattle.std.proofs.lemmas.Grind.{common_steps}
 use Rattle.std.specs.List.{AllByRecursion, concat, range_with_len, slice_index_or}
 use Rattle.std.proofs.lemmas.List.{ext_get_or}
@@ -8,7 +8,6 @@ use Rattle.std.proofs.lemmas.List.FromFn.{get_or-map-range_with_len}
 use Rattle.std.proofs.lemmas.Nat.{div-add-mod', mod_below}
 use Rattle.sl_fields.proofs.FecfLemmas.{fecf_len_le}
 use Rattle.sl_packet.specs.Delivered.{IsDeliverable}
-use Rattle.sl_packet.specs.Packet.{IsPacket}
 use Rattle.sl_packet.specs.Packets.{without_idle}
 use Rattle.sl_tmframe.specs.PacketFrame.{FitFrame, field_room_of, packet_frame, packet_view}
 use Rattle.sl_tmframe.specs.TmFrame.{TmFormat, TmView}
@@ -17,7 +16,7 @@ use Rattle.sl_tmframe.proofs.PacketFrameLemmas.{length-packet_frame, packet_fram
 use Rattle.sl_tmflow.specs.Canonical.{AreDeliverable, IsFormat, IsNotSkipped, NoFrameIsSkipped, NormalFormIsFrames, NormalFormDelivers}
 use Rattle.sl_tmflow.specs.VirtualChannel.{views_of, views_on}
 use Rattle.sl_tmflow.specs.Delivery.{deliveries_of, packets_delivered}
-use Rattle.sl_tmflow.specs.NormalForm.{with_filling, data_field_of, first_of, IsLeastStart, channel_frame, channel_frames, frames_from_channel, normal_form}
+use Rattle.sl_tmflow.specs.NormalForm.{with_filling, data_field_of, first_of, channel_frame, channel_frames, frames_from_channel, normal_form}
 use Rattle.sl_tmflow.specs.PacketStart.{packet_offsets}
 use Rattle.sl_tmflow.specs.Recording.{packets_of_channel, recorded_views, virtual_channels}
 use Rattle.sl_tmflow.proofs.lemmas.Form.CutDelivery.{all_delivered, views_from}

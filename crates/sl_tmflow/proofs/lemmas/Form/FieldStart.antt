@@ -1,6 +1,6 @@
 -- The packet starts in the data fields that packets are divided into: the pointer to a data field of a normal form is
 -- the least one.
-use Rattle.std.proofs.Common.{◌≡◌, ℕ, suc, ◌+◌, ◌-◌, ◌*◌, ◌/◌, ◌<◌, ◌≤◌, ◌==◌, nat_lt, true, false, List, [], ◌∷◌, length, Option, Some, None, refl, arith, inl, inr, if◌then◌else◌, Bool, subst}
+use Rattle.std.proofs.Common.{◌≡◌, ℕ, suc, ◌+◌, ◌-◌, ◌*◌, ◌/◌, ◌<◌, ◌≤◌, ◌==◌, nat_lt, true, false, List, [], ◌∷◌, length, Option, Some, None, refl, arith, inl, inr, if◌then◌else◌, Bool}
 use Rattle.std.specs.List.{concat, find}
 use Rattle.std.proofs.lemmas.Bool.Decides.{leb_tells, nat_tests}
 use Rattle.std.proofs.lemmas.Bool.{eq-eqb, ne_eqb, eqb-true}

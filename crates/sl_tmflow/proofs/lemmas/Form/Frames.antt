@@ -8,9 +8,8 @@ use Rattle.std.proofs.Math.Nat.{add-mul-div_right, suc-mul, zero-mul, one-mul, z
 use Rattle.std.proofs.Math.Seq.{drop-append_seam, take-append_seam}
 use Rattle.sl_fields.proofs.FecfLemmas.{fecf_len_le}
 use Rattle.sl_fields.proofs.Octets.{length-octets_of}
-use Rattle.sl_fields.specs.Field.{octets_of}
 use Rattle.sl_tmframe.proofs.PacketFrameLemmas.{with_fecf_whole}
-use Rattle.sl_tmframe.specs.PacketFrame.{field_room_of, frame_fields}
+use Rattle.sl_tmframe.specs.PacketFrame.{field_room_of}
 use Rattle.sl_tmframe.specs.TmFrame.{TmFormat}
 use Rattle.sl_tmflow.specs.Form.{field_frames, frames_len, frames_of, fields_in, beyond_fields, filled_up, headed_frame, heading_after}
 use Rattle.sl_tmflow.specs.declared.form.Heading.{Heading}

@@ -1,6 +1,6 @@
 -- The list of the incomplete packets of a channel: each listed packet is incomplete, and each incomplete packet is
 -- listed. There is at most one, and it is short.
-use Rattle.std.proofs.Common.{◌≡◌, ◌⊎◌, ℕ, ◌<◌, ◌≤◌, nat_lt, Bool, true, if◌then◌else◌, List, [], ◌∷◌, ◌++◌, length, drop, take, map, Option, Some, inl, inr, refl, sym, ◌∙◌, ap, ap₂, subst, arith, length-append, length-drop}
+use Rattle.std.proofs.Common.{◌≡◌, ◌⊎◌, ℕ, ◌<◌, ◌≤◌, nat_lt, List, [], ◌∷◌, ◌++◌, length, drop, take, map, Option, Some, inl, inr, refl, sym, ◌∙◌, ap, ap₂, subst, arith, length-append, length-drop}
 use Rattle.std.proofs.lemmas.Grind.{common_steps}
 use Rattle.std.specs.List.{AllByRecursion, concat, flat_map}
 use Rattle.std.proofs.lemmas.Bool.{both_ways, ltb-true}
@@ -16,7 +16,7 @@ use Rattle.sl_tmflow.specs.Among.{IsAmong}
 use Rattle.sl_tmflow.specs.VirtualChannel.{packet_data, data_of, reassembly}
 use Rattle.sl_tmflow.specs.PacketStart.{IsStart, starts_of}
 use Rattle.sl_tmflow.specs.Delivery.{Outcome, StillIncomplete, outcome_of_front, outcome_of}
-use Rattle.sl_tmflow.specs.Incomplete.{HasNoStart, IsIncomplete, IsIncompleteAt, incomplete_octets, incomplete_of, EachListedIsIncomplete, EachIncompleteIsListed, OneIsIncomplete, IsShort, IncompleteIsShort, IncompleteIsCounted, WhatIsCountedIsIncomplete}
+use Rattle.sl_tmflow.specs.Incomplete.{HasNoStart, IsIncomplete, IsIncompleteAt, incomplete_octets, incomplete_of, EachListedIsIncomplete, EachIncompleteIsListed, OneIsIncomplete, IncompleteIsShort, IncompleteIsCounted, WhatIsCountedIsIncomplete}
 use Rattle.sl_fields.proofs.ListLemmas.{each-weaker}
 use Rattle.sl_tmflow.proofs.lemmas.Places.{count_of_one, some_of_each}
 use Rattle.sl_tmflow.proofs.lemmas.Incomplete.After.{last_of, outcome_incomplete, incomplete_outcome}

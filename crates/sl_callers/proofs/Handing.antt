@@ -14,7 +14,7 @@ use Rattle.sl_packet.specs.Packets.{without_idle}
 use Rattle.sl_packet.specs.Sink.{TakesAll}
 use Rattle.sl_packet.proofs.DeliveredLemmas.{length-empty_lists, list_at-empty_lists}
 use Rattle.sl_tcframe.specs.TcFrame.{TcView}
-use Rattle.sl_tcflow.specs.Receiving as tc
+use Rattle.sl_tcflow.specs.Receiver as tc
 use Rattle.sl_tcflow.specs.ReceptionParameters.{ReceptionParameters, is_plain}
 use Rattle.sl_tcflow.proofs.lemmas.Reception.Channel.{small_map}
 use Rattle.sl_tmframe.specs.TmFrame.{TmView}

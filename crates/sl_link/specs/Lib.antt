@@ -21,7 +21,8 @@ pub use Rattle.sl_fields.specs.TcHeader
 pub use Rattle.sl_fields.specs.TmHeader
 pub use Rattle.sl_packet.specs.Packets
 pub use Rattle.sl_tcflow.specs.AcceptedUnit
-pub use Rattle.sl_tcflow.specs.Receiving
+pub use Rattle.sl_tcflow.specs.Farms
+pub use Rattle.sl_tcflow.specs.Receiver
 pub use Rattle.sl_tcflow.specs.Reception
 pub use Rattle.sl_tcflow.specs.Series
 pub use Rattle.sl_tcflow.specs.TcNormalForm

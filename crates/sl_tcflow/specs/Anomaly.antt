@@ -6,8 +6,9 @@ use Rattle.std.specs.Prelude.{◌≡◌, ◌⊎◌, ℕ, ◌+◌, ◌<◌, ◌�
 use Rattle.std.specs.List.{filter}
 use Rattle.sl_packet.specs.Packets.{ArePacketsOf, rest_of}
 use Rattle.sl_tcframe.specs.TcFrame.{TcView}
+use Rattle.sl_tcflow.specs.Farms.{verdict_on}
 use Rattle.sl_tcflow.specs.Incomplete.{IsIncomplete, incomplete_of, exceeds_limit}
-use Rattle.sl_tcflow.specs.Receiving.{map_by, segment_by, verdict_on}
+use Rattle.sl_tcflow.specs.Receiver.{map_by, segment_by}
 use Rattle.sl_tcflow.specs.Reception.{segments_of}
 use Rattle.sl_tcflow.specs.ReceptionParameters.{ReceptionParameters, is_plain}
 use Rattle.sl_tcflow.specs.Series.{begins_by, continues_by, IsSeriesOf, SeriesAt, flags_of, segment_data, past, reassembled, series_of}

@@ -5,7 +5,7 @@ use Rattle.sl_cop.specs.Starts.{AreStarts}
 use Rattle.sl_packet.specs.Delivered.{IsDeliverable, channel_count}
 use Rattle.sl_tcframe.specs.TcDelimited.{IsTcDelimited}
 use Rattle.sl_tcframe.specs.TcFrame.{TcFormat, TcView, tc_frame}
-use Rattle.sl_tcflow.specs.FitsTc.{FitsTc}
+use Rattle.sl_tcflow.specs.Fits.{FitsTc}
 use Rattle.sl_tcflow.specs.ReceptionParameters.{ReceptionParameters}
 use Rattle.sl_tcflow.specs.Recording.{tc_lists}
 use Rattle.sl_tcflow.specs.TcNormalForm.{tc_frames_form, tc_normal_form_of}

@@ -9,7 +9,7 @@ use Rattle.sl_tcframe.specs.TcFrame.{TcFormat, TcView, Ad}
 use Rattle.sl_tcframe.specs.VcSet.{has_vc}
 use Rattle.sl_tcflow.specs.AcceptedUnit.{views_on, unit_of}
 use Rattle.sl_tcflow.specs.Canonical.{CanBeWritten}
-use Rattle.sl_tcflow.specs.Receiving.{map_of}
+use Rattle.sl_tcflow.specs.Receiver.{map_of}
 use Rattle.sl_tcflow.specs.Recording.{recorded_views}
 use Rattle.sl_tcflow.specs.Series.{segment_in, segments_on}
 use Rattle.sl_tcflow.specs.TcNormalForm.{IsDividedInto, tc_normal_form_of}

@@ -4,7 +4,7 @@ ghost use Rattle.sl_cop.specs.FarmClcw.{clcw_of};
 ghost use Rattle.sl_tcframe.specs.TcContent.{content};
 ghost use Rattle.sl_tcframe.specs.TcFrame.{TcView};
 ghost use Rattle.sl_tcflow.specs.AcceptedUnit.{event_of};
-ghost use Rattle.sl_tcflow.specs.Receiving.{HaveStepped, farm_of, verdict_on};
+ghost use Rattle.sl_tcflow.specs.Farms.{HaveStepped, farm_of, verdict_on};
 ghost use Rattle.sl_tcflow.specs.ReceptionParameters.{ReceptionParameters};
 
 use sl_cop::{Farm, FarmEvent, Starts, Verdict, Window};

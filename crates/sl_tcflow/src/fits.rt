@@ -1,7 +1,7 @@
 //! Packets that frames without segment headers can carry.
 ghost use Rattle.std.specs.Prelude.{◌≤◌, ◌↔◌, vec_len, IsTrue};
 ghost use Rattle.std.specs.List.{AllByRecursion};
-ghost use Rattle.sl_tcflow.specs.FitsTc.{FitsOn, FitsTc};
+ghost use Rattle.sl_tcflow.specs.Fits.{FitsOn, FitsTc};
 
 use sl_packet::Delivered;
 use sl_tcframe::{TcShape, VcSet};

@@ -8,9 +8,9 @@ ghost use Rattle.sl_packet.specs.Delivered.{IsDeliverable, channel_count, list_a
 ghost use Rattle.sl_tcframe.specs.AdFrame.{plain_room_of};
 ghost use Rattle.sl_tcframe.specs.TcFrame.{TcFormat};
 ghost use Rattle.sl_tcflow.specs.Canonical.{AreDeliverable};
-ghost use Rattle.sl_tcflow.specs.FitsTc.{FitsTc};
-ghost use Rattle.sl_tcflow.specs.FormLeft.{IsPlace, form_left, ns_after, piece_of};
-ghost use Rattle.sl_tcflow.specs.FormPiece.{AddsPiece, piece_room};
+ghost use Rattle.sl_tcflow.specs.Fits.{FitsTc};
+ghost use Rattle.sl_tcflow.specs.Form.{IsPlace, form_left, ns_after, piece_of, AddsPiece};
+ghost use Rattle.sl_tcflow.specs.Form.{piece_room};
 ghost use Rattle.sl_tcflow.specs.Recording.{tc_lists};
 ghost use Rattle.sl_tcflow.specs.TcNormalForm.{tc_normal_form_of};
 
@@ -61,7 +61,7 @@ impl<'d> Model for TcForm<'d> {
 
     ghost Value = { List ℕ };
 
-    ghost use Rattle.sl_tcflow.specs.TcFormModel.{octets_to_come, IsTcForm};
+    ghost use Rattle.sl_tcflow.specs.FormModel.{octets_to_come, IsTcForm};
 
     ghost view = { octets_to_come };
 

@@ -4,7 +4,7 @@ ghost use Rattle.std.specs.Prelude.{vec_len, IfOk, OnOk, OnErr};
 ghost use Rattle.std.specs.Vec.{vec_capacity};
 ghost use Rattle.sl_packet.specs.Delivered.{channel_count};
 ghost use Rattle.sl_tcframe.specs.AdFrame.{segment_room_of};
-ghost use Rattle.sl_tcflow.specs.FormLeft.{ns_after, piece_of};
+ghost use Rattle.sl_tcflow.specs.Form.{ns_after, piece_of};
 
 use sl_fields::SegmentHeader;
 use sl_tcframe::{TcShape, push_tc};

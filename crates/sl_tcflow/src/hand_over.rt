@@ -2,7 +2,7 @@
 ghost use Rattle.std.specs.Prelude.{◌≡◌, ◌≢◌, ◌≤◌, length, IfOk, IfErr};
 ghost use Rattle.sl_packet.specs.Packets.{packets_of};
 ghost use Rattle.sl_packet.specs.Stopping.{HandsOver};
-ghost use Rattle.sl_tcflow.specs.NextSegment.{unit_report};
+ghost use Rattle.sl_tcflow.specs.IncompleteSteps.{unit_report};
 ghost use Rattle.sl_tcflow.specs.StepReport.{counts_of};
 
 use crate::report::{EMPTY_STEP, TcStep};

@@ -3,8 +3,8 @@ ghost use Rattle.std.specs.Prelude.{◌≡◌, ◌≢◌, ◌⊎◌, ◌≤◌, 
 ghost use Rattle.std.specs.Prelude.{IfOk, IfErr, IfSome};
 ghost use Rattle.sl_packet.specs.Stopping.{HandsOver};
 ghost use Rattle.sl_tcflow.specs.Incomplete.{if_fits};
-ghost use Rattle.sl_tcflow.specs.NextSegment.{IsReported, continued_report, extended};
-ghost use Rattle.sl_tcflow.specs.NextSegment.{incomplete_with, packets_with, quiet_report};
+ghost use Rattle.sl_tcflow.specs.IncompleteSteps.{IsReported, continued_report, extended};
+ghost use Rattle.sl_tcflow.specs.IncompleteSteps.{incomplete_with, packets_with, quiet_report};
 ghost use Rattle.sl_tcflow.specs.StepReport.{counts_of};
 
 use crate::hand_over::hand;
@@ -33,7 +33,7 @@ impl Model for Incomplete {
 
     ghost Value = { Option (List ℕ) };
 
-    ghost use Rattle.sl_tcflow.specs.ReceiverModel.{octets_so_far, IsKept};
+    ghost use Rattle.sl_tcflow.specs.IncompleteModel.{octets_so_far, IsKept};
 
     ghost view = { octets_so_far };
 

@@ -10,7 +10,7 @@ ghost use Rattle.sl_tcflow.specs.FormOrder.{ChannelsNeverFall, EachPacketIsOneSe
 ghost use Rattle.sl_tcflow.specs.FormOrder.{MapsNeverFall, NsCounts};
 ghost use Rattle.sl_tcflow.specs.Incomplete.{WhatIsToldIsIncomplete, IncompleteIsTold, OneBegins};
 ghost use Rattle.sl_tcflow.specs.Incomplete.{OneIsIncomplete, IncompleteFits};
-ghost use Rattle.sl_tcflow.specs.Receiving.{DeliveredAreHandedOver};
+ghost use Rattle.sl_tcflow.specs.Receiver.{DeliveredAreHandedOver};
 ghost use Rattle.sl_tcflow.specs.Reception.{PacketsEndOnce};
 ghost use Rattle.sl_tcflow.specs.ReorderedUnits.{AdUnitsAreAll, ExpectedUnitIsAccepted};
 ghost use Rattle.sl_tcflow.specs.ReorderedUnits.{PacketsInOrder, ReceiverCountsUnits};

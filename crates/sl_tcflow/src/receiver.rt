@@ -10,11 +10,11 @@ ghost use Rattle.sl_tcframe.specs.TcFrame.{TcView, IsContent};
 ghost use Rattle.sl_tcflow.specs.AcceptedUnit.{unit_by};
 ghost use Rattle.sl_tcflow.specs.Anomaly.{IsReportedOf, dropped_by, held_of, long_by, stray_by};
 ghost use Rattle.sl_tcflow.specs.Anomaly.{tail_by};
+ghost use Rattle.sl_tcflow.specs.Farms.{farm_of, verdict_on};
 ghost use Rattle.sl_tcflow.specs.Incomplete.{incomplete_of};
-ghost use Rattle.sl_tcflow.specs.Receiving.{ForProcessed, HasProcessed, IsFailed, HasFailedAfter};
-ghost use Rattle.sl_tcflow.specs.Receiving.{ForIncomplete, IsIncompleteAround};
-ghost use Rattle.sl_tcflow.specs.Receiving.{AreIncomplete, channel_at, map_by, map_of, ended_by};
-ghost use Rattle.sl_tcflow.specs.Receiving.{farm_of, unit_channel, verdict_on};
+ghost use Rattle.sl_tcflow.specs.Receiver.{ForProcessed, HasProcessed, IsFailed, HasFailedAfter};
+ghost use Rattle.sl_tcflow.specs.Receiver.{ForIncomplete, IsIncompleteAround, AreIncomplete};
+ghost use Rattle.sl_tcflow.specs.Receiver.{channel_at, map_by, map_of, ended_by, unit_channel};
 ghost use Rattle.sl_tcflow.specs.Reception.{segments_of};
 ghost use Rattle.sl_tcflow.specs.ReceptionParameters.{ReceptionParameters};
 ghost use Rattle.sl_tcflow.specs.Series.{header_at, segment_in};
@@ -51,7 +51,7 @@ pub struct Receiver {
 }
 
 impl Model for Receiver {
-    ghost use Rattle.sl_tcflow.specs.Receiving.{ReceiverState};
+    ghost use Rattle.sl_tcflow.specs.Receiver.{ReceiverState};
 
     ghost Value = { ReceiverState };
 

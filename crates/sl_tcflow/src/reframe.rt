@@ -1,7 +1,7 @@
 //! The whole normal form of delivered packets, in one call.
 ghost use Rattle.std.specs.Prelude.{◌≡◌, ℕ, ◌≤◌, IfOk, OnErr};
 ghost use Rattle.sl_packet.specs.Delivered.{HasNone, channel_count};
-ghost use Rattle.sl_tcflow.specs.FitsTc.{FitsTc};
+ghost use Rattle.sl_tcflow.specs.Fits.{FitsTc};
 ghost use Rattle.sl_tcflow.specs.Recording.{tc_lists};
 ghost use Rattle.sl_tcflow.specs.TcNormalForm.{tc_normal_form_of};
 

@@ -1,6 +1,6 @@
 //! Segments, as they are read from units.
 ghost use Rattle.std.specs.Prelude.{◌≡◌, ◌≤◌, ◌<◌, length};
-ghost use Rattle.sl_tcflow.specs.Receiving.{channel_at};
+ghost use Rattle.sl_tcflow.specs.Receiver.{channel_at};
 ghost use Rattle.sl_tcflow.specs.Series.{flags_of, header_at, segment_data, segment_in};
 
 use sl_fields::{SegmentHeader, front};

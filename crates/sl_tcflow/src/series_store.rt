@@ -3,9 +3,9 @@ ghost use Rattle.std.specs.Prelude.{◌≡◌, ◌≢◌, ◌⊎◌, ◌≤◌, 
 ghost use Rattle.std.specs.Prelude.{length, OnOk, IfOk, IfErr, IfSome};
 ghost use Rattle.std.specs.Vec.{vec_len};
 ghost use Rattle.sl_packet.specs.Stopping.{HandsOver};
-ghost use Rattle.sl_tcflow.specs.NextSegment.{IsReported, incomplete_with, packets_with};
-ghost use Rattle.sl_tcflow.specs.Placed.{at, IsPlaced};
-ghost use Rattle.sl_tcflow.specs.Receiving.{channel_at};
+ghost use Rattle.sl_tcflow.specs.IncompleteSteps.{IsReported, incomplete_with, packets_with};
+ghost use Rattle.sl_tcflow.specs.Receiver.{channel_at};
+ghost use Rattle.sl_tcflow.specs.SeriesStore.{at, IsPlaced};
 ghost use Rattle.sl_tcflow.specs.StepReport.{counts_of};
 
 use crate::form::CHANNELS;
@@ -27,11 +27,11 @@ pub struct SeriesStore {
 }
 
 impl Model for SeriesStore {
-    ghost use Rattle.sl_tcflow.specs.Receiving.{IncompleteSeries};
+    ghost use Rattle.sl_tcflow.specs.SeriesStore.{IncompleteSeries};
 
     ghost Value = { IncompleteSeries };
 
-    ghost use Rattle.sl_tcflow.specs.ReceiverModel.{series_in};
+    ghost use Rattle.sl_tcflow.specs.SeriesStoreModel.{series_in};
 
     ghost view = { series_in };
 }

@@ -8,7 +8,8 @@ use Rattle.sl_tcframe.specs.TcDelimited.{tc_frames_of}
 use Rattle.sl_tcframe.specs.TcFrame.{TcView, Content, Ad, Bd, Unlock, SetVr, tc_frame}
 use Rattle.sl_tcflow.specs.AcceptedUnit.{views_of}
 use Rattle.sl_tcflow.specs.Anomaly.{dropped_by, long_by, stray_by, tail_by}
-use Rattle.sl_tcflow.specs.Receiving.{HasProcessed, IsIncompleteAround, ReceiverState, ended_by, held_in, map_by, unit_channel, verdict_on}
+use Rattle.sl_tcflow.specs.Farms.{verdict_on}
+use Rattle.sl_tcflow.specs.Receiver.{HasProcessed, IsIncompleteAround, ReceiverState, ended_by, held_in, map_by, unit_channel}
 use Rattle.sl_tcflow.specs.ReceptionParameters.{ReceptionParameters}
 use Rattle.sl_tcflow.specs.Recording.{map_channels, packets_of_channel, tc_lists}
 use Rattle.sl_link.specs.Kind.Delivery.{IsWithin, Kind, MayRefuseMemory, count_of, counts_in, number_of_idle, number_of_packets}

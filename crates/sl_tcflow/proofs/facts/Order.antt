@@ -4,7 +4,7 @@ use Rattle.std.proofs.Common.{◌≡◌, ℕ, true, false, List, [], ◌∷◌, 
 use Rattle.sl_tcframe.specs.TcFrame.{TcFormat, TcView, Ad}
 use Rattle.sl_tcflow.specs.AcceptedUnit.{views_on}
 use Rattle.sl_tcflow.specs.FormOrder.{form_views, segments_in}
-use Rattle.sl_tcflow.specs.Receiving.{map_of}
+use Rattle.sl_tcflow.specs.Receiver.{map_of}
 use Rattle.sl_tcflow.specs.Series.{whole_segment}
 
 abbrev format : TcFormat

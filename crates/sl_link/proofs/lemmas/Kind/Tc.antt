@@ -11,7 +11,7 @@ use Rattle.sl_tcframe.specs.declared.tc_frame.TcSkip.{TcSkip}
 use Rattle.sl_tcframe.specs.TcFrame.{TcView, Content, command_of, content_of, early_reason, is_cut, tc_header_of, tc_parts_of, read_as, unit_content}
 use Rattle.sl_tcframe.proofs.PartLemmas.{cut_facts}
 use Rattle.sl_tcflow.specs.AcceptedUnit.{views_of}
-use Rattle.sl_tcflow.specs.Receiving.{ReceiverState, HasProcessed, unit_channel, held_in}
+use Rattle.sl_tcflow.specs.Receiver.{ReceiverState, HasProcessed, unit_channel, held_in}
 use Rattle.sl_tcflow.specs.ReceptionParameters.{ReceptionParameters, is_plain}
 use Rattle.sl_tcflow.specs.Recording.{map_channels, packets_of_channel}
 use Rattle.sl_tcflow.proofs.lemmas.Reception.Channel.{held_other, held_own, packets_other, packets_own, small_map, unit_len}

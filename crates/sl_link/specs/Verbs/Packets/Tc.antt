@@ -7,7 +7,7 @@ use Rattle.sl_tcframe.specs.declared.tc_frame.TcSkip.{TcSkip}
 use Rattle.sl_tcframe.specs.TcDelimited.{tc_frames_of}
 use Rattle.sl_tcframe.specs.TcFrame.{TcView}
 use Rattle.sl_tcflow.specs.AcceptedUnit.{views_of}
-use Rattle.sl_tcflow.specs.Receiving.{ended_by, map_by}
+use Rattle.sl_tcflow.specs.Receiver.{ended_by, map_by}
 use Rattle.sl_tcflow.specs.ReceptionParameters.{ReceptionParameters}
 use Rattle.sl_link.specs.Kind.Tc.{as_read, tc_kind}
 use Rattle.sl_link.specs.Link.Managed.{Parameters, reception_of, tc_format}

@@ -4,7 +4,7 @@ ghost use Rattle.sl_tcframe.specs.TcContent.{content};
 ghost use Rattle.sl_tcframe.specs.TcFrame.{IsContent, TcView};
 ghost use Rattle.sl_cop.specs.Farm.{farm_step};
 ghost use Rattle.sl_tcflow.specs.AcceptedUnit.{event_of};
-ghost use Rattle.sl_tcflow.specs.Receiving.{HaveStepped, farm_of};
+ghost use Rattle.sl_tcflow.specs.Farms.{HaveStepped, farm_of};
 ghost use Rattle.sl_tcflow.specs.ReceptionParameters.{ReceptionParameters};
 ghost use Rattle.sl_tcflow.specs.Series.{header_at};
 ghost use Rattle.sl_link.specs.Kind.Delivery.{with_frame};

@@ -76,7 +76,7 @@ impl Shown for TmFrames {
 impl Shown for Farms {
     ghost use Rattle.sl_link.specs.Pass.Tc.{is_tc_frame};
     ghost use Rattle.sl_tcflow.specs.AcceptedUnit.{views_of};
-    ghost use Rattle.sl_tcflow.specs.Receiving.{HaveStepped};
+    ghost use Rattle.sl_tcflow.specs.Farms.{HaveStepped};
     ghost use Rattle.sl_link.specs.Link.Managed.{reception_of, tc_format};
     ghost use Rattle.sl_link.specs.Verbs.Show.Tc.{tc_is_skipped, tc_line};
 

@@ -2,7 +2,7 @@ use Rattle.std.proofs.Common.{◌≤◌, true, false, length, ap, arith, eq-eqb,
 use Rattle.std.proofs.lemmas.List.{length-map}
 use Rattle.std.specs.Vec.{vec_items}
 use Rattle.sl_packet.specs.Delivered.{list_at}
-use Rattle.sl_tcflow.specs.FormLeft.{form_left}
+use Rattle.sl_tcflow.specs.Form.{form_left}
 use Rattle.sl_tcflow.proofs.lemmas.Form.Left.{to_none, to_packet}
 use Rattle.sl_tcflow.proofs.form.next_place.Goals as goal
 

@@ -4,11 +4,12 @@ use Rattle.sl_cop.specs.declared.verdict.Verdict.{Verdict}
 use Rattle.sl_cop.specs.declared.verdict.Verdict.TheVariants.{Accept}
 use Rattle.sl_tcframe.specs.TcFrame.{TcView}
 use Rattle.sl_tcflow.specs.Anomaly.{IsReportedOf, dropped_of, long_of, stray_of, tail_of}
-use Rattle.sl_tcflow.specs.NextSegment.{IsReported, dropped_with, long_with, quiet_report, stray_with, tail_after}
-use Rattle.sl_tcflow.specs.Placed.{at}
-use Rattle.sl_tcflow.specs.Receiving.{AreIncomplete, channel_at, map_by, segment_by, verdict_on}
+use Rattle.sl_tcflow.specs.Farms.{verdict_on}
+use Rattle.sl_tcflow.specs.IncompleteSteps.{IsReported, dropped_with, long_with, quiet_report, stray_with, tail_after}
+use Rattle.sl_tcflow.specs.Receiver.{AreIncomplete, channel_at, map_by, segment_by}
 use Rattle.sl_tcflow.specs.ReceptionParameters.{ReceptionParameters}
 use Rattle.sl_tcflow.specs.Series.{flags_of, header_at, segment_data}
+use Rattle.sl_tcflow.specs.SeriesStore.{at}
 use Rattle.sl_tcflow.specs.StepReport.{StepReport}
 use Rattle.sl_tcflow.proofs.lemmas.Anomaly.Told.{told_at, told_none}
 use Rattle.sl_tcflow.proofs.lemmas.Reception.Ended.{tail_next}

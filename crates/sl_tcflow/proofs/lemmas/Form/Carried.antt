@@ -10,7 +10,7 @@ use Rattle.sl_tcframe.specs.TcFrame.{TcFormat, TcView}
 use Rattle.sl_tcframe.specs.VcSet.{has_vc}
 use Rattle.sl_tcflow.specs.AcceptedUnit.{unit_of}
 use Rattle.sl_tcflow.specs.Canonical.{AreDeliverable}
-use Rattle.sl_tcflow.specs.FitsTc.{FitsOn}
+use Rattle.sl_tcflow.specs.Fits.{FitsOn}
 use Rattle.sl_tcflow.specs.FormOrder.{CarryPackets, EachPacketIsOneSeries, none, more, room_in, segments_in}
 use Rattle.sl_tcflow.specs.Series.{whole, header_at, segment_data, segment_in, segments_on, whole_segment}
 use Rattle.sl_tcflow.specs.TcNormalForm.{AreSegments, IsDividedInto, last, units_of_maps, units_of_packet}

@@ -17,7 +17,7 @@ use Rattle.sl_tcframe.specs.VcSet.{has_vc}
 use Rattle.sl_tcframe.proofs.AdFrameLemmas.{ad_frame_back, ad_frame_cut, length-ad_frame, within}
 use Rattle.sl_tcflow.specs.AcceptedUnit.{views_of, views_on, events_of, unit_of, unit_by, accepted_units}
 use Rattle.sl_tcflow.specs.Canonical.{AreDeliverable, IsFormat}
-use Rattle.sl_tcflow.specs.FitsTc.{FitsOn, FitsTc}
+use Rattle.sl_tcflow.specs.Fits.{FitsOn, FitsTc}
 use Rattle.sl_tcflow.specs.TcNormalForm.{units_of_maps, frames_of_units, channel_frames, tc_frames_form}
 use Rattle.sl_fields.proofs.ListLemmas.{each-at, each-both, each-map, each-weaker}
 use Rattle.sl_tcflow.proofs.lemmas.Each.{each-flat_map_range, own_part}

@@ -14,8 +14,7 @@ use Rattle.sl_packet.specs.Delivered.{PacketLists, list_at}
 use Rattle.sl_tcframe.specs.AdFrame.{segment_room_of, ad_fields, ad_frame, ad_len}
 use Rattle.sl_tcframe.specs.TcFrame.{TcFormat}
 use Rattle.sl_tcframe.specs.VcSet.{has_vc}
-use Rattle.sl_tcflow.specs.FormLeft.{IsPlace, channels_left, form_left, maps_left, ns_after, piece_of}
-use Rattle.sl_tcflow.specs.FormPiece.{AddsPiece}
+use Rattle.sl_tcflow.specs.Form.{IsPlace, channels_left, form_left, maps_left, ns_after, piece_of, AddsPiece}
 use Rattle.sl_tcflow.specs.TcNormalForm.{segment_count, segment_of, units_of_packet, units_of_maps, frames_of_units, channel_frames, tc_normal_form_of}
 use Rattle.sl_tcflow.proofs.lemmas.Series.Part.{some_parts}
 use Rattle.sl_tcflow.proofs.lemmas.Form.Pushed.{frames_from_same, frames_from-append}

@@ -9,7 +9,7 @@ use Rattle.sl_tcframe.proofs.AdFrameLemmas.{ad_frame_back}
 use Rattle.sl_tcflow.specs.AcceptedUnit.{views_on}
 use Rattle.sl_tcflow.specs.Canonical.{CanBeWritten, IsNotSkipped, NoFrameIsSkipped}
 use Rattle.sl_tcflow.specs.FormOrder.{form_views, ChannelsNeverFall, MapsNeverFall, NsCounts}
-use Rattle.sl_tcflow.specs.Receiving.{map_of}
+use Rattle.sl_tcflow.specs.Receiver.{map_of}
 use Rattle.sl_tcflow.specs.Series.{header_at}
 use Rattle.sl_tcflow.specs.TcNormalForm.{units_of_maps}
 use Rattle.sl_fields.specs.NeverFall.{NeverFall}

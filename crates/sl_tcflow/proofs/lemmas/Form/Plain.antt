@@ -7,7 +7,7 @@ use Rattle.sl_fields.specs.SegmentHeader.{SegmentFields}
 use Rattle.sl_packet.specs.Packet.{IsPacket}
 use Rattle.sl_tcframe.specs.AdFrame.{plain_room_of}
 use Rattle.sl_tcframe.specs.TcFrame.{TcFormat}
-use Rattle.sl_tcflow.specs.FitsTc.{FitsOn}
+use Rattle.sl_tcflow.specs.Fits.{FitsOn}
 use Rattle.sl_tcflow.specs.Reception.{packets_of_segments}
 use Rattle.sl_tcflow.specs.Series.{segment_in, segments_on, whole_segment}
 use Rattle.sl_tcflow.specs.TcNormalForm.{segment_count, piece_at, flags_at, units_of_maps}

@@ -7,7 +7,7 @@ use Rattle.std.proofs.lemmas.Bool.Decides.{eqb_tells}
 use Rattle.sl_packet.specs.Packets.{packets_of, rest_of}
 use Rattle.sl_tcflow.specs.Anomaly.{tail_of}
 use Rattle.sl_tcflow.specs.Incomplete.{if_fits, are_continuing, incomplete_of}
-use Rattle.sl_tcflow.specs.NextSegment.{extended, service_unit_ended, packets_of_service_unit, packets_after, rest_of_service_unit, tail_after}
+use Rattle.sl_tcflow.specs.IncompleteSteps.{extended, service_unit_ended, packets_of_service_unit, packets_after, rest_of_service_unit, tail_after}
 use Rattle.sl_tcflow.specs.Reception.{packets_ended}
 use Rattle.sl_tcflow.specs.Series.{flags_of, segment_data, SeriesAt, past, series_of, reassembled}
 use Rattle.sl_tcflow.proofs.lemmas.Series.Fit.{reassembled-push, extended_fits}

@@ -4,7 +4,7 @@ use Rattle.std.proofs.lemmas.Bool.Decides.{eqb_tells}
 use Rattle.sl_packet.specs.Packets.{without_idle}
 use Rattle.sl_packet.proofs.WithoutIdleLemmas.{without_idle-append}
 use Rattle.sl_tcframe.specs.TcFrame.{TcView}
-use Rattle.sl_tcflow.specs.Receiving.{DeliveredAreHandedOver, ended_by, handed_over, unit_channel}
+use Rattle.sl_tcflow.specs.Receiver.{DeliveredAreHandedOver, ended_by, handed_over, unit_channel}
 use Rattle.sl_tcflow.specs.ReceptionParameters.{ReceptionParameters}
 use Rattle.sl_tcflow.specs.Recording.{packets_of_channel}
 use Rattle.sl_tcflow.proofs.lemmas.Reception.Channel.{packets_other, packets_own}

@@ -19,7 +19,7 @@ use Rattle.sl_packet.specs.Packet.{is_idle_packet}
 use Rattle.sl_packet.specs.Packets.{without_idle}
 use Rattle.sl_tcframe.specs.TcFrame.{TcFormat, TcView, Content, Ad, Bd, Unlock, SetVr}
 use Rattle.sl_tcflow.specs.AcceptedUnit.{accepted_ad_units, ad_unit_of, views_on, event_of, events_of, farm_after, unit_of}
-use Rattle.sl_tcflow.specs.Receiving.{channel_at}
+use Rattle.sl_tcflow.specs.Receiver.{channel_at}
 use Rattle.sl_tcflow.specs.Reception.{packets_ended, packets_of_segments, segments_of}
 use Rattle.sl_tcflow.specs.ReceptionParameters.{ReceptionParameters, is_plain, initial_vr}
 use Rattle.sl_tcflow.specs.Recording.{map_channels, packets_of_channel, recorded_views}

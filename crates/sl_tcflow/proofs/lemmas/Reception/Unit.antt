@@ -9,13 +9,14 @@ use Rattle.sl_cop.specs.Farm.{farm_start, farm_step}
 use Rattle.sl_cop.proofs.ReorderedLemmas.{accepted_more}
 use Rattle.sl_tcframe.specs.TcFrame.{TcView, Content}
 use Rattle.sl_tcflow.specs.AcceptedUnit.{views_on, event_of, farm_after, unit_of, unit_by, accepted_units}
+use Rattle.sl_tcflow.specs.Farms.{verdict_on}
 use Rattle.sl_tcflow.specs.Incomplete.{incomplete_of}
-use Rattle.sl_tcflow.specs.NextSegment.{incomplete_after, packets_after}
-use Rattle.sl_tcflow.specs.Placed.{at, IsPlaced}
-use Rattle.sl_tcflow.specs.Receiving.{AreIncomplete, IsIncompleteAround, channel_at, map_by, map_of, segment_by, unit_channel, ended_by, verdict_on}
+use Rattle.sl_tcflow.specs.IncompleteSteps.{incomplete_after, packets_after}
+use Rattle.sl_tcflow.specs.Receiver.{AreIncomplete, IsIncompleteAround, channel_at, map_by, map_of, segment_by, unit_channel, ended_by}
 use Rattle.sl_tcflow.specs.Reception.{packets_ended, segments_of}
 use Rattle.sl_tcflow.specs.ReceptionParameters.{ReceptionParameters, is_plain, initial_vr}
 use Rattle.sl_tcflow.specs.Series.{header_at, segment_in, segments_on}
+use Rattle.sl_tcflow.specs.SeriesStore.{at, IsPlaced}
 use Rattle.sl_tcflow.proofs.lemmas.Reception.Ended.{ended_next}
 use Rattle.sl_tcflow.proofs.lemmas.Reception.Farm.{same_channel, other_channel}
 use Rattle.sl_tcflow.proofs.lemmas.Series.OneMore.{incomplete_next}

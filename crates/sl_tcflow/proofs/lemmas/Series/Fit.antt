@@ -5,7 +5,7 @@ use Rattle.std.proofs.lemmas.Bool.Decides.{leb_tells}
 use Rattle.std.proofs.lemmas.List.{map-append}
 use Rattle.std.proofs.lemmas.List.Folds.{concat-append}
 use Rattle.sl_tcflow.specs.Incomplete.{if_fits}
-use Rattle.sl_tcflow.specs.NextSegment.{extended}
+use Rattle.sl_tcflow.specs.IncompleteSteps.{extended}
 use Rattle.sl_tcflow.specs.Series.{segment_data, reassembled}
 
 pub reassembled-push : (segments : List (List ℕ)) (next : List ℕ) → reassembled (segments ++ next ∷ []) ≡ reassembled segments ++ segment_data next

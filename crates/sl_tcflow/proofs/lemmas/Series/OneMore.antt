@@ -6,7 +6,7 @@ use Rattle.std.proofs.lemmas.Grind.{flat_map-append}
 use Rattle.std.proofs.lemmas.List.{length_push}
 use Rattle.std.proofs.lemmas.List.Elements.{filter-append}
 use Rattle.sl_tcflow.specs.Incomplete.{if_fits, are_continuing, incomplete_of}
-use Rattle.sl_tcflow.specs.NextSegment.{extended, incomplete_after}
+use Rattle.sl_tcflow.specs.IncompleteSteps.{extended, incomplete_after}
 use Rattle.sl_tcflow.specs.Reception.{packets_of_series, packets_of_segments, packets_ended}
 use Rattle.sl_tcflow.specs.Series.{flags_of, segment_data, SeriesAt, IsSeriesOf, past, completed, series_with, series_from, series_of, reassembled}
 use Rattle.sl_fields.proofs.ListLemmas.{each-weaker, filter_all, filter_none}

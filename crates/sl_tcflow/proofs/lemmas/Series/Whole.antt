@@ -6,8 +6,9 @@ use Rattle.std.specs.Prelude.{is_none, option_map}
 use Rattle.sl_fields.specs.SegmentHeader.{SegmentFields}
 use Rattle.sl_tcflow.specs.AcceptedUnit.{accepted_units, views_on, unit_by}
 use Rattle.sl_tcflow.specs.Anomaly.{dropped_of, long_of, octets_held, of_segment, stray_of, NoPlainSeriesIsIncomplete, PlainUnitHasTailAlone}
+use Rattle.sl_tcflow.specs.Farms.{verdict_on}
 use Rattle.sl_tcflow.specs.Incomplete.{are_continuing, if_fits, incomplete_of, exceeds_limit}
-use Rattle.sl_tcflow.specs.Receiving.{map_by, verdict_on}
+use Rattle.sl_tcflow.specs.Receiver.{map_by}
 use Rattle.sl_tcflow.specs.Reception.{segments_of}
 use Rattle.sl_tcflow.specs.ReceptionParameters.{is_plain, initial_vr}
 use Rattle.sl_tcflow.specs.Series.{begins_by, continues_by, flags_of, header_at, segment_data, reassembled, segment_in, segments_on, whole_segment, PlainUnitIsWhole}

@@ -1,5 +1,5 @@
 use Rattle.std.proofs.Common.{◌∷◌, [], ◌∙◌, inr, ap, sym, arith}
-use Rattle.sl_tcflow.specs.Receiving.{channel_at}
+use Rattle.sl_tcflow.specs.Receiver.{channel_at}
 use Rattle.sl_tcflow.specs.Series.{header_at, segment_in}
 use Rattle.sl_packet.proofs.StoppingLemmas.{counts_stopped, hands_same}
 use Rattle.sl_tcflow.proofs.lemmas.Anomaly.Report.{reported_more, reported_none}

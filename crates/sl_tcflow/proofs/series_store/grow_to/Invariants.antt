@@ -1,6 +1,6 @@
 use Rattle.std.proofs.Common.{◌≡◌, ◌≤◌, ◌+◌, ◌-◌, ℕ, max}
 use Rattle.std.specs.Vec.{vec_len}
-use Rattle.sl_tcflow.specs.Placed.{at}
+use Rattle.sl_tcflow.specs.SeriesStore.{at}
 use Rattle.sl_tcflow.proofs.series_store.grow_to.Given as goal
 
 abbrev pub invariant-loop-alloc : goal.invariant-loop-alloc

@@ -1,7 +1,7 @@
 use Rattle.std.proofs.Common.{◌≡◌, ◌≢◌, ◌∙◌, List, [], ℕ, arith, length, refl, subst, sym}
 use Rattle.std.proofs.lemmas.Result.{MatchResult-weaker, on_ok_weaker}
 use Rattle.std.proofs.lemmas.List.{take_all}
-use Rattle.sl_tcflow.specs.FitsTc.{FitsTc}
+use Rattle.sl_tcflow.specs.Fits.{FitsTc}
 use Rattle.sl_tcflow.proofs.lemmas.Form.Left.{none_at_all}
 use Rattle.sl_tcflow.proofs.lemmas.Reception.PlainRecording.{recorded_lists_fit}
 use Rattle.sl_link.specs.Io.Streams.{StopsWriting, WritesText}

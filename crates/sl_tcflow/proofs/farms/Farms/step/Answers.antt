@@ -1,7 +1,7 @@
 use Rattle.std.proofs.Common.{◌∙◌, ap, arith, slice_index_or, subst, sym}
 use Rattle.sl_cop.specs.Farm.{farm_step}
 use Rattle.sl_tcflow.specs.AcceptedUnit.{event_of}
-use Rattle.sl_tcflow.specs.Receiving.{HaveStepped}
+use Rattle.sl_tcflow.specs.Farms.{HaveStepped}
 use Rattle.sl_tcflow.proofs.lemmas.Reception.Farm.{stepped_more}
 use Rattle.sl_tcflow.proofs.farms.Farms.step.Goals as goal
 

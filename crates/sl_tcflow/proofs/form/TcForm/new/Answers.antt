@@ -1,6 +1,6 @@
 use Rattle.std.proofs.Common.{sym, ◌∙◌, arith, ap}
 use Rattle.sl_tcflow.specs.Canonical.{IsFormat}
-use Rattle.sl_tcflow.specs.FormLeft.{form_left}
+use Rattle.sl_tcflow.specs.Form.{form_left}
 use Rattle.sl_tcflow.specs.ReceptionParameters.{ReceptionParameters}
 use Rattle.sl_tcflow.specs.Recording.{tc_lists}
 use Rattle.sl_tcflow.proofs.lemmas.Form.Canonical.{normal_form_delivers}

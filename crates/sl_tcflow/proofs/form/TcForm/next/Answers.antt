@@ -1,6 +1,6 @@
 use Rattle.std.proofs.Common.{◌++◌, length, refl, sym, ◌∙◌, ap, length-append, arith}
 use Rattle.sl_tcframe.specs.VcSet.{has_vc}
-use Rattle.sl_tcflow.specs.FormLeft.{ns_after, piece_of}
+use Rattle.sl_tcflow.specs.Form.{ns_after, piece_of}
 use Rattle.sl_tcflow.proofs.lemmas.Form.Left.{no_packet, none_left, piece_first}
 use Rattle.sl_packet.proofs.StoppingLemmas.{on_err}
 use Rattle.sl_tcflow.proofs.form.TcForm.next.Goals as goal

@@ -1,6 +1,7 @@
 use Rattle.std.proofs.Common.{◌∙◌, refl, sym, ap, ap₂, subst}
 use Rattle.sl_tcframe.specs.VcSet.{has_vc}
-use Rattle.sl_tcflow.specs.Receiving.{HaveStepped, AreIncomplete, map_of}
+use Rattle.sl_tcflow.specs.Farms.{HaveStepped}
+use Rattle.sl_tcflow.specs.Receiver.{AreIncomplete, map_of}
 use Rattle.sl_tcflow.specs.StepReport.{StepReport}
 use Rattle.sl_tcflow.proofs.lemmas.Reception.Farm.{of_processed, plain_is}
 use Rattle.sl_tcflow.proofs.receiver.Receiver.frame.Goals as goal

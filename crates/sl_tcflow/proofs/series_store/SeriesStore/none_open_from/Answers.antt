@@ -3,8 +3,7 @@ use Rattle.std.specs.Prelude.{is_some, option_map}
 use Rattle.std.specs.List.{slice_index_or}
 use Rattle.std.proofs.lemmas.Bool.{cases_lt}
 use Rattle.std.proofs.lemmas.List.{get_or_past, get_or_default}
-use Rattle.sl_tcflow.specs.Placed.{at}
-use Rattle.sl_tcflow.specs.Receiving.{IncompleteSeries}
+use Rattle.sl_tcflow.specs.SeriesStore.{at, IncompleteSeries}
 use Rattle.sl_tcflow.proofs.series_store.SeriesStore.none_open_from.Goals as goal
 use Rattle.sl_tcflow.proofs.series_store.SeriesStore.none_open_from.Goals.{then-loop-from-test+else-is_none, else-loop-from-test}
 

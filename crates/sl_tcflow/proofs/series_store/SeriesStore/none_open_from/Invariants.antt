@@ -1,5 +1,5 @@
 use Rattle.std.proofs.Common.{◌≡◌, ◌≤◌, ℕ, None, length}
-use Rattle.sl_tcflow.specs.Placed.{at}
+use Rattle.sl_tcflow.specs.SeriesStore.{at}
 use Rattle.sl_tcflow.proofs.series_store.SeriesStore.none_open_from.Given as goal
 
 abbrev pub invariant-loop-from : goal.invariant-loop-from

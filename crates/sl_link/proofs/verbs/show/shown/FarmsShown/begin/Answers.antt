@@ -1,5 +1,5 @@
 use Rattle.std.proofs.Common.{[], refl, subst}
-use Rattle.sl_tcflow.specs.Receiving.{HaveStepped}
+use Rattle.sl_tcflow.specs.Farms.{HaveStepped}
 use Rattle.sl_link.specs.Link.Managed.{Parameters, reception_of}
 use Rattle.sl_link.specs.Link.ManagedModel.{parameters_of}
 use Rattle.sl_link.proofs.verbs.show.shown.FarmsShown.begin.Goals as goal

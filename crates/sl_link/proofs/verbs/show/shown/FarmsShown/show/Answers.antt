@@ -1,7 +1,7 @@
 use Rattle.std.proofs.Common.{◌≡◌, ◌++◌, ◌∙◌, List, ap, rules, subst, sym}
 use Rattle.sl_tcframe.specs.TcFrame.{TcView, tc_frame}
 use Rattle.sl_tcflow.specs.AcceptedUnit.{views_of}
-use Rattle.sl_tcflow.specs.Receiving.{HaveStepped}
+use Rattle.sl_tcflow.specs.Farms.{HaveStepped}
 use Rattle.sl_link.specs.Io.Line.{line_at}
 use Rattle.sl_link.specs.Link.Managed.{Parameters, reception_of, tc_format}
 use Rattle.sl_link.specs.Verbs.Show.Tc.{farm_view, tc_frame_text}

@@ -1,29 +1,23 @@
 -- The state of a receiver that was given frames of all virtual channels, CCSDS 232.0-B and 232.1-B,
 -- and what the next frame does.
-use Rattle.std.specs.Prelude.{◌≡◌, ◌≢◌, ◌⊎◌, ℕ, ◌+◌, ◌*◌, ◌/◌, ◌%◌, ◌<◌, ◌==◌, Bool, true, false, if◌then◌else◌, List, [], ◌∷◌, ◌++◌, length, map, flat_map, Option, None, Some}
+use Rattle.std.specs.Prelude.{◌≡◌, ◌≢◌, ◌⊎◌, ℕ, ◌+◌, ◌*◌, ◌/◌, ◌%◌, ◌<◌, ◌==◌, Bool, true, false, if◌then◌else◌, List, [], ◌∷◌, ◌++◌, map, flat_map, Option, None, Some}
 use Rattle.std.specs.List.{slice_index_or}
 use Rattle.sl_cop.specs.declared.verdict.Verdict.{Verdict}
-use Rattle.sl_cop.specs.Farm.{FarmView, farm_start, farm_step}
+use Rattle.sl_cop.specs.Farm.{FarmView}
 use Rattle.sl_packet.specs.Packets.{without_idle}
 use Rattle.sl_tcframe.specs.TcFrame.{TcView, Content, Ad, Bd, Unlock, SetVr}
-use Rattle.sl_tcflow.specs.AcceptedUnit.{views_on, event_of, farm_after, unit_by}
+use Rattle.sl_tcflow.specs.AcceptedUnit.{unit_by}
+use Rattle.sl_tcflow.specs.Farms.{HaveStepped, verdict_on}
 use Rattle.sl_tcflow.specs.Incomplete.{incomplete_of}
 use Rattle.sl_tcflow.specs.Reception.{packets_ended, segments_of}
-use Rattle.sl_tcflow.specs.ReceptionParameters.{ReceptionParameters, is_plain, initial_vr}
+use Rattle.sl_tcflow.specs.ReceptionParameters.{ReceptionParameters, is_plain}
 use Rattle.sl_tcflow.specs.Recording.{packets_of_channel}
 use Rattle.sl_tcflow.specs.Series.{header_at, segment_in}
+use Rattle.sl_tcflow.specs.SeriesStore.{IncompleteSeries}
 
 -- the channel of a virtual channel and a MAP
 abbrev pub channel_at : ℕ → ℕ → ℕ
 channel_at vc map_id = 64 * vc + map_id
-
--- The series that are incomplete, and the memory for them.
-pub record IncompleteSeries : Type 0 where
-  -- For each channel the octets so far of its incomplete series, if there is one. The list reaches
-  -- up to the greatest channel on which a series has begun.
-  pub list : List (Option (List ℕ))
-  -- for how many channels the list has memory
-  pub capacity : ℕ
 
 -- The state of a receiver: FARM-1 of each virtual channel; the virtual channels without segment
 -- headers; the series that are incomplete; and whether a fault came.
@@ -32,21 +26,6 @@ pub record ReceiverState : Type 0 where
   pub plain : List ℕ
   pub series : IncompleteSeries
   pub has_failed : Bool
-
--- FARM-1 of a virtual channel before its first frame
-abbrev pub farm_at_start : ReceptionParameters → ℕ → FarmView
-farm_at_start r vc = record { window = r.window; state = farm_start (initial_vr r vc) }
-
--- FARM-1 of a virtual channel after these frames. `views_on` picks the frames of this virtual
--- channel, and is no number of a channel.
-abbrev pub farm_of : ReceptionParameters → ℕ → List TcView → FarmView
-farm_of r vc views = record { window = r.window; state = farm_after r.window (initial_vr r vc) (views_on vc views) }
-
--- `farms` has FARM-1 of each of the 64 virtual channels, as it is after these frames. By `count`
--- there are 64, so `slice_index_or` never falls back on its last argument.
-pub record HaveStepped (r : ReceptionParameters) (farms : List FarmView) (views : List TcView) : Type 0 where
-  pub count : length farms ≡ 64
-  pub each : (vc : ℕ) → vc < 64 → slice_index_or farms vc (farm_at_start r vc) ≡ farm_of r vc views
 
 -- these are the octets so far of the series that are incomplete after these frames, by channel
 abbrev pub AreIncomplete : ReceptionParameters → List (Option (List ℕ)) → List TcView → Type 0
@@ -89,10 +68,6 @@ abbrev pub ForProcessed : ReceiverState → (ReceptionParameters → List TcView
 ForProcessed state holds = (r : ReceptionParameters) (views : List TcView) → HasProcessed r state views → holds r views
 
 -- ---- what the next frame does
-
--- the verdict of FARM-1 on the next frame
-abbrev pub verdict_on : ReceptionParameters → List TcView → TcView → Verdict
-verdict_on r views next = (farm_step r.window (farm_of r next.vc views).state (event_of next.content)).0
 
 -- the MAP of the unit in this content, on a virtual channel without segment headers (`plain`) or
 -- with them; 0 where there is no unit

@@ -1,13 +1,15 @@
--- The octets of a TC normal form that are still to come, where the form is made packet by packet. A
--- `TcForm` stands for these octets. Only contracts of private functions cite `piece_of` and
--- `ns_after`. In this file `ns` is the N(S) of the next frame.
-use Rattle.std.specs.Prelude.{ℕ, ◌+◌, ◌-◌, ◌*◌, ◌/◌, ◌%◌, ◌<◌, ◌≤◌, Bool, List, [], ◌++◌, length, take, drop, flat_map}
+-- A TC normal form, made piece by piece: the pieces, and the octets that are still to come, for which
+-- a `TcForm` stands. A piece is the frames of a packet. Only contracts of private functions cite
+-- `piece_of` and `ns_after`. In this file `ns` is the N(S) of the next frame.
+use Rattle.std.specs.Prelude.{◌≡◌, ℕ, ◌+◌, ◌-◌, ◌*◌, ◌/◌, ◌%◌, ◌<◌, ◌≤◌, Bool, List, [], ◌++◌, length, take, drop, flat_map}
 use Rattle.std.specs.List.{concat, range_with_len, slice_index_or}
 use Rattle.sl_packet.specs.Delivered.{PacketLists, channel_count, list_at}
 use Rattle.sl_tcframe.specs.AdFrame.{segment_room_of}
 use Rattle.sl_tcframe.specs.TcFrame.{TcFormat}
 use Rattle.sl_tcframe.specs.VcSet.{has_vc}
 use Rattle.sl_tcflow.specs.TcNormalForm.{units_of_packet, units_of_maps, frames_of_units, channel_frames}
+
+-- ---- pieces
 
 -- the piece of a packet on a channel: its frames end to end, with N(S) counting from `ns` on
 abbrev pub piece_of : TcFormat → ℕ → Bool → ℕ → ℕ → List ℕ → List ℕ
@@ -17,6 +19,23 @@ piece_of format spacecraft plain channel ns packet =
 -- the N(S) of the frame after the frames of a packet, which begin with `ns`
 abbrev pub ns_after : TcFormat → Bool → ℕ → ℕ → List ℕ → ℕ
 ns_after format plain channel ns packet = (ns + length (units_of_packet plain (segment_room_of format) (channel % 64) packet)) % 256
+
+-- Octets enough for any piece: 2 * 65,542 + 7. A packet has at most 65,542 octets. Each of its
+-- frames adds at most 8 octets of its own, and each of its frames but the last carries at least 8
+-- octets of the packet. So a piece has at most 7 octets more than twice the packet.
+abbrev pub piece_room : ℕ
+piece_room = 131091
+
+-- A piece of one octet or more is made: it goes from the front of `left`, the octets that are still
+-- to come, to the end of `made`. Afterwards these are `left'` and `made'`.
+pub record AddsPiece (left made left' made' : List ℕ) : Type 0 where
+  pub piece : List ℕ
+  pub some : 0 < length piece
+  pub most : length piece ≤ piece_room
+  pub front : left ≡ piece ++ left'
+  pub added : made' ≡ made ++ piece
+
+-- ---- the octets that are still to come
 
 -- the octets of a virtual channel from the MAP `map_id` on: those of `packets`, which are left on
 -- this MAP, and then those of `later`, the lists of the MAPs after it

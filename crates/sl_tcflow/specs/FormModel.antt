@@ -1,7 +1,7 @@
 -- A `TcForm` stands for the octets of its form that are still to come.
 use Rattle.std.specs.Prelude.{ℕ, ◌≤◌, List}
-use Rattle.sl_tcflow.specs.FitsTc.{FitsTc}
-use Rattle.sl_tcflow.specs.FormLeft.{IsPlace, form_left}
+use Rattle.sl_tcflow.specs.Fits.{FitsTc}
+use Rattle.sl_tcflow.specs.Form.{IsPlace, form_left}
 use Rattle.sl_tcflow.specs.declared.form.TcForm.TheInside.{Inside}
 
 -- what a `TcForm` stands for

@@ -4,6 +4,7 @@
 -- length of a service data unit, and that the octets after its last whole packet are dropped.
 use Rattle.std.specs.Prelude.{◌≡◌, ◌⊎◌, ℕ, ◌+◌, ◌<◌, ◌≤◌, ◌==◌, ◌&&◌, nat_le, Bool, true, false, if◌then◌else◌, List, [], ◌∷◌, ◌++◌, length, flat_map, Option, None, Some, is_none, option_map, unwrap_or}
 use Rattle.std.specs.List.{filter}
+use Rattle.sl_packet.specs.Packet.{longest_packet}
 use Rattle.sl_packet.specs.Packets.{ArePacketsOf, rest_of}
 use Rattle.sl_tcframe.specs.TcFrame.{TcView}
 use Rattle.sl_tcflow.specs.Farms.{verdict_on}
@@ -49,7 +50,7 @@ long_of list next = continues next && exceeds_limit (octets_held list) (length (
 -- the octets that are left after the packets of the service data unit of a series, and none where
 -- the unit is too long
 abbrev pub left_in : List (List ℕ) → List ℕ
-left_in segments = if nat_le (length (reassembled segments)) 65542 then rest_of (reassembled segments) else []
+left_in segments = if nat_le (length (reassembled segments)) longest_packet then rest_of (reassembled segments) else []
 
 -- how many octets are left of the service data unit that ends with the next segment, and 0 where
 -- none ends or it is too long
@@ -78,7 +79,7 @@ pub record IsLong (list : List (List ℕ)) (next : List ℕ) : Type 0 where
   pub goes_on : (flags_of next ≡ 0) ⊎ (flags_of next ≡ 2)
   pub octets : List ℕ
   pub incomplete : IsIncomplete list octets
-  pub too_many : 65542 < length octets + length (segment_data next)
+  pub too_many : longest_packet < length octets + length (segment_data next)
 
 -- Octets are left: the next segment ends a series, whose service data unit isn't too long, and
 -- `count` octets are left after the unit's packets.
@@ -86,7 +87,7 @@ pub record HasTail (list : List (List ℕ)) (next : List ℕ) (count : ℕ) : Ty
   pub ended : SeriesAt
   pub series : IsSeriesOf (list ++ next ∷ []) ended
   pub here : past ended ≡ length list + 1
-  pub fits : length (reassembled ended.segments) ≤ 65542
+  pub fits : length (reassembled ended.segments) ≤ longest_packet
   pub packets : List (List ℕ)
   pub left : List ℕ
   pub are_packets : ArePacketsOf (reassembled ended.segments) packets left

@@ -3,6 +3,7 @@
 -- is the project's own choice (mission profile).
 use Rattle.std.specs.Prelude.{◌≡◌, ℕ, ◌+◌, ◌≤◌, ◌==◌, ◌&&◌, Bool, true, false, nat_le, nat_lt, if◌then◌else◌, List, [], ◌∷◌, ◌++◌, length, Option, None, Some}
 use Rattle.std.specs.List.{AllByRecursion}
+use Rattle.sl_packet.specs.Packet.{longest_packet}
 use Rattle.sl_tcflow.specs.Series.{flags_of, reassembled}
 
 -- ---- the relation
@@ -20,19 +21,19 @@ pub record IsIncomplete (list : List (List ℕ)) (octets : List ℕ) : Type 0 wh
   -- these are the octets of the series after its segment headers, and not too many (mission
   -- profile)
   pub together : octets ≡ reassembled (first ∷ later)
-  pub fits : length octets ≤ 65542
+  pub fits : length octets ≤ longest_packet
 
 -- ---- the octets so far, if a series is incomplete
 
 -- the octets of a service data unit, or of a series so far; `None` where they are too many
 abbrev pub if_fits : List ℕ → Option (List ℕ)
-if_fits octets = if nat_le (length octets) 65542 then Some octets else None
+if_fits octets = if nat_le (length octets) longest_packet then Some octets else None
 
 -- whether the incomplete series, if there is one, has too many octets with `more` octets; the
 -- series is given by the number of its octets so far
 abbrev pub exceeds_limit : Option ℕ → ℕ → Bool
 exceeds_limit None more = false
-exceeds_limit (Some octets) more = nat_lt 65542 (octets + more)
+exceeds_limit (Some octets) more = nat_lt longest_packet (octets + more)
 
 -- whether all segments are continuing ones
 abbrev pub are_continuing : List (List ℕ) → Bool
@@ -69,4 +70,4 @@ OneIsIncomplete = (list : List (List ℕ)) (octets others : List ℕ) → IsInco
 
 -- An incomplete series has 65,542 octets at most.
 abbrev pub IncompleteFits : Type 0
-IncompleteFits = (list : List (List ℕ)) (octets : List ℕ) → incomplete_of list ≡ Some octets → length octets ≤ 65542
+IncompleteFits = (list : List (List ℕ)) (octets : List ℕ) → incomplete_of list ≡ Some octets → length octets ≤ longest_packet

@@ -3,6 +3,7 @@
 -- whole packet are dropped.
 use Rattle.std.specs.Prelude.{◌≡◌, ℕ, ◌+◌, ◌==◌, nat_le, if◌then◌else◌, List, [], ◌∷◌, ◌++◌, length, map, flat_map}
 use Rattle.std.specs.List.{filter}
+use Rattle.sl_packet.specs.Packet.{longest_packet}
 use Rattle.sl_packet.specs.Packets.{packets_of}
 use Rattle.sl_tcframe.specs.TcFrame.{TcView}
 use Rattle.sl_tcflow.specs.AcceptedUnit.{views_on, accepted_units}
@@ -13,7 +14,7 @@ use Rattle.sl_tcflow.specs.Series.{SeriesAt, past, reassembled, segment_in, segm
 -- lie end to end at its front. A service data unit of more than 65,542 octets has no packets
 -- (mission profile).
 abbrev pub packets_of_series : List (List ℕ) → List (List ℕ)
-packets_of_series segments = if nat_le (length (reassembled segments)) 65542 then packets_of (reassembled segments) else []
+packets_of_series segments = if nat_le (length (reassembled segments)) longest_packet then packets_of (reassembled segments) else []
 
 -- the packets of all series of a list of a MAP's segments, in order, idle ones included
 abbrev pub packets_of_segments : List (List ℕ) → List (List ℕ)

@@ -1,5 +1,6 @@
 -- A `TcStep` stands for its report.
 use Rattle.std.specs.Prelude.{◌≤◌, IfSome}
+use Rattle.sl_packet.specs.Packet.{longest_packet}
 use Rattle.sl_tcflow.specs.StepReport.{StepReport}
 use Rattle.sl_tcflow.specs.declared.report.TcStep.TheInside.{Inside}
 
@@ -18,7 +19,7 @@ report_of s = record {
 -- the invariant of a `TcStep`: the MAP is 0 to 63, and a dropped series has at most 65,542 octets
 pub record IsReport (s : Inside) : Type 0 where
   pub map : s.map ≤ 63
-  pub dropped : IfSome s.dropped (λ octets. octets ≤ 65542)
+  pub dropped : IfSome s.dropped (λ octets. octets ≤ longest_packet)
 
 -- the `TcStep` that stands for a report
 abbrev pub inside_of : StepReport → Inside

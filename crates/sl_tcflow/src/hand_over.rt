@@ -1,5 +1,7 @@
 //! Packets that are handed to a sink.
-ghost use Rattle.std.specs.Prelude.{◌≡◌, ◌≢◌, ◌≤◌, length, IfOk, IfErr};
+ghost use Rattle.std.specs.Prelude.{◌≡◌, ◌≢◌, ◌≤◌, ◌<◌, length, IfOk, IfErr};
+ghost use Rattle.sl_packet.specs.Delivered.{channel_count};
+ghost use Rattle.sl_packet.specs.Packet.{longest_packet};
 ghost use Rattle.sl_packet.specs.Packets.{packets_of};
 ghost use Rattle.sl_packet.specs.Stopping.{HandsOver};
 ghost use Rattle.sl_tcflow.specs.IncompleteSteps.{unit_report};
@@ -14,8 +16,8 @@ use sl_packet::{FlowFault, PacketSink, hand_over};
 /// The only fault is `Sink`: the sink refused a packet.
 #[inline(always)]
 pub fn hand<S: PacketSink>(sink: &mut S, channel: u16, octets: &[u8]) -> Result<TcStep, FlowFault>
-    requires channel { channel ≤ 4095 }
-    requires short { length octets.now ≤ 65542 }
+    requires channel { channel < channel_count }
+    requires short { length octets.now ≤ longest_packet }
     // The sink is handed the packets, the report has their numbers and the octets that are left,
     // and no fault is `Memory`.
     ensures hands_over { HandsOver S.taking S.failing S.failures counts_of

@@ -1,7 +1,10 @@
 //! The series of segments that is incomplete on a MAP.
-ghost use Rattle.std.specs.Prelude.{◌≡◌, ◌≢◌, ◌⊎◌, ◌≤◌, length, None, option_map, OnOk, OnErr};
+ghost use Rattle.std.specs.Prelude.{◌≡◌, ◌≢◌, ◌⊎◌, ◌≤◌, ◌<◌, length, None, option_map, OnOk, OnErr};
 ghost use Rattle.std.specs.Prelude.{IfOk, IfErr, IfSome};
+ghost use Rattle.sl_packet.specs.Delivered.{channel_count};
+ghost use Rattle.sl_packet.specs.Packet.{longest_packet};
 ghost use Rattle.sl_packet.specs.Stopping.{HandsOver};
+ghost use Rattle.sl_tcframe.specs.TcFrame.{longest_unit};
 ghost use Rattle.sl_tcflow.specs.Incomplete.{if_fits};
 ghost use Rattle.sl_tcflow.specs.IncompleteSteps.{IsReported, continued_report, extended};
 ghost use Rattle.sl_tcflow.specs.IncompleteSteps.{incomplete_with, packets_with, quiet_report};
@@ -56,7 +59,7 @@ impl Incomplete {
     #[inline(always)]
     pub fn held(&self) -> Option<u32>
         ensures octets { result ≡ option_map length self.now }
-        ensures most { IfSome result (λ octets. octets ≤ 65542) }
+        ensures most { IfSome result (λ octets. octets ≤ longest_packet) }
     {
         if !self.is_begun {
             return None;
@@ -76,8 +79,8 @@ impl Incomplete {
         sink: &mut S,
     ) -> Result<TcStep, FlowFault>
         requires flags { segment.now.flags ≤ 3 }
-        requires short { length segment.now.octets.now ≤ 1019 }
-        requires channel { segment.now.channel ≤ 4095 }
+        requires short { length segment.now.octets.now ≤ longest_unit }
+        requires channel { segment.now.channel < channel_count }
         // The series continues, begins or ends as the sequence flags say.
         ensures state { OnOk result (self.new
             ≡ incomplete_with self.old segment.now.flags segment.now.octets.now) }
@@ -114,7 +117,7 @@ impl Incomplete {
     // Begins a series with these octets. Gives up the incomplete series before, if there is one.
     #[inline(always)]
     fn begin(&mut self, octets: &[u8]) -> Result<TcStep, FlowFault>
-        requires { length octets.now ≤ 1019 }
+        requires { length octets.now ≤ longest_unit }
         ensures state { OnOk result (self.new ≡ if_fits octets.now) }
         ensures step { IfOk result (λ step.
             step ≡ record quiet_report { dropped = option_map length self.old }) }
@@ -136,7 +139,7 @@ impl Incomplete {
     // (`stray`).
     #[inline(always)]
     fn go_on(&mut self, octets: &[u8]) -> Result<TcStep, FlowFault>
-        requires { length octets.now ≤ 1019 }
+        requires { length octets.now ≤ longest_unit }
         ensures state { OnOk result (self.new ≡ extended self.old octets.now) }
         ensures step { IfOk result (λ step. step ≡ continued_report self.old octets.now) }
 
@@ -173,8 +176,8 @@ impl Incomplete {
         channel: u16,
         sink: &mut S,
     ) -> Result<TcStep, FlowFault>
-        requires short { length octets.now ≤ 1019 }
-        requires channel { channel ≤ 4095 }
+        requires short { length octets.now ≤ longest_unit }
+        requires channel { channel < channel_count }
         ensures state { OnOk result (self.new ≡ None) }
         ensures hands_over { HandsOver S.taking S.failing S.failures counts_of
             sink.old channel (packets_with self.old 2 octets.now) result sink.new }
@@ -213,7 +216,7 @@ impl Incomplete {
     fn give_up(&mut self) -> Option<u32>
         ensures none { self.new ≡ None }
         ensures held { result ≡ option_map length self.old }
-        ensures most { IfSome result (λ held. held ≤ 65542) }
+        ensures most { IfSome result (λ held. held ≤ longest_packet) }
     {
         let held = self.held()?;
         self.is_begun = false;

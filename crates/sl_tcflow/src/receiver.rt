@@ -6,7 +6,7 @@ ghost use Rattle.sl_packet.specs.Packets.{only_idle, without_idle};
 ghost use Rattle.sl_packet.specs.Sink.{TakesAll};
 ghost use Rattle.sl_packet.specs.Stopping.{CountsFault, HandsOver, IsStopped};
 ghost use Rattle.sl_tcframe.specs.TcContent.{content};
-ghost use Rattle.sl_tcframe.specs.TcFrame.{TcView, IsContent};
+ghost use Rattle.sl_tcframe.specs.TcFrame.{TcView, IsContent, longest_unit};
 ghost use Rattle.sl_tcflow.specs.AcceptedUnit.{unit_by};
 ghost use Rattle.sl_tcflow.specs.Anomaly.{IsReportedOf, dropped_by, held_of, long_by, stray_by};
 ghost use Rattle.sl_tcflow.specs.Anomaly.{tail_by};
@@ -315,7 +315,7 @@ fn accepted_unit<'a>(verdict: Verdict, carried: &TcContent<'a>) -> Option<&'a [u
     ensures map { IfSome result (λ unit. (plain : Bool)
         → map_of plain (content carried.now) ≡ (header_at (segment_in plain unit.now)).map) }
     ensures some { IfSome result (λ unit. 0 < length unit.now) }
-    ensures short { IfSome result (λ unit. length unit.now ≤ 1019) }
+    ensures short { IfSome result (λ unit. length unit.now ≤ longest_unit) }
 {
     match verdict {
         Verdict::Accept => match *carried {

@@ -1,5 +1,6 @@
 //! Segments, as they are read from units.
 ghost use Rattle.std.specs.Prelude.{◌≡◌, ◌≤◌, ◌<◌, length};
+ghost use Rattle.sl_packet.specs.Delivered.{channel_count};
 ghost use Rattle.sl_tcflow.specs.Receiver.{channel_at};
 ghost use Rattle.sl_tcflow.specs.Series.{flags_of, header_at, segment_data, segment_in};
 
@@ -42,7 +43,7 @@ pub fn segment_of(vc: u8, plain: bool, map: u8, unit: &[u8]) -> Segment
     // The segment has no more octets than the unit, flags of 2 bits, and a channel of 0 to 4095.
     ensures short { length result.octets.now ≤ length unit.now }
     ensures most { result.flags ≤ 3 }
-    ensures channel_most { result.channel ≤ 4095 }
+    ensures channel_most { result.channel < channel_count }
 {
     let first = 64 * u16::from(vc);
     if plain {

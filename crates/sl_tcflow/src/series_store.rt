@@ -2,7 +2,10 @@
 ghost use Rattle.std.specs.Prelude.{◌≡◌, ◌≢◌, ◌⊎◌, ◌≤◌, ◌<◌, ◌+◌, max, [], None, option_map, ℕ};
 ghost use Rattle.std.specs.Prelude.{length, OnOk, IfOk, IfErr, IfSome};
 ghost use Rattle.std.specs.Vec.{vec_len};
+ghost use Rattle.sl_packet.specs.Delivered.{channel_count};
+ghost use Rattle.sl_packet.specs.Packet.{longest_packet};
 ghost use Rattle.sl_packet.specs.Stopping.{HandsOver};
+ghost use Rattle.sl_tcframe.specs.TcFrame.{longest_unit};
 ghost use Rattle.sl_tcflow.specs.IncompleteSteps.{IsReported, incomplete_with, packets_with};
 ghost use Rattle.sl_tcflow.specs.Receiver.{channel_at};
 ghost use Rattle.sl_tcflow.specs.SeriesStore.{at, IsPlaced};
@@ -54,7 +57,7 @@ impl SeriesStore {
         requires vc { vc ≤ 63 }
         requires map { map ≤ 63 }
         ensures octets { result ≡ option_map length (at self.now.list (channel_at vc map)) }
-        ensures most { IfSome result (λ octets. octets ≤ 65542) }
+        ensures most { IfSome result (λ octets. octets ≤ longest_packet) }
     {
         let index = 64 * usize::from(vc) + usize::from(map);
         match self.list.get(index) {
@@ -68,8 +71,8 @@ impl SeriesStore {
     pub fn none_open_from(&self) -> u16
         // On the channels from the answer on no series is incomplete. On the channel before the
         // answer, if there is one, a series is.
-        ensures most { result ≤ 4096 }
-        ensures none { (channel : ℕ) → channel ≤ 4095 → result ≤ channel
+        ensures most { result ≤ channel_count }
+        ensures none { (channel : ℕ) → channel < channel_count → result ≤ channel
             → at self.now.list channel ≡ None }
         ensures least { (channel : ℕ) → result ≡ channel + 1
             → at self.now.list channel ≢ None }
@@ -93,8 +96,8 @@ impl SeriesStore {
         sink: &mut S,
     ) -> Result<TcStep, FlowFault>
         requires flags { segment.now.flags ≤ 3 }
-        requires short { length segment.now.octets.now ≤ 1019 }
-        requires channel { segment.now.channel ≤ 4095 }
+        requires short { length segment.now.octets.now ≤ longest_unit }
+        requires channel { segment.now.channel < channel_count }
         // The series of the channel continues, begins or ends as the sequence flags say.
         ensures placed { OnOk result (IsPlaced self.old.list segment.now.channel
             (incomplete_with (at self.old.list segment.now.channel) segment.now.flags

@@ -57,7 +57,7 @@ module _ (format : TcFormat) (spacecraft : ℕ) (r : ReceptionParameters) (lists
   packets_at vc map_id vc_fits map_id_fits =
       let room = segment_room_of format in
       let units = units_of_maps (is_plain r vc) room 0 (lists_on lists vc) in
-      let all : length lists ≡ 4096 = are.all in
+      let all : length lists ≡ channel_count = are.all in
       let left : 64 ≤ length (drop (64 * vc) lists) = omega (arith, length-drop (64 * vc) lists, all) in
       let small : initial_vr r vc < 256 = octets.each vc 0 (omega (arith, octets.count, vc_fits)) in
       ap (λ views. packets_of_segments (segments_of r vc map_id views)) (views_are format spacecraft r.starts r.plain lists is known are fits)

@@ -2,7 +2,7 @@
 use Rattle.std.proofs.Common.{◌≡◌, ℕ, zero, suc, ◌+◌, ◌*◌, ◌<◌, ◌≤◌, ◌==◌, Bool, true, false, List, [], ◌∷◌, length, drop, map, flat_map, refl, sym, ◌∙◌, ap, subst, arith, append-nil, eq-eqb, ne_eqb, length-drop, length-take-le}
 use Rattle.std.specs.List.{AllByRecursion, slice_index_or}
 use Rattle.std.proofs.lemmas.List.{map-id}
-use Rattle.sl_packet.specs.Delivered.{IsDeliverable}
+use Rattle.sl_packet.specs.Delivered.{IsDeliverable, channel_count}
 use Rattle.sl_packet.specs.Packet.{IsPacket}
 use Rattle.sl_packet.proofs.WithoutIdleLemmas.{due_packets}
 use Rattle.sl_tcframe.specs.AdFrame.{plain_room_of, segment_room_of}
@@ -69,7 +69,7 @@ module _ (format : TcFormat) (lists : List (List (List ℕ))) (vc : ℕ) (inside
   carried false map_id small some fits =
       let room = segment_room_of format in
       let own = lists_on lists vc in
-      let all : length lists ≡ 4096 = are.all in
+      let all : length lists ≡ channel_count = are.all in
       let size : length own ≡ 64 = length-take-le 64 (drop (64 * vc) lists) (omega (arith, length-drop (64 * vc) lists, all)) in
       let parts : segments_on map_id (map (segment_in false) (units_of_maps false room 0 own)) ≡ flat_map (units_of_packet false room map_id) (slice_index_or own map_id []) =
       ap (segments_on map_id) (map-id (units_of_maps false room 0 own) ∙ units_are_segments room 0 own)

@@ -10,7 +10,7 @@ use Rattle.std.proofs.Math.Seq.{take-nil}
 use Rattle.sl_fields.specs.Field.{octets_of}
 use Rattle.sl_fields.proofs.FecfLemmas.{length-with_fecf}
 use Rattle.sl_fields.proofs.Octets.{length-octets_of}
-use Rattle.sl_packet.specs.Delivered.{PacketLists, list_at}
+use Rattle.sl_packet.specs.Delivered.{PacketLists, channel_count, list_at}
 use Rattle.sl_tcframe.specs.AdFrame.{segment_room_of, ad_fields, ad_frame, ad_len}
 use Rattle.sl_tcframe.specs.TcFrame.{TcFormat}
 use Rattle.sl_tcframe.specs.VcSet.{has_vc}
@@ -103,7 +103,7 @@ module _ (format : TcFormat) (spacecraft : ℕ) (starts plain : List ℕ) (lists
       ∙ sym (left_is (vc + 1) 0 (channel + 1) 0 (start (vc + 1)) (omega arith) (omega (arith, is)))
 
   -- after the last channel no octets are to come
-  pub none_left : (channel framed ns : ℕ) → channel ≡ 4096 → length lists ≡ 4096 → left channel framed ns ≡ []
+  pub none_left : (channel framed ns : ℕ) → channel ≡ channel_count → length lists ≡ channel_count → left channel framed ns ≡ []
   none_left channel framed ns is all =
       let here : list channel ≡ [] = get_or_past lists channel [] (omega (arith, is, all)) in
       let later : drop (channel + 1) lists ≡ [] = drop_all (channel + 1) lists (omega (arith, is, all)) in
@@ -111,7 +111,7 @@ module _ (format : TcFormat) (spacecraft : ℕ) (starts plain : List ℕ) (lists
       left_is 64 0 channel framed ns (omega arith) (omega (arith, is))
       ∙ ap₂ (λ ps ls. on_maps 64 0 ns ps (take 63 ls) ++ on_channels 65 0) packets later
 
-  to_end : (channel framed ns ns' : ℕ) → channel ≡ 4095 → length lists ≡ 4096 → length (list channel) ≤ framed → left channel framed ns ≡ left (channel + 1) 0 ns'
+  to_end : (channel framed ns ns' : ℕ) → channel + 1 ≡ channel_count → length lists ≡ channel_count → length (list channel) ≤ framed → left channel framed ns ≡ left (channel + 1) 0 ns'
   to_end channel framed ns ns' is size all =
       after_last_map 63 channel framed ns (omega (arith, is)) all ∙ sym (none_left (channel + 1) 0 ns' (omega (arith, is)) size)
 
@@ -119,7 +119,7 @@ module _ (format : TcFormat) (spacecraft : ℕ) (starts plain : List ℕ) (lists
   abbrev number : ℕ → ℕ → ℕ → ℕ
   number channel next ns = if next / 64 == channel / 64 then ns else start (next / 64)
 
-  to_next : (channel framed ns : ℕ) → channel < 4096 → length lists ≡ 4096 → length (list channel) ≤ framed → left channel framed ns ≡ left (channel + 1) 0 (number channel (channel + 1) ns)
+  to_next : (channel framed ns : ℕ) → channel < channel_count → length lists ≡ channel_count → length (list channel) ≤ framed → left channel framed ns ≡ left (channel + 1) 0 (number channel (channel + 1) ns)
   to_next channel framed ns inside size all =
       let vc = channel / 64 in
       elim (eqb_tells ((channel + 1) / 64) (channel / 64)) [
@@ -127,7 +127,7 @@ module _ (format : TcFormat) (spacecraft : ℕ) (starts plain : List ℕ) (lists
             to_next_map vc (channel % 64) channel framed ns (omega (arith, same)) (omega arith) all
             ∙ ap (λ t. left (channel + 1) 0 (if t then ns else start ((channel + 1) / 64))) (sym test)
         | inr (test, other) ↦
-            elim (eqb_tells channel 4095) [
+            elim (eqb_tells (channel + 1) channel_count) [
               | inl (last_test, last) ↦ to_end channel framed ns (number channel (channel + 1) ns) last size all
               | inr (last_test, before) ↦
                   let next_vc : vc + 1 ≡ (channel + 1) / 64 = omega (arith, other) in
@@ -141,7 +141,7 @@ module _ (format : TcFormat) (spacecraft : ℕ) (starts plain : List ℕ) (lists
   number_on channel between next ns a b = grind (arith, eqb_tells, ne_eqb)
 
   -- the octets to come are those from the next channel with packets on
-  pub to_later : (k channel next framed ns : ℕ) → next ≡ channel + 1 + k → next ≤ 4096 → length lists ≡ 4096 → length (list channel) ≤ framed
+  pub to_later : (k channel next framed ns : ℕ) → next ≡ channel + 1 + k → next ≤ channel_count → length lists ≡ channel_count → length (list channel) ≤ framed
       → ((other : ℕ) → channel + 1 ≤ other → other < next → list other ≡ [])
       → left channel framed ns ≡ left next 0 (number channel next ns)
   to_later zero channel next framed ns is inside size all none =
@@ -156,7 +156,7 @@ module _ (format : TcFormat) (spacecraft : ℕ) (starts plain : List ℕ) (lists
       ∙ ap (λ n. left n 0 (number between n (number channel between ns))) same
       ∙ ap (left next 0) (number_on channel between next ns (omega arith) (omega (arith, is)))
 
-  pub to_packet : (channel next framed ns : ℕ) (test : Bool) → (next / 64 == channel / 64) ≡ test → channel < next → next ≤ 4096 → length lists ≡ 4096
+  pub to_packet : (channel next framed ns : ℕ) (test : Bool) → (next / 64 == channel / 64) ≡ test → channel < next → next ≤ channel_count → length lists ≡ channel_count
       → length (list channel) ≤ framed → ((other : ℕ) → channel + 1 ≤ other → other < next → list other ≡ [])
       → left channel framed ns ≡ left next 0 (if test then ns else start (next / 64))
   to_packet channel next framed ns test is after inside size all none =
@@ -164,19 +164,19 @@ module _ (format : TcFormat) (spacecraft : ℕ) (starts plain : List ℕ) (lists
       ∙ ap (λ b. left next 0 (if b then ns else start (next / 64))) is
 
   -- where no later channel has packets, no octets are to come
-  pub to_none : (channel framed ns ns' : ℕ) → channel < 4096 → length lists ≡ 4096 → length (list channel) ≤ framed
-      → ((other : ℕ) → channel + 1 ≤ other → other < 4096 → list other ≡ []) → left channel framed ns ≡ left 4096 0 ns'
+  pub to_none : (channel framed ns ns' : ℕ) → channel < channel_count → length lists ≡ channel_count → length (list channel) ≤ framed
+      → ((other : ℕ) → channel + 1 ≤ other → other < channel_count → list other ≡ []) → left channel framed ns ≡ left channel_count 0 ns'
   to_none channel framed ns ns' inside size all none =
-      to_later (4096 - (channel + 1)) channel 4096 framed ns (omega (arith, inside)) (omega arith) size all none
-      ∙ none_left 4096 0 (number channel 4096 ns) (omega arith) size ∙ sym (none_left 4096 0 ns' (omega arith) size)
+      to_later (channel_count - (channel + 1)) channel channel_count framed ns (omega (arith, inside)) (omega arith) size all none
+      ∙ none_left channel_count 0 (number channel channel_count ns) (omega arith) size ∙ sym (none_left channel_count 0 ns' (omega arith) size)
 
   -- a form of no packets
-  pub none_at_all : length lists ≡ 4096 → ((channel : ℕ) → 0 ≤ channel → channel < 4096 → list channel ≡ []) → tc_normal_form_of format spacecraft starts plain lists ≡ []
+  pub none_at_all : length lists ≡ channel_count → ((channel : ℕ) → 0 ≤ channel → channel < channel_count → list channel ≡ []) → tc_normal_form_of format spacecraft starts plain lists ≡ []
   none_at_all size none =
       let first : list 0 ≡ [] = none 0 (omega arith) (omega arith) in
       sym all_left
       ∙ to_none 0 0 (start 0) 0 (omega arith) size (omega (arith, ap length first)) (λ other above below. none other (omega arith) below)
-      ∙ none_left 4096 0 0 (omega arith) size
+      ∙ none_left channel_count 0 0 (omega arith) size
 
   -- ---- a packet
 
@@ -230,7 +230,7 @@ module _ (format : TcFormat) (spacecraft : ℕ) where
 -- ---- places and pieces
 
 -- the place after all packets
-pub no_packet : (d : PacketLists) (channel framed : ℕ) → IsPlace d channel framed → length (list_at d channel) ≤ framed → channel ≡ 4096
+pub no_packet : (d : PacketLists) (channel framed : ℕ) → IsPlace d channel framed → length (list_at d channel) ≤ framed → channel ≡ channel_count
 no_packet d channel framed place past = grind (arith, leb_tells)
 
 -- the octets that are made and those to come are one form

@@ -73,7 +73,7 @@ impl Incomplete {
     /// The fault is `Memory` where memory was refused, and `Sink` where the sink refused a packet.
     /// Clauses don't say what is incomplete after a fault.
     #[inline(always)]
-    pub fn take<S: PacketSink>(
+    pub fn advance<S: PacketSink>(
         &mut self,
         segment: &Segment,
         sink: &mut S,
@@ -97,7 +97,7 @@ impl Incomplete {
             ⊎ (incomplete_with self.old segment.now.flags segment.now.octets.now ≢ None)) }
     {
         match segment.flags {
-            CONTINUING => self.go_on(segment.octets),
+            CONTINUING => self.extend(segment.octets),
             FIRST => self.begin(segment.octets),
             LAST => self.end(segment.octets, segment.channel, sink),
             // no segmentation
@@ -138,7 +138,7 @@ impl Incomplete {
     // too long. Where no series is incomplete, the octets are dropped, and the report says so
     // (`stray`).
     #[inline(always)]
-    fn go_on(&mut self, octets: &[u8]) -> Result<TcStep, FlowFault>
+    fn extend(&mut self, octets: &[u8]) -> Result<TcStep, FlowFault>
         requires { length octets.now ≤ longest_unit }
         ensures state { OnOk result (self.new ≡ extended self.old octets.now) }
         ensures step { IfOk result (λ step. step ≡ continued_report self.old octets.now) }
@@ -184,7 +184,7 @@ impl Incomplete {
         ensures step { IfOk result (IsReported self.old 2 octets.now) }
         ensures memory { IfErr result (λ flow. flow ≡ FlowFault.Memory → self.old ≢ None) }
     {
-        let step = match self.go_on(octets) {
+        let step = match self.extend(octets) {
             Ok(step) => step,
             Err(flow) => return Err(flow),
         };

@@ -159,12 +159,12 @@ impl Receiver {
         if self.has_failed {
             return Err(FlowFault::Failed);
         }
-        // Where `take` returns a fault, the flag stays set.
+        // Where `take_unit` returns a fault, the flag stays set.
         self.has_failed = true;
         let verdict = self.farms.step(frame);
         let plain = self.plain.has(frame.vc());
         let map = map_in(plain, &frame.content());
-        let reported = match take(&mut self.series, plain, map, verdict, frame, sink) {
+        let reported = match take_unit(&mut self.series, plain, map, verdict, frame, sink) {
             Ok(step) => step,
             Err(flow) => return Err(flow),
         };
@@ -254,7 +254,7 @@ fn map_in(plain: bool, carried: &TcContent) -> u8
 // that the frame's virtual channel has no segment headers, and `map` is the MAP of the unit, 0 where
 // there is none. The fault is `Memory` where memory was refused, and `Sink` where the sink refused
 // a packet.
-fn take<S: PacketSink>(
+fn take_unit<S: PacketSink>(
     series: &mut SeriesStore,
     plain: bool,
     map: u8,
@@ -291,7 +291,7 @@ fn take<S: PacketSink>(
     ensures not_failed { IfErr result (λ flow. flow ≢ FlowFault.Failed) }
 {
     match accepted_unit(verdict, &frame.content()) {
-        Some(unit) => match series.take(&segment_of(frame.vc(), plain, map, unit), sink) {
+        Some(unit) => match series.take_segment(&segment_of(frame.vc(), plain, map, unit), sink) {
             Ok(step) => Ok(step),
             Err(flow) => Err(flow),
         },

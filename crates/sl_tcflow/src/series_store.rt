@@ -90,7 +90,7 @@ impl SeriesStore {
     /// The fault is `Memory` where memory was refused, and `Sink` where the sink refused a packet.
     /// Clauses don't say what is incomplete after a fault.
     #[inline]
-    pub fn take<S: PacketSink>(
+    pub fn take_segment<S: PacketSink>(
         &mut self,
         segment: &Segment,
         sink: &mut S,
@@ -127,10 +127,10 @@ impl SeriesStore {
             return Err(FlowFault::Memory);
         }
         if index < self.list.len() {
-            return self.list[index].take(segment, sink);
+            return self.list[index].advance(segment, sink);
         }
         let mut none = Incomplete::new(self.alloc);
-        none.take(segment, sink)
+        none.advance(segment, sink)
     }
 }
 

@@ -4,7 +4,7 @@ use Rattle.sl_tcflow.specs.Series.{header_at, segment_in}
 use Rattle.sl_packet.proofs.StoppingLemmas.{counts_stopped, hands_same}
 use Rattle.sl_tcflow.proofs.lemmas.Anomaly.Report.{reported_more, reported_none}
 use Rattle.sl_tcflow.proofs.lemmas.Reception.Unit.{segment_on, map_on, incomplete_same, incomplete_more, around_more, ended_more, unit_channel_is}
-use Rattle.sl_tcflow.proofs.receiver.take.Goals as goal
+use Rattle.sl_tcflow.proofs.receiver.take_unit.Goals as goal
 
 pub returns-in-None-clause-series : goal.returns-in-None-clause-series
 returns-in-None-clause-series g c r views headers are is =
@@ -16,7 +16,7 @@ returns-in-Ok-clause-series g c r views headers are is =
     let unit = c.in-Some.unit.now in
     let segment = segment_in c.args.plain unit in
     incomplete_more r c.args.series.now.list views c.args.frame.now segment (channel_at c.vc.result (header_at segment).map)
-    c.take.new.self.list are (omega (arith, c.vc.ensures.value, c.vc.ensures.fits))
+    c.take_segment.new.self.list are (omega (arith, c.vc.ensures.value, c.vc.ensures.fits))
     (segment_on c.args.plain c.args.verdict _ r views c.args.frame.now (unit ∷ []) headers is c.content.ensures.value c.in-Some.ensures.unit)
     (ap (λ n. channel_at n (header_at segment).map) c.vc.ensures.value) (rw (c.segment_of.ensures.channel, c.segment_of.ensures.flags, c.segment_of.ensures.octets) at c.in-Ok.ensures.placed)
 
@@ -36,7 +36,7 @@ returns-in-None-clause-step g c r views headers are is =
 
 pub returns-in-Err-clause-counted : goal.returns-in-Err-clause-counted
 returns-in-Err-clause-counted g c =
-    counts_stopped g.S.PacketSink.taking g.S.PacketSink.failing g.S.PacketSink.failures c.args.sink.now _ _ c.in-Err.flow c.take.new.sink c.in-Err.ensures.hands_over.stopped
+    counts_stopped g.S.PacketSink.taking g.S.PacketSink.failing g.S.PacketSink.failures c.args.sink.now _ _ c.in-Err.flow c.take_segment.new.sink c.in-Err.ensures.hands_over.stopped
 
 pub returns-in-Ok-clause-hands_over : goal.returns-in-Ok-clause-hands_over
 returns-in-Ok-clause-hands_over g c r views headers are is =

@@ -184,6 +184,8 @@ impl Incomplete {
         ensures step { IfOk result (IsReported self.old 2 octets.now) }
         ensures memory { IfErr result (λ flow. flow ≡ FlowFault.Memory → self.old ≢ None) }
     {
+        // `match` and not `?`: `?` converts the fault, and each clause on faults would then have to
+        // be proved by hand.
         let step = match self.extend(octets) {
             Ok(step) => step,
             Err(flow) => return Err(flow),

@@ -164,6 +164,8 @@ impl Receiver {
         let verdict = self.farms.step(frame);
         let plain = self.plain.has(frame.vc());
         let map = map_in(plain, &frame.content());
+        // `match` and not `?`: `?` converts the fault, and each clause on faults would then have to
+        // be proved by hand.
         let reported = match take_unit(&mut self.series, plain, map, verdict, frame, sink) {
             Ok(step) => step,
             Err(flow) => return Err(flow),

@@ -16,4 +16,5 @@ if_accepted verdict carried = []
 abbrev pub accepted_by : {A B : Type 0} → (A → List B) → List Verdict → List A → List B
 accepted_by carried [] elements = []
 accepted_by carried (verdict ∷ verdicts) [] = []
-accepted_by carried (verdict ∷ verdicts) (element ∷ elements) = if_accepted verdict (carried element) ++ accepted_by carried verdicts elements
+accepted_by carried (verdict ∷ verdicts) (element ∷ elements) =
+    if_accepted verdict (carried element) ++ accepted_by carried verdicts elements

@@ -88,7 +88,8 @@ abbrev pub IsStep : ℕ → FarmState → FarmEvent → Verdict → FarmState �
 -- A frame of type AD arrives in the open state and N(S) equals V(R): the frame is accepted, V(R) is
 -- incremented, and the Retransmit flag is reset.
 IsStep w s (Ad ns) Accept t =
-    (s.lockout ≡ false) × IsArea w (distance ns s.vr) Expected × (t ≡ record s { vr = (s.vr + 1) % 256; retransmit = false })
+    (s.lockout ≡ false) × IsArea w (distance ns s.vr) Expected
+    × (t ≡ record s { vr = (s.vr + 1) % 256; retransmit = false })
 -- A frame of type AD arrives in the open state, and N(S) is in the positive part of the sliding
 -- window: the frame is discarded, and the Retransmit flag is set.
 IsStep w s (Ad ns) Early t =
@@ -170,7 +171,8 @@ farm_step w s (SetVr x) = (Command, if s.lockout then counted s else record (cou
 -- state `t`.
 abbrev pub IsRun : ℕ → FarmState → List FarmEvent → List Verdict → FarmState → Type 0
 IsRun w s [] [] t = t ≡ s
-IsRun w s (event ∷ events) (verdict ∷ verdicts) t = (mid : FarmState) × IsStep w s event verdict mid × IsRun w mid events verdicts t
+IsRun w s (event ∷ events) (verdict ∷ verdicts) t =
+    (mid : FarmState) × IsStep w s event verdict mid × IsRun w mid events verdicts t
 IsRun w s [] (verdict ∷ verdicts) t = ⊥
 IsRun w s (event ∷ events) [] t = ⊥
 
@@ -188,13 +190,15 @@ state_after w s (event ∷ events) = state_after w (farm_step w s event).1 event
 
 -- What the function `farm_step` answers is a step, for every width and state.
 abbrev pub EachHasStep : Type 0
-EachHasStep = (w : ℕ) (s : FarmState) (event : FarmEvent) → IsStep w s event (farm_step w s event).0 (farm_step w s event).1
+EachHasStep =
+    (w : ℕ) (s : FarmState) (event : FarmEvent) → IsStep w s event (farm_step w s event).0 (farm_step w s event).1
 
 -- No other step exists, where PW and NW together are at most 256, so that the two parts of the
 -- window don't overlap.
 abbrev pub HasStepOnce : Type 0
 HasStepOnce =
-    (w : ℕ) (s : FarmState) (event : FarmEvent) (verdict : Verdict) (t : FarmState) → positive_width w + negative_width w ≤ 256 → IsStep w s event verdict t
+    (w : ℕ) (s : FarmState) (event : FarmEvent) (verdict : Verdict) (t : FarmState)
+    → positive_width w + negative_width w ≤ 256 → IsStep w s event verdict t
     → ((farm_step w s event).0 ≡ verdict) × ((farm_step w s event).1 ≡ t)
 
 -- ---- events have one run
@@ -202,33 +206,39 @@ HasStepOnce =
 -- What the functions `verdicts_of` and `state_after` answer is a run, for every width and first
 -- state.
 abbrev pub EachHasRun : Type 0
-EachHasRun = (w : ℕ) (s : FarmState) (events : List FarmEvent) → IsRun w s events (verdicts_of w s events) (state_after w s events)
+EachHasRun =
+    (w : ℕ) (s : FarmState) (events : List FarmEvent)
+    → IsRun w s events (verdicts_of w s events) (state_after w s events)
 
 -- No other run exists, where PW and NW together are at most 256.
 abbrev pub HasRunOnce : Type 0
 HasRunOnce =
-    (w : ℕ) (s : FarmState) (events : List FarmEvent) (verdicts : List Verdict) (t : FarmState) → positive_width w + negative_width w ≤ 256 → IsRun w s events verdicts t
+    (w : ℕ) (s : FarmState) (events : List FarmEvent) (verdicts : List Verdict) (t : FarmState)
+    → positive_width w + negative_width w ≤ 256 → IsRun w s events verdicts t
     → (verdicts_of w s events ≡ verdicts) × (state_after w s events ≡ t)
 
 -- A run and a step from its last state are a run over one more event.
 abbrev pub RunsGoOn : Type 0
 RunsGoOn =
-    (w : ℕ) (s mid t : FarmState) (events : List FarmEvent) (event : FarmEvent) (verdicts : List Verdict) (verdict : Verdict)
-    → IsRun w s events verdicts mid → IsStep w mid event verdict t → IsRun w s (events ++ event ∷ []) (verdicts ++ verdict ∷ []) t
+    (w : ℕ) (s mid t : FarmState) (events : List FarmEvent) (event : FarmEvent) (verdicts : List Verdict)
+    (verdict : Verdict) → IsRun w s events verdicts mid → IsStep w mid event verdict t
+    → IsRun w s (events ++ event ∷ []) (verdicts ++ verdict ∷ []) t
 
 -- Each run over one more event is a run and a step from its last state.
 abbrev pub RunsEndInAStep : Type 0
 RunsEndInAStep =
-    (w : ℕ) (s t : FarmState) (events : List FarmEvent) (event : FarmEvent) (verdicts : List Verdict) → IsRun w s (events ++ event ∷ []) verdicts t
-    → (earlier : List Verdict) × (verdict : Verdict) × (mid : FarmState) × IsRun w s events earlier mid × IsStep w mid event verdict t
-    × (verdicts ≡ earlier ++ verdict ∷ [])
+    (w : ℕ) (s t : FarmState) (events : List FarmEvent) (event : FarmEvent) (verdicts : List Verdict)
+    → IsRun w s (events ++ event ∷ []) verdicts t
+    → (earlier : List Verdict) × (verdict : Verdict) × (mid : FarmState) × IsRun w s events earlier mid
+    × IsStep w mid event verdict t × (verdicts ≡ earlier ++ verdict ∷ [])
 
 -- The functions go on by a step: over one more event `verdicts_of` has the verdict of `farm_step`
 -- as its last one, and `state_after` is the state of `farm_step`.
 abbrev pub RunsAreSteps : Type 0
 RunsAreSteps =
     (w : ℕ) (s : FarmState) (events : List FarmEvent) (event : FarmEvent)
-    → (verdicts_of w s (events ++ event ∷ []) ≡ verdicts_of w s events ++ (farm_step w (state_after w s events) event).0 ∷ [])
+    → (verdicts_of w s (events ++ event ∷ [])
+    ≡ verdicts_of w s events ++ (farm_step w (state_after w s events) event).0 ∷ [])
     × (state_after w s (events ++ event ∷ []) ≡ (farm_step w (state_after w s events) event).1)
 
 -- ---- properties of steps and runs
@@ -242,25 +252,26 @@ is_accept verdict = false
 -- window.
 abbrev pub CopiesAreAcceptedOnce : Type 0
 CopiesAreAcceptedOnce =
-    (w copies ns : ℕ) (s t : FarmState) (verdicts : List Verdict) → s.vr < 256 → IsRun w s (replicate copies (Ad ns)) verdicts t
-    → count_by is_accept verdicts ≤ 1
+    (w copies ns : ℕ) (s t : FarmState) (verdicts : List Verdict) → s.vr < 256
+    → IsRun w s (replicate copies (Ad ns)) verdicts t → count_by is_accept verdicts ≤ 1
 
 -- In the lockout state each frame of type AD is refused, and changes nothing.
 abbrev pub LockoutRefuses : Type 0
 LockoutRefuses =
-    (w ns : ℕ) (s t : FarmState) (verdict : Verdict) → s.lockout ≡ true → IsStep w s (Ad ns) verdict t → (verdict ≡ Refused) × (t ≡ s)
+    (w ns : ℕ) (s t : FarmState) (verdict : Verdict) → s.lockout ≡ true → IsStep w s (Ad ns) verdict t
+    → (verdict ≡ Refused) × (t ≡ s)
 
 -- The event of a step from the lockout state to the open state is Unlock.
 abbrev pub OnlyUnlockEndsLockout : Type 0
 OnlyUnlockEndsLockout =
-    (w : ℕ) (s t : FarmState) (event : FarmEvent) (verdict : Verdict) → s.lockout ≡ true → IsStep w s event verdict t → t.lockout ≡ false
-    → event ≡ Unlock
+    (w : ℕ) (s t : FarmState) (event : FarmEvent) (verdict : Verdict) → s.lockout ≡ true → IsStep w s event verdict t
+    → t.lockout ≡ false → event ≡ Unlock
 
 -- The events of a run from the lockout state to the open state have an Unlock among them.
 abbrev pub LockoutLastsUntilUnlock : Type 0
 LockoutLastsUntilUnlock =
-    (w : ℕ) (s t : FarmState) (events : List FarmEvent) (verdicts : List Verdict) → s.lockout ≡ true → IsRun w s events verdicts t → t.lockout ≡ false
-    → Contains events Unlock
+    (w : ℕ) (s t : FarmState) (events : List FarmEvent) (verdicts : List Verdict) → s.lockout ≡ true
+    → IsRun w s events verdicts t → t.lockout ≡ false → Contains events Unlock
 
 -- V(R) changes in two cases only. An accepted frame of type AD increments V(R) modulo 256, and Set
 -- V(R) in the open state sets V(R) to the value of the command.

@@ -63,7 +63,8 @@ AtEachMoment {A = A} arrivals holds = (before after : List A) → arrivals ≡ b
 
 -- For each copy the relation holds between the arrivals before the copy and the index of the copy.
 abbrev pub OfEachCopy : List Arrival → (List Arrival → ℕ → Type 0) → Type 0
-OfEachCopy arrivals holds = (before after : List Arrival) (index : ℕ) → arrivals ≡ before ++ Copy index ∷ after → holds before index
+OfEachCopy arrivals holds =
+    (before after : List Arrival) (index : ℕ) → arrivals ≡ before ++ Copy index ∷ after → holds before index
 
 -- An index is near: less than 256 before or after the expected index. So a near index other than
 -- the expected one has another N(S).
@@ -102,18 +103,21 @@ VrCountsAccepted =
 -- Where PW and NW together are at most 256, copies in the window are near.
 abbrev pub InWindowAreNear : Type 0
 InWindowAreNear =
-    (w vr : ℕ) (arrivals : List Arrival) → positive_width w + negative_width w ≤ 256 → AreInWindow w vr arrivals → AreNear w vr arrivals
+    (w vr : ℕ) (arrivals : List Arrival) → positive_width w + negative_width w ≤ 256 → AreInWindow w vr arrivals
+    → AreNear w vr arrivals
 
 -- Where PW and NW together are at most 256, and each copy is in the window, the Lockout flag is
 -- never set.
 abbrev pub WindowKeepsOpen : Type 0
 WindowKeepsOpen =
-    (w vr : ℕ) (arrivals : List Arrival) → vr < 256 → positive_width w + negative_width w ≤ 256 → AreInWindow w vr arrivals
-    → AtEachMoment arrivals (λ before. (state_at w vr before).lockout ≡ false)
+    (w vr : ℕ) (arrivals : List Arrival) → vr < 256 → positive_width w + negative_width w ≤ 256
+    → AreInWindow w vr arrivals → AtEachMoment arrivals (λ before. (state_at w vr before).lockout ≡ false)
 
 -- Where PW and NW together are at most 256, and each copy is in the window, each copy of the
 -- expected frame is accepted.
 abbrev pub ExpectedIsAccepted : Type 0
 ExpectedIsAccepted =
-    (w vr : ℕ) (arrivals : List Arrival) → vr < 256 → positive_width w + negative_width w ≤ 256 → AreInWindow w vr arrivals
-    → OfEachCopy arrivals (λ before index. index ≡ accepted_count w vr before → verdict_at w vr before (Copy index) ≡ Accept)
+    (w vr : ℕ) (arrivals : List Arrival) → vr < 256 → positive_width w + negative_width w ≤ 256
+    → AreInWindow w vr arrivals
+    → OfEachCopy arrivals
+    (λ before index. index ≡ accepted_count w vr before → verdict_at w vr before (Copy index) ≡ Accept)

@@ -97,8 +97,12 @@ OthersAreKept =
 
 -- With the named values each of the 64 virtual channels still has one V(R), 0 to 255.
 abbrev pub NamedAreStarts : Type 0
-NamedAreStarts = (least : ℕ) (starts : List ℕ) (items : List Item) → AreStarts starts → AreItems least items → AreStarts (starts_over starts items)
+NamedAreStarts =
+    (least : ℕ) (starts : List ℕ) (items : List Item) → AreStarts starts → AreItems least items
+    → AreStarts (starts_over starts items)
 
 -- No text lists two different lists of items.
 abbrev pub ListsOnce : Type 0
-ListsOnce = (least : ℕ) (text : List ℕ) (items others : List Item) → Lists least text items → Lists least text others → items ≡ others
+ListsOnce =
+    (least : ℕ) (text : List ℕ) (items others : List Item) → Lists least text items → Lists least text others
+    → items ≡ others

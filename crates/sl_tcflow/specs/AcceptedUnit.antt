@@ -57,7 +57,8 @@ unit_by verdict content = if_accepted verdict (unit_of content)
 -- the units of the frames that FARM-1 accepts, in the order of acceptance; `units` says which units
 -- are wanted, as a list of one or none for each frame
 abbrev pub accepted_of : (Content → List (List ℕ)) → ℕ → ℕ → List TcView → List (List ℕ)
-accepted_of units w vr channel = accepted_by (λ (view : TcView). units view.content) (verdicts_of w (farm_start vr) (events_of channel)) channel
+accepted_of units w vr channel =
+    accepted_by (λ (view : TcView). units view.content) (verdicts_of w (farm_start vr) (events_of channel)) channel
 
 -- the units that FARM-1 accepts, of types AD and BD in one order (mission profile)
 abbrev pub accepted_units : ℕ → ℕ → List TcView → List (List ℕ)

@@ -56,7 +56,8 @@ left_in segments = if nat_le (length (reassembled segments)) longest_packet then
 -- none ends or it is too long
 abbrev pub tail_of : List (List ℕ) → List ℕ → ℕ
 tail_of list next =
-    length (flat_map (λ (s : SeriesAt). left_in s.segments) (filter (λ (s : SeriesAt). past s == length list + 1) (series_of (list ++ next ∷ []))))
+    length (flat_map (λ (s : SeriesAt). left_in s.segments)
+    (filter (λ (s : SeriesAt). past s == length list + 1) (series_of (list ++ next ∷ []))))
 
 -- ---- the anomalies as relations
 
@@ -103,7 +104,8 @@ of_segment none told (segment ∷ segments) = told segment
 
 -- what a report says of the segment of the frame's unit, where the unit is accepted, with the
 -- segments that came before on its MAP; `none` where the unit isn't accepted
-abbrev pub of_accepted : {X : Type 0} → X → (List (List ℕ) → List ℕ → X) → ReceptionParameters → List TcView → TcView → X
+abbrev pub of_accepted :
+    {X : Type 0} → X → (List (List ℕ) → List ℕ → X) → ReceptionParameters → List TcView → TcView → X
 of_accepted none told r views next =
     of_segment none (told (segments_of r next.vc (map_by r next) views)) (segment_by r views next)
 
@@ -125,7 +127,8 @@ tail_by r views next = of_accepted 0 tail_of r views next
 
 -- What the report on the next frame says apart from its MAP and its packets: the verdict on the
 -- frame, and the anomalies of its unit. Only contracts of private functions cite this record.
-pub record IsReportedOf (r : ReceptionParameters) (views : List TcView) (next : TcView) (step : StepReport) : Type 0 where
+pub record IsReportedOf (r : ReceptionParameters) (views : List TcView) (next : TcView) (step : StepReport)
+    : Type 0 where
   pub verdict : step.verdict ≡ verdict_on r views next
   pub stray : step.stray ≡ stray_by r views next
   pub dropped : step.dropped ≡ dropped_by r views next
@@ -144,11 +147,13 @@ WhatIsToldIsStray = (list : List (List ℕ)) (next : List ℕ) → stray_of list
 
 -- A dropped series is reported, with the number of its octets.
 abbrev pub DroppedIsTold : Type 0
-DroppedIsTold = (list : List (List ℕ)) (next : List ℕ) (count : ℕ) → IsDropped list next count → dropped_of list next ≡ Some count
+DroppedIsTold =
+    (list : List (List ℕ)) (next : List ℕ) (count : ℕ) → IsDropped list next count → dropped_of list next ≡ Some count
 
 -- A series that is reported as dropped is dropped, with this number of octets.
 abbrev pub WhatIsToldIsDropped : Type 0
-WhatIsToldIsDropped = (list : List (List ℕ)) (next : List ℕ) (count : ℕ) → dropped_of list next ≡ Some count → IsDropped list next count
+WhatIsToldIsDropped =
+    (list : List (List ℕ)) (next : List ℕ) (count : ℕ) → dropped_of list next ≡ Some count → IsDropped list next count
 
 -- A series that is too long is reported.
 abbrev pub LongIsTold : Type 0
@@ -164,12 +169,14 @@ TailIsTold = (list : List (List ℕ)) (next : List ℕ) (count : ℕ) → HasTai
 
 -- Where octets are reported as left, this number of octets is left.
 abbrev pub WhatIsToldIsTail : Type 0
-WhatIsToldIsTail = (list : List (List ℕ)) (next : List ℕ) → 0 < tail_of list next → HasTail list next (tail_of list next)
+WhatIsToldIsTail =
+    (list : List (List ℕ)) (next : List ℕ) → 0 < tail_of list next → HasTail list next (tail_of list next)
 
 -- On a virtual channel without segment headers no series is ever incomplete, on any MAP.
 abbrev pub NoPlainSeriesIsIncomplete : Type 0
 NoPlainSeriesIsIncomplete =
-    (r : ReceptionParameters) (vc map_id : ℕ) (views : List TcView) → is_plain r vc ≡ true → incomplete_of (segments_of r vc map_id views) ≡ None
+    (r : ReceptionParameters) (vc map_id : ℕ) (views : List TcView) → is_plain r vc ≡ true
+    → incomplete_of (segments_of r vc map_id views) ≡ None
 
 -- A unit has no anomaly but octets that are left: it isn't out of sequence, it drops no series, and
 -- it makes none too long.
@@ -180,4 +187,6 @@ pub record HasTailAlone (r : ReceptionParameters) (views : List TcView) (next : 
 
 -- A unit on a virtual channel without segment headers has no anomaly but octets that are left.
 abbrev pub PlainUnitHasTailAlone : Type 0
-PlainUnitHasTailAlone = (r : ReceptionParameters) (views : List TcView) (next : TcView) → is_plain r next.vc ≡ true → HasTailAlone r views next
+PlainUnitHasTailAlone =
+    (r : ReceptionParameters) (views : List TcView) (next : TcView) → is_plain r next.vc ≡ true
+    → HasTailAlone r views next

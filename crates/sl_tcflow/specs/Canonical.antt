@@ -21,7 +21,8 @@ pub record AreDeliverable (lists : List (List (List ℕ))) : Type 0 where
   pub each : AllByRecursion (AllByRecursion IsDeliverable) lists
 
 -- a format, a spacecraft, and 4,096 lists of packets that frames of the format can carry
-pub record CanBeWritten (format : TcFormat) (spacecraft : ℕ) (plain : List ℕ) (lists : List (List (List ℕ))) : Type 0 where
+pub record CanBeWritten (format : TcFormat) (spacecraft : ℕ) (plain : List ℕ) (lists : List (List (List ℕ)))
+    : Type 0 where
   pub is_format : IsFormat format
   pub spacecraft_fits : spacecraft ≤ 1023
   pub deliverable : AreDeliverable lists
@@ -37,7 +38,8 @@ IsNotSkipped format spacecraft frame = (view : TcView) × (tc_frame format space
 -- MAP.
 abbrev pub RecordedListsAreDeliverable : Type 0
 RecordedListsAreDeliverable =
-    (format : TcFormat) (spacecraft : ℕ) (r : ReceptionParameters) (recording : List ℕ) → AreDeliverable (tc_lists format spacecraft r recording)
+    (format : TcFormat) (spacecraft : ℕ) (r : ReceptionParameters) (recording : List ℕ)
+    → AreDeliverable (tc_lists format spacecraft r recording)
 
 -- Frames can carry the packets that a recording delivers, also on the virtual channels without
 -- segment headers.
@@ -49,27 +51,29 @@ RecordedListsFit =
 -- The normal form is its frames end to end: no octet remains.
 abbrev pub NormalFormIsFrames : Type 0
 NormalFormIsFrames =
-    (format : TcFormat) (spacecraft : ℕ) (starts plain : List ℕ) (lists : List (List (List ℕ))) → IsFormat format → spacecraft ≤ 1023
-    → AreDeliverable lists → FitsTc format plain lists
-    → IsTcDelimited format (tc_normal_form_of format spacecraft starts plain lists) (tc_frames_form format spacecraft starts plain lists) []
+    (format : TcFormat) (spacecraft : ℕ) (starts plain : List ℕ) (lists : List (List (List ℕ)))
+    → IsFormat format → spacecraft ≤ 1023 → AreDeliverable lists → FitsTc format plain lists
+    → IsTcDelimited format (tc_normal_form_of format spacecraft starts plain lists)
+    (tc_frames_form format spacecraft starts plain lists) []
 
 -- No frame of the normal form is longer than the managed greatest length.
 abbrev pub NoFrameIsLong : Type 0
 NoFrameIsLong =
-    (format : TcFormat) (spacecraft : ℕ) (starts plain : List ℕ) (lists : List (List (List ℕ))) → IsFormat format → spacecraft ≤ 1023
-    → AreDeliverable lists → FitsTc format plain lists
+    (format : TcFormat) (spacecraft : ℕ) (starts plain : List ℕ) (lists : List (List (List ℕ)))
+    → IsFormat format → spacecraft ≤ 1023 → AreDeliverable lists → FitsTc format plain lists
     → AllByRecursion (λ frame. length frame ≤ format.max) (tc_frames_form format spacecraft starts plain lists)
 
 -- No frame of the normal form is skipped.
 abbrev pub NoFrameIsSkipped : Type 0
 NoFrameIsSkipped =
-    (format : TcFormat) (spacecraft : ℕ) (starts plain : List ℕ) (lists : List (List (List ℕ))) → CanBeWritten format spacecraft plain lists
+    (format : TcFormat) (spacecraft : ℕ) (starts plain : List ℕ) (lists : List (List (List ℕ)))
+    → CanBeWritten format spacecraft plain lists
     → AllByRecursion (IsNotSkipped format spacecraft) (tc_frames_form format spacecraft starts plain lists)
 
 -- Read as a recording, with the same initial V(R), the same virtual channels without segment
 -- headers and any window, the normal form delivers exactly the packets that it was made from.
 abbrev pub NormalFormDelivers : Type 0
 NormalFormDelivers =
-    (format : TcFormat) (spacecraft : ℕ) (r : ReceptionParameters) (lists : List (List (List ℕ))) → IsFormat format → spacecraft ≤ 1023
-    → AreStarts r.starts → AreDeliverable lists → FitsTc format r.plain lists
+    (format : TcFormat) (spacecraft : ℕ) (r : ReceptionParameters) (lists : List (List (List ℕ)))
+    → IsFormat format → spacecraft ≤ 1023 → AreStarts r.starts → AreDeliverable lists → FitsTc format r.plain lists
     → tc_lists format spacecraft r (tc_normal_form_of format spacecraft r.starts r.plain lists) ≡ lists

@@ -14,11 +14,13 @@ use Rattle.sl_tcflow.specs.TcNormalForm.{units_of_packet, units_of_maps, frames_
 -- the piece of a packet on a channel: its frames end to end, with N(S) counting from `ns` on
 abbrev pub piece_of : TcFormat → ℕ → Bool → ℕ → ℕ → List ℕ → List ℕ
 piece_of format spacecraft plain channel ns packet =
-    concat (frames_of_units format spacecraft (channel / 64) ns (units_of_packet plain (segment_room_of format) (channel % 64) packet))
+    concat (frames_of_units format spacecraft (channel / 64) ns
+    (units_of_packet plain (segment_room_of format) (channel % 64) packet))
 
 -- the N(S) of the frame after the frames of a packet, which begin with `ns`
 abbrev pub ns_after : TcFormat → Bool → ℕ → ℕ → List ℕ → ℕ
-ns_after format plain channel ns packet = (ns + length (units_of_packet plain (segment_room_of format) (channel % 64) packet)) % 256
+ns_after format plain channel ns packet =
+    (ns + length (units_of_packet plain (segment_room_of format) (channel % 64) packet)) % 256
 
 -- Octets enough for any piece: 2 * 65,542 + 7. A packet has at most 65,542 octets. Each of its
 -- frames adds at most 8 octets of its own, and each of its frames but the last carries at least 8
@@ -42,20 +44,23 @@ pub record AddsPiece (left made left' made' : List ℕ) : Type 0 where
 abbrev pub maps_left : TcFormat → ℕ → Bool → ℕ → ℕ → ℕ → List (List ℕ) → List (List (List ℕ)) → List ℕ
 maps_left format spacecraft plain vc map_id ns packets later =
     concat (frames_of_units format spacecraft vc ns
-    (flat_map (units_of_packet plain (segment_room_of format) map_id) packets ++ units_of_maps plain (segment_room_of format) (map_id + 1) later))
+    (flat_map (units_of_packet plain (segment_room_of format) map_id) packets
+    ++ units_of_maps plain (segment_room_of format) (map_id + 1) later))
 
 -- the octets of the `n` virtual channels from `vc` on, none of whose packets is framed yet
 abbrev pub channels_left : TcFormat → ℕ → List ℕ → List ℕ → List (List (List ℕ)) → ℕ → ℕ → List ℕ
 channels_left format spacecraft starts plain lists vc n =
     concat (flat_map
-    (λ vc. channel_frames format spacecraft (has_vc plain vc) (slice_index_or starts vc 0) vc (take 64 (drop (64 * vc) lists)))
+    (λ vc. channel_frames format spacecraft (has_vc plain vc) (slice_index_or starts vc 0) vc
+    (take 64 (drop (64 * vc) lists)))
     (range_with_len vc n))
 
 -- the octets that are still to come where the packets of all channels before `channel`, and the
 -- first `framed` packets of this channel, are framed already
 unfoldable pub form_left : TcFormat → ℕ → List ℕ → List ℕ → List (List (List ℕ)) → ℕ → ℕ → ℕ → List ℕ
 form_left format spacecraft starts plain lists channel framed ns =
-    maps_left format spacecraft (has_vc plain (channel / 64)) (channel / 64) (channel % 64) ns (drop framed (slice_index_or lists channel []))
+    maps_left format spacecraft (has_vc plain (channel / 64)) (channel / 64) (channel % 64) ns
+    (drop framed (slice_index_or lists channel []))
     (take (63 - channel % 64) (drop (channel + 1) lists))
     ++ channels_left format spacecraft starts plain lists (channel / 64 + 1) (63 - channel / 64)
 

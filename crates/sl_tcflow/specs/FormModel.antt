@@ -6,7 +6,8 @@ use Rattle.sl_tcflow.specs.declared.form.TcForm.TheInside.{Inside}
 
 -- what a `TcForm` stands for
 abbrev pub octets_to_come : Inside → List ℕ
-octets_to_come f = form_left f.shape f.spacecraft f.starts f.plain f.delivered.now.lists f.place.channel f.place.framed f.place.ns
+octets_to_come f =
+    form_left f.shape f.spacecraft f.starts f.plain f.delivered.now.lists f.place.channel f.place.framed f.place.ns
 
 -- the invariant of a `TcForm`
 pub record IsTcForm (f : Inside) : Type 0 where

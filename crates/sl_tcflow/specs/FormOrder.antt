@@ -16,12 +16,14 @@ use Rattle.sl_tcflow.specs.TcNormalForm.{IsDividedInto, tc_normal_form_of}
 
 -- what is read of the frames of a normal form
 abbrev pub form_views : TcFormat → ℕ → List ℕ → List ℕ → List (List (List ℕ)) → List TcView
-form_views format spacecraft starts plain lists = recorded_views format spacecraft (tc_normal_form_of format spacecraft starts plain lists)
+form_views format spacecraft starts plain lists =
+    recorded_views format spacecraft (tc_normal_form_of format spacecraft starts plain lists)
 
 -- the segments of a MAP in frames of a virtual channel without segment headers (`plain`) or with
 -- them, whether FARM-1 accepts the frames or not
 abbrev pub segments_in : Bool → ℕ → List TcView → List (List ℕ)
-segments_in plain map_id channel = segments_on map_id (map (segment_in plain) (flat_map (λ (view : TcView). unit_of view.content) channel))
+segments_in plain map_id channel =
+    segments_on map_id (map (segment_in plain) (flat_map (λ (view : TcView). unit_of view.content) channel))
 
 -- how many octets of a packet a frame has at most
 abbrev pub room_in : Bool → TcFormat → ℕ
@@ -31,15 +33,16 @@ room_in plain format = if plain then plain_room_of format else segment_room_of f
 -- own, which are one series.
 pub data CarryPackets (room map_id : ℕ) : List (List ℕ) → List (List ℕ) → Type 0 where
   none : CarryPackets room map_id [] []
-  more : (packet : List ℕ) (own packets later : List (List ℕ)) → IsDividedInto room map_id packet own → CarryPackets room map_id packets later
-      → CarryPackets room map_id (packet ∷ packets) (own ++ later)
+  more : (packet : List ℕ) (own packets later : List (List ℕ)) → IsDividedInto room map_id packet own
+      → CarryPackets room map_id packets later → CarryPackets room map_id (packet ∷ packets) (own ++ later)
 
 -- ---- laws
 
 -- The virtual channels of the frames never fall.
 abbrev pub ChannelsNeverFall : Type 0
 ChannelsNeverFall =
-    (format : TcFormat) (spacecraft : ℕ) (starts plain : List ℕ) (lists : List (List (List ℕ))) → CanBeWritten format spacecraft plain lists
+    (format : TcFormat) (spacecraft : ℕ) (starts plain : List ℕ) (lists : List (List (List ℕ)))
+    → CanBeWritten format spacecraft plain lists
     → NeverFall 0 (map (λ (view : TcView). view.vc) (form_views format spacecraft starts plain lists))
 
 -- The MAPs of the frames of a virtual channel never fall. On a virtual channel without segment
@@ -47,15 +50,18 @@ ChannelsNeverFall =
 -- above 63.
 abbrev pub MapsNeverFall : Type 0
 MapsNeverFall =
-    (format : TcFormat) (spacecraft : ℕ) (starts plain : List ℕ) (lists : List (List (List ℕ))) → CanBeWritten format spacecraft plain lists
+    (format : TcFormat) (spacecraft : ℕ) (starts plain : List ℕ) (lists : List (List (List ℕ)))
+    → CanBeWritten format spacecraft plain lists
     → (vc : ℕ) → vc < 64
-    → NeverFall 0 (map (λ (view : TcView). map_of (has_vc plain vc) view.content) (views_on vc (form_views format spacecraft starts plain lists)))
+    → NeverFall 0 (map (λ (view : TcView). map_of (has_vc plain vc) view.content)
+    (views_on vc (form_views format spacecraft starts plain lists)))
 
 -- Each frame of a virtual channel is of type AD. Its N(S) is the channel's initial V(R) plus the
 -- number of the channel's frames before it, modulo 256.
 abbrev pub NsCounts : Type 0
 NsCounts =
-    (format : TcFormat) (spacecraft : ℕ) (starts plain : List ℕ) (lists : List (List (List ℕ))) → CanBeWritten format spacecraft plain lists
+    (format : TcFormat) (spacecraft : ℕ) (starts plain : List ℕ) (lists : List (List (List ℕ)))
+    → CanBeWritten format spacecraft plain lists
     → (vc : ℕ) → vc < 64 → (before later : List TcView) (view : TcView)
     → views_on vc (form_views format spacecraft starts plain lists) ≡ before ++ view ∷ later
     → (unit : List ℕ) × (view.content ≡ Ad ((slice_index_or starts vc 0 + length before) % 256) unit)
@@ -65,7 +71,8 @@ NsCounts =
 -- has the index 64 v + m.
 abbrev pub EachPacketIsOneSeries : Type 0
 EachPacketIsOneSeries =
-    (format : TcFormat) (spacecraft : ℕ) (starts plain : List ℕ) (lists : List (List (List ℕ))) → CanBeWritten format spacecraft plain lists
+    (format : TcFormat) (spacecraft : ℕ) (starts plain : List ℕ) (lists : List (List (List ℕ)))
+    → CanBeWritten format spacecraft plain lists
     → (vc map_id : ℕ) → vc < 64 → map_id < 64
     → CarryPackets (room_in (has_vc plain vc) format) map_id (slice_index_or lists (64 * vc + map_id) [])
     (segments_in (has_vc plain vc) map_id (views_on vc (form_views format spacecraft starts plain lists)))

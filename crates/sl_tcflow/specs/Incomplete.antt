@@ -52,11 +52,13 @@ incomplete_of (segment ∷ later) =
 
 -- A series that is reported is incomplete.
 abbrev pub WhatIsToldIsIncomplete : Type 0
-WhatIsToldIsIncomplete = (list : List (List ℕ)) (octets : List ℕ) → incomplete_of list ≡ Some octets → IsIncomplete list octets
+WhatIsToldIsIncomplete =
+    (list : List (List ℕ)) (octets : List ℕ) → incomplete_of list ≡ Some octets → IsIncomplete list octets
 
 -- A series that is incomplete is reported.
 abbrev pub IncompleteIsTold : Type 0
-IncompleteIsTold = (list : List (List ℕ)) (octets : List ℕ) → IsIncomplete list octets → incomplete_of list ≡ Some octets
+IncompleteIsTold =
+    (list : List (List ℕ)) (octets : List ℕ) → IsIncomplete list octets → incomplete_of list ≡ Some octets
 
 -- At most one series is incomplete: any two begin at the same segment.
 abbrev pub OneBegins : Type 0
@@ -66,8 +68,11 @@ OneBegins =
 
 -- Two incomplete series have the same octets so far.
 abbrev pub OneIsIncomplete : Type 0
-OneIsIncomplete = (list : List (List ℕ)) (octets others : List ℕ) → IsIncomplete list octets → IsIncomplete list others → octets ≡ others
+OneIsIncomplete =
+    (list : List (List ℕ)) (octets others : List ℕ) → IsIncomplete list octets → IsIncomplete list others
+    → octets ≡ others
 
 -- An incomplete series has 65,542 octets at most.
 abbrev pub IncompleteFits : Type 0
-IncompleteFits = (list : List (List ℕ)) (octets : List ℕ) → incomplete_of list ≡ Some octets → length octets ≤ longest_packet
+IncompleteFits =
+    (list : List (List ℕ)) (octets : List ℕ) → incomplete_of list ≡ Some octets → length octets ≤ longest_packet

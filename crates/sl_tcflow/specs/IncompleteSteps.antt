@@ -90,7 +90,8 @@ long_with held flags octets = continues_by flags && exceeds_limit (option_map le
 -- the report where the unit is accepted, no service data unit ends and there is no anomaly; the MAP
 -- is left 0
 abbrev pub quiet_report : StepReport
-quiet_report = record { verdict = Accept; map = 0; packets = 0; idle = 0; stray = false; dropped = None; long = false; tail = 0 }
+quiet_report =
+    record { verdict = Accept; map = 0; packets = 0; idle = 0; stray = false; dropped = None; long = false; tail = 0 }
 
 -- the report on a segment that ends this service data unit, apart from a dropped series
 abbrev pub unit_report : List ℕ → StepReport

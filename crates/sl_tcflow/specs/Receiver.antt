@@ -30,7 +30,8 @@ pub record ReceiverState : Type 0 where
 -- these are the octets so far of the series that are incomplete after these frames, by channel
 abbrev pub AreIncomplete : ReceptionParameters → List (Option (List ℕ)) → List TcView → Type 0
 AreIncomplete r incomplete views =
-    (vc map_id : ℕ) → vc < 64 → map_id < 64 → slice_index_or incomplete (channel_at vc map_id) None ≡ incomplete_of (segments_of r vc map_id views)
+    (vc map_id : ℕ) → vc < 64 → map_id < 64
+    → slice_index_or incomplete (channel_at vc map_id) None ≡ incomplete_of (segments_of r vc map_id views)
 
 -- The octets so far of an incomplete series, none where there is no such series. Only contracts of
 -- private functions stand on this and on `held_in`.
@@ -99,9 +100,11 @@ ended_by r views next =
 -- one, where both agree with three values: `plain` says whether the next frame's virtual channel
 -- has no segment headers, `incomplete` has the series that are incomplete after `views`, and
 -- `verdict` is that of FARM-1 on the next frame.
-abbrev pub ForIncomplete : Bool → List (Option (List ℕ)) → Verdict → TcView → (ReceptionParameters → List TcView → Type 0) → Type 0
+abbrev pub ForIncomplete :
+    Bool → List (Option (List ℕ)) → Verdict → TcView → (ReceptionParameters → List TcView → Type 0) → Type 0
 ForIncomplete plain incomplete verdict next holds =
-    (r : ReceptionParameters) (views : List TcView) → plain ≡ is_plain r next.vc → AreIncomplete r incomplete views → verdict ≡ verdict_on r views next
+    (r : ReceptionParameters) (views : List TcView) → plain ≡ is_plain r next.vc → AreIncomplete r incomplete views
+    → verdict ≡ verdict_on r views next
     → holds r views
 
 -- the next frame's unit is accepted, and on its MAP a series is incomplete before the next frame or

@@ -14,7 +14,8 @@ use Rattle.sl_tcflow.specs.Series.{SeriesAt, past, reassembled, segment_in, segm
 -- lie end to end at its front. A service data unit of more than 65,542 octets has no packets
 -- (mission profile).
 abbrev pub packets_of_series : List (List ℕ) → List (List ℕ)
-packets_of_series segments = if nat_le (length (reassembled segments)) longest_packet then packets_of (reassembled segments) else []
+packets_of_series segments =
+    if nat_le (length (reassembled segments)) longest_packet then packets_of (reassembled segments) else []
 
 -- the packets of all series of a list of a MAP's segments, in order, idle ones included
 abbrev pub packets_of_segments : List (List ℕ) → List (List ℕ)
@@ -24,16 +25,20 @@ packets_of_segments list = flat_map (λ (s : SeriesAt). packets_of_series s.segm
 -- the list
 abbrev pub packets_ended : List (List ℕ) → List ℕ → List (List ℕ)
 packets_ended list next =
-    flat_map (λ (s : SeriesAt). packets_of_series s.segments) (filter (λ (s : SeriesAt). past s == length list + 1) (series_of (list ++ next ∷ [])))
+    flat_map (λ (s : SeriesAt). packets_of_series s.segments)
+    (filter (λ (s : SeriesAt). past s == length list + 1) (series_of (list ++ next ∷ [])))
 
 -- the segments of a virtual channel and a MAP, from the accepted units of these frames
 abbrev pub segments_of : ReceptionParameters → ℕ → ℕ → List TcView → List (List ℕ)
 segments_of r vc map_id views =
-    segments_on map_id (map (segment_in (is_plain r vc)) (accepted_units r.window (initial_vr r vc) (views_on vc views)))
+    segments_on map_id
+    (map (segment_in (is_plain r vc)) (accepted_units r.window (initial_vr r vc) (views_on vc views)))
 
 -- ---- laws
 
 -- The packets of a list with one more segment are those of the list before, and then those of the
 -- series that ends with the added segment.
 abbrev pub PacketsEndOnce : Type 0
-PacketsEndOnce = (list : List (List ℕ)) (next : List ℕ) → packets_of_segments (list ++ next ∷ []) ≡ packets_of_segments list ++ packets_ended list next
+PacketsEndOnce =
+    (list : List (List ℕ)) (next : List ℕ)
+    → packets_of_segments (list ++ next ∷ []) ≡ packets_of_segments list ++ packets_ended list next

@@ -26,4 +26,5 @@ packets_of_channel r views channel = packets_of_segments (segments_of r (channel
 -- 4,096 lists, one for each channel in order
 abbrev pub tc_lists : TcFormat → ℕ → ReceptionParameters → List ℕ → List (List (List ℕ))
 tc_lists format spacecraft r recording =
-    map (λ channel. without_idle (packets_of_channel r (recorded_views format spacecraft recording) channel)) map_channels
+    map (λ channel. without_idle (packets_of_channel r (recorded_views format spacecraft recording) channel))
+    map_channels

@@ -66,14 +66,16 @@ segments_sent r vc map_id sent = segments_on map_id (map (segment_in (is_plain r
 -- The frames of a virtual channel are copies of the frames that were sent, and between them frames
 -- of type BD and Unlock, but no Set V(R). Each copy, when it arrives, is less than 256 frames away
 -- from the frame that is expected next.
-pub record AreReordered (w vr : ℕ) (sent : List (List ℕ)) (channel : List TcView) (arrivals : List Arrival) : Type 0 where
+pub record AreReordered (w vr : ℕ) (sent : List (List ℕ)) (channel : List TcView) (arrivals : List Arrival)
+    : Type 0 where
   pub initial : vr < 256
   pub arrive : AreArrivals vr sent channel arrivals
   pub near : AreNear w vr arrivals
 
 -- The same, where each copy is in the window when it arrives, and the window has at most 256
 -- numbers.
-pub record AreReorderedInWindow (w vr : ℕ) (sent : List (List ℕ)) (channel : List TcView) (arrivals : List Arrival) : Type 0 where
+pub record AreReorderedInWindow (w vr : ℕ) (sent : List (List ℕ)) (channel : List TcView) (arrivals : List Arrival)
+    : Type 0 where
   pub initial : vr < 256
   pub most : positive_width w + negative_width w ≤ 256
   pub arrive : AreArrivals vr sent channel arrivals
@@ -85,52 +87,63 @@ pub record AreReorderedInWindow (w vr : ℕ) (sent : List (List ℕ)) (channel :
 -- the expected frame.
 abbrev pub WindowIsNear : Type 0
 WindowIsNear =
-    (w vr : ℕ) (sent : List (List ℕ)) (channel : List TcView) (arrivals : List Arrival) → AreReorderedInWindow w vr sent channel arrivals
+    (w vr : ℕ) (sent : List (List ℕ)) (channel : List TcView) (arrivals : List Arrival)
+    → AreReorderedInWindow w vr sent channel arrivals
     → AreReordered w vr sent channel arrivals
 
 -- The accepted units of type AD are a prefix of the sent units, for every window.
 abbrev pub UnitsInOrder : Type 0
 UnitsInOrder =
-    (w vr : ℕ) (sent : List (List ℕ)) (channel : List TcView) (arrivals : List Arrival) → AreReordered w vr sent channel arrivals
+    (w vr : ℕ) (sent : List (List ℕ)) (channel : List TcView) (arrivals : List Arrival)
+    → AreReordered w vr sent channel arrivals
     → IsPrefix (accepted_ad_units w vr channel) sent
 
 -- V(R) is at each moment the initial V(R) plus the number of accepted units of type AD, modulo 256.
 abbrev pub VrCountsUnits : Type 0
 VrCountsUnits =
-    (w vr : ℕ) (sent : List (List ℕ)) (channel : List TcView) (arrivals : List Arrival) → AreReordered w vr sent channel arrivals
+    (w vr : ℕ) (sent : List (List ℕ)) (channel : List TcView) (arrivals : List Arrival)
+    → AreReordered w vr sent channel arrivals
     → AtEachMoment channel (λ before. (farm_after w vr before).vr ≡ expected_ns w vr before)
 
 -- The accepted units of type AD are all accepted units, where no frame is of type BD.
 abbrev pub AdUnitsAreAll : Type 0
-AdUnitsAreAll = (w vr : ℕ) (channel : List TcView) → HaveNoBd channel → accepted_ad_units w vr channel ≡ accepted_units w vr channel
+AdUnitsAreAll =
+    (w vr : ℕ) (channel : List TcView) → HaveNoBd channel → accepted_ad_units w vr channel ≡ accepted_units w vr channel
 
 -- The packets of each MAP are a prefix of the packets of the sent units, where no frame is of type
 -- BD.
 abbrev pub PacketsInOrder : Type 0
 PacketsInOrder =
-    (r : ReceptionParameters) (vc map_id : ℕ) (sent : List (List ℕ)) (views : List TcView) (arrivals : List Arrival) → AreReordered r.window (initial_vr r vc) sent (views_on vc views) arrivals
+    (r : ReceptionParameters) (vc map_id : ℕ) (sent : List (List ℕ)) (views : List TcView) (arrivals : List Arrival)
+    → AreReordered r.window (initial_vr r vc) sent (views_on vc views) arrivals
     → HaveNoBd (views_on vc views)
-    → IsPrefix (packets_of_segments (segments_of r vc map_id views)) (packets_of_segments (segments_sent r vc map_id sent))
+    → IsPrefix (packets_of_segments (segments_of r vc map_id views))
+    (packets_of_segments (segments_sent r vc map_id sent))
 
 -- The packets that a recording delivers on a virtual channel and MAP are a prefix of the packets of
 -- the sent units, idle packets left out on both sides, where no frame of the channel is of type BD.
 -- Nothing is said of the other virtual channels.
 abbrev pub RecordedPacketsInOrder : Type 0
 RecordedPacketsInOrder =
-    (format : TcFormat) (spacecraft : ℕ) (r : ReceptionParameters) (vc map_id : ℕ) (sent : List (List ℕ)) (recording : List ℕ) (arrivals : List Arrival) → vc < 64 → map_id < 64
-    → AreReordered r.window (initial_vr r vc) sent (recorded_channel format spacecraft vc recording) arrivals → HaveNoBd (recorded_channel format spacecraft vc recording)
-    → IsPrefix (recorded_packets format spacecraft r vc map_id recording) (without_idle (packets_of_segments (segments_sent r vc map_id sent)))
+    (format : TcFormat) (spacecraft : ℕ) (r : ReceptionParameters) (vc map_id : ℕ) (sent : List (List ℕ))
+    (recording : List ℕ) (arrivals : List Arrival) → vc < 64 → map_id < 64
+    → AreReordered r.window (initial_vr r vc) sent (recorded_channel format spacecraft vc recording) arrivals
+    → HaveNoBd (recorded_channel format spacecraft vc recording)
+    → IsPrefix (recorded_packets format spacecraft r vc map_id recording)
+    (without_idle (packets_of_segments (segments_sent r vc map_id sent)))
 
 -- Where each copy is in the window, the Lockout flag is never set.
 abbrev pub WindowNeverLocks : Type 0
 WindowNeverLocks =
-    (w vr : ℕ) (sent : List (List ℕ)) (channel : List TcView) (arrivals : List Arrival) → AreReorderedInWindow w vr sent channel arrivals
+    (w vr : ℕ) (sent : List (List ℕ)) (channel : List TcView) (arrivals : List Arrival)
+    → AreReorderedInWindow w vr sent channel arrivals
     → AtEachMoment channel (λ before. (farm_after w vr before).lockout ≡ false)
 
 -- Where each copy is in the window, each copy of the expected frame is accepted.
 abbrev pub ExpectedUnitIsAccepted : Type 0
 ExpectedUnitIsAccepted =
-    (w vr : ℕ) (sent : List (List ℕ)) (channel : List TcView) (arrivals : List Arrival) → AreReorderedInWindow w vr sent channel arrivals
+    (w vr : ℕ) (sent : List (List ℕ)) (channel : List TcView) (arrivals : List Arrival)
+    → AreReorderedInWindow w vr sent channel arrivals
     → (before after : List TcView) (view : TcView) → channel ≡ before ++ view ∷ after
     → view.content ≡ Ad (expected_ns w vr before) (unit_at sent (accepted_ad_count w vr before))
     → (farm_step w (farm_after w vr before) (event_of view.content)).0 ≡ Accept
@@ -140,6 +153,8 @@ ExpectedUnitIsAccepted =
 -- these frames.
 abbrev pub ReceiverCountsUnits : Type 0
 ReceiverCountsUnits =
-    (r : ReceptionParameters) (vc : ℕ) (sent : List (List ℕ)) (farms : List FarmView) (views : List TcView) (arrivals : List Arrival) → vc < 64
+    (r : ReceptionParameters) (vc : ℕ) (sent : List (List ℕ)) (farms : List FarmView) (views : List TcView)
+    (arrivals : List Arrival) → vc < 64
     → HaveStepped r farms views → AreReordered r.window (initial_vr r vc) sent (views_on vc views) arrivals
-    → (clcw_of vc (slice_index_or farms vc (farm_at_start r vc)).state).report ≡ expected_ns r.window (initial_vr r vc) (views_on vc views)
+    → (clcw_of vc (slice_index_or farms vc (farm_at_start r vc)).state).report
+    ≡ expected_ns r.window (initial_vr r vc) (views_on vc views)

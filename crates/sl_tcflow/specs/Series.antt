@@ -70,7 +70,8 @@ past s = s.before + length s.segments
 pub data AreApart : List SeriesAt → Type 0 where
   none : AreApart []
   one : (s : SeriesAt) → AreApart (s ∷ [])
-  more : (s t : SeriesAt) (later : List SeriesAt) → nat_le (past s) t.before ≡ Bool.true → AreApart (t ∷ later) → AreApart (s ∷ t ∷ later)
+  more : (s t : SeriesAt) (later : List SeriesAt) → nat_le (past s) t.before ≡ Bool.true → AreApart (t ∷ later)
+      → AreApart (s ∷ t ∷ later)
 
 -- ---- the series of a list, each found from its first segment and the segments after it
 
@@ -96,7 +97,8 @@ series_with segment later =
 abbrev pub series_from : ℕ → List (List ℕ) → List SeriesAt
 series_from before [] = []
 series_from before (segment ∷ later) =
-    map (λ segments. record { before = before; segments = segments }) (series_with segment later) ++ series_from (before + 1) later
+    map (λ segments. record { before = before; segments = segments }) (series_with segment later)
+    ++ series_from (before + 1) later
 
 -- all series of a list
 abbrev pub series_of : List (List ℕ) → List SeriesAt

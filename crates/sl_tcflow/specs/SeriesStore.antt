@@ -15,7 +15,7 @@ abbrev pub at : List (Option (List ℕ)) → ℕ → Option (List ℕ)
 at list channel = slice_index_or list channel None
 
 -- the new list has this value at this channel, and elsewhere the values of the old one
-pub record IsPlaced (old : List (Option (List ℕ))) (channel : ℕ) (value : Option (List ℕ)) (new : List (Option (List ℕ)))
-    : Type 0 where
+pub record IsPlaced (old : List (Option (List ℕ))) (channel : ℕ) (value : Option (List ℕ))
+    (new : List (Option (List ℕ))) : Type 0 where
   pub here : at new channel ≡ value
   pub others : (other : ℕ) → other ≢ channel → at new other ≡ at old other

@@ -42,7 +42,8 @@ units_of_packet plain room map_id packet =
 -- packets for each MAP
 abbrev pub units_of_maps : Bool → ℕ → ℕ → List (List (List ℕ)) → List (List ℕ)
 units_of_maps plain room map_id [] = []
-units_of_maps plain room map_id (packets ∷ lists) = flat_map (units_of_packet plain room map_id) packets ++ units_of_maps plain room (map_id + 1) lists
+units_of_maps plain room map_id (packets ∷ lists) =
+    flat_map (units_of_packet plain room map_id) packets ++ units_of_maps plain room (map_id + 1) lists
 
 -- the frames of type AD that carry these units, with N(S) counting from `ns` on, modulo 256
 abbrev pub frames_of_units : TcFormat → ℕ → ℕ → ℕ → List (List ℕ) → List (List ℕ)
@@ -61,7 +62,8 @@ channel_frames format spacecraft plain vr vc lists =
 abbrev pub tc_frames_form : TcFormat → ℕ → List ℕ → List ℕ → List (List (List ℕ)) → List (List ℕ)
 tc_frames_form format spacecraft starts plain lists =
     flat_map
-    (λ vc. channel_frames format spacecraft (has_vc plain vc) (slice_index_or starts vc 0) vc (take 64 (drop (64 * vc) lists)))
+    (λ vc. channel_frames format spacecraft (has_vc plain vc) (slice_index_or starts vc 0) vc
+    (take 64 (drop (64 * vc) lists)))
     (range_with_len 0 64)
 
 -- the normal form of lists of packets: its frames end to end
@@ -74,7 +76,8 @@ tc_normal_form_of format spacecraft starts plain lists = concat (tc_frames_form 
 -- has one octet or more.
 pub data AreSegments (room : ℕ) : List (List ℕ) → Type 0 where
   last : (octets : List ℕ) → 0 < length octets → length octets ≤ room → AreSegments room (octets ∷ [])
-  full : (octets : List ℕ) (later : List (List ℕ)) → length octets ≡ room → AreSegments room later → AreSegments room (octets ∷ later)
+  full : (octets : List ℕ) (later : List (List ℕ)) → length octets ≡ room → AreSegments room later
+      → AreSegments room (octets ∷ later)
 
 -- A packet is divided into these segments: they are full except the last one, their octets end to
 -- end are the packet, and they are one series on this MAP.
@@ -89,4 +92,5 @@ pub record IsDividedInto (room map_id : ℕ) (packet : List ℕ) (segments : Lis
 -- Each packet of one octet or more is divided into its segments, where a segment has room.
 abbrev pub EachIsDivided : Type 0
 EachIsDivided =
-    (room map_id : ℕ) (packet : List ℕ) → 0 < room → map_id < 64 → 0 < length packet → IsDividedInto room map_id packet (units_of_packet false room map_id packet)
+    (room map_id : ℕ) (packet : List ℕ) → 0 < room → map_id < 64 → 0 < length packet
+    → IsDividedInto room map_id packet (units_of_packet false room map_id packet)

@@ -253,8 +253,8 @@ fn map_in(plain: bool, carried: &TcContent) -> u8
 }
 
 // Takes the unit of a frame, if the frame carries one and this verdict accepts it. `plain` says
-// that the frame's virtual channel has no segment headers, and `map` is the MAP of the unit, 0 where
-// there is none. The fault is `Memory` where memory was refused, and `Sink` where the sink refused
+// that the frame's virtual channel has no segment headers, and `map` is the MAP of the unit, 0
+// where there is none. The fault is `Memory` where memory was refused, and `Sink` where the sink refused
 // a packet.
 fn take_unit<S: PacketSink>(
     series: &mut SeriesStore,

@@ -17,7 +17,8 @@ segment_room_of format = format.max - 6 - fecf_len format.fecf
 -- value: version 0, bypass flag 0, control command flag 0, spare bits 0, the spacecraft, the
 -- virtual channel, the frame length (the octets of the frame minus 1), and N(S).
 abbrev pub ad_fields : ℕ → ℕ → ℕ → ℕ → List (ℕ × ℕ)
-ad_fields spacecraft vc ns len = (2, 0) ∷ (1, 0) ∷ (1, 0) ∷ (2, 0) ∷ (10, spacecraft) ∷ (6, vc) ∷ (10, len - 1) ∷ (8, ns) ∷ []
+ad_fields spacecraft vc ns len =
+    (2, 0) ∷ (1, 0) ∷ (1, 0) ∷ (2, 0) ∷ (10, spacecraft) ∷ (6, vc) ∷ (10, len - 1) ∷ (8, ns) ∷ []
 
 -- the length of a frame whose data field has this number of octets
 abbrev pub ad_len : TcFormat → ℕ → ℕ

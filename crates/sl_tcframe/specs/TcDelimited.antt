@@ -11,12 +11,14 @@ use Rattle.sl_tcframe.specs.TcFrame.{TcFormat, stated_frame_len, least_of, is_cu
 -- but no frame has only four octets.
 abbrev pub begin_no_frame : TcFormat → List ℕ → Bool
 begin_no_frame format octets =
-    nat_lt (length octets) 5 || (nat_lt (stated_frame_len octets) (least_of format) || nat_lt (length octets) (stated_frame_len octets))
+    nat_lt (length octets) 5
+    || (nat_lt (stated_frame_len octets) (least_of format) || nat_lt (length octets) (stated_frame_len octets))
 
 -- The frames of a recording lie end to end from the first octet on, each as long as its frame
 -- length field states and no shorter than the least length. They end at the first offset at which
 -- no frame begins. The octets from there on are the remainder.
-pub record IsTcDelimited (format : TcFormat) (recording : List ℕ) (frames : List (List ℕ)) (remainder : List ℕ) : Type 0 where
+pub record IsTcDelimited (format : TcFormat) (recording : List ℕ) (frames : List (List ℕ)) (remainder : List ℕ)
+    : Type 0 where
   pub end_to_end : recording ≡ concat frames ++ remainder
   pub each : AllByRecursion (λ frame. is_cut format frame ≡ true) frames
   pub no_more : begin_no_frame format remainder ≡ true
@@ -62,10 +64,12 @@ tc_remainder_of format recording = drop (length (concat (tc_frames_of format rec
 -- Every recording is delimited into its frames and its remainder.
 abbrev pub EachIsTcDelimited : Type 0
 EachIsTcDelimited =
-    (format : TcFormat) (recording : List ℕ) → IsTcDelimited format recording (tc_frames_of format recording) (tc_remainder_of format recording)
+    (format : TcFormat) (recording : List ℕ)
+    → IsTcDelimited format recording (tc_frames_of format recording) (tc_remainder_of format recording)
 
 -- No recording is delimited into other frames and another remainder.
 abbrev pub IsTcDelimitedOnce : Type 0
 IsTcDelimitedOnce =
-    (format : TcFormat) (recording : List ℕ) (frames : List (List ℕ)) (remainder : List ℕ) → IsTcDelimited format recording frames remainder
+    (format : TcFormat) (recording : List ℕ) (frames : List (List ℕ)) (remainder : List ℕ)
+    → IsTcDelimited format recording frames remainder
     → (tc_frames_of format recording ≡ frames) × (tc_remainder_of format recording ≡ remainder)

@@ -175,7 +175,8 @@ read_as None h None = Err Command
 -- the frame as it is read for a spacecraft: what is read, or the reason to skip it
 abbrev pub tc_frame : TcFormat → ℕ → List ℕ → Result TcView TcSkip
 tc_frame format spacecraft frame =
-    read_as (early_reason format spacecraft frame) (tc_header_of frame) (content_of (tc_header_of frame) (tc_parts_of format frame).field)
+    read_as (early_reason format spacecraft frame) (tc_header_of frame)
+    (content_of (tc_header_of frame) (tc_parts_of format frame).field)
 
 -- ---- ranges
 
@@ -199,15 +200,19 @@ pub record IsInRange (view : TcView) : Type 0 where
 
 -- Octets that are one frame by their frame length field have these parts.
 abbrev pub EachHasParts : Type 0
-EachHasParts = (format : TcFormat) (frame : List ℕ) → is_cut format frame ≡ true → ArePartsOf format frame (tc_parts_of format frame)
+EachHasParts =
+    (format : TcFormat) (frame : List ℕ) → is_cut format frame ≡ true
+    → ArePartsOf format frame (tc_parts_of format frame)
 
 -- Octets have no other parts.
 abbrev pub HasPartsOnce : Type 0
-HasPartsOnce = (format : TcFormat) (frame : List ℕ) (p : TcParts) → ArePartsOf format frame p → tc_parts_of format frame ≡ p
+HasPartsOnce =
+    (format : TcFormat) (frame : List ℕ) (p : TcParts) → ArePartsOf format frame p → tc_parts_of format frame ≡ p
 
 -- No other octets have parts.
 abbrev pub OnlyFramesHaveParts : Type 0
-OnlyFramesHaveParts = (format : TcFormat) (frame : List ℕ) (p : TcParts) → ArePartsOf format frame p → is_cut format frame ≡ true
+OnlyFramesHaveParts =
+    (format : TcFormat) (frame : List ℕ) (p : TcParts) → ArePartsOf format frame p → is_cut format frame ≡ true
 
 -- Each frame is read or skipped as `IsReadAs` says.
 abbrev pub EachIsRead : Type 0

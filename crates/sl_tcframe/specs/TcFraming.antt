@@ -92,14 +92,16 @@ left_at (WholeFrame len) octets = octets
 
 -- The call returns no frame: none is whole, and these octets of the chunk are left.
 pub record YieldsNone (old : TcFraming) (chunk left : List ℕ) : Type 0 where
-  pub front : (front_of old.format (old.rest ++ chunk) ≡ Incomplete) ⊎ (front_of old.format (old.rest ++ chunk) ≡ BelowLeast)
+  pub front : (front_of old.format (old.rest ++ chunk) ≡ Incomplete)
+      ⊎ (front_of old.format (old.rest ++ chunk) ≡ BelowLeast)
   pub left_is : left ≡ left_at (front_of old.format (old.rest ++ chunk)) (old.rest ++ chunk)
 
 -- the state after a call with this chunk, which returned this frame or none; after a frame no octet
 -- is held
 abbrev pub after_call : TcFraming → List ℕ → Option (List ℕ) → TcFraming
 after_call old chunk (Some frame) = record { format = old.format; rest = [] }
-after_call old chunk None = record { format = old.format; rest = taken_at (front_of old.format (old.rest ++ chunk)) (old.rest ++ chunk) }
+after_call old chunk None =
+    record { format = old.format; rest = taken_at (front_of old.format (old.rest ++ chunk)) (old.rest ++ chunk) }
 
 -- the octets of the returned frame, if there is one
 abbrev pub lent_octets : Option (Bor (List ℕ)) → Option (List ℕ)
@@ -137,7 +139,8 @@ pub record BeginsWithFrame (format : TcFormat) (octets frame later : List ℕ) :
 -- framer then holds. `left` is what is left of the chunk.
 abbrev pub TakesUpToFrame : TcFormat → List ℕ → List ℕ → Bool → List ℕ → List ℕ → Type 0
 TakesUpToFrame format old chunk true new left =
-    (old ++ chunk ≡ new ++ left) × (front_of format (old ++ chunk) ≡ WholeFrame (length new)) × (is_cut format new ≡ true)
+    (old ++ chunk ≡ new ++ left) × (front_of format (old ++ chunk) ≡ WholeFrame (length new))
+    × (is_cut format new ≡ true)
 TakesUpToFrame format old chunk false new left =
     ((front_of format (old ++ chunk) ≡ Incomplete) ⊎ (front_of format (old ++ chunk) ≡ BelowLeast))
     × (new ≡ taken_at (front_of format (old ++ chunk)) (old ++ chunk))
@@ -153,29 +156,35 @@ pub data YieldsFrames : TcFraming → List (List ℕ) → List (List ℕ) → Tc
   -- no chunk is left
   ended : (f : TcFraming) → YieldsFrames f [] [] f []
   -- a call yields a frame, and what is left of the chunk is given next
-  yielded : (f new : TcFraming) (chunk frame left behind : List ℕ) (chunks frames : List (List ℕ)) → YieldsFrame f chunk frame left
-      → YieldsFrames (after_call f chunk (Some frame)) (left ∷ chunks) frames new behind → YieldsFrames f (chunk ∷ chunks) (frame ∷ frames) new behind
+  yielded : (f new : TcFraming) (chunk frame left behind : List ℕ) (chunks frames : List (List ℕ))
+      → YieldsFrame f chunk frame left
+      → YieldsFrames (after_call f chunk (Some frame)) (left ∷ chunks) frames new behind
+      → YieldsFrames f (chunk ∷ chunks) (frame ∷ frames) new behind
   -- a call yields no frame, what is left of the chunk isn't taken, and the next chunk is given
   paused : (f new : TcFraming) (chunk left behind : List ℕ) (chunks frames : List (List ℕ)) → YieldsNone f chunk left
-      → YieldsFrames (after_call f chunk None) chunks frames new behind → YieldsFrames f (chunk ∷ chunks) frames new (left ++ behind)
+      → YieldsFrames (after_call f chunk None) chunks frames new behind
+      → YieldsFrames f (chunk ∷ chunks) frames new (left ++ behind)
 
 -- ---- laws
 
 -- Octets begin with a frame of `len` octets, by its frame length field.
 abbrev pub BeginsWith : TcFormat → List ℕ → ℕ → Type 0
 BeginsWith format octets len =
-    (frame : List ℕ) × (later : List ℕ) × (octets ≡ frame ++ later) × (is_cut format frame ≡ true) × (length frame ≡ len)
+    (frame : List ℕ) × (later : List ℕ) × (octets ≡ frame ++ later) × (is_cut format frame ≡ true)
+    × (length frame ≡ len)
 
 -- The front of octets is a whole frame of `len` octets exactly where the octets begin with a frame
 -- of this length.
 abbrev pub FrontsAreFrames : Type 0
 FrontsAreFrames =
-    (format : TcFormat) (octets : List ℕ) (len : ℕ) → IsOctets octets → (front_of format octets ≡ WholeFrame len) ↔ BeginsWith format octets len
+    (format : TcFormat) (octets : List ℕ) (len : ℕ) → IsOctets octets
+    → (front_of format octets ≡ WholeFrame len) ↔ BeginsWith format octets len
 
 -- After a stated length below the least no frame begins here, whatever follows.
 abbrev pub NoneFollowsBelowLeast : Type 0
 NoneFollowsBelowLeast =
-    (format : TcFormat) (octets more : List ℕ) (len : ℕ) → IsOctets (octets ++ more) → front_of format octets ≡ BelowLeast
+    (format : TcFormat) (octets more : List ℕ) (len : ℕ) → IsOctets (octets ++ more)
+    → front_of format octets ≡ BelowLeast
     → BeginsWith format (octets ++ more) len → ⊥
 
 -- The recording is the chunks end to end. The frames that the framer yields are the recording's
@@ -197,4 +206,5 @@ IncompleteBecomesFrame =
 abbrev pub AnyChunksAreTaken : Type 0
 AnyChunksAreTaken =
     (format : TcFormat) (chunks : List (List ℕ))
-    → (frames : List (List ℕ)) × (new : TcFraming) × (behind : List ℕ) × YieldsFrames (at_start format) chunks frames new behind
+    → (frames : List (List ℕ)) × (new : TcFraming) × (behind : List ℕ)
+    × YieldsFrames (at_start format) chunks frames new behind

@@ -40,7 +40,8 @@ NumbersAreAdded = (vcs : List ℕ) (vc v : ℕ) → has_vc (with_vc vcs vc) v �
 -- Numbers that rise strictly from `least` to 63 still do so where another number in this range is
 -- added.
 abbrev pub AddedNumbersRise : Type 0
-AddedNumbersRise = (least : ℕ) (vcs : List ℕ) (vc : ℕ) → AreRising least vcs → least ≤ vc → vc ≤ 63 → AreRising least (with_vc vcs vc)
+AddedNumbersRise =
+    (least : ℕ) (vcs : List ℕ) (vc : ℕ) → AreRising least vcs → least ≤ vc → vc ≤ 63 → AreRising least (with_vc vcs vc)
 
 -- A text lists numbers in at most one way.
 abbrev pub ListsOnce : Type 0

@@ -20,11 +20,13 @@ other_above vc first high = ne_eqb vc first (λ e. lt_irrefl first (subst (λ n.
 pub none_below : (first : ℕ) (flags : List Bool) (vc : ℕ) → vc < first → has_vc (numbers_from first flags) vc ≡ false
 none_below first [] vc low = refl
 none_below first (true ∷ flags) vc low =
-    ap (λ same. same || has_vc (numbers_from (suc first) flags) vc) (other vc first low) ∙ none_below (suc first) flags vc (lt_trans low (lt-suc_self first))
+    ap (λ same. same || has_vc (numbers_from (suc first) flags) vc) (other vc first low)
+    ∙ none_below (suc first) flags vc (lt_trans low (lt-suc_self first))
 none_below first (false ∷ flags) vc low = none_below (suc first) flags vc (lt_trans low (lt-suc_self first))
 
 -- a number below the first one sets none of these flags
-passed : (count first : ℕ) (vc : ℕ) (vcs : List ℕ) → vc < first → flags_from count first (vc ∷ vcs) ≡ flags_from count first vcs
+passed : (count first : ℕ) (vc : ℕ) (vcs : List ℕ) → vc < first
+    → flags_from count first (vc ∷ vcs) ≡ flags_from count first vcs
 unfolding flags_from
 passed zero first vc vcs low = refl
 passed (suc count) first vc vcs low =
@@ -36,10 +38,14 @@ flags_of : (first : ℕ) (flags : List Bool) → flags_from (length flags) first
 unfolding flags_from
 flags_of first [] = refl
 flags_of first (true ∷ flags) =
-    ap (λ same. (same || has_vc (numbers_from (suc first) flags) first) ∷ flags_from (length flags) (suc first) (first ∷ numbers_from (suc first) flags)) (eq-eqb first first refl)
-    ∙ ap (λ l. true ∷ l) (passed (length flags) (suc first) first (numbers_from (suc first) flags) (lt-suc_self first) ∙ flags_of (suc first) flags)
+    ap (λ same. (same || has_vc (numbers_from (suc first) flags) first)
+    ∷ flags_from (length flags) (suc first) (first ∷ numbers_from (suc first) flags)) (eq-eqb first first refl)
+    ∙ ap (λ l. true ∷ l)
+    (passed (length flags) (suc first) first (numbers_from (suc first) flags) (lt-suc_self first)
+    ∙ flags_of (suc first) flags)
 flags_of first (false ∷ flags) =
-    ap (λ has. has ∷ flags_from (length flags) (suc first) (numbers_from (suc first) flags)) (none_below (suc first) flags first (lt-suc_self first))
+    ap (λ has. has ∷ flags_from (length flags) (suc first) (numbers_from (suc first) flags))
+    (none_below (suc first) flags first (lt-suc_self first))
     ∙ ap (λ l. false ∷ l) (flags_of (suc first) flags)
 
 -- the 64 flags of a set come back from its numbers

@@ -35,7 +35,7 @@ pub const CHANNELS: u16 = 4096;
 /// this project's own order (docs/normal-form.md). In clauses the form is the list of its octets
 /// that are still to come.
 ///
-/// A piece is the next octets of the form, 1 to [`PIECE_ROOM`]. By the code each piece is the
+/// A piece is the next octets of the form, 1 to [`PIECE_ROOM`]. In the code each piece is the
 /// frames of one packet; no clause says so.
 #[derive(Drop)]
 pub struct TcForm<'d> {

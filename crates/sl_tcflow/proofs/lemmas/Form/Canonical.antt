@@ -30,7 +30,7 @@ normal_form_is_frames format spacecraft starts plain lists is known are fits = s
 pub no_frame_is_long : NoFrameIsLong
 no_frame_is_long format spacecraft starts plain lists is known are fits = form_within format spacecraft is known starts plain lists are fits
 
--- which are those that are read
+-- what is read of the normal form is what is read of its frames
 pub views_are : (format : TcFormat) (spacecraft : ℕ) (starts plain : List ℕ) (lists : List (List (List ℕ))) → IsFormat format → spacecraft ≤ 1023 → AreDeliverable lists
     → FitsTc format plain lists
     → recorded_views format spacecraft (tc_normal_form_of format spacecraft starts plain lists) ≡ views_of format spacecraft (tc_frames_form format spacecraft starts plain lists)

@@ -36,7 +36,7 @@ divided room map_id (packet ∷ packets) some small each =
     more packet (units_of_packet false room map_id packet) packets (flat_map (units_of_packet false room map_id) packets)
     (each_is_divided room map_id packet some small (packet_size packet each.0).0) (divided room map_id packets some small each.1)
 
--- without them each packet is one segment
+-- without segment headers each packet is one segment
 one_segment : (room : ℕ) (packet : List ℕ) → 0 < length packet → length packet ≤ room → IsDividedInto room 0 packet (whole_segment packet ∷ [])
 one_segment room packet some short =
     let is = plain_unit_is_whole packet in

@@ -40,13 +40,13 @@ maps_rise : (room map_id : ℕ) (lists : List (List (List ℕ))) → map_id + le
 maps_rise room map_id [] few = tt
 maps_rise room map_id (packets ∷ lists) few = grind (arith, common_steps, flat_units, then_later, on_one_map, lower, maps_rise room (map_id + 1) lists (omega arith))
 
--- the units are those that the frames are read with
+-- the MAPs of the frames are those of their units
 maps_of_views : (b : Bool) (vc ns : ℕ) (units : List (List ℕ))
     → map (λ (view : TcView). map_of b view.content) (views_from vc ns units) ≡ map (λ unit. map_of b (Ad 0 unit)) units
 maps_of_views b vc ns [] = refl
 maps_of_views b vc ns (unit ∷ units) = ap (λ l. map_of b (Ad 0 unit) ∷ l) (maps_of_views b vc (ns + 1) units)
 
--- without segment headers all are on MAP 0
+-- without segment headers all units are on MAP 0
 all_on_none : (units : List (List ℕ)) → NeverFall 0 (map (λ unit. map_of true (Ad 0 unit)) units)
 all_on_none [] = tt
 all_on_none (unit ∷ units) = (omega arith, all_on_none units)
@@ -57,7 +57,7 @@ maps_on false room lists few = maps_rise room 0 lists (omega arith)
 
 -- ---- N(S)
 
--- each frame carries its own
+-- each frame is of type AD and has the N(S) of its place
 ns_of : (vc ns : ℕ) (units : List (List ℕ)) (before later : List TcView) (view : TcView) → views_from vc ns units ≡ before ++ view ∷ later
     → (unit : List ℕ) × (view.content ≡ Ad ((ns + length before) % 256) unit)
 ns_of vc ns [] [] later view is = cc

@@ -45,7 +45,7 @@ most = 65542
 one_part : (packet : List ℕ) → IsPacket packet → segment_count most packet ≡ 1
 one_part packet is = let size = packet_size packet is in omega (arith, size.0, size.1)
 
--- a packet is one segment with no segmentation, where it has room
+-- a packet that fits is one segment with no segmentation
 whole_part : (packet : List ℕ) → IsPacket packet → segments_of_packet most 0 packet ≡ (record { flags = 3; map = 0 }, packet) ∷ []
 whole_part packet is =
     let one = one_part packet is in

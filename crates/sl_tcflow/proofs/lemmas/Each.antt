@@ -41,9 +41,9 @@ module _ {X : Type 0} (key : X → ℕ) (f : ℕ → List X) (each : (i : ℕ) �
 pub short_all : {X : Type 0} (f : X → List ℕ) (size : X → ℕ) → ((x : X) → length (f x) ≡ size x) → (n : ℕ) (xs : List X)
     → AllByRecursion (λ x. size x ≤ n) xs → AllByRecursion (λ l. length l ≤ n) (map f xs)
 short_all f size same n [] each = tt
-short_all f size same n (x ∷ xs) each = (let e = same x in let low = each.0 in omega (arith, e, low), short_all f size same n xs each.1)
+short_all f size same n (x ∷ xs) each = (let size_is = same x in let low = each.0 in omega (arith, size_is, low), short_all f size same n xs each.1)
 
 pub all_short : {X : Type 0} (f : X → List ℕ) (size : X → ℕ) → ((x : X) → length (f x) ≡ size x) → (n : ℕ) (xs : List X)
     → AllByRecursion (λ l. length l ≤ n) (map f xs) → AllByRecursion (λ x. size x ≤ n) xs
 all_short f size same n [] each = tt
-all_short f size same n (x ∷ xs) each = (let e = same x in let low = each.0 in omega (arith, e, low), all_short f size same n xs each.1)
+all_short f size same n (x ∷ xs) each = (let size_is = same x in let low = each.0 in omega (arith, size_is, low), all_short f size same n xs each.1)

@@ -40,21 +40,21 @@ tail_ending : (list : List (List ℕ)) (next : List ℕ) (s : SeriesAt) → seri
 tail_ending list next s one = ap (λ l. length (left_of l)) (ending_is list next ∙ one) ∙ ap length (append-nil (left_in s.segments))
 
 pub tail_is_told : TailIsTold
-tail_is_told list next count x =
+tail_is_told list next count tail =
     let now = series_ending 0 list next in
-    let octets = reassembled x.ended.segments in
-    let listed : Contains (series_of list ++ now) x.ended =
-    subst (λ l. Contains l x.ended) (series_next 0 list next) (each_series_is_listed (list ++ next ∷ []) x.ended x.series) in
-    let ending : Contains now x.ended =
-    elim (Contains-append_cases (series_of list) now x.ended listed) [
+    let octets = reassembled tail.ended.segments in
+    let listed : Contains (series_of list ++ now) tail.ended =
+    subst (λ l. Contains l tail.ended) (series_next 0 list next) (each_series_is_listed (list ++ next ∷ []) tail.ended tail.series) in
+    let ending : Contains now tail.ended =
+    elim (Contains-append_cases (series_of list) now tail.ended listed) [
       | inl earlier ↦
-          let within = series_within list x.ended (each-contained (IsSeriesOf list) (series_of list) x.ended (each_is_series list) earlier) in
-          absurd (omega (arith, x.here, within))
+          let within = series_within list tail.ended (each-contained (IsSeriesOf list) (series_of list) tail.ended (each_is_series list) earlier) in
+          absurd (omega (arith, tail.here, within))
       | inr later ↦ later
     ] in
-    tail_ending list next x.ended (only_one now x.ended (ending_one 0 list next) ending)
-    ∙ ap (λ b. length (if b then rest_of octets else [])) (le-leb (length octets) 65542 x.fits)
-    ∙ ap length (has_packets_once octets x.packets x.left x.are_packets).1 ∙ sym x.count_is
+    tail_ending list next tail.ended (only_one now tail.ended (ending_one 0 list next) ending)
+    ∙ ap (λ b. length (if b then rest_of octets else [])) (le-leb (length octets) 65542 tail.fits)
+    ∙ ap length (has_packets_once octets tail.packets tail.left tail.are_packets).1 ∙ sym tail.count_is
 
 -- ---- the report on octets that are left
 

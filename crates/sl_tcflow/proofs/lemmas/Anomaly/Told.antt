@@ -21,7 +21,7 @@ use Rattle.std.proofs.lemmas.Bool.{and_parts}
 -- without an accepted unit nothing is reported
 pub told_none : {X : Type 0} (none : X) (told : List (List ℕ) → List ℕ → X) (r : ReceptionParameters) (views : List TcView) (next : TcView)
     → segment_by r views next ≡ [] → of_accepted none told r views next ≡ none
-told_none none told r views next e = ap (of_segment none (told (segments_of r next.vc (map_by r next) views))) e
+told_none none told r views next no_segment = ap (of_segment none (told (segments_of r next.vc (map_by r next) views))) no_segment
 
 -- with an accepted unit, the report depends on the series that is incomplete at the unit's index
 module _ (r : ReceptionParameters) (old : List (Option (List ℕ))) (views : List TcView) (next : TcView) (unit : List ℕ) where
@@ -49,54 +49,54 @@ begins_is next is = grind arith
 
 -- one of two numbers
 one_of : (n a b : ℕ) → (n == a || n == b) ≡ true → (n ≡ a) ⊎ (n ≡ b)
-one_of n a b e = grind (arith, eqb_tells, eqb-true)
+one_of n a b either = grind (arith, eqb_tells, eqb-true)
 
 -- ---- out of sequence
 
 none_told : (list : List (List ℕ)) (held : Option (List ℕ)) → incomplete_of list ≡ held → ((octets : List ℕ) → IsIncomplete list octets → ⊥) → is_none held ≡ true
-none_told list None e none = refl
-none_told list (Some octets) e none = absurd (none octets (what_is_told_is_incomplete list octets e))
+none_told list None held_is none = refl
+none_told list (Some octets) held_is none = absurd (none octets (what_is_told_is_incomplete list octets held_is))
 
 pub stray_is_told : StrayIsTold
-stray_is_told list next x = ap (λ b. b && is_none (incomplete_of list)) (continues_is next x.goes_on) ∙ none_told list (incomplete_of list) refl x.none
+stray_is_told list next stray = ap (λ b. b && is_none (incomplete_of list)) (continues_is next stray.goes_on) ∙ none_told list (incomplete_of list) refl stray.none
 
 pub what_is_told_is_stray : WhatIsToldIsStray
-what_is_told_is_stray list next e =
-    let (test, none) = and_parts (continues next) (is_none (incomplete_of list)) e in
+what_is_told_is_stray list next told =
+    let (test, none) = and_parts (continues next) (is_none (incomplete_of list)) told in
     record {
       goes_on = one_of (flags_of next) 0 2 test;
-      none = λ octets x. let both : false ≡ true = sym (ap is_none (incomplete_is_told list octets x)) ∙ none in absurd (cc);
+      none = λ octets incomplete. let both : false ≡ true = sym (ap is_none (incomplete_is_told list octets incomplete)) ∙ none in absurd (cc);
     }
 
 -- ---- dropped
 
 pub dropped_is_told : DroppedIsTold
-dropped_is_told list next count x =
-    ap (λ b. if b then octets_held list else None) (begins_is next x.anew)
-    ∙ ap (option_map length) (incomplete_is_told list x.octets x.incomplete) ∙ ap Some (sym x.count_is)
+dropped_is_told list next count dropped =
+    ap (λ b. if b then octets_held list else None) (begins_is next dropped.anew)
+    ∙ ap (option_map length) (incomplete_is_told list dropped.octets dropped.incomplete) ∙ ap Some (sym dropped.count_is)
 
 some_if : (b : Bool) (held : Option ℕ) (count : ℕ) → (if b then held else None) ≡ Some count → (b ≡ true) × (held ≡ Some count)
-some_if b held count e = grind arith
+some_if b held count held_if = grind arith
 
 -- the series whose octets are counted
 some_held : (list : List (List ℕ)) (held : Option (List ℕ)) (count : ℕ) → incomplete_of list ≡ held → option_map length held ≡ Some count
     → (octets : List ℕ) × IsIncomplete list octets × (count ≡ length octets)
-some_held list held count e counted = grind (arith, what_is_told_is_incomplete)
+some_held list held count held_is counted = grind (arith, what_is_told_is_incomplete)
 
 pub what_is_told_is_dropped : WhatIsToldIsDropped
-what_is_told_is_dropped list next count e = grind (arith, some_if, some_held, one_of)
+what_is_told_is_dropped list next count told = grind (arith, some_if, some_held, one_of)
 
 -- ---- too long
 
 pub long_is_told : LongIsTold
-long_is_told list next x =
-    ap (λ b. b && exceeds_limit (octets_held list) (length (segment_data next))) (continues_is next x.goes_on)
-    ∙ ap (λ held. exceeds_limit (option_map length held) (length (segment_data next))) (incomplete_is_told list x.octets x.incomplete)
-    ∙ lt-ltb 65542 (length x.octets + length (segment_data next)) x.too_many
+long_is_told list next long =
+    ap (λ b. b && exceeds_limit (octets_held list) (length (segment_data next))) (continues_is next long.goes_on)
+    ∙ ap (λ held. exceeds_limit (option_map length held) (length (segment_data next))) (incomplete_is_told list long.octets long.incomplete)
+    ∙ lt-ltb 65542 (length long.octets + length (segment_data next)) long.too_many
 
 some_passes : (list : List (List ℕ)) (held : Option (List ℕ)) (more : ℕ) → incomplete_of list ≡ held → exceeds_limit (option_map length held) more ≡ true
     → (octets : List ℕ) × IsIncomplete list octets × (65542 < length octets + more)
-some_passes list held more e over = grind (arith, what_is_told_is_incomplete, ltb-true)
+some_passes list held more held_is over = grind (arith, what_is_told_is_incomplete, ltb-true)
 
 pub what_is_told_is_long : WhatIsToldIsLong
-what_is_told_is_long list next e = grind (arith, and_parts, some_passes, one_of)
+what_is_told_is_long list next told = grind (arith, and_parts, some_passes, one_of)

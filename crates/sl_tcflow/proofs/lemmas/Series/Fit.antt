@@ -22,8 +22,8 @@ pub extended_fits : (before octets : List ℕ) → extended (if_fits before) oct
 extended_fits before octets = grind (arith, leb_tells, fits_some, fits_none, length-append)
 
 fits_test : (b : Bool) (octets others : List ℕ) → (if b then Some octets else None) ≡ Some others → (b ≡ true) × (octets ≡ others)
-fits_test b octets others e = grind arith
+fits_test b octets others fit = grind arith
 
 -- the octets that fit, and their length
 pub fits_are : (octets others : List ℕ) → if_fits octets ≡ Some others → (octets ≡ others) × (length others ≤ 65542)
-fits_are octets others e = grind (arith, fits_test, leb_tells)
+fits_are octets others fit = grind (arith, fits_test, leb_tells)

@@ -11,9 +11,9 @@ use Rattle.std.proofs.lemmas.Bool.{and_left, and_parts, and_right}
 -- ---- continuing segments
 
 pub continuing_each : (later : List (List ℕ)) → are_continuing later ≡ true → AllByRecursion IsContinuing later
-continuing_each [] e = tt
-continuing_each (segment ∷ later) e =
-    let (this, rest) = and_parts (flags_of segment == 0) (are_continuing later) e in
+continuing_each [] continuing = tt
+continuing_each (segment ∷ later) continuing =
+    let (this, rest) = and_parts (flags_of segment == 0) (are_continuing later) continuing in
     (eqb-true (flags_of segment) 0 this, continuing_each later rest)
 
 pub each_continuing : (later : List (List ℕ)) → AllByRecursion IsContinuing later → are_continuing later ≡ true
@@ -29,14 +29,14 @@ not_continuing (segment ∷ earlier) first later begins = grind (arith, and_righ
 
 told_first : (list earlier : List (List ℕ)) (first : List ℕ) (later : List (List ℕ)) (octets : List ℕ) → list ≡ earlier ++ first ∷ later
     → flags_of first ≡ 1 → are_continuing later ≡ true → if_fits (reassembled (first ∷ later)) ≡ Some octets → IsIncomplete list octets
-told_first list earlier first later octets all begins continuing e = grind (arith, fits_are, continuing_each)
+told_first list earlier first later octets all begins continuing fit = grind (arith, fits_are, continuing_each)
 
 told_from : (list earlier part : List (List ℕ)) (octets : List ℕ) → list ≡ earlier ++ part → incomplete_of part ≡ Some octets → IsIncomplete list octets
-told_from list earlier [] octets all e = absurd (cc)
-told_from list earlier (segment ∷ later) octets all e = grind (arith, append_assoc, and_parts, told_first, eqb-true, told_from list (earlier ++ segment ∷ []) later octets (all ∙ sym (append_assoc earlier (segment ∷ []) later)))
+told_from list earlier [] octets all told = absurd (cc)
+told_from list earlier (segment ∷ later) octets all told = grind (arith, append_assoc, and_parts, told_first, eqb-true, told_from list (earlier ++ segment ∷ []) later octets (all ∙ sym (append_assoc earlier (segment ∷ []) later)))
 
 pub what_is_told_is_incomplete : WhatIsToldIsIncomplete
-what_is_told_is_incomplete list octets e = told_from list [] list octets refl e
+what_is_told_is_incomplete list octets told = told_from list [] list octets refl told
 
 -- ---- a series that is incomplete
 
@@ -46,7 +46,7 @@ told_later [] first later begins continuing = grind (arith, eq-eqb)
 told_later (segment ∷ earlier) first later begins continuing = grind (arith, not_continuing, told_later earlier first later begins continuing)
 
 pub incomplete_is_told : IncompleteIsTold
-incomplete_is_told list octets x = grind (arith, told_later, each_continuing, fits_some)
+incomplete_is_told list octets incomplete = grind (arith, told_later, each_continuing, fits_some)
 
 -- a first segment isn't among the segments that follow another first one in its series
 first_is_not_later : (earlier later : List (List ℕ)) (first : List ℕ) (earlier' later' : List (List ℕ)) (first' : List ℕ)
@@ -56,23 +56,23 @@ first_is_not_later [] later first (segment ∷ earlier') later' first' same cont
 first_is_not_later (segment ∷ earlier) later first [] later' first' same continuing begins less = absurd (omega arith)
 first_is_not_later (segment ∷ earlier) later first (other ∷ earlier') later' first' same continuing begins less = grind (arith, first_is_not_later earlier later first earlier' later' first' (cc) continuing begins (omega arith))
 
-not_later : (list : List (List ℕ)) (octets others : List ℕ) (x : IsIncomplete list octets) (y : IsIncomplete list others)
-    → length x.earlier < length y.earlier → ⊥
-not_later list octets others x y less = grind (arith, first_is_not_later, each_continuing)
+not_later : (list : List (List ℕ)) (octets others : List ℕ) (one : IsIncomplete list octets) (other : IsIncomplete list others)
+    → length one.earlier < length other.earlier → ⊥
+not_later list octets others one other less = grind (arith, first_is_not_later, each_continuing)
 
 pub one_begins : OneBegins
-one_begins list octets others x y =
-    elim (cases_lt (length x.earlier) (length y.earlier)) [
-      | inl before ↦ absurd (not_later list octets others x y before)
-      | inr by_then ↦ elim (cases_lt (length y.earlier) (length x.earlier)) [
-        | inl after ↦ absurd (not_later list others octets y x after)
+one_begins list octets others one other =
+    elim (cases_lt (length one.earlier) (length other.earlier)) [
+      | inl before ↦ absurd (not_later list octets others one other before)
+      | inr by_then ↦ elim (cases_lt (length other.earlier) (length one.earlier)) [
+        | inl after ↦ absurd (not_later list others octets other one after)
         | inr same ↦ omega arith
       ]
     ]
 
 pub one_is_incomplete : OneIsIncomplete
-one_is_incomplete list octets others x y =
-    let both : Some octets ≡ Some others = sym (incomplete_is_told list octets x) ∙ incomplete_is_told list others y in cc
+one_is_incomplete list octets others one other =
+    let both : Some octets ≡ Some others = sym (incomplete_is_told list octets one) ∙ incomplete_is_told list others other in cc
 
 pub incomplete_fits : IncompleteFits
-incomplete_fits list octets e = (what_is_told_is_incomplete list octets e).fits
+incomplete_fits list octets told = (what_is_told_is_incomplete list octets told).fits

@@ -187,8 +187,8 @@ listed_from n k (segment ∷ earlier) segments behind here s =
     (listed_from (n + 1) k earlier segments behind (omega (arith, here)) s)
 
 pub each_series_is_listed : EachSeriesIsListed
-each_series_is_listed list s x =
-    subst (λ l. Contains (series_of l) s) (sym x.in_order) (listed_from 0 s.before x.earlier s.segments x.later (omega (arith, x.here)) x.series)
+each_series_is_listed list s is_series =
+    subst (λ l. Contains (series_of l) s) (sym is_series.in_order) (listed_from 0 s.before is_series.earlier s.segments is_series.later (omega (arith, is_series.here)) is_series.series)
 
 -- ---- series are apart
 

@@ -129,12 +129,12 @@ series_next before (segment ∷ later) next = grind (arith, and_parts, ends_here
 -- ---- where series end
 
 pub series_within : (list : List (List ℕ)) (s : SeriesAt) → IsSeriesOf list s → past s ≤ length list
-series_within list s x = grind (arith, length-append)
+series_within list s is_series = grind (arith, length-append)
 
 pub each_ending : (number before : ℕ) (list : List (List ℕ)) (next : List ℕ) → number ≡ before + length list + 1
     → AllByRecursion (λ (s : SeriesAt). (past s == number) ≡ true) (series_ending before list next)
-each_ending number before [] next so_many = grind (arith, eq-eqb)
-each_ending number before (segment ∷ later) next so_many = grind (arith, eq-eqb, length_push, each_ending number (before + 1) later next (omega (arith, so_many)))
+each_ending number before [] next number_is = grind (arith, eq-eqb)
+each_ending number before (segment ∷ later) next number_is = grind (arith, eq-eqb, length_push, each_ending number (before + 1) later next (omega (arith, number_is)))
 
 pub ending_is : (list : List (List ℕ)) (next : List ℕ)
     → filter (λ (s : SeriesAt). past s == length list + 1) (series_of (list ++ next ∷ [])) ≡ series_ending 0 list next

@@ -125,11 +125,12 @@ long_by r views next = of_accepted false long_of r views next
 abbrev pub tail_by : ReceptionParameters → List TcView → TcView → ℕ
 tail_by r views next = of_accepted 0 tail_of r views next
 
--- What the report on the next frame says apart from its MAP and its packets: the verdict on the
--- frame, and the anomalies of its unit. Only contracts of private functions cite this record.
+-- What the report on the next frame says apart from packets: the verdict on the frame, the MAP of
+-- its unit, and the unit's anomalies. Only contracts of private functions cite this record.
 pub record IsReportedOf (r : ReceptionParameters) (views : List TcView) (next : TcView) (step : StepReport)
     : Type 0 where
   pub verdict : step.verdict ≡ verdict_on r views next
+  pub map : step.map ≡ map_by r next
   pub stray : step.stray ≡ stray_by r views next
   pub dropped : step.dropped ≡ dropped_by r views next
   pub long : step.long ≡ long_by r views next

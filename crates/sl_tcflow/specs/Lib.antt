@@ -15,6 +15,8 @@ pub mod Reception
 pub mod ReceptionParameters
 pub mod Recording
 pub mod ReorderedUnits
+pub mod Segment
+pub mod SegmentModel
 pub mod Series
 pub mod SeriesStore
 pub mod SeriesStoreModel

@@ -11,13 +11,9 @@ use Rattle.sl_tcflow.specs.Farms.{HaveStepped, verdict_on}
 use Rattle.sl_tcflow.specs.Incomplete.{incomplete_of}
 use Rattle.sl_tcflow.specs.Reception.{packets_ended, segments_of}
 use Rattle.sl_tcflow.specs.ReceptionParameters.{ReceptionParameters, is_plain}
-use Rattle.sl_tcflow.specs.Recording.{packets_of_channel}
+use Rattle.sl_tcflow.specs.Recording.{channel_at, packets_of_channel}
 use Rattle.sl_tcflow.specs.Series.{header_at, segment_in}
 use Rattle.sl_tcflow.specs.SeriesStore.{IncompleteSeries}
-
--- the channel of a virtual channel and a MAP
-abbrev pub channel_at : ℕ → ℕ → ℕ
-channel_at vc map_id = 64 * vc + map_id
 
 -- The state of a receiver: FARM-1 of each virtual channel; the virtual channels without segment
 -- headers; the series that are incomplete; and whether a fault came.
@@ -104,8 +100,7 @@ abbrev pub ForIncomplete :
     Bool → List (Option (List ℕ)) → Verdict → TcView → (ReceptionParameters → List TcView → Type 0) → Type 0
 ForIncomplete plain incomplete verdict next holds =
     (r : ReceptionParameters) (views : List TcView) → plain ≡ is_plain r next.vc → AreIncomplete r incomplete views
-    → verdict ≡ verdict_on r views next
-    → holds r views
+    → verdict ≡ verdict_on r views next → holds r views
 
 -- the next frame's unit is accepted, and on its MAP a series is incomplete before the next frame or
 -- after it

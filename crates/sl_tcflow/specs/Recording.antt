@@ -1,6 +1,6 @@
 -- The packets that a recording of TC frames delivers on each virtual channel and MAP, CCSDS 232.0-B
 -- and 232.1-B: those of the units that FARM-1 accepts.
-use Rattle.std.specs.Prelude.{ℕ, ◌/◌, ◌%◌, List, map}
+use Rattle.std.specs.Prelude.{ℕ, ◌+◌, ◌*◌, ◌/◌, ◌%◌, List, map}
 use Rattle.std.specs.List.{range_with_len}
 use Rattle.sl_packet.specs.Delivered.{channel_count}
 use Rattle.sl_packet.specs.Packets.{without_idle}
@@ -13,6 +13,10 @@ use Rattle.sl_tcflow.specs.ReceptionParameters.{ReceptionParameters}
 -- what is read of the frames of a recording, skipped frames left out
 abbrev pub recorded_views : TcFormat → ℕ → List ℕ → List TcView
 recorded_views format spacecraft recording = views_of format spacecraft (tc_frames_of format recording)
+
+-- the channel of a virtual channel and a MAP
+abbrev pub channel_at : ℕ → ℕ → ℕ
+channel_at vc map_id = 64 * vc + map_id
 
 -- the channels of all MAPs, in order: virtual channel v and MAP m have the channel 64 v + m
 unfoldable pub map_channels : List ℕ

@@ -16,10 +16,9 @@ use Rattle.sl_packet.specs.Packets.{without_idle}
 use Rattle.sl_tcframe.specs.TcFrame.{TcFormat, TcView, Ad, Bd, Unlock}
 use Rattle.sl_tcflow.specs.AcceptedUnit.{accepted_ad_units, accepted_units, views_on, event_of, farm_after}
 use Rattle.sl_tcflow.specs.Farms.{HaveStepped, farm_at_start}
-use Rattle.sl_tcflow.specs.Receiver.{channel_at}
 use Rattle.sl_tcflow.specs.Reception.{packets_of_segments, segments_of}
 use Rattle.sl_tcflow.specs.ReceptionParameters.{ReceptionParameters, is_plain, initial_vr}
-use Rattle.sl_tcflow.specs.Recording.{recorded_views, tc_lists}
+use Rattle.sl_tcflow.specs.Recording.{channel_at, recorded_views, tc_lists}
 use Rattle.sl_tcflow.specs.Series.{segment_in, segments_on}
 
 -- the sent unit with this index, from 0 on

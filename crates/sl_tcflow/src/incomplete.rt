@@ -78,23 +78,20 @@ impl Incomplete {
         segment: &Segment,
         sink: &mut S,
     ) -> Result<TcStep, FlowFault>
-        requires flags { segment.now.flags ≤ 3 }
-        requires short { length segment.now.octets.now ≤ longest_unit }
-        requires channel { segment.now.channel < channel_count }
         // The series continues, begins or ends as the sequence flags say.
         ensures state { OnOk result (self.new
-            ≡ incomplete_with self.old segment.now.flags segment.now.octets.now) }
+            ≡ incomplete_with self.old segment.now.flags segment.now.octets) }
 
         // The sink is handed the packets that end with the segment, and the step reports them.
         ensures hands_over { HandsOver S.taking S.failing S.failures counts_of
             sink.old segment.now.channel
-            (packets_with self.old segment.now.flags segment.now.octets.now) result sink.new }
+            (packets_with self.old segment.now.flags segment.now.octets) result sink.new }
         ensures step { IfOk result
-            (IsReported self.old segment.now.flags segment.now.octets.now) }
+            (IsReported self.old segment.now.flags segment.now.octets) }
 
         // Memory is refused only where a series is incomplete, before the segment or after it.
         ensures memory { IfErr result (λ flow. flow ≡ FlowFault.Memory → (self.old ≢ None)
-            ⊎ (incomplete_with self.old segment.now.flags segment.now.octets.now ≢ None)) }
+            ⊎ (incomplete_with self.old segment.now.flags segment.now.octets ≢ None)) }
     {
         match segment.flags {
             CONTINUING => self.extend(segment.octets),

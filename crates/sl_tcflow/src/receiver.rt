@@ -1,33 +1,32 @@
 //! Packets from the frames that FARM-1 accepts.
-ghost use Rattle.std.specs.Prelude.{◌≡◌, ◌≢◌, ◌≤◌, ◌<◌, ◌+◌, ◌++◌, ◌∷◌, [], ℕ, Bool, List};
-ghost use Rattle.std.specs.Prelude.{length, is_some, OnOk, IfOk, IfErr, IfSome, IfNone, None, Err};
+ghost use Rattle.std.specs.Prelude.{◌≡◌, ◌≢◌, ◌≤◌, ◌+◌, ◌++◌, ◌∷◌, [], ℕ, List};
+ghost use Rattle.std.specs.Prelude.{length, is_some, OnOk, IfOk, IfErr, None, Err};
 ghost use Rattle.sl_cop.specs.FarmClcw.{clcw_of};
 ghost use Rattle.sl_packet.specs.Packets.{only_idle, without_idle};
 ghost use Rattle.sl_packet.specs.Sink.{TakesAll};
 ghost use Rattle.sl_packet.specs.Stopping.{CountsFault, HandsOver, IsStopped};
-ghost use Rattle.sl_tcframe.specs.TcContent.{content};
-ghost use Rattle.sl_tcframe.specs.TcFrame.{TcView, IsContent, longest_unit};
-ghost use Rattle.sl_tcflow.specs.AcceptedUnit.{unit_by};
+ghost use Rattle.sl_tcframe.specs.TcFrame.{TcView};
 ghost use Rattle.sl_tcflow.specs.Anomaly.{IsReportedOf, dropped_by, held_of, long_by, stray_by};
 ghost use Rattle.sl_tcflow.specs.Anomaly.{tail_by};
 ghost use Rattle.sl_tcflow.specs.Farms.{farm_of, verdict_on};
 ghost use Rattle.sl_tcflow.specs.Incomplete.{incomplete_of};
 ghost use Rattle.sl_tcflow.specs.Receiver.{ForProcessed, HasProcessed, IsFailed, HasFailedAfter};
 ghost use Rattle.sl_tcflow.specs.Receiver.{ForIncomplete, IsIncompleteAround, AreIncomplete};
-ghost use Rattle.sl_tcflow.specs.Receiver.{channel_at, map_by, map_of, ended_by, unit_channel};
+ghost use Rattle.sl_tcflow.specs.Receiver.{map_by, ended_by, unit_channel};
 ghost use Rattle.sl_tcflow.specs.Reception.{segments_of};
 ghost use Rattle.sl_tcflow.specs.ReceptionParameters.{ReceptionParameters};
-ghost use Rattle.sl_tcflow.specs.Series.{header_at, segment_in};
+ghost use Rattle.sl_tcflow.specs.Recording.{channel_at};
+ghost use Rattle.sl_tcflow.specs.Segment.{accepted_segment, map_read};
 ghost use Rattle.sl_tcflow.specs.StepReport.{counts_of};
 
 use crate::farms::Farms;
 use crate::report::{EMPTY_STEP, TcStep};
-use crate::segment::segment_of;
+use crate::segment::{Segment, segment_of};
 use crate::series_store::SeriesStore;
 use sl_cop::{Starts, Verdict, Window};
-use sl_fields::{Clcw, SegmentHeader, front};
+use sl_fields::Clcw;
 use sl_packet::{FlowFault, PacketSink};
-use sl_tcframe::{TcContent, TcFrame, VcSet};
+use sl_tcframe::{TcFrame, VcSet};
 use std::alloc::Global;
 use std::marker::Model;
 
@@ -163,15 +162,14 @@ impl Receiver {
         self.has_failed = true;
         let verdict = self.farms.step(frame);
         let plain = self.plain.has(frame.vc());
-        let map = map_in(plain, &frame.content());
         // `match` and not `?`: `?` converts the fault, and each clause on faults would then have to
         // be proved by hand.
-        let reported = match take_unit(&mut self.series, plain, map, verdict, frame, sink) {
+        let step = match take_unit(&mut self.series, plain, verdict, frame, sink) {
             Ok(step) => step,
             Err(flow) => return Err(flow),
         };
         self.has_failed = false;
-        Ok(TcStep { map, ..reported })
+        Ok(step)
     }
 
     /// The Communications Link Control Word (CCSDS 232.0-B) of the virtual channel `vc`, 0 to 63.
@@ -233,38 +231,17 @@ impl Receiver {
     }
 }
 
-// The MAP of the unit that a frame carries, and 0 where the frame carries none. `plain` says that
-// the frame's virtual channel has no segment headers.
-#[inline(always)]
-fn map_in(plain: bool, carried: &TcContent) -> u8
-    requires { IsContent (content carried.now) }
-    ensures value { result ≡ map_of plain (content carried.now) }
-    ensures most { result ≤ 63 }
-{
-    if plain {
-        return 0;
-    }
-    match *carried {
-        TcContent::Ad { unit, .. } | TcContent::Bd { unit } => {
-            SegmentHeader::read(front::<1>(unit).0).map()
-        }
-        TcContent::Unlock | TcContent::SetVr(_) => 0,
-    }
-}
-
 // Takes the unit of a frame, if the frame carries one and this verdict accepts it. `plain` says
-// that the frame's virtual channel has no segment headers, and `map` is the MAP of the unit, 0
-// where there is none. The fault is `Memory` where memory was refused, and `Sink` where the sink refused
-// a packet.
+// that the frame's virtual channel has no segment headers. The fault is `Memory` where memory was
+// refused, and `Sink` where the sink refused a packet.
 fn take_unit<S: PacketSink>(
     series: &mut SeriesStore,
     plain: bool,
-    map: u8,
     verdict: Verdict,
     frame: &TcFrame,
     sink: &mut S,
 ) -> Result<TcStep, FlowFault>
-    requires map { map ≡ map_of plain frame.now.content }
+    requires { frame.now.vc ≤ 63 }
     // `r` and `views` in a clause are any parameters and any frames that may have come before and
     // led to these series and this verdict. The unit continues, ends or begins its series, its
     // packets are handed over, and the step reports them.
@@ -292,38 +269,40 @@ fn take_unit<S: PacketSink>(
     ensures counted { IfErr result (λ flow. CountsFault S.failures sink.old flow sink.new) }
     ensures not_failed { IfErr result (λ flow. flow ≢ FlowFault.Failed) }
 {
-    match accepted_unit(verdict, &frame.content()) {
-        Some(unit) => match series.take_segment(&segment_of(frame.vc(), plain, map, unit), sink) {
-            Ok(step) => Ok(step),
+    let segment = segment_of(frame, plain);
+    let map = map_in(&segment);
+    match accepted(verdict, segment) {
+        Some(segment) => match series.take_segment(&segment, sink) {
+            Ok(step) => Ok(TcStep { map, ..step }),
             Err(flow) => Err(flow),
         },
         None => Ok(TcStep {
             verdict,
+            map,
             ..EMPTY_STEP
         }),
     }
 }
 
-// The unit of a frame, where this verdict accepts it.
-fn accepted_unit<'a>(verdict: Verdict, carried: &TcContent<'a>) -> Option<&'a [u8]>
-    requires { IsContent (content carried.now) }
-    // The verdict accepts the frame, and the unit is the one that the frame carries. `None` means
-    // that the frame carries none, or the verdict doesn't accept it.
-    ensures unit { IfSome result (λ unit. unit_by verdict (content carried.now) ≡ unit.now ∷ []) }
-    ensures accepted { IfSome result (λ unit. verdict ≡ Verdict.Accept) }
-    ensures none { IfNone result (unit_by verdict (content carried.now) ≡ []) }
-
-    // The unit has the MAP of its frame, and 1 to 1019 octets.
-    ensures map { IfSome result (λ unit. (plain : Bool)
-        → map_of plain (content carried.now) ≡ (header_at (segment_in plain unit.now)).map) }
-    ensures some { IfSome result (λ unit. 0 < length unit.now) }
-    ensures short { IfSome result (λ unit. length unit.now ≤ longest_unit) }
+// The segment of a frame's unit, where this verdict accepts it.
+#[inline(always)]
+fn accepted<'a>(verdict: Verdict, segment: Option<Segment<'a>>) -> Option<Segment<'a>>
+    ensures { result ≡ accepted_segment verdict segment.entry }
 {
     match verdict {
-        Verdict::Accept => match *carried {
-            TcContent::Ad { unit, .. } | TcContent::Bd { unit } => Some(unit),
-            TcContent::Unlock | TcContent::SetVr(_) => None,
-        },
+        Verdict::Accept => segment,
         _ => None,
+    }
+}
+
+// The MAP of a frame's segment, and 0 where the frame carries none.
+#[inline(always)]
+fn map_in(segment: &Option<Segment>) -> u8
+    ensures value { result ≡ map_read segment.now }
+    ensures most { result ≤ 63 }
+{
+    match segment {
+        Some(segment) => segment.map_id,
+        None => 0,
     }
 }

@@ -5,9 +5,8 @@ ghost use Rattle.std.specs.Vec.{vec_len};
 ghost use Rattle.sl_packet.specs.Delivered.{channel_count};
 ghost use Rattle.sl_packet.specs.Packet.{longest_packet};
 ghost use Rattle.sl_packet.specs.Stopping.{HandsOver};
-ghost use Rattle.sl_tcframe.specs.TcFrame.{longest_unit};
 ghost use Rattle.sl_tcflow.specs.IncompleteSteps.{IsReported, incomplete_with, packets_with};
-ghost use Rattle.sl_tcflow.specs.Receiver.{channel_at};
+ghost use Rattle.sl_tcflow.specs.Recording.{channel_at};
 ghost use Rattle.sl_tcflow.specs.SeriesStore.{at, IsPlaced};
 ghost use Rattle.sl_tcflow.specs.StepReport.{counts_of};
 
@@ -95,32 +94,29 @@ impl SeriesStore {
         segment: &Segment,
         sink: &mut S,
     ) -> Result<TcStep, FlowFault>
-        requires flags { segment.now.flags ≤ 3 }
-        requires short { length segment.now.octets.now ≤ longest_unit }
-        requires channel { segment.now.channel < channel_count }
         // The series of the channel continues, begins or ends as the sequence flags say.
         ensures placed { OnOk result (IsPlaced self.old.list segment.now.channel
             (incomplete_with (at self.old.list segment.now.channel) segment.now.flags
-            segment.now.octets.now) self.new.list) }
+            segment.now.octets) self.new.list) }
 
         // The sink is handed the packets that end with the segment, and the step reports them.
         ensures hands_over { HandsOver S.taking S.failing S.failures counts_of
             sink.old segment.now.channel
             (packets_with (at self.old.list segment.now.channel) segment.now.flags
-            segment.now.octets.now) result sink.new }
+            segment.now.octets) result sink.new }
         ensures step { IfOk result (IsReported (at self.old.list segment.now.channel)
-            segment.now.flags segment.now.octets.now) }
+            segment.now.flags segment.now.octets) }
 
         // Memory is refused only where a series is incomplete, before the segment or after it.
         ensures memory { IfErr result (λ flow. flow ≡ FlowFault.Memory →
             (at self.old.list segment.now.channel ≢ None)
             ⊎ (incomplete_with (at self.old.list segment.now.channel) segment.now.flags
-            segment.now.octets.now ≢ None)) }
+            segment.now.octets ≢ None)) }
 
         // The memory for the list changes only where a series is incomplete after the segment.
         ensures capacity { self.new.capacity ≢ self.old.capacity
             → incomplete_with (at self.old.list segment.now.channel) segment.now.flags
-            segment.now.octets.now ≢ None }
+            segment.now.octets ≢ None }
     {
         let index = usize::from(segment.channel);
         if segment.flags == FIRST && grow_to(self.alloc, &mut self.list, index).is_err() {

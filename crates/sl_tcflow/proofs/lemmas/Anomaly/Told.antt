@@ -7,9 +7,10 @@ use Rattle.std.specs.Prelude.{is_none, option_map}
 use Rattle.sl_tcframe.specs.TcFrame.{TcView}
 use Rattle.sl_tcflow.specs.Anomaly.{begins, continues, octets_held, of_segment, of_accepted, StrayIsTold, WhatIsToldIsStray, DroppedIsTold, WhatIsToldIsDropped, LongIsTold, WhatIsToldIsLong}
 use Rattle.sl_tcflow.specs.Incomplete.{IsIncomplete, incomplete_of, exceeds_limit}
-use Rattle.sl_tcflow.specs.Receiver.{AreIncomplete, channel_at, map_by, segment_by}
+use Rattle.sl_tcflow.specs.Receiver.{AreIncomplete, map_by, segment_by}
 use Rattle.sl_tcflow.specs.Reception.{segments_of}
 use Rattle.sl_tcflow.specs.ReceptionParameters.{ReceptionParameters}
+use Rattle.sl_tcflow.specs.Recording.{channel_at}
 use Rattle.sl_tcflow.specs.Series.{flags_of, header_at, segment_data}
 use Rattle.sl_tcflow.specs.SeriesStore.{at}
 use Rattle.sl_tcflow.proofs.lemmas.Series.Incomplete.{incomplete_is_told, what_is_told_is_incomplete}

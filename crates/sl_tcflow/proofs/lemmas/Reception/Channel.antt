@@ -11,10 +11,10 @@ use Rattle.sl_tcflow.specs.AcceptedUnit.{accepted_units, unit_by}
 use Rattle.sl_tcflow.specs.Farms.{verdict_on}
 use Rattle.sl_tcflow.specs.Incomplete.{if_fits, incomplete_of}
 use Rattle.sl_tcflow.specs.IncompleteSteps.{extended, incomplete_after, packets_after, packets_of_service_unit, service_unit_ended}
-use Rattle.sl_tcflow.specs.Receiver.{channel_at, ended_by, map_by, map_of, segment_by, unit_channel, held_in, octets_of_series}
+use Rattle.sl_tcflow.specs.Receiver.{ended_by, map_by, map_of, segment_by, unit_channel, held_in, octets_of_series}
 use Rattle.sl_tcflow.specs.Reception.{packets_ended, packets_of_segments, segments_of}
 use Rattle.sl_tcflow.specs.ReceptionParameters.{ReceptionParameters, is_plain, initial_vr}
-use Rattle.sl_tcflow.specs.Recording.{packets_of_channel}
+use Rattle.sl_tcflow.specs.Recording.{channel_at, packets_of_channel}
 use Rattle.sl_tcflow.specs.Series.{flags_of, header_at, segment_data, segment_in, segments_on}
 use Rattle.sl_tcflow.proofs.lemmas.Reception.Farm.{other_channel}
 use Rattle.sl_tcflow.proofs.lemmas.Reception.Ended.{ended_next}

@@ -11,8 +11,9 @@ use Rattle.sl_tcframe.specs.TcFrame.{TcView}
 use Rattle.sl_tcframe.specs.VcSet.{has_vc}
 use Rattle.sl_tcflow.specs.AcceptedUnit.{views_on, event_of, farm_after}
 use Rattle.sl_tcflow.specs.Farms.{HaveStepped, farm_at_start, farm_of, verdict_on}
-use Rattle.sl_tcflow.specs.Receiver.{AreIncomplete, ForIncomplete, ForProcessed, HasProcessed, ReceiverState, channel_at}
+use Rattle.sl_tcflow.specs.Receiver.{AreIncomplete, ForIncomplete, ForProcessed, HasProcessed, ReceiverState}
 use Rattle.sl_tcflow.specs.ReceptionParameters.{ReceptionParameters, is_plain, initial_vr}
+use Rattle.sl_tcflow.specs.Recording.{channel_at}
 use Rattle.sl_tcflow.specs.SeriesStore.{IncompleteSeries}
 
 -- ---- one of the channels

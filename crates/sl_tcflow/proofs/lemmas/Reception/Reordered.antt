@@ -19,10 +19,9 @@ use Rattle.sl_packet.specs.Packet.{is_idle_packet}
 use Rattle.sl_packet.specs.Packets.{without_idle}
 use Rattle.sl_tcframe.specs.TcFrame.{TcFormat, TcView, Content, Ad, Bd, Unlock, SetVr}
 use Rattle.sl_tcflow.specs.AcceptedUnit.{accepted_ad_units, ad_unit_of, views_on, event_of, events_of, farm_after, unit_of}
-use Rattle.sl_tcflow.specs.Receiver.{channel_at}
 use Rattle.sl_tcflow.specs.Reception.{packets_ended, packets_of_segments, segments_of}
 use Rattle.sl_tcflow.specs.ReceptionParameters.{ReceptionParameters, is_plain, initial_vr}
-use Rattle.sl_tcflow.specs.Recording.{map_channels, packets_of_channel, recorded_views}
+use Rattle.sl_tcflow.specs.Recording.{channel_at, map_channels, packets_of_channel, recorded_views}
 use Rattle.sl_tcflow.specs.ReorderedUnits.{AdUnitsAreAll, AreArrivals, ExpectedUnitIsAccepted, HaveNoBd, IsArrival, PacketsInOrder, ReceiverCountsUnits, RecordedPacketsInOrder, UnitsInOrder, VrCountsUnits, WindowIsNear, WindowNeverLocks, accepted_ad_count, recorded_packets, unit_at, segments_sent}
 use Rattle.sl_tcflow.specs.Series.{header_at, segment_in, segments_on}
 use Rattle.sl_fields.proofs.ListLemmas.{each-append}

@@ -1,20 +1,23 @@
 -- The accepted unit of the next frame among the segments of its virtual channel and MAP.
-use Rattle.std.proofs.Common.{None, ◌⊎◌, ◌≡◌, ◌≢◌, ℕ, ◌<◌, ◌==◌, Bool, List, [], ◌∷◌, ◌++◌, Option, map, inl, inr, refl, sym, ◌∙◌, ap, ap₂, subst, arith, append-nil, cond, eq-eqb, ne_eqb}
+use Rattle.std.proofs.Common.{None, Some, ◌⊎◌, ◌≡◌, ◌≢◌, ℕ, ◌<◌, ◌==◌, Bool, List, [], ◌∷◌, ◌++◌, Option, map, inl, inr, refl, sym, ◌∙◌, ap, ap₂, subst, arith, append-nil, cond, eq-eqb, ne_eqb}
 use Rattle.std.specs.List.{flat_map}
 use Rattle.std.proofs.lemmas.Bool.Decides.{eqb_tells}
 use Rattle.std.proofs.lemmas.List.{map-append}
 use Rattle.std.proofs.lemmas.List.Elements.{filter-append}
 use Rattle.sl_cop.specs.declared.verdict.Verdict.{Verdict}
+use Rattle.sl_cop.specs.declared.verdict.Verdict.TheVariants.{Accept, Early, Late, Outside, Refused, Command}
 use Rattle.sl_cop.specs.Farm.{farm_start, farm_step}
 use Rattle.sl_cop.proofs.ReorderedLemmas.{accepted_more}
-use Rattle.sl_tcframe.specs.TcFrame.{TcView, Content}
+use Rattle.sl_tcframe.specs.TcFrame.{TcView, Content, Ad, Bd, Unlock, SetVr}
 use Rattle.sl_tcflow.specs.AcceptedUnit.{views_on, event_of, farm_after, unit_of, unit_by, accepted_units}
 use Rattle.sl_tcflow.specs.Farms.{verdict_on}
 use Rattle.sl_tcflow.specs.Incomplete.{incomplete_of}
-use Rattle.sl_tcflow.specs.IncompleteSteps.{incomplete_after, packets_after}
-use Rattle.sl_tcflow.specs.Receiver.{AreIncomplete, IsIncompleteAround, channel_at, map_by, map_of, segment_by, unit_channel, ended_by}
+use Rattle.sl_tcflow.specs.IncompleteSteps.{incomplete_after, incomplete_with, packets_after, packets_with}
+use Rattle.sl_tcflow.specs.Receiver.{AreIncomplete, IsIncompleteAround, map_by, map_of, segment_by, unit_channel, ended_by}
 use Rattle.sl_tcflow.specs.Reception.{packets_ended, segments_of}
 use Rattle.sl_tcflow.specs.ReceptionParameters.{ReceptionParameters, is_plain, initial_vr}
+use Rattle.sl_tcflow.specs.Recording.{channel_at}
+use Rattle.sl_tcflow.specs.Segment.{SegmentView, accepted_segment, carried_segment, map_read, segment_view}
 use Rattle.sl_tcflow.specs.Series.{header_at, segment_in, segments_on}
 use Rattle.sl_tcflow.specs.SeriesStore.{at, IsPlaced}
 use Rattle.sl_tcflow.proofs.lemmas.Reception.Ended.{ended_next}
@@ -28,21 +31,67 @@ units_from : (w vr : ℕ) (channel : List TcView) (next : TcView)
     ≡ accepted_units w vr channel ++ unit_by (farm_step w (farm_after w vr channel) (event_of next.content)).0 next.content
 units_from w vr channel next = accepted_more (λ (view : TcView). event_of view.content) (λ (view : TcView). unit_of view.content) w (farm_start vr) channel next
 
--- the accepted unit of a frame's content, by the verdict on it
-pub unit_on : (verdict : Verdict) (carried : Content) (r : ReceptionParameters) (views : List TcView) (next : TcView) (units : List (List ℕ))
-    → verdict ≡ verdict_on r views next → carried ≡ next.content → unit_by verdict carried ≡ units → unit_by (verdict_on r views next) next.content ≡ units
-unit_on verdict carried r views next units is same by = ap (λ v. unit_by v next.content) (sym is) ∙ ap (unit_by verdict) (sym same) ∙ by
+-- ---- the segment that is read of a frame's unit
 
--- the segment of the accepted unit
-pub segment_on : (plain : Bool) (verdict : Verdict) (carried : Content) (r : ReceptionParameters) (views : List TcView) (next : TcView) (units : List (List ℕ))
-    → plain ≡ is_plain r next.vc → verdict ≡ verdict_on r views next → carried ≡ next.content → unit_by verdict carried ≡ units
-    → segment_by r views next ≡ map (segment_in plain) units
-segment_on plain verdict carried r views next units headers is same by = grind (arith, unit_on)
+-- its MAP
+pub map_carried : (vc : ℕ) (plain : Bool) (content : Content) → map_read (carried_segment vc plain content) ≡ map_of plain content
+map_carried vc plain (Ad ns unit) = refl
+map_carried vc plain (Bd unit) = refl
+map_carried vc plain Unlock = refl
+map_carried vc plain (SetVr vr) = refl
 
--- the MAP of the unit
-pub map_on : (plain : Bool) (carried : Content) (r : ReceptionParameters) (next : TcView) (map_id : ℕ)
-    → plain ≡ is_plain r next.vc → carried ≡ next.content → map_of plain carried ≡ map_id → map_by r next ≡ map_id
-map_on plain carried r next map_id headers same is = ap₂ (λ b c. map_of b c) (sym headers) (sym same) ∙ is
+-- no segment is accepted
+none_carried : (vc : ℕ) (plain : Bool) (verdict : Verdict) (content : Content) → accepted_segment verdict (carried_segment vc plain content) ≡ None
+    → map (segment_in plain) (unit_by verdict content) ≡ []
+none_carried vc plain verdict content none = grind arith
+
+-- this is read of the accepted segment
+abbrev IsAcceptedOf : ℕ → Bool → Verdict → Content → SegmentView → Type 0
+IsAcceptedOf vc plain verdict content read =
+    (segment : List ℕ) × (map (segment_in plain) (unit_by verdict content) ≡ segment ∷ []) × (map_of plain content ≡ (header_at segment).map)
+    × (verdict ≡ Accept) × (read ≡ segment_view vc segment)
+
+some_carried : (vc : ℕ) (plain : Bool) (verdict : Verdict) (content : Content) (read : SegmentView)
+    → accepted_segment verdict (carried_segment vc plain content) ≡ Some read → IsAcceptedOf vc plain verdict content read
+some_carried vc plain Accept (Ad ns unit) read is = (segment_in plain unit, refl, refl, refl, cc)
+some_carried vc plain Accept (Bd unit) read is = (segment_in plain unit, refl, refl, refl, cc)
+some_carried vc plain Accept Unlock read is = absurd (cc)
+some_carried vc plain Accept (SetVr vr) read is = absurd (cc)
+some_carried vc plain Early content read is = absurd (cc)
+some_carried vc plain Late content read is = absurd (cc)
+some_carried vc plain Outside content read is = absurd (cc)
+some_carried vc plain Refused content read is = absurd (cc)
+some_carried vc plain Command content read is = absurd (cc)
+
+-- this is read of the next frame's accepted segment
+pub record IsReadNext (r : ReceptionParameters) (views : List TcView) (next : TcView) (read : SegmentView) : Type 0 where
+  pub segment : List ℕ
+  pub accepted : segment_by r views next ≡ segment ∷ []
+  pub map_id : map_by r next ≡ (header_at segment).map
+  pub verdict : verdict_on r views next ≡ Accept
+  pub view : read ≡ segment_view next.vc segment
+
+module _ (r : ReceptionParameters) (views : List TcView) (next : TcView) (plain : Bool) (verdict : Verdict) (segment : Option SegmentView) where
+  pub none_read : plain ≡ is_plain r next.vc → verdict ≡ verdict_on r views next → segment ≡ carried_segment next.vc plain next.content
+      → accepted_segment verdict segment ≡ None → segment_by r views next ≡ []
+  none_read headers is carried none = grind (arith, none_carried)
+
+  pub some_read : (read : SegmentView) → plain ≡ is_plain r next.vc → verdict ≡ verdict_on r views next → segment ≡ carried_segment next.vc plain next.content
+      → accepted_segment verdict segment ≡ Some read → IsReadNext r views next read
+  some_read read headers is carried some =
+      let (own, accepted, map_id, ok, view) = some_carried next.vc plain verdict next.content read (ap (accepted_segment verdict) (sym carried) ∙ some) in
+      record {
+        segment = own;
+        accepted = ap₂ (λ b v. map (segment_in b) (unit_by v next.content)) (sym headers) (sym is) ∙ accepted;
+        map_id = ap (λ b. map_of b next.content) (sym headers) ∙ map_id;
+        verdict = sym is ∙ ok;
+        view = view;
+      }
+
+  -- the MAP of the unit, accepted or not
+  pub map_read_is : plain ≡ is_plain r next.vc → segment ≡ carried_segment next.vc plain next.content → map_read segment ≡ map_by r next
+  map_read_is headers carried =
+      ap map_read carried ∙ map_carried next.vc plain next.content ∙ ap (λ b. map_of b next.content) headers
 
 -- ---- the segments of a MAP
 
@@ -123,10 +172,26 @@ module _ (r : ReceptionParameters) (old : List (Option (List ℕ))) (views : Lis
       → (at old index ≢ None) ⊎ (incomplete_after (at old index) unit ≢ None) → IsIncompleteAround r views next
   around_more are inside unit_is map_id_is here around = grind (arith, map_fits, segments_next, on_map, incomplete_next)
 
--- the channel of the unit
-pub unit_channel_is : (vc : ℕ) (r : ReceptionParameters) (unit : List ℕ) (next : TcView) → vc ≡ next.vc → map_by r next ≡ (header_at unit).map
-    → channel_at vc (header_at unit).map ≡ unit_channel r next
-unit_channel_is vc r unit next same map_id_is = ap (λ n. channel_at n (header_at unit).map) same ∙ ap (channel_at next.vc) (sym map_id_is)
+-- the same, from what is read of the unit
+module _ (r : ReceptionParameters) (old : List (Option (List ℕ))) (views : List TcView) (next : TcView) (read : SegmentView) (is : IsReadNext r views next read) where
+  pub incomplete_read : (new : List (Option (List ℕ))) → AreIncomplete r old views → next.vc < 64
+      → IsPlaced old read.channel (incomplete_with (at old read.channel) read.flags read.octets) new → AreIncomplete r new (views ++ next ∷ [])
+  incomplete_read new are inside placed =
+      incomplete_more r old views next is.segment (channel_at next.vc (header_at is.segment).map) new are inside is.accepted refl (rw (is.view) at placed)
+
+  pub ended_read : AreIncomplete r old views → next.vc < 64 → ended_by r views next ≡ packets_with (at old read.channel) read.flags read.octets
+  ended_read are inside =
+      ended_more r old views next is.segment (channel_at next.vc (header_at is.segment).map) are inside is.accepted is.map_id refl
+      ∙ ap (λ (s : SegmentView). packets_with (at old s.channel) s.flags s.octets) (sym is.view)
+
+  pub around_read : AreIncomplete r old views → next.vc < 64
+      → (at old read.channel ≢ None) ⊎ (incomplete_with (at old read.channel) read.flags read.octets ≢ None) → IsIncompleteAround r views next
+  around_read are inside around =
+      around_more r old views next is.segment (channel_at next.vc (header_at is.segment).map) are inside is.accepted is.map_id refl (rw (is.view) at around)
+
+  -- the channel of the unit
+  pub channel_read : read.channel ≡ unit_channel r next
+  channel_read = ap (λ (s : SegmentView). s.channel) is.view ∙ ap (channel_at next.vc) (sym is.map_id)
 
 pub ended_none : (r : ReceptionParameters) (views : List TcView) (next : TcView) → segment_by r views next ≡ [] → ended_by r views next ≡ []
 ended_none r views next none = ap (flat_map (packets_ended (segments_of r next.vc (map_by r next) views))) none

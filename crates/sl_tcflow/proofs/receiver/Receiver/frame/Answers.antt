@@ -1,8 +1,7 @@
-use Rattle.std.proofs.Common.{◌∙◌, refl, sym, ap, ap₂, subst}
+use Rattle.std.proofs.Common.{◌∙◌, refl, sym, ap, subst}
 use Rattle.sl_tcframe.specs.VcSet.{has_vc}
 use Rattle.sl_tcflow.specs.Farms.{HaveStepped}
-use Rattle.sl_tcflow.specs.Receiver.{AreIncomplete, map_of}
-use Rattle.sl_tcflow.specs.StepReport.{StepReport}
+use Rattle.sl_tcflow.specs.Receiver.{AreIncomplete}
 use Rattle.sl_tcflow.proofs.lemmas.Reception.Farm.{of_processed, plain_is}
 use Rattle.sl_tcflow.proofs.receiver.Receiver.frame.Goals as goal
 
@@ -40,30 +39,28 @@ pub returns-clause-accepted : goal.returns-clause-accepted
 returns-clause-accepted g c r views processed = (of_processed _ _ _ _ _ _ c.self.view_is (c.has-plain.ensures.value ∙ ap (has_vc c.self.inside.plain) c.vc.ensures.value) c.step-verdict.ensures.verdict c.in-Ok.ensures.hands_over r views processed).accepted
 
 pub returns-clause-verdict : goal.returns-clause-verdict
-returns-clause-verdict g c r views processed = ap (λ (s : StepReport). s.verdict) c.reported.view_is ∙ (of_processed _ _ _ _ _ _ c.self.view_is (c.has-plain.ensures.value ∙ ap (has_vc c.self.inside.plain) c.vc.ensures.value) c.step-verdict.ensures.verdict c.in-Ok.ensures.step r views processed).verdict
+returns-clause-verdict g c r views processed = (of_processed _ _ _ _ _ _ c.self.view_is (c.has-plain.ensures.value ∙ ap (has_vc c.self.inside.plain) c.vc.ensures.value) c.step-verdict.ensures.verdict c.in-Ok.ensures.step r views processed).verdict
 
 pub returns-clause-packets : goal.returns-clause-packets
-returns-clause-packets g c r views processed = ap (λ (s : StepReport). s.packets) c.reported.view_is ∙ (of_processed _ _ _ _ _ _ c.self.view_is (c.has-plain.ensures.value ∙ ap (has_vc c.self.inside.plain) c.vc.ensures.value) c.step-verdict.ensures.verdict c.in-Ok.ensures.hands_over r views processed).packets
+returns-clause-packets g c r views processed = (of_processed _ _ _ _ _ _ c.self.view_is (c.has-plain.ensures.value ∙ ap (has_vc c.self.inside.plain) c.vc.ensures.value) c.step-verdict.ensures.verdict c.in-Ok.ensures.hands_over r views processed).packets
 
 pub returns-clause-idle : goal.returns-clause-idle
-returns-clause-idle g c r views processed = ap (λ (s : StepReport). s.idle) c.reported.view_is ∙ (of_processed _ _ _ _ _ _ c.self.view_is (c.has-plain.ensures.value ∙ ap (has_vc c.self.inside.plain) c.vc.ensures.value) c.step-verdict.ensures.verdict c.in-Ok.ensures.hands_over r views processed).idle
+returns-clause-idle g c r views processed = (of_processed _ _ _ _ _ _ c.self.view_is (c.has-plain.ensures.value ∙ ap (has_vc c.self.inside.plain) c.vc.ensures.value) c.step-verdict.ensures.verdict c.in-Ok.ensures.hands_over r views processed).idle
 
 pub returns-clause-stray : goal.returns-clause-stray
-returns-clause-stray g c r views processed = ap (λ (s : StepReport). s.stray) c.reported.view_is ∙ (of_processed _ _ _ _ _ _ c.self.view_is (c.has-plain.ensures.value ∙ ap (has_vc c.self.inside.plain) c.vc.ensures.value) c.step-verdict.ensures.verdict c.in-Ok.ensures.step r views processed).stray
+returns-clause-stray g c r views processed = (of_processed _ _ _ _ _ _ c.self.view_is (c.has-plain.ensures.value ∙ ap (has_vc c.self.inside.plain) c.vc.ensures.value) c.step-verdict.ensures.verdict c.in-Ok.ensures.step r views processed).stray
 
 pub returns-clause-dropped : goal.returns-clause-dropped
-returns-clause-dropped g c r views processed = ap (λ (s : StepReport). s.dropped) c.reported.view_is ∙ (of_processed _ _ _ _ _ _ c.self.view_is (c.has-plain.ensures.value ∙ ap (has_vc c.self.inside.plain) c.vc.ensures.value) c.step-verdict.ensures.verdict c.in-Ok.ensures.step r views processed).dropped
+returns-clause-dropped g c r views processed = (of_processed _ _ _ _ _ _ c.self.view_is (c.has-plain.ensures.value ∙ ap (has_vc c.self.inside.plain) c.vc.ensures.value) c.step-verdict.ensures.verdict c.in-Ok.ensures.step r views processed).dropped
 
 pub returns-clause-long : goal.returns-clause-long
-returns-clause-long g c r views processed = ap (λ (s : StepReport). s.long) c.reported.view_is ∙ (of_processed _ _ _ _ _ _ c.self.view_is (c.has-plain.ensures.value ∙ ap (has_vc c.self.inside.plain) c.vc.ensures.value) c.step-verdict.ensures.verdict c.in-Ok.ensures.step r views processed).long
+returns-clause-long g c r views processed = (of_processed _ _ _ _ _ _ c.self.view_is (c.has-plain.ensures.value ∙ ap (has_vc c.self.inside.plain) c.vc.ensures.value) c.step-verdict.ensures.verdict c.in-Ok.ensures.step r views processed).long
 
 pub returns-clause-tail : goal.returns-clause-tail
-returns-clause-tail g c r views processed = ap (λ (s : StepReport). s.tail) c.reported.view_is ∙ (of_processed _ _ _ _ _ _ c.self.view_is (c.has-plain.ensures.value ∙ ap (has_vc c.self.inside.plain) c.vc.ensures.value) c.step-verdict.ensures.verdict c.in-Ok.ensures.step r views processed).tail
+returns-clause-tail g c r views processed = (of_processed _ _ _ _ _ _ c.self.view_is (c.has-plain.ensures.value ∙ ap (has_vc c.self.inside.plain) c.vc.ensures.value) c.step-verdict.ensures.verdict c.in-Ok.ensures.step r views processed).tail
 
 pub returns-clause-map : goal.returns-clause-map
-returns-clause-map g c r views processed =
-    let plain = c.has-plain.ensures.value ∙ ap (has_vc c.self.inside.plain) c.vc.ensures.value ∙ plain_is r _ _ c.args.frame.now.vc c.self.view_is processed.plain in
-    c.map_in-map.ensures.value ∙ ap₂ map_of plain c.content.ensures.value
+returns-clause-map g c r views processed = (of_processed _ _ _ _ _ _ c.self.view_is (c.has-plain.ensures.value ∙ ap (has_vc c.self.inside.plain) c.vc.ensures.value) c.step-verdict.ensures.verdict c.in-Ok.ensures.step r views processed).map
 
 pub returns-in-Err-clause-capacity : goal.returns-in-Err-clause-capacity
 returns-in-Err-clause-capacity g c changed r views processed =

@@ -1,6 +1,6 @@
 -- The state of a receiver that was given frames of all virtual channels, CCSDS 232.0-B and 232.1-B,
 -- and what the next frame does.
-use Rattle.std.specs.Prelude.{◌≡◌, ◌≢◌, ◌⊎◌, ℕ, ◌+◌, ◌*◌, ◌/◌, ◌%◌, ◌<◌, ◌==◌, Bool, true, false, if◌then◌else◌, List, [], ◌∷◌, ◌++◌, map, flat_map, Option, None, Some}
+use Rattle.std.specs.Prelude.{◌≡◌, ◌≢◌, ◌⊎◌, ℕ, ◌/◌, ◌%◌, ◌<◌, ◌==◌, Bool, true, false, if◌then◌else◌, List, [], ◌∷◌, ◌++◌, map, flat_map, Option, None, Some}
 use Rattle.std.specs.List.{slice_index_or}
 use Rattle.sl_cop.specs.declared.verdict.Verdict.{Verdict}
 use Rattle.sl_cop.specs.Farm.{FarmView}

@@ -1,6 +1,6 @@
 -- The frames of a normal form of spacecraft 1, as they are read, computed from the definitions: two virtual channels,
 -- the first with two MAPs and V(R) 255, the second without segment headers.
-use Rattle.std.proofs.Common.{◌≡◌, ℕ, true, false, List, [], ◌∷◌, ◌++◌, map, replicate, take, drop, refl}
+use Rattle.std.proofs.Common.{◌≡◌, ℕ, true, false, List, [], ◌∷◌, ◌++◌, map, replicate, take, drop}
 use Rattle.sl_tcframe.specs.TcFrame.{TcFormat, TcView, Ad}
 use Rattle.sl_tcflow.specs.AcceptedUnit.{views_on}
 use Rattle.sl_tcflow.specs.FormOrder.{form_views, segments_in}

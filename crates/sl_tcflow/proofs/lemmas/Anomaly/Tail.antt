@@ -1,13 +1,12 @@
 -- The octets that are left after the packets of the service data unit that ends with a segment are reported exactly
 -- as they are.
-use Rattle.std.proofs.Common.{◌≡◌, ◌⊎◌, ℕ, ◌+◌, ◌<◌, ◌==◌, ◌&&◌, Bool, true, false, if◌then◌else◌, List, [], ◌∷◌, ◌++◌, length, inl, inr, refl, sym, ◌∙◌, ap, subst, arith, append-nil, eqb-true, le-leb, Contains}
+use Rattle.std.proofs.Common.{◌≡◌, ◌⊎◌, ℕ, ◌+◌, ◌<◌, ◌==◌, Bool, true, if◌then◌else◌, List, [], ◌∷◌, ◌++◌, length, inl, inr, refl, sym, ◌∙◌, ap, subst, arith, append-nil, eqb-true, le-leb, Contains}
 use Rattle.std.specs.List.{AllByRecursion, flat_map}
 use Rattle.std.proofs.lemmas.Bool.Decides.{leb_tells}
 use Rattle.std.proofs.lemmas.List.Elements.{All-contains, All-from_recursion, Contains-append_cases, Contains-push}
 use Rattle.sl_packet.specs.Packets.{packets_of, rest_of}
 use Rattle.sl_packet.proofs.PacketsLemmas.{each_has_packets, has_packets_once}
 use Rattle.sl_tcflow.specs.Anomaly.{left_in, tail_of, HasTail, TailIsTold, WhatIsToldIsTail}
-use Rattle.sl_tcflow.specs.Incomplete.{are_continuing}
 use Rattle.sl_tcflow.specs.Series.{flags_of, IsSeriesOf, SeriesAt, past, reassembled, series_of}
 use Rattle.sl_tcflow.proofs.lemmas.Series.OneMore.{each_ending, ending_is, series_ending, series_next, series_within}
 use Rattle.sl_tcflow.proofs.lemmas.Series.Listed.{each_is_series, each_series_is_listed, series_at}

@@ -1,5 +1,5 @@
 -- The frames of the normal form carry its packets, each in a series of its own.
-use Rattle.std.proofs.Common.{◌≡◌, ℕ, zero, suc, ◌+◌, ◌*◌, ◌<◌, ◌≤◌, ◌==◌, Bool, true, false, List, [], ◌∷◌, length, drop, map, flat_map, refl, sym, ◌∙◌, ap, subst, arith, append-nil, eq-eqb, ne_eqb, length-drop, length-take-le}
+use Rattle.std.proofs.Common.{◌≡◌, ℕ, zero, suc, ◌+◌, ◌*◌, ◌<◌, ◌≤◌, Bool, true, false, List, [], ◌∷◌, length, drop, map, flat_map, refl, sym, ◌∙◌, ap, subst, arith, append-nil, length-drop, length-take-le}
 use Rattle.std.specs.List.{AllByRecursion, slice_index_or}
 use Rattle.std.proofs.lemmas.List.{map-id}
 use Rattle.sl_packet.specs.Delivered.{IsDeliverable, channel_count}
@@ -12,9 +12,9 @@ use Rattle.sl_tcflow.specs.AcceptedUnit.{unit_of}
 use Rattle.sl_tcflow.specs.Canonical.{AreDeliverable}
 use Rattle.sl_tcflow.specs.Fits.{FitsOn}
 use Rattle.sl_tcflow.specs.FormOrder.{CarryPackets, EachPacketIsOneSeries, none, more, room_in, segments_in}
-use Rattle.sl_tcflow.specs.Series.{whole, header_at, segment_data, segment_in, segments_on, whole_segment}
+use Rattle.sl_tcflow.specs.Series.{whole, segment_data, segment_in, segments_on, whole_segment}
 use Rattle.sl_tcflow.specs.TcNormalForm.{AreSegments, IsDividedInto, last, units_of_maps, units_of_packet}
-use Rattle.sl_fields.proofs.ListLemmas.{each-at, each-every, each-map, filter_all, filter_none}
+use Rattle.sl_fields.proofs.ListLemmas.{each-at}
 use Rattle.sl_tcflow.proofs.lemmas.Form.Frames.{lists_on, some_room, views_from}
 use Rattle.sl_tcflow.proofs.lemmas.Form.Order.{own_views, units}
 use Rattle.sl_tcflow.proofs.lemmas.Form.Plain.{first_on, list_on, others_empty}

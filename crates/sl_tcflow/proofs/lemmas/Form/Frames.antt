@@ -1,9 +1,8 @@
 -- The frames of the normal form, as they are read back, virtual channel by virtual channel, and accepted.
-use Rattle.std.proofs.Common.{◌≡◌, ℕ, zero, suc, ◌+◌, ◌*◌, ◌%◌, ◌<◌, ◌≤◌, Bool, true, false, List, [], ◌∷◌, ◌++◌, length, take, drop, flat_map, refl, sym, ◌∙◌, ap, ap₂, subst, arith, length-append, length-take}
-use Rattle.std.specs.Result.{result_ok}
-use Rattle.std.specs.List.{AllByRecursion, cons_option, range_with_len, slice_index_or}
+use Rattle.std.proofs.Common.{◌≡◌, ℕ, zero, suc, ◌+◌, ◌*◌, ◌%◌, ◌<◌, ◌≤◌, Bool, true, false, List, [], ◌∷◌, ◌++◌, length, take, drop, flat_map, refl, sym, ◌∙◌, ap, subst, arith, length-append, length-take}
+use Rattle.std.specs.List.{AllByRecursion, range_with_len, slice_index_or}
 use Rattle.std.proofs.lemmas.List.Elements.{filter_map-append}
-use Rattle.sl_fields.specs.SegmentHeader.{SegmentFields, segment_fields, segment_octets}
+use Rattle.sl_fields.specs.SegmentHeader.{SegmentFields}
 use Rattle.sl_fields.proofs.FecfLemmas.{fecf_len_le}
 use Rattle.sl_fields.proofs.Octets.{length-octets_of}
 use Rattle.sl_cop.specs.declared.farm_event.FarmEvent.TheVariants as event
@@ -12,7 +11,7 @@ use Rattle.sl_cop.specs.Accepted.{accepted_by}
 use Rattle.sl_cop.specs.Farm.{area_of, distance, farm_start, farm_step, state_in, verdict_in, verdicts_of}
 use Rattle.sl_packet.specs.Delivered.{IsDeliverable}
 use Rattle.sl_tcframe.specs.AdFrame.{FitAdFrame, plain_room_of, segment_room_of, ad_frame}
-use Rattle.sl_tcframe.specs.TcFrame.{TcFormat, TcView, Ad, is_cut, tc_frame}
+use Rattle.sl_tcframe.specs.TcFrame.{TcFormat, TcView, Ad, is_cut}
 use Rattle.sl_tcframe.specs.VcSet.{has_vc}
 use Rattle.sl_tcframe.proofs.AdFrameLemmas.{ad_frame_back, ad_frame_cut, length-ad_frame, within}
 use Rattle.sl_tcflow.specs.AcceptedUnit.{views_of, views_on, events_of, unit_of, unit_by, accepted_units}

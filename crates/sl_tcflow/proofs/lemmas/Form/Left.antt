@@ -1,21 +1,20 @@
 -- The octets of the normal form that are still to come, packet by packet and channel by channel.
-use Rattle.std.proofs.Common.{◌≡◌, ℕ, zero, suc, ◌+◌, ◌-◌, ◌*◌, ◌/◌, ◌%◌, ◌<◌, ◌≤◌, ◌==◌, Bool, true, false, if◌then◌else◌, List, [], ◌∷◌, ◌++◌, length, take, drop, flat_map, inl, inr, refl, sym, ◌∙◌, ap, ap₂, subst, arith, append_assoc, append-nil, length-append, ne_eqb}
+use Rattle.std.proofs.Common.{◌≡◌, ℕ, zero, suc, ◌+◌, ◌-◌, ◌*◌, ◌/◌, ◌%◌, ◌<◌, ◌≤◌, ◌==◌, Bool, true, if◌then◌else◌, List, [], ◌∷◌, ◌++◌, length, take, drop, flat_map, inl, inr, refl, sym, ◌∙◌, ap, ap₂, arith, append_assoc, append-nil, length-append, ne_eqb}
 use Rattle.std.proofs.lemmas.Grind.{common_steps}
-use Rattle.std.specs.List.{concat, range_with_len, slice_index_or}
+use Rattle.std.specs.List.{concat, slice_index_or}
 use Rattle.std.proofs.lemmas.Bool.Decides.{eqb_tells, leb_tells}
 use Rattle.std.proofs.lemmas.List.{drop_all, drop_more, drop-drop, get_or-drop, get_or_past}
 use Rattle.std.proofs.lemmas.List.Folds.{concat-append}
 use Rattle.std.proofs.lemmas.List.FromFn.{length-map-range_with_len}
 use Rattle.std.proofs.Math.Seq.{take-nil}
-use Rattle.sl_fields.specs.Field.{octets_of}
 use Rattle.sl_fields.proofs.FecfLemmas.{length-with_fecf}
 use Rattle.sl_fields.proofs.Octets.{length-octets_of}
 use Rattle.sl_packet.specs.Delivered.{PacketLists, channel_count, list_at}
-use Rattle.sl_tcframe.specs.AdFrame.{segment_room_of, ad_fields, ad_frame, ad_len}
+use Rattle.sl_tcframe.specs.AdFrame.{segment_room_of, ad_frame}
 use Rattle.sl_tcframe.specs.TcFrame.{TcFormat}
 use Rattle.sl_tcframe.specs.VcSet.{has_vc}
 use Rattle.sl_tcflow.specs.Form.{IsPlace, channels_left, form_left, maps_left, ns_after, piece_of, AddsPiece}
-use Rattle.sl_tcflow.specs.TcNormalForm.{segment_count, segment_of, units_of_packet, units_of_maps, frames_of_units, channel_frames, tc_normal_form_of}
+use Rattle.sl_tcflow.specs.TcNormalForm.{units_of_packet, units_of_maps, frames_of_units, tc_normal_form_of}
 use Rattle.sl_tcflow.proofs.lemmas.Series.Part.{some_parts}
 use Rattle.sl_tcflow.proofs.lemmas.Form.Pushed.{frames_from_same, frames_from-append}
 

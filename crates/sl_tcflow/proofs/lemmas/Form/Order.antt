@@ -17,7 +17,7 @@ use Rattle.sl_fields.proofs.ListLemmas.{each-map, each-weaker}
 use Rattle.sl_fields.proofs.NeverFallLemmas.{lower, then_later}
 use Rattle.sl_tcflow.proofs.lemmas.Form.Canonical.{views_are}
 use Rattle.sl_tcflow.proofs.lemmas.Form.Frames.{channel_back, each_on, on_channel, units_on, views_by, views_from}
-use Rattle.sl_tcflow.proofs.lemmas.Series.Segment.{IsSegment, flat_units, map_of_unit, packets_parts, segments_of_packet, unit_made}
+use Rattle.sl_tcflow.proofs.lemmas.Series.Segment.{flat_units, map_of_unit, packets_parts, segments_of_packet, unit_made}
 
 pub no_frame_is_skipped : NoFrameIsSkipped
 no_frame_is_skipped format spacecraft starts plain lists can =

@@ -1,19 +1,18 @@
 -- What one more frame does to the packets of each channel, and to the octets of the incomplete series.
-use Rattle.std.proofs.Common.{◌≡◌, ◌≢◌, ◌⊎◌, ℕ, ◌+◌, ◌/◌, ◌%◌, ◌<◌, ◌≤◌, ◌==◌, nat_le, Bool, if◌then◌else◌, cond, true, false, List, [], ◌∷◌, ◌++◌, length, map, Option, None, Some, inl, inr, refl, sym, ◌∙◌, ap, ap₂, subst, arith, append-nil, length-append, length-drop, ne_eqb, eq-eqb}
+use Rattle.std.proofs.Common.{◌≡◌, ◌≢◌, ◌⊎◌, ℕ, ◌+◌, ◌/◌, ◌%◌, ◌<◌, ◌≤◌, Bool, if◌then◌else◌, cond, List, [], ◌∷◌, ◌++◌, length, map, Option, None, Some, inl, inr, sym, ◌∙◌, ap, arith, append-nil, length-append, length-drop, ne_eqb, eq-eqb}
 use Rattle.std.specs.List.{flat_map}
 use Rattle.std.proofs.lemmas.Bool.Decides.{eqb_tells}
 use Rattle.sl_cop.specs.declared.verdict.Verdict.{Verdict}
-use Rattle.sl_cop.specs.declared.verdict.Verdict.TheVariants.{Accept, Early, Late, Outside, Refused, Command}
 use Rattle.sl_packet.specs.Packets.{packets_of}
 use Rattle.sl_packet.proofs.CountLemmas.{split_count, packets_within}
 use Rattle.sl_tcframe.specs.TcFrame.{TcView, Content, Ad, Bd, Unlock, SetVr}
-use Rattle.sl_tcflow.specs.AcceptedUnit.{accepted_units, unit_by}
+use Rattle.sl_tcflow.specs.AcceptedUnit.{unit_by}
 use Rattle.sl_tcflow.specs.Farms.{verdict_on}
 use Rattle.sl_tcflow.specs.Incomplete.{if_fits, incomplete_of}
 use Rattle.sl_tcflow.specs.IncompleteSteps.{extended, incomplete_after, packets_after, packets_of_service_unit, service_unit_ended}
 use Rattle.sl_tcflow.specs.Receiver.{ended_by, map_by, map_of, segment_by, unit_channel, held_in, octets_of_series}
 use Rattle.sl_tcflow.specs.Reception.{packets_ended, packets_of_segments, segments_of}
-use Rattle.sl_tcflow.specs.ReceptionParameters.{ReceptionParameters, is_plain, initial_vr}
+use Rattle.sl_tcflow.specs.ReceptionParameters.{ReceptionParameters, is_plain}
 use Rattle.sl_tcflow.specs.Recording.{channel_at, packets_of_channel}
 use Rattle.sl_tcflow.specs.Series.{flags_of, header_at, segment_data, segment_in, segments_on}
 use Rattle.sl_tcflow.proofs.lemmas.Reception.Farm.{other_channel}

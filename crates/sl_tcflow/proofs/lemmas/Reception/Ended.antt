@@ -1,12 +1,12 @@
 -- The packets of the service data unit that ends with the next segment of a MAP, and the octets after them, from the
 -- series that is incomplete before this segment.
-use Rattle.std.proofs.Common.{arith, ◌≡◌, ◌≢◌, ℕ, ◌+◌, ◌==◌, ◌&&◌, nat_le, Bool, true, false, if◌then◌else◌, List, [], ◌∷◌, ◌++◌, length, Option, None, Some, inl, inr, refl, sym, ◌∙◌, ap, append-nil, ne_eqb}
+use Rattle.std.proofs.Common.{arith, ◌≡◌, ◌≢◌, ℕ, ◌+◌, ◌==◌, ◌&&◌, nat_le, Bool, true, false, if◌then◌else◌, List, [], ◌∷◌, ◌++◌, length, Option, None, Some, refl, ◌∙◌, ap, append-nil, ne_eqb}
 use Rattle.std.proofs.lemmas.Grind.{common_steps}
 use Rattle.std.specs.List.{filter, flat_map}
 use Rattle.std.proofs.lemmas.Bool.Decides.{eqb_tells}
 use Rattle.sl_packet.specs.Packets.{packets_of, rest_of}
 use Rattle.sl_tcflow.specs.Anomaly.{tail_of}
-use Rattle.sl_tcflow.specs.Incomplete.{if_fits, are_continuing, incomplete_of}
+use Rattle.sl_tcflow.specs.Incomplete.{if_fits, incomplete_of}
 use Rattle.sl_tcflow.specs.IncompleteSteps.{extended, service_unit_ended, packets_of_service_unit, packets_after, rest_of_service_unit, tail_after}
 use Rattle.sl_tcflow.specs.Reception.{packets_ended}
 use Rattle.sl_tcflow.specs.Series.{flags_of, segment_data, SeriesAt, past, series_of, reassembled}

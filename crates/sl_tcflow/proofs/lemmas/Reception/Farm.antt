@@ -1,5 +1,5 @@
 -- FARM-1 of the virtual channels, where one of them takes the next frame.
-use Rattle.std.proofs.Common.{◌≡◌, ℕ, ◌<◌, ◌==◌, Bool, List, [], ◌∷◌, ◌++◌, length, set, None, false, inl, inr, refl, sym, ◌∙◌, ap, ap₂, subst, arith, append-nil}
+use Rattle.std.proofs.Common.{◌≡◌, ℕ, ◌<◌, Bool, List, [], ◌∷◌, ◌++◌, length, set, false, ◌∙◌, ap, ap₂, arith, append-nil}
 use Rattle.std.specs.List.{slice_index_or}
 use Rattle.std.proofs.lemmas.Bool.Decides.{eqb_tells}
 use Rattle.std.proofs.lemmas.List.{get_or_default, get_or-set_same, get_or-set_other, length-set}
@@ -10,10 +10,9 @@ use Rattle.sl_cop.proofs.ReorderedLemmas.{state_more}
 use Rattle.sl_tcframe.specs.TcFrame.{TcView}
 use Rattle.sl_tcframe.specs.VcSet.{has_vc}
 use Rattle.sl_tcflow.specs.AcceptedUnit.{views_on, event_of, farm_after}
-use Rattle.sl_tcflow.specs.Farms.{HaveStepped, farm_at_start, farm_of, verdict_on}
-use Rattle.sl_tcflow.specs.Receiver.{AreIncomplete, ForIncomplete, ForProcessed, HasProcessed, ReceiverState}
+use Rattle.sl_tcflow.specs.Farms.{HaveStepped, farm_of, verdict_on}
+use Rattle.sl_tcflow.specs.Receiver.{ForIncomplete, ForProcessed, HasProcessed, ReceiverState}
 use Rattle.sl_tcflow.specs.ReceptionParameters.{ReceptionParameters, is_plain, initial_vr}
-use Rattle.sl_tcflow.specs.Recording.{channel_at}
 use Rattle.sl_tcflow.specs.SeriesStore.{IncompleteSeries}
 
 -- ---- one of the channels

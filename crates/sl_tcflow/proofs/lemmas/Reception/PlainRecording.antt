@@ -1,12 +1,11 @@
 -- The packets that a recording delivers on a virtual channel without segment headers are on MAP 0 and fit in a data
 -- field.
-use Rattle.std.proofs.Common.{◌≡◌, ℕ, ◌+◌, ◌-◌, ◌*◌, ◌<◌, ◌≤◌, ◌==◌, nat_le, Bool, true, false, not, cond, if◌then◌else◌, List, [], ◌∷◌, ◌++◌, length, drop, map, flat_map, Result, Ok, Err, inl, inr, refl, sym, ◌∙◌, ap, subst, arith, append-nil, length-append, length-take, ne_eqb}
+use Rattle.std.proofs.Common.{◌≡◌, ℕ, ◌+◌, ◌*◌, ◌<◌, ◌≤◌, ◌==◌, nat_le, Bool, true, false, not, if◌then◌else◌, List, [], ◌∷◌, ◌++◌, length, map, flat_map, Result, Ok, Err, sym, ◌∙◌, ap, subst, arith, append-nil, length-append, length-take}
 use Rattle.std.specs.Result.{result_ok}
 use Rattle.std.specs.List.{AllByRecursion, concat, cons_option, slice_index_or}
 use Rattle.std.proofs.lemmas.Bool.Decides.{leb_tells}
 use Rattle.sl_fields.specs.SegmentHeader.{SegmentFields}
 use Rattle.sl_cop.specs.declared.verdict.Verdict.{Verdict}
-use Rattle.sl_cop.specs.declared.verdict.Verdict.TheVariants.{Accept, Early, Late, Outside, Refused, Command}
 use Rattle.sl_cop.specs.Accepted.{accepted_by, if_accepted}
 use Rattle.sl_cop.specs.Farm.{farm_start, verdicts_of}
 use Rattle.sl_packet.specs.Packet.{is_idle_packet}
@@ -14,7 +13,7 @@ use Rattle.sl_packet.specs.Packets.{packets_of, rest_of, without_idle}
 use Rattle.sl_packet.proofs.PacketsLemmas.{each_has_packets}
 use Rattle.sl_tcframe.specs.AdFrame.{plain_room_of}
 use Rattle.sl_tcframe.specs.TcDelimited.{tc_frames_of}
-use Rattle.sl_tcframe.specs.TcFrame.{TcFormat, TcView, Content, Ad, Bd, Unlock, SetVr, IsReadAs, Carries, tc_header_of, tc_parts_of, tc_frame}
+use Rattle.sl_tcframe.specs.TcFrame.{TcFormat, TcView, Content, IsReadAs, Carries, tc_header_of, tc_parts_of, tc_frame}
 use Rattle.sl_tcframe.specs.declared.tc_frame.TcSkip.{TcSkip}
 use Rattle.sl_tcframe.specs.declared.tc_frame.TcSkip.TheVariants.{Long}
 use Rattle.sl_tcframe.proofs.ReadLemmas.{is_read}

@@ -1,5 +1,5 @@
 -- The packets that FARM-1 accepts from a recording.
-use Rattle.std.proofs.Common.{arith, ◌≡◌, ℕ, ◌/◌, ◌%◌, Bool, true, false, nat_le, if◌then◌else◌, List, [], length, map}
+use Rattle.std.proofs.Common.{arith, ◌≡◌, ℕ, Bool, true, false, nat_le, if◌then◌else◌, List, [], length, map}
 use Rattle.std.specs.List.{AllByRecursion}
 use Rattle.std.proofs.lemmas.List.FromFn.{length-map-range_with_len}
 use Rattle.sl_packet.specs.Delivered.{IsDeliverable, channel_count}
@@ -9,10 +9,10 @@ use Rattle.sl_packet.proofs.PacketsLemmas.{each_has_packets}
 use Rattle.sl_packet.proofs.WithoutIdleLemmas.{without_idle_due}
 use Rattle.sl_tcframe.specs.TcFrame.{TcView}
 use Rattle.sl_tcflow.specs.Canonical.{RecordedListsAreDeliverable}
-use Rattle.sl_tcflow.specs.Reception.{packets_of_series, segments_of}
+use Rattle.sl_tcflow.specs.Reception.{packets_of_series}
 use Rattle.sl_tcflow.specs.ReceptionParameters.{ReceptionParameters}
 use Rattle.sl_tcflow.specs.Recording.{map_channels, packets_of_channel, recorded_views}
-use Rattle.sl_tcflow.specs.Series.{SeriesAt, reassembled, series_of}
+use Rattle.sl_tcflow.specs.Series.{SeriesAt, reassembled}
 use Rattle.sl_fields.proofs.ListLemmas.{each-every, each-flat_map, each-map}
 use Rattle.std.specs.List.{range_with_len}
 

@@ -6,20 +6,18 @@ use Rattle.std.proofs.Math.Seq.{take-suc}
 use Rattle.std.proofs.lemmas.List.{length-map, map-append, take-append-drop}
 use Rattle.std.proofs.lemmas.List.Elements.{filter-append}
 use Rattle.std.proofs.lemmas.List.FromFn.{get_or-map-range_with_len, map-range_with_len_more}
-use Rattle.sl_cop.specs.declared.farm_event.FarmEvent.TheVariants as event
 use Rattle.sl_cop.specs.declared.verdict.Verdict.{Verdict}
-use Rattle.sl_cop.specs.declared.verdict.Verdict.TheVariants.{Accept, Early, Late, Outside, Refused, Command}
 use Rattle.sl_cop.specs.Accepted.{if_accepted, accepted_by}
-use Rattle.sl_cop.specs.Farm.{FarmView, distance, farm_start, farm_step, negative_width, state_after, verdicts_of}
-use Rattle.sl_cop.specs.Reordered.{Arrival, Copy, OfTypeBd, UnlockCommand, accepted_count, accepted_indices, event_at, events_at, index_of, ns_of, state_at}
+use Rattle.sl_cop.specs.Farm.{FarmView, farm_start, state_after, verdicts_of}
+use Rattle.sl_cop.specs.Reordered.{Arrival, accepted_count, accepted_indices, event_at, events_at, index_of, ns_of, state_at}
 use Rattle.sl_cop.proofs.FarmLemmas.{each_has_step}
 use Rattle.sl_cop.proofs.ReorderedLemmas.{accepted_in_order, accepted_where_expected, no_distance, vr_counts_accepted, in_window_are_near, window_keeps_open}
 use Rattle.sl_packet.specs.Delivered.{channel_count}
 use Rattle.sl_packet.specs.Packet.{is_idle_packet}
 use Rattle.sl_packet.specs.Packets.{without_idle}
-use Rattle.sl_tcframe.specs.TcFrame.{TcFormat, TcView, Content, Ad, Bd, Unlock, SetVr}
+use Rattle.sl_tcframe.specs.TcFrame.{TcFormat, TcView, Content, Bd}
 use Rattle.sl_tcflow.specs.AcceptedUnit.{accepted_ad_units, ad_unit_of, views_on, event_of, events_of, farm_after, unit_of}
-use Rattle.sl_tcflow.specs.Reception.{packets_ended, packets_of_segments, segments_of}
+use Rattle.sl_tcflow.specs.Reception.{packets_of_segments, segments_of}
 use Rattle.sl_tcflow.specs.ReceptionParameters.{ReceptionParameters, is_plain, initial_vr}
 use Rattle.sl_tcflow.specs.Recording.{channel_at, map_channels, packets_of_channel, recorded_views}
 use Rattle.sl_tcflow.specs.ReorderedUnits.{AdUnitsAreAll, AreArrivals, ExpectedUnitIsAccepted, HaveNoBd, IsArrival, PacketsInOrder, ReceiverCountsUnits, RecordedPacketsInOrder, UnitsInOrder, VrCountsUnits, WindowIsNear, WindowNeverLocks, accepted_ad_count, recorded_packets, unit_at, segments_sent}

@@ -1,5 +1,5 @@
 -- The accepted unit of the next frame among the segments of its virtual channel and MAP.
-use Rattle.std.proofs.Common.{None, Some, ◌⊎◌, ◌≡◌, ◌≢◌, ℕ, ◌<◌, ◌==◌, Bool, List, [], ◌∷◌, ◌++◌, Option, map, inl, inr, refl, sym, ◌∙◌, ap, ap₂, subst, arith, append-nil, cond, eq-eqb, ne_eqb}
+use Rattle.std.proofs.Common.{None, Some, ◌⊎◌, ◌≡◌, ◌≢◌, ℕ, ◌<◌, Bool, List, [], ◌∷◌, ◌++◌, Option, map, inl, inr, refl, sym, ◌∙◌, ap, ap₂, subst, arith, append-nil, cond, eq-eqb, ne_eqb}
 use Rattle.std.specs.List.{flat_map}
 use Rattle.std.proofs.lemmas.Bool.Decides.{eqb_tells}
 use Rattle.std.proofs.lemmas.List.{map-append}
@@ -9,13 +9,13 @@ use Rattle.sl_cop.specs.declared.verdict.Verdict.TheVariants.{Accept, Early, Lat
 use Rattle.sl_cop.specs.Farm.{farm_start, farm_step}
 use Rattle.sl_cop.proofs.ReorderedLemmas.{accepted_more}
 use Rattle.sl_tcframe.specs.TcFrame.{TcView, Content, Ad, Bd, Unlock, SetVr}
-use Rattle.sl_tcflow.specs.AcceptedUnit.{views_on, event_of, farm_after, unit_of, unit_by, accepted_units}
+use Rattle.sl_tcflow.specs.AcceptedUnit.{event_of, farm_after, unit_of, unit_by, accepted_units}
 use Rattle.sl_tcflow.specs.Farms.{verdict_on}
 use Rattle.sl_tcflow.specs.Incomplete.{incomplete_of}
 use Rattle.sl_tcflow.specs.IncompleteSteps.{incomplete_after, incomplete_with, packets_after, packets_with}
 use Rattle.sl_tcflow.specs.Receiver.{AreIncomplete, IsIncompleteAround, map_by, map_of, segment_by, unit_channel, ended_by}
 use Rattle.sl_tcflow.specs.Reception.{packets_ended, segments_of}
-use Rattle.sl_tcflow.specs.ReceptionParameters.{ReceptionParameters, is_plain, initial_vr}
+use Rattle.sl_tcflow.specs.ReceptionParameters.{ReceptionParameters, is_plain}
 use Rattle.sl_tcflow.specs.Recording.{channel_at}
 use Rattle.sl_tcflow.specs.Segment.{SegmentView, accepted_segment, carried_segment, map_read, segment_view}
 use Rattle.sl_tcflow.specs.Series.{header_at, segment_in, segments_on}

@@ -1,11 +1,10 @@
 -- A packet divided into segments: the segments are full except the last one, and make up the packet.
-use Rattle.std.proofs.Common.{◌≡◌, ℕ, zero, suc, ◌+◌, ◌-◌, ◌*◌, ◌<◌, ◌≤◌, List, [], ◌∷◌, length, drop, map, refl, sym, ◌∙◌, ap, ap₂, subst, arith, length-take-le}
-use Rattle.std.specs.List.{concat, range_with_len}
+use Rattle.std.proofs.Common.{◌≡◌, ℕ, zero, suc, ◌+◌, ◌*◌, ◌<◌, List, [], ◌∷◌, length, drop, map, refl, ap₂, arith, length-take-le}
+use Rattle.std.specs.List.{range_with_len}
 use Rattle.std.proofs.lemmas.List.{length-drop, length-take, take_all}
 use Rattle.std.proofs.Math.Nat.{suc-mul, le-div_iff_mul-le}
-use Rattle.sl_fields.specs.SegmentHeader.{SegmentFields}
 use Rattle.sl_tcflow.specs.TcNormalForm.{segment_count, piece_at, segment_of, AreSegments, last, full, EachIsDivided}
-use Rattle.sl_tcflow.specs.Series.{header_at, segment_data}
+use Rattle.sl_tcflow.specs.Series.{segment_data}
 use Rattle.sl_fields.proofs.ListLemmas.{each-every, each-map}
 use Rattle.sl_tcflow.proofs.lemmas.Series.Part.{parts_joined, covers, some_parts, units_are_series}
 use Rattle.sl_tcflow.proofs.lemmas.Series.Segment.{part_at, part_is, header_of_unit, octets_of_unit}

@@ -1,5 +1,5 @@
 -- The series that is reported as incomplete after the last segment of a list is incomplete, and is the only one.
-use Rattle.std.proofs.Common.{◌≡◌, ℕ, ◌<◌, ◌==◌, ◌&&◌, Bool, true, false, if◌then◌else◌, List, [], ◌∷◌, ◌++◌, length, Some, inl, inr, refl, sym, ◌∙◌, ap, arith, append_assoc, eqb-true, eq-eqb, ne_eqb}
+use Rattle.std.proofs.Common.{◌≡◌, ℕ, ◌<◌, ◌==◌, true, false, List, [], ◌∷◌, ◌++◌, length, Some, inl, inr, refl, sym, ◌∙◌, arith, append_assoc, eqb-true, eq-eqb, ne_eqb}
 use Rattle.std.specs.List.{AllByRecursion}
 use Rattle.std.proofs.lemmas.Bool.{cases_lt}
 use Rattle.sl_tcflow.specs.Incomplete.{IsIncomplete, if_fits, are_continuing, incomplete_of, WhatIsToldIsIncomplete, IncompleteIsTold, OneBegins, OneIsIncomplete, IncompleteFits}

@@ -5,7 +5,7 @@ use Rattle.std.specs.List.{AllByRecursion}
 use Rattle.std.proofs.lemmas.Bool.{le-leb}
 use Rattle.std.proofs.lemmas.Bool.Decides.{eqb_tells}
 use Rattle.std.proofs.lemmas.List.{length_push}
-use Rattle.std.proofs.lemmas.List.Elements.{Contains-append_left, Contains-append_right, Contains-push}
+use Rattle.std.proofs.lemmas.List.Elements.{Contains-append_right}
 use Rattle.sl_tcflow.specs.Series.{flags_of, IsSeries, whole, divided, SeriesAt, IsSeriesOf, past, completed, series_with, series_from, series_of, EachIsSeries, EachSeriesIsListed, AreApart, none, one, more, SeriesAreApart}
 use Rattle.sl_fields.proofs.ListLemmas.{each-append, each-weaker}
 

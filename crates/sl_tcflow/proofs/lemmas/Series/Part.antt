@@ -1,5 +1,5 @@
 -- The segments of packets, put together again.
-use Rattle.std.proofs.Common.{◌≡◌, ℕ, zero, suc, ◌+◌, ◌*◌, ◌<◌, ◌≤◌, nat_le, if◌then◌else◌, List, [], ◌∷◌, ◌++◌, length, take, map, flat_map, inl, inr, refl, sym, ◌∙◌, ap, ap₂, subst, arith, append-nil, add-one, le-leb, take-add}
+use Rattle.std.proofs.Common.{◌≡◌, ℕ, zero, suc, ◌+◌, ◌*◌, ◌<◌, ◌≤◌, nat_le, if◌then◌else◌, List, [], ◌∷◌, ◌++◌, length, take, map, flat_map, refl, sym, ◌∙◌, ap, ap₂, subst, arith, append-nil, add-one, le-leb, take-add}
 use Rattle.std.proofs.lemmas.Grind.{common_steps}
 use Rattle.std.specs.List.{AllByRecursion, concat, range_with_len}
 use Rattle.std.proofs.lemmas.Bool.Decides.{leb_tells, nat_tests}
@@ -7,7 +7,6 @@ use Rattle.std.proofs.lemmas.List.{map-append, take_all}
 use Rattle.std.proofs.lemmas.List.Folds.{concat-append}
 use Rattle.std.proofs.lemmas.List.FromFn.{map-range_with_len_more}
 use Rattle.std.proofs.Math.Nat.{suc-mul, zero-mul}
-use Rattle.sl_fields.specs.SegmentHeader.{SegmentFields}
 use Rattle.sl_packet.specs.Packet.{IsPacket}
 use Rattle.sl_packet.specs.Packets.{packets_of}
 use Rattle.sl_packet.proofs.PacketsLemmas.{packets_of-packet}
@@ -17,7 +16,7 @@ use Rattle.sl_tcflow.specs.TcNormalForm.{segment_count, piece_at, flags_at, segm
 use Rattle.sl_fields.proofs.ListLemmas.{each-append, each-weaker}
 use Rattle.sl_tcflow.proofs.lemmas.Form.Pushed.{counts_more}
 use Rattle.sl_tcflow.proofs.lemmas.Series.Segment.{unit_made, part_at, part_is, segments_of_packet, units_of_parts, header_of_unit, octets_of_unit}
-use Rattle.sl_tcflow.proofs.lemmas.Series.Listed.{IsContinuing, BeginsNone, series_at, begins_whole, begins_divided, completed_all, none_begin, continuing_begins_none, last_begins_none}
+use Rattle.sl_tcflow.proofs.lemmas.Series.Listed.{IsContinuing, series_at, begins_whole, begins_divided, completed_all, none_begin, continuing_begins_none, last_begins_none}
 
 -- ---- the octets of the segments
 

@@ -1,17 +1,12 @@
 -- The segments of the units of a virtual channel without segment headers: none of them leaves a series incomplete,
 -- and octets that are left are their only anomaly.
-use Rattle.std.proofs.Common.{◌≡◌, ℕ, ◌<◌, ◌==◌, ◌&&◌, Bool, true, false, cond, if◌then◌else◌, List, [], ◌∷◌, length, map, None, refl, ◌∙◌, ap, arith, ne_eqb}
+use Rattle.std.proofs.Common.{◌≡◌, ℕ, ◌<◌, ◌==◌, ◌&&◌, Bool, true, false, List, [], ◌∷◌, length, map, None, refl, ap, arith, ne_eqb}
 use Rattle.std.specs.List.{AllByRecursion}
-use Rattle.std.specs.Prelude.{is_none, option_map}
+use Rattle.std.specs.Prelude.{is_none}
 use Rattle.sl_fields.specs.SegmentHeader.{SegmentFields}
-use Rattle.sl_tcflow.specs.AcceptedUnit.{accepted_units, views_on, unit_by}
 use Rattle.sl_tcflow.specs.Anomaly.{dropped_of, long_of, octets_held, of_segment, stray_of, NoPlainSeriesIsIncomplete, PlainUnitHasTailAlone}
-use Rattle.sl_tcflow.specs.Farms.{verdict_on}
-use Rattle.sl_tcflow.specs.Incomplete.{are_continuing, if_fits, incomplete_of, exceeds_limit}
-use Rattle.sl_tcflow.specs.Receiver.{map_by}
-use Rattle.sl_tcflow.specs.Reception.{segments_of}
-use Rattle.sl_tcflow.specs.ReceptionParameters.{is_plain, initial_vr}
-use Rattle.sl_tcflow.specs.Series.{begins_by, continues_by, flags_of, header_at, segment_data, reassembled, segment_in, segments_on, whole_segment, PlainUnitIsWhole}
+use Rattle.sl_tcflow.specs.Incomplete.{incomplete_of, exceeds_limit}
+use Rattle.sl_tcflow.specs.Series.{continues_by, flags_of, header_at, segment_data, segment_in, segments_on, whole_segment, PlainUnitIsWhole}
 use Rattle.sl_fields.proofs.ListLemmas.{each-filter}
 use Rattle.sl_tcflow.proofs.lemmas.Series.Segment.{header_of_unit, octets_of_unit}
 

@@ -158,18 +158,15 @@ impl Receiver {
         if self.has_failed {
             return Err(FlowFault::Failed);
         }
-        // Where `take_unit` returns a fault, the flag stays set.
-        self.has_failed = true;
         let verdict = self.farms.step(frame);
         let plain = self.plain.has(frame.vc());
-        // `match` and not `?`: `?` converts the fault, and each clause on faults would then have to
-        // be proved by hand.
-        let step = match take_unit(&mut self.series, plain, verdict, frame, sink) {
-            Ok(step) => step,
-            Err(flow) => return Err(flow),
-        };
-        self.has_failed = false;
-        Ok(step)
+        match take_unit(&mut self.series, plain, verdict, frame, sink) {
+            Ok(step) => Ok(step),
+            Err(flow) => {
+                self.has_failed = true;
+                Err(flow)
+            }
+        }
     }
 
     /// The Communications Link Control Word (CCSDS 232.0-B) of the virtual channel `vc`, 0 to 63.

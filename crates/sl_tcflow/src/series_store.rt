@@ -11,9 +11,10 @@ ghost use Rattle.sl_tcflow.specs.SeriesStore.{at, IsPlaced};
 ghost use Rattle.sl_tcflow.specs.StepReport.{counts_of};
 
 use crate::form::CHANNELS;
+use crate::hand_over::hand;
 use crate::incomplete::Incomplete;
-use crate::report::TcStep;
-use crate::segment::{FIRST, Segment};
+use crate::report::{EMPTY_STEP, TcStep};
+use crate::segment::{FIRST, Segment, WHOLE};
 use sl_packet::{FlowFault, PacketSink};
 use std::alloc::{AllocError, Global};
 use std::marker::Model;
@@ -119,15 +120,38 @@ impl SeriesStore {
             segment.now.octets ≢ None }
     {
         let index = usize::from(segment.channel);
-        if segment.flags == FIRST && grow_to(self.alloc, &mut self.list, index).is_err() {
-            return Err(FlowFault::Memory);
+        if index >= self.list.len() {
+            if segment.flags != FIRST {
+                return take_alone(segment, sink);
+            }
+            if grow_to(self.alloc, &mut self.list, index).is_err() {
+                return Err(FlowFault::Memory);
+            }
         }
-        if index < self.list.len() {
-            return self.list[index].advance(segment, sink);
-        }
-        let mut none = Incomplete::new(self.alloc);
-        none.advance(segment, sink)
+        self.list[index].advance(segment, sink)
     }
+}
+
+// Takes a segment of a channel that the list doesn't reach, so that no series is incomplete there.
+// Only a first segment begins one, and this is none. The number 1 in the clauses is its sequence
+// flags. The only fault is `Sink`: the sink refused a packet.
+fn take_alone<S: PacketSink>(segment: &Segment, sink: &mut S) -> Result<TcStep, FlowFault>
+    requires { segment.now.flags ≢ 1 }
+    // No series is incomplete after the segment either.
+    ensures none { incomplete_with None segment.now.flags segment.now.octets ≡ None }
+    ensures hands_over { HandsOver S.taking S.failing S.failures counts_of
+        sink.old segment.now.channel
+        (packets_with None segment.now.flags segment.now.octets) result sink.new }
+    ensures step { IfOk result (IsReported None segment.now.flags segment.now.octets) }
+    ensures not_memory { IfErr result (λ flow. flow ≢ FlowFault.Memory) }
+{
+    if segment.flags == WHOLE {
+        return hand(sink, segment.channel, segment.octets);
+    }
+    Ok(TcStep {
+        stray: true,
+        ..EMPTY_STEP
+    })
 }
 
 // Extends the list up to this index where it is shorter, and no further. No series is incomplete at

@@ -40,7 +40,11 @@ no_counts = counts_with 0 0 0 0 0 0 0
 abbrev pub counts_more : Counts → ℕ → FrameReport → Counts
 counts_more c octets report =
     counts_with (c.octets + octets) (c.frames + 1) (c.skipped + (if report.is_skipped then 1 else 0)) c.rest
-    (c.packets + report.packets) (c.idle + report.idle) (c.anomalies + report.anomalies)
+    (c.packets + report.packets) (c.idle + report.idle) c.anomalies
+
+-- anomalies more
+abbrev pub counts_with_anomalies : Counts → ℕ → Counts
+counts_with_anomalies c more = record c { anomalies = c.anomalies + more }
 
 -- a remainder, and the anomalies after the last frame
 abbrev pub counts_with_remainder : Counts → ℕ → ℕ → Counts

@@ -181,7 +181,6 @@ impl Delivery for Extractor {
             is_skipped: false,
             packets: step.packets(),
             idle: step.idle(),
-            anomalies: 0,
         };
         Ok((report, Ok(found)))
     }
@@ -237,7 +236,6 @@ impl Delivery for Receiver {
             is_skipped: false,
             packets: step.packets(),
             idle: step.idle(),
-            anomalies: 0,
         };
         Ok((report, Ok(found)))
     }

@@ -1,24 +1,22 @@
 //! What an engine has counted so far.
 ghost use Rattle.std.specs.Prelude.{◌≡◌, ◌+◌, ◌^◌, ◌<◌, ◌≤◌};
-ghost use Rattle.sl_link.specs.Tally.{counts_more, counts_with_remainder, no_counts};
+ghost use Rattle.sl_link.specs.Tally.{counts_more, counts_with_anomalies, counts_with_remainder, no_counts};
 
 use crate::link::totals::Totals;
 
-/// What a frame brought: its packets, idle ones apart, and its anomalies, where these are looked for.
+/// What a frame brought: its packets, idle ones apart.
 #[derive(Clone, Copy)]
 pub struct FrameReport {
     pub is_skipped: bool,
     pub packets: u32,
     pub idle: u32,
-    pub anomalies: u64,
 }
 
-/// The report on a skipped frame: no packets, and no anomalies looked for.
+/// The report on a skipped frame: no packets.
 pub const SKIPPED: FrameReport = FrameReport {
     is_skipped: true,
     packets: 0,
     idle: 0,
-    anomalies: 0,
 };
 
 // Totals that are counted while frames come. Until the last one has come there is no remainder.
@@ -38,13 +36,13 @@ impl Totals {
         }
     }
 
-    /// Counts one frame more, of `octets` octets, which are more than its anomalies. With it all
-    /// packets, idle ones included, are no more than all octets.
+    /// Counts one frame more, of `octets` octets. With it all packets, idle ones included, are no
+    /// more than all octets.
     pub(crate) fn add(&mut self, octets: u64, report: FrameReport)
         requires fits { self.old.octets + octets < 2 ^ 64 }
         requires within { self.old.packets + report.packets + (self.old.idle + report.idle)
             ≤ self.old.octets + octets }
-        requires few { report.anomalies < octets }
+        requires some { 0 < octets }
         ensures { self.new ≡ counts_more self.old octets report }
     {
         self.octets += octets;
@@ -54,7 +52,14 @@ impl Totals {
         }
         self.packets += u64::from(report.packets);
         self.idle += u64::from(report.idle);
-        self.anomalies += report.anomalies;
+    }
+
+    /// Counts `more` anomalies. All are then no more than the octets.
+    pub(crate) fn add_anomalies(&mut self, more: u64)
+        requires { self.old.anomalies + more ≤ self.old.octets }
+        ensures { self.new ≡ counts_with_anomalies self.old more }
+    {
+        self.anomalies += more;
     }
 
     /// The totals of a recording whose remainder has `remainder` octets, where `more` anomalies were met

@@ -86,11 +86,10 @@ pub record IsReport (k : Kind) (before : List (List ℕ)) (frame : List ℕ) (re
   pub packets : report.packets ≡ length (without_idle (k.ended before frame))
   pub idle : report.idle ≡ length (only_idle (k.ended before frame))
 
--- the report on a frame of five octets or more in which no anomalies were looked for
+-- the report on a frame of five octets or more
 pub record Brings (k : Kind) (before : List (List ℕ)) (frame : List ℕ) (report : FrameReport) : Type 0 where
   pub some : 5 ≤ length frame
   pub reported : IsReport k before frame report
-  pub no_anomalies : report.anomalies ≡ 0
 
 -- the packets of a frame were handed over, idle packets left out
 pub record Delivers {S : Type 0} (taking : S → ℕ → List ℕ → S → Type 0) (k : Kind) (before : List (List ℕ))

@@ -18,7 +18,6 @@ use crate::io::output::{Output, Written};
 use crate::link::fault::LinkFault;
 use crate::link::managed::Managed;
 use crate::link::totals::Totals;
-use crate::tally::FrameReport;
 use crate::verbs::Verb;
 use crate::verbs::check::checked::Checked;
 use crate::verbs::check::discard::DiscardPackets;
@@ -63,11 +62,8 @@ impl<D: Checked> Verb for Check<D> {
         out.make_room()?;
         let (report, found) = self.delivery.deliver(managed, frame, &mut DiscardPackets)?;
         let anomalies = D::anomaly_lines(&mut out.lines, self.so_far.octets(), found);
-        let report = FrameReport {
-            anomalies,
-            ..report
-        };
         self.so_far.add(frame.len() as u64, report);
+        self.so_far.add_anomalies(anomalies);
         Ok(())
     }
 

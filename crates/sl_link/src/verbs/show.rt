@@ -55,7 +55,6 @@ impl<S: Shown> Verb for Show<S> {
             is_skipped,
             packets: 0,
             idle: 0,
-            anomalies: 0,
         };
         self.so_far.add(frame.len() as u64, report);
         Ok(())

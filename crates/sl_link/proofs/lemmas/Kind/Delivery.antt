@@ -16,7 +16,7 @@ use Rattle.sl_packet.proofs.DeliveredLemmas.{length-empty_lists, list_at-empty_l
 use Rattle.sl_packet.proofs.WithoutIdleLemmas.{without_idle-append}
 use Rattle.sl_link.specs.declared.tally.FrameReport.{FrameReport}
 use Rattle.sl_link.specs.Link.Totals.{Counts}
-use Rattle.sl_link.specs.Tally.{counts_more, counts_so_far, skipped_in, no_counts}
+use Rattle.sl_link.specs.Tally.{counts_more, counts_so_far, counts_with_anomalies, skipped_in, no_counts}
 use Rattle.sl_link.specs.Kind.Delivery.{AreDelivered, AreStored, Delivers, HasDelivered, IsReport, IsWithin, Kind, count_of, number_of_idle, delivered_packets, number_of_packets, with_frame, with_packets}
 use Rattle.sl_link.proofs.lemmas.Kind.Channels.{items_change, map_range, no_items, none_of}
 
@@ -27,11 +27,11 @@ skipped-append is_skipped [] ys = omega arith
 skipped-append is_skipped (x ∷ xs) ys = omega (arith, skipped-append is_skipped xs ys)
 
 -- one frame more, and what it brings
-pub so_far_more : (is_skipped : List ℕ → Bool) (frames : List (List ℕ)) (frame : List ℕ) (report : FrameReport) {t : Counts} {packets packets' idle idle' anomalies anomalies' : ℕ}
+pub so_far_more : (is_skipped : List ℕ → Bool) (frames : List (List ℕ)) (frame : List ℕ) (report : FrameReport) {t : Counts} {packets packets' idle idle' anomalies : ℕ}
     → t ≡ counts_so_far is_skipped frames packets idle anomalies → report.is_skipped ≡ is_skipped frame
-    → packets + report.packets ≡ packets' → idle + report.idle ≡ idle' → anomalies + report.anomalies ≡ anomalies'
-    → counts_more t (length frame) report ≡ counts_so_far is_skipped (frames ++ frame ∷ []) packets' idle' anomalies'
-so_far_more is_skipped frames frame report are skips p i a = simp (are, skips, concat-push, length-append, skipped-append, add-zero, p, i, a)
+    → packets + report.packets ≡ packets' → idle + report.idle ≡ idle'
+    → counts_more t (length frame) report ≡ counts_so_far is_skipped (frames ++ frame ∷ []) packets' idle' anomalies
+so_far_more is_skipped frames frame report are skips p i = simp (are, skips, concat-push, length-append, skipped-append, add-zero, p, i)
 
 pub octets_more : (frames : List (List ℕ)) (frame : List ℕ) → length (concat (frames ++ frame ∷ [])) ≡ length (concat frames) + length frame
 octets_more frames frame = rw concat-push (length-append (concat frames) frame)
@@ -83,13 +83,30 @@ module _ (k : Kind) (laws : AreDelivered k) where
 
   module _ {had : List (List ℕ) → Type 0} {before : List (List ℕ)} {frame : List ℕ} {anomalies : ℕ} {t : Counts} {report : FrameReport}
       (d : HasDelivered k had before anomalies t) (r : IsReport k before frame report) where
-    pub delivered_more : {had' : List (List ℕ) → Type 0} {anomalies' : ℕ} → had' (before ++ frame ∷ []) → anomalies + report.anomalies ≡ anomalies' → report.anomalies < length frame
-        → HasDelivered k had' (before ++ frame ∷ []) anomalies' (counts_more t (length frame) report)
-    delivered_more next more few = record {
+    counts_next : counts_more t (length frame) report
+        ≡ counts_so_far k.is_skipped (before ++ frame ∷ []) (number_of_packets k (before ++ frame ∷ [])) (number_of_idle k (before ++ frame ∷ [])) anomalies
+    counts_next = so_far_more k.is_skipped before frame report d.counts r.skipped (omega (arith, r.packets, packets_more before frame)) (omega (arith, r.idle, idle_more before frame))
+
+    pub delivered_more : {had' : List (List ℕ) → Type 0} → had' (before ++ frame ∷ []) → 0 < length frame
+        → HasDelivered k had' (before ++ frame ∷ []) anomalies (counts_more t (length frame) report)
+    delivered_more next some = record {
       processed = next;
-      counts = so_far_more k.is_skipped before frame report d.counts r.skipped (omega (arith, r.packets, packets_more before frame)) (omega (arith, r.idle, idle_more before frame)) more;
-      few = omega (arith, more, few, d.few, length-append before (frame ∷ []), octets_more before frame);
+      counts = counts_next;
+      few = omega (arith, some, d.few, length-append before (frame ∷ []), octets_more before frame);
     }
+
+    -- the same with its anomalies, which are fewer than its octets
+    module _ {more : ℕ} (few : more < length frame) where
+      pub checked_more : {had' : List (List ℕ) → Type 0} {anomalies' : ℕ} → had' (before ++ frame ∷ []) → anomalies + more ≡ anomalies'
+          → HasDelivered k had' (before ++ frame ∷ []) anomalies' (counts_with_anomalies (counts_more t (length frame) report) more)
+      checked_more next are = record {
+        processed = next;
+        counts = ap (λ (c : Counts). counts_with_anomalies c more) counts_next ∙ ap (counts_so_far k.is_skipped (before ++ frame ∷ []) _ _) are;
+        few = omega (arith, are, few, d.few, length-append before (frame ∷ []), octets_more before frame);
+      }
+
+      pub anomalies_fit : t.anomalies + more ≤ t.octets + length frame
+      anomalies_fit = rw d.counts (omega (arith, few, d.few))
 
     -- what is counted after it fits
     pub fits_more : IsWithin k (before ++ frame ∷ []) → t.packets + report.packets + (t.idle + report.idle) ≤ t.octets + length frame
@@ -99,8 +116,8 @@ module _ (k : Kind) (laws : AreDelivered k) where
 pub delivers_as : {S : Type 0} {taking : S → ℕ → List ℕ → S → Type 0} {k : Kind} {before : List (List ℕ)} {frame : List ℕ} {old new : S} {report : FrameReport}
     {channel : ℕ} {ended : List (List ℕ)} {skips : Bool} → k.channel frame ≡ channel → k.ended before frame ≡ ended → k.is_skipped frame ≡ skips → 5 ≤ length frame
     → TakesAll taking old channel (without_idle ended) new → report.is_skipped ≡ skips → report.packets ≡ length (without_idle ended) → report.idle ≡ length (only_idle ended)
-    → report.anomalies ≡ 0 → Delivers taking k before frame old report new
-delivers_as at ends skipping some accepted skipped packets idle none = grind arith
+    → Delivers taking k before frame old report new
+delivers_as at ends skipping some accepted skipped packets idle = grind arith
 
 -- ---- packets that are stored
 

@@ -36,7 +36,7 @@ returns-clause-delivers g c =
     let long = some_octets c.args.frame.now c.managed.invariant.allowed c.managed.view_is c.requires.2 in
     delivers_as (ap vc_of read) (ap (ended_in seen) read) (ap is_err read)
     (omega (arith, long)) (c.in-Ok-frame.ensures.accepted seen h.processed) refl
-    (c.packets.ensures ∙ c.in-Ok-frame.ensures.packets seen h.processed) (c.idle.ensures ∙ c.in-Ok-frame.ensures.idle seen h.processed) refl
+    (c.packets.ensures ∙ c.in-Ok-frame.ensures.packets seen h.processed) (c.idle.ensures ∙ c.in-Ok-frame.ensures.idle seen h.processed)
 
 pub returns-clause-found : goal.returns-clause-found
 returns-clause-found g c =

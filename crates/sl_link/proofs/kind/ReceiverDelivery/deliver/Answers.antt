@@ -24,7 +24,7 @@ returns-in-Err-clause-delivers g c =
     let r = reception_of p in
     let seen = views_of (tc_format p) p.spacecraft before in
     delivers_as (ap (unit_channel_of r) skipped) (ap (ended_in r seen) skipped) (ap is_err skipped)
-    (some_octets p c.args.frame.now c.requires.2) refl refl refl refl refl
+    (some_octets p c.args.frame.now c.requires.2) refl refl refl refl
 
 pub returns-in-Err-clause-found : goal.returns-in-Err-clause-found
 returns-in-Err-clause-found g c =
@@ -51,7 +51,7 @@ returns-clause-delivers g c =
     let seen = views_of (tc_format p) p.spacecraft before in
     delivers_as (ap (unit_channel_of r) read) (ap (ended_in r seen) read) (ap is_err read) (some_octets p c.args.frame.now c.requires.2)
     (c.in-Ok-frame.ensures.accepted r seen h.processed) refl
-    (c.packets.ensures ∙ c.in-Ok-frame.ensures.packets r seen h.processed) (c.idle.ensures ∙ c.in-Ok-frame.ensures.idle r seen h.processed) refl
+    (c.packets.ensures ∙ c.in-Ok-frame.ensures.packets r seen h.processed) (c.idle.ensures ∙ c.in-Ok-frame.ensures.idle r seen h.processed)
 
 pub returns-clause-found : goal.returns-clause-found
 returns-clause-found g c =

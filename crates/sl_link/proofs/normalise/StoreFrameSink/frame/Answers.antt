@@ -34,6 +34,6 @@ returns-clause-taken g c = λ start before t.
     let laws = (g.met.D.Delivery.within _ p before had).delivered in
     let d = c.in_ok-report.ensures.delivers before had in
     let b = d.brings in (
-      rw c.add.ensures (delivered_more k laws t.0 b.reported (c.in_ok-report.ensures.processed before had) (omega (arith, b.no_anomalies)) (omega (arith, b.some, b.no_anomalies))),
+      rw c.add.ensures (delivered_more k laws t.0 b.reported (c.in_ok-report.ensures.processed before had) (omega (arith, b.some))),
       stored_more k laws before c.args.frame.now c.args.self.now.delivered c.deliver.new.sink t.1 d.accepted,
     )

@@ -1,6 +1,6 @@
 use Rattle.std.proofs.Common.{◌++◌, ◌∷◌, ◌∙◌, ◌<◌, [], length, refl}
 use Rattle.sl_link.proofs.lemmas.Io.Streams.{adds_both, adds_lines, stops_at_memory, stops_before, stops_then}
-use Rattle.sl_link.proofs.lemmas.Kind.Delivery.{delivered_more, fits_more, octets_counted}
+use Rattle.sl_link.proofs.lemmas.Kind.Delivery.{anomalies_fit, checked_more, fits_more, octets_counted}
 use Rattle.sl_link.proofs.lemmas.Link.Answers.{passed_up}
 use Rattle.sl_link.proofs.lemmas.Link.Fault.{memory_alone}
 use Rattle.sl_link.proofs.lemmas.Verbs.Check.Lines.{anomalies_more}
@@ -14,6 +14,16 @@ add-requires-clause-within g c =
     let within = g.met.D.Delivery.within in
     fits_more (g.D.Delivery.kind p) (within _ p before d.processed).delivered d (c.in_ok-report.ensures.delivers before d.processed).brings.reported
     (within _ p (before ++ c.args.frame.now ∷ []) (c.in_ok-report.ensures.processed before d.processed))
+
+pub add_anomalies-requires : goal.add_anomalies-requires
+add_anomalies-requires g c =
+    let p = c.args.managed.now in
+    let before = c.requires.0 in
+    let h = c.requires.1 in
+    let e = c.anomaly_lines-anomalies.ensures in
+    let b = (c.in_ok-report.ensures.delivers before h.processed).brings in
+    let few : c.anomaly_lines-anomalies.result < length c.args.frame.now = rw (e.number, c.in_ok-report.ensures.found before h.processed) (e.few p before c.args.frame.now c.requires.2 b.some) in
+    rw c.add.ensures (anomalies_fit (g.D.Delivery.kind p) (g.met.D.Delivery.within _ p before h.processed).delivered h b.reported few)
 
 pub returns-in_err-make_room-clause-fault : goal.returns-in_err-make_room-clause-fault
 returns-in_err-make_room-clause-fault g c =
@@ -34,9 +44,8 @@ returns-clause-has_listed g c = λ before h.
     let p = c.args.managed.now in
     let frame = c.args.frame.now in
     let e = c.anomaly_lines-anomalies.ensures in
-    let d = c.in_ok-report.ensures.delivers before h.processed in
-    let r = d.brings.reported in
+    let b = (c.in_ok-report.ensures.delivers before h.processed).brings in
     let found = c.in_ok-report.ensures.found before h.processed in
-    let few : c.anomaly_lines-anomalies.result < length frame = rw (e.number, found) (e.few p before frame c.requires.2 d.brings.some) in
-    rw c.add.ensures (delivered_more (g.D.Delivery.kind p) (g.met.D.Delivery.within _ p before h.processed).delivered h (record { skipped = r.skipped; packets = r.packets; idle = r.idle }) (c.in_ok-report.ensures.processed before h.processed)
-    (anomalies_more _ before frame _ (rw (c.octets.ensures ∙ octets_counted h, found) at e.number)) few)
+    let few : c.anomaly_lines-anomalies.result < length frame = rw (e.number, found) (e.few p before frame c.requires.2 b.some) in
+    rw (c.add_anomalies.ensures, c.add.ensures) (checked_more (g.D.Delivery.kind p) (g.met.D.Delivery.within _ p before h.processed).delivered h b.reported few (c.in_ok-report.ensures.processed before h.processed)
+    (anomalies_more _ before frame _ (rw (c.octets.ensures ∙ octets_counted h, found) at e.number)))

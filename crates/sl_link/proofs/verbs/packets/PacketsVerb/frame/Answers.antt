@@ -34,4 +34,4 @@ returns-clause-has_listed g c = λ before h.
     let p = c.args.managed.now in
     let b = (c.in_ok-report.ensures.delivers before h.processed).brings in
     rw c.add.ensures (delivered_more (g.D.Delivery.kind p) (g.met.D.Delivery.within _ p before h.processed).delivered h b.reported (c.in_ok-report.ensures.processed before h.processed)
-    (omega (arith, b.no_anomalies)) (omega (arith, b.some, b.no_anomalies)))
+    (omega (arith, b.some)))
